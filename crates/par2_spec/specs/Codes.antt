@@ -1,0 +1,37 @@
+-- One-to-one codes of the values that models have, so that contracts can speak of them.
+use Rattle.std.specs.Prelude.{◌≡◌, ℕ, zero, suc, List, []}
+use Rattle.std.specs.Prelude.{refl}
+use Rattle.std.specs.Coded.{Coded, code_by, coded×, coded_ℕ, coded_list}
+use Rattle.std.specs.FinMap as map_of
+use Rattle.par2_spec.specs.Folders.{Folder}
+use Rattle.par2_spec.specs.Changes.{Change, Write, Replace, Rename, Remove, FolderState}
+
+abbrev pub folder_code : Coded Folder
+folder_code = map_of.code (coded_list coded_ℕ) (coded_list coded_ℕ)
+
+abbrev pub folder_state_code : Coded FolderState
+folder_state_code =
+    code_by (Folder × ℕ) (coded× folder_code coded_ℕ) (λ e. (e.files, e.vacant)) (λ p. record { files = p.0; vacant = p.1 }) (λ _. refl)
+
+abbrev pub change_number : Change → ℕ × (List ℕ × List ℕ)
+change_number (Write name bytes) = (0, (name, bytes))
+change_number (Replace name bytes) = (1, (name, bytes))
+change_number (Rename from to) = (2, (from, to))
+change_number (Remove name) = (3, (name, []))
+
+abbrev pub numbered_change : ℕ → List ℕ → List ℕ → Change
+numbered_change zero a b = Write a b
+numbered_change (suc zero) a b = Replace a b
+numbered_change (suc (suc zero)) a b = Rename a b
+numbered_change (suc (suc (suc n))) a b = Remove a
+
+pub change_number_back : (c : Change) → numbered_change (change_number c).0 (change_number c).1.0 (change_number c).1.1 ≡ c
+change_number_back (Write name bytes) = refl
+change_number_back (Replace name bytes) = refl
+change_number_back (Rename from to) = refl
+change_number_back (Remove name) = refl
+
+abbrev pub change_code : Coded Change
+change_code =
+    code_by (ℕ × (List ℕ × List ℕ)) (coded× coded_ℕ (coded× (coded_list coded_ℕ) (coded_list coded_ℕ))) change_number
+    (λ p. numbered_change p.0 p.1.0 p.1.1) change_number_back

@@ -1,0 +1,13 @@
+pub mod Field
+pub mod Lists
+pub mod Checksums
+pub mod Slices
+pub mod Windows
+pub mod Recovery
+pub mod Rank
+pub mod Packets
+pub mod Names
+pub mod Folders
+pub mod Volumes
+pub mod Changes
+pub mod Codes

@@ -1,0 +1,170 @@
+-- Packets: their bytes, where they stand in a text, and what their bodies say.
+use Rattle.std.specs.Prelude.{ℕ, zero, suc, ◌+◌, ◌-◌, ◌*◌, ◌/◌, ◌%◌, ◌==◌, ◌&&◌, nat_le, Bool, List, [], ◌∷◌, ◌++◌, length, take, drop, map, Option, Some, None, if◌then◌else◌, codes}
+use Rattle.std.specs.Int.{w32, w64, to_le_bytes, from_le_bytes}
+use Rattle.std.specs.List.{range_with_len, suffix_len}
+use Rattle.std.specs.Str.{bytes_eq}
+use Rattle.md5.specs.Md5.{md5}
+use Rattle.par2_spec.specs.Checksums.{Pair}
+use Rattle.par2_spec.specs.declared.Kind.{Kind}
+use Rattle.par2_spec.specs.declared.Kind.TheVariants.{Main, FileDesc, Ifsc, Recovery, Creator, Other}
+
+-- n bytes of the text from offset o on
+abbrev pub bytes_at : ℕ → ℕ → List ℕ → List ℕ
+bytes_at o n text = take n (drop o text)
+
+-- the number that the n bytes from offset o on spell, the lowest byte first
+unfoldable pub u64_at : ℕ → List ℕ → ℕ
+u64_at o text = from_le_bytes w64 (bytes_at o 8 text)
+
+unfoldable pub u32_at : ℕ → List ℕ → ℕ
+u32_at o text = from_le_bytes w32 (bytes_at o 4 text)
+
+abbrev pub magic : List ℕ
+magic = codes "PAR2\0PKT"
+
+-- the first half of each type
+abbrev pub type_prefix : List ℕ
+type_prefix = codes "PAR 2.0\0"
+
+-- the sixteen bytes of a type
+abbrev pub type_of : Kind → List ℕ
+type_of Main = type_prefix ++ codes "Main\0\0\0\0"
+type_of FileDesc = type_prefix ++ codes "FileDesc"
+type_of Ifsc = type_prefix ++ codes "IFSC\0\0\0\0"
+type_of Recovery = type_prefix ++ codes "RecvSlic"
+type_of Creator = type_prefix ++ codes "Creator\0"
+type_of (Other bytes) = bytes
+
+-- the kind that has this type
+unfoldable pub kind_of : List ℕ → Kind
+kind_of bytes =
+    if bytes_eq bytes (type_of Main) then Main
+    else if bytes_eq bytes (type_of FileDesc) then FileDesc
+    else if bytes_eq bytes (type_of Ifsc) then Ifsc
+    else if bytes_eq bytes (type_of Recovery) then Recovery
+    else if bytes_eq bytes (type_of Creator) then Creator
+    else Other bytes
+
+pub record Packet : Type 0 where
+  pub set_id : List ℕ
+  pub kind : Kind
+  pub body : List ℕ
+
+-- what the digest of a packet is taken of
+abbrev pub digested : Packet → List ℕ
+digested p = p.set_id ++ type_of p.kind ++ p.body
+
+-- the bytes of a packet
+unfoldable pub packet : Packet → List ℕ
+packet p = magic ++ to_le_bytes w64 (64 + length p.body) ++ md5 (digested p) ++ digested p
+
+-- the length that a text claims for the packet at its front
+abbrev pub claimed : List ℕ → ℕ
+claimed text = u64_at 8 text
+
+-- an accepted packet stands at the front of the text
+unfoldable pub begins_with_packet : List ℕ → Bool
+unfolding u64_at
+begins_with_packet text =
+    nat_le 64 (length text) && bytes_eq (bytes_at 0 8 text) magic
+    && claimed text % 4 == 0 && nat_le 64 (claimed text) && nat_le (claimed text) (length text)
+    && bytes_eq (md5 (bytes_at 32 (claimed text - 32) text)) (bytes_at 16 16 text)
+
+-- the packet at the front of the text
+unfoldable pub first_packet : List ℕ → Packet
+unfolding kind_of u64_at
+first_packet text = record {
+  set_id = bytes_at 32 16 text;
+  kind = kind_of (bytes_at 48 16 text);
+  body = bytes_at 64 (claimed text - 64) text;
+}
+
+-- the accepted packets of a text that begin after its first n bytes. Where one stands it is taken and
+-- its bytes are passed over, and else one byte is
+unfoldable pub accepted_after : ℕ → List ℕ → List Packet
+unfolding begins_with_packet first_packet u64_at
+accepted_after n [] = []
+accepted_after (suc n) (b ∷ text) = accepted_after n text
+accepted_after zero (b ∷ text) =
+    if begins_with_packet (b ∷ text)
+    then first_packet (b ∷ text) ∷ accepted_after (claimed (b ∷ text) - 1) text
+    else accepted_after zero text
+
+-- the accepted packets of a text
+abbrev pub accepted : List ℕ → List Packet
+accepted text = accepted_after 0 text
+
+-- what a Main says: the slice size and the File IDs of the recovery set
+pub record MainBody : Type 0 where
+  pub slice_size : ℕ
+  pub ids : List (List ℕ)
+
+-- what a FileDesc says
+pub record DescBody : Type 0 where
+  pub id : List ℕ
+  pub digest : List ℕ
+  pub digest_16k : List ℕ
+  pub size : ℕ
+  pub name : List ℕ
+
+-- what an IFSC says
+pub record IfscBody : Type 0 where
+  pub id : List ℕ
+  pub pairs : List Pair
+
+-- what a RecvSlic says
+pub record RecoveryBody : Type 0 where
+  pub exponent : ℕ
+  pub bytes : List ℕ
+
+-- the bytes without the zeros at their end
+abbrev pub stripped : List ℕ → List ℕ
+stripped bytes = take (length bytes - suffix_len (λ b. b == 0) bytes) bytes
+
+-- whether a text is as long as a head and a number of items
+abbrev pub is_head_and_items : ℕ → ℕ → List ℕ → Bool
+is_head_and_items head item body = nat_le head (length body) && (length body - head) % item == 0
+
+-- the n items of a given length behind a head
+abbrev pub items_at : ℕ → ℕ → ℕ → List ℕ → List (List ℕ)
+items_at head item n body = map (λ k. bytes_at (head + item * k) item body) (range_with_len 0 n)
+
+-- What a packet says, by its kind and body: `None` exactly for another kind or a body that is not well-formed
+unfoldable pub read_main : Kind → List ℕ → Option MainBody
+unfolding u64_at u32_at
+read_main Main body =
+    if is_head_and_items 12 16 body && nat_le (u32_at 8 body) ((length body - 12) / 16)
+    then Some (record { slice_size = u64_at 0 body; ids = items_at 12 16 (u32_at 8 body) body })
+    else None
+read_main kind body = None
+
+unfoldable pub read_desc : Kind → List ℕ → Option DescBody
+unfolding u64_at
+read_desc FileDesc body =
+    if nat_le 56 (length body)
+    then Some (record {
+      id = bytes_at 0 16 body;
+      digest = bytes_at 16 16 body;
+      digest_16k = bytes_at 32 16 body;
+      size = u64_at 48 body;
+      name = stripped (drop 56 body);
+    })
+    else None
+read_desc kind body = None
+
+unfoldable pub read_ifsc : Kind → List ℕ → Option IfscBody
+unfolding u32_at
+read_ifsc Ifsc body =
+    if is_head_and_items 16 20 body
+    then Some (record {
+      id = bytes_at 0 16 body;
+      pairs = map (λ item. (take 16 item, u32_at 16 item)) (items_at 16 20 ((length body - 16) / 20) body);
+    })
+    else None
+read_ifsc kind body = None
+
+unfoldable pub read_recovery : Kind → List ℕ → Option RecoveryBody
+unfolding u32_at
+read_recovery Recovery body =
+    if nat_le 4 (length body) then Some (record { exponent = u32_at 0 body; bytes = drop 4 body }) else None
+read_recovery kind body = None

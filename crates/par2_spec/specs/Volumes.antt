@@ -1,0 +1,159 @@
+-- The packets that describe files, and the files that a create writes.
+use Rattle.std.specs.Prelude.{ℕ, ◌+◌, ◌-◌, ◌/◌, ◌%◌, ◌^◌, min, nat_lt, nat_le, List, [], ◌∷◌, ◌++◌, length, take, map, flat_map, filter, replicate, if◌then◌else◌, codes}
+use Rattle.std.specs.Int.{w32, w64, w128, to_le_bytes, from_le_bytes}
+use Rattle.std.specs.List.{range_with_len}
+use Rattle.md5.specs.Md5.{md5}
+use Rattle.par2_spec.specs.Slices.{slices}
+use Rattle.par2_spec.specs.Checksums.{Pair, pair_of}
+use Rattle.par2_spec.specs.Recovery.{recovery}
+use Rattle.par2_spec.specs.Packets.{Packet, packet}
+use Rattle.par2_spec.specs.Folders.{File, Folder, laid_over}
+use Rattle.par2_spec.specs.declared.Kind.{Kind}
+use Rattle.par2_spec.specs.declared.Kind.TheVariants.{Main, FileDesc, Ifsc, Recovery, Creator}
+
+-- what a set says of a file
+pub record FileRecord : Type 0 where
+  pub id : List ℕ
+  pub digest : List ℕ
+  pub digest_16k : List ℕ
+  pub size : ℕ
+  pub name : List ℕ
+  pub pairs : List Pair
+
+abbrev pub file_id : List ℕ → ℕ → List ℕ → List ℕ
+file_id digest_16k size name = md5 (digest_16k ++ to_le_bytes w64 size ++ name)
+
+abbrev pub digest_16k : File → List ℕ
+digest_16k file = md5 (take 16384 file.1)
+
+-- the File ID of a file
+abbrev pub id_of : File → List ℕ
+id_of file = file_id (digest_16k file) (length file.1) file.0
+
+-- what a set of slice size s says of a file
+unfoldable pub record_of : ℕ → File → FileRecord
+record_of s file = record {
+  id = id_of file;
+  digest = md5 file.1;
+  digest_16k = digest_16k file;
+  size = length file.1;
+  name = file.0;
+  pairs = map pair_of (slices s file.1);
+}
+
+-- the File ID as a little-endian number
+abbrev pub id_number : File → ℕ
+id_number file = from_le_bytes w128 (id_of file)
+
+-- a file among files in that order, before those whose number is not less
+abbrev pub inserted : File → List File → List File
+inserted file [] = file ∷ []
+inserted file (next ∷ files) = if nat_le (id_number file) (id_number next) then file ∷ next ∷ files else next ∷ inserted file files
+
+-- the files in the order of their File IDs
+unfoldable pub in_id_order : List File → List File
+in_id_order [] = []
+in_id_order (file ∷ files) = inserted file (in_id_order files)
+
+-- the bytes and as many zeros as bring them to a multiple of 4
+abbrev pub padded_4 : List ℕ → List ℕ
+padded_4 bytes = bytes ++ replicate ((4 - length bytes % 4) % 4) 0
+
+abbrev pub main_bytes : ℕ → List FileRecord → List ℕ
+main_bytes s files = to_le_bytes w64 s ++ to_le_bytes w32 (length files) ++ flat_map (λ file. file.id) files
+
+abbrev pub desc_bytes : FileRecord → List ℕ
+desc_bytes file = file.id ++ file.digest ++ file.digest_16k ++ to_le_bytes w64 file.size ++ padded_4 file.name
+
+abbrev pub pair_bytes : Pair → List ℕ
+pair_bytes pair = pair.0 ++ to_le_bytes w32 pair.1
+
+abbrev pub ifsc_bytes : FileRecord → List ℕ
+ifsc_bytes file = file.id ++ flat_map pair_bytes file.pairs
+
+abbrev pub recovery_bytes : ℕ → List ℕ → List ℕ
+recovery_bytes e bytes = to_le_bytes w32 e ++ bytes
+
+abbrev pub creator_bytes : List ℕ
+creator_bytes = padded_4 (codes "par2 undo profile 1")
+
+-- the Recovery Set ID
+abbrev pub main_id : ℕ → List FileRecord → List ℕ
+main_id s files = md5 (main_bytes s files)
+
+abbrev pub packet_of : List ℕ → Kind → List ℕ → Packet
+packet_of set_id kind body = record { set_id = set_id; kind = kind; body = body }
+
+-- the packets of the index: Main, the FileDescs, the IFSCs, Creator
+unfoldable pub index_packets : ℕ → List FileRecord → List Packet
+index_packets s files =
+    let of_set = packet_of (main_id s files) in
+    of_set Main (main_bytes s files)
+    ∷ map (λ file. of_set FileDesc (desc_bytes file)) files
+    ++ map (λ file. of_set Ifsc (ifsc_bytes file)) files
+    ++ of_set Creator creator_bytes ∷ []
+
+-- the packets of n recovery slices from exponent e on, over these slices
+abbrev pub recovery_packets : ℕ → List ℕ → List (List ℕ) → ℕ → ℕ → List Packet
+recovery_packets s set_id texts e n =
+    map (λ k. packet_of set_id Recovery (recovery_bytes k (recovery s texts k))) (range_with_len e n)
+
+-- volume i of c recovery slices has 2 ^ i of them, the last one the rest
+abbrev pub volumes_before : ℕ → ℕ
+volumes_before i = 2 ^ i - 1
+
+-- the volumes of c recovery slices, c being at most 65,536: the first 17 would hold 131,071
+abbrev pub volume_numbers : ℕ → List ℕ
+volume_numbers c = filter (λ i. nat_lt (volumes_before i) c) (range_with_len 0 17)
+
+abbrev pub volume_size : ℕ → ℕ → ℕ
+volume_size c i = min (2 ^ i) (c - volumes_before i)
+
+-- five decimal digits, of a number below 100,000
+abbrev pub five_digits : ℕ → List ℕ
+five_digits n = map (λ k. 48 + n / 10 ^ k % 10) (4 ∷ 3 ∷ 2 ∷ 1 ∷ 0 ∷ [])
+
+-- the base without `.par2`
+abbrev pub stem : List ℕ → List ℕ
+stem base = take (length base - 5) base
+
+-- STEM.volFFFFF+NNNNN.par2
+abbrev pub volume_name : List ℕ → ℕ → ℕ → List ℕ
+volume_name base first n =
+    stem base ++ codes ".vol" ++ five_digits first ++ codes "+" ++ five_digits n ++ codes ".par2"
+
+-- the slices of the files, in order
+abbrev pub all_slices : ℕ → List File → List (List ℕ)
+all_slices s files = flat_map (λ file. slices s file.1) files
+
+-- the files that a create of these files writes, in order: the index, and volumes of c recovery slices from
+-- exponent f on, c at most 65,536 and f + c too
+unfoldable pub volumes : List ℕ → ℕ → ℕ → ℕ → List File → List File
+unfolding record_of in_id_order index_packets
+volumes base s f c files =
+    let ordered = in_id_order files in
+    let records = map (record_of s) ordered in
+    let index = index_packets s records in
+    (base, flat_map packet index)
+    ∷ map
+    (λ i. (
+      volume_name base (f + volumes_before i) (volume_size c i),
+      flat_map packet
+          (index ++ recovery_packets s (main_id s records) (all_slices s ordered)
+          (f + volumes_before i) (volume_size c i)),
+    ))
+    (volume_numbers c)
+
+-- what can be said of these files: the kinds and bodies of their packets, with recovery slices of these exponents
+unfoldable pub packets_of : ℕ → List File → List ℕ → List (Kind × List ℕ)
+unfolding record_of
+packets_of s files exponents =
+    let records = map (record_of s) files in
+    (Main, main_bytes s records)
+    ∷ map (λ file. (FileDesc, desc_bytes file)) records
+    ++ map (λ file. (Ifsc, ifsc_bytes file)) records
+    ++ map (λ e. (Recovery, recovery_bytes e (recovery s (all_slices s files) e))) exponents
+
+-- the folder once these files were written
+abbrev pub after_create : Folder → List File → Folder
+after_create folder files = laid_over files folder
