@@ -11,3 +11,12 @@ pub mod Folders
 pub mod Volumes
 pub mod Changes
 pub mod Codes
+pub mod Faults
+pub mod Sets
+pub mod Search
+pub mod Repairs
+pub mod Commands
+pub mod Refusals
+pub mod Plans
+pub mod Reports
+pub mod Views

@@ -1,6 +1,10 @@
 //! The definitions that every crate of this repository cites, and the plain enums that they speak of.
 #![tactic(auto)]
 
+mod asked;
+
+pub use asked::{Action, Command, CreateArgs};
+
 /// The type of a packet.
 #[derive(Clone, Copy, PartialEq, Eq, Debug, Drop)]
 pub enum Kind {
@@ -52,4 +56,12 @@ pub enum ChangeFault {
     NameTaken,
     NoRoom,
     NoSuchName,
+}
+
+/// What a verify concludes.
+#[derive(Clone, Copy, PartialEq, Eq, Debug, Drop)]
+pub enum Verdict {
+    Complete,
+    Repairable,
+    NotRepairable,
 }

@@ -1,0 +1,55 @@
+-- The changes of a command, in the order in which they are made.
+use Rattle.std.specs.Prelude.{ℕ, Bool, not, List, [], ◌++◌, map, filter, filter_map, option_map, if◌then◌else◌}
+use Rattle.par2_spec.specs.Names.{is_among}
+use Rattle.par2_spec.specs.Folders.{Folder, has}
+use Rattle.par2_spec.specs.Changes.{Change, Write, Replace, Rename, Remove}
+use Rattle.par2_spec.specs.Sets.{ParSet}
+use Rattle.par2_spec.specs.Search.{matches, candidates}
+use Rattle.par2_spec.specs.Repairs.{aside, put_aside, rebuilt_targets, par_files}
+use Rattle.par2_spec.specs.Commands.{CreateArgs, Command, Create, Verify, Repair, Purge, outputs_of}
+use Rattle.par2_spec.specs.Refusals.{set_in, by_set}
+
+-- a create writes its outputs in order. One that is there already is replaced
+abbrev pub create_changes : Folder → CreateArgs → List Change
+create_changes folder a =
+    map (λ file. if has folder file.0 then Replace file.0 file.1 else Write file.0 file.1) (outputs_of folder a)
+
+-- the names of the matches
+abbrev pub matching : Folder → ParSet → List (List ℕ) → List (List ℕ)
+matching folder set searched = filter_map (λ m. m.1) (matches folder set searched)
+
+-- where a match stands once the present needing targets are put aside
+abbrev pub now_at : Folder → ParSet → List ℕ → List ℕ
+now_at folder set name = if is_among (put_aside folder set) name then aside folder set name else name
+
+-- a repair: the present needing targets are put aside, the matched ones take their matches, the others are written
+unfoldable pub repair_changes : Folder → ParSet → List (List ℕ) → List Change
+unfolding aside matches rebuilt_targets
+repair_changes folder set searched =
+    map (λ name. Rename name (aside folder set name)) (put_aside folder set)
+    ++ filter_map (λ m. option_map (λ name. Rename (now_at folder set name) m.0.name) m.1) (matches folder set searched)
+    ++ map (λ c. Write c.0.name c.1) (rebuilt_targets folder set searched)
+
+-- then the asides that are still there are removed, and the par files
+unfoldable pub repair_removals : Folder → ParSet → List (List ℕ) → List Change
+unfolding aside matches
+repair_removals folder set searched =
+    map (λ name. Remove (aside folder set name)) (filter (λ name. not (is_among (matching folder set searched) name)) (put_aside folder set))
+    ++ map Remove (filter (λ name. not (is_among (matching folder set searched) name)) (par_files folder set))
+
+-- a purge removes the par files
+abbrev pub purge_changes : Folder → ParSet → List Change
+purge_changes folder set = map Remove (par_files folder set)
+
+-- the changes of a command that is accepted
+unfoldable pub changes_of : Folder → Command → List Change
+unfolding set_in repair_changes repair_removals
+changes_of folder (Create a) = create_changes folder a
+changes_of folder (Verify base extras) = []
+changes_of folder (Repair base extras purge) =
+    by_set [] (λ set.
+    let searched = candidates folder set extras in
+    if purge then repair_changes folder set searched ++ repair_removals folder set searched
+    else repair_changes folder set searched)
+    (set_in folder base extras)
+changes_of folder (Purge base) = by_set [] (purge_changes folder) (set_in folder base [])

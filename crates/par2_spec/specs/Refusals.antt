@@ -1,0 +1,94 @@
+-- When a command is refused, and the folder after an accepted one.
+use Rattle.std.specs.Prelude.{ℕ, ◌+◌, ◌==◌, ◌&&◌, ◌||◌, nat_le, nat_lt, Bool, true, not, List, [], ◌∷◌, length, take, map, sum_by, Option, Some, None, Result, Ok, Err, if◌then◌else◌}
+use Rattle.std.specs.List.{list_all, list_any, enumerate_from}
+use Rattle.std.specs.Str.{bytes_eq}
+use Rattle.md5.specs.Md5.{md5}
+use Rattle.par2_spec.specs.Faults.{first_fault, fault_where, fault_at, or_fault, then_fault, fault_of}
+use Rattle.par2_spec.specs.Slices.{slice_count}
+use Rattle.par2_spec.specs.Rank.{is_repairable, rank}
+use Rattle.par2_spec.specs.Names.{is_name, is_par_name, is_among, distinct}
+use Rattle.par2_spec.specs.Folders.{Folder, has}
+use Rattle.par2_spec.specs.Volumes.{id_of, after_create}
+use Rattle.par2_spec.specs.Sets.{ParSet, set_of, is_slice_size}
+use Rattle.par2_spec.specs.Search.{candidates, needing, known, lost, survivors}
+use Rattle.par2_spec.specs.Repairs.{aside, put_aside, rebuilt_targets, after_repair, after_repair_and_purge, after_purge}
+use Rattle.par2_spec.specs.Commands.{CreateArgs, Command, Create, Verify, Repair, Purge, files_of, outputs_of}
+use Rattle.par2_spec.specs.declared.Fault.{Fault}
+use Rattle.par2_spec.specs.declared.Fault.TheVariants.{BadSliceSize, BadCount, BadBase, NoInput, BadName, DuplicateInput, NoSuchFile, EmptyFile, TooManySlices, DuplicateId, NameTooLong, Exists, NotRepairable, RepairFailed, NotComplete}
+
+-- `count` recovery slices with the exponents from `first` on, which stay below 65,536
+abbrev pub are_counts : ℕ → ℕ → Bool
+are_counts first count = nat_le count 65536 && nat_le first 65535 && nat_le (first + count) 65536
+
+-- an input may not be a name that a set's own files could have
+abbrev pub is_input_name : List ℕ → Bool
+is_input_name word = is_name word && not (is_par_name word)
+
+-- why a create is refused, if it is: the first cause that holds, each tested over all inputs in order
+unfoldable pub create_refusal : Folder → CreateArgs → Option Fault
+create_refusal folder a =
+    let files = files_of folder a.inputs in
+    first_fault (
+    fault_where (not (is_slice_size a.slice_size)) BadSliceSize
+    ∷ fault_where (not (are_counts a.first a.count)) BadCount
+    ∷ fault_where (not (is_name a.base && is_par_name a.base)) BadBase
+    ∷ fault_where (length a.inputs == 0) NoInput
+    ∷ fault_at 1 BadName (λ word. not (is_input_name word)) a.inputs
+    ∷ fault_at 1 DuplicateInput (λ z. is_among (take z.0 a.inputs) z.1) (enumerate_from 0 a.inputs)
+    ∷ fault_at 1 NoSuchFile (λ word. not (has folder word)) a.inputs
+    ∷ fault_at 1 EmptyFile (λ file. length file.1 == 0) files
+    ∷ fault_where (nat_lt 32768 (sum_by (λ file. slice_count a.slice_size (length file.1)) files)) TooManySlices
+    ∷ fault_where (not (length (distinct (map id_of files)) == length files)) DuplicateId
+    ∷ fault_where (list_any (λ file. nat_lt 255 (length file.0)) (outputs_of folder a)) NameTooLong
+    ∷ fault_where (not a.overwrite && list_any (λ file. has folder file.0) (outputs_of folder a)) Exists
+    ∷ [])
+
+-- the set that verify, repair and purge read. A file that is not there is refused first: place 0 is the base,
+-- place k the k-th further name
+unfoldable pub set_in : Folder → List ℕ → List (List ℕ) → Result ParSet Fault
+unfolding set_of
+set_in folder base extras = in_full (fault_at 0 NoSuchFile (λ word. not (has folder word)) (base ∷ extras))
+  where
+    in_full : Option Fault → Result ParSet Fault
+    in_full None = set_of folder base
+    in_full (Some fault) = Err fault
+
+-- why a repair of a set is refused, if it is
+unfoldable pub repair_refusal : Folder → ParSet → List (List ℕ) → Option Fault
+unfolding rebuilt_targets known aside
+repair_refusal folder set searched =
+    let missing = lost (known folder set searched) in
+    first_fault (
+    fault_where (not (is_repairable missing (survivors set))) (NotRepairable (length missing) (rank missing (survivors set)))
+    ∷ fault_where (list_any (λ name. nat_lt 255 (length (aside folder set name))) (put_aside folder set)) NameTooLong
+    ∷ fault_where (not (list_all (λ c. bytes_eq (md5 c.1) c.0.digest) (rebuilt_targets folder set searched))) RepairFailed
+    ∷ [])
+
+-- a purge wants complete files
+abbrev pub purge_refusal : Folder → ParSet → Option Fault
+purge_refusal folder set = fault_where (not (length (needing folder set) == 0)) NotComplete
+
+-- why a command is refused, if it is
+unfoldable pub refusal : Folder → Command → Option Fault
+unfolding create_refusal set_in repair_refusal
+refusal folder (Create a) = create_refusal folder a
+refusal folder (Verify base extras) = fault_of (set_in folder base extras)
+refusal folder (Repair base extras purge) = then_fault (set_in folder base extras) (λ set. repair_refusal folder set (candidates folder set extras))
+refusal folder (Purge base) = then_fault (set_in folder base []) (purge_refusal folder)
+
+-- what a command makes of a folder by its set, where there is one
+abbrev pub by_set : {A : Type 0} → A → (ParSet → A) → Result ParSet Fault → A
+by_set otherwise use_set (Ok set) = use_set set
+by_set otherwise use_set (Err fault) = otherwise
+
+-- the folder after a command that is accepted
+unfoldable pub after : Folder → Command → Folder
+unfolding set_in after_repair
+after folder (Create a) = after_create folder (outputs_of folder a)
+after folder (Verify base extras) = folder
+after folder (Repair base extras purge) =
+    by_set folder (λ set.
+    if purge then after_repair_and_purge folder set (candidates folder set extras)
+    else after_repair folder set (candidates folder set extras))
+    (set_in folder base extras)
+after folder (Purge base) = by_set folder (after_purge folder) (set_in folder base [])

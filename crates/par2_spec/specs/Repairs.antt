@@ -1,0 +1,91 @@
+-- The folder after a repair and after a purge.
+use Rattle.std.specs.Prelude.{ℕ, ◌+◌, ◌==◌, ◌&&◌, Bool, IsTrue, not, List, [], ◌∷◌, ◌++◌, length, take, drop, map, filter, filter_map, find, zip, Option, is_none, unwrap_or, option_map}
+use Rattle.std.specs.FinMap as map_of
+use Rattle.std.specs.List.{list_all, list_any, range_with_len, concat}
+use Rattle.std.specs.Str.{bytes_eq}
+use Rattle.par2_spec.specs.Lists.{all_lists, all_texts}
+use Rattle.par2_spec.specs.Rank.{agrees, kept_slices}
+use Rattle.par2_spec.specs.Names.{is_among, numbered, is_par_name}
+use Rattle.par2_spec.specs.Packets.{accepted}
+use Rattle.par2_spec.specs.Folders.{Folder, File, has, bytes_of, names, laid_over, without}
+use Rattle.par2_spec.specs.Sets.{ParSet, Target}
+use Rattle.par2_spec.specs.Search.{needing, matches, known, lost, survivors}
+
+-- the list of slices that agrees with the known ones and the recovery slices of the kept exponents
+unfoldable pub rebuilt : ParSet → List (Option (List ℕ)) → List (List ℕ)
+unfolding agrees
+rebuilt set known =
+    unwrap_or (find (agrees set.slice_size known (kept_slices (lost known) (survivors set) (map_of.entries set.recovery))) (all_lists (all_texts set.slice_size) (length known))) []
+
+-- the items cut into lists of these lengths, in turn
+abbrev pub cut_into : {A : Type 0} → List ℕ → List A → List (List A)
+cut_into [] items = []
+cut_into (n ∷ counts) items = take n items ∷ cut_into counts (drop n items)
+
+-- the targets with their bytes by a list of all slices
+abbrev pub files_of_slices : ParSet → List (List ℕ) → List (Target × List ℕ)
+files_of_slices set slices =
+    map (λ z. (z.0, take z.0.size (concat z.1))) (zip set.targets (cut_into (map (λ t. length t.pairs) set.targets) slices))
+
+-- the least number from 1 on by which a name is neither in the folder nor a target's
+unfoldable pub aside : Folder → ParSet → List ℕ → List ℕ
+aside folder set name =
+    let taken = names folder ++ map (λ t. t.name) set.targets in
+    unwrap_or (find (λ other. not (is_among taken other)) (map (numbered name) (range_with_len 1 (length taken + 1)))) []
+
+-- the needing targets that have a match, under their names
+abbrev pub matched_files : Folder → List (Target × Option (List ℕ)) → List File
+matched_files folder ms = filter_map (λ m. option_map (λ name. (m.0.name, bytes_of folder name)) m.1) ms
+
+-- the names of the needing targets that have none
+abbrev pub names_without_match : List (Target × Option (List ℕ)) → List (List ℕ)
+names_without_match ms = map (λ m. m.0.name) (filter (λ m. is_none m.1) ms)
+
+-- the targets that a repair writes from slices, with their bytes
+unfoldable pub rebuilt_targets : Folder → ParSet → List (List ℕ) → List (Target × List ℕ)
+unfolding matches known rebuilt
+rebuilt_targets folder set searched =
+    filter (λ c. is_among (names_without_match (matches folder set searched)) c.0.name) (files_of_slices set (rebuilt set (known folder set searched)))
+
+-- the present needing targets, whose files are put aside
+abbrev pub put_aside : Folder → ParSet → List (List ℕ)
+put_aside folder set = filter (has folder) (map (λ t. t.name) (needing folder set))
+
+-- under their asides the old bytes of those that are nobody's match
+abbrev pub aside_files : Folder → ParSet → List (List ℕ) → List File
+aside_files folder set matching =
+    map (λ name. (aside folder set name, bytes_of folder name))
+    (filter (λ name. not (is_among matching name)) (put_aside folder set))
+
+-- the folder after a repair: the asides and the needing targets over the folder without the needing
+-- targets' names and their matches' names
+unfoldable pub after_repair : Folder → ParSet → List (List ℕ) → Folder
+unfolding matches rebuilt_targets aside laid_over
+after_repair folder set searched =
+    let ms = matches folder set searched in
+    let matching = filter_map (λ m. m.1) ms in
+    laid_over (matched_files folder ms ++ map (λ c. (c.0.name, c.1)) (rebuilt_targets folder set searched))
+    (laid_over (aside_files folder set matching) (without (map (λ m. m.0.name) ms ++ matching) folder))
+
+-- the name ends in `.par2`, the file has an accepted packet of the set and none of another, and it is
+-- no target
+abbrev pub is_par_file : Folder → ParSet → List ℕ → Bool
+is_par_file folder set name =
+    let packets = accepted (bytes_of folder name) in
+    is_par_name name && not (is_among (map (λ t. t.name) set.targets) name)
+    && list_any (λ p. bytes_eq p.set_id set.id) packets && list_all (λ p. bytes_eq p.set_id set.id) packets
+
+abbrev pub IsParFile : Folder → ParSet → List ℕ → Type 0
+IsParFile folder set name = IsTrue (is_par_file folder set name)
+
+-- the par files of a set, in the order of their names
+abbrev pub par_files : Folder → ParSet → List (List ℕ)
+par_files folder set = filter (is_par_file folder set) (names folder)
+
+-- the folder after a repair that also removes the asides and the par files
+abbrev pub after_repair_and_purge : Folder → ParSet → List (List ℕ) → Folder
+after_repair_and_purge folder set searched =
+    without (map (aside folder set) (put_aside folder set) ++ par_files folder set) (after_repair folder set searched)
+
+abbrev pub after_purge : Folder → ParSet → Folder
+after_purge folder set = without (par_files folder set) folder

@@ -1,0 +1,80 @@
+-- What of a set is found in a folder, among the files that are searched.
+use Rattle.std.specs.Prelude.{◌≡◌, ℕ, ◌==◌, ◌&&◌, Bool, IsTrue, not, List, [], ◌∷◌, ◌++◌, length, map, flat_map, filter, find, zip, slice_get, Option, Some, None, is_none, option_to_list, option_and_then}
+use Rattle.std.specs.FinMap as map_of
+use Rattle.std.specs.List.{list_all, enumerate_from, AllByRecursion}
+use Rattle.std.specs.Str.{bytes_eq}
+use Rattle.par2_spec.specs.Checksums.{Pair, pair_of}
+use Rattle.par2_spec.specs.Slices.{slices}
+use Rattle.par2_spec.specs.Windows.{windows, is_match, Matches, found}
+use Rattle.par2_spec.specs.Names.{is_among, distinct}
+use Rattle.par2_spec.specs.Folders.{Folder, has, bytes_of}
+use Rattle.par2_spec.specs.Sets.{ParSet, Target}
+pub use Rattle.par2_spec.specs.Windows.{window, first_match}
+
+-- the names that are searched: those of the targets that are in the folder, then the extra ones
+abbrev pub candidates : Folder → ParSet → List (List ℕ) → List (List ℕ)
+candidates folder set extras = distinct (filter (has folder) (map (λ t. t.name) set.targets) ++ extras)
+
+-- the bytes are those of the target, by length and checksums
+abbrev pub is_intact : ℕ → Target → List ℕ → Bool
+is_intact s t bytes = length bytes == t.size && list_all (λ z. is_match z.0 z.1) (zip t.pairs (slices s bytes))
+
+abbrev pub IsIntact : ℕ → Target → List ℕ → Type 0
+IsIntact s t bytes = IsTrue (is_intact s t bytes)
+
+-- the file of the target's name is absent or not intact
+abbrev pub is_needing : Folder → ParSet → Target → Bool
+is_needing folder set t = not (has folder t.name && is_intact set.slice_size t (bytes_of folder t.name))
+
+abbrev pub IsNeeding : Folder → ParSet → Target → Type 0
+IsNeeding folder set t = IsTrue (is_needing folder set t)
+
+-- the needing targets, in target order
+abbrev pub needing : Folder → ParSet → List Target
+needing folder set = filter (is_needing folder set) set.targets
+
+-- the names of the intact targets
+abbrev pub intact_names : Folder → ParSet → List (List ℕ)
+intact_names folder set = map (λ t. t.name) (filter (λ t. not (is_needing folder set t)) set.targets)
+
+-- for each target the first of the names that is intact for it, each name once
+abbrev pub matched : Folder → ℕ → List (List ℕ) → List Target → List (Option (List ℕ))
+matched folder s free [] = []
+matched folder s free (t ∷ ts) =
+    let first = find (λ name. is_intact s t (bytes_of folder name)) free in
+    first ∷ matched folder s (filter (λ name. not (is_among (option_to_list first) name)) free) ts
+
+-- each needing target with its match, where it has one
+unfoldable pub matches : Folder → ParSet → List (List ℕ) → List (Target × Option (List ℕ))
+matches folder set searched =
+    zip (needing folder set)
+    (matched folder set.slice_size (filter (λ name. not (is_among (intact_names folder set) name)) searched) (needing folder set))
+
+-- the pairs of all slices, in order
+abbrev pub all_pairs : ParSet → List Pair
+all_pairs set = flat_map (λ t. t.pairs) set.targets
+
+-- the slices of a set, where they are found in the files of these names
+unfoldable pub known : Folder → ParSet → List (List ℕ) → List (Option (List ℕ))
+known folder set searched = map (found set.slice_size (map (bytes_of folder) searched)) (all_pairs set)
+
+-- the numbers of the lost slices: those that are not found
+abbrev pub lost : List (Option (List ℕ)) → List ℕ
+lost slices = map (λ z. z.0) (filter (λ z. is_none z.1) (enumerate_from 0 slices))
+
+-- slice i is lost
+abbrev pub IsLost : List (Option (List ℕ)) → ℕ → Type 0
+IsLost slices i = slice_get slices i ≡ Some None
+
+-- the exponents whose recovery slices are there, rising
+abbrev pub survivors : ParSet → List ℕ
+survivors set = map_of.keys set.recovery
+
+-- the match of the target of this name, where it has one
+abbrev pub match_of : List (Target × Option (List ℕ)) → List ℕ → Option (List ℕ)
+match_of ms name = option_and_then (λ m. m.1) (find (λ m. bytes_eq m.0.name name) ms)
+
+-- what is found is true: a window of a searched file that has the checksums of one of these slices is that slice
+abbrev pub NoCollision : Folder → List (List ℕ) → ℕ → List (List ℕ) → Type 0
+NoCollision folder searched s slices =
+    AllByRecursion (λ slice. AllByRecursion (λ name. AllByRecursion (λ w. Matches (pair_of slice) w → w ≡ slice) (windows s (bytes_of folder name))) searched) slices
