@@ -20,3 +20,4 @@ pub mod Refusals
 pub mod Plans
 pub mod Reports
 pub mod Views
+pub mod Texts

@@ -65,3 +65,18 @@ pub enum Verdict {
     Repairable,
     NotRepairable,
 }
+
+/// Why a run of the program fails.
+#[derive(Clone, Copy, PartialEq, Eq, Debug, Drop)]
+pub enum Failure {
+    /// A command was refused.
+    Refused(Fault),
+    /// A call of the store failed.
+    Store,
+    /// The words are no command.
+    Arguments,
+    JournalInvalid,
+    FolderChanged,
+    NothingToUndo,
+    NothingToRedo,
+}
