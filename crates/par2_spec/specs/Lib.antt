@@ -21,3 +21,7 @@ pub mod Plans
 pub mod Reports
 pub mod Views
 pub mod Texts
+pub mod History
+pub mod Sessions
+pub mod Journals
+pub mod Opening

@@ -80,3 +80,12 @@ pub enum Failure {
     NothingToUndo,
     NothingToRedo,
 }
+
+/// The version of a journal's spelling.
+#[derive(Clone, Copy, PartialEq, Eq, Debug, Drop)]
+pub enum Version {
+    /// Without a cursor: each entry is one that an undo applies.
+    One,
+    /// With a cursor, behind which the entries are those that a redo applies.
+    Two,
+}
