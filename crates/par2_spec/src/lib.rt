@@ -2,6 +2,7 @@
 #![tactic(auto)]
 
 mod asked;
+pub mod create_laws;
 
 pub use asked::{Action, Command, CreateArgs};
 
