@@ -3,6 +3,8 @@
 
 mod asked;
 pub mod create_laws;
+pub mod repair_laws;
+pub mod search_laws;
 
 pub use asked::{Action, Command, CreateArgs};
 
