@@ -5,3 +5,16 @@ pub mod FieldOrder
 pub mod FieldSteps
 pub mod FieldConstants
 pub mod FieldRows
+pub mod FolderLaws
+pub mod CommandLaws
+pub mod NamesLaws
+pub mod MovesLaws
+pub mod CreateLaws
+pub mod SearchLaws
+pub mod AsideLaws
+pub mod AsideNames
+pub mod FoundLaws
+pub mod ReadLaws
+pub mod RepairLaws
+pub mod ListsLaws
+pub mod LinearLaws

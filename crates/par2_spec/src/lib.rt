@@ -2,6 +2,9 @@
 #![tactic(auto)]
 
 mod asked;
+pub mod create_laws;
+pub mod repair_laws;
+pub mod search_laws;
 
 pub use asked::{Action, Command, CreateArgs};
 pub mod field_laws;
