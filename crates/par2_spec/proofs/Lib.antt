@@ -18,3 +18,4 @@ pub mod ReadLaws
 pub mod RepairLaws
 pub mod ListsLaws
 pub mod LinearLaws
+pub mod ChecksumLaws
