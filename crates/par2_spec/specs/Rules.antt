@@ -8,8 +8,8 @@ use Rattle.par2_spec.specs.Windows.{found}
 use Rattle.par2_spec.specs.Slices.{slice_count}
 use Rattle.par2_spec.specs.Names.{is_name, is_among, numbered}
 use Rattle.par2_spec.specs.Folders.{Folder, bytes_of, has, names}
-use Rattle.par2_spec.specs.Sets.{ParSet, Target}
-use Rattle.par2_spec.specs.Search.{is_intact, matches, needing}
+use Rattle.par2_spec.specs.Sets.{ParSet, Target, is_slice_size}
+use Rattle.par2_spec.specs.Search.{all_pairs, is_intact, matches, needing}
 use Rattle.par2_spec.specs.Repairs.{names_without_match, rebuilt_targets, put_aside, aside}
 use Rattle.par2_spec.specs.Plans.{matching}
 
@@ -21,12 +21,15 @@ target_names set = map (λ t. t.name) set.targets
 abbrev pub needing_names : Folder → ParSet → List (List ℕ)
 needing_names folder set = map (λ t. t.name) (needing folder set)
 
--- what holds of each set that reads
+-- what holds of each set that reads: names that are names, each once, a slice size in the profile, a pair for each
+-- slice, no more slices than there are constants, and recovery slices of their size
 pub record IsSound (set : ParSet) : Type 0 where
   pub are_names : IsTrue (list_all is_name (target_names set))
   pub names_once : IsDistinct bytes_eq (target_names set)
-  pub slice_positive : 0 < set.slice_size
-  pub pairs_enough : AllByRecursion (λ t. length t.pairs ≤ slice_count set.slice_size t.size) set.targets
+  pub size : IsTrue (is_slice_size set.slice_size)
+  pub pairs : AllByRecursion (λ t. length t.pairs ≡ slice_count set.slice_size t.size) set.targets
+  pub slices : length (all_pairs set) ≤ 32768
+  pub recovery : AllByRecursion (λ r. (r.0 < 65536) × (length r.1 ≡ set.slice_size)) (map_of.entries set.recovery)
 
 -- the names that an aside keeps away from: those of the folder and of the targets
 abbrev pub taken_for : Folder → ParSet → List (List ℕ)
