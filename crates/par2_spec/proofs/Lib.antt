@@ -10,4 +10,4 @@ pub mod FoundLaws
 pub mod ReadLaws
 pub mod RepairLaws
 pub mod ListsLaws
-pub mod LinearLaws
+pub mod RankLaws

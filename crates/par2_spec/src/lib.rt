@@ -3,6 +3,7 @@
 
 mod asked;
 pub mod create_laws;
+pub mod rank_laws;
 pub mod repair_laws;
 pub mod search_laws;
 
