@@ -11,3 +11,5 @@ pub mod ReadLaws
 pub mod RepairLaws
 pub mod ListsLaws
 pub mod RankLaws
+pub mod SessionLaws
+pub mod AcceptedLaws

@@ -82,7 +82,7 @@ distinct_by_length (x ∷ xs) e =
 
 -- ---- a set that reads
 
-abbrev came_out : {A : Type 0} → Result A Fault → Bool
+abbrev pub came_out : {A : Type 0} → Result A Fault → Bool
 came_out (Ok a) = true
 came_out (Err e) = false
 
