@@ -19,3 +19,6 @@ pub mod RepairLaws
 pub mod ListsLaws
 pub mod LinearLaws
 pub mod ChecksumLaws
+pub mod RankLaws
+pub mod SessionLaws
+pub mod AcceptedLaws

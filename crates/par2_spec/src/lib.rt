@@ -3,8 +3,11 @@
 
 mod asked;
 pub mod create_laws;
+pub mod folder_laws;
+pub mod rank_laws;
 pub mod repair_laws;
 pub mod search_laws;
+pub mod session_laws;
 
 pub use asked::{Action, Command, CreateArgs};
 pub mod field_laws;
