@@ -53,3 +53,5 @@ pub enum ChangeFault {
     NoRoom,
     NoSuchName,
 }
+
+pub mod folder_laws;
