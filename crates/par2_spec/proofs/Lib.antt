@@ -22,3 +22,4 @@ pub mod ChecksumLaws
 pub mod RankLaws
 pub mod SessionLaws
 pub mod AcceptedLaws
+pub mod FolderLaws
