@@ -11,3 +11,4 @@ pub mod Folders
 pub mod Volumes
 pub mod Changes
 pub mod Codes
+pub mod Packing

@@ -1,6 +1,8 @@
 //! The definitions that every crate of this repository cites, and the plain enums that they speak of.
 #![tactic(auto)]
 
+pub mod packet_laws;
+
 /// The type of a packet.
 #[derive(Clone, Copy, PartialEq, Eq, Debug, Drop)]
 pub enum Kind {

@@ -1,0 +1,4 @@
+pub mod AcceptedLaws
+pub mod WrittenPackets
+pub mod WrittenBodies
+pub mod WrittenNames
