@@ -23,3 +23,8 @@ pub mod RankLaws
 pub mod SessionLaws
 pub mod AcceptedLaws
 pub mod FolderLaws
+pub mod AcceptedLaws
+pub mod WrittenPackets
+pub mod WrittenBodies
+pub mod WrittenNames
+pub mod AcceptedCommands

@@ -28,3 +28,4 @@ pub mod Opening
 pub mod Rules
 pub mod SessionCodes
 pub mod Stores
+pub mod Packing

@@ -12,6 +12,7 @@ pub mod session_laws;
 pub use asked::{Action, Command, CreateArgs};
 pub mod field_laws;
 pub mod checksum_laws;
+pub mod packet_laws;
 
 /// The type of a packet.
 #[derive(Clone, Copy, PartialEq, Eq, Debug, Drop)]
