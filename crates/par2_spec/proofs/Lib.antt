@@ -22,8 +22,6 @@ pub mod ChecksumLaws
 pub mod RankLaws
 pub mod SessionLaws
 pub mod AcceptedLaws
-pub mod FolderLaws
-pub mod AcceptedLaws
 pub mod WrittenPackets
 pub mod WrittenBodies
 pub mod WrittenNames
