@@ -19,3 +19,10 @@ pub mod RepairLaws
 pub mod ListsLaws
 pub mod LinearLaws
 pub mod ChecksumLaws
+pub mod RankLaws
+pub mod SessionLaws
+pub mod AcceptedLaws
+pub mod WrittenPackets
+pub mod WrittenBodies
+pub mod WrittenNames
+pub mod AcceptedCommands
