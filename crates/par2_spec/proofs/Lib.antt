@@ -5,3 +5,4 @@ pub mod FieldOrder
 pub mod FieldSteps
 pub mod FieldConstants
 pub mod FieldRows
+pub mod ChecksumLaws
