@@ -1,0 +1,4 @@
+pub mod WordLaws
+pub mod LaneLaws
+pub mod Blocks
+pub mod TableLaws
