@@ -1,5 +1,6 @@
 -- What the types of this crate say, without where they lie in memory.
-use Rattle.std.specs.Prelude.{string_bytes}
+use Rattle.std.specs.Prelude.{ℕ, string_bytes}
+use Rattle.std.specs.Int.{w128, from_le_bytes}
 use Rattle.par2_spec.specs.Volumes as volumes
 use Rattle.par2_packets.specs.declared.record.FileRecord.{FileRecord}
 
@@ -13,3 +14,7 @@ file_record_of file = record {
   name = string_bytes file.name;
   pairs = file.pairs.items;
 }
+
+-- the File ID as a little-endian number
+abbrev pub id_number : FileRecord → ℕ
+id_number file = from_le_bytes w128 file.id

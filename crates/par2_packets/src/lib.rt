@@ -2,7 +2,9 @@
 #![tactic(auto)]
 
 mod append;
+mod order;
 mod record;
 
 pub use append::{append_creator, append_desc, append_ifsc, append_main, append_recovery};
+pub use order::{DuplicateId, sort_ids};
 pub use record::{FileRecord, Pair, file_id, main_id};

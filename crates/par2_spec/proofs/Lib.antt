@@ -6,3 +6,7 @@ pub mod FieldSteps
 pub mod FieldConstants
 pub mod FieldRows
 pub mod ChecksumLaws
+pub mod AcceptedLaws
+pub mod WrittenPackets
+pub mod WrittenBodies
+pub mod WrittenNames

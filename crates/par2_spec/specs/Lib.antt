@@ -25,3 +25,4 @@ pub mod History
 pub mod Sessions
 pub mod Journals
 pub mod Opening
+pub mod Packing

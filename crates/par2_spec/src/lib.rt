@@ -5,6 +5,7 @@ mod asked;
 
 pub use asked::{Action, Command, CreateArgs};
 pub mod field_laws;
+pub mod packet_laws;
 
 /// The type of a packet.
 #[derive(Clone, Copy, PartialEq, Eq, Debug, Drop)]
