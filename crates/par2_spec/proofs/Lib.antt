@@ -10,3 +10,4 @@ pub mod AcceptedLaws
 pub mod WrittenPackets
 pub mod WrittenBodies
 pub mod WrittenNames
+pub mod FolderLaws

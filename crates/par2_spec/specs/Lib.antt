@@ -26,3 +26,4 @@ pub mod Sessions
 pub mod Journals
 pub mod Opening
 pub mod Packing
+pub mod Stores

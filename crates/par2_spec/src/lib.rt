@@ -91,3 +91,4 @@ pub enum Version {
     /// With a cursor, behind which the entries are those that a redo applies.
     Two,
 }
+pub mod folder_laws;
