@@ -29,3 +29,4 @@ pub mod Rules
 pub mod SessionCodes
 pub mod Stores
 pub mod Packing
+pub mod Stores
