@@ -21,10 +21,8 @@ pub mod LinearLaws
 pub mod ChecksumLaws
 pub mod RankLaws
 pub mod SessionLaws
-pub mod ChecksumLaws
 pub mod AcceptedLaws
 pub mod WrittenPackets
 pub mod WrittenBodies
 pub mod WrittenNames
 pub mod AcceptedCommands
-pub mod FolderLaws

@@ -29,4 +29,3 @@ pub mod Rules
 pub mod SessionCodes
 pub mod Stores
 pub mod Packing
-pub mod Stores
