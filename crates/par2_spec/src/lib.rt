@@ -2,17 +2,17 @@
 #![tactic(auto)]
 
 mod asked;
+pub mod checksum_laws;
 pub mod create_laws;
+pub mod field_laws;
 pub mod folder_laws;
+pub mod packet_laws;
 pub mod rank_laws;
 pub mod repair_laws;
 pub mod search_laws;
 pub mod session_laws;
 
 pub use asked::{Action, Command, CreateArgs};
-pub mod field_laws;
-pub mod checksum_laws;
-pub mod packet_laws;
 
 /// The type of a packet.
 #[derive(Clone, Copy, PartialEq, Eq, Debug, Drop)]
@@ -98,4 +98,3 @@ pub enum Version {
     /// With a cursor, behind which the entries are those that a redo applies.
     Two,
 }
-pub mod folder_laws;
