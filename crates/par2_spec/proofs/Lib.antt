@@ -17,7 +17,6 @@ pub mod FoundLaws
 pub mod ReadLaws
 pub mod RepairLaws
 pub mod ListsLaws
-pub mod LinearLaws
 pub mod ChecksumLaws
 pub mod RankLaws
 pub mod SessionLaws
