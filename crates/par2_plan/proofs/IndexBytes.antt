@@ -14,23 +14,23 @@ use Rattle.par2_packets.specs.declared.record.FileRecord.{FileRecord}
 -- a packet, packets made of items twice over, and a last packet
 in_turn : {A B : Type 0} (f : B → List ℕ) (first last : B) (g h : A → B) (xs : List A)
     → flat_map f (first ∷ map g xs ++ map h xs ++ last ∷ [])
-      ≡ f first ++ flat_map (λ x. f (g x)) xs ++ flat_map (λ x. f (h x)) xs ++ f last
+    ≡ f first ++ flat_map (λ x. f (g x)) xs ++ flat_map (λ x. f (h x)) xs ++ f last
 in_turn f first last g h xs =
     flat_map-append f (first ∷ map g xs ++ map h xs) (last ∷ [])
     ∙ ap (λ o. o ++ flat_map f (last ∷ [])) (
-      flat_map-append f (first ∷ map g xs) (map h xs)
-      ∙ ap (λ o. o ++ flat_map f (map h xs)) (ap (λ o. f first ++ o) (flat_map-map f g xs))
-      ∙ ap (λ o. f first ++ flat_map (λ x. f (g x)) xs ++ o) (flat_map-map f h xs))
+    flat_map-append f (first ∷ map g xs) (map h xs)
+    ∙ ap (λ o. o ++ flat_map f (map h xs)) (ap (λ o. f first ++ o) (flat_map-map f g xs))
+    ∙ ap (λ o. f first ++ flat_map (λ x. f (g x)) xs ++ o) (flat_map-map f h xs))
     ∙ ap (λ o. f first ++ flat_map (λ x. f (g x)) xs ++ flat_map (λ x. f (h x)) xs ++ o) (append-nil (f last))
 
 pub index_bytes : (s : ℕ) (files : List FileRecord)
     → let records = map file_record_of files in
-      let of_set = packet_of (main_id s records) in
-      flat_map packet (index_packets s records)
-      ≡ packet (of_set Main (main_bytes s records))
-        ++ flat_map (λ file. packet (of_set FileDesc (desc_bytes (file_record_of file)))) files
-        ++ flat_map (λ file. packet (of_set Ifsc (ifsc_bytes (file_record_of file)))) files
-        ++ packet (of_set Creator creator_bytes)
+    let of_set = packet_of (main_id s records) in
+    flat_map packet (index_packets s records)
+    ≡ packet (of_set Main (main_bytes s records))
+    ++ flat_map (λ file. packet (of_set FileDesc (desc_bytes (file_record_of file)))) files
+    ++ flat_map (λ file. packet (of_set Ifsc (ifsc_bytes (file_record_of file)))) files
+    ++ packet (of_set Creator creator_bytes)
 unfolding index_packets
 index_bytes s files =
     let records = map file_record_of files in

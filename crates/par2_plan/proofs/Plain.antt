@@ -58,7 +58,7 @@ short_base base h = elim (leb_tells 256 (length base)) as (λ _. nat_lt 255 (len
 -- the causes that hold of one input alone, in the order of all
 in_order : (size base input there empty many long exists : Bool) → (base ≡ false → long ≡ false)
     → first_fault (fault_where size BadSliceSize ∷ None ∷ fault_where base BadBase ∷ None ∷ fault_where input (BadName 1) ∷ None ∷ fault_where there (NoSuchFile 1) ∷ fault_where empty (EmptyFile 1) ∷ fault_where many TooManySlices ∷ None ∷ fault_where long NameTooLong ∷ fault_where exists Exists ∷ [])
-      ≡ first_fault (first_fault (fault_where size BadSliceSize ∷ fault_where base BadBase ∷ fault_where input (BadName 1) ∷ []) ∷ first_fault (fault_where there (NoSuchFile 1) ∷ fault_where empty (EmptyFile 1) ∷ fault_where many TooManySlices ∷ fault_where exists Exists ∷ []) ∷ [])
+    ≡ first_fault (first_fault (fault_where size BadSliceSize ∷ fault_where base BadBase ∷ fault_where input (BadName 1) ∷ []) ∷ first_fault (fault_where there (NoSuchFile 1) ∷ fault_where empty (EmptyFile 1) ∷ fault_where many TooManySlices ∷ fault_where exists Exists ∷ []) ∷ [])
 in_order true base input there empty many long exists h = refl
 in_order false true input there empty many long exists h = refl
 in_order false false true there empty many long exists h = refl
@@ -76,13 +76,14 @@ unfolding create_refusal words_fault folder_fault
 refusal_of_plain folder size base input =
     let file : File = (input, bytes_of folder input) in
     rw (
-    index_alone base size 0 (file ∷ []),
-    single BadName (λ word. not (is_input_name word)) input,
-    single NoSuchFile (λ word. not (has folder word)) input,
-    single EmptyFile (λ (x : File). length x.1 == 0) file,
-    zero-add (slice_count size (length (bytes_of folder input))),
-    alone (nat_lt 255 (length base)),
-    alone (has folder base)) (in_order _ _ _ _ _ _ _ _ (short_base base))
+      index_alone base size 0 (file ∷ []),
+      single BadName (λ word. not (is_input_name word)) input,
+      single NoSuchFile (λ word. not (has folder word)) input,
+      single EmptyFile (λ (x : File). length x.1 == 0) file,
+      zero-add (slice_count size (length (bytes_of folder input))),
+      alone (nat_lt 255 (length base)),
+      alone (has folder base),
+    ) (in_order _ _ _ _ _ _ _ _ (short_base base))
 
 -- ---- for a create that has this form
 

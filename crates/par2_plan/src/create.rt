@@ -13,7 +13,6 @@ use crate::Changes;
 use crate::index::index_of;
 use crate::words::{is_par_name, is_slice_size};
 use par2_folder::{Bytes, Change, Folder, Name};
-
 use par2_records::file_record;
 use par2_slices::slice_count;
 use par2_spec::{CreateArgs, Fault};

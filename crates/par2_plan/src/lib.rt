@@ -8,5 +8,4 @@ mod words;
 
 pub use changes::Changes;
 pub use create::plan_create;
-
 pub use par2_spec::{CreateArgs, Fault};

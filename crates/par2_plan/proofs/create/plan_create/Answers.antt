@@ -18,7 +18,7 @@ returns-in-Some-clause-refused c =
     let is_input = sym c.in-Ok.ensures.names.1 in
     let words : words_fault size base input ≡ None = rw c.deref.ensures at c.in-Ok.ensures.accepted in
     let folder : folder_fault files size base input ≡ Some c.in-Some.fault =
-        ap (λ x. folder_fault files size x input) is_base ∙ ap (λ x. folder_fault files size c.in-Ok.names.0 x) is_input ∙ sym c.folder_fault.ensures ∙ c.in-Some.is in
+    ap (λ x. folder_fault files size x input) is_base ∙ ap (λ x. folder_fault files size c.in-Ok.names.0 x) is_input ∙ sym c.folder_fault.ensures ∙ c.in-Some.is in
     inr (refused_by_folder files size base input (create_args_of c.args.args.now) c.only_input-input.ensures c.in-Some.fault words folder)
 
 pub returns-in-Ok-write_index-clause-accepted : goal.returns-in-Ok-write_index-clause-accepted
@@ -31,7 +31,7 @@ returns-in-Ok-write_index-clause-accepted c =
     let is_input = sym c.in-Ok.ensures.names.1 in
     let words : words_fault size base input ≡ None = rw c.deref.ensures at c.in-Ok.ensures.accepted in
     let folder : folder_fault files size base input ≡ None =
-        ap (λ x. folder_fault files size x input) is_base ∙ ap (λ x. folder_fault files size c.in-Ok.names.0 x) is_input ∙ sym c.folder_fault.ensures ∙ c.in_default.is in
+    ap (λ x. folder_fault files size x input) is_base ∙ ap (λ x. folder_fault files size c.in-Ok.names.0 x) is_input ∙ sym c.folder_fault.ensures ∙ c.in_default.is in
     not_refused files size base input (create_args_of c.args.args.now) c.only_input-input.ensures words folder
 
 pub returns-in-Ok-write_index-clause-changes : goal.returns-in-Ok-write_index-clause-changes
@@ -43,7 +43,7 @@ returns-in-Ok-write_index-clause-changes c =
     let is_base = sym (c.in-Ok.ensures.names.0 ∙ c.deref.ensures) in
     let is_input = sym c.in-Ok.ensures.names.1 in
     let folder : folder_fault files size base input ≡ None =
-        ap (λ x. folder_fault files size x input) is_base ∙ ap (λ x. folder_fault files size c.in-Ok.names.0 x) is_input ∙ sym c.folder_fault.ensures ∙ c.in_default.is in
+    ap (λ x. folder_fault files size x input) is_base ∙ ap (λ x. folder_fault files size c.in-Ok.names.0 x) is_input ∙ sym c.folder_fault.ensures ∙ c.in_default.is in
     are_planned files size base input (create_args_of c.args.args.now) c.only_input-input.ensures folder c.in-Ok-write_index.changes
     (c.in-Ok-write_index.ensures ∙ ap (λ x. index_written files size x c.in-Ok.names.1) (sym is_base) ∙ ap (λ x. index_written files size base x) (sym is_input))
 
@@ -56,7 +56,7 @@ returns-in-Ok-write_index-clause-applies c =
     let is_base = sym (c.in-Ok.ensures.names.0 ∙ c.deref.ensures) in
     let is_input = sym c.in-Ok.ensures.names.1 in
     let folder : folder_fault files size base input ≡ None =
-        ap (λ x. folder_fault files size x input) is_base ∙ ap (λ x. folder_fault files size c.in-Ok.names.0 x) is_input ∙ sym c.folder_fault.ensures ∙ c.in_default.is in
+    ap (λ x. folder_fault files size x input) is_base ∙ ap (λ x. folder_fault files size c.in-Ok.names.0 x) is_input ∙ sym c.folder_fault.ensures ∙ c.in_default.is in
     apply_in_order files size base input (create_args_of c.args.args.now) c.only_input-input.ensures folder c.in-Ok-write_index.changes
     (c.in-Ok-write_index.ensures ∙ ap (λ x. index_written files size x c.in-Ok.names.1) (sym is_base) ∙ ap (λ x. index_written files size base x) (sym is_input))
 
@@ -69,7 +69,6 @@ returns-in-Ok-write_index-clause-leads c =
     let is_base = sym (c.in-Ok.ensures.names.0 ∙ c.deref.ensures) in
     let is_input = sym c.in-Ok.ensures.names.1 in
     let folder : folder_fault files size base input ≡ None =
-        ap (λ x. folder_fault files size x input) is_base ∙ ap (λ x. folder_fault files size c.in-Ok.names.0 x) is_input ∙ sym c.folder_fault.ensures ∙ c.in_default.is in
+    ap (λ x. folder_fault files size x input) is_base ∙ ap (λ x. folder_fault files size c.in-Ok.names.0 x) is_input ∙ sym c.folder_fault.ensures ∙ c.in_default.is in
     lead_to_folder files size base input (create_args_of c.args.args.now) c.only_input-input.ensures folder c.in-Ok-write_index.changes
     (c.in-Ok-write_index.ensures ∙ ap (λ x. index_written files size x c.in-Ok.names.1) (sym is_base) ∙ ap (λ x. index_written files size base x) (sym is_input))
-
