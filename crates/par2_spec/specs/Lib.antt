@@ -20,3 +20,10 @@ pub mod Refusals
 pub mod Plans
 pub mod Reports
 pub mod Views
+pub mod Texts
+pub mod History
+pub mod Sessions
+pub mod Journals
+pub mod Opening
+pub mod Rules
+pub mod SessionCodes

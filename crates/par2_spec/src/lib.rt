@@ -2,8 +2,12 @@
 #![tactic(auto)]
 
 mod asked;
+pub mod create_laws;
+pub mod repair_laws;
+pub mod search_laws;
 
 pub use asked::{Action, Command, CreateArgs};
+pub mod field_laws;
 
 /// The type of a packet.
 #[derive(Clone, Copy, PartialEq, Eq, Debug, Drop)]
@@ -64,4 +68,28 @@ pub enum Verdict {
     Complete,
     Repairable,
     NotRepairable,
+}
+
+/// Why a run of the program fails.
+#[derive(Clone, Copy, PartialEq, Eq, Debug, Drop)]
+pub enum Failure {
+    /// A command was refused.
+    Refused(Fault),
+    /// A call of the store failed.
+    Store,
+    /// The words are no command.
+    Arguments,
+    JournalInvalid,
+    FolderChanged,
+    NothingToUndo,
+    NothingToRedo,
+}
+
+/// The version of a journal's spelling.
+#[derive(Clone, Copy, PartialEq, Eq, Debug, Drop)]
+pub enum Version {
+    /// Without a cursor: each entry is one that an undo applies.
+    One,
+    /// With a cursor, behind which the entries are those that a redo applies.
+    Two,
 }

@@ -1,0 +1,25 @@
+# make demo     builds the program and protects a real file in a fresh folder
+# make test     proves everything from nothing, tries the must-fail edits, runs tests and programs
+# make bench    measures the kernels and whole commands, as ratios within one run
+# make install  puts the program at PREFIX/bin/par2
+# All need the command rt of the toolchain alone.
+PREFIX ?= $(HOME)/.local
+PROGRAM = crates/par2/out/par2
+
+.PHONY: build demo test bench install
+
+# Proves what the program stands on and builds it. `rt run` also runs it: without words it ends with status 3.
+build:
+	cd crates/par2 && { rt run > /dev/null; [ $$? -eq 3 ]; }
+
+demo: build
+	sh scripts/demo "$(CURDIR)/$(PROGRAM)"
+
+test:
+	sh scripts/test
+
+bench:
+	sh scripts/bench
+
+install: build
+	install -D -m 755 $(PROGRAM) "$(PREFIX)/bin/par2"

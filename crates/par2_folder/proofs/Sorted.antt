@@ -1,0 +1,266 @@
+-- Files sorted by their names: what a search finds in them, and what an edit at a place does to the folder that
+-- they make.
+use Rattle.std.proofs.Common.{◌≡◌, ℕ, zero, suc, ◌<◌, ◌≤◌, Bool, true, false, cond, not, ◌&&◌, List, [], ◌∷◌, length, set, Option, Some, None, inl, inr, Result, Ok, Err, IfOk, IfErr, IsTrue, T, refl, sym, ap, subst, ◌∙◌, arith}
+use Rattle.std.specs.List.{insert, remove, AllByRecursion}
+use Rattle.std.specs.List.Sorted.{IsSearchInRange, IsBinarySearchResult, IsNonDecreasingBy}
+use Rattle.std.specs.Ordering.{ordering_index, ordering_reverse, eq_by_cmp, is_lt, is_eq}
+use Rattle.std.specs.declared.cmp.Ordering.{Ordering}
+use Rattle.std.specs.declared.cmp.Ordering.TheVariants.{Less, Equal, Greater}
+use Rattle.std.specs.Cmp.{tied_itself, alike_right, eq_by_cmp_equiv}
+use Rattle.std.proofs.lemmas.Bool.{cases_lt}
+use Rattle.std.specs.Cmp.Lexicographic.{nat_list_cmp_total}
+use Rattle.std.specs.FinMap as map_of
+use Rattle.std.specs.FinMap.{entries, is_sorted, find, put, IsAntisymmetric, slice_cmp-IsAntisymmetric, nat_cmp-IsAntisymmetric, same_entries_map, same_map, entries_sorted, entries-from_sorted, get-from_sorted, entries-insert, get-remove, get-empty}
+use Rattle.std.specs.FinMap.Entries.{where_key, find-where_key, is_sorted-where_key}
+use Rattle.std.proofs.lemmas.List.Sorted.{IsNonDecreasingBy-from_default}
+use Rattle.par2_spec.specs.Folders.{File, Folder, IsFolder}
+use Rattle.par2_folder.specs.View.{name_cmp, IsSortedByName, folder_of, file_at, IsAt, IsGapFor, IsFile, IsKept}
+
+pub same_names : IsAntisymmetric name_cmp
+same_names = slice_cmp-IsAntisymmetric nat_cmp-IsAntisymmetric
+
+first : (a b : Bool) → IsTrue (a && b) → IsTrue a
+first true b h = refl
+first false b h = h
+
+second : (a b : Bool) → IsTrue (a && b) → IsTrue b
+second true b h = h
+second false b h = cc
+
+holds : {b : Bool} → IsTrue b → T b
+holds {b} h = subst T (sym h) tt
+
+is_true : (b : Bool) → T b → IsTrue b
+is_true true h = refl
+is_true false h = absurd h
+
+less : (o : Ordering) → IsTrue (is_lt o) → o ≡ Less
+less Less h = refl
+less Equal h = cc
+less Greater h = cc
+
+tail_at : (e : File) (files : List File) (name : List ℕ) (i : ℕ) → IsAt (e ∷ files) name (suc i) → IsAt files name i
+tail_at e files name i here = record { in_range = omega (arith, here.in_range); has_name = here.has_name }
+
+tail_gap : (e : File) (files : List File) (name : List ℕ) (i : ℕ) → IsGapFor (e ∷ files) name (suc i) → IsGapFor files name i
+tail_gap e files name i gap = record {
+  in_range = omega (arith, gap.in_range);
+  smaller_before = λ j lt. gap.smaller_before (suc j) (omega arith);
+  greater_after = λ j le lt. gap.greater_after (suc j) (omega arith) (omega arith);
+}
+
+-- a file of a sorted list comes before each that follows it
+below : (name : List ℕ) (files : List File) (i : ℕ) → IsTrue (map_of.Entries.below_all name_cmp name files) → i < length files → name_cmp name (file_at files i).0 ≡ Less
+below name [] i h lt = absurd (omega arith)
+below name (e ∷ files) zero h lt = less _ (first _ _ h)
+below name (e ∷ files) (suc i) h lt = below name files i (second _ _ h) (omega arith)
+
+rises : (files : List File) → IsSortedByName files → (i j : ℕ) → i < j → j < length files → name_cmp (file_at files i).0 (file_at files j).0 ≡ Less
+rises [] h i j lt in_range = absurd (omega arith)
+rises (e ∷ files) h i zero lt in_range = absurd (omega arith)
+rises (e ∷ files) h zero (suc j) lt in_range = below e.0 files j (first _ _ h) (omega arith)
+rises (e ∷ files) h (suc i) (suc j) lt in_range = rises files (second _ _ h) i j (omega arith) (omega arith)
+
+module _ (files : List File) (sorted : IsSortedByName files) (name : List ℕ) where
+  by_case : (a b c : List ℕ) (s : Ordering) → name_cmp b c ≡ s → name_cmp a b ≡ Less → ordering_index (name_cmp a c) ≤ ordering_index s
+  by_case a b c Less e p = rw (nat_list_cmp_total.trans a b c p e) (omega arith)
+  by_case a b c Equal e p = rw (sym (alike_right nat_list_cmp_total b c a e) ∙ p) (omega arith)
+  by_case a b c Greater e p = at_most (name_cmp a c)
+    where
+      at_most : (o : Ordering) → ordering_index o ≤ 2
+      at_most Less = omega arith
+      at_most Equal = omega arith
+      at_most Greater = omega arith
+
+  -- the comparisons with the name rise along the files, as a binary search asks
+  comparisons_rise : IsNonDecreasingBy (λ file. ordering_index (name_cmp file.0 name)) files
+  comparisons_rise = IsNonDecreasingBy-from_default (λ file. ordering_index (name_cmp file.0 name)) files ([], []) steps
+    where
+      step : (i j : ℕ) (s : Ordering) → name_cmp (file_at files j).0 name ≡ s → i < j → j < length files → ordering_index (name_cmp (file_at files i).0 name) ≤ ordering_index s
+      step i j s e lt in_range = by_case _ _ name s e (rises files sorted i j lt in_range)
+
+      steps : (i j : ℕ) → i ≤ j → j < length files → ordering_index (name_cmp (file_at files i).0 name) ≤ ordering_index (name_cmp (file_at files j).0 name)
+      steps i j le in_range =
+          elim (cases_lt i j) [
+            | inl lt ↦ step i j _ refl lt in_range
+            | inr ge ↦ let same : i ≡ j = omega arith in subst (λ k. ordering_index (name_cmp (file_at files i).0 name) ≤ ordering_index (name_cmp (file_at files k).0 name)) same (omega arith)
+          ]
+
+  -- a binary search ends at the file of the name, or where it would go
+  pub searched : (r : Result ℕ ℕ) → IsSearchInRange r (length files) → IsBinarySearchResult (λ file. name_cmp file.0 name) files r → record { found : IfOk r (IsAt files name); absent : IfErr r (IsGapFor files name) }
+  searched (Ok at) in_range equal = record { found = record { in_range = in_range; has_name = same_names _ _ (equal ([], [])) }; absent = tt }
+  searched (Err at) in_range parted = record {
+    found = tt;
+    absent = record {
+      in_range = in_range;
+      smaller_before = λ j lt. (parted comparisons_rise).0 j ([], []) (omega arith) lt;
+      greater_after = λ j le lt. (parted comparisons_rise).1 j ([], []) le lt;
+    };
+  }
+
+-- a name that comes earlier comes before
+turned : (a b : List ℕ) → name_cmp a b ≡ Less → name_cmp b a ≡ Greater
+turned a b h = nat_list_cmp_total.antisymm b a ∙ ap ordering_reverse h
+
+turned_back : (a b : List ℕ) → name_cmp a b ≡ Greater → name_cmp b a ≡ Less
+turned_back a b h = nat_list_cmp_total.antisymm b a ∙ ap ordering_reverse h
+
+-- ---- what is found
+
+pub find_at : (files : List File) → IsSortedByName files → (name : List ℕ) (at : ℕ) → IsAt files name at → find name_cmp name files ≡ Some (file_at files at).1
+find_at [] h name at here = absurd (omega (arith, here.in_range))
+find_at (e ∷ files) h name zero here = ap (λ o. cond (is_eq o) (Some e.1) (find name_cmp name files)) (subst (λ n. name_cmp n e.0 ≡ Equal) here.has_name (tied_itself nat_list_cmp_total e.0))
+find_at (e ∷ files) h name (suc at) here =
+    let inside = tail_at e files name at here in
+    let before : name_cmp e.0 name ≡ Less = subst (λ n. name_cmp e.0 n ≡ Less) inside.has_name (below e.0 files at (first _ _ h) inside.in_range) in
+    ap (λ o. cond (is_eq o) (Some e.1) (find name_cmp name files)) (turned e.0 name before) ∙ find_at files (second _ _ h) name at inside
+
+apart : (a b : List ℕ) (at : ℕ) (o : Ordering) → name_cmp a b ≡ o → is_eq o ≡ false → is_eq (name_cmp b a) ≡ false
+apart a b at Less e h = ap is_eq (turned a b e)
+apart a b at Equal e h = cc
+apart a b at Greater e h = ap is_eq (turned_back a b e)
+
+pub find_in_gap : (files : List File) (name : List ℕ) (at : ℕ) → IsGapFor files name at → find name_cmp name files ≡ None
+find_in_gap [] name at gap = refl
+find_in_gap (e ∷ files) name zero gap =
+    ap (λ b. cond b (Some e.1) (find name_cmp name files)) (apart e.0 name 0 Greater (gap.greater_after 0 (omega arith) (omega arith)) refl)
+    ∙ find_in_gap files name 0 (record { in_range = omega arith; smaller_before = λ j lt. absurd (omega arith); greater_after = λ j le lt. gap.greater_after (suc j) (omega arith) (omega arith) })
+find_in_gap (e ∷ files) name (suc at) gap =
+    ap (λ b. cond b (Some e.1) (find name_cmp name files)) (apart e.0 name 0 Less (gap.smaller_before 0 (omega arith)) refl)
+    ∙ find_in_gap files name at (tail_gap e files name at gap)
+
+-- ---- what an edit does
+
+put_in_gap : (files : List File) (name bytes : List ℕ) (at : ℕ) → IsGapFor files name at → put name_cmp name bytes files ≡ insert files at (name, bytes)
+put_in_gap [] name bytes zero gap = refl
+put_in_gap [] name bytes (suc at) gap = absurd (omega (arith, gap.in_range))
+put_in_gap (e ∷ files) name bytes zero gap = ap (λ o. map_of.Entries.by_order o ((name, bytes) ∷ e ∷ files) ((e.0, bytes) ∷ files) (e ∷ put name_cmp name bytes files)) (turned_back e.0 name (gap.greater_after 0 (omega arith) (omega arith)))
+put_in_gap (e ∷ files) name bytes (suc at) gap =
+    ap (λ o. map_of.Entries.by_order o ((name, bytes) ∷ e ∷ files) ((e.0, bytes) ∷ files) (e ∷ put name_cmp name bytes files)) (turned e.0 name (gap.smaller_before 0 (omega arith)))
+    ∙ ap (λ rest. e ∷ rest) (put_in_gap files name bytes at (tail_gap e files name at gap))
+
+put_at : (files : List File) → IsSortedByName files → (name bytes : List ℕ) (at : ℕ) → IsAt files name at → put name_cmp name bytes files ≡ set files at (name, bytes)
+put_at [] h name bytes at here = absurd (omega (arith, here.in_range))
+put_at (e ∷ files) h name bytes zero here =
+    ap (λ o. map_of.Entries.by_order o ((name, bytes) ∷ e ∷ files) ((e.0, bytes) ∷ files) (e ∷ put name_cmp name bytes files)) (subst (λ n. name_cmp n e.0 ≡ Equal) here.has_name (tied_itself nat_list_cmp_total e.0))
+    ∙ ap (λ n. (n, bytes) ∷ files) here.has_name
+put_at (e ∷ files) h name bytes (suc at) here =
+    let inside = tail_at e files name at here in
+    let before : name_cmp e.0 name ≡ Less = subst (λ n. name_cmp e.0 n ≡ Less) inside.has_name (below e.0 files at (first _ _ h) inside.in_range) in
+    ap (λ o. map_of.Entries.by_order o ((name, bytes) ∷ e ∷ files) ((e.0, bytes) ∷ files) (e ∷ put name_cmp name bytes files)) (turned e.0 name before)
+    ∙ ap (λ rest. e ∷ rest) (put_at files (second _ _ h) name bytes at inside)
+
+abbrev other : List ℕ → List ℕ → Bool
+other name n = not (eq_by_cmp name_cmp name n)
+
+all_others : (files : List File) (name : List ℕ) → IsTrue (map_of.Entries.below_all name_cmp name files) → where_key name_cmp (other name) files ≡ files
+all_others [] name h = refl
+all_others (e ∷ files) name h =
+    ap (λ o. cond (not (is_eq o)) (e ∷ where_key name_cmp (other name) files) (where_key name_cmp (other name) files)) (less _ (first _ _ h))
+    ∙ ap (λ rest. e ∷ rest) (all_others files name (second _ _ h))
+
+others_at : (files : List File) → IsSortedByName files → (name : List ℕ) (at : ℕ) → IsAt files name at → where_key name_cmp (other name) files ≡ remove files at
+others_at [] h name at here = absurd (omega (arith, here.in_range))
+others_at (e ∷ files) h name zero here =
+    ap (λ o. cond (not (is_eq o)) (e ∷ where_key name_cmp (other name) files) (where_key name_cmp (other name) files)) (subst (λ n. name_cmp n e.0 ≡ Equal) here.has_name (tied_itself nat_list_cmp_total e.0))
+    ∙ all_others files name (subst (λ n. IsTrue (map_of.Entries.below_all name_cmp n files)) here.has_name (first _ _ h))
+others_at (e ∷ files) h name (suc at) here =
+    let inside = tail_at e files name at here in
+    let before : name_cmp e.0 name ≡ Less = subst (λ n. name_cmp e.0 n ≡ Less) inside.has_name (below e.0 files at (first _ _ h) inside.in_range) in
+    ap (λ o. cond (not (is_eq o)) (e ∷ where_key name_cmp (other name) files) (where_key name_cmp (other name) files)) (turned e.0 name before)
+    ∙ ap (λ rest. e ∷ rest) (others_at files (second _ _ h) name at inside)
+
+-- ---- each file is a file
+
+each_insert : (files : List File) (at : ℕ) (file : File) → AllByRecursion IsFile files → IsFile file → AllByRecursion IsFile (insert files at file)
+each_insert [] zero file each is = (is, tt)
+each_insert [] (suc at) file each is = (is, tt)
+each_insert (e ∷ files) zero file each is = (is, each)
+each_insert (e ∷ files) (suc at) file each is = (each.0, each_insert files at file each.1 is)
+
+each_set : (files : List File) (at : ℕ) (file : File) → AllByRecursion IsFile files → IsFile file → AllByRecursion IsFile (set files at file)
+each_set [] at file each is = tt
+each_set (e ∷ files) zero file each is = (is, each.1)
+each_set (e ∷ files) (suc at) file each is = (each.0, each_set files at file each.1 is)
+
+each_remove : (files : List File) (at : ℕ) → AllByRecursion IsFile files → AllByRecursion IsFile (remove files at)
+each_remove [] zero each = tt
+each_remove [] (suc at) each = tt
+each_remove (e ∷ files) zero each = each.1
+each_remove (e ∷ files) (suc at) each = (each.0, each_remove files at each.1)
+
+-- ---- the same of the folder
+
+pub files_of : (files : List File) → IsSortedByName files → entries (folder_of files) ≡ files
+files_of files h = entries-from_sorted name_cmp files (holds h)
+
+pub is_folder : (files : List File) → IsKept files → IsFolder (folder_of files)
+is_folder files h = subst (AllByRecursion IsFile) (sym (files_of files h.sorted)) h.each
+
+-- a folder's entries, where they are these files
+is_made_of : (files : List File) (folder : Folder) → entries folder ≡ files → record { sorted : IsSortedByName files; folder : folder_of files ≡ folder }
+is_made_of files folder e =
+    let sorted = subst (λ l. T (is_sorted name_cmp l)) e (entries_sorted folder) in
+    record { sorted = is_true _ sorted; folder = same_entries_map _ _ (entries-from_sorted name_cmp files sorted ∙ sym e) }
+
+get_at : (files : List File) → IsSortedByName files → (name : List ℕ) (at : ℕ) → IsAt files name at → map_of.get (folder_of files) name ≡ Some (file_at files at).1
+get_at files h name at here = get-from_sorted name_cmp files name (holds h) ∙ find_at files h name at here
+
+get_in_gap : (files : List File) → IsSortedByName files → (name : List ℕ) (at : ℕ) → IsGapFor files name at → map_of.get (folder_of files) name ≡ None
+get_in_gap files h name at gap = get-from_sorted name_cmp files name (holds h) ∙ find_in_gap files name at gap
+
+pub bytes_at : (files : List File) → IsKept files → (name : List ℕ) (at : ℕ) → IsAt files name at → map_of.get (folder_of files) name ≡ Some (file_at files at).1
+bytes_at files h = get_at files h.sorted
+
+-- the edited files are kept, and make this folder
+pub record Makes (files : List File) (folder : Folder) : Type 0 where
+  pub kept : IsKept files
+  pub is : folder_of files ≡ folder
+
+pub inserted : (files : List File) → IsKept files → (name bytes : List ℕ) (at : ℕ) → IsGapFor files name at → IsFile (name, bytes) → Makes (insert files at (name, bytes)) (map_of.insert (folder_of files) name bytes)
+inserted files h name bytes at gap is =
+    let made = is_made_of _ _ (entries-insert nat_list_cmp_total (folder_of files) name bytes ∙ ap (put name_cmp name bytes) (files_of files h.sorted) ∙ put_in_gap files name bytes at gap) in
+    record { kept = record { sorted = made.sorted; each = each_insert files at (name, bytes) h.each is }; is = made.folder }
+
+pub exchanged : (files : List File) → IsKept files → (name bytes : List ℕ) (at : ℕ) → IsAt files name at → IsFile (name, bytes) → Makes (set files at (name, bytes)) (map_of.insert (folder_of files) name bytes)
+exchanged files h name bytes at here is =
+    let made = is_made_of _ _ (entries-insert nat_list_cmp_total (folder_of files) name bytes ∙ ap (put name_cmp name bytes) (files_of files h.sorted) ∙ put_at files h.sorted name bytes at here) in
+    record { kept = record { sorted = made.sorted; each = each_set files at (name, bytes) h.each is }; is = made.folder }
+
+flipped : {A : Type 0} (b : Bool) (x y : A) → cond (not b) x y ≡ cond b y x
+flipped true x y = refl
+flipped false x y = refl
+
+pub removed : (files : List File) → IsKept files → (name : List ℕ) (at : ℕ) → IsAt files name at → Makes (remove files at) (map_of.remove (folder_of files) name)
+removed files h name at here =
+    let same = others_at files h.sorted name at here in
+    let sorted = subst (λ l. T (is_sorted name_cmp l)) same (is_sorted-where_key name_cmp (other name) files (holds h.sorted)) in
+    record {
+      kept = record { sorted = is_true _ sorted; each = each_remove files at h.each };
+      is = same_map nat_list_cmp_total same_names _ _ (λ q.
+          get-from_sorted name_cmp _ q sorted ∙ ap (find name_cmp q) (sym same)
+          ∙ find-where_key name_cmp (other name) q (λ x t. ap (λ o. not (is_eq o)) (sym (alike_right nat_list_cmp_total q x name t))) files
+          ∙ flipped (eq_by_cmp name_cmp name q) (find {X = List ℕ} name_cmp q files) None
+          ∙ ap (λ b. cond b None (find name_cmp q files)) ((eq_by_cmp_equiv nat_list_cmp_total).symm name q)
+          ∙ sym (get-remove nat_list_cmp_total (folder_of files) name q ∙ ap (cond (eq_by_cmp name_cmp q name) None) (get-from_sorted name_cmp files q (holds h.sorted))));
+    }
+
+-- a binary search, and what the folder has at the name
+pub searched_folder : (files : List File) → IsKept files → (name : List ℕ) (r : Result ℕ ℕ) → IsSearchInRange r (length files) → IsBinarySearchResult (λ file. name_cmp file.0 name) files r
+    → record { found : IfOk r (IsAt files name); absent : IfErr r (IsGapFor files name); there : IfOk r (λ at. map_of.get (folder_of files) name ≡ Some (file_at files at).1); not_there : IfErr r (λ _. map_of.get (folder_of files) name ≡ None) }
+searched_folder files h name (Ok at) in_range found =
+    let is = searched files h.sorted name (Ok at) in_range found in
+    record { found = is.found; absent = tt; there = get_at files h.sorted name at is.found; not_there = tt }
+searched_folder files h name (Err at) in_range found =
+    let is = searched files h.sorted name (Err at) in_range found in
+    record { found = tt; absent = is.absent; there = tt; not_there = get_in_gap files h.sorted name at is.absent }
+
+pub no_files : folder_of [] ≡ map_of.empty
+no_files = same_map nat_list_cmp_total same_names _ _ (λ q. get-from_sorted name_cmp [] q tt ∙ sym (get-empty name_cmp q))
+
+pub stays_absent : (folder : Folder) (gone name : List ℕ) → map_of.get folder name ≡ None → map_of.get (map_of.remove folder gone) name ≡ None
+stays_absent folder gone name none = get-remove nat_list_cmp_total folder gone name ∙ either (eq_by_cmp name_cmp name gone) _ none
+  where
+    either : (b : Bool) (o : Option (List ℕ)) → o ≡ None → cond b None o ≡ None
+    either true o h = refl
+    either false o h = h

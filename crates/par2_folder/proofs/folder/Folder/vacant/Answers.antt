@@ -1,0 +1,8 @@
+use Rattle.std.proofs.Common.{subst}
+use Rattle.par2_spec.specs.Folders.{IsFolder}
+use Rattle.par2_spec.specs.Changes.{FolderState}
+use Rattle.par2_folder.proofs.Sorted.{is_folder}
+use Rattle.par2_folder.proofs.folder.Folder.vacant.Goals as goal
+
+pub returns-clause-folder : goal.returns-clause-folder
+returns-clause-folder c = subst (λ (state : FolderState). IsFolder state.files) c.self.view_is (is_folder _ c.self.invariant)

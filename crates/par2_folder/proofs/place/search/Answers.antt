@@ -1,0 +1,11 @@
+use Rattle.std.proofs.Common.{rules, of_calls}
+use Rattle.std.proofs.lemmas.Fn.{always_returns_same}
+use Rattle.par2_folder.specs.View.{name_cmp}
+use Rattle.par2_folder.proofs.Sorted.{searched_folder}
+use Rattle.par2_folder.proofs.place.search.Goals as goal
+
+pub returns : goal.returns
+returns c =
+    let facts = c.binary_search_by.ensures in
+    let by_name = facts.position (λ file. name_cmp file.0 c.args.name.now) (always_returns_same _ _ _ (λ a r f k. search (rules, of_calls))) in
+    searched_folder _ c.requires c.args.name.now _ facts.bound by_name

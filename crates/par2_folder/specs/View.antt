@@ -1,0 +1,43 @@
+-- How a folder keeps its files: sorted by the bytes of their names.
+use Rattle.std.specs.Prelude.{◌≡◌, ℕ, ◌<◌, ◌≤◌, ◌^◌, List, [], length, slice_index_or, IsTrue}
+use Rattle.std.specs.FinMap.{from_sorted, is_sorted}
+use Rattle.std.specs.List.{AllByRecursion}
+use Rattle.std.specs.Ordering.{nat_cmp}
+use Rattle.std.specs.declared.cmp.Ordering.{Ordering}
+use Rattle.std.specs.declared.cmp.Ordering.TheVariants.{Less, Greater}
+use Rattle.std.specs.Cmp.Lexicographic.{slice_cmp}
+use Rattle.par2_spec.specs.Folders.{Folder, File}
+use Rattle.par2_spec.specs.Names.{is_name}
+
+-- the order of names
+abbrev pub name_cmp : List ℕ → List ℕ → Ordering
+name_cmp = slice_cmp nat_cmp
+
+-- the names rise strictly
+abbrev pub IsSortedByName : List File → Type 0
+IsSortedByName files = IsTrue (is_sorted name_cmp files)
+
+abbrev pub folder_of : List File → Folder
+folder_of files = from_sorted files
+
+abbrev pub file_at : List File → ℕ → File
+file_at files i = slice_index_or files i ([], [])
+
+-- the file at place i has the name
+pub record IsAt (files : List File) (name : List ℕ) (i : ℕ) : Type 0 where
+  pub in_range : i < length files
+  pub has_name : (file_at files i).0 ≡ name
+
+-- a file of this name would go to place i
+pub record IsGapFor (files : List File) (name : List ℕ) (i : ℕ) : Type 0 where
+  pub in_range : i ≤ length files
+  pub smaller_before : (j : ℕ) → j < i → name_cmp (file_at files j).0 name ≡ Less
+  pub greater_after : (j : ℕ) → i ≤ j → j < length files → name_cmp (file_at files j).0 name ≡ Greater
+
+abbrev pub IsFile : File → Type 0
+IsFile file = IsTrue (is_name file.0) × (length file.1 < 2 ^ 64)
+
+-- what is true of the files that a folder keeps
+pub record IsKept (files : List File) : Type 0 where
+  pub sorted : IsSortedByName files
+  pub each : AllByRecursion IsFile files

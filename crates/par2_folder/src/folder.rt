@@ -1,0 +1,172 @@
+//! A flat folder in memory.
+use crate::place::{exchange_at, insert_at, remove_at, search};
+use crate::{Bytes, Change, Name};
+use par2_spec::ChangeFault;
+use std::alloc::{AllocError, Global};
+use std::marker::Model;
+use std::mem;
+
+/// A flat folder: files by their names, and places for more of them that were made beforehand.
+#[derive(Debug, Drop)]
+pub struct Folder {
+    files: Vec<(Name, Bytes)>,
+}
+
+impl Model for Folder {
+    ghost use Rattle.std.specs.Prelude.{◌-◌, vec_len, vec_capacity};
+    ghost use Rattle.par2_spec.specs.Changes.{FolderState};
+    ghost use Rattle.par2_spec.specs.Codes.{folder_state_code};
+    ghost use Rattle.par2_folder.specs.View.{IsKept, folder_of};
+
+    ghost Value = { FolderState };
+
+    ghost coded = { folder_state_code };
+
+    ghost view = { λ a. record { files = folder_of a.files.items; vacant = vec_capacity a.files - vec_len a.files } };
+
+    ghost invariant = { λ a. IsKept a.files.items };
+}
+
+impl Folder {
+    ghost use Rattle.std.specs.Prelude.{◌≡◌, Some, None, max, map, is_some, option_copied, IsTrue, IfOk, IfErr, OnOk, OnErr, IfSome};
+    ghost use Rattle.std.specs.FinMap.{empty, get};
+    ghost use Rattle.par2_spec.specs.Folders.{has, names, IsFolder};
+    ghost use Rattle.par2_spec.specs.Changes.{Rename, change_refusal, state_after, inverse, takes_all, state_after_all, way_back};
+    ghost use Rattle.par2_folder.specs.Views.{change_of};
+
+    /// The folder without files. It has no vacant places.
+    #[tactic(auto, using(crate::proofs::Sorted::no_files))]
+    pub fn new(alloc: Global) -> Self
+        ensures files { result.files ≡ empty }
+        ensures vacant { result.vacant ≡ 0 }
+    {
+        Folder {
+            files: Vec::new(alloc),
+        }
+    }
+
+    /// How many files can be written without asking for memory.
+    pub fn vacant(&self) -> usize
+        ensures vacant { result ≡ self.now.vacant }
+        ensures folder { IsFolder self.now.files }
+    {
+        self.files.capacity() - self.files.len()
+    }
+
+    /// Makes places for at least `n` more files.
+    pub fn reserve(&mut self, n: usize) -> Result<(), AllocError>
+        ensures files { self.new.files ≡ self.old.files }
+        ensures ok { OnOk result (self.new.vacant ≡ max self.old.vacant n) }
+        ensures err { OnErr result (self.new ≡ self.old) }
+    {
+        self.files.reserve_exact(n)
+    }
+
+    /// The bytes of a file.
+    pub fn get(&self, name: &Name) -> Option<&[u8]>
+        ensures value { option_copied result ≡ get self.now.files name.now }
+        ensures variant { is_some result ≡ has self.now.files name.now }
+        ensures folder { IsFolder self.now.files }
+    {
+        match search(&self.files, name) {
+            Ok(at) => Some(self.files[at].1.as_slice()),
+            Err(_) => None,
+        }
+    }
+
+    /// The names of the files, in order.
+    pub fn names(&self, alloc: Global) -> Result<Vec<Name>, AllocError>
+        ensures { IfOk result (λ list. list.items ≡ names self.now.files) }
+    {
+        let mut names = Vec::with_capacity(alloc, self.files.len())?;
+        for file in &self.files {
+            names.push(file.0.copied())?;
+        }
+        Ok(names)
+    }
+
+    /// Does the change, and leaves in its place the change that takes it back. It takes no memory.
+    #[tactic(auto, unfolding(par2_spec::specs::Changes::change_refusal, par2_spec::specs::Changes::effect, par2_spec::specs::Changes::inverse))]
+    pub fn apply(&mut self, change: &mut Change) -> Result<(), ChangeFault>
+        ensures refused { IfErr result (λ fault. change_refusal self.old (change_of change.old) ≡ Some fault) }
+        ensures unchanged { OnErr result ((self.new ≡ self.old) × (change.new ≡ change.old)) }
+        ensures accepted { OnOk result (change_refusal self.old (change_of change.old) ≡ None) }
+        ensures folder { OnOk result (self.new ≡ state_after self.old (change_of change.old)) }
+        ensures inverse { OnOk result (change_of change.new ≡ inverse self.old.files (change_of change.old)) }
+    {
+        match change {
+            Change::Write(name, _) => {
+                let name = name.copied();
+                let Err(at) = search(&self.files, &name) else {
+                    return Err(ChangeFault::NameTaken);
+                };
+                if self.vacant() == 0 {
+                    return Err(ChangeFault::NoRoom);
+                }
+                let inverse = Change::Remove(name.copied());
+                let Change::Write(_, bytes) = mem::replace(change, inverse) else {
+                    unreachable!()
+                };
+                insert_at(&mut self.files, at, name, bytes);
+                Ok(())
+            }
+            Change::Replace(name, bytes) => {
+                let Ok(at) = search(&self.files, name) else {
+                    return Err(ChangeFault::NoSuchName);
+                };
+                exchange_at(&mut self.files, at, name, bytes);
+                Ok(())
+            }
+            Change::Rename(from, to) => self.rename(from, to),
+            Change::Remove(name) => {
+                let name = name.copied();
+                let Ok(at) = search(&self.files, &name) else {
+                    return Err(ChangeFault::NoSuchName);
+                };
+                let bytes = remove_at(&mut self.files, at, &name);
+                *change = Change::Write(name, bytes);
+                Ok(())
+            }
+        }
+    }
+
+    // Gives the file another name, and exchanges the two names.
+    #[tactic(auto, unfolding(par2_spec::specs::Changes::change_refusal, par2_spec::specs::Changes::effect))]
+    fn rename(&mut self, from: &mut Name, to: &mut Name) -> Result<(), ChangeFault>
+        ensures refused { IfErr result (λ fault. change_refusal self.old (Rename from.old to.old) ≡ Some fault) }
+        ensures unchanged { OnErr result ((self.new ≡ self.old) × (from.new ≡ from.old) × (to.new ≡ to.old)) }
+        ensures accepted { OnOk result (change_refusal self.old (Rename from.old to.old) ≡ None) }
+        ensures folder { OnOk result (self.new ≡ state_after self.old (Rename from.old to.old)) }
+        ensures exchanged { OnOk result ((from.new ≡ to.old) × (to.new ≡ from.old)) }
+    {
+        let Ok(at) = search(&self.files, from) else {
+            return Err(ChangeFault::NoSuchName);
+        };
+        let Err(_) = search(&self.files, to) else {
+            return Err(ChangeFault::NameTaken);
+        };
+        let bytes = remove_at(&mut self.files, at, from);
+        match search(&self.files, to) {
+            Ok(_) => unreachable!(),
+            Err(place) => insert_at(&mut self.files, place, to.copied(), bytes),
+        }
+        mem::swap(from, to);
+        Ok(())
+    }
+
+    /// Does the changes in order, and leaves in their place those that take them back, in order. It takes no
+    /// memory.
+    pub fn apply_all(&mut self, changes: &mut [Change])
+        requires { IsTrue (takes_all self.old (map change_of changes.old)) }
+        ensures folder { self.new ≡ state_after_all self.old (map change_of changes.old) }
+        ensures way_back { map change_of changes.new ≡ way_back self.old.files (map change_of changes.old) }
+    {
+        for change in changes.iter_mut() {
+            match self.apply(change) {
+                Ok(()) => {}
+                Err(_) => unreachable!(),
+            }
+        }
+        changes.reverse();
+    }
+}

@@ -1,0 +1,152 @@
+//! Names of files, in place.
+ghost use Rattle.std.specs.Prelude.{◌≡◌, ◌↔◌, ◌==◌, ◌≤◌, ◌&&◌, ◌||◌, nat_le, length, IfOk, IsOk, IsTrue, Some, nat_eq, refl, codes};
+ghost use Rattle.std.specs.Ordering.{nat_cmp};
+ghost use Rattle.std.specs.Cmp.{on_equiv, on_total, on_po, on_per, partial_equiv_from_equiv};
+ghost use Rattle.std.specs.Cmp.Lexicographic.{pointwise, slice_cmp, nat_list_eq_equiv, nat_list_cmp_total, texts_po, texts_ties};
+ghost use Rattle.std.specs.List.{list_any, starts_with};
+ghost use Rattle.std.specs.Str.{bytes_eq};
+ghost use Rattle.par2_spec.specs.Names.{is_name};
+
+use arrayvec::ArrayString;
+use std::cmp::Ordering;
+use std::marker::Model;
+use thiserror::Error;
+
+/// The name of a file: 1 to 255 bytes of UTF-8, without `/` and zero bytes, neither `.` nor `..`, and not
+/// beginning with `.par2undo`. Names are ordered by their bytes.
+#[derive(Debug, Drop)]
+pub struct Name {
+    text: ArrayString<255>,
+}
+
+impl Model for Name {
+    ghost use Rattle.std.specs.Prelude.{ℕ, List, IsTrue};
+    ghost use Rattle.par2_spec.specs.Names.{is_name};
+
+    ghost Value = { List ℕ };
+
+    ghost view = { λ n. n.text.bytes };
+
+    ghost invariant = { λ n. IsTrue (is_name n.text.bytes) };
+}
+
+/// The text is no name of a file.
+#[derive(Debug, Error, Clone, Copy, PartialEq, Eq)]
+#[error("the text is no name of a file")]
+pub struct BadName;
+
+// Whether the text has 1 to 255 bytes.
+fn has_length(bytes: &[u8]) -> bool
+    ensures { result ≡ (nat_le 1 (length bytes.now) && nat_le (length bytes.now) 255) }
+{
+    !bytes.is_empty() && bytes.len() <= 255
+}
+
+// Whether the text means the folder or the one above it.
+fn is_directory(text: &str) -> bool
+    ensures { result ≡ (bytes_eq text.now (codes ".") || bytes_eq text.now (codes "..")) }
+{
+    text == "." || text == ".."
+}
+
+// Whether a byte stands in the text.
+fn has_byte(bytes: &[u8], barred: u8) -> bool
+    ensures { result ≡ list_any (λ b. b == barred) bytes.now }
+{
+    bytes.iter().any(|byte| *byte == barred)
+}
+
+// Whether the text begins as the files do that are kept for the history.
+fn is_reserved(bytes: &[u8]) -> bool
+    ensures { result ≡ starts_with nat_eq bytes.now (codes ".par2undo") }
+{
+    bytes.starts_with(b".par2undo")
+}
+
+// Whether the text is a name.
+#[tactic(auto, using(crate::proofs::Texts::name_parts))]
+fn is_name(text: &str) -> bool
+    ensures name { result ≡ is_name text.now }
+    ensures fits { IsTrue result → length text.now ≤ 255 }
+{
+    let bytes = text.as_bytes();
+    if !has_length(bytes) {
+        return false;
+    }
+    if has_byte(bytes, b'/') || has_byte(bytes, 0) {
+        return false;
+    }
+    if is_directory(text) {
+        return false;
+    }
+    !is_reserved(bytes)
+}
+
+impl Name {
+    /// The name with this text.
+    pub fn new(text: &str) -> Result<Name, BadName>
+        ensures variant { IsOk result ↔ IsTrue (is_name text.now) }
+        ensures ok { IfOk result (λ name. name ≡ text.now) }
+    {
+        if !is_name(text) {
+            return Err(BadName);
+        }
+        match ArrayString::from(text) {
+            Ok(text) => Ok(Name { text }),
+            Err(_) => Err(BadName),
+        }
+    }
+
+    /// The name's text.
+    pub fn as_str(&self) -> &str
+        ensures text { result.now ≡ self.now }
+        ensures name { IsTrue (is_name self.now) }
+    {
+        self.text.as_str()
+    }
+
+    /// The same name once more. It takes no memory.
+    pub fn copied(&self) -> Name
+        ensures { result ≡ self.now }
+    {
+        Name { text: self.text }
+    }
+}
+
+impl PartialEq for Name {
+    ghost eq = { λ s t. pointwise nat_eq s t };
+
+    ghost laws = { on_per (λ s. s) (partial_equiv_from_equiv nat_list_eq_equiv) };
+
+    fn eq(&self, other: &Self) -> bool {
+        self.as_str() == other.as_str()
+    }
+}
+
+impl Eq for Name {
+    ghost laws = { on_equiv (λ s. s) nat_list_eq_equiv };
+}
+
+impl PartialOrd for Name {
+    ghost partial_cmp = { λ s t. Some (slice_cmp nat_cmp s t) };
+
+    ghost laws = { on_po (λ s. s) texts_po };
+
+    fn partial_cmp(&self, other: &Self) -> Option<Ordering> {
+        Some(self.cmp(other))
+    }
+}
+
+impl Ord for Name {
+    ghost cmp = { λ s t. slice_cmp nat_cmp s t };
+
+    ghost total = { on_total (λ s. s) nat_list_cmp_total };
+
+    ghost matches_partial_cmp = { λ s t. refl };
+
+    ghost matches_eq = { λ s t. texts_ties s t };
+
+    fn cmp(&self, other: &Self) -> Ordering {
+        self.as_str().cmp(other.as_str())
+    }
+}

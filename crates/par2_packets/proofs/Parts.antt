@@ -1,0 +1,23 @@
+-- A packet as it is written, part by part.
+use Rattle.std.proofs.Common.{◌≡◌, ℕ, ◌+◌, List, ◌++◌, length, ap, ◌∙◌, append_assoc, arith, length-append}
+use Rattle.std.specs.Int.{w64, to_le_bytes}
+use Rattle.md5.specs.Md5.{md5}
+use Rattle.par2_spec.specs.declared.Kind.{Kind}
+use Rattle.par2_spec.specs.Packets.{magic, type_of, packet}
+use Rattle.par2_spec.specs.Volumes.{packet_of}
+
+regrouped : (text m l d s k a b : List ℕ)
+    → ((((((text ++ m) ++ l) ++ d) ++ s) ++ k) ++ a) ++ b ≡ text ++ (m ++ l ++ d ++ (s ++ k ++ (a ++ b)))
+regrouped text m l d s k a b = simp append_assoc
+
+-- the parts behind a text are the text and the packet
+pub packet_in_parts : (text s a b : List ℕ) (kind : Kind)
+    → ((((((text ++ magic) ++ to_le_bytes w64 (64 + length a + length b)) ++ md5 (((s ++ type_of kind) ++ a) ++ b)) ++ s) ++ type_of kind) ++ a) ++ b
+    ≡ text ++ packet (packet_of s kind (a ++ b))
+unfolding packet
+packet_in_parts text s a b kind =
+    let size : 64 + length a + length b ≡ 64 + length (a ++ b) = omega (arith, length-append a b) in
+    let whole : ((s ++ type_of kind) ++ a) ++ b ≡ s ++ type_of kind ++ (a ++ b) = append_assoc (s ++ type_of kind) a b in
+    regrouped text magic (to_le_bytes w64 (64 + length a + length b)) (md5 (((s ++ type_of kind) ++ a) ++ b)) s (type_of kind) a b
+    ∙ ap (λ (n : ℕ). text ++ (magic ++ to_le_bytes w64 n ++ md5 (((s ++ type_of kind) ++ a) ++ b) ++ (s ++ type_of kind ++ (a ++ b)))) size
+    ∙ ap (λ (x : List ℕ). text ++ (magic ++ to_le_bytes w64 (64 + length (a ++ b)) ++ md5 x ++ (s ++ type_of kind ++ (a ++ b)))) whole

@@ -1,0 +1,174 @@
+//! Packets are written.
+
+ghost use Rattle.std.specs.Prelude.{◌≡◌, ◌≤◌, ◌+◌, ◌-◌, ◌%◌, ◌++◌, length, map, flat_map, OnOk, OnErr, IfOk};
+ghost use Rattle.par2_spec.specs.Packets as packets;
+ghost use Rattle.par2_spec.specs.Volumes as volumes;
+ghost use Rattle.par2_packets.specs.View.{file_record_of};
+
+use crate::record::FileRecord;
+use md5::{Digest, Md5};
+use par2_spec::Kind;
+use std::alloc::{AllocError, Global};
+
+// The sixteen bytes of a type.
+fn type_of(kind: Kind) -> [u8; 16]
+    ensures { result ≡ packets.type_of kind }
+{
+    match kind {
+        Kind::Main => *b"PAR 2.0\0Main\0\0\0\0",
+        Kind::FileDesc => *b"PAR 2.0\0FileDesc",
+        Kind::Ifsc => *b"PAR 2.0\0IFSC\0\0\0\0",
+        Kind::Recovery => *b"PAR 2.0\0RecvSlic",
+        Kind::Creator => *b"PAR 2.0\0Creator\0",
+        Kind::Other(bytes) => bytes,
+    }
+}
+
+// The packet whose body is given in two parts.
+fn append_packet(
+    out: &mut Vec<u8>,
+    set_id: &[u8; 16],
+    kind: Kind,
+    head: &[u8],
+    tail: &[u8],
+) -> Result<(), AllocError>
+    requires { 64 + length head.now + length tail.now ≤ usize.MAX }
+    ensures ok { OnOk result (out.new.items ≡ out.old.items ++ packets.packet (volumes.packet_of set_id.now kind (head.now ++ tail.now))) }
+    ensures err { OnErr result (out.new.items ≡ out.old.items) }
+{
+    let type_bytes = type_of(kind);
+    let mut hasher = Md5::new();
+    hasher.update(set_id);
+    hasher.update(&type_bytes);
+    hasher.update(head);
+    hasher.update(tail);
+    let digest = hasher.finalize();
+    let len = 64 + head.len() + tail.len();
+    out.reserve(len)?;
+    out.extend_from_slice(b"PAR2\0PKT")?;
+    out.extend_from_slice(&(len as u64).to_le_bytes())?;
+    out.extend_from_slice(&digest)?;
+    out.extend_from_slice(set_id)?;
+    out.extend_from_slice(&type_bytes)?;
+    out.extend_from_slice(head)?;
+    out.extend_from_slice(tail)
+}
+
+// How many zeros bring this many bytes to a multiple of 4.
+fn padding(len: usize) -> usize
+    ensures { result ≡ (4 - len % 4) % 4 }
+{
+    (4 - len % 4) % 4
+}
+
+// The text and zeros up to a multiple of 4, behind what is there.
+fn append_padded(out: &mut Vec<u8>, text: &[u8]) -> Result<(), AllocError>
+    ensures { OnOk result (out.new.items ≡ out.old.items ++ volumes.padded_4 text.now) }
+{
+    out.extend_from_slice(text)?;
+    out.resize(out.len() + padding(text.len()), 0)
+}
+
+fn main_body(alloc: Global, s: u64, files: &[FileRecord]) -> Result<Vec<u8>, AllocError>
+    requires { length files.now ≤ 32768 }
+    ensures { IfOk result (λ body. body.items ≡ volumes.main_bytes s (map file_record_of files.now)) }
+{
+    let mut body = Vec::from_slice(alloc, &s.to_le_bytes())?;
+    body.extend_from_slice(&(files.len() as u32).to_le_bytes())?;
+    for file in files {
+        body.extend_from_slice(&file.id)?;
+    }
+    Ok(body)
+}
+
+fn desc_body(alloc: Global, file: &FileRecord) -> Result<Vec<u8>, AllocError>
+    ensures { IfOk result (λ body. body.items ≡ volumes.desc_bytes (file_record_of file.now)) }
+{
+    let mut body = Vec::from_slice(alloc, &file.id)?;
+    body.extend_from_slice(&file.md5)?;
+    body.extend_from_slice(&file.md5_16k)?;
+    body.extend_from_slice(&file.length.to_le_bytes())?;
+    append_padded(&mut body, file.name.as_bytes())?;
+    Ok(body)
+}
+
+fn ifsc_body(alloc: Global, file: &FileRecord) -> Result<Vec<u8>, AllocError>
+    ensures { IfOk result (λ body. body.items ≡ volumes.ifsc_bytes (file_record_of file.now)) }
+{
+    let mut body = Vec::from_slice(alloc, &file.id)?;
+    for (md5, crc) in &file.pairs {
+        body.extend_from_slice(md5)?;
+        body.extend_from_slice(&crc.to_le_bytes())?;
+    }
+    Ok(body)
+}
+
+/// Adds the Main of a set of these files, whose order it keeps.
+pub fn append_main(
+    alloc: Global,
+    out: &mut Vec<u8>,
+    s: u64,
+    files: &[FileRecord],
+) -> Result<(), AllocError>
+    requires { length files.now ≤ 32768 }
+    ensures ok { let records = map file_record_of files.now in let main = volumes.packet_of (volumes.main_id s records) Kind.Main (volumes.main_bytes s records) in OnOk result (out.new.items ≡ out.old.items ++ packets.packet main) }
+    ensures err { OnErr result (out.new.items ≡ out.old.items) }
+{
+    let body = main_body(alloc, s, files)?;
+    append_packet(out, &Md5::digest(&body), Kind::Main, &body, &[])
+}
+
+/// Adds the FileDesc of a file.
+pub fn append_desc(
+    alloc: Global,
+    out: &mut Vec<u8>,
+    set_id: &[u8; 16],
+    file: &FileRecord,
+) -> Result<(), AllocError>
+    ensures ok { OnOk result (out.new.items ≡ out.old.items ++ packets.packet (volumes.packet_of set_id.now Kind.FileDesc (volumes.desc_bytes (file_record_of file.now)))) }
+    ensures err { OnErr result (out.new.items ≡ out.old.items) }
+{
+    let body = desc_body(alloc, file)?;
+    append_packet(out, set_id, Kind::FileDesc, &body, &[])
+}
+
+/// Adds the IFSC of a file: the checksums of its slices.
+pub fn append_ifsc(
+    alloc: Global,
+    out: &mut Vec<u8>,
+    set_id: &[u8; 16],
+    file: &FileRecord,
+) -> Result<(), AllocError>
+    ensures ok { OnOk result (out.new.items ≡ out.old.items ++ packets.packet (volumes.packet_of set_id.now Kind.Ifsc (volumes.ifsc_bytes (file_record_of file.now)))) }
+    ensures err { OnErr result (out.new.items ≡ out.old.items) }
+{
+    let body = ifsc_body(alloc, file)?;
+    append_packet(out, set_id, Kind::Ifsc, &body, &[])
+}
+
+/// Adds the Creator, which names this program's profile.
+pub fn append_creator(
+    _alloc: Global,
+    out: &mut Vec<u8>,
+    set_id: &[u8; 16],
+) -> Result<(), AllocError>
+    ensures ok { OnOk result (out.new.items ≡ out.old.items ++ packets.packet (volumes.packet_of set_id.now Kind.Creator volumes.creator_bytes)) }
+    ensures err { OnErr result (out.new.items ≡ out.old.items) }
+{
+    append_packet(out, set_id, Kind::Creator, b"par2 undo profile 1", &[0])
+}
+
+/// Adds the recovery slice of exponent `e`.
+pub fn append_recovery(
+    _alloc: Global,
+    out: &mut Vec<u8>,
+    set_id: &[u8; 16],
+    e: u32,
+    bytes: &[u8],
+) -> Result<(), AllocError>
+    requires { length bytes.now % 4 ≡ 0 }
+    ensures ok { OnOk result (out.new.items ≡ out.old.items ++ packets.packet (volumes.packet_of set_id.now Kind.Recovery (volumes.recovery_bytes e bytes.now))) }
+    ensures err { OnErr result (out.new.items ≡ out.old.items) }
+{
+    append_packet(out, set_id, Kind::Recovery, &e.to_le_bytes(), bytes)
+}

@@ -1,0 +1,9 @@
+use Rattle.std.proofs.Common.{◌∙◌, ◌/◌, ap, sym}
+use Rattle.std.specs.Prelude.{bit_xor}
+use Rattle.par2_slices.proofs.Bytes.{one_byte}
+use Rattle.par2_slices.proofs.checksum.after_byte.Goals as goal
+
+pub returns : goal.returns
+returns c =
+    let mixed = bit_xor c.args.remainder c.args.byte in
+    ap (λ t. bit_xor t (mixed / 256)) c.entry.ensures ∙ sym (one_byte c.args.remainder c.args.byte)

@@ -1,0 +1,6 @@
+use Rattle.std.proofs.Common.{◌++◌, ◌*◌, replicate}
+use Rattle.md5.specs.Md5.{Holds}
+use Rattle.par2_slices.proofs.digest.padded_md5.Given as goal
+
+abbrev pub invariant-loop : goal.invariant-loop
+invariant-loop l = Holds l.hasher (l.bytes ++ replicate (l.counter * 1024) 0)

@@ -1,0 +1,39 @@
+//! A file as slices of equal size.
+
+ghost use Rattle.std.specs.Prelude.{◌≡◌, ◌*◌, ◌<◌, ◌≤◌, length, take, drop};
+ghost use Rattle.par2_spec.specs.Slices as spec;
+
+/// How many slices of `s` bytes a file of `len` bytes has.
+pub fn slice_count(len: u64, s: u64) -> u64
+    requires { 1 ≤ s }
+    ensures { result ≡ spec.slice_count s len }
+{
+    len.div_ceil(s)
+}
+
+/// The bytes of the file in its slice `j`: fewer than `s` where the slice is the last one and padded.
+pub fn slice_bytes(bytes: &[u8], s: u64, j: u64) -> &[u8]
+    requires size { 1 ≤ s }
+    requires place { j < spec.slice_count s (length bytes.now) }
+    ensures { result.now ≡ take s (drop (j * s) bytes.now) }
+{
+    let rest = &bytes[(j * s) as usize..];
+    if s < rest.len() as u64 {
+        &rest[..s as usize]
+    } else {
+        rest
+    }
+}
+
+/// Writes slice `j` of the file into `dst`, with its padding.
+pub fn slice_into(bytes: &[u8], s: u64, j: u64, dst: &mut [u8])
+    requires size { 1 ≤ s }
+    requires place { j < spec.slice_count s (length bytes.now) }
+    requires room { length dst.old ≡ s }
+    ensures { dst.new ≡ spec.slice_at s bytes.now j }
+{
+    let slice = slice_bytes(bytes, s, j);
+    let (front, padding) = dst.split_at_mut(slice.len());
+    front.copy_from_slice(slice);
+    padding.fill(0);
+}

@@ -1,0 +1,155 @@
+-- The checksum is linear over the exclusive or, a bit, a byte or any number of bytes at a time.
+use Rattle.std.proofs.Common.{◌≡◌, ℕ, zero, suc, ◌+◌, ◌*◌, ◌^◌, ◌<◌, ◌%◌, ◌/◌, List, [], ◌∷◌, ◌++◌, length, refl, sym, ap, ◌∙◌, arith}
+use Rattle.std.specs.Prelude.{bit_xor, fold, replicate}
+use Rattle.std.specs.Int.{bit_at}
+use Rattle.std.specs.Int.Bits.{xor_assoc, xor_self, xor_zero_r}
+use Rattle.std.proofs.Math.Nat.{pow-suc, mul_assoc}
+use Rattle.std.proofs.lemmas.Nat.{xor_comm, xor_shr, xor_block, pow_pos, shr_split, mod_below}
+use Rattle.std.proofs.lemmas.List.{length_push}
+use Rattle.std.proofs.lemmas.Nat.Bits.{bit_at_lowest, bit_at_xor}
+use Rattle.par2_spec.specs.Checksums.{crc_step, crc_steps, crc_byte, crc32}
+
+-- the middle two of four change places
+pub regrouped : (p q r s : ℕ) → bit_xor (bit_xor p q) (bit_xor r s) ≡ bit_xor (bit_xor p r) (bit_xor q s)
+regrouped p q r s =
+    xor_assoc p q (bit_xor r s) ∙ ap (bit_xor p) (sym (xor_assoc q r s) ∙ ap (λ x. bit_xor x s) (xor_comm q r) ∙ xor_assoc r q s) ∙ sym (xor_assoc p r (bit_xor q s))
+
+lowest_of_xor : (a b : ℕ) → bit_xor a b % 2 ≡ (a % 2 + b % 2) % 2
+lowest_of_xor a b =
+    sym (bit_at_lowest (bit_xor a b)) ∙ bit_at_xor a b 0
+    ∙ ap (λ t. (t + bit_at b 0) % 2) (bit_at_lowest a) ∙ ap (λ t. (a % 2 + t) % 2) (bit_at_lowest b)
+
+zero_times : (x : ℕ) → 0 * x ≡ 0
+zero_times x = omega arith
+
+either_bit : (x y m : ℕ) → x < 2 → y < 2 → (x + y) % 2 * m ≡ bit_xor (x * m) (y * m)
+either_bit zero zero m p q = zero_times m ∙ sym (ap (λ t. bit_xor t (0 * m)) (zero_times m) ∙ zero_times m)
+either_bit zero (suc zero) m p q = sym (ap (λ t. bit_xor t (1 * m)) (zero_times m))
+either_bit (suc zero) zero m p q = sym (ap (bit_xor (1 * m)) (zero_times m) ∙ xor_comm (1 * m) 0)
+either_bit (suc zero) (suc zero) m p q = zero_times m ∙ sym (xor_self (1 * m))
+either_bit (suc (suc x)) y m p q = absurd (omega (arith, p))
+either_bit x (suc (suc y)) m p q = absurd (omega (arith, q))
+
+below_two : (n : ℕ) → n % 2 < 2
+below_two n = omega arith
+
+pub crc_step-xor : (a b : ℕ) → crc_step (bit_xor a b) ≡ bit_xor (crc_step a) (crc_step b)
+crc_step-xor a b =
+    ap (λ t. bit_xor t (bit_xor a b % 2 * 0xEDB88320)) (xor_shr a b 1)
+    ∙ ap (bit_xor (bit_xor (a / 2) (b / 2))) (ap (λ t. t * 0xEDB88320) (lowest_of_xor a b) ∙ either_bit (a % 2) (b % 2) 0xEDB88320 (below_two a) (below_two b))
+    ∙ regrouped (a / 2) (b / 2) (a % 2 * 0xEDB88320) (b % 2 * 0xEDB88320)
+
+pub crc_steps-xor : (n a b : ℕ) → crc_steps n (bit_xor a b) ≡ bit_xor (crc_steps n a) (crc_steps n b)
+crc_steps-xor zero a b = refl
+crc_steps-xor (suc n) a b = ap (crc_steps n) (crc_step-xor a b) ∙ crc_steps-xor n (crc_step a) (crc_step b)
+
+pub crc_steps-add : (m n c : ℕ) → crc_steps (m + n) c ≡ crc_steps n (crc_steps m c)
+crc_steps-add zero n c = ap (λ k. crc_steps k c) (let e : 0 + n ≡ n = omega arith in e)
+crc_steps-add (suc m) n c = ap (λ k. crc_steps k c) (let e : suc m + n ≡ suc (m + n) = omega arith in e) ∙ crc_steps-add m n (crc_step c)
+
+-- the order of two numbers of steps is free
+pub crc_steps-swap : (m n c : ℕ) → crc_steps m (crc_steps n c) ≡ crc_steps n (crc_steps m c)
+crc_steps-swap m n c = sym (crc_steps-add n m c) ∙ ap (λ k. crc_steps k c) (let e : n + m ≡ m + n = omega arith in e) ∙ crc_steps-add m n c
+
+crc_step-double : (x : ℕ) → crc_step (x * 2) ≡ x
+crc_step-double x =
+    ap (λ t. bit_xor t (x * 2 % 2 * 0xEDB88320)) (let e : x * 2 / 2 ≡ x = omega arith in e)
+    ∙ ap (λ t. bit_xor x (t * 0xEDB88320)) (let e : x * 2 % 2 ≡ 0 = omega arith in e)
+    ∙ xor_zero_r x
+
+-- n steps take n zero bits away
+pub crc_steps-shifted : (n x : ℕ) → crc_steps n (x * 2 ^ n) ≡ x
+crc_steps-shifted zero x = let e : x * 1 ≡ x = omega arith in e
+crc_steps-shifted (suc n) x =
+    ap (crc_steps n) (ap crc_step (ap (λ t. x * t) (pow-suc 2 n) ∙ sym (mul_assoc x (2 ^ n) 2)) ∙ crc_step-double (x * 2 ^ n))
+    ∙ crc_steps-shifted n x
+
+-- a low part and a high part, as a sum and as an exclusive or
+pub joined : (n high low : ℕ) → low < 2 ^ n → bit_xor low (high * 2 ^ n) ≡ high * 2 ^ n + low
+joined n high low below =
+    ap (λ t. bit_xor t (high * 2 ^ n)) (let e : low ≡ 0 * 2 ^ n + low = omega arith in e)
+    ∙ ap (bit_xor (0 * 2 ^ n + low)) (let e : high * 2 ^ n ≡ high * 2 ^ n + 0 = omega arith in e)
+    ∙ xor_block n 0 high low 0 below (pow_pos n)
+    ∙ ap (λ t. high * 2 ^ n + t) (xor_zero_r low)
+
+pub parted : (n c : ℕ) → c ≡ bit_xor (c % 2 ^ n) (c / 2 ^ n * 2 ^ n)
+parted n c = sym (shr_split c n) ∙ sym (joined n (c / 2 ^ n) (c % 2 ^ n) (mod_below c (2 ^ n) (pow_pos n)))
+
+-- the low n bits and the others
+pub crc_steps-split : (m n c : ℕ) → crc_steps (n + m) c ≡ bit_xor (crc_steps (n + m) (c % 2 ^ n)) (crc_steps m (c / 2 ^ n))
+crc_steps-split m n c =
+    ap (crc_steps (n + m)) (parted n c)
+    ∙ crc_steps-xor (n + m) (c % 2 ^ n) (c / 2 ^ n * 2 ^ n)
+    ∙ ap (bit_xor (crc_steps (n + m) (c % 2 ^ n))) (crc_steps-add n m (c / 2 ^ n * 2 ^ n) ∙ ap (crc_steps m) (crc_steps-shifted n (c / 2 ^ n)))
+
+-- a byte is taken in as the bits above the others
+pub crc_byte-steps : (n c byte : ℕ) → crc_byte (crc_steps n c) byte ≡ crc_steps (n + 8) (bit_xor c (byte * 2 ^ n))
+crc_byte-steps n c byte =
+    ap (λ t. crc_steps 8 (bit_xor (crc_steps n c) t)) (sym (crc_steps-shifted n byte))
+    ∙ ap (crc_steps 8) (sym (crc_steps-xor n c (byte * 2 ^ n)))
+    ∙ sym (crc_steps-add n 8 (bit_xor c (byte * 2 ^ n)))
+
+pub crc_byte-xor : (a b byte : ℕ) → crc_byte (bit_xor a b) byte ≡ bit_xor (crc_byte a byte) (crc_steps 8 b)
+crc_byte-xor a b byte =
+    ap (crc_steps 8) (xor_assoc a b byte ∙ ap (bit_xor a) (xor_comm b byte) ∙ sym (xor_assoc a byte b))
+    ∙ crc_steps-xor 8 (bit_xor a byte) b
+
+more_steps : (n c : ℕ) → crc_steps (8 * n) (crc_steps 8 c) ≡ crc_steps (8 * suc n) c
+more_steps n c = sym (crc_steps-add 8 (8 * n) c) ∙ ap (λ k. crc_steps k c) (let e : 8 + 8 * n ≡ 8 * suc n = omega arith in e)
+
+-- a change of the remainder goes through the bytes by itself
+pub fold-xor : (bytes : List ℕ) (a b : ℕ) → fold crc_byte (bit_xor a b) bytes ≡ bit_xor (fold crc_byte a bytes) (crc_steps (8 * length bytes) b)
+fold-xor [] a b = refl
+fold-xor (byte ∷ bytes) a b =
+    ap (λ c. fold crc_byte c bytes) (crc_byte-xor a b byte)
+    ∙ fold-xor bytes (crc_byte a byte) (crc_steps 8 b)
+    ∙ ap (bit_xor (fold crc_byte (crc_byte a byte) bytes)) (more_steps (length bytes) b)
+
+pub fold-append : (xs ys : List ℕ) (c : ℕ) → fold crc_byte c (xs ++ ys) ≡ fold crc_byte (fold crc_byte c xs) ys
+fold-append [] ys c = refl
+fold-append (x ∷ xs) ys c = fold-append xs ys (crc_byte c x)
+
+-- zeros take steps alone
+pub fold-zeros : (n c : ℕ) → fold crc_byte c (replicate n 0) ≡ crc_steps (8 * n) c
+fold-zeros zero c = refl
+fold-zeros (suc n) c =
+    ap (λ t. fold crc_byte t (replicate n 0)) (ap (crc_steps 8) (xor_zero_r c))
+    ∙ fold-zeros n (crc_steps 8 c)
+    ∙ more_steps n c
+
+-- what is in both sides goes away
+cancelled : (x y : ℕ) → bit_xor (bit_xor x y) y ≡ x
+cancelled x y = xor_assoc x y y ∙ ap (bit_xor x) (xor_self y) ∙ xor_zero_r x
+
+pub crc32-zeros : (bytes : List ℕ) (n : ℕ) → crc32 (bytes ++ replicate n 0) ≡ bit_xor (crc_steps (8 * n) (bit_xor (crc32 bytes) 0xFFFFFFFF)) 0xFFFFFFFF
+unfolding crc32
+crc32-zeros bytes n =
+    ap (λ c. bit_xor c 0xFFFFFFFF)
+    (fold-append bytes (replicate n 0) 0xFFFFFFFF ∙ fold-zeros n (fold crc_byte 0xFFFFFFFF bytes)
+    ∙ ap (crc_steps (8 * n)) (sym (cancelled (fold crc_byte 0xFFFFFFFF bytes) 0xFFFFFFFF)))
+
+turned : (p q r s : ℕ) → bit_xor (bit_xor (bit_xor p q) r) s ≡ bit_xor p (bit_xor r (bit_xor q s))
+turned p q r s =
+    xor_assoc (bit_xor p q) r s ∙ xor_assoc p q (bit_xor r s)
+    ∙ ap (bit_xor p) (sym (xor_assoc q r s) ∙ ap (λ x. bit_xor x s) (xor_comm q r) ∙ xor_assoc r q s)
+
+-- a window moves on by a byte
+pub crc32-slide : (out next : ℕ) (rest : List ℕ) → crc32 (rest ++ next ∷ []) ≡ bit_xor (crc_byte (crc32 (out ∷ rest)) next) (bit_xor (crc_steps (8 * suc (length rest)) (crc32 (out ∷ []))) (crc32 (0 ∷ [])))
+unfolding crc32
+crc32-slide out next rest =
+    let ones : ℕ = 0xFFFFFFFF in
+    let whole : ℕ = fold crc_byte ones (out ∷ rest) in
+    let first : ℕ = crc_byte ones out in
+    let behind : ℕ = crc_steps (8 * suc (length rest)) (bit_xor first ones) in
+    let after : ℕ = fold crc_byte ones (rest ++ next ∷ []) in
+    let both : bit_xor after behind ≡ crc_byte whole next = (
+    ap (λ k. bit_xor after (crc_steps (8 * k) (bit_xor first ones))) (sym (length_push rest next ∙ (let e : length rest + 1 ≡ suc (length rest) = omega arith in e)))
+    ∙ sym (fold-xor (rest ++ next ∷ []) ones (bit_xor first ones))
+    ∙ ap (λ c. fold crc_byte c (rest ++ next ∷ [])) (xor_comm ones (bit_xor first ones) ∙ cancelled first ones)
+    ∙ fold-append rest (next ∷ []) first
+    ) in
+    let here : crc_byte whole next ≡ bit_xor (crc_byte (bit_xor whole ones) next) (crc_steps 8 ones) = (
+    ap (λ c. crc_byte c next) (sym (cancelled whole ones)) ∙ crc_byte-xor (bit_xor whole ones) ones next
+    ) in
+    ap (λ c. bit_xor c ones) (sym (cancelled after behind) ∙ ap (λ c. bit_xor c behind) (both ∙ here))
+    ∙ turned (crc_byte (bit_xor whole ones) next) (crc_steps 8 ones) behind ones

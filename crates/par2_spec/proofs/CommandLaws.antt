@@ -1,0 +1,57 @@
+-- The changes of a command lead to its folder.
+use Rattle.std.proofs.Common.{◌≡◌, ℕ, List, [], ◌∷◌, map, refl, sym, ap, ◌∙◌, true, false, Bool, cond, not, ◌||◌}
+use Rattle.std.specs.Prelude.{if◌then◌else◌, Option, None}
+use Rattle.std.specs.FinMap.{get-remove, get-retain_keys, slice_cmp-IsAntisymmetric, nat_cmp-IsAntisymmetric}
+use Rattle.std.specs.Ordering.{nat_cmp}
+use Rattle.std.specs.declared.cmp.Ordering.TheVariants.{Equal}
+use Rattle.std.specs.Cmp.Lexicographic.{slice_cmp, nat_list_cmp_total}
+use Rattle.std.specs.Str.{bytes_eq}
+use Rattle.std.proofs.lemmas.Map.Text.{is_eq-slice_cmp}
+use Rattle.par2_spec.specs.Names.{is_among}
+use Rattle.par2_spec.specs.Folders.{Folder, has, File, laid_over, without}
+use Rattle.par2_spec.specs.Changes.{Write, Replace, Remove, effect, effects}
+use Rattle.par2_spec.specs.Commands.{CreateArgs, outputs_of}
+use Rattle.par2_spec.specs.Plans.{create_changes}
+use Rattle.par2_spec.proofs.FolderLaws.{same_folder}
+use Rattle.std.specs.FinMap as map_of
+
+put_in : (b : Bool) (folder : Folder) (name bytes : List ℕ) → effect folder (if b then Replace name bytes else Write name bytes) ≡ map_of.insert folder name bytes
+unfolding effect
+put_in true folder name bytes = refl
+put_in false folder name bytes = refl
+
+all_put_in : (test : List ℕ → Bool) (folder : Folder) (files : List File) → effects folder (map (λ file. if test file.0 then Replace file.0 file.1 else Write file.0 file.1) files) ≡ laid_over files folder
+unfolding effects laid_over
+all_put_in test folder [] = refl
+all_put_in test folder (file ∷ files) =
+    ap (λ f. effects f (map (λ file. if test file.0 then Replace file.0 file.1 else Write file.0 file.1) files)) (put_in (test file.0) folder file.0 file.1)
+    ∙ all_put_in test (map_of.insert folder file.0 file.1) files
+
+pub create_leads : (folder : Folder) (a : CreateArgs) → effects folder (create_changes folder a) ≡ laid_over (outputs_of folder a) folder
+create_leads folder a = all_put_in (has folder) folder (outputs_of folder a)
+
+-- a name counts as another that is equal to it
+alike : (p : List ℕ → Bool) (q x : List ℕ) → slice_cmp nat_cmp q x ≡ Equal → p x ≡ p q
+alike p q x e = ap p (sym (slice_cmp-IsAntisymmetric nat_cmp-IsAntisymmetric q x e))
+
+one_gone : (a b : Bool) (g : Option (List ℕ)) → cond (not a) (cond b None g) None ≡ cond (not (b || a)) g None
+one_gone true true g = refl
+one_gone true false g = refl
+one_gone false true g = refl
+one_gone false false g = refl
+
+pub gone_first : (folder : Folder) (name : List ℕ) (names : List (List ℕ)) → without names (map_of.remove folder name) ≡ without (name ∷ names) folder
+gone_first folder name names = same_folder _ _ (λ q.
+    get-retain_keys _ (λ x. not (is_among names x)) q (alike (λ x. not (is_among names x)) q)
+    ∙ ap (λ g. cond (not (is_among names q)) g None) (get-remove nat_list_cmp_total folder name q ∙ ap (λ b. cond b None (map_of.get folder q)) (is_eq-slice_cmp q name))
+    ∙ one_gone (is_among names q) (bytes_eq q name) (map_of.get folder q)
+    ∙ sym (get-retain_keys folder (λ x. not (is_among (name ∷ names) x)) q (alike (λ x. not (is_among (name ∷ names) x)) q)))
+
+pub none_gone : (folder : Folder) → folder ≡ without [] folder
+none_gone folder = same_folder _ _ (λ q. sym (get-retain_keys folder (λ x. true) q (λ x e. refl)))
+
+-- to remove the files one after the other leaves the folder without them
+pub removals_lead : (folder : Folder) (names : List (List ℕ)) → effects folder (map Remove names) ≡ without names folder
+unfolding effects effect
+removals_lead folder [] = none_gone folder
+removals_lead folder (name ∷ names) = removals_lead (map_of.remove folder name) names ∙ gone_first folder name names

@@ -1,0 +1,146 @@
+-- The outputs of a create have distinct names, so its changes apply and lead to its folder.
+use Rattle.std.proofs.Common.{◌≡◌, ℕ, zero, suc, ◌+◌, ◌-◌, ◌*◌, ◌/◌, ◌%◌, ◌^◌, ◌<◌, ◌≤◌, List, [], ◌∷◌, ◌++◌, length, map, refl, sym, ap, ◌∙◌, subst, true, false, Bool, ◌||◌, arith, length-append}
+use Rattle.std.specs.Prelude.{drop, flat_map, slice_index, codes, min, nat_lt, if◌then◌else◌}
+use Rattle.std.specs.List.{range_with_len}
+use Rattle.std.specs.FinMap as map_of
+use Rattle.std.proofs.Math.Pow.{pow-lt}
+use Rattle.std.proofs.Math.Nat.{one-le-pow, pow-le-pow_right}
+use Rattle.std.proofs.Math.Seq.{drop-append_seam}
+use Rattle.std.proofs.lemmas.List.{append_assoc, length-take}
+use Rattle.std.proofs.lemmas.Simd.{map-map}
+use Rattle.std.proofs.lemmas.Bool.{and_from, not_from_false, or_from, or_left, or_right}
+use Rattle.par2_spec.specs.Names.{is_among}
+use Rattle.par2_spec.specs.Folders.{Folder, File, has}
+use Rattle.par2_spec.specs.Changes.{Write, Replace, effect, is_applicable, are_applicable}
+use Rattle.par2_spec.specs.Volumes.{volumes, volume_name, volumes_before, volume_numbers, volume_size, five_digits, stem, record_of, in_id_order, index_packets}
+use Rattle.par2_spec.specs.Packets.{packet}
+use Rattle.par2_spec.specs.Commands.{CreateArgs, outputs_of}
+use Rattle.par2_spec.specs.Plans.{create_changes}
+use Rattle.par2_spec.proofs.NamesLaws.{AreDistinct, itself, other_name, not_first, distinct_some}
+use Rattle.par2_spec.proofs.MovesLaws.{has_put}
+
+-- ---- the names of the volumes
+
+-- five digits tell a number up to a multiple of 100,000
+from_five : (x : ℕ) → x % 100000 ≡ x / 10000 % 10 * 10000 + x / 1000 % 10 * 1000 + x / 100 % 10 * 100 + x / 10 % 10 * 10 + x / 1 % 10
+from_five x = omega arith
+
+-- the number that digits spell
+abbrev read_digits : ℕ → List ℕ → ℕ
+read_digits n [] = n
+read_digits n (d ∷ ds) = read_digits (n * 10 + (d - 48)) ds
+
+read_five : (x : ℕ) → read_digits 0 (five_digits x) ≡ x % 100000
+read_five x =
+    let e : x % 100000 ≡ x / 10000 % 10 * 10000 + x / 1000 % 10 * 1000 + x / 100 % 10 * 100 + x / 10 % 10 * 10 + x / 1 % 10 = from_five x in
+    spelled (x / 10000 % 10) (x / 1000 % 10) (x / 100 % 10) (x / 10 % 10) (x / 1 % 10) ∙ sym e
+  where
+    spelled : (a b c d e : ℕ) → read_digits 0 ((48 + a) ∷ (48 + b) ∷ (48 + c) ∷ (48 + d) ∷ (48 + e) ∷ []) ≡ a * 10000 + b * 1000 + c * 100 + d * 10 + e
+    spelled a b c d e = omega arith
+
+-- what stands behind the same front
+same_rest : (front a b : List ℕ) → front ++ a ≡ front ++ b → a ≡ b
+same_rest front a b e = sym (drop-append_seam front a) ∙ ap (drop (length front)) e ∙ drop-append_seam front b
+
+-- the front of each volume name, and what follows
+abbrev front_of : List ℕ → List ℕ
+front_of base = stem base ++ codes ".vol"
+
+abbrev rest_of : ℕ → ℕ → List ℕ
+rest_of x n = five_digits x ++ (codes "+" ++ (five_digits n ++ codes ".par2"))
+
+volume_name_is : (base : List ℕ) (x n : ℕ) → volume_name base x n ≡ front_of base ++ rest_of x n
+volume_name_is base x n =
+    append_assoc (front_of base ++ five_digits x ++ codes "+") (five_digits n) (codes ".par2")
+    ∙ append_assoc (front_of base ++ five_digits x) (codes "+") (five_digits n ++ codes ".par2")
+    ∙ append_assoc (front_of base) (five_digits x) (codes "+" ++ (five_digits n ++ codes ".par2"))
+
+abbrev first_five : List ℕ → List ℕ
+first_five text = slice_index text 0 ∷ slice_index text 1 ∷ slice_index text 2 ∷ slice_index text 3 ∷ slice_index text 4 ∷ []
+
+-- a volume name tells its first exponent up to a multiple of 100,000
+name_tells_first : (base : List ℕ) (x m y n : ℕ) → volume_name base x m ≡ volume_name base y n → x % 100000 ≡ y % 100000
+name_tells_first base x m y n e =
+    let rest : rest_of x m ≡ rest_of y n = same_rest (front_of base) (rest_of x m) (rest_of y n) (sym (volume_name_is base x m) ∙ e ∙ volume_name_is base y n) in
+    sym (read_five x) ∙ ap (λ text. read_digits 0 (first_five text)) rest ∙ read_five y
+
+-- the first exponents rise, by less than 2 ^ 16
+firsts_apart : (f i j : ℕ) → i < j → j < 17 → (f + volumes_before i) % 100000 ≡ (f + volumes_before j) % 100000 → ⊥
+firsts_apart f i j less high e =
+    let rises : 2 ^ i < 2 ^ j = pow-lt less in
+    let top : 2 ^ j ≤ 2 ^ 16 = pow-le-pow_right {n = 2} (omega arith) {i = j} {j = 16} (omega (arith, high)) in
+    let some : 1 ≤ 2 ^ i = one-le-pow i 2 (omega arith) in
+    too_near f (2 ^ i) (2 ^ j) rises top some e
+  where
+    too_near : (f a b : ℕ) → a < b → b ≤ 65536 → 1 ≤ a → (f + (a - 1)) % 100000 ≡ (f + (b - 1)) % 100000 → ⊥
+    too_near f a b less top some e = omega (arith, less, top, some, e)
+
+-- ---- the names of the outputs
+
+abbrev volume_at : List ℕ → ℕ → ℕ → ℕ → List ℕ
+volume_at base f c i = volume_name base (f + volumes_before i) (volume_size c i)
+
+no_later_volume : (base : List ℕ) (f c i a n : ℕ) → i < a → a + n ≤ 17 → is_among (map (volume_at base f c) (range_with_len a n)) (volume_at base f c i) ≡ false
+no_later_volume base f c i a zero low high = refl
+no_later_volume base f c i a (suc n) low high =
+    or_from _ _ (other_name (volume_at base f c i) (volume_at base f c a) (λ e.
+    firsts_apart f i a low (omega (arith, high)) (name_tells_first base (f + volumes_before i) (volume_size c i) (f + volumes_before a) (volume_size c a) e)))
+    (no_later_volume base f c i (a + 1) n (omega (arith, low)) (omega (arith, high)))
+
+volumes_once : (base : List ℕ) (f c a n : ℕ) → a + n ≤ 17 → AreDistinct (map (volume_at base f c) (range_with_len a n))
+volumes_once base f c a zero h = tt
+volumes_once base f c a (suc n) h = (no_later_volume base f c a (a + 1) n (omega arith) (omega (arith, h)), volumes_once base f c (a + 1) n (omega (arith, h)))
+
+length-volume_name : (base : List ℕ) (x n : ℕ) → length (volume_name base x n) ≡ length (stem base) + 20
+length-volume_name base x n = ap length (volume_name_is base x n) ∙ length-append (front_of base) (rest_of x n) ∙ ap (λ k. k + 16) (length-append (stem base) (codes ".vol")) ∙ (let e : length (stem base) + 4 + 16 ≡ length (stem base) + 20 = omega arith in e)
+
+-- the base is shorter than the volumes
+base_no_volume : (base : List ℕ) (f c : ℕ) (is : List ℕ) → is_among (map (volume_at base f c) is) base ≡ false
+base_no_volume base f c [] = refl
+base_no_volume base f c (i ∷ is) =
+    or_from _ _ (other_name base (volume_at base f c i) (λ e.
+    let long : length base ≡ length (stem base) + 20 = ap length e ∙ length-volume_name base (f + volumes_before i) (volume_size c i) in
+    let short : length (stem base) ≡ min (length base - 5) (length base) = length-take (length base - 5) base in
+    omega (arith, long, short)))
+    (base_no_volume base f c is)
+
+pub names_of_outputs : (base : List ℕ) (s f c : ℕ) (files : List File) → map (λ file. file.0) (volumes base s f c files) ≡ base ∷ map (volume_at base f c) (volume_numbers c)
+unfolding volumes
+names_of_outputs base s f c files = ap (λ names. base ∷ names) (map-map (λ (file : File). file.0) _ (volume_numbers c))
+
+pub outputs_once : (base : List ℕ) (s f c : ℕ) (files : List File) → AreDistinct (map (λ file. file.0) (volumes base s f c files))
+outputs_once base s f c files =
+    subst AreDistinct (sym (names_of_outputs base s f c files))
+    (base_no_volume base f c (volume_numbers c), distinct_some (volume_at base f c) (λ i. nat_lt (volumes_before i) c) (range_with_len 0 17) (volumes_once base f c 0 17 (omega arith)))
+
+-- ---- the changes
+
+put_or_replaced : (b : Bool) (folder : Folder) (name bytes : List ℕ) → effect folder (if b then Replace name bytes else Write name bytes) ≡ map_of.insert folder name bytes
+unfolding effect
+put_or_replaced true folder name bytes = refl
+put_or_replaced false folder name bytes = refl
+
+takes_put : (b : Bool) (folder : Folder) (name bytes : List ℕ) → has folder name ≡ b → is_applicable folder (if b then Replace name bytes else Write name bytes) ≡ true
+unfolding is_applicable
+takes_put true folder name bytes h = h
+takes_put false folder name bytes h = not_from_false _ h
+
+puts_apply : (test : List ℕ → Bool) (folder : Folder) (files : List File) → AreDistinct (map (λ file. file.0) files)
+    → ((q : List ℕ) → is_among (map (λ file. file.0) files) q ≡ true → has folder q ≡ test q)
+    → are_applicable folder (map (λ file. if test file.0 then Replace file.0 file.1 else Write file.0 file.1) files) ≡ true
+unfolding are_applicable
+puts_apply test folder [] d h = refl
+puts_apply test folder (file ∷ files) d h =
+    and_from _ _ (takes_put (test file.0) folder file.0 file.1 (h file.0 (or_left _ _ (itself file.0))))
+    (ap (λ f. are_applicable f (map (λ other. if test other.0 then Replace other.0 other.1 else Write other.0 other.1) files)) (put_or_replaced (test file.0) folder file.0 file.1)
+    ∙ puts_apply test (map_of.insert folder file.0 file.1) files d.1 (λ q i.
+    has_put folder file.0 file.1 q ∙ ap (λ b. b || has folder q) (not_first file.0 (map (λ other. other.0) files) d.0 q i) ∙ h q (or_right _ _ i)))
+
+pub create_applies : (folder : Folder) (a : CreateArgs) → are_applicable folder (create_changes folder a) ≡ true
+create_applies folder a =
+    puts_apply (has folder) folder (outputs_of folder a) (outputs_once a.base a.slice_size a.first a.count _) (λ q i. refl)
+
+-- without recovery slices the index is all
+pub index_alone : (base : List ℕ) (s f : ℕ) (files : List File) → volumes base s f 0 files ≡ (base, flat_map packet (index_packets s (map (record_of s) (in_id_order files)))) ∷ []
+unfolding volumes
+index_alone base s f files = refl

@@ -1,0 +1,231 @@
+-- The slices of intact and of matched targets are found.
+use Rattle.std.proofs.Common.{◌≡◌, ℕ, zero, suc, ◌+◌, ◌*◌, ◌<◌, ◌≤◌, List, [], ◌∷◌, ◌++◌, length, map, inl, inr, refl, sym, ap, ◌∙◌, subst, T, cond, true, false, Bool, not, ◌&&◌, ◌||◌, arith}
+use Rattle.std.specs.Prelude.{filter, flat_map, find, zip, Option, Some, None, is_some, is_none, option_to_list, ◌==◌}
+use Rattle.std.specs.Int.{div_ceil}
+use Rattle.std.specs.List.{list_any, list_all, range_with_len, enumerate_from, AllByRecursion}
+use Rattle.std.specs.Str.{bytes_eq}
+use Rattle.std.proofs.lemmas.List.{map-append}
+use Rattle.std.proofs.lemmas.Bool.{and_parts, or_cases, or_left, or_right, eqb-true}
+use Rattle.std.proofs.lemmas.Grind.{div_ceil_times}
+use Rattle.std.proofs.Math.Nat.{mul-le-mul_right, add-mul}
+use Rattle.par2_spec.specs.Checksums.{Pair}
+use Rattle.par2_spec.specs.Windows.{window, windows, is_match, found}
+use Rattle.par2_spec.specs.Slices.{slice_count}
+use Rattle.par2_spec.specs.Names.{is_among}
+use Rattle.par2_spec.specs.Folders.{Folder, bytes_of, has}
+use Rattle.par2_spec.specs.Sets.{ParSet, Target}
+use Rattle.par2_spec.specs.Search.{is_intact, is_needing, needing, intact_names, matches, known, lost}
+use Rattle.par2_spec.specs.Repairs.{names_without_match}
+use Rattle.par2_spec.specs.Rules.{slices_by_target, lost_of_unmatched}
+use Rattle.par2_spec.proofs.NamesLaws.{true_from_not, same_name, itself, clash, false_true, among-filter}
+use Rattle.par2_spec.proofs.ListsLaws.{any-map, any-flat_map, in_range_some}
+use Rattle.par2_spec.proofs.SearchLaws.{found_passes, pairs_with}
+
+is_some-find : {A : Type 0} (test : A → Bool) (xs : List A) → is_some (find test xs) ≡ list_any test xs
+is_some-find test [] = refl
+is_some-find {A = A} test (x ∷ xs) = step (test x) (find test xs) (list_any test xs) (is_some-find test xs)
+  where
+    step : (b : Bool) (o : Option A) (r : Bool) → is_some o ≡ r → is_some (cond b (Some x) o) ≡ (b || r)
+    step true o r e = refl
+    step false o r e = e
+
+is_true : {b : Bool} → T b → b ≡ true
+is_true {b = true} t = refl
+is_true {b = false} t = absurd t
+
+by_true : {b : Bool} → b ≡ true → T b
+by_true e = subst T (sym e) tt
+
+-- the slice of number j begins within the text
+slice_begins : (n s j : ℕ) → 0 < s → j < div_ceil n s → j * s < n
+slice_begins n s j positive h =
+    let bound : (div_ceil n s) * s < n + s = (div_ceil_times n s positive).1 in
+    let more : (j + 1) * s ≤ (div_ceil n s) * s = mul-le-mul_right s (omega (arith, h)) in
+    let apart : (j + 1) * s ≡ j * s + 1 * s = add-mul j 1 s in
+    omega (arith, bound, more, apart)
+
+-- the pairs that the slices match are matched by windows
+abbrev Windowed : ℕ → List ℕ → List Pair → Type 0
+Windowed s bytes pairs = AllByRecursion (λ pair. list_any (is_match pair) (windows s bytes) ≡ true) pairs
+
+slices_are_windows : (s : ℕ) (bytes : List ℕ) (pairs : List Pair) (a k : ℕ) → length pairs ≤ k → ((j : ℕ) → j < a + k → j * s < length bytes)
+    → list_all (λ z. is_match z.0 z.1) (zip pairs (map (λ j. window s bytes (j * s)) (range_with_len a k))) ≡ true → Windowed s bytes pairs
+slices_are_windows s bytes [] a k short begins h = tt
+slices_are_windows s bytes (pair ∷ pairs) a zero short begins h = absurd (omega (arith, short))
+slices_are_windows s bytes (pair ∷ pairs) a (suc k) short begins h =
+    let r = and_parts (is_match pair (window s bytes (a * s))) _ h in (
+      any-map (is_match pair) (window s bytes) (range_with_len 0 (length bytes))
+          ∙ is_true (in_range_some (λ o. is_match pair (window s bytes o)) 0 (length bytes) (a * s) (omega arith) (let b : a * s < length bytes = begins a (omega arith) in omega (arith, b)) (by_true r.0)),
+      slices_are_windows s bytes pairs (a + 1) k (omega (arith, short)) (λ j l. begins j (omega (arith, l))) r.1,
+    )
+
+-- bytes that are intact for a target have each of its slices
+pub intact_windowed : (s : ℕ) (t : Target) (bytes : List ℕ) → 0 < s → length t.pairs ≤ slice_count s t.size → is_intact s t bytes ≡ true → Windowed s bytes t.pairs
+intact_windowed s t bytes positive short h =
+    let r = and_parts (length bytes == t.size) _ h in
+    let same : length bytes ≡ t.size = eqb-true (length bytes) t.size r.0 in
+    slices_are_windows s bytes t.pairs 0 (slice_count s (length bytes)) (subst (λ n. length t.pairs ≤ slice_count s n) (sym same) short)
+    (λ j l. slice_begins (length bytes) s j positive (omega (arith, l))) r.1
+
+any_at : (test : List ℕ → Bool) (names : List (List ℕ)) (name : List ℕ) → is_among names name ≡ true → test name ≡ true → list_any test names ≡ true
+any_at test [] name h k = h
+any_at test (x ∷ names) name h k = elim (or_cases (bytes_eq name x) (is_among names name) h) as (λ _. list_any test (x ∷ names) ≡ true) [
+  | inl here ↦ or_left _ _ (subst (λ y. test y ≡ true) (same_name name x here) k)
+  | inr there ↦ or_right _ _ (any_at test names name there k)
+]
+
+-- the slices of a target are found
+abbrev pub IsFound : Folder → ℕ → List (List ℕ) → Target → Type 0
+IsFound folder s names t = AllByRecursion (λ pair. is_some (found s (map (bytes_of folder) names) pair) ≡ true) t.pairs
+
+windowed_found : (folder : Folder) (s : ℕ) (names : List (List ℕ)) (name : List ℕ) (pairs : List Pair) → is_among names name ≡ true → Windowed s (bytes_of folder name) pairs → AllByRecursion (λ pair. is_some (found s (map (bytes_of folder) names) pair) ≡ true) pairs
+windowed_found folder s names name [] h w = tt
+windowed_found folder s names name (pair ∷ pairs) h w = (
+  is_some-find (is_match pair) (flat_map (windows s) (map (bytes_of folder) names))
+      ∙ any-flat_map (is_match pair) (windows s) (map (bytes_of folder) names)
+      ∙ any-map (λ text. list_any (is_match pair) (windows s text)) (bytes_of folder) names
+      ∙ any_at (λ n. list_any (is_match pair) (windows s (bytes_of folder n))) names name h w.0,
+  windowed_found folder s names name pairs h w.1,
+)
+
+-- as many pairs as slices at most
+abbrev pub AreSized : ℕ → List Target → Type 0
+AreSized s ts = AllByRecursion (λ t. length t.pairs ≤ slice_count s t.size) ts
+
+-- of needing targets those are found that have a match
+needing_found : (folder : Folder) (s : ℕ) (names free : List (List ℕ)) (ts : List Target) (is_lost : List ℕ → Bool) → 0 < s → AreSized s ts
+    → ((q : List ℕ) → is_among free q ≡ true → is_among names q ≡ true)
+    → ((q : List ℕ) → is_among (names_without_match (pairs_with folder s free ts)) q ≡ true → is_lost q ≡ true)
+    → AllByRecursion (λ t. is_lost t.name ≡ false → IsFound folder s names t) ts
+needing_found folder s names free [] is_lost positive sized within lost_ones = tt
+needing_found folder s names free (t ∷ ts) is_lost positive sized within lost_ones =
+    let p = (λ (name : List ℕ). is_intact s t (bytes_of folder name)) in
+    let later = filter (λ name. not (is_among (option_to_list (find p free)) name)) free in (
+      head (find p free) (found_passes p free) (lost_ones t.name),
+      needing_found folder s names later ts is_lost positive sized.1
+          (λ q h. within q (and_parts _ _ (sym (among-filter (λ name. not (is_among (option_to_list (find p free)) name)) free q) ∙ h)).0)
+          (λ q h. lost_ones q (tail (find p free) (pairs_with folder s later ts) q h)),
+    )
+  where
+    head : (o : Option (List ℕ)) → ((x : List ℕ) → o ≡ Some x → (is_among free x ≡ true) × (is_intact s t (bytes_of folder x) ≡ true))
+        → (is_among (names_without_match ((t, o) ∷ pairs_with folder s (filter (λ name. not (is_among (option_to_list o) name)) free) ts)) t.name ≡ true → is_lost t.name ≡ true)
+        → is_lost t.name ≡ false → IsFound folder s names t
+    head None k l i = absurd (clash (l (or_left _ _ (itself t.name))) i)
+    head (Some x) k l i = let r = k x refl in windowed_found folder s names x t.pairs (within x r.0) (intact_windowed s t (bytes_of folder x) positive sized.0 r.1)
+
+    tail : (o : Option (List ℕ)) (ms : List (Target × Option (List ℕ))) (q : List ℕ) → is_among (names_without_match ms) q ≡ true → is_among (names_without_match ((t, o) ∷ ms)) q ≡ true
+    tail None ms q h = or_right (bytes_eq q t.name) (is_among (names_without_match ms) q) h
+    tail (Some x) ms q h = h
+
+all-filter : {A : Type 0} (P : A → Type 0) (p : A → Bool) (xs : List A) → AllByRecursion P xs → AllByRecursion P (filter p xs)
+all-filter P p [] h = tt
+all-filter {A = A} P p (x ∷ xs) h = step (p x) (filter p xs) (all-filter P p xs h.1)
+  where
+    step : (b : Bool) (ys : List A) → AllByRecursion P ys → AllByRecursion P (cond b (x ∷ ys) ys)
+    step true ys k = (h.0, k)
+    step false ys k = k
+
+-- what holds of those that pass a test and of those that do not holds of all
+all_by_test : {A : Type 0} (P : A → Type 0) (p : A → Bool) (xs : List A) → AllByRecursion (λ x. p x ≡ false → P x) xs → AllByRecursion P (filter p xs) → AllByRecursion P xs
+all_by_test P p [] out h = tt
+all_by_test {A = A} P p (x ∷ xs) out h = (step (p x) refl (filter p xs) h, all_by_test P p xs out.1 (rest (p x) (filter p xs) h))
+  where
+    step : (b : Bool) → p x ≡ b → (ys : List A) → AllByRecursion P (cond b (x ∷ ys) ys) → P x
+    step true e ys k = k.0
+    step false e ys k = out.0 e
+
+    rest : (b : Bool) (ys : List A) → AllByRecursion P (cond b (x ∷ ys) ys) → AllByRecursion P ys
+    rest true ys k = k.1
+    rest false ys k = k
+
+intact_found : (folder : Folder) (set : ParSet) (names : List (List ℕ)) (ts : List Target) → 0 < set.slice_size → AreSized set.slice_size ts
+    → ((q : List ℕ) → is_among (map (λ t. t.name) ts) q ≡ true → has folder q ≡ true → is_among names q ≡ true)
+    → AllByRecursion (λ t. is_needing folder set t ≡ false → IsFound folder set.slice_size names t) ts
+intact_found folder set names [] positive sized searched = tt
+intact_found folder set names (t ∷ ts) positive sized searched = (
+  λ e. let r = and_parts (has folder t.name) _ (true_from_not (has folder t.name && is_intact set.slice_size t (bytes_of folder t.name)) e) in
+      windowed_found folder set.slice_size names t.name t.pairs (searched t.name (or_left _ _ (itself t.name)) r.0)
+      (intact_windowed set.slice_size t (bytes_of folder t.name) positive sized.0 r.1),
+  intact_found folder set names ts positive sized.1 (λ q h. searched q (or_right _ _ h)),
+)
+
+-- every target that is intact or has a match is found
+pub targets_found : (folder : Folder) (set : ParSet) (names : List (List ℕ)) → 0 < set.slice_size → AreSized set.slice_size set.targets
+    → ((q : List ℕ) → is_among (map (λ t. t.name) set.targets) q ≡ true → has folder q ≡ true → is_among names q ≡ true)
+    → AllByRecursion (λ t. is_among (names_without_match (matches folder set names)) t.name ≡ false → IsFound folder set.slice_size names t) set.targets
+unfolding matches
+targets_found folder set names positive sized searched =
+    let free = filter (λ name. not (is_among (intact_names folder set) name)) names in
+    let is_lost = is_among (names_without_match (pairs_with folder set.slice_size free (needing folder set))) in
+    all_by_test (λ t. is_lost t.name ≡ false → IsFound folder set.slice_size names t) (is_needing folder set) set.targets
+    (weaker is_lost set.targets (intact_found folder set names set.targets positive sized searched))
+    (needing_found folder set.slice_size names free (needing folder set) is_lost positive (all-filter _ (is_needing folder set) set.targets sized)
+    (λ q h. (and_parts _ _ (sym (among-filter (λ name. not (is_among (intact_names folder set) name)) names q) ∙ h)).0) (λ q h. h))
+  where
+    weaker : (is_lost : List ℕ → Bool) (ts : List Target) → AllByRecursion (λ t. is_needing folder set t ≡ false → IsFound folder set.slice_size names t) ts
+        → AllByRecursion (λ t. is_needing folder set t ≡ false → is_lost t.name ≡ false → IsFound folder set.slice_size names t) ts
+    weaker is_lost [] h = tt
+    weaker is_lost (t ∷ ts) h = (λ e _. h.0 e, weaker is_lost ts h.1)
+
+-- ---- the lost slices
+
+abbrev Told : List (Bool × Option (List ℕ)) → Type 0
+Told zs = AllByRecursion (λ z. z.0 ≡ false → is_some z.1 ≡ true) zs
+
+told-append : (xs ys : List (Bool × Option (List ℕ))) → Told xs → Told ys → Told (xs ++ ys)
+told-append [] ys h k = k
+told-append (x ∷ xs) ys h k = (h.0, told-append xs ys h.1 k)
+
+told-map : (b : Bool) (f : Pair → Option (List ℕ)) (pairs : List Pair) → (b ≡ false → AllByRecursion (λ pair. is_some (f pair) ≡ true) pairs) → Told (map (λ pair. (b, f pair)) pairs)
+told-map b f [] h = tt
+told-map b f (pair ∷ pairs) h = (λ e. (h e).0, told-map b f pairs (λ e. (h e).1))
+
+told_by_target : (is_lost : List ℕ → Bool) (f : Pair → Option (List ℕ)) (ts : List Target) → AllByRecursion (λ t. is_lost t.name ≡ false → AllByRecursion (λ pair. is_some (f pair) ≡ true) t.pairs) ts
+    → Told (flat_map (λ t. map (λ pair. (is_lost t.name, f pair)) t.pairs) ts)
+told_by_target is_lost f [] h = tt
+told_by_target is_lost f (t ∷ ts) h = told-append (map (λ pair. (is_lost t.name, f pair)) t.pairs) _ (told-map (is_lost t.name) f t.pairs h.0) (told_by_target is_lost f ts h.1)
+
+abbrev second_of : Bool × Option (List ℕ) → Option (List ℕ)
+second_of z = z.1
+
+map_second : (b : Bool) (f : Pair → Option (List ℕ)) (pairs : List Pair) → map second_of (map (λ (pair : Pair). (b, f pair)) pairs) ≡ map f pairs
+map_second b f [] = refl
+map_second b f (pair ∷ pairs) = ap (λ zs. f pair ∷ zs) (map_second b f pairs)
+
+found_by_target : (is_lost : List ℕ → Bool) (f : Pair → Option (List ℕ)) (ts : List Target) → map second_of (flat_map (λ t. map (λ pair. (is_lost t.name, f pair)) t.pairs) ts) ≡ map f (flat_map (λ t. t.pairs) ts)
+found_by_target is_lost f [] = refl
+found_by_target is_lost f (t ∷ ts) =
+    map-append (λ z. z.1) (map (λ pair. (is_lost t.name, f pair)) t.pairs) _
+    ∙ ap (λ front. front ++ map second_of (flat_map (λ u. map (λ pair. (is_lost u.name, f pair)) u.pairs) ts)) (map_second (is_lost t.name) f t.pairs)
+    ∙ ap (λ rest. map f t.pairs ++ rest) (found_by_target is_lost f ts) ∙ sym (map-append f t.pairs (flat_map (λ u. u.pairs) ts))
+
+lost_alike : (n : ℕ) (zs : List (Bool × Option (List ℕ))) → Told zs → map (λ z. z.0) (filter (λ z. is_none z.1) (enumerate_from n (map (λ z. z.1) zs))) ≡ map (λ z. z.0) (filter (λ z. z.1.0 && is_none z.1.1) (enumerate_from n zs))
+lost_alike n [] h = refl
+lost_alike n ((b, o) ∷ zs) h = step b o h.0 ∙ ap (λ rest. cond (b && is_none o) (n ∷ rest) rest) (lost_alike (n + 1) zs h.1) ∙ sym (out (b && is_none o))
+  where
+    rest : List (ℕ × Option (List ℕ))
+    rest = filter (λ z. is_none z.1) (enumerate_from (n + 1) (map (λ z. z.1) zs))
+
+    told : List (ℕ × (Bool × Option (List ℕ)))
+    told = filter (λ z. z.1.0 && is_none z.1.1) (enumerate_from (n + 1) zs)
+
+    step : (c : Bool) (p : Option (List ℕ)) → (c ≡ false → is_some p ≡ true) → map (λ z. z.0) (cond (is_none p) ((n, p) ∷ rest) rest) ≡ cond (c && is_none p) (n ∷ map (λ z. z.0) rest) (map (λ z. z.0) rest)
+    step true None k = refl
+    step true (Some x) k = refl
+    step false None k = absurd (false_true (k refl))
+    step false (Some x) k = refl
+
+    out : (c : Bool) → map (λ z. z.0) (cond c ((n, (b, o)) ∷ told) told) ≡ cond c (n ∷ map (λ z. z.0) told) (map (λ z. z.0) told)
+    out true = refl
+    out false = refl
+
+-- the lost slices are those of the needing targets without a match that are not found
+pub lost_is : (folder : Folder) (set : ParSet) (names : List (List ℕ)) → 0 < set.slice_size → AreSized set.slice_size set.targets
+    → ((q : List ℕ) → is_among (map (λ t. t.name) set.targets) q ≡ true → has folder q ≡ true → is_among names q ≡ true)
+    → lost (known folder set names) ≡ lost_of_unmatched folder set names
+unfolding known
+lost_is folder set names positive sized searched =
+    let f = found set.slice_size (map (bytes_of folder) names) in
+    let is_lost = is_among (names_without_match (matches folder set names)) in
+    ap (λ found. map (λ z. z.0) (filter (λ z. is_none z.1) (enumerate_from 0 found))) (sym (found_by_target is_lost f set.targets))
+    ∙ lost_alike 0 (slices_by_target folder set names) (told_by_target is_lost f set.targets (targets_found folder set names positive sized searched))

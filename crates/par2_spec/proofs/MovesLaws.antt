@@ -1,0 +1,374 @@
+-- Renames and writes one after the other, as one change of a map.
+use Rattle.std.proofs.Common.{◌≡◌, ℕ, List, [], ◌∷◌, ◌++◌, map, refl, sym, ap, ◌∙◌, subst, T, cond, true, false, Bool, not, ◌&&◌, ◌||◌, ◌+◌, ◌≤◌, arith}
+use Rattle.std.specs.Prelude.{filter, Option, Some, None, is_some, unwrap_or, is_none}
+use Rattle.std.specs.FinMap as map_of
+use Rattle.std.specs.FinMap.{get-insert, get-remove, get-retain_keys, slice_cmp-IsAntisymmetric, nat_cmp-IsAntisymmetric, contains_key-keys, entries_sorted}
+use Rattle.std.specs.Ordering.{nat_cmp, eq_by_cmp, is_lt, is_eq}
+use Rattle.std.specs.declared.cmp.Ordering.{Ordering}
+use Rattle.std.specs.FinMap.Entries.{is_sorted, below_all}
+use Rattle.std.specs.declared.cmp.Ordering.TheVariants.{Less, Equal, Greater}
+use Rattle.std.specs.Cmp.Lexicographic.{slice_cmp, nat_list_cmp_total}
+use Rattle.std.specs.Str.{bytes_eq}
+use Rattle.std.specs.List.{list_any, AllByRecursion}
+use Rattle.std.proofs.lemmas.Map.Text.{is_eq-slice_cmp}
+use Rattle.std.proofs.lemmas.Bool.{lt-ltb, and_parts, or_left, or_right, or_from, false_from_ne_true, and_from, not_from_false}
+use Rattle.par2_spec.specs.Names.{is_among}
+use Rattle.par2_spec.specs.Changes.{FolderState, change_refusal, vacant_after, state_after, Change, Write, Replace, Rename, Remove, effect, effects, is_applicable, are_applicable, places_taken, takes_all, state_after_all}
+use Rattle.par2_spec.specs.Folders.{Folder, has, bytes_of, names, File, laid_over, without}
+use Rattle.par2_spec.proofs.FolderLaws.{same_folder}
+use Rattle.par2_spec.proofs.CommandLaws.{gone_first, none_gone}
+use Rattle.par2_spec.proofs.NamesLaws.{among-append, same_name, itself, clash, other_name, AreDistinct, not_first, false_true}
+
+-- ---- what a changed folder has under a name
+
+pub get_put : (f : Folder) (n b q : List ℕ) → map_of.get (map_of.insert f n b) q ≡ cond (bytes_eq q n) (Some b) (map_of.get f q)
+get_put f n b q = get-insert nat_list_cmp_total f n b q ∙ ap (λ t. cond t (Some b) (map_of.get f q)) (is_eq-slice_cmp q n)
+
+pub get_gone : (f : Folder) (n q : List ℕ) → map_of.get (map_of.remove f n) q ≡ cond (bytes_eq q n) None (map_of.get f q)
+get_gone f n q = get-remove nat_list_cmp_total f n q ∙ ap (λ t. cond t None (map_of.get f q)) (is_eq-slice_cmp q n)
+
+pub get_without : (gone : List (List ℕ)) (f : Folder) (q : List ℕ) → map_of.get (without gone f) q ≡ cond (is_among gone q) None (map_of.get f q)
+get_without gone f q =
+    get-retain_keys f (λ x. not (is_among gone x)) q (λ x e. ap (λ y. not (is_among gone y)) (sym (slice_cmp-IsAntisymmetric nat_cmp-IsAntisymmetric q x e)))
+    ∙ turned (is_among gone q) (map_of.get f q)
+  where
+    turned : (b : Bool) (g : Option (List ℕ)) → cond (not b) g None ≡ cond b None g
+    turned true g = refl
+    turned false g = refl
+
+pub get_renamed : (f : Folder) (a b q : List ℕ) → map_of.get (effect f (Rename a b)) q ≡ cond (bytes_eq q b) (Some (bytes_of f a)) (cond (bytes_eq q a) None (map_of.get f q))
+unfolding effect
+get_renamed f a b q = get_put (map_of.remove f a) b (bytes_of f a) q ∙ ap (cond (bytes_eq q b) (Some (bytes_of f a))) (get_gone f a q)
+
+pub has_put : (f : Folder) (n b q : List ℕ) → has (map_of.insert f n b) q ≡ (bytes_eq q n || has f q)
+has_put f n b q = ap is_some (get_put f n b q) ∙ split (bytes_eq q n) (map_of.get f q)
+  where
+    split : (t : Bool) (g : Option (List ℕ)) → is_some (cond t (Some b) g) ≡ (t || is_some g)
+    split true g = refl
+    split false g = refl
+
+pub has_gone : (f : Folder) (n q : List ℕ) → has (map_of.remove f n) q ≡ (not (bytes_eq q n) && has f q)
+has_gone f n q = ap is_some (get_gone f n q) ∙ split (bytes_eq q n) (map_of.get f q)
+  where
+    split : (t : Bool) (g : Option (List ℕ)) → is_some (cond t None g) ≡ (not t && is_some g)
+    split true g = refl
+    split false g = refl
+
+pub has_without : (gone : List (List ℕ)) (f : Folder) (q : List ℕ) → has (without gone f) q ≡ (not (is_among gone q) && has f q)
+has_without gone f q = ap is_some (get_without gone f q) ∙ split (is_among gone q) (map_of.get f q)
+  where
+    split : (t : Bool) (g : Option (List ℕ)) → is_some (cond t None g) ≡ (not t && is_some g)
+    split true g = refl
+    split false g = refl
+
+pub has_renamed : (f : Folder) (a b q : List ℕ) → has (effect f (Rename a b)) q ≡ (bytes_eq q b || (not (bytes_eq q a) && has f q))
+unfolding effect
+has_renamed f a b q = has_put (map_of.remove f a) b (bytes_of f a) q ∙ ap (λ t. bytes_eq q b || t) (has_gone f a q)
+
+pub has_by_names : (f : Folder) (q : List ℕ) → has f q ≡ is_among (names f) q
+has_by_names f q = contains_key-keys f q ∙ each (names f)
+  where
+    each : (ns : List (List ℕ)) → list_any (eq_by_cmp (slice_cmp nat_cmp) q) ns ≡ is_among ns q
+    each [] = refl
+    each (n ∷ ns) = ap (λ t. t || list_any (eq_by_cmp (slice_cmp nat_cmp) q) ns) (is_eq-slice_cmp q n) ∙ ap (λ t. bytes_eq q n || t) (each ns)
+
+-- the names of a folder, each once
+sorted_once : (es : List (List ℕ × List ℕ)) → T (is_sorted (slice_cmp nat_cmp) es) → AreDistinct (map (λ e. e.0) es)
+sorted_once [] h = tt
+sorted_once (e ∷ es) h = (out es (both_parts _ _ h).0, sorted_once es (both_parts _ _ h).1)
+  where
+    both_parts : (a b : Bool) → T (a && b) → T a × T b
+    both_parts true b k = (tt, k)
+    both_parts false b k = absurd k
+
+    less : (o : Ordering) → T (is_lt o) → is_eq o ≡ false
+    less Less k = refl
+    less Equal k = absurd k
+    less Greater k = absurd k
+
+    out : (others : List (List ℕ × List ℕ)) → T (below_all (slice_cmp nat_cmp) e.0 others) → is_among (map (λ other. other.0) others) e.0 ≡ false
+    out [] k = refl
+    out (other ∷ others) k = or_from _ _ (sym (is_eq-slice_cmp e.0 other.0) ∙ less (slice_cmp nat_cmp e.0 other.0) (both_parts _ _ k).0) (out others (both_parts _ _ k).1)
+
+pub names_once : (f : Folder) → AreDistinct (names f)
+names_once f = sorted_once (map_of.entries f) (entries_sorted f)
+
+pub no_file : (f : Folder) (q : List ℕ) → has f q ≡ false → map_of.get f q ≡ None
+no_file f q = none (map_of.get f q)
+  where
+    none : (o : Option (List ℕ)) → is_some o ≡ false → o ≡ None
+    none None h = refl
+    none (Some x) h = absurd (false_true (sym h))
+
+-- ---- files laid over a folder
+
+pub get_laid : (files : List File) (f : Folder) (q : List ℕ) → is_among (map (λ file. file.0) files) q ≡ false → map_of.get (laid_over files f) q ≡ map_of.get f q
+unfolding laid_over
+get_laid [] f q h = refl
+get_laid (file ∷ files) f q h =
+    get_laid files (map_of.insert f file.0 file.1) q (second (bytes_eq q file.0) _ h) ∙ get_put f file.0 file.1 q
+    ∙ ap (λ t. cond t (Some file.1) (map_of.get f q)) (first (bytes_eq q file.0) _ h)
+  where
+    first : (a b : Bool) → (a || b) ≡ false → a ≡ false
+    first true b k = k
+    first false b k = refl
+
+    second : (a b : Bool) → (a || b) ≡ false → b ≡ false
+    second true b k = absurd (false_true (sym k))
+    second false b k = k
+
+-- files of different names stand under their names, in a folder that holds under these what was laid over
+pub all_laid : (files : List File) (f g : Folder) → AreDistinct (map (λ file. file.0) files) → ((q : List ℕ) → is_among (map (λ file. file.0) files) q ≡ true → map_of.get g q ≡ map_of.get (laid_over files f) q) → AllByRecursion (λ file. map_of.get g file.0 ≡ Some file.1) files
+unfolding laid_over
+all_laid [] f g d h = tt
+all_laid (file ∷ files) f g d h = (
+  h file.0 (or_left _ _ (itself file.0)) ∙ get_laid files (map_of.insert f file.0 file.1) file.0 d.0 ∙ get_put f file.0 file.1 file.0
+      ∙ ap (λ t. cond t (Some file.1) (map_of.get f file.0)) (itself file.0),
+  all_laid files (map_of.insert f file.0 file.1) g d.1 (λ q i. h q (or_right _ _ i)),
+)
+
+pub has_laid : (files : List File) (f : Folder) (q : List ℕ) → has (laid_over files f) q ≡ (is_among (map (λ file. file.0) files) q || has f q)
+unfolding laid_over
+has_laid [] f q = refl
+has_laid (file ∷ files) f q =
+    has_laid files (map_of.insert f file.0 file.1) q ∙ ap (λ t. is_among (map (λ other. other.0) files) q || t) (has_put f file.0 file.1 q)
+    ∙ three (is_among (map (λ other. other.0) files) q) (bytes_eq q file.0) (has f q)
+  where
+    three : (a b c : Bool) → (a || (b || c)) ≡ ((b || a) || c)
+    three true true c = refl
+    three true false c = refl
+    three false true c = refl
+    three false false c = refl
+
+pub laid_over-append : (files more : List File) (f : Folder) → laid_over (files ++ more) f ≡ laid_over more (laid_over files f)
+unfolding laid_over
+laid_over-append [] more f = refl
+laid_over-append (file ∷ files) more f = laid_over-append files more (map_of.insert f file.0 file.1)
+
+without_put : (gone : List (List ℕ)) (f : Folder) (n b : List ℕ) → without gone (map_of.insert f n b) ≡ cond (not (is_among gone n)) (map_of.insert (without gone f) n b) (without gone f)
+without_put gone f n b = step (is_among gone n) refl
+  where
+    apart : (q : List ℕ) → is_among gone n ≡ true → bytes_eq q n ≡ true → is_among gone q ≡ true
+    apart q h e = subst (λ x. is_among gone x ≡ true) (sym (same_name q n e)) h
+
+    hidden : (t g : Bool) (y x : Option (List ℕ)) → (t ≡ true → g ≡ true) → cond g None (cond t y x) ≡ cond g None x
+    hidden true true y x h = refl
+    hidden true false y x h = absurd (false_true (h refl))
+    hidden false g y x h = refl
+
+    over : (t g : Bool) (y x : Option (List ℕ)) → (t ≡ true → g ≡ false) → cond g None (cond t y x) ≡ cond t y (cond g None x)
+    over true true y x h = absurd (false_true (sym (h refl)))
+    over true false y x h = refl
+    over false g y x h = refl
+
+    step : (t : Bool) → is_among gone n ≡ t → without gone (map_of.insert f n b) ≡ cond (not t) (map_of.insert (without gone f) n b) (without gone f)
+    step true h = same_folder _ _ (λ q.
+        get_without gone (map_of.insert f n b) q ∙ ap (cond (is_among gone q) None) (get_put f n b q)
+        ∙ hidden (bytes_eq q n) (is_among gone q) (Some b) (map_of.get f q) (apart q h) ∙ sym (get_without gone f q))
+    step false h = same_folder _ _ (λ q.
+        get_without gone (map_of.insert f n b) q ∙ ap (cond (is_among gone q) None) (get_put f n b q)
+        ∙ over (bytes_eq q n) (is_among gone q) (Some b) (map_of.get f q) (λ e. subst (λ x. is_among gone x ≡ false) (sym (same_name q n e)) h)
+        ∙ sym (get_put (without gone f) n b q ∙ ap (cond (bytes_eq q n) (Some b)) (get_without gone f q)))
+
+-- to take names away from what was laid over is to lay over what has other names
+pub without-laid_over : (gone : List (List ℕ)) (files : List File) (f : Folder) → without gone (laid_over files f) ≡ laid_over (filter (λ file. not (is_among gone file.0)) files) (without gone f)
+unfolding laid_over
+without-laid_over gone [] f = refl
+without-laid_over gone (file ∷ files) f =
+    without-laid_over gone files (map_of.insert f file.0 file.1)
+    ∙ ap (laid_over (filter (λ other. not (is_among gone other.0)) files)) (without_put gone f file.0 file.1)
+    ∙ step (not (is_among gone file.0)) (filter (λ other. not (is_among gone other.0)) files) (without gone f)
+  where
+    step : (t : Bool) (fs : List File) (g : Folder) → laid_over fs (cond t (map_of.insert g file.0 file.1) g) ≡ laid_over (cond t (file ∷ fs) fs) g
+    step true fs g = refl
+    step false fs g = refl
+
+-- folders without names that tell the same of each file
+pub same_without : (gone more : List (List ℕ)) (f : Folder) → ((q : List ℕ) → has f q ≡ true → is_among gone q ≡ is_among more q) → without gone f ≡ without more f
+same_without gone more f h = same_folder _ _ (λ q.
+    get_without gone f q ∙ step (is_among gone q) (is_among more q) (map_of.get f q) (h q) ∙ sym (get_without more f q))
+  where
+    step : (a b : Bool) (g : Option (List ℕ)) → (is_some g ≡ true → a ≡ b) → cond a None g ≡ cond b None g
+    step a b (Some x) e = ap (λ t. cond t None (Some x)) (e refl)
+    step true true None e = refl
+    step true false None e = refl
+    step false true None e = refl
+    step false false None e = refl
+
+pub without_without : (gone more : List (List ℕ)) (f : Folder) → without gone (without more f) ≡ without (gone ++ more) f
+without_without gone more f = same_folder _ _ (λ q.
+    get_without gone (without more f) q ∙ ap (cond (is_among gone q) None) (get_without more f q)
+    ∙ both (is_among gone q) (is_among more q) (map_of.get f q) ∙ sym (get_without (gone ++ more) f q ∙ ap (λ t. cond t None (map_of.get f q)) (among-append gone more q)))
+  where
+    both : (a b : Bool) (g : Option (List ℕ)) → cond a None (cond b None g) ≡ cond (a || b) None g
+    both true b g = refl
+    both false b g = refl
+
+-- ---- changes in a row
+
+pub are_applicable-append : (f : Folder) (cs ds : List Change) → are_applicable f cs ≡ true → are_applicable (effects f cs) ds ≡ true → are_applicable f (cs ++ ds) ≡ true
+unfolding effects are_applicable
+are_applicable-append f [] ds h k = k
+are_applicable-append f (c ∷ cs) ds h k =
+    let r = and_parts (is_applicable f c) (are_applicable (effect f c) cs) h in
+    and_from _ _ r.0 (are_applicable-append (effect f c) cs ds r.1 k)
+
+-- whether changes apply is a matter of the names alone
+same_names_after : (f g : Folder) (c : Change) → ((q : List ℕ) → has f q ≡ has g q) → (q : List ℕ) → has (effect f c) q ≡ has (effect g c) q
+unfolding effect
+same_names_after f g (Write n b) h q = has_put f n b q ∙ ap (λ t. bytes_eq q n || t) (h q) ∙ sym (has_put g n b q)
+same_names_after f g (Replace n b) h q = has_put f n b q ∙ ap (λ t. bytes_eq q n || t) (h q) ∙ sym (has_put g n b q)
+same_names_after f g (Rename a b) h q = unfold effect in has_renamed f a b q ∙ ap (λ t. bytes_eq q b || (not (bytes_eq q a) && t)) (h q) ∙ sym (has_renamed g a b q)
+same_names_after f g (Remove n) h q = has_gone f n q ∙ ap (λ t. not (bytes_eq q n) && t) (h q) ∙ sym (has_gone g n q)
+
+applicable_by_names : (f g : Folder) (c : Change) → ((q : List ℕ) → has f q ≡ has g q) → is_applicable f c ≡ is_applicable g c
+unfolding is_applicable
+applicable_by_names f g (Write n b) h = ap not (h n)
+applicable_by_names f g (Replace n b) h = h n
+applicable_by_names f g (Rename a b) h = ap (λ t. t && not (has f b)) (h a) ∙ ap (λ t. has g a && not t) (h b)
+applicable_by_names f g (Remove n) h = h n
+
+pub are_applicable_by_names : (f g : Folder) (cs : List Change) → ((q : List ℕ) → has f q ≡ has g q) → are_applicable f cs ≡ are_applicable g cs
+unfolding are_applicable
+are_applicable_by_names f g [] h = refl
+are_applicable_by_names f g (c ∷ cs) h =
+    ap (λ t. t && are_applicable (effect f c) cs) (applicable_by_names f g c h)
+    ∙ ap (λ t. is_applicable g c && t) (are_applicable_by_names (effect f c) (effect g c) cs (same_names_after f g c h))
+
+-- from names to names
+abbrev pub Move : Type 0
+Move = List ℕ × List ℕ
+
+abbrev pub renames : List Move → List Change
+renames moves = map (λ m. Rename m.0 m.1) moves
+
+abbrev pub sources : List Move → List (List ℕ)
+sources moves = map (λ m. m.0) moves
+
+abbrev pub goals : List Move → List (List ℕ)
+goals moves = map (λ m. m.1) moves
+
+-- the sources are names of the folder and the goals are none, each once
+pub record CanMove (f : Folder) (moves : List Move) : Type 0 where
+  pub sources_once : AreDistinct (sources moves)
+  pub goals_once : AreDistinct (goals moves)
+  pub there : (q : List ℕ) → is_among (sources moves) q ≡ true → has f q ≡ true
+  pub free : (q : List ℕ) → is_among (goals moves) q ≡ true → has f q ≡ false
+
+rest_moves : (f : Folder) (m : Move) (moves : List Move) → CanMove f (m ∷ moves) → CanMove (effect f (Rename m.0 m.1)) moves
+rest_moves f m moves c = record {
+  sources_once = c.sources_once.1;
+  goals_once = c.goals_once.1;
+  there = λ q h. has_renamed f m.0 m.1 q
+      ∙ stays (bytes_eq q m.1) (bytes_eq q m.0) (has f q) (not_first m.0 (sources moves) c.sources_once.0 q h) (c.there q (or_right _ _ h));
+  free = λ q h. has_renamed f m.0 m.1 q
+      ∙ out (bytes_eq q m.1) (bytes_eq q m.0) (has f q) (not_first m.1 (goals moves) c.goals_once.0 q h) (c.free q (or_right _ _ h));
+}
+  where
+    stays : (b a t : Bool) → a ≡ false → t ≡ true → (b || (not a && t)) ≡ true
+    stays true a t h k = refl
+    stays false true t h k = absurd (false_true (sym h))
+    stays false false t h k = k
+
+    out : (b a t : Bool) → b ≡ false → t ≡ false → (b || (not a && t)) ≡ false
+    out true a t h k = h
+    out false true t h k = refl
+    out false false t h k = k
+
+pub renames_apply : (f : Folder) (moves : List Move) → CanMove f moves → are_applicable f (renames moves) ≡ true
+unfolding are_applicable is_applicable
+renames_apply f [] c = refl
+renames_apply f (m ∷ moves) c =
+    and_from _ _ (and_from _ _ (c.there m.0 (or_left _ _ (itself m.0))) (not_from_false _ (c.free m.1 (or_left _ _ (itself m.1)))))
+    (renames_apply (effect f (Rename m.0 m.1)) moves (rest_moves f m moves c))
+
+abbrev pub arrived : Folder → List Move → List File
+arrived f moves = map (λ m. (m.1, bytes_of f m.0)) moves
+
+same_arrived : (f g : Folder) (moves : List Move) → ((q : List ℕ) → is_among (sources moves) q ≡ true → bytes_of f q ≡ bytes_of g q) → arrived f moves ≡ arrived g moves
+same_arrived f g [] h = refl
+same_arrived f g (m ∷ moves) h =
+    ap (λ b. (m.1, b) ∷ arrived f moves) (h m.0 (or_left _ _ (itself m.0)))
+    ∙ ap (λ fs. (m.1, bytes_of g m.0) ∷ fs) (same_arrived f g moves (λ q i. h q (or_right _ _ i)))
+
+goal_no_source : (f : Folder) (m : Move) (moves : List Move) → CanMove f (m ∷ moves) → is_among (sources moves) m.1 ≡ false
+goal_no_source f m moves c = false_from_ne_true _ (λ h. clash (c.there m.1 (or_right (bytes_eq m.1 m.0) _ h)) (c.free m.1 (or_left _ _ (itself m.1))))
+
+-- the renames, made one after the other, are one move of all
+pub renames_lead : (f : Folder) (moves : List Move) → CanMove f moves → effects f (renames moves) ≡ laid_over (arrived f moves) (without (sources moves) f)
+unfolding effects laid_over effect
+renames_lead f [] c = none_gone f
+renames_lead f (m ∷ moves) c =
+    let g = effect f (Rename m.0 m.1) in
+    renames_lead g moves (rest_moves f m moves c)
+    ∙ ap (λ fs. laid_over fs (without (sources moves) g)) (same_arrived g f moves (λ q h. ap (λ o. unwrap_or o []) (get_renamed f m.0 m.1 q
+    ∙ past (bytes_eq q m.1) (bytes_eq q m.0) (Some (bytes_of f m.0)) (map_of.get f q) (other q h) (not_first m.0 (sources moves) c.sources_once.0 q h))))
+    ∙ ap (laid_over (arrived f moves)) (base g refl)
+  where
+    other : (q : List ℕ) → is_among (sources moves) q ≡ true → bytes_eq q m.1 ≡ false
+    other q h = other_name q m.1 (λ e. clash (subst (λ x. is_among (sources moves) x ≡ true) e h) (goal_no_source f m moves c))
+
+    past : (b a : Bool) (y g : Option (List ℕ)) → b ≡ false → a ≡ false → cond b y (cond a None g) ≡ g
+    past true a y g h k = absurd (false_true (sym h))
+    past false true y g h k = absurd (false_true (sym k))
+    past false false y g h k = refl
+
+    base : (g : Folder) → g ≡ effect f (Rename m.0 m.1) → without (sources moves) g ≡ map_of.insert (without (sources (m ∷ moves)) f) m.1 (bytes_of f m.0)
+    base g e =
+        ap (without (sources moves)) e ∙ without_put (sources moves) (map_of.remove f m.0) m.1 (bytes_of f m.0)
+        ∙ ap (λ t. cond (not t) (map_of.insert (without (sources moves) (map_of.remove f m.0)) m.1 (bytes_of f m.0)) (without (sources moves) (map_of.remove f m.0)))
+        (goal_no_source f m moves c)
+        ∙ ap (λ x. map_of.insert x m.1 (bytes_of f m.0)) (gone_first f m.0 (sources moves))
+
+-- ---- writes and removals
+
+pub writes_lead : (f : Folder) (files : List File) → effects f (map (λ file. Write file.0 file.1) files) ≡ laid_over files f
+unfolding effects effect laid_over
+writes_lead f [] = refl
+writes_lead f (file ∷ files) = writes_lead (map_of.insert f file.0 file.1) files
+
+pub writes_apply : (f : Folder) (files : List File) → AreDistinct (map (λ file. file.0) files) → ((q : List ℕ) → is_among (map (λ file. file.0) files) q ≡ true → has f q ≡ false) → are_applicable f (map (λ file. Write file.0 file.1) files) ≡ true
+unfolding are_applicable is_applicable effect
+writes_apply f [] d h = refl
+writes_apply f (file ∷ files) d h =
+    and_from _ _ (not_from_false _ (h file.0 (or_left _ _ (itself file.0))))
+    (writes_apply (map_of.insert f file.0 file.1) files d.1 (λ q i. has_put f file.0 file.1 q ∙ or_from _ _ (not_first file.0 (map (λ other. other.0) files) d.0 q i) (h q (or_right _ _ i))))
+
+pub removals_apply : (f : Folder) (gone : List (List ℕ)) → AreDistinct gone → ((q : List ℕ) → is_among gone q ≡ true → has f q ≡ true) → are_applicable f (map Remove gone) ≡ true
+unfolding are_applicable is_applicable effect
+removals_apply f [] d h = refl
+removals_apply f (name ∷ gone) d h =
+    and_from _ _ (h name (or_left _ _ (itself name)))
+    (removals_apply (map_of.remove f name) gone d.1 (λ q i. has_gone f name q ∙ and_from _ _ (not_from_false _ (not_first name gone d.0 q i)) (h q (or_right _ _ i))))
+
+-- ---- in a kept folder
+
+one_place : (c : Change) (cs : List Change) → places_taken (c ∷ []) + places_taken cs ≡ places_taken (c ∷ cs)
+one_place (Write name bytes) cs = omega arith
+one_place (Replace name bytes) cs = omega arith
+one_place (Rename from to) cs = omega arith
+one_place (Remove name) cs = omega arith
+
+refusal_none : (state : FolderState) (c : Change) (places : ℕ) → is_applicable state.files c ≡ true → places_taken (c ∷ []) + places ≤ state.vacant
+    → (is_none (change_refusal state c) ≡ true) × (places ≤ vacant_after state.vacant c)
+unfolding is_applicable change_refusal
+refusal_none state (Write name bytes) places h room =
+    (rw h (rw (lt-ltb 0 state.vacant (omega (arith, room))) refl), omega (arith, room))
+refusal_none state (Replace name bytes) places h room = (rw h refl, omega (arith, room))
+refusal_none state (Rename from to) places h room =
+    let r = and_parts (has state.files from) (not (has state.files to)) h in (rw r.0 (rw r.1 refl), omega (arith, room))
+refusal_none state (Remove name) places h room = (rw h refl, omega (arith, room))
+
+-- with places enough a kept folder takes changes that apply in order
+pub takes_applicable : (state : FolderState) (cs : List Change) → are_applicable state.files cs ≡ true → places_taken cs ≤ state.vacant → takes_all state cs ≡ true
+unfolding are_applicable takes_all
+takes_applicable state [] h room = refl
+takes_applicable state (c ∷ cs) h room =
+    let r = and_parts (is_applicable state.files c) (are_applicable (effect state.files c) cs) h in
+    let taken = refusal_none state c (places_taken cs) r.0 (subst (λ n. n ≤ state.vacant) (sym (one_place c cs)) room) in
+    and_from _ _ taken.0 (takes_applicable (state_after state c) cs r.1 taken.1)
+
+pub state_files : (state : FolderState) (cs : List Change) → (state_after_all state cs).files ≡ effects state.files cs
+unfolding effects state_after_all
+state_files state [] = refl
+state_files state (c ∷ cs) = state_files (state_after state c) cs

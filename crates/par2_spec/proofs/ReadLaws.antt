@@ -1,0 +1,239 @@
+-- What holds of a set that reads, and of the names that are searched.
+use Rattle.std.proofs.Common.{◌≡◌, ℕ, suc, ◌≤◌, List, [], ◌∷◌, ◌++◌, length, map, inl, inr, refl, sym, ap, ◌∙◌, subst, cond, true, false, Bool, not, ◌&&◌, ◌||◌, arith}
+use Rattle.std.specs.Prelude.{filter, filter_map, flat_map, find, slice_get, sum_by, nat_le, Option, Some, None, is_some, unwrap_or, option_map, option_and_then, Result, Ok, Err, ok_or, ◌==◌, ◌%◌, if◌then◌else◌}
+use Rattle.std.specs.List.{list_all}
+use Rattle.std.specs.Str.{bytes_eq}
+use Rattle.std.proofs.lemmas.List.{length-map}
+use Rattle.std.proofs.lemmas.List.Folds.{list_all-map}
+use Rattle.std.proofs.lemmas.Bool.{and_parts, and_from, or_cases, or_left, or_right, false_from_ne_true, eqb-true, leb-true}
+use Rattle.par2_spec.specs.declared.Fault.{Fault}
+use Rattle.par2_spec.specs.declared.Fault.TheVariants.{NoPackets, NoMain, NoDescription, NoChecksums, BadSet}
+use Rattle.par2_spec.specs.Checksums.{Pair}
+use Rattle.par2_spec.specs.Slices.{slice_count}
+use Rattle.par2_spec.specs.Names.{is_name, is_among, distinct}
+use Rattle.par2_spec.specs.Packets.{Packet, accepted, MainBody, DescBody, read_ifsc}
+use Rattle.par2_spec.specs.Folders.{Folder, has, bytes_of}
+use Rattle.par2_spec.specs.Sets.{ParSet, Target, ◌>>=◌, unless, all_some, is_slice_size, packets_with, main_of, description_of, pairs_of, target_of, are_in_profile, recovery_of, read_set, other_par_names, set_of}
+use Rattle.par2_spec.specs.Search.{candidates, known, lost}
+use Rattle.par2_spec.specs.Rules.{IsSound, AreFew, FitsRepair, lost_of_unmatched}
+use Rattle.par2_spec.proofs.NamesLaws.{same_name, itself, clash, false_true, among-filter, among-append, AreDistinct, std_from_distinct}
+use Rattle.par2_spec.proofs.FoundLaws.{AreSized, lost_is}
+
+-- ---- each name once
+
+among-distinct : (xs : List (List ℕ)) (q : List ℕ) → is_among (distinct xs) q ≡ is_among xs q
+among-distinct [] q = refl
+among-distinct (x ∷ xs) q =
+    ap (λ b. bytes_eq q x || b) (among-filter (λ other. not (bytes_eq x other)) (distinct xs) q ∙ ap (λ b. b && not (bytes_eq x q)) (among-distinct xs q))
+    ∙ step (bytes_eq q x) (bytes_eq x q) (is_among xs q) (λ e. subst (λ y. bytes_eq q y ≡ true) (sym (same_name x q e)) (itself q))
+  where
+    step : (b c r : Bool) → (c ≡ true → b ≡ true) → (b || (r && not c)) ≡ (b || r)
+    step true c r k = refl
+    step false true r k = absurd (false_true (k refl))
+    step false false true k = refl
+    step false false false k = refl
+
+length-filter-le : (p : List ℕ → Bool) (xs : List (List ℕ)) → length (filter p xs) ≤ length xs
+length-filter-le p [] = omega arith
+length-filter-le p (x ∷ xs) = step (p x) (filter p xs) (length-filter-le p xs)
+  where
+    step : (b : Bool) (ys : List (List ℕ)) → length ys ≤ length xs → length (cond b (x ∷ ys) ys) ≤ suc (length xs)
+    step true ys h = omega (arith, h)
+    step false ys h = omega (arith, h)
+
+-- a filter that keeps the length keeps all
+filter_full : (p : List ℕ → Bool) (xs : List (List ℕ)) → length (filter p xs) ≡ length xs → (q : List ℕ) → is_among xs q ≡ true → p q ≡ true
+filter_full p [] e q h = absurd (false_true h)
+filter_full p (x ∷ xs) e q h =
+    let r = step (p x) (filter p xs) (length-filter-le p xs) e in
+    elim (or_cases (bytes_eq q x) (is_among xs q) h) as (λ _. p q ≡ true) [
+      | inl here ↦ subst (λ y. p y ≡ true) (sym (same_name q x here)) r.0
+      | inr there ↦ filter_full p xs r.1 q there
+    ]
+  where
+    step : (b : Bool) (ys : List (List ℕ)) → length ys ≤ length xs → length (cond b (x ∷ ys) ys) ≡ suc (length xs) → (b ≡ true) × (length ys ≡ length xs)
+    step true ys h k = (refl, omega (arith, k))
+    step false ys h k = absurd (omega (arith, h, k))
+
+length-distinct-le : (xs : List (List ℕ)) → length (distinct xs) ≤ length xs
+length-distinct-le [] = omega arith
+length-distinct-le (x ∷ xs) = omega (arith, length-filter-le (λ other. not (bytes_eq x other)) (distinct xs), length-distinct-le xs)
+
+-- names of which none is left out are distinct
+pub distinct_by_length : (xs : List (List ℕ)) → length (distinct xs) ≡ length xs → AreDistinct xs
+distinct_by_length [] e = tt
+distinct_by_length (x ∷ xs) e =
+    let p = (λ (other : List ℕ). not (bytes_eq x other)) in
+    let a : length (filter p (distinct xs)) ≤ length (distinct xs) = length-filter-le p (distinct xs) in
+    let b : length (distinct xs) ≤ length xs = length-distinct-le xs in
+    let c : suc (length (filter p (distinct xs))) ≡ suc (length xs) = e in (
+      false_from_ne_true _ (λ h. clash (filter_full p (distinct xs) (omega (arith, a, b, c)) x (among-distinct xs x ∙ h)) (ap not (itself x))),
+      distinct_by_length xs (omega (arith, a, b, c)),
+    )
+
+-- ---- a set that reads
+
+abbrev came_out : {A : Type 0} → Result A Fault → Bool
+came_out (Ok a) = true
+came_out (Err e) = false
+
+abbrev value_or : {A : Type 0} → A → Result A Fault → A
+value_or d (Ok a) = a
+value_or d (Err e) = d
+
+took : {A B : Type 0} (r : Result A Fault) (f : A → Result B Fault) (b : B) → (r >>= f) ≡ Ok b → (a : A) × (r ≡ Ok a) × (f a ≡ Ok b)
+took (Ok a) f b h = (a, refl, h)
+took (Err e) f b h = absurd (false_true (ap came_out h))
+
+was_some : {A : Type 0} (o : Option A) (e : Fault) (a : A) → ok_or o e ≡ Ok a → o ≡ Some a
+was_some None e a h = absurd (false_true (ap came_out h))
+was_some (Some x) e a h = ap (λ r. Some (value_or x r)) h
+
+passed : (b : Bool) (e : Fault) (c : Bool) → unless b e ≡ Ok c → b ≡ true
+passed true e c h = refl
+passed false e c h = absurd (false_true (ap came_out h))
+
+mapped : {A B : Type 0} (f : A → B) (o : Option A) (b : B) → option_map f o ≡ Some b → (a : A) × (o ≡ Some a) × (f a ≡ b)
+mapped f None b h = absurd (false_true (ap is_some h))
+mapped f (Some a) b h = (a, refl, ap (λ p. unwrap_or p (f a)) h)
+
+chained : {A B : Type 0} (f : A → Option B) (o : Option A) (b : B) → option_and_then f o ≡ Some b → (a : A) × (o ≡ Some a) × (f a ≡ Some b)
+chained f None b h = absurd (false_true (ap is_some h))
+chained f (Some a) b h = (a, refl, h)
+
+find_passes : {A : Type 0} (p : A → Bool) (xs : List A) (a : A) → find p xs ≡ Some a → p a ≡ true
+find_passes p [] a h = absurd (false_true (ap is_some h))
+find_passes {A = A} p (x ∷ xs) a h = step (p x) refl h (find_passes p xs a)
+  where
+    step : (b : Bool) → p x ≡ b → cond b (Some x) (find p xs) ≡ Some a → (find p xs ≡ Some a → p a ≡ true) → p a ≡ true
+    step true e k later = subst (λ y. p y ≡ true) (ap (λ o. unwrap_or o x) k) e
+    step false e k later = later k
+
+enough_pairs : (packets : List Packet) (id : List ℕ) (n : ℕ) (pairs : List Pair) → pairs_of packets id n ≡ Some pairs → length pairs ≤ n
+enough_pairs packets id n pairs h =
+    let found = mapped (λ c. c.pairs) (find (λ c. bytes_eq c.id id && length c.pairs == n) (filter_map (λ p. read_ifsc p.kind p.body) packets)) pairs h in
+    let right = find_passes (λ c. bytes_eq c.id id && length c.pairs == n) (filter_map (λ p. read_ifsc p.kind p.body) packets) found.0 found.1 in
+    let e : length found.0.pairs ≡ n = eqb-true _ _ (and_parts (bytes_eq found.0.id id) _ right).1 in
+    subst (λ ps. length ps ≤ n) found.2 (omega (arith, e))
+
+pairs_fit : (packets : List Packet) (id : List ℕ) (n : ℕ) (empty : Bool) (pairs : List Pair) → (if empty then Some [] else pairs_of packets id n) ≡ Some pairs → length pairs ≤ n
+pairs_fit packets id n true pairs h = subst (λ ps. length ps ≤ n) (ap (λ o. unwrap_or o []) h) (omega arith)
+pairs_fit packets id n false pairs h = enough_pairs packets id n pairs h
+
+abbrev target_with : DescBody → List Pair → Target
+target_with d pairs = record { name = d.name; size = d.size; digest = d.digest; pairs = pairs }
+
+of_target : (packets : List Packet) (s : ℕ) (d : DescBody) (t : Target) → target_of packets s d ≡ Some t → (t.name ≡ d.name) × (length t.pairs ≤ slice_count s t.size)
+of_target packets s d t h =
+    let r = mapped (target_with d) (if d.size == 0 then Some [] else pairs_of packets d.id (slice_count s d.size)) t h in
+    subst (λ u. (u.name ≡ d.name) × (length u.pairs ≤ slice_count s u.size)) r.2 (refl, pairs_fit packets d.id (slice_count s d.size) (d.size == 0) r.0 r.1)
+
+abbrev AreTargetsOf : ℕ → List DescBody → List Target → Type 0
+AreTargetsOf s ds ts = (map (λ t. t.name) ts ≡ map (λ d. d.name) ds) × AreSized s ts
+
+targets_are : (packets : List Packet) (s : ℕ) (ds : List DescBody) (ts : List Target) → all_some (map (target_of packets s) ds) ≡ Some ts → AreTargetsOf s ds ts
+targets_are packets s [] ts h = subst (AreTargetsOf s []) (ap (λ o. unwrap_or o []) h) (refl, tt)
+targets_are packets s (d ∷ ds) ts h =
+    let a = chained (λ t. option_map (λ us. t ∷ us) (all_some (map (target_of packets s) ds))) (target_of packets s d) ts h in
+    let b = mapped (λ us. a.0 ∷ us) (all_some (map (target_of packets s) ds)) ts a.2 in
+    let first = of_target packets s d a.0 a.1 in
+    let rest = targets_are packets s ds b.0 b.1 in
+    subst (AreTargetsOf s (d ∷ ds)) b.2 (ap (λ n. n ∷ map (λ t. t.name) b.0) first.0 ∙ ap (λ ns. d.name ∷ ns) rest.0, (first.1, rest.1))
+
+-- the steps of the reading, the last one first
+abbrev finished : List ℕ → List Packet → ℕ → List Target → Result ParSet Fault
+finished id packets s targets = Ok (record { id = id; slice_size = s; targets = targets; recovery = recovery_of packets s })
+
+abbrev by_checksums : List ℕ → List Packet → ℕ → List DescBody → Bool → Result ParSet Fault
+by_checksums id packets s described in_profile = ok_or (all_some (map (target_of packets s) described)) NoChecksums >>= finished id packets s
+
+abbrev by_profile : List ℕ → List Packet → ℕ → List DescBody → Result ParSet Fault
+by_profile id packets s described = unless (are_in_profile s described) BadSet >>= by_checksums id packets s described
+
+abbrev by_descriptions : List ℕ → List Packet → MainBody → Bool → Result ParSet Fault
+by_descriptions id packets main right_size = ok_or (all_some (map (description_of packets) main.ids)) NoDescription >>= by_profile id packets main.slice_size
+
+abbrev by_size : List ℕ → List Packet → MainBody → Result ParSet Fault
+by_size id packets main = unless (is_slice_size main.slice_size) BadSet >>= by_descriptions id packets main
+
+abbrev by_main : List ℕ → List (List ℕ) → Packet → Result ParSet Fault
+by_main base others first =
+    let packets = packets_with first.set_id (flat_map accepted (base ∷ others)) in
+    ok_or (main_of first.set_id packets) NoMain >>= by_size first.set_id packets
+
+-- a set that reads is sound
+pub sound_set : (base : List ℕ) (others : List (List ℕ)) (set : ParSet) → read_set base others ≡ Ok set → IsSound set
+unfolding read_set
+sound_set base others set h =
+    let first = took (ok_or (slice_get (accepted base) 0) NoPackets) (by_main base others) set h in
+    let id = first.0.set_id in
+    let packets = packets_with id (flat_map accepted (base ∷ others)) in
+    let main = took (ok_or (main_of id packets) NoMain) (by_size id packets) set first.2 in
+    let s = main.0.slice_size in
+    let size = took (unless (is_slice_size s) BadSet) (by_descriptions id packets main.0) set main.2 in
+    let described = took (ok_or (all_some (map (description_of packets) main.0.ids)) NoDescription) (by_profile id packets s) set size.2 in
+    let profile = took (unless (are_in_profile s described.0) BadSet) (by_checksums id packets s described.0) set described.2 in
+    let targets = took (ok_or (all_some (map (target_of packets s) described.0)) NoChecksums) (finished id packets s) set profile.2 in
+    let are = targets_are packets s described.0 targets.0 (was_some (all_some (map (target_of packets s) described.0)) NoChecksums targets.0 targets.1) in
+    let least : 4 ≤ s = leb-true 4 s (and_parts (s % 4 == 0) _ (and_parts (s % 4 == 0 && nat_le 4 s) _ (passed (is_slice_size s) BadSet size.0 size.1)).0).1 in
+    let once : length (distinct (map (λ d. d.name) described.0)) ≡ length described.0 =
+    eqb-true _ _ (and_parts _ (length (distinct (map (λ d. d.name) described.0)) == length described.0) (passed (are_in_profile s described.0) BadSet profile.0 profile.1)).1 in
+    subst IsSound (ap (value_or set) targets.2)
+    (record {
+      are_names = ap (list_all is_name) are.0 ∙ list_all-map is_name (λ d. d.name) described.0
+          ∙ (and_parts (nat_le (sum_by (λ d. slice_count s d.size) described.0) 32768) (list_all (λ d. is_name d.name) described.0)
+          (and_parts _ (length (distinct (map (λ d. d.name) described.0)) == length described.0) (passed (are_in_profile s described.0) BadSet profile.0 profile.1)).0).1;
+      names_once = std_from_distinct _ (subst AreDistinct (sym are.0) (distinct_by_length (map (λ d. d.name) described.0) (once ∙ sym (length-map described.0 (λ d. d.name)))));
+      slice_positive = omega (arith, least);
+      pairs_enough = are.1;
+    })
+
+-- ---- the names that are searched
+
+all_of : (folder : Folder) (searched : List (List ℕ)) → ((q : List ℕ) → is_among searched q ≡ true → has folder q ≡ true) → list_all (has folder) searched ≡ true
+all_of folder [] h = refl
+all_of folder (x ∷ searched) h = and_from _ _ (h x (or_left _ _ (itself x))) (all_of folder searched (λ q i. h q (or_right _ _ i)))
+
+pub each_there : (folder : Folder) (extras : List (List ℕ)) → list_all (has folder) extras ≡ true → (q : List ℕ) → is_among extras q ≡ true → has folder q ≡ true
+each_there folder [] h q i = absurd (false_true i)
+each_there folder (x ∷ extras) h q i =
+    let r = and_parts (has folder x) (list_all (has folder) extras) h in
+    elim (or_cases (bytes_eq q x) (is_among extras q) i) as (λ _. has folder q ≡ true) [
+      | inl here ↦ subst (λ y. has folder y ≡ true) (sym (same_name q x here)) r.0
+      | inr there ↦ each_there folder extras r.1 q there
+    ]
+
+candidates_are : (folder : Folder) (set : ParSet) (extras : List (List ℕ)) (q : List ℕ) → is_among (candidates folder set extras) q ≡ ((is_among (map (λ t. t.name) set.targets) q && has folder q) || is_among extras q)
+candidates_are folder set extras q =
+    among-distinct (filter (has folder) (map (λ t. t.name) set.targets) ++ extras) q
+    ∙ among-append (filter (has folder) (map (λ t. t.name) set.targets)) extras q
+    ∙ ap (λ b. b || is_among extras q) (among-filter (has folder) (map (λ t. t.name) set.targets) q)
+
+-- where the extra names are in the folder, all candidates are
+pub candidates_there : (folder : Folder) (set : ParSet) (extras : List (List ℕ)) → list_all (has folder) extras ≡ true → (q : List ℕ) → is_among (candidates folder set extras) q ≡ true → has folder q ≡ true
+candidates_there folder set extras h q i = elim (or_cases (is_among (map (λ t. t.name) set.targets) q && has folder q) (is_among extras q) (sym (candidates_are folder set extras q) ∙ i)) as (λ _. has folder q ≡ true) [
+  | inl own ↦ (and_parts (is_among (map (λ t. t.name) set.targets) q) (has folder q) own).1
+  | inr extra ↦ each_there folder extras h q extra
+]
+
+-- each target in the folder is a candidate
+pub present_searched : (folder : Folder) (set : ParSet) (extras : List (List ℕ)) (q : List ℕ) → is_among (map (λ t. t.name) set.targets) q ≡ true → has folder q ≡ true → is_among (candidates folder set extras) q ≡ true
+present_searched folder set extras q i h = candidates_are folder set extras q ∙ or_left _ _ (and_from _ _ i h)
+
+-- ---- what follows for a set of a folder
+
+pub sound_of : (folder : Folder) (base : List ℕ) (set : ParSet) → set_of folder base ≡ Ok set → IsSound set
+unfolding set_of
+sound_of folder base set h = sound_set (bytes_of folder base) (map (bytes_of folder) (other_par_names folder base)) set h
+
+pub fits_of : (folder : Folder) (base : List ℕ) (set : ParSet) (extras : List (List ℕ)) → set_of folder base ≡ Ok set → list_all (has folder) extras ≡ true → AreFew folder set → FitsRepair folder set (candidates folder set extras)
+fits_of folder base set extras h there few = record {
+  names_once = (sound_of folder base set h).names_once;
+  all_there = all_of folder (candidates folder set extras) (candidates_there folder set extras there);
+  few = few;
+}
+
+pub lost_of : (folder : Folder) (base : List ℕ) (set : ParSet) (extras : List (List ℕ)) → set_of folder base ≡ Ok set → lost (known folder set (candidates folder set extras)) ≡ lost_of_unmatched folder set (candidates folder set extras)
+lost_of folder base set extras h =
+    let sound = sound_of folder base set h in
+    lost_is folder set (candidates folder set extras) sound.slice_positive sound.pairs_enough (present_searched folder set extras)

@@ -1,0 +1,156 @@
+-- What the matches of a set are.
+use Rattle.std.proofs.Common.{◌≡◌, ◌&&◌, ℕ, List, [], ◌∷◌, map, inl, inr, refl, sym, ap, ◌∙◌, subst, cond, true, false, Bool, not, ◌||◌, ◌++◌}
+use Rattle.std.specs.Prelude.{filter, filter_map, find, zip, Option, Some, None, option_to_list, unwrap_or, is_some}
+use Rattle.std.specs.List.{cons_option}
+use Rattle.std.specs.Str.{bytes_eq}
+use Rattle.std.proofs.lemmas.Bool.{and_parts, or_cases, or_left, or_right, false_from_ne_true}
+use Rattle.par2_spec.specs.Names.{is_among}
+use Rattle.par2_spec.specs.Folders.{Folder, bytes_of}
+use Rattle.par2_spec.specs.Sets.{ParSet, Target}
+use Rattle.par2_spec.specs.Search.{is_intact, matched, matches, needing, intact_names}
+use Rattle.par2_spec.specs.Rules.{AreFirstMatches}
+use Rattle.par2_spec.proofs.NamesLaws.{same_name, itself, clash, false_true, AreDistinct, among-filter, among-append}
+
+-- the targets with their matches, and the matches alone
+abbrev pub pairs_with : Folder → ℕ → List (List ℕ) → List Target → List (Target × Option (List ℕ))
+pairs_with folder s free ts = zip ts (matched folder s free ts)
+
+abbrev pub taken_by : Folder → ℕ → List (List ℕ) → List Target → List (List ℕ)
+taken_by folder s free ts = filter_map (λ m. m.1) (pairs_with folder s free ts)
+
+abbrev without_found : Option (List ℕ) → List (List ℕ) → List (List ℕ)
+without_found found free = filter (λ name. not (is_among (option_to_list found) name)) free
+
+pub names_of_pairs : (folder : Folder) (s : ℕ) (free : List (List ℕ)) (ts : List Target) → map (λ m. m.0.name) (pairs_with folder s free ts) ≡ map (λ t. t.name) ts
+names_of_pairs folder s free [] = refl
+names_of_pairs folder s free (t ∷ ts) =
+    ap (λ ns. t.name ∷ ns) (names_of_pairs folder s (without_found (find (λ name. is_intact s t (bytes_of folder name)) free) free) ts)
+
+-- what is found is one of the names, and passes
+pub found_passes : (p : List ℕ → Bool) (names : List (List ℕ)) (q : List ℕ) → find p names ≡ Some q → (is_among names q ≡ true) × (p q ≡ true)
+found_passes p [] q h = absurd (false_true (ap is_some h))
+found_passes p (x ∷ names) q h = step (p x) refl h (found_passes p names q)
+  where
+    same : Some x ≡ Some q → x ≡ q
+    same e = ap (λ o. unwrap_or o x) e
+
+    step : (b : Bool) → p x ≡ b → cond b (Some x) (find p names) ≡ Some q → (find p names ≡ Some q → (is_among names q ≡ true) × (p q ≡ true)) → (is_among (x ∷ names) q ≡ true) × (p q ≡ true)
+    step true i e k = (or_left _ _ (subst (λ y. bytes_eq q y ≡ true) (sym (same e)) (itself q)), subst (λ y. p y ≡ true) (same e) i)
+    step false i e k = let r = k e in (or_right (bytes_eq q x) (is_among names q) r.0, r.1)
+
+-- what is taken was free
+pub taken_was_free : (folder : Folder) (s : ℕ) (free : List (List ℕ)) (ts : List Target) (q : List ℕ) → is_among (taken_by folder s free ts) q ≡ true → is_among free q ≡ true
+taken_was_free folder s free [] q h = absurd (false_true h)
+taken_was_free folder s free (t ∷ ts) q h =
+    let p = (λ (name : List ℕ). is_intact s t (bytes_of folder name)) in
+    step (find p free) (λ x e. (found_passes p free x e).0) (taken_by folder s (without_found (find p free) free) ts) (λ i. (and_parts _ _ (sym (among-filter (λ name. not (is_among (option_to_list (find p free)) name)) free q) ∙ taken_was_free folder s (without_found (find p free) free) ts q i)).0) h
+  where
+    step : (found : Option (List ℕ)) → ((x : List ℕ) → found ≡ Some x → is_among free x ≡ true) → (rest : List (List ℕ)) → (is_among rest q ≡ true → is_among free q ≡ true) → is_among (cons_option found rest) q ≡ true → is_among free q ≡ true
+    step None k rest r i = r i
+    step (Some x) k rest r i = elim (or_cases (bytes_eq q x) (is_among rest q) i) as (λ _. is_among free q ≡ true) [
+      | inl here ↦ subst (λ y. is_among free y ≡ true) (sym (same_name q x here)) (k x refl)
+      | inr there ↦ r there
+    ]
+
+-- and each name is taken once
+pub taken_once : (folder : Folder) (s : ℕ) (free : List (List ℕ)) (ts : List Target) → AreDistinct (taken_by folder s free ts)
+taken_once folder s free [] = tt
+taken_once folder s free (t ∷ ts) =
+    let p = (λ (name : List ℕ). is_intact s t (bytes_of folder name)) in
+    step (find p free) (taken_by folder s (without_found (find p free) free) ts)
+    (λ q i. (and_parts _ _ (sym (among-filter (λ name. not (is_among (option_to_list (find p free)) name)) free q) ∙ taken_was_free folder s (without_found (find p free) free) ts q i)).1)
+    (taken_once folder s (without_found (find p free) free) ts)
+  where
+    no_other : (x : List ℕ) → not (is_among (x ∷ []) x) ≡ true → ⊥
+    no_other x h = clash h (ap (λ b. not (b || false)) (itself x))
+
+    step : (found : Option (List ℕ)) (rest : List (List ℕ)) → ((q : List ℕ) → is_among rest q ≡ true → not (is_among (option_to_list found) q) ≡ true) → AreDistinct rest → AreDistinct (cons_option found rest)
+    step None rest k d = d
+    step (Some x) rest k d = (false_from_ne_true _ (λ i. no_other x (k x i)), d)
+
+-- ---- the rule of matches
+
+-- the first that passes both tests is the first that passes one among those that pass the other
+find-filter : (p r : List ℕ → Bool) (xs : List (List ℕ)) → find p (filter r xs) ≡ find (λ x. p x && r x) xs
+find-filter p r [] = refl
+find-filter p r (x ∷ xs) = step (r x) (filter r xs) ∙ ap (cond (p x && r x) (Some x)) (find-filter p r xs)
+  where
+    all_of : (c : Bool) → (c && true) ≡ c
+    all_of true = refl
+    all_of false = refl
+
+    none_of : (c : Bool) → (c && false) ≡ false
+    none_of true = refl
+    none_of false = refl
+
+    step : (b : Bool) (ys : List (List ℕ)) → find p (cond b (x ∷ ys) ys) ≡ cond (p x && b) (Some x) (find p ys)
+    step true ys = ap (λ c. cond c (Some x) (find p ys)) (sym (all_of (p x)))
+    step false ys = ap (λ c. cond c (Some x) (find p ys)) (sym (none_of (p x)))
+
+find_alike : (p r : List ℕ → Bool) (xs : List (List ℕ)) → ((x : List ℕ) → p x ≡ r x) → find p xs ≡ find r xs
+find_alike p r [] h = refl
+find_alike p r (x ∷ xs) h = ap (λ b. cond b (Some x) (find p xs)) (h x) ∙ ap (cond (r x) (Some x)) (find_alike p r xs h)
+
+filter-filter : (p r : List ℕ → Bool) (xs : List (List ℕ)) → filter p (filter r xs) ≡ filter (λ x. r x && p x) xs
+filter-filter p r [] = refl
+filter-filter p r (x ∷ xs) = step (r x) (filter r xs) ∙ ap (λ ys. cond (r x && p x) (x ∷ ys) ys) (filter-filter p r xs)
+  where
+    step : (b : Bool) (ys : List (List ℕ)) → filter p (cond b (x ∷ ys) ys) ≡ cond (b && p x) (x ∷ filter p ys) (filter p ys)
+    step true ys = refl
+    step false ys = refl
+
+filter_alike : (p r : List ℕ → Bool) (xs : List (List ℕ)) → ((x : List ℕ) → p x ≡ r x) → filter p xs ≡ filter r xs
+filter_alike p r [] h = refl
+filter_alike p r (x ∷ xs) h = ap (λ b. cond b (x ∷ filter p xs) (filter p xs)) (h x) ∙ ap (λ ys. cond (r x) (x ∷ ys) ys) (filter_alike p r xs h)
+
+-- the names that are free after the matches so far
+abbrev free_after : List (List ℕ) → List (List ℕ) → List (List ℕ) → List (List ℕ)
+free_after searched intact before = filter (λ name. not (is_among intact name) && not (is_among before name)) searched
+
+one_more : (searched intact before more : List (List ℕ)) → filter (λ name. not (is_among more name)) (free_after searched intact before) ≡ free_after searched intact (before ++ more)
+one_more searched intact before more =
+    filter-filter (λ name. not (is_among more name)) (λ name. not (is_among intact name) && not (is_among before name)) searched
+    ∙ filter_alike _ _ searched (λ x. three (is_among intact x) (is_among before x) (is_among more x) ∙ ap (λ b. not (is_among intact x) && not b) (sym (among-append before more x)))
+  where
+    three : (a b c : Bool) → (not a && not b && not c) ≡ (not a && not (b || c))
+    three true b c = refl
+    three false true c = refl
+    three false false c = refl
+
+first_matches : (folder : Folder) (s : ℕ) (searched intact before : List (List ℕ)) (ts : List Target) → AreFirstMatches folder s searched intact before (pairs_with folder s (free_after searched intact before) ts)
+first_matches folder s searched intact before [] = tt
+first_matches folder s searched intact before (t ∷ ts) =
+    let p = (λ (name : List ℕ). is_intact s t (bytes_of folder name)) in
+    let found = find p (free_after searched intact before) in (
+      find-filter p (λ name. not (is_among intact name) && not (is_among before name)) searched
+          ∙ find_alike _ _ searched (λ x. three (p x) (not (is_among intact x)) (not (is_among before x))),
+      subst (λ free. AreFirstMatches folder s searched intact (before ++ option_to_list found) (pairs_with folder s free ts)) (sym (one_more searched intact before (option_to_list found)))
+          (first_matches folder s searched intact (before ++ option_to_list found) ts),
+    )
+  where
+    three : (a b c : Bool) → (a && (b && c)) ≡ ((a && b) && c)
+    three true b c = refl
+    three false b c = refl
+
+-- the matches of a set are those of the rule, in target order
+pub matches_follow : (folder : Folder) (set : ParSet) (searched : List (List ℕ)) → AreFirstMatches folder set.slice_size searched (intact_names folder set) [] (matches folder set searched)
+unfolding matches
+matches_follow folder set searched =
+    subst (λ free. AreFirstMatches folder set.slice_size searched (intact_names folder set) [] (pairs_with folder set.slice_size free (needing folder set)))
+    (filter_alike _ _ searched (λ x. always (not (is_among (intact_names folder set) x))))
+    (first_matches folder set.slice_size searched (intact_names folder set) [] (needing folder set))
+  where
+    always : (b : Bool) → (b && true) ≡ b
+    always true = refl
+    always false = refl
+
+targets_of_pairs : (folder : Folder) (s : ℕ) (free : List (List ℕ)) (ts : List Target) → map (λ m. m.0) (pairs_with folder s free ts) ≡ ts
+targets_of_pairs folder s free [] = refl
+targets_of_pairs folder s free (t ∷ ts) =
+    ap (λ us. t ∷ us) (targets_of_pairs folder s (without_found (find (λ name. is_intact s t (bytes_of folder name)) free) free) ts)
+
+-- each needing target stands there, in order
+pub matches_of_needing : (folder : Folder) (set : ParSet) (searched : List (List ℕ)) → map (λ m. m.0) (matches folder set searched) ≡ needing folder set
+unfolding matches
+matches_of_needing folder set searched =
+    targets_of_pairs folder set.slice_size (filter (λ name. not (is_among (intact_names folder set) name)) searched) (needing folder set)

@@ -1,0 +1,152 @@
+-- What a folder with a journal opens as.
+use Rattle.std.specs.Prelude.{◌≡◌, ◌⊎◌, ℕ, ◌-◌, ◌&&◌, Bool, true, false, not, List, [], ◌∷◌, ◌++◌, length, take, drop, reverse, position, Option, Some, None, Result, Ok, Err, if◌then◌else◌, map}
+use Rattle.std.specs.Str.{bytes_eq}
+use Rattle.std.specs.List.{AllByRecursion, Contains}
+use Rattle.par2_spec.specs.Folders.{Folder, fingerprint}
+use Rattle.par2_spec.specs.Changes.{Change, effect, effects, is_applicable, are_applicable, way_back, folders_after}
+use Rattle.par2_spec.specs.Commands.{Command, Create, Verify, Repair, Purge, Action, Do, Undo, Redo}
+use Rattle.par2_spec.specs.History.{Refusal}
+use Rattle.par2_spec.specs.Sessions.{Session, session_with}
+use Rattle.par2_spec.specs.Journals.{Journal, Halfway, Spells}
+use Rattle.par2_spec.specs.declared.JournalFault.{JournalFault}
+use Rattle.par2_spec.specs.declared.JournalFault.TheVariants.{JournalInvalid, FolderChanged}
+use Rattle.par2_spec.specs.declared.Version.{Version}
+use Rattle.par2_spec.specs.declared.Version.TheVariants.{One, Two}
+
+-- ---- the journals of a session
+
+-- the settled journal of a session. Version 1 keeps what an undo applies alone
+unfoldable pub settled_journal : Version → Session → Journal
+unfolding fingerprint
+settled_journal One s = record { version = One; fingerprint = fingerprint s.folder; cursor = length s.undos; entries = reverse s.undos; halfway = None }
+settled_journal Two s = record { version = Two; fingerprint = fingerprint s.folder; cursor = length s.undos; entries = reverse s.undos ++ s.redos; halfway = None }
+
+-- the journal of a session that is about to make these changes, at least one: the fingerprint after each, and
+-- the way back
+unfoldable pub halfway_journal : Version → Session → List Change → Journal
+unfolding settled_journal way_back folders_after
+halfway_journal v s changes = record (settled_journal v s) {
+  halfway = Some (record { fingerprints = map fingerprint (folders_after s.folder changes); back = way_back s.folder changes });
+}
+
+-- the two journals of an action that applies these changes: the halfway one where there is a change, and the
+-- settled one of the session afterwards
+pub record JournalPair : Type 0 where
+  pub before : Option Journal
+  pub after : Journal
+
+abbrev pub halfway_where : Version → Session → List Change → Option Journal
+halfway_where v s [] = None
+halfway_where v s (change ∷ changes) = Some (halfway_journal v s (change ∷ changes))
+
+unfoldable pub journals_of : Version → Session → Action → List Change → JournalPair
+unfolding halfway_journal settled_journal session_with
+journals_of v s action changes = record {
+  before = halfway_where v s changes;
+  after = settled_journal v (session_with s action changes);
+}
+
+-- ---- opening
+
+-- whether the entries can be applied one after the other
+unfoldable pub leads : Folder → List (List Change) → Bool
+unfolding are_applicable effects
+leads folder [] = true
+leads folder (entry ∷ entries) = are_applicable folder entry && leads (effects folder entry) entries
+
+-- the session of the entries, the folder being the one from which they lead
+abbrev pub session_of : Folder → Journal → Session
+session_of folder j = record { folder = folder; undos = reverse (take j.cursor j.entries); redos = drop j.cursor j.entries }
+
+-- all undos can be applied, and all redos
+abbrev pub is_valid : Session → Bool
+is_valid s = leads s.folder s.undos && leads s.folder s.redos
+
+-- whether the changes can be applied, and leave folders with these fingerprints one after the other
+unfoldable pub leads_through : Folder → List Change → List (List ℕ) → Bool
+unfolding is_applicable effect fingerprint
+leads_through folder [] prints = true
+leads_through folder (change ∷ changes) [] = false
+leads_through folder (change ∷ changes) (print ∷ prints) =
+    is_applicable folder change && bytes_eq (fingerprint (effect folder change)) print
+    && leads_through (effect folder change) changes prints
+
+-- what a journal opens as: a session; or a command to be taken back by these changes, and the session afterwards
+pub data Opened : Type 0 where
+  Settled : Session → Opened
+  ToTakeBack : Session → List Change → Opened
+
+-- the session that an opened journal leads to
+abbrev pub session_opened : Opened → Session
+session_opened (Settled s) = s
+session_opened (ToTakeBack s back) = s
+
+-- a folder after the first k changes of a command that was begun
+unfoldable pub taken_back : Folder → Journal → Halfway → ℕ → Result Opened JournalFault
+unfolding leads_through effects leads
+taken_back folder j h k =
+    let back = drop (length h.back - k) h.back in
+    let session = session_of (effects folder back) j in
+    if leads_through folder back (reverse (take k (j.fingerprint ∷ h.fingerprints))) && is_valid session
+    then Ok (ToTakeBack session back)
+    else Err JournalInvalid
+
+abbrev pub opened_at : Folder → Journal → Halfway → Option ℕ → Result Opened JournalFault
+opened_at folder j h None = Err (FolderChanged true)
+opened_at folder j h (Some k) = taken_back folder j h k
+
+-- a settled journal wants the folder that it was made for. In a halfway one the folder is the one after the least
+-- number of changes whose fingerprint it has
+abbrev pub opened_by : Folder → Journal → Option Halfway → Result Opened JournalFault
+opened_by folder j None =
+    if not (bytes_eq (fingerprint folder) j.fingerprint) then Err (FolderChanged false)
+    else if is_valid (session_of folder j) then Ok (Settled (session_of folder j))
+    else Err JournalInvalid
+opened_by folder j (Some h) =
+    opened_at folder j h (position (bytes_eq (fingerprint folder)) (j.fingerprint ∷ h.fingerprints))
+
+-- what a folder with this journal opens as
+unfoldable pub opened : Folder → Journal → Result Opened JournalFault
+unfolding fingerprint taken_back leads
+opened folder j = opened_by folder j j.halfway
+
+-- what a folder with this text opens as: the journal that the text spells decides, and a text that spells none is
+-- refused
+unfoldable pub Opens : Folder → List ℕ → Result Opened JournalFault → Type 0
+unfolding opened
+Opens folder text answer =
+    ((j : Journal) × Spells text j × (answer ≡ opened folder j))
+    ⊎ (((j : Journal) → Spells text j → ⊥) × (answer ≡ Err JournalInvalid))
+
+-- ---- what a store opens as
+
+-- a session, and whether a history was dropped
+pub record Started : Type 0 where
+  pub session : Session
+  pub dropped : Bool
+
+abbrev pub new_session : Folder → Session
+new_session folder = record { folder = folder; undos = []; redos = [] }
+
+-- a settled journal of another folder is dropped, a halfway one is refused
+abbrev pub started : Folder → Result Opened JournalFault → Result Started JournalFault
+started folder (Ok o) = Ok (record { session = session_opened o; dropped = false })
+started folder (Err (FolderChanged false)) = Ok (record { session = new_session folder; dropped = true })
+started folder (Err fault) = Err fault
+
+-- what a store with this folder and this journal, if any, opens as
+unfoldable pub OpensAs : Folder → Option (List ℕ) → Result Started JournalFault → Type 0
+unfolding Opens
+OpensAs folder None answer = answer ≡ Ok (record { session = new_session folder; dropped = false })
+OpensAs folder (Some text) answer = (o : Result Opened JournalFault) × Opens folder text o × (answer ≡ started folder o)
+
+-- ---- the premise on fingerprints
+
+-- equal fingerprints among these folders are those of equal folders
+abbrev pub AreToldApart : List Folder → Type 0
+AreToldApart folders =
+    AllByRecursion (λ a. AllByRecursion (λ b. fingerprint a ≡ fingerprint b → a ≡ b) folders) folders
+
+-- fingerprints tell apart the folders that these changes pass through
+abbrev pub TellsApart : Folder → List Change → Type 0
+TellsApart folder changes = AreToldApart (folder ∷ folders_after folder changes)

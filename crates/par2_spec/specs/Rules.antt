@@ -1,0 +1,84 @@
+-- What laws say of the definitions: premises, and rules of a set in other words than the definitions'.
+use Rattle.std.specs.Prelude.{◌≡◌, ℕ, ◌+◌, ◌^◌, ◌<◌, ◌≤◌, ◌&&◌, Bool, IsTrue, IsFalse, List, [], ◌∷◌, ◌++◌, length, map, flat_map, filter, find, not, Option, Some, None, is_none, option_to_list}
+use Rattle.std.specs.List.{enumerate_from, list_all, IsDistinct, AllByRecursion}
+use Rattle.std.specs.Option.{ForSome}
+use Rattle.std.specs.FinMap as map_of
+use Rattle.std.specs.Str.{bytes_eq}
+use Rattle.par2_spec.specs.Windows.{found}
+use Rattle.par2_spec.specs.Slices.{slice_count}
+use Rattle.par2_spec.specs.Names.{is_name, is_among, numbered}
+use Rattle.par2_spec.specs.Folders.{Folder, bytes_of, has, names}
+use Rattle.par2_spec.specs.Sets.{ParSet, Target}
+use Rattle.par2_spec.specs.Search.{is_intact, matches, needing}
+use Rattle.par2_spec.specs.Repairs.{names_without_match, rebuilt_targets, put_aside, aside}
+use Rattle.par2_spec.specs.Plans.{matching}
+
+-- the names of a set's targets
+abbrev pub target_names : ParSet → List (List ℕ)
+target_names set = map (λ t. t.name) set.targets
+
+-- the names of its needing targets
+abbrev pub needing_names : Folder → ParSet → List (List ℕ)
+needing_names folder set = map (λ t. t.name) (needing folder set)
+
+-- what holds of each set that reads
+pub record IsSound (set : ParSet) : Type 0 where
+  pub are_names : IsTrue (list_all is_name (target_names set))
+  pub names_once : IsDistinct bytes_eq (target_names set)
+  pub slice_positive : 0 < set.slice_size
+  pub pairs_enough : AllByRecursion (λ t. length t.pairs ≤ slice_count set.slice_size t.size) set.targets
+
+-- the names that an aside keeps away from: those of the folder and of the targets
+abbrev pub taken_for : Folder → ParSet → List (List ℕ)
+taken_for folder set = names folder ++ target_names set
+
+-- so few that each number up to one more than they are is written in full
+abbrev pub AreFew : Folder → ParSet → Type 0
+AreFew folder set = length (taken_for folder set) + 1 < 2 ^ 64
+
+-- what a repair wants of the folder, the set and the names that are searched
+pub record FitsRepair (folder : Folder) (set : ParSet) (searched : List (List ℕ)) : Type 0 where
+  pub names_once : IsDistinct bytes_eq (target_names set)
+  pub all_there : IsTrue (list_all (has folder) searched)
+  pub few : AreFew folder set
+
+-- the name with the least number from 1 on that is not taken
+pub record IsLeastFree (taken : List (List ℕ)) (name found : List ℕ) : Type 0 where
+  pub number : ℕ
+  pub positive : 1 ≤ number
+  pub spelled : found ≡ numbered name number
+  pub free : IsFalse (is_among taken found)
+  pub least : (m : ℕ) → 1 ≤ m → m < number → IsTrue (is_among taken (numbered name m))
+
+-- each slice, with whether its target is needing and has no match, and where it is found
+abbrev pub slices_by_target : Folder → ParSet → List (List ℕ) → List (Bool × Option (List ℕ))
+slices_by_target folder set searched =
+    flat_map (λ t. map (λ pair. (is_among (names_without_match (matches folder set searched)) t.name, found set.slice_size (map (bytes_of folder) searched) pair)) t.pairs)
+    set.targets
+
+-- the numbers of the slices of needing targets without a match that are not found
+abbrev pub lost_of_unmatched : Folder → ParSet → List (List ℕ) → List ℕ
+lost_of_unmatched folder set searched =
+    map (λ z. z.0) (filter (λ z. z.1.0 && is_none z.1.1) (enumerate_from 0 (slices_by_target folder set searched)))
+
+-- what a folder holds after a repair, file by file
+pub record HoldsRepaired (folder : Folder) (set : ParSet) (searched : List (List ℕ)) (after : Folder) : Type 0 where
+  -- each matched target the bytes of its match
+  pub matched_ones : AllByRecursion (λ m. ForSome m.1 (λ name. map_of.get after m.0.name ≡ Some (bytes_of folder name))) (matches folder set searched)
+  -- each other needing target its slices
+  pub written_ones : AllByRecursion (λ c. map_of.get after c.0.name ≡ Some c.1) (rebuilt_targets folder set searched)
+  -- under its aside each file that was put aside and is nobody's match
+  pub asides : (name : List ℕ) → IsTrue (is_among (put_aside folder set) name) → IsFalse (is_among (matching folder set searched) name) → map_of.get after (aside folder set name) ≡ Some (bytes_of folder name)
+  -- no match under its old name, where that is no needing target's
+  pub moved_away : (name : List ℕ) → IsTrue (is_among (matching folder set searched) name) → IsFalse (is_among (needing_names folder set) name) → map_of.get after name ≡ None
+  -- each other file as it was
+  pub others : (name : List ℕ) → IsFalse (is_among (needing_names folder set) name) → IsFalse (is_among (matching folder set searched) name)
+      → IsFalse (is_among (map (aside folder set) (put_aside folder set)) name) → map_of.get after name ≡ map_of.get folder name
+
+-- each target with the first of the searched names that is intact for it, is none of the intact targets' and
+-- none of the matches before
+abbrev pub AreFirstMatches : Folder → ℕ → List (List ℕ) → List (List ℕ) → List (List ℕ) → List (Target × Option (List ℕ)) → Type 0
+AreFirstMatches folder s searched intact before [] = Unit {0}
+AreFirstMatches folder s searched intact before (m ∷ ms) =
+    (m.1 ≡ find (λ name. is_intact s m.0 (bytes_of folder name) && not (is_among intact name) && not (is_among before name)) searched)
+    × AreFirstMatches folder s searched intact (before ++ option_to_list m.1) ms

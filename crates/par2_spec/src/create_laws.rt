@@ -1,0 +1,27 @@
+//! Laws of create: each is the contract of a function that does nothing.
+
+ghost use Rattle.std.specs.Prelude.{◌≡◌, ◌∷◌, ℕ, List, [], IsTrue, map, flat_map};
+ghost use Rattle.std.specs.List.{IsDistinct};
+ghost use Rattle.std.specs.Str.{bytes_eq};
+ghost use Rattle.par2_spec.specs.Folders.{Folder, File};
+ghost use Rattle.par2_spec.specs.Changes.{effects, are_applicable};
+ghost use Rattle.par2_spec.specs.Packets.{packet};
+ghost use Rattle.par2_spec.specs.Volumes.{volumes, record_of, in_id_order, index_packets, after_create};
+ghost use Rattle.par2_spec.specs.Commands.{CreateArgs, outputs_of};
+ghost use Rattle.par2_spec.specs.Plans.{create_changes};
+
+/// The outputs of a create have names of their own.
+pub fn outputs_are_distinct()
+    ensures { (base : List ℕ) (s f c : ℕ) (files : List File) → IsDistinct bytes_eq (map (λ file. file.0) (volumes base s f c files)) }
+{}
+
+/// The changes of a create apply in order and lead to its folder, on every folder.
+pub fn create_leads_to_its_folder()
+    ensures applies { (folder : Folder) (a : CreateArgs) → IsTrue (are_applicable folder (create_changes folder a)) }
+    ensures leads { (folder : Folder) (a : CreateArgs) → effects folder (create_changes folder a) ≡ after_create folder (outputs_of folder a) }
+{}
+
+/// Without recovery slices the index is the only output.
+pub fn index_alone()
+    ensures { (base : List ℕ) (s f : ℕ) (files : List File) → volumes base s f 0 files ≡ (base, flat_map packet (index_packets s (map (record_of s) (in_id_order files)))) ∷ [] }
+{}
