@@ -1,0 +1,72 @@
+-- Texts that are written one after the other.
+use Rattle.std.proofs.Common.{◌≡◌, ◌∙◌, ◌++◌, ◌+◌, ◌-◌, ◌<◌, ℕ, suc, List, [], take, drop, length, ap, sym, subst, append-nil, append_assoc, length-drop, Option, Some, None, Result, Ok, Err, arith, inl, inr}
+use Rattle.std.specs.Io.KnownBytes.{Appends, Keeps}
+use Rattle.std.proofs.Math.Seq.{take-append_seam, take-append-add}
+use Rattle.std.proofs.lemmas.Bool.{cases_lt}
+use Rattle.std.proofs.lemmas.List.{take-append-drop, take-append-le, take_all}
+use Rattle.std.proofs.lemmas.Grind.{flat_map-append}
+use Rattle.std.proofs.Math.Seq.{drop-cons}
+use Rattle.std.proofs.Math.ListN.{get_or}
+use Rattle.std.specs.List.{flat_map}
+use Rattle.par2_printing.specs.Wrote.{Wrote}
+
+pub appends_both : (a b c : Option (List ℕ)) (xs ys : List ℕ) → Appends a b xs → Appends b c ys → Appends a c (xs ++ ys)
+appends_both None b c xs ys p q = tt
+appends_both (Some x) None c xs ys p q = absurd p
+appends_both (Some x) (Some y) None xs ys p q = absurd q
+appends_both (Some x) (Some y) (Some z) xs ys p q = q ∙ ap (λ w. w ++ ys) p ∙ append_assoc x xs ys
+
+pub appends_kept : (a b : Option (List ℕ)) → Keeps a b → Appends a b []
+appends_kept None b k = tt
+appends_kept (Some x) None k = absurd k
+appends_kept (Some x) (Some y) k = k ∙ sym (append-nil x)
+
+-- nothing more was taken
+pub part : (a b c : Option (List ℕ)) (sent rest text : List ℕ) → text ≡ sent ++ rest → Appends a b sent → Appends b c []
+    → (n : ℕ) × Appends a c (take n text)
+part a b c sent rest text is p q =
+    let seam : sent ++ [] ≡ take (length sent) text = append-nil sent ∙ sym (take-append_seam sent rest) ∙ ap (take (length sent)) (sym is) in
+    (length sent, subst (Appends a c) seam (appends_both a b c sent [] p q))
+
+-- no byte more was taken
+pub part_none : (a b c : Option (List ℕ)) (sent rest text : List ℕ) (n : ℕ) → n ≡ 0 → text ≡ sent ++ rest → Appends a b sent → Appends b c (take n rest)
+    → (m : ℕ) × Appends a c (take m text)
+part_none a b c sent rest text n zero is p q = part a b c sent rest text is p (rw zero at q)
+
+-- n more bytes were taken
+pub step : (a b c : Option (List ℕ)) (sent rest text : List ℕ) (n : ℕ) → text ≡ sent ++ rest → Appends a b sent → Appends b c (take n rest)
+    → (s : List ℕ) × (text ≡ s ++ take (length rest - n) (drop n rest)) × Appends a c s
+step a b c sent rest text n is p q =
+    let all : take (length rest - n) (drop n rest) ≡ drop n rest = take_all (length rest - n) (drop n rest) (omega (arith, length-drop n rest)) in
+    let parts : text ≡ (sent ++ take n rest) ++ drop n rest =
+    is ∙ ap (λ r. sent ++ r) (sym (take-append-drop n rest)) ∙ sym (append_assoc sent (take n rest) (drop n rest)) in
+    (sent ++ take n rest, parts ∙ ap (λ r. (sent ++ take n rest) ++ r) (sym all), appends_both a b c sent (take n rest) p q)
+
+-- a text was written, and then another
+pub wrote_then : {T E : Type 0} (a b c : Option (List ℕ)) (xs ys : List ℕ) (r : Result T E) → Appends a b xs → Wrote b c ys r → Wrote a c (xs ++ ys) r
+wrote_then a b c xs ys (Ok v) p q = appends_both a b c xs ys p q
+wrote_then a b c xs ys (Err e) p q =
+    (length xs + q.0, subst (Appends a c) (sym (take-append-add xs ys q.0)) (appends_both a b c xs (take q.0 ys) p q.1))
+
+-- a part of a text is a part of a longer one
+pub wrote_less : (a b : Option (List ℕ)) (xs ys : List ℕ) (n : ℕ) → Appends a b (take n xs) → (m : ℕ) × Appends a b (take m (xs ++ ys))
+wrote_less a b xs ys n p = elim (cases_lt n (length xs)) [
+  | inl within ↦ (n, subst (Appends a b) (sym (take-append-le n xs ys (omega arith))) p)
+  | inr past ↦ (length xs, subst (Appends a b) (take_all n xs past ∙ sym (take-append_seam xs ys)) p)
+]
+
+-- the lines before the i-th were written, and then a part of that one
+pub lines_cut : {X : Type 0} (f : X → List ℕ) (a b c : Option (List ℕ)) (items : List X) (i k : ℕ) (item : X) → i < length items
+    → Appends a b (flat_map f (take i items)) → Appends b c (take k (f (get_or items i item)))
+    → (m : ℕ) × Appends a c (take m (flat_map f items))
+lines_cut f a b c items i k item within before some =
+    let here = f (get_or items i item) in
+    let after = flat_map f (drop (suc i) items) in
+    let whole : flat_map f items ≡ flat_map f (take i items) ++ (here ++ after) =
+    ap (flat_map f) (sym (take-append-drop i items)) ∙ flat_map-append f (take i items) (drop i items)
+    ∙ ap (λ xs. flat_map f (take i items) ++ flat_map f xs) (drop-cons items i item within) in
+    let more = wrote_less b c here after k some in (
+      length (flat_map f (take i items)) + more.0,
+      subst (Appends a c) (sym (ap (take (length (flat_map f (take i items)) + more.0)) whole ∙ take-append-add (flat_map f (take i items)) (here ++ after) more.0))
+          (appends_both a b c (flat_map f (take i items)) (take more.0 (here ++ after)) before more.1),
+    )

@@ -1,0 +1,5 @@
+use Rattle.std.proofs.Common.{rules}
+use Rattle.par2_printing.proofs.step.write_note.Goals as goal
+
+pub returns-then-dropped : goal.returns-then-dropped
+returns-then-dropped g c = rw c.if-dropped.true (search rules)

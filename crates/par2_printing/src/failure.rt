@@ -1,0 +1,149 @@
+//! The line of a failure.
+ghost use Rattle.std.specs.Prelude.{◌≡◌, ◌++◌, ◌∷◌, ℕ, List, codes, map, string_bytes};
+ghost use Rattle.par2_spec.specs.Texts.{error_of, fault_text, line, lost_text, word_at};
+ghost use Rattle.par2_printing.specs.Printed.{words_given};
+ghost use Rattle.par2_printing.specs.Wrote.{Wrote};
+
+use crate::text::{WriteFault, write_parts};
+use itoa::Buffer;
+use par2_spec::{Action, Command, Failure, Fault};
+use std::io::Write;
+
+// The word at a place: the base at 0, and then the further names.
+fn listed<'a>(base: &'a str, further: &'a [String], place: usize) -> &'a str
+    ensures { result.now ≡ word_at (base.now ∷ map string_bytes further.now) place }
+{
+    if place == 0 {
+        return base;
+    }
+    match further.get(place - 1) {
+        Some(name) => name.as_str(),
+        None => "",
+    }
+}
+
+// The word at a place of a command, and no text where it has none there.
+fn word<'a>(command: Option<&'a Command>, place: usize) -> &'a str
+    ensures { result.now ≡ word_at (words_given command.entry) place }
+{
+    match command {
+        Some(Command::Verify { base, extras }) => listed(base.as_str(), extras.as_slice(), place),
+        Some(Command::Act(Action::Create(args))) => listed(
+            args.base.as_str(),
+            args.inputs.as_slice(),
+            place,
+        ),
+        Some(Command::Act(Action::Repair { base, extras, .. })) => listed(
+            base.as_str(),
+            extras.as_slice(),
+            place,
+        ),
+        Some(Command::Act(Action::Purge { base })) => listed(base.as_str(), &[], place),
+        Some(Command::Act(Action::Undo)) | Some(Command::Act(Action::Redo)) | None => "",
+    }
+}
+
+// Writes `par2: ` and a reason as a line.
+fn write_reason<W: Write>(out: &mut W, reason: &str) -> Result<(), WriteFault>
+    ensures { Wrote (W.contents out.old) (W.contents out.new)
+        (line (codes "par2: " ++ reason.now)) result }
+{
+    write_parts(out, &[b"par2: ", reason.as_bytes(), b"\n"])
+}
+
+// Writes `par2: ` and a reason with the word of which it speaks, as a line.
+fn write_reason_with<W: Write>(out: &mut W, reason: &str, word: &str) -> Result<(), WriteFault>
+    ensures { Wrote (W.contents out.old) (W.contents out.new)
+        (line (codes "par2: " ++ reason.now ++ word.now)) result }
+{
+    write_parts(out, &[b"par2: ", reason.as_bytes(), word.as_bytes(), b"\n"])
+}
+
+// Writes that so many slices are lost, and that so many recovery slices are of use.
+fn write_shortage<W: Write>(out: &mut W, missing: usize, rank: usize) -> Result<(), WriteFault>
+    ensures { Wrote (W.contents out.old) (W.contents out.new)
+        (line (codes "par2: " ++ codes "not repairable, " ++ lost_text missing rank)) result }
+{
+    let mut lost = Buffer::new();
+    let mut kept = Buffer::new();
+    write_parts(
+        out,
+        &[
+            b"par2: ",
+            b"not repairable, ",
+            b"lost ",
+            lost.format(missing).as_bytes(),
+            b", rank ",
+            kept.format(rank).as_bytes(),
+            b"\n",
+        ],
+    )
+}
+
+#[tactic(auto, unfolding(par2_spec::specs::Texts::fault_text))]
+fn write_fault<W: Write>(
+    out: &mut W,
+    command: Option<&Command>,
+    fault: Fault,
+) -> Result<(), WriteFault>
+    ensures { Wrote (W.contents out.old) (W.contents out.new)
+        (line (codes "par2: " ++ fault_text (words_given command.entry) fault)) result }
+{
+    match fault {
+        Fault::BadSliceSize => write_reason(
+            out,
+            "block size must be a multiple of 4 from 4 to 1073741824",
+        ),
+        Fault::BadCount => write_reason(out, "block numbers must stay below 65536"),
+        Fault::BadBase => write_reason(out, "the base must be a file name that ends in .par2"),
+        Fault::NoInput => write_reason(out, "no input files"),
+        Fault::BadName(place) => write_reason_with(out, "bad input name: ", word(command, place)),
+        Fault::DuplicateInput(place) => write_reason_with(
+            out,
+            "input named twice: ",
+            word(command, place),
+        ),
+        Fault::NoSuchFile(place) => write_reason_with(out, "no such file: ", word(command, place)),
+        Fault::EmptyFile(place) => write_reason_with(out, "empty input: ", word(command, place)),
+        Fault::TooManySlices => write_reason(out, "more than 32768 blocks"),
+        Fault::DuplicateId => write_reason(out, "two inputs have one file id"),
+        Fault::NameTooLong => write_reason(out, "a file name would be longer than 255 bytes"),
+        Fault::Exists => write_reason(out, "an output file exists"),
+        Fault::NoPackets => write_reason(out, "no packets in the base"),
+        Fault::NoMain => write_reason(out, "no main packet"),
+        Fault::NoDescription => write_reason(out, "a file description is missing"),
+        Fault::NoChecksums => write_reason(out, "block checksums are missing"),
+        Fault::BadSet => write_reason(out, "the set is not in this profile"),
+        Fault::NotRepairable { missing, rank } => write_shortage(out, missing, rank),
+        Fault::RepairFailed => write_reason(out, "a rebuilt file has another digest"),
+        Fault::NotComplete => write_reason(out, "the files are not complete"),
+        Fault::Memory => write_reason(out, "out of memory"),
+    }
+}
+
+const USAGE: &str =
+    "usage: par2 create -sN -cN [-fN] [--overwrite] BASE.par2 FILE.. | verify BASE [FILE..] | repair [-p] BASE [FILE..] | purge BASE | undo | redo";
+
+/// Writes the line of a failure: `par2: `, why the run failed, and a newline.
+///
+/// A fault that has a place names the word there as it was given, place 0 being the base. `command` is the one
+/// that was read, if one was.
+#[tactic(auto, unfolding(par2_spec::specs::Texts::error_of, par2_spec::specs::Texts::failure_text))]
+pub fn write_failure<W: Write>(
+    out: &mut W,
+    command: Option<&Command>,
+    failure: Failure,
+) -> Result<(), WriteFault>
+    ensures { Wrote (W.contents out.old) (W.contents out.new)
+        (error_of (words_given command.entry) failure) result }
+{
+    match failure {
+        Failure::Refused(fault) => write_fault(out, command, fault),
+        Failure::Store => write_reason(out, "a file could not be read or written"),
+        Failure::Arguments => write_reason(out, USAGE),
+        Failure::JournalInvalid => write_reason(out, "the journal is not valid"),
+        Failure::FolderChanged => write_reason(out, "the folder is not as the journal left it"),
+        Failure::NothingToUndo => write_reason(out, "nothing to undo"),
+        Failure::NothingToRedo => write_reason(out, "nothing to redo"),
+    }
+}

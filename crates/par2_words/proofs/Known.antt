@@ -1,0 +1,112 @@
+-- The subcommand that a parse met is one of the six.
+use Rattle.std.proofs.Common.{◌≡◌, ◌∙◌, ◌&&◌, Bool, cond, true, false, true≢false, refl, ap, sym, subst, List, [], ◌∷◌, Option, Some, None}
+use Rattle.std.specs.Prelude.{is_some, option_map, codes, unwrap_or, Box, find}
+use Rattle.std.specs.List.{list_all}
+use Rattle.std.specs.Str.{bytes_eq}
+use Rattle.std.specs.Box.{box_value}
+use Rattle.clap.specs.Words.{App, HasMatchesOf, Row, Shape, Text, app_of, built, fault_of, found_of, is_simple, is_simple_and_free, rows_of, subcommand_name_of, subcommand_of, subcommand_rows, subcommand_rows_of}
+use Rattle.clap.specs.Simple.{argument_words, entered, label_of, names_of, rows_at}
+use Rattle.clap.specs.Walk.{answers_to, stop_after}
+use Rattle.clap.specs.declared.builder.command.Command.{Command}
+use Rattle.clap.specs.declared.parser.matches.ArgMatches.{ArgMatches}
+use Rattle.clap.specs.declared.parser.matches.SubCommand.{SubCommand}
+use Rattle.clap.specs.declared.parser.matches.ArgMatches.TheViews.{out-ArgMatches, out-SubCommand}
+use Rattle.clap.proofs.OnLiterals.{clap_on_literals}
+use Rattle.par2_words.specs.Definition.{create_app, create_numbers_app, file_commands_app, par2_app, purge_app, repair_app, start_app, verify_app}
+use Rattle.par2_spec.specs.Commands.{Action, Undo, Redo}
+use Rattle.par2_words.specs.Meanings.{created, meant, purged, repaired, verified}
+
+simple : is_simple par2_app ≡ true
+unfolding clap_on_literals create_app create_numbers_app file_commands_app par2_app purge_app repair_app start_app verify_app
+simple = refl
+
+free : is_simple_and_free par2_app ≡ true
+unfolding clap_on_literals create_app create_numbers_app file_commands_app par2_app purge_app repair_app start_app verify_app
+free = refl
+
+abbrev is_known : Shape → Bool
+is_known s = is_some (meant (s.name, []))
+
+all_known : list_all is_known (built par2_app).subs ≡ true
+unfolding clap_on_literals create_app create_numbers_app file_commands_app par2_app purge_app repair_app start_app verify_app
+all_known = refl
+
+some≢none : {X : Type 0} (x : X) → Some x ≡ None → ⊥
+some≢none x e = true≢false (ap is_some e)
+
+both : (a b : Bool) → (a && b) ≡ true → (a ≡ true) × (b ≡ true)
+both true b e = (refl, e)
+both false b e = absurd (true≢false (sym e))
+
+find_all : {X : Type 0} (p q : X → Bool) (xs : List X) (x : X) → find p xs ≡ Some x → list_all q xs ≡ true → q x ≡ true
+find_all p q [] x e h = absurd (some≢none x (sym e))
+find_all {X} p q (y ∷ ys) x e h = go (p y) e (λ k. find_all p q ys x k ((both _ _ h).1))
+  where
+    go : (b : Bool) → cond b (Some y) (find p ys) ≡ Some x → (find p ys ≡ Some x → q x ≡ true) → q x ≡ true
+    go true k more = subst (λ (z : X). q z ≡ true) (ap (λ o. unwrap_or o x) k) ((both _ _ h).0)
+    go false k more = more k
+
+abbrev pick : {M : Type 0} → Bool → Bool → Bool → Bool → Bool → Bool → M × M × M × M × M × M → Option M
+pick a b c d e f x = cond a (Some x.0) (cond b (Some x.1) (cond c (Some x.2) (cond d (Some x.3) (cond e (Some x.4) (cond f (Some x.5) None)))))
+
+same_pick : {M : Type 0} (a b c d e f : Bool) (x y : M × M × M × M × M × M) → is_some (pick a b c d e f x) ≡ is_some (pick a b c d e f y)
+same_pick true b c d e f x y = refl
+same_pick false true c d e f x y = refl
+same_pick false false true d e f x y = refl
+same_pick false false false true e f x y = refl
+same_pick false false false false true f x y = refl
+same_pick false false false false false true x y = refl
+same_pick false false false false false false x y = refl
+
+abbrev choices : List Row → Action × Action × Action × Action × Action × Action
+choices rows = (created rows, verified rows, repaired rows, purged rows, Undo, Redo)
+
+any_rows : (n : Text) (rows : List Row) → is_some (meant (n, [])) ≡ is_some (meant (n, rows))
+any_rows n rows = same_pick (bytes_eq n (codes "create")) (bytes_eq n (codes "verify")) (bytes_eq n (codes "repair"))
+    (bytes_eq n (codes "purge")) (bytes_eq n (codes "undo")) (bytes_eq n (codes "redo")) (choices []) (choices rows)
+
+known_in : (stop : Option (Text × List Text)) (p : Text × List Row) → entered (built par2_app) stop ≡ Some p → is_some (meant p) ≡ true
+known_in None p e = absurd (some≢none p (sym e))
+known_in (Some q) p e = go (find (λ s. answers_to q.0 (label_of s)) (built par2_app).subs) refl e
+  where
+    go : (o : Option Shape) → find (λ s. answers_to q.0 (label_of s)) (built par2_app).subs ≡ o → option_map (λ s. rows_at s q.1) o ≡ Some p
+        → is_some (meant p) ≡ true
+    go None found k = absurd (some≢none p (sym k))
+    go (Some s) found k =
+        let name_known : is_some (meant (s.name, [])) ≡ true = find_all _ is_known (built par2_app).subs s found all_known in
+        let there : is_some (meant (rows_at s q.1)) ≡ true = sym (any_rows s.name (rows_at s q.1).1) ∙ name_known in
+        subst (λ (z : Text × List Row). is_some (meant z) ≡ true) (ap (λ o. unwrap_or o p) k) there
+
+pub known : (words : List Text) (p : Text × List Row) → subcommand_of par2_app words ≡ Some p → is_some (meant p) ≡ true
+known words p e = known_in (stop_after (built par2_app).top.rules (names_of (built par2_app)) (argument_words par2_app words)) p e
+
+named : {Z : Type 0} (o : Option (Box SubCommand Z)) (n : Text) (rows : List Row) → Some n ≡ option_map (λ b. (out-SubCommand (box_value b)).name.now) o
+    → Some rows ≡ option_map (λ p. p.1) (subcommand_rows o) → subcommand_rows o ≡ Some (n, rows)
+named None n rows e f = absurd (some≢none n e)
+named (Some b) n rows e f =
+    let name_is : n ≡ (out-SubCommand (box_value b)).name.now = ap (λ o. unwrap_or o n) e in
+    let rows_are : rows ≡ rows_of (found_of (out-SubCommand (box_value b)).matches) = ap (λ o. unwrap_or o rows) f in
+    rw (name_is, rows_are) refl
+
+pub met : (command : Command) (m : ArgMatches) (words : List Text) (n : Text) (rows : List Row) → app_of command ≡ par2_app
+    → HasMatchesOf (app_of command) words m → Some n ≡ subcommand_name_of m → Some rows ≡ option_map (λ p. p.1) (subcommand_rows_of m)
+    → subcommand_of par2_app words ≡ Some (n, rows)
+met command m words n rows app has name_is rows_are =
+    let has_par2 : HasMatchesOf par2_app words m = subst (λ (a : App). HasMatchesOf a words m) app has in
+    sym (has_par2 simple).1 ∙ named (out-ArgMatches m).subcommand n rows name_is rows_are
+
+pub unmet : (command : Command) (m : ArgMatches) (words : List Text) → app_of command ≡ par2_app → HasMatchesOf (app_of command) words m
+    → None ≡ subcommand_name_of m → is_some (subcommand_of par2_app words) ≡ true → ⊥
+unmet command m words app has none there =
+    let has_par2 : HasMatchesOf par2_app words m = subst (λ (a : App). HasMatchesOf a words m) app has in
+    go (out-ArgMatches m).subcommand none (ap is_some (has_par2 simple).1 ∙ there)
+  where
+    go : {Z : Type 0} (o : Option (Box SubCommand Z)) → None ≡ option_map (λ b. (out-SubCommand (box_value b)).name.now) o → is_some (subcommand_rows o) ≡ true → ⊥
+    go None e h = true≢false (sym h)
+    go (Some b) e h = some≢none _ (sym e)
+
+-- where the parse gave matches, no kind of fault was due
+pub faultless : (command : Command) (words : List Text) → app_of command ≡ par2_app
+    → (is_simple_and_free (app_of command) ≡ true → fault_of (app_of command) words ≡ []) → fault_of par2_app words ≡ []
+faultless command words app gives =
+    subst (λ (a : App). is_simple_and_free a ≡ true → fault_of a words ≡ []) app gives free

@@ -1,0 +1,79 @@
+-- The command line of the program, as clap's definitions see it:
+--   create -sN -cN [-fN] [--overwrite] BASE FILE.. | verify BASE [FILE..] | repair [-p] BASE [FILE..] | purge BASE
+--   | undo | redo
+-- An option is given once at most, also between the names, and `--` ends the options. There is no `help` command.
+-- `--help` and `-h` end the parse with a fault, as every simple clap command does.
+use Rattle.std.specs.Prelude.{[], ◌∷◌, Some, codes, pos, true}
+use Rattle.clap.specs.Words.{App, Rule, new_app, new_rule, with_rule, with_subcommand}
+use Rattle.clap.specs.declared.builder.action.ArgAction.TheVariants.{Append, Set, SetTrue}
+use Rattle.clap.specs.declared.builder.value_parser.ValueParser.TheVariants as vp
+
+-- `-sN`, a whole number of 64 bits that has to be given
+abbrev pub slice_rule : Rule
+slice_rule = record (new_rule (codes "slice")) {
+  short = Some 115;
+  action = Some Set;
+  parser = Some (vp.Unsigned 0 18446744073709551615);
+  required = true;
+}
+
+-- `-cN`, one of 32 bits that has to be given
+abbrev pub count_rule : Rule
+count_rule = record (new_rule (codes "count")) {
+  short = Some 99;
+  action = Some Set;
+  parser = Some (vp.Signed (pos 0) (pos 4294967295));
+  required = true;
+}
+
+-- `-fN`, one of 32 bits, 0 where it is not given
+abbrev pub first_rule : Rule
+first_rule = record (new_rule (codes "first")) {
+  short = Some 102;
+  action = Some Set;
+  parser = Some (vp.Signed (pos 0) (pos 4294967295));
+  defaults = codes "0" ∷ [];
+}
+
+abbrev pub overwrite_rule : Rule
+overwrite_rule = record (new_rule (codes "overwrite")) {
+  long = Some (codes "overwrite");
+  action = Some SetTrue;
+}
+
+abbrev pub purge_rule : Rule
+purge_rule = record (new_rule (codes "purge")) { short = Some 112; action = Some SetTrue }
+
+abbrev pub base_rule : Rule
+base_rule = record (new_rule (codes "base")) { action = Some Set; required = true }
+
+abbrev pub files_rule : Rule
+files_rule = record (new_rule (codes "files")) { action = Some Append }
+
+unfoldable pub create_numbers_app : App
+create_numbers_app = with_rule (with_rule (with_rule (new_app (codes "create")) slice_rule) count_rule) first_rule
+
+unfoldable pub create_app : App
+create_app = with_rule (with_rule (with_rule create_numbers_app overwrite_rule) base_rule) files_rule
+
+unfoldable pub verify_app : App
+verify_app = with_rule (with_rule (new_app (codes "verify")) base_rule) files_rule
+
+unfoldable pub repair_app : App
+repair_app = with_rule (with_rule (with_rule (new_app (codes "repair")) purge_rule) base_rule) files_rule
+
+unfoldable pub purge_app : App
+purge_app = with_rule (new_app (codes "purge")) base_rule
+
+unfoldable pub start_app : App
+start_app = record (new_app (codes "par2")) {
+  top = record (new_app (codes "par2")).top { no_binary_name = true; disable_help_subcommand = true };
+}
+
+unfoldable pub file_commands_app : App
+file_commands_app = with_subcommand (with_subcommand (with_subcommand start_app create_app.top)
+    verify_app.top) repair_app.top
+
+unfoldable pub par2_app : App
+par2_app = with_subcommand (with_subcommand (with_subcommand file_commands_app purge_app.top)
+    (new_app (codes "undo")).top) (new_app (codes "redo")).top

@@ -1,0 +1,152 @@
+//! The command line of `par2`.
+ghost use Rattle.std.specs.Prelude.{◌≡◌, IfOk, true, false};
+ghost use Rattle.clap.specs.Words.{app_of, rule_of};
+ghost use Rattle.clap.specs.declared.builder.command.Command.TheViews.{out-Command};
+ghost use Rattle.par2_words.specs.Definition.{create_app, create_numbers_app, file_commands_app, start_app, verify_app, repair_app, purge_app, par2_app, slice_rule, count_rule, first_rule, overwrite_rule, purge_rule, base_rule, files_rule};
+
+use clap::{Arg, ArgAction, Command, value_parser};
+use std::alloc::{AllocError, Global};
+
+fn slice_arg<'a>(alloc: Global) -> Arg<'a>
+    ensures rule { rule_of result ≡ slice_rule }
+    ensures local { result.global ≡ false }
+{
+    Arg::new(alloc, "slice")
+        .short('s')
+        .action(ArgAction::Set)
+        .value_parser(value_parser!(u64))
+        .required(true)
+}
+
+fn count_arg<'a>(alloc: Global) -> Arg<'a>
+    ensures rule { rule_of result ≡ count_rule }
+    ensures local { result.global ≡ false }
+{
+    Arg::new(alloc, "count")
+        .short('c')
+        .action(ArgAction::Set)
+        .value_parser(value_parser!(u32))
+        .required(true)
+}
+
+fn first_arg<'a>(alloc: Global) -> Arg<'a>
+    ensures rule { rule_of result ≡ first_rule }
+    ensures local { result.global ≡ false }
+{
+    Arg::new(alloc, "first")
+        .short('f')
+        .action(ArgAction::Set)
+        .value_parser(value_parser!(u32))
+        .default_value("0")
+}
+
+fn base_arg<'a>(alloc: Global) -> Arg<'a>
+    ensures rule { rule_of result ≡ base_rule }
+    ensures local { result.global ≡ false }
+{
+    Arg::new(alloc, "base")
+        .action(ArgAction::Set)
+        .required(true)
+}
+
+fn files_arg<'a>(alloc: Global) -> Arg<'a>
+    ensures rule { rule_of result ≡ files_rule }
+    ensures local { result.global ≡ false }
+{
+    Arg::new(alloc, "files").action(ArgAction::Append)
+}
+
+fn overwrite_arg<'a>(alloc: Global) -> Arg<'a>
+    ensures rule { rule_of result ≡ overwrite_rule }
+    ensures local { result.global ≡ false }
+{
+    Arg::new(alloc, "overwrite")
+        .long("overwrite")
+        .action(ArgAction::SetTrue)
+}
+
+fn purge_arg<'a>(alloc: Global) -> Arg<'a>
+    ensures rule { rule_of result ≡ purge_rule }
+    ensures local { result.global ≡ false }
+{
+    Arg::new(alloc, "purge")
+        .short('p')
+        .action(ArgAction::SetTrue)
+}
+
+#[tactic(auto, unfolding(crate::specs::Definition::create_numbers_app))]
+fn create_numbers<'a>(alloc: Global) -> Result<Command<'a>, AllocError>
+    ensures { IfOk result (λ c. (app_of c ≡ create_numbers_app) × ((out-Command c).has_globals ≡ false)) }
+{
+    Command::new(alloc, "create")
+        .arg(slice_arg(alloc))?
+        .arg(count_arg(alloc))?
+        .arg(first_arg(alloc))
+}
+
+#[tactic(auto, unfolding(crate::specs::Definition::create_app))]
+fn create_command<'a>(alloc: Global) -> Result<Command<'a>, AllocError>
+    ensures { IfOk result (λ c. (app_of c ≡ create_app) × ((out-Command c).has_globals ≡ false)) }
+{
+    create_numbers(alloc)?
+        .arg(overwrite_arg(alloc))?
+        .arg(base_arg(alloc))?
+        .arg(files_arg(alloc))
+}
+
+#[tactic(auto, unfolding(crate::specs::Definition::verify_app))]
+fn verify_command<'a>(alloc: Global) -> Result<Command<'a>, AllocError>
+    ensures { IfOk result (λ c. (app_of c ≡ verify_app) × ((out-Command c).has_globals ≡ false)) }
+{
+    Command::new(alloc, "verify")
+        .arg(base_arg(alloc))?
+        .arg(files_arg(alloc))
+}
+
+#[tactic(auto, unfolding(crate::specs::Definition::repair_app))]
+fn repair_command<'a>(alloc: Global) -> Result<Command<'a>, AllocError>
+    ensures { IfOk result (λ c. (app_of c ≡ repair_app) × ((out-Command c).has_globals ≡ false)) }
+{
+    Command::new(alloc, "repair")
+        .arg(purge_arg(alloc))?
+        .arg(base_arg(alloc))?
+        .arg(files_arg(alloc))
+}
+
+#[tactic(auto, unfolding(crate::specs::Definition::purge_app))]
+fn purge_command<'a>(alloc: Global) -> Result<Command<'a>, AllocError>
+    ensures { IfOk result (λ c. (app_of c ≡ purge_app) × ((out-Command c).has_globals ≡ false)) }
+{
+    Command::new(alloc, "purge").arg(base_arg(alloc))
+}
+
+#[tactic(auto, unfolding(crate::specs::Definition::start_app))]
+fn start_command<'a>(alloc: Global) -> Command<'a>
+    ensures app { app_of result ≡ start_app }
+    ensures local { (out-Command result).has_globals ≡ false }
+{
+    Command::new(alloc, "par2")
+        .no_binary_name(true)
+        .disable_help_subcommand(true)
+}
+
+#[tactic(auto, unfolding(crate::specs::Definition::file_commands_app))]
+fn file_commands<'a>(alloc: Global) -> Result<Command<'a>, AllocError>
+    ensures { IfOk result (λ c. (app_of c ≡ file_commands_app) × ((out-Command c).has_globals ≡ false)) }
+{
+    start_command(alloc)
+        .subcommand(create_command(alloc)?)?
+        .subcommand(verify_command(alloc)?)?
+        .subcommand(repair_command(alloc)?)
+}
+
+/// The command line with its six commands, as clap takes it.
+#[tactic(auto, unfolding(crate::specs::Definition::par2_app))]
+pub(crate) fn par2_command<'a>(alloc: Global) -> Result<Command<'a>, AllocError>
+    ensures { IfOk result (λ c. (app_of c ≡ par2_app) × ((out-Command c).has_globals ≡ false)) }
+{
+    file_commands(alloc)?
+        .subcommand(purge_command(alloc)?)?
+        .subcommand(Command::new(alloc, "undo"))?
+        .subcommand(Command::new(alloc, "redo"))
+}

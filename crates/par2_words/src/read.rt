@@ -1,0 +1,159 @@
+//! What the words ask for.
+ghost use Rattle.std.specs.Prelude.{◌≡◌, ◌⊎◌, ℕ, List, [], IfOk, IfErr, Some, None, true, false, codes, map, is_some, string_bytes, unwrap_or, option_and_then, option_map};
+ghost use Rattle.clap.specs.Words.{Text, fault_of, found_of, one_of, rows_of, kind_of, subcommand_of, takes};
+ghost use Rattle.par2_spec.specs.Views.{action_of, command_of};
+ghost use Rattle.par2_words.specs.Definition.{par2_app};
+ghost use Rattle.par2_words.specs.Meanings.{asked_by, meant, number_of, text_of, texts_of, flag_of, created, verified, repaired, purged};
+
+use crate::definition::par2_command;
+use clap::ArgMatches;
+use clap::error::ErrorKind;
+use par2_spec::{Action, Command, CreateArgs};
+use std::alloc::{AllocError, Global};
+use thiserror::Error;
+
+/// Why words are no command.
+#[derive(Debug, Error, Clone, Copy, PartialEq, Eq)]
+pub enum WordsFault {
+    #[error("the words are no command")]
+    Arguments,
+    #[error("out of memory")]
+    Memory,
+}
+
+impl From<AllocError> for WordsFault {
+    ghost use Rattle.par2_words.specs.declared.read.WordsFault.TheVariants.{Memory};
+
+    ghost from_gives = { λ _ e. e ≡ Memory };
+
+    fn from(_error: AllocError) -> WordsFault {
+        WordsFault::Memory
+    }
+}
+
+fn base_of(alloc: Global, matches: &ArgMatches<'_>) -> Result<String, AllocError>
+    ensures { IfOk result (λ s. string_bytes s ≡ text_of (codes "base") (rows_of (found_of matches.now))) }
+{
+    String::from_str(alloc, matches.get_str("base").unwrap_or(""))
+}
+
+fn files_of(alloc: Global, matches: &ArgMatches<'_>) -> Result<Vec<String>, AllocError>
+    ensures { IfOk result (λ v. map string_bytes v.items ≡ texts_of (codes "files") (rows_of (found_of matches.now))) }
+{
+    let texts = matches.get_strs("files").unwrap_or(&[]);
+    let mut files = Vec::new(alloc);
+    for text in texts {
+        files.push(String::from_str(alloc, text)?)?;
+    }
+    Ok(files)
+}
+
+fn has_flag(matches: &ArgMatches<'_>, id: &str) -> bool
+    ensures { result ≡ flag_of id.now (rows_of (found_of matches.now)) }
+{
+    match matches.get_str(id) {
+        Some(text) => text == "true",
+        None => false,
+    }
+}
+
+fn slice_of(matches: &ArgMatches<'_>) -> u64
+    ensures { result ≡ number_of 64 (codes "slice") (rows_of (found_of matches.now)) }
+{
+    matches.get_one::<u64>("slice").unwrap_or(0)
+}
+
+fn count_of(matches: &ArgMatches<'_>, id: &str) -> u32
+    ensures { result ≡ number_of 32 id.now (rows_of (found_of matches.now)) }
+{
+    matches.get_one::<u32>(id).unwrap_or(0)
+}
+
+fn create_of(alloc: Global, matches: &ArgMatches<'_>) -> Result<Action, AllocError>
+    ensures { IfOk result (λ a. action_of a ≡ created (rows_of (found_of matches.now))) }
+{
+    Ok(Action::Create(CreateArgs {
+        slice: slice_of(matches),
+        count: count_of(matches, "count"),
+        first: count_of(matches, "first"),
+        base: base_of(alloc, matches)?,
+        inputs: files_of(alloc, matches)?,
+        overwrite: has_flag(matches, "overwrite"),
+    }))
+}
+
+fn verify_of(alloc: Global, matches: &ArgMatches<'_>) -> Result<Command, AllocError>
+    ensures { IfOk result (λ c. command_of c ≡ verified (rows_of (found_of matches.now))) }
+{
+    Ok(Command::Verify {
+        base: base_of(alloc, matches)?,
+        extras: files_of(alloc, matches)?,
+    })
+}
+
+fn repair_of(alloc: Global, matches: &ArgMatches<'_>) -> Result<Action, AllocError>
+    ensures { IfOk result (λ a. action_of a ≡ repaired (rows_of (found_of matches.now))) }
+{
+    Ok(Action::Repair {
+        base: base_of(alloc, matches)?,
+        extras: files_of(alloc, matches)?,
+        purge: has_flag(matches, "purge"),
+    })
+}
+
+fn purge_of(alloc: Global, matches: &ArgMatches<'_>) -> Result<Action, AllocError>
+    ensures { IfOk result (λ a. action_of a ≡ purged (rows_of (found_of matches.now))) }
+{
+    Ok(Action::Purge {
+        base: base_of(alloc, matches)?,
+    })
+}
+
+// The command of a subcommand's name and matches.
+fn named(alloc: Global, name: &str, matches: &ArgMatches<'_>) -> Result<Command, WordsFault>
+    ensures command { IfOk result (λ c. meant (name.now, rows_of (found_of matches.now)) ≡ Some (command_of c)) }
+    ensures fault { IfErr result (λ e. e ≡ WordsFault.Memory ⊎ meant (name.now, rows_of (found_of matches.now)) ≡ None) }
+{
+    match name {
+        "create" => Ok(Command::Act(create_of(alloc, matches)?)),
+        "verify" => Ok(verify_of(alloc, matches)?),
+        "repair" => Ok(Command::Act(repair_of(alloc, matches)?)),
+        "purge" => Ok(Command::Act(purge_of(alloc, matches)?)),
+        "undo" => Ok(Command::Act(Action::Undo)),
+        "redo" => Ok(Command::Act(Action::Redo)),
+        _ => Err(WordsFault::Arguments),
+    }
+}
+
+fn fault_for(error: &clap::Error) -> WordsFault
+    ensures memory { kind_of error.now ≡ ErrorKind.OutOfMemory → result ≡ WordsFault.Memory }
+    ensures arguments { result ≡ WordsFault.Memory → kind_of error.now ≡ ErrorKind.OutOfMemory }
+{
+    if error.kind() == ErrorKind::OutOfMemory {
+        WordsFault::Memory
+    } else {
+        WordsFault::Arguments
+    }
+}
+
+/// The command that the words ask for, the program's name left out.
+///
+/// Every refusal by clap but want of memory is `Arguments`, `--help` too.
+pub fn read_words(alloc: Global, words: &[String]) -> Result<Command, WordsFault>
+    ensures command { IfOk result (λ c. asked_by (map string_bytes words.now) ≡ Some (command_of c)) }
+    ensures faultless { IfOk result (λ _. fault_of par2_app (map string_bytes words.now) ≡ []) }
+    // Words that clap's definition takes, with a subcommand, are refused for want of memory alone.
+    ensures arguments { let texts = map string_bytes words.now in
+        takes par2_app texts ≡ true → is_some (subcommand_of par2_app texts) ≡ true
+        → IfErr result (λ e. e ≡ WordsFault.Memory) }
+{
+    let command = par2_command(alloc)?;
+    let matches = match command.try_get_matches_from(words) {
+        Ok(matches) => matches,
+        Err(error) => return Err(fault_for(&error)),
+    };
+    match matches.subcommand() {
+        Some((name, matches)) => named(alloc, name, matches),
+        None => Err(WordsFault::Arguments),
+    }
+}
