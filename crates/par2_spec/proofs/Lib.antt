@@ -13,3 +13,4 @@ pub mod ListsLaws
 pub mod RankLaws
 pub mod SessionLaws
 pub mod AcceptedLaws
+pub mod StopLaws
