@@ -25,3 +25,4 @@ pub mod WrittenPackets
 pub mod WrittenBodies
 pub mod WrittenNames
 pub mod AcceptedCommands
+pub mod StopLaws

@@ -15,6 +15,9 @@ use Rattle.par2_spec.specs.Repairs.{names_without_match, rebuilt_targets, put_as
 use Rattle.par2_spec.specs.Commands.{Command, Create, Verify, Repair, Purge, Action, Do, Undo, Redo}
 use Rattle.par2_spec.specs.Refusals.{refusal, after}
 use Rattle.par2_spec.specs.Plans.{matching, changes_of}
+use Rattle.par2_spec.specs.Sessions.{Session}
+use Rattle.par2_spec.specs.declared.Version.{Version}
+use Rattle.par2_spec.specs.declared.Version.TheVariants.{One, Two}
 
 -- the names of a set's targets
 abbrev pub target_names : ParSet → List (List ℕ)
@@ -107,3 +110,10 @@ abbrev pub LeadsToAfterAsked : Folder → Action → Type 0
 LeadsToAfterAsked folder (Do command) = refusal folder command ≡ None → LeadsToAfter folder command
 LeadsToAfterAsked folder Undo = Unit {0}
 LeadsToAfterAsked folder Redo = Unit {0}
+
+-- ---- journals
+
+-- what a journal keeps of a session: version 1 has no place for what could be redone
+abbrev pub kept_in : Version → Session → Session
+kept_in One s = record { folder = s.folder; undos = s.undos; redos = [] }
+kept_in Two s = s

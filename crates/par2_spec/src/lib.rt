@@ -11,6 +11,7 @@ pub mod rank_laws;
 pub mod repair_laws;
 pub mod search_laws;
 pub mod session_laws;
+pub mod stop_laws;
 
 pub use asked::{Action, Command, CreateArgs};
 
