@@ -74,8 +74,6 @@ pub cuts : (e new : Echelon) → IsReduced e → IsReduced new → (row bytes ri
     → ((k : ℕ) → get_or bytes k 0 < 256) → length right ≡ e.bytes → ((k : ℕ) → get_or right k 0 < 256)
     → new.columns ≡ e.columns → new.bytes ≡ e.bytes → new.rank ≡ e.rank + 1 → Cut e new bytes right → CutDown (system_of e) (system_of new) row right
 cuts e new r s row bytes right spells size small right_size right_bytes columns texts_size one cut = record {
-  columns = columns;
-  bytes = texts_size;
   rank = rank_view new s ∙ one ∙ ap (λ x. x + 1) (sym (rank_view e r));
   kills = λ v is.
       let f : ℕ → ℕ = λ i. get_or v i 0 in

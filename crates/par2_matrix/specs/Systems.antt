@@ -33,8 +33,6 @@ pub record AreTexts (s : Equations) (texts : List (List ℕ)) : Type 0 where
 
 -- what kills and what solves is cut down by one equation
 pub record CutDown (old new : Equations) (row right : List ℕ) : Type 0 where
-  pub columns : new.columns ≡ old.columns
-  pub bytes : new.bytes ≡ old.bytes
   pub rank : rank new ≡ rank old + 1
   pub kills : (v : List ℕ) → IsVector old.columns v → Kills new v ↔ (Kills old v × (dot row v ≡ 0))
   pub solves : (texts : List (List ℕ)) → AreTexts old texts → Solves new texts ↔ (Solves old texts × (combination old.bytes row texts ≡ right))

@@ -68,6 +68,8 @@ impl System {
         ensures kept { result ≡ Ok Offer.Kept → CutDown self.old self.new row.now right.items }
         ensures told { result ≡ Ok Offer.Kept → TellsApart self.old row.now }
         ensures dependent { result ≡ Ok Offer.Dependent → Follows self.old row.now }
+        ensures columns { self.new.columns ≡ self.old.columns }
+        ensures bytes { self.new.bytes ≡ self.old.bytes }
         ensures unchanged { result ≢ Ok Offer.Kept → self.new ≡ self.old }
     {
         let mut row = bytes_of_row(alloc, row)?;

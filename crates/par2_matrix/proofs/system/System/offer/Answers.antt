@@ -68,3 +68,9 @@ returns-in_default-clause-dependent c is =
     subst (λ (old : Equations). Follows old c.args.row.now) c.self.view_is
     (follows _ c.self.invariant c.args.row.now c.in_ok-row.row.items c.in_ok-row.ensures size
     (rw (c.deref.ensures.value, c.as_mut_slice.ensures.value) at (c.in_default.ensures.none refl)))
+
+pub returns-clause-columns : goal.returns-clause-columns
+returns-clause-columns c = columns_stay c ∙ ap (λ (e : Equations). e.columns) c.self.view_is
+
+pub returns-clause-bytes : goal.returns-clause-bytes
+returns-clause-bytes c = ap (λ (e : Equations). e.bytes) c.self.view_is
