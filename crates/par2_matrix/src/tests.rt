@@ -1,6 +1,40 @@
+ghost use Rattle.std.specs.Prelude.{◌≡◌, length};
+
 use crate::{Offer, System};
 use par2_gf16::Gf;
+use std::alloc::{AllocError, Global};
 use std::test::Fail;
+
+fn offer(
+    system: &mut System,
+    alloc: Global,
+    gf: &Gf,
+    row: &[u16],
+    right: &[u8],
+) -> Result<Offer, AllocError>
+    requires row { length row.now ≡ system.old.columns }
+    requires right { length right.now ≡ system.old.bytes }
+    ensures columns { system.new.columns ≡ system.old.columns }
+    ensures bytes { system.new.bytes ≡ system.old.bytes }
+{
+    let right = right.to_vec(alloc)?;
+    system.offer(alloc, gf, row, right)
+}
+
+// whether the texts, one behind the other, are the solution
+fn is_solved_by(system: System, texts: &[u8]) -> bool {
+    let Ok(solution) = system.into_solution() else {
+        return false;
+    };
+    let mut rest = texts;
+    for text in &solution {
+        let Some(left) = rest.strip_prefix(text.as_slice()) else {
+            return false;
+        };
+        rest = left;
+    }
+    rest.is_empty()
+}
 
 #[test]
 fn two_by_two_system(rt: HostRuntime) -> Result<(), Fail> {
@@ -8,45 +42,46 @@ fn two_by_two_system(rt: HostRuntime) -> Result<(), Fail> {
     let gf = Gf::new(alloc)?;
     let mut system = System::new(alloc, 2, 2)?;
     assert_eq!(rt; system.rank(), 0);
-    let first = vec![in alloc; 3u8, 0]?;
-    assert_eq!(rt; system.offer(alloc, &gf, &[1u16, 1], first)?, Offer::Kept);
-    let again = vec![in alloc; 3u8, 0]?;
-    assert_eq!(rt; system.offer(alloc, &gf, &[1u16, 1], again)?, Offer::Dependent);
+    assert_eq!(rt;
+        offer(&mut system, alloc, &gf, &[1, 1], &[3, 0])?,
+        Offer::Kept
+    );
+    assert_eq!(rt;
+        offer(&mut system, alloc, &gf, &[1, 1], &[3, 0])?,
+        Offer::Dependent
+    );
     assert_eq!(rt; system.rank(), 1);
-    let Err(back) = system.into_solution() else {
-        panic!(rt; "a system of rank 1 has no solution yet");
+    let Err(mut system) = system.into_solution() else {
+        panic!(rt; "one equation has no solution for two unknowns");
     };
-    let mut system = back;
-    let second = vec![in alloc; 0x22u8, 0]?;
-    assert_eq!(rt; system.offer(alloc, &gf, &[2u16, 16], second)?, Offer::Kept);
+    assert_eq!(rt;
+        offer(&mut system, alloc, &gf, &[2, 16], &[0x22, 0])?,
+        Offer::Kept
+    );
     assert_eq!(rt; system.rank(), 2);
-    let Ok(texts) = system.into_solution() else {
-        panic!(rt; "the system is full");
-    };
-    assert_eq!(rt; texts.len(), 2);
-    assert_eq!(rt; texts[0].as_slice(), [1u8, 0].as_slice());
-    assert_eq!(rt; texts[1].as_slice(), [2u8, 0].as_slice());
+    assert!(rt; is_solved_by(system, &[1, 0, 2, 0]));
     Ok(())
 }
 
-// The pivots come in the order of no column: the second unknown, then the third, then the first.
+// The first equation has its pivot in the second column, the next in the third.
 #[test]
-fn pivots_out_of_order(rt: HostRuntime) -> Result<(), Fail> {
+fn pivots_in_any_order(rt: HostRuntime) -> Result<(), Fail> {
     let alloc = rt.alloc();
     let gf = Gf::new(alloc)?;
     let mut system = System::new(alloc, 3, 4)?;
-    let first = vec![in alloc; 4u8, 0, 0, 0]?;
-    assert_eq!(rt; system.offer(alloc, &gf, &[0u16, 2, 0], first)?, Offer::Kept);
-    let second = vec![in alloc; 5u8, 0, 7, 9]?;
-    assert_eq!(rt; system.offer(alloc, &gf, &[0u16, 0, 1], second)?, Offer::Kept);
-    let third = vec![in alloc; 6u8, 0, 0, 1]?;
-    assert_eq!(rt; system.offer(alloc, &gf, &[1u16, 1, 1], third)?, Offer::Kept);
-    let Ok(texts) = system.into_solution() else {
-        panic!(rt; "the system is full");
-    };
-    assert_eq!(rt; texts[0].as_slice(), [1u8, 0, 7, 8].as_slice());
-    assert_eq!(rt; texts[1].as_slice(), [2u8, 0, 0, 0].as_slice());
-    assert_eq!(rt; texts[2].as_slice(), [5u8, 0, 7, 9].as_slice());
+    assert_eq!(rt;
+        offer(&mut system, alloc, &gf, &[0, 2, 0], &[4, 0, 0, 0])?,
+        Offer::Kept
+    );
+    assert_eq!(rt;
+        offer(&mut system, alloc, &gf, &[0, 0, 1], &[5, 0, 7, 9])?,
+        Offer::Kept
+    );
+    assert_eq!(rt;
+        offer(&mut system, alloc, &gf, &[1, 1, 1], &[6, 0, 0, 1])?,
+        Offer::Kept
+    );
+    assert!(rt; is_solved_by(system, &[1, 0, 7, 8, 2, 0, 0, 0, 5, 0, 7, 9]));
     Ok(())
 }
 
@@ -55,14 +90,12 @@ fn no_columns(rt: HostRuntime) -> Result<(), Fail> {
     let alloc = rt.alloc();
     let gf = Gf::new(alloc)?;
     let mut system = System::new(alloc, 0, 2)?;
-    let none: [u16; 0] = [];
-    let right = vec![in alloc; 7u8, 0]?;
-    assert_eq!(rt; system.offer(alloc, &gf, &none, right)?, Offer::Dependent);
+    assert_eq!(rt;
+        offer(&mut system, alloc, &gf, &[], &[7, 0])?,
+        Offer::Dependent
+    );
     assert_eq!(rt; system.rank(), 0);
-    let Ok(texts) = system.into_solution() else {
-        panic!(rt; "nothing is unknown");
-    };
-    assert_eq!(rt; texts.len(), 0);
+    assert!(rt; is_solved_by(system, &[]));
     Ok(())
 }
 
@@ -71,18 +104,13 @@ fn no_bytes(rt: HostRuntime) -> Result<(), Fail> {
     let alloc = rt.alloc();
     let gf = Gf::new(alloc)?;
     let mut system = System::new(alloc, 2, 0)?;
-    let first = Vec::new(alloc);
-    assert_eq!(rt; system.offer(alloc, &gf, &[0u16, 0], first)?, Offer::Dependent);
-    let second = Vec::new(alloc);
-    assert_eq!(rt; system.offer(alloc, &gf, &[2u16, 4], second)?, Offer::Kept);
-    let third = Vec::new(alloc);
-    assert_eq!(rt; system.offer(alloc, &gf, &[0u16, 3], third)?, Offer::Kept);
+    assert_eq!(rt;
+        offer(&mut system, alloc, &gf, &[0, 0], &[])?,
+        Offer::Dependent
+    );
+    assert_eq!(rt; offer(&mut system, alloc, &gf, &[2, 4], &[])?, Offer::Kept);
+    assert_eq!(rt; offer(&mut system, alloc, &gf, &[0, 3], &[])?, Offer::Kept);
     assert_eq!(rt; system.rank(), 2);
-    let Ok(texts) = system.into_solution() else {
-        panic!(rt; "the system is full");
-    };
-    assert_eq!(rt; texts.len(), 2);
-    assert_eq!(rt; texts[0].len(), 0);
-    assert_eq!(rt; texts[1].len(), 0);
+    assert!(rt; is_solved_by(system, &[]));
     Ok(())
 }
