@@ -1,10 +1,11 @@
 -- Vectors, lane by lane.
-use Rattle.std.proofs.Common.{ℕ, zero, suc, ◌+◌, ◌*◌, ◌/◌, ◌%◌, ◌^◌, ◌<◌, ◌≤◌, ◌≡◌, refl, sym, ap, ap₂, ◌∙◌, arith, List, [], ◌∷◌, map, length, replicate, Bool, true, false, cond, eqb, bit_and, zero-mul, one-mul, pow_pos, pow-suc, mul_comm, add-one, w16, Fits, inl, inr, mod-lt}
+use Rattle.std.proofs.Common.{ℕ, zero, suc, ◌+◌, ◌*◌, ◌/◌, ◌%◌, ◌^◌, ◌<◌, ◌≡◌, refl, sym, ap, ap₂, ◌∙◌, arith, List, [], ◌∷◌, map, length, replicate, Bool, true, false, cond, eqb, bit_and, zero-mul, one-mul, pow_pos, pow-suc, mul_comm, add-one, inl, inr, mod-lt}
 use Rattle.std.proofs.Math.Arith.{mod-mul}
+use Rattle.std.proofs.Math.Nat.{mod-eq_of_lt}
 use Rattle.std.proofs.lemmas.Nat.{shr-shr}
 use Rattle.std.proofs.lemmas.Nat.Bits.{and_pow}
 use Rattle.std.proofs.lemmas.Bool.{eqb-true, eqb-false}
-use Rattle.std.proofs.lemmas.Simd.{zip2_of_maps, map-map, below_from_Fits}
+use Rattle.std.proofs.lemmas.Simd.{zip2_of_maps, map-map}
 use Rattle.std.specs.Int.{bit_at}
 use Rattle.std.specs.Int.RustNames.{bit_xor}
 use Rattle.std.specs.Int.Bits.{xor_shifted}
@@ -95,8 +96,7 @@ lanes_turn c v sum rest sum' rest' k k' j hc h so_far es er ek =
           ∙ ap (mul c) (product_comm (pow 2 j) 2 pj (omega arith) ∙ sym (ap (pow 2) (add-one j)));
     }
 
-pub lanes_done : (c : ℕ) (v sum rest : List ℕ) (k j : ℕ) → 16 ≤ j → j ≤ 16 → Each1 (Fits w16) v → LanesSoFar c v sum rest k j → sum ≡ map (mul c) v
-lanes_done c v sum rest k j h l fits so_far =
-    let e : j ≡ 16 = omega arith in
-    so_far.added ∙ ap (λ n. map (λ x. mul c (x % 2 ^ n)) v) e
-    ∙ map_same _ (mul c) (λ x. x < 65536) (λ x small. ap (mul c) (let m : x % 65536 ≡ x = omega arith in m)) v (below_from_Fits w16 v fits)
+pub lanes_done : (c n : ℕ) (v sum rest : List ℕ) (k j : ℕ) → j ≡ n → Each1 (λ x. x < 2 ^ n) v → LanesSoFar c v sum rest k j → sum ≡ map (mul c) v
+lanes_done c n v sum rest k j e fits so_far =
+    so_far.added ∙ ap (λ m. map (λ x. mul c (x % 2 ^ m)) v) e
+    ∙ map_same (λ x. mul c (x % 2 ^ n)) (mul c) (λ x. x < 2 ^ n) (λ x small. ap (mul c) (mod-eq_of_lt small)) v fits

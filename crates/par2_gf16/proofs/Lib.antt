@@ -1,4 +1,5 @@
 pub mod WordLaws
 pub mod LaneLaws
-pub mod Blocks
+pub mod NibbleLaws
+pub mod BlockLaws
 pub mod TableLaws

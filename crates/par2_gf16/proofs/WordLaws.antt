@@ -25,7 +25,7 @@ unfolding two_writes
 other_kept xs at low high k n m =
     get_or-set_other (set xs at low) (at + 1) k high 0 m ∙ get_or-set_other xs at k low 0 n
 
-word_xor : (r a p : ℕ) → r < 256 → a < 256 → p < 65536 → bit_xor r (p % 256) + 256 * bit_xor a (p / 256) ≡ bit_xor (r + 256 * a) p
+pub word_xor : (r a p : ℕ) → r < 256 → a < 256 → p < 65536 → bit_xor r (p % 256) + 256 * bit_xor a (p / 256) ≡ bit_xor (r + 256 * a) p
 word_xor r a p hr ha hp =
     let e : r + 256 * a ≡ a * 2 ^ 8 + r = omega arith in
     let f : p ≡ p / 256 * 2 ^ 8 + p % 256 = omega arith in

@@ -16,13 +16,27 @@ pub record LanesSoFar (c : ℕ) (v sum rest : List ℕ) (k j : ℕ) : Type 0 whe
   pub left : rest ≡ map (λ x. x / 2 ^ j) v
   pub copy : k ≡ mul c (pow 2 j)
 
--- the lanes v are the words of the bytes from `at` on
-pub record WordsFrom (bytes : List ℕ) (at : ℕ) (v : List ℕ) : Type 0 where
-  pub count : length v ≡ 16
-  pub each : (j : ℕ) → j < 16 → slice_index bytes (at + 2 * j) + 256 * slice_index bytes (at + (2 * j + 1)) ≡ slice_index v j
-
 -- the bytes before `from` and those from `to` on are as before
 pub record SameOutside (old new : List ℕ) (from to : ℕ) : Type 0 where
   pub same_length : length new ≡ length old
   pub below : (k : ℕ) → k < from → slice_index new k ≡ slice_index old k
   pub above : (k : ℕ) → to ≤ k → slice_index new k ≡ slice_index old k
+
+-- a table of f at each nibble, twice over
+pub record IsTable (f : ℕ → ℕ) (table : List ℕ) : Type 0 where
+  pub count : length table ≡ 32
+  pub each : (n : ℕ) → n < 32 → slice_index table n ≡ f (n % 16)
+
+-- the bytes are those of low and those of high in turn
+pub record IsInterleaving (low high bytes : List ℕ) : Type 0 where
+  pub low_count : length low ≡ 32
+  pub high_count : length high ≡ 32
+  pub lows : (j : ℕ) → j < 32 → slice_index bytes (2 * j) ≡ slice_index low j
+  pub highs : (j : ℕ) → j < 32 → slice_index bytes (2 * j + 1) ≡ slice_index high j
+
+-- to the bytes from `at` on, those of v are added
+pub record AddsLanes (old new : List ℕ) (at : ℕ) (v : List ℕ) : Type 0 where
+  pub count : length v ≡ 32
+  pub others : SameOutside old new at (at + 32)
+  pub fit : (j : ℕ) → j < 32 → slice_index old (at + j) < 256
+  pub each : (j : ℕ) → j < 32 → slice_index new (at + j) ≡ bit_xor (slice_index old (at + j)) (slice_index v j)

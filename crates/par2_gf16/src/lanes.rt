@@ -1,16 +1,14 @@
-//! Sixteen words at a time.
+//! Operations on vectors, lane by lane.
 
-ghost use Rattle.std.specs.Prelude.{◌≡◌, ◌+◌, ◌*◌, ◌/◌, ◌%◌, ◌≤◌, length, map, bit_xor};
+ghost use Rattle.std.specs.Prelude.{◌≡◌, ℕ, ◌+◌, ◌*◌, ◌/◌, ◌%◌, ◌++◌, ◌<◌, ◌≤◌, length, slice_index, map, take, drop, bit_xor};
 ghost use Rattle.std.specs.Simd.Lanes.{zip2};
-ghost use Rattle.par2_spec.specs.Field.{mul};
-ghost use Rattle.par2_gf16.specs.Steps.{AddsWithin, WordsFrom, SameOutside};
+ghost use Rattle.par2_gf16.specs.Steps.{IsTable, IsInterleaving, AddsLanes};
 
-use crate::doubling::doubled;
 use std::simd::prelude::*;
 
 // k is added to the sum where the lowest bit of the lane is set
 #[inline(always)]
-fn select_add(sum: u16x16, v: u16x16, k: u16) -> u16x16
+pub(crate) fn select_add(sum: u16x16, v: u16x16, k: u16) -> u16x16
     ensures { result ≡ zip2 (λ s x. bit_xor s (x % 2 * k)) sum v }
 {
     let one = u16x16::splat(1);
@@ -19,67 +17,102 @@ fn select_add(sum: u16x16, v: u16x16, k: u16) -> u16x16
 }
 
 #[inline(always)]
-fn halved(v: u16x16) -> u16x16
+pub(crate) fn halved(v: u16x16) -> u16x16
     ensures { result ≡ map (λ x. x / 2) v }
 {
     v >> u16x16::splat(1)
 }
 
 #[inline(always)]
-fn zeros(v: u16x16) -> u16x16
+pub(crate) fn zeros(v: u16x16) -> u16x16
     ensures { result ≡ map (λ _. 0) v }
 {
     u16x16::splat(0)
 }
 
-// the sum of the copies of c, each doubled as often as its bit of the lane calls for
 #[inline(always)]
-fn product_lanes(c: u16, v: u16x16) -> u16x16
-    ensures { result ≡ map (mul c) v }
+pub(crate) fn lower_bytes(v: u16x16) -> u8x16
+    ensures { result ≡ map (λ x. x % 256) v }
 {
-    let mut sum = zeros(v);
-    let mut rest = v;
-    let mut k = c;
-    for j in 0..16u32 {
-        sum = select_add(sum, rest, k);
-        rest = halved(rest);
-        k = doubled(k);
-    }
-    sum
-}
-
-// the sixteen words from byte `at` on
-#[inline(always)]
-fn load(src: &[u8], at: usize) -> u16x16
-    requires { at + 32 ≤ length src.now }
-    ensures { WordsFrom src.now at result }
-{
-    u16x16::from_le_bytes(u8x32::from_slice(&src[at..]))
+    (v & u16x16::splat(255)).cast::<u8>()
 }
 
 #[inline(always)]
-fn store(dst: &mut [u8], at: usize, v: u16x16)
-    requires { at + 32 ≤ length dst.old }
-    ensures words { WordsFrom dst.new at v }
-    ensures others { SameOutside dst.old dst.new at (at + 32) }
+pub(crate) fn higher_bytes(v: u16x16) -> u8x16
+    ensures { result ≡ map (λ x. x / 256) v }
 {
-    v.to_le_bytes().copy_to_slice(&mut dst[at..]);
+    (v >> u16x16::splat(8)).cast::<u8>()
 }
 
 #[inline(always)]
-fn add_lanes(a: u16x16, b: u16x16) -> u16x16
+pub(crate) fn twice(v: u8x16) -> u8x32
+    ensures { result ≡ v ++ v }
+{
+    v.shuffle(
+        v,
+        [
+            0, 1, 2, 3, 4, 5, 6, 7, 8, 9, 10, 11, 12, 13, 14, 15, 0, 1, 2, 3, 4, 5, 6, 7, 8, 9, 10,
+            11, 12, 13, 14, 15,
+        ],
+    )
+}
+
+// looks the lower nibble of each lane up
+#[inline(always)]
+pub(crate) fn look_low(table: u8x32, v: u8x32) -> u8x32
+    ensures { (f : ℕ → ℕ) → IsTable f table → result ≡ map (λ x. f (x % 16)) v }
+{
+    table.swizzle_dyn_within::<16>(v & u8x32::splat(15))
+}
+
+// looks the higher nibble of each lane up
+#[inline(always)]
+pub(crate) fn look_high(table: u8x32, v: u8x32) -> u8x32
+    ensures { (f : ℕ → ℕ) → IsTable f table → result ≡ map (λ x. f (x / 16)) v }
+{
+    table.swizzle_dyn_within::<16>(v >> u8x32::splat(4))
+}
+
+#[inline(always)]
+pub(crate) fn sum(a: u8x32, b: u8x32) -> u8x32
     ensures { result ≡ zip2 bit_xor a b }
 {
     a ^ b
 }
 
-// adds the products for the sixteen words from word n on
-pub(crate) fn add_block(c: u16, src: &[u8], dst: &mut [u8], n: usize)
-    requires fits { 2 * n + 32 ≤ length dst.old }
-    requires same { length src.now ≡ length dst.old }
-    ensures { AddsWithin c src.now dst.old dst.new n (n + 16) }
+#[inline(always)]
+fn vector_at(bytes: &[u8], at: usize) -> u8x32
+    requires { at + 32 ≤ length bytes.now }
+    ensures value { result ≡ take 32 (drop at bytes.now) }
+    ensures fit { (i : ℕ) → slice_index bytes.now i < 256 }
 {
-    let products = product_lanes(c, load(src, 2 * n));
-    let old = load(dst, 2 * n);
-    store(dst, 2 * n, add_lanes(old, products));
+    u8x32::from_slice(&bytes[at..])
+}
+
+// the lower and the higher bytes of the thirty-two words from byte `at` on
+#[inline(always)]
+pub(crate) fn words_at(bytes: &[u8], at: usize) -> (u8x32, u8x32)
+    requires { at + 64 ≤ length bytes.now }
+    ensures { IsInterleaving result.0 result.1 (take 64 (drop at bytes.now)) }
+{
+    let first = vector_at(bytes, at);
+    let second = vector_at(bytes, at + 32);
+    first.deinterleave(second)
+}
+
+#[inline(always)]
+pub(crate) fn interleaved(low: u8x32, high: u8x32) -> (u8x32, u8x32)
+    ensures { IsInterleaving low high (result.0 ++ result.1) }
+{
+    low.interleave(high)
+}
+
+// adds a vector to the bytes from `at` on
+#[inline(always)]
+pub(crate) fn add_vector(dst: &mut [u8], at: usize, v: u8x32)
+    requires { at + 32 ≤ length dst.old }
+    ensures { AddsLanes dst.old dst.new at v }
+{
+    let old = vector_at(dst, at);
+    sum(old, v).copy_to_slice(&mut dst[at..]);
 }

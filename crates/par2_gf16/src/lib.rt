@@ -3,6 +3,7 @@
 #![tactic(auto)]
 
 mod doubling;
+mod factor;
 mod lanes;
 mod tables;
 mod words;

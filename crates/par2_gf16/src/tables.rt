@@ -7,7 +7,7 @@ ghost use Rattle.par2_gf16.specs.Steps.{AddsWithin};
 ghost use Rattle.par2_gf16.specs.Tables.{AreTables};
 
 use crate::doubling::doubled;
-use crate::lanes::add_block;
+use crate::factor::add_blocks;
 use crate::words::{add_at, word_at};
 use std::alloc::{AllocError, Global};
 
@@ -129,11 +129,9 @@ impl Gf {
         requires even { length dst.old % 2 ≡ 0 }
         ensures { AddsProducts c src.now dst.old dst.new }
     {
-        let blocks = dst.len() / 32;
-        for block in 0..blocks {
-            add_block(c, src, dst, 16 * block);
-        }
-        for i in 16 * blocks..dst.len() / 2 {
+        let blocks = dst.len() / 64;
+        add_blocks(c, src, dst, blocks);
+        for i in 32 * blocks..dst.len() / 2 {
             self.add_word(c, src, dst, i);
         }
     }
