@@ -2,12 +2,11 @@
 use Rattle.std.proofs.Common.{ℕ, zero, suc, ◌+◌, ◌-◌, ◌*◌, ◌/◌, ◌%◌, ◌^◌, ◌<◌, ◌≤◌, ◌≡◌, refl, sym, ap, ap₂, ◌∙◌, subst, arith, List, [], ◌∷◌, ◌++◌, map, flat_map, length, get_or, eqb, ◌&&◌, inl, inr, true, w8, Fits, bit_and, replicate}
 use Rattle.std.proofs.lemmas.Bool.{cases_lt, eqb-true, and_parts}
 use Rattle.std.proofs.lemmas.Nat.{and_mask}
-use Rattle.std.proofs.lemmas.List.{get_or-map, length-map, get_or_append_left, get_or-append_right, ext_get_or, map-append}
-use Rattle.std.proofs.lemmas.List.FromFn.{get_or-map-range_with_len, length-map-range_with_len}
-use Rattle.std.proofs.lemmas.Simd.{zip2_splat, get_or-chunk, length-chunk, get_or-put_chunk_below, get_or-put_chunk_at, get_or-put_chunk_above, length-put_chunk, get_or-zip2, length-zip2, get_or-swz_l_below, length-swz_l, swz_l, SwzOk, SwzOk-from_below, pick_l_left, pick_l_whole}
+use Rattle.std.proofs.lemmas.List.{get_or-map, length-map, get_or_append_left, get_or-append_right, ext_get_or}
+use Rattle.std.proofs.lemmas.Simd.{Each1-get_or, below_from_Fits, length-chunk, get_or_wider, chunk-fits, zip2_splat, get_or-chunk, get_or-put_chunk_below, get_or-put_chunk_at, get_or-put_chunk_above, length-put_chunk, get_or-zip2, length-zip2, get_or-swz_l_below, length-swz_l, swz_l, SwzOk, SwzOk-from_below}
 use Rattle.std.specs.List.{range_with_len}
 use Rattle.std.specs.Prelude.{bit_xor}
-use lib.Lanes.{zip2, Each1, chunk, put_chunk, pick_l}
+use lib.Lanes.{number_l, digits_l, zip2, Each1, chunk, put_chunk, pick_l}
 use Rattle.par2_spec.specs.Field.{mul}
 use Rattle.par2_spec.specs.Slices.{word}
 use Rattle.par2_spec.proofs.FieldBits.{tested, tested_at}
@@ -16,41 +15,50 @@ use Rattle.par2_gf16.specs.Steps.{AddsWithin, IsTable, IsInterleaving, AddsLanes
 use Rattle.par2_gf16.proofs.LaneLaws.{map_all}
 use Rattle.par2_gf16.proofs.WordLaws.{word_xor}
 
--- ---- a vector's bytes in turn
+-- ---- words and their bytes
 
-abbrev pub evens : List ℕ
-evens = map (λ j. 2 * j) (range_with_len 0 32)
+length-digits_l : (p n x : ℕ) → length (digits_l p n x) ≡ n
+length-digits_l p zero x = refl
+length-digits_l p (suc n) x = ap suc (length-digits_l p n (x / p))
 
-abbrev pub odds : List ℕ
-odds = map (λ j. 2 * j + 1) (range_with_len 0 32)
+two_digits : (ys : List ℕ) → length ys ≡ 2 → number_l 256 ys ≡ get_or ys 0 0 + 256 * get_or ys 1 0
+two_digits [] e = absurd (omega arith)
+two_digits (x ∷ []) e = absurd (omega arith)
+two_digits (x ∷ y ∷ []) e = omega arith
+two_digits (x ∷ y ∷ z ∷ zs) e = absurd (omega arith)
 
--- the two halves of a block as one
-joined : (bytes : List ℕ) (at k : ℕ) → at + 64 ≤ length bytes → k < 64 → get_or (chunk at 32 bytes ++ chunk (at + 32) 32 bytes) k 0 ≡ get_or bytes (at + k) 0
-joined bytes at k room h =
-    let long : length (chunk at 32 bytes) ≡ 32 = length-chunk at 32 bytes (omega arith) in
-    elim (cases_lt k 32) [
-      | inl l ↦ get_or_append_left (chunk at 32 bytes) (chunk (at + 32) 32 bytes) 0 k (omega (arith, long)) ∙ get_or-chunk at 32 bytes k 0 l
-      | inr g ↦ get_or-append_right (chunk at 32 bytes) (chunk (at + 32) 32 bytes) 32 k 0 long g
-          ∙ get_or-chunk (at + 32) 32 bytes (k - 32) 0 (omega arith) ∙ ap (λ i. get_or bytes i 0) (let e : at + 32 + (k - 32) ≡ at + k = omega arith in e)
-    ]
+-- a word of a block, the lower byte first
+block_word : (block : List ℕ) (j : ℕ) → length block ≡ 64 → Each1 (λ x. x < 256) block → j < 32
+    → get_or (digits_l 65536 32 (number_l 256 block)) j 0 ≡ get_or block (2 * j) 0 + 256 * get_or block (2 * j + 1) 0
+block_word block j long small h =
+    let pair : length (chunk (2 * j) 2 block) ≡ 2 = length-chunk (2 * j) 2 block (omega arith) in
+    get_or_wider 256 2 65536 32 block j refl small h
+    ∙ two_digits (chunk (2 * j) 2 block) pair
+    ∙ ap₂ (λ x y. x + 256 * y)
+    (get_or-chunk (2 * j) 2 block 0 0 (omega arith) ∙ ap (λ i. get_or block i 0) (let e : 2 * j + 0 ≡ 2 * j = omega arith in e))
+    (get_or-chunk (2 * j) 2 block 1 0 (omega arith))
 
-picked : (bytes : List ℕ) (f : ℕ → ℕ) (j : ℕ) → j < 32 → get_or (pick_l 0 bytes (map f (range_with_len 0 32))) j 0 ≡ get_or bytes (f j) 0
-picked bytes f j h =
-    get_or-map (λ k. get_or bytes k 0) (map f (range_with_len 0 32)) j 0 0 (omega (arith, length-map-range_with_len f 0 32))
-    ∙ ap (λ k. get_or bytes k 0) (get_or-map-range_with_len f 0 32 j j 0 h (omega arith))
-
-length-picked : (bytes : List ℕ) (f : ℕ → ℕ) → length (pick_l 0 bytes (map f (range_with_len 0 32))) ≡ 32
-length-picked bytes f = length-map (map f (range_with_len 0 32)) (λ k. get_or bytes k 0) ∙ length-map-range_with_len f 0 32
-
-pub deinterleaved : (bytes : List ℕ) (at : ℕ) → at + 64 ≤ length bytes
-    → IsInterleaving (pick_l 0 (chunk at 32 bytes ++ chunk (at + 32) 32 bytes) evens) (pick_l 0 (chunk at 32 bytes ++ chunk (at + 32) 32 bytes) odds) (chunk at 64 bytes)
-deinterleaved bytes at room =
-    let both = chunk at 32 bytes ++ chunk (at + 32) 32 bytes in
+pub words_split : (bytes : List ℕ) (at : ℕ) (low high : List ℕ) → at + 64 ≤ length bytes → ((i : ℕ) → Fits w8 (get_or bytes i 0))
+    → low ≡ map (λ x. x % 256) (digits_l 65536 32 (number_l 256 (chunk at 64 bytes)))
+    → high ≡ map (λ x. x / 256) (digits_l 65536 32 (number_l 256 (chunk at 64 bytes)))
+    → IsInterleaving low high (chunk at 64 bytes)
+words_split bytes at low high room fits el eh =
+    let block = chunk at 64 bytes in
+    let long : length block ≡ 64 = length-chunk at 64 bytes room in
+    let small : Each1 (λ x. x < 256) block = below_from_Fits w8 block (chunk-fits w8 at 64 bytes fits) in
+    let words = digits_l 65536 32 (number_l 256 block) in
+    let count : length words ≡ 32 = length-digits_l 65536 32 (number_l 256 block) in
     record {
-      low_count = length-picked both (λ j. 2 * j);
-      high_count = length-picked both (λ j. 2 * j + 1);
-      lows = λ j h. get_or-chunk at 64 bytes (2 * j) 0 (omega arith) ∙ sym (picked both (λ i. 2 * i) j h ∙ joined bytes at (2 * j) room (omega arith));
-      highs = λ j h. get_or-chunk at 64 bytes (2 * j + 1) 0 (omega arith) ∙ sym (picked both (λ i. 2 * i + 1) j h ∙ joined bytes at (2 * j + 1) room (omega arith));
+      low_count = ap length el ∙ length-map words (λ x. x % 256) ∙ count;
+      high_count = ap length eh ∙ length-map words (λ x. x / 256) ∙ count;
+      lows = λ j h.
+          let byte : get_or block (2 * j) 0 < 256 = Each1-get_or (λ x. x < 256) block (2 * j) 0 (omega arith) small in
+          sym (ap (λ xs. get_or xs j 0) el ∙ get_or-map (λ x. x % 256) words j 0 0 (omega arith)
+          ∙ ap (λ x. x % 256) (block_word block j long small h) ∙ omega arith);
+      highs = λ j h.
+          let byte : get_or block (2 * j) 0 < 256 = Each1-get_or (λ x. x < 256) block (2 * j) 0 (omega arith) small in
+          sym (ap (λ xs. get_or xs j 0) eh ∙ get_or-map (λ x. x / 256) words j 0 0 (omega arith)
+          ∙ ap (λ x. x / 256) (block_word block j long small h) ∙ omega arith);
     }
 
 abbrev pub woven : List ℕ
@@ -75,11 +83,6 @@ interleaving low high ll lh = record {
       ∙ ap (λ k. get_or (low ++ high) k 0) (woven_at j h).1
       ∙ get_or-append_right low high 32 (32 + j) 0 ll (omega arith) ∙ ap (λ k. get_or high k 0) (let e : 32 + j - 32 ≡ j = omega arith in e);
 }
-
-pub doubled_lanes : (v : List ℕ) → length v ≡ 16 → pick_l 0 (v ++ v) (range_with_len 0 16 ++ range_with_len 0 16) ≡ v ++ v
-doubled_lanes v long =
-    let once : pick_l 0 (v ++ v) (range_with_len 0 16) ≡ v = pick_l_left 0 v v 16 (range_with_len 0 16) long tt ∙ pick_l_whole 0 v 16 long in
-    map-append (λ k. get_or (v ++ v) k 0) (range_with_len 0 16) (range_with_len 0 16) ∙ ap₂ (λ a b. a ++ b) once once
 
 -- ---- look-ups
 

@@ -1,16 +1,14 @@
 -- The product of a word, nibble by nibble.
-use Rattle.std.proofs.Common.{ℕ, ◌+◌, ◌-◌, ◌*◌, ◌/◌, ◌%◌, ◌<◌, ◌≡◌, refl, sym, ap, ap₂, ◌∙◌, arith, List, ◌++◌, map, length, get_or, eqb, inl, inr, true}
-use Rattle.std.proofs.lemmas.Bool.{cases_lt, eqb-true}
+use Rattle.std.proofs.Common.{ℕ, ◌+◌, ◌*◌, ◌/◌, ◌%◌, ◌<◌, ◌≡◌, refl, sym, ap, ap₂, ◌∙◌, arith, List, map, length, get_or, eqb, true}
+use Rattle.std.proofs.lemmas.Bool.{eqb-true}
 use Rattle.std.proofs.lemmas.Nat.{xor_mod, xor_shr, xor_comm}
-use Rattle.std.proofs.lemmas.List.{get_or-map, get_or_append_left, get_or-append_right, length-map, length-append}
-use Rattle.std.proofs.lemmas.List.FromFn.{length-range_with_len, get_or-range_with_len}
-use Rattle.std.specs.List.{range_with_len}
+use Rattle.std.proofs.lemmas.List.{get_or-map, length-map}
 use Rattle.std.specs.Prelude.{bit_xor}
 use Rattle.std.specs.Int.Bits.{xor_shifted}
 use Rattle.par2_spec.specs.Field.{mul}
 use Rattle.par2_spec.proofs.FieldBits.{tested, tested_at, xor_shl}
 use Rattle.par2_spec.proofs.FieldProducts.{product-lt, product_comm, product_assoc, product_linear_right}
-use Rattle.par2_gf16.specs.Steps.{IsTable}
+use Rattle.par2_gf16.specs.Steps.{IsTable, nibbles}
 
 test_16 : tested (λ n. eqb (mul 16 n) (n * 16)) 16 ≡ true
 unfolding mul
@@ -99,20 +97,15 @@ higher_byte c k1 k2 k3 l h hc e1 e2 e3 hl hh =
     sym (ap (λ v. v / 256) (sym (split_product c k1 k2 k3 l h hc e1 e2 e3 hl hh))
     ∙ xor_shr (bit_xor a b) (bit_xor d e) 8 ∙ ap₂ bit_xor (xor_shr a b 8) (xor_shr d e 8))
 
--- a table of sixteen values, twice over
-pub table_made : (f : ℕ → ℕ) (xs table : List ℕ) → length xs ≡ 16 → ((n : ℕ) → n < 16 → get_or xs n 0 ≡ f n) → table ≡ xs ++ xs → IsTable f table
-table_made f xs table long each e = record {
-  count = ap length e ∙ length-append xs xs ∙ omega (arith, long);
-  each = λ n h. ap (λ ys. get_or ys n 0) e ∙ elim (cases_lt n 16) [
-    | inl l ↦ get_or_append_left xs xs 0 n (omega (arith, long)) ∙ each n l ∙ ap f (let k : n ≡ n % 16 = omega arith in k)
-    | inr g ↦ get_or-append_right xs xs 16 n 0 long g ∙ each (n - 16) (omega arith) ∙ ap f (let k : n - 16 ≡ n % 16 = omega arith in k)
-  ];
-}
+test_nibbles : tested (λ n. eqb (get_or nibbles n 0) (n % 16)) 32 ≡ true
+test_nibbles = refl
 
-pub byte_table : (f : ℕ → ℕ) (g : ℕ → ℕ) (products bytes table : List ℕ) → products ≡ map f (range_with_len 0 16) → bytes ≡ map g products → table ≡ bytes ++ bytes → IsTable (λ n. g (f n)) table
-byte_table f g products bytes table ep eb et =
-    let count : length products ≡ 16 = ap length ep ∙ length-map (range_with_len 0 16) f ∙ length-range_with_len 0 16 in
-    table_made (λ n. g (f n)) bytes table (ap length eb ∙ length-map products g ∙ count)
-    (λ n h. ap (λ xs. get_or xs n 0) eb ∙ get_or-map g products n 0 0 (omega (arith, count))
-    ∙ ap g (ap (λ xs. get_or xs n 0) ep ∙ get_or-map f (range_with_len 0 16) n 0 0 (omega (arith, length-range_with_len 0 16)) ∙ ap f (get_or-range_with_len 0 16 n 0 h ∙ (let k : 0 + n ≡ n = omega arith in k))))
-    et
+pub byte_table : (f : ℕ → ℕ) (g : ℕ → ℕ) (products table : List ℕ) → products ≡ map f nibbles → table ≡ map g products → IsTable (λ n. g (f n)) table
+byte_table f g products table ep et =
+    let count : length products ≡ 32 = ap length ep ∙ length-map nibbles f in
+    record {
+      count = ap length et ∙ length-map products g ∙ count;
+      each = λ n h. ap (λ xs. get_or xs n 0) et ∙ get_or-map g products n 0 0 (omega (arith, count))
+          ∙ ap g (ap (λ xs. get_or xs n 0) ep ∙ get_or-map f nibbles n 0 0 (omega arith)
+          ∙ ap f (eqb-true (get_or nibbles n 0) (n % 16) (tested_at (λ m. eqb (get_or nibbles m 0) (m % 16)) 32 n test_nibbles h)));
+    }

@@ -97,12 +97,6 @@ first_kept logs powers constants x y i h so_far e other = record {
   next = e ∙ ap (mul 2) so_far.next ∙ next_power i;
 }
 
-pub second_start : (logs powers constants : List ℕ) (x i : ℕ) → i ≡ 65535 → FirstRound logs powers constants x i → SecondRound powers x 0
-second_start logs powers constants x i e so_far = record {
-  powers_are = subst (λ n. PowersBelow powers n) e so_far.powers_are;
-  next = so_far.next ∙ ap (pow 2) e;
-}
-
 pub second_turn : (powers : List ℕ) (x y j : ℕ) → SecondRound powers x j → y ≡ mul 2 x → SecondRound (powers ++ x ∷ []) y (j + 1)
 second_turn powers x y j so_far e =
     let s : 65535 + j + 1 ≡ 65535 + (j + 1) = omega arith in

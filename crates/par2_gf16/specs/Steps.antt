@@ -1,5 +1,6 @@
 -- What the loops over words keep.
-use Rattle.std.specs.Prelude.{ℕ, ◌+◌, ◌*◌, ◌^◌, ◌<◌, ◌≤◌, ◌≡◌, ◌/◌, ◌%◌, List, length, map, slice_index, bit_xor}
+use Rattle.std.specs.Prelude.{ℕ, ◌+◌, ◌*◌, ◌^◌, ◌<◌, ◌≤◌, ◌≡◌, ◌/◌, ◌%◌, List, length, map, slice_index, bit_xor, ◌++◌}
+use Rattle.std.specs.List.{range_with_len}
 use Rattle.par2_spec.specs.Field.{mul, pow}
 use Rattle.par2_spec.specs.Slices.{word}
 
@@ -21,6 +22,10 @@ pub record SameOutside (old new : List ℕ) (from to : ℕ) : Type 0 where
   pub same_length : length new ≡ length old
   pub below : (k : ℕ) → k < from → slice_index new k ≡ slice_index old k
   pub above : (k : ℕ) → to ≤ k → slice_index new k ≡ slice_index old k
+
+-- each nibble, twice over
+abbrev pub nibbles : List ℕ
+nibbles = range_with_len 0 16 ++ range_with_len 0 16
 
 -- a table of f at each nibble, twice over
 pub record IsTable (f : ℕ → ℕ) (table : List ℕ) : Type 0 where

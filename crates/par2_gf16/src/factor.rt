@@ -2,16 +2,19 @@
 //! theirs, and those are looked up.
 
 ghost use Rattle.std.specs.Prelude.{◌≡◌, ℕ, ◌+◌, ◌*◌, ◌/◌, ◌%◌, ◌^◌, ◌<◌, ◌≤◌, length, map, bit_xor};
-ghost use Rattle.std.specs.List.{range_with_len};
 ghost use Rattle.std.specs.Simd.Lanes.{zip2};
 ghost use Rattle.par2_spec.specs.Field.{mul};
-ghost use Rattle.par2_gf16.specs.Steps.{AddsWithin, IsTable};
+ghost use Rattle.par2_gf16.specs.Steps.{AddsWithin, IsTable, nibbles};
 
 use crate::doubling::doubled;
 use crate::lanes;
 use std::simd::prelude::*;
 
-const NIBBLES: [u16; 16] = [0, 1, 2, 3, 4, 5, 6, 7, 8, 9, 10, 11, 12, 13, 14, 15];
+/// Each nibble, twice over, since a look-up sees sixteen lanes of a table at a time.
+const NIBBLES: [u16; 32] = [
+    0, 1, 2, 3, 4, 5, 6, 7, 8, 9, 10, 11, 12, 13, 14, 15, 0, 1, 2, 3, 4, 5, 6, 7, 8, 9, 10, 11, 12,
+    13, 14, 15,
+];
 
 /// The products of one element and each nibble: their lower and their higher bytes.
 #[derive(Drop)]
@@ -30,8 +33,8 @@ impl NibbleProducts {
         ensures { result.element ≡ element }
     {
         let products = nibble_products(element);
-        let low = lanes::twice(lanes::lower_bytes(products));
-        let high = lanes::twice(lanes::higher_bytes(products));
+        let low = lanes::lower_bytes(products);
+        let high = lanes::higher_bytes(products);
         NibbleProducts { element, low, high }
     }
 }
@@ -131,12 +134,12 @@ fn sixteen_times(x: u16) -> u16
 
 // the sum of the copies of k, each doubled as often as its bit of the nibble calls for
 #[inline(always)]
-fn nibble_products(element: u16) -> u16x16
-    ensures { result ≡ map (mul element) (range_with_len 0 16) }
+fn nibble_products(element: u16) -> u16x32
+    ensures { result ≡ map (mul element) nibbles }
 {
-    let nibbles = u16x16::from_array(NIBBLES);
-    let mut sum = lanes::zeros(nibbles);
-    let mut rest = nibbles;
+    let all = u16x32::from_array(NIBBLES);
+    let mut sum = lanes::zeros(all);
+    let mut rest = all;
     let mut k = element;
     for j in 0..4u32 {
         sum = lanes::select_add(sum, rest, k);

@@ -8,53 +8,40 @@ use std::simd::prelude::*;
 
 // k is added to the sum where the lowest bit of the lane is set
 #[inline(always)]
-pub(crate) fn select_add(sum: u16x16, v: u16x16, k: u16) -> u16x16
+pub(crate) fn select_add(sum: u16x32, v: u16x32, k: u16) -> u16x32
     ensures { result ≡ zip2 (λ s x. bit_xor s (x % 2 * k)) sum v }
 {
-    let one = u16x16::splat(1);
+    let one = u16x32::splat(1);
     let odd = (v & one).simd_eq(one);
-    sum ^ odd.select(u16x16::splat(k), u16x16::splat(0))
+    sum ^ odd.select(u16x32::splat(k), u16x32::splat(0))
 }
 
 #[inline(always)]
-pub(crate) fn halved(v: u16x16) -> u16x16
+pub(crate) fn halved(v: u16x32) -> u16x32
     ensures { result ≡ map (λ x. x / 2) v }
 {
-    v >> u16x16::splat(1)
+    v >> u16x32::splat(1)
 }
 
 #[inline(always)]
-pub(crate) fn zeros(v: u16x16) -> u16x16
+pub(crate) fn zeros(v: u16x32) -> u16x32
     ensures { result ≡ map (λ _. 0) v }
 {
-    u16x16::splat(0)
+    u16x32::splat(0)
 }
 
 #[inline(always)]
-pub(crate) fn lower_bytes(v: u16x16) -> u8x16
+pub(crate) fn lower_bytes(v: u16x32) -> u8x32
     ensures { result ≡ map (λ x. x % 256) v }
 {
-    (v & u16x16::splat(255)).cast::<u8>()
+    (v & u16x32::splat(255)).cast::<u8>()
 }
 
 #[inline(always)]
-pub(crate) fn higher_bytes(v: u16x16) -> u8x16
+pub(crate) fn higher_bytes(v: u16x32) -> u8x32
     ensures { result ≡ map (λ x. x / 256) v }
 {
-    (v >> u16x16::splat(8)).cast::<u8>()
-}
-
-#[inline(always)]
-pub(crate) fn twice(v: u8x16) -> u8x32
-    ensures { result ≡ v ++ v }
-{
-    v.shuffle(
-        v,
-        [
-            0, 1, 2, 3, 4, 5, 6, 7, 8, 9, 10, 11, 12, 13, 14, 15, 0, 1, 2, 3, 4, 5, 6, 7, 8, 9, 10,
-            11, 12, 13, 14, 15,
-        ],
-    )
+    (v >> u16x32::splat(8)).cast::<u8>()
 }
 
 // looks the lower nibble of each lane up
@@ -95,9 +82,8 @@ pub(crate) fn words_at(bytes: &[u8], at: usize) -> (u8x32, u8x32)
     requires { at + 64 ≤ length bytes.now }
     ensures { IsInterleaving result.0 result.1 (take 64 (drop at bytes.now)) }
 {
-    let first = vector_at(bytes, at);
-    let second = vector_at(bytes, at + 32);
-    first.deinterleave(second)
+    let words = u16x32::from_le_bytes(u8x64::from_slice(&bytes[at..]));
+    (lower_bytes(words), higher_bytes(words))
 }
 
 #[inline(always)]

@@ -6,6 +6,6 @@ use Rattle.par2_gf16.proofs.factor.NibbleProducts.new.Goals as goal
 pub invariant_of-result : goal.invariant_of-result
 invariant_of-result c = record {
   fits = c.ranges.element.fits;
-  lows = byte_table (mul c.args.element) (λ x. x % 256) c.nibble_products-products.result c.lower_bytes.result c.twice-low.result c.nibble_products-products.ensures c.lower_bytes.ensures c.twice-low.ensures;
-  highs = byte_table (mul c.args.element) (λ x. x / 256) c.nibble_products-products.result c.higher_bytes.result c.twice-high.result c.nibble_products-products.ensures c.higher_bytes.ensures c.twice-high.ensures;
+  lows = byte_table (mul c.args.element) (λ x. x % 256) c.nibble_products-products.result c.lower_bytes-low.result c.nibble_products-products.ensures c.lower_bytes-low.ensures;
+  highs = byte_table (mul c.args.element) (λ x. x / 256) c.nibble_products-products.result c.higher_bytes-high.result c.nibble_products-products.ensures c.higher_bytes-high.ensures;
 }
