@@ -8,11 +8,11 @@ use Rattle.par2_spec.specs.Field.{mul}
 use Rattle.par2_spec.specs.Slices.{word}
 use Rattle.par2_spec.specs.Recovery.{dot}
 use Rattle.par2_spec.specs.Rank.{IsVector}
-use Rattle.par2_matrix.specs.Systems.{Equations, rank, no_equations, Kills, AreTexts, CutDown, TellsApart, Follows, KillsZeroAlone, IsTheSolution}
+use Rattle.par2_matrix.specs.Systems.{Equations, rank, no_equations, IsKilled, AreTexts, CutDown, IsIndependent, IsDependent, IsUndetermined, OnlyZeroIsKilled, IsTheSolution}
 use Rattle.par2_matrix.specs.Echelon.{row_sum, AreElements, Echelon, echelon, Vanishes, IsReduced, list_at, equations, system_of, Spells, AllEmpty}
 use Rattle.par2_matrix.proofs.Words.{word-lt}
 use Rattle.par2_matrix.proofs.Sums.{field_sum_same, row_sum-lt}
-use Rattle.par2_matrix.proofs.Reduced.{ToldApart, all_present, unit_row, full_rank}
+use Rattle.par2_matrix.proofs.Reduced.{ToldApart, all_present, unit_row, full_rank, free_vector, one≢zero}
 use Rattle.par2_matrix.proofs.Placing.{Cut}
 use Rattle.par2_matrix.proofs.Views.{all_at, all_from, elements_of, dot_spelled, rank_view, kills_view, solves_view, words_at, words_are_elements, words_by_elements, combination_words, same_texts}
 
@@ -35,7 +35,7 @@ listed_sum : (n : ℕ) (f : ℕ → ℕ) (row : List ℕ) → row_sum n row (λ 
 listed_sum n f row =
     field_sum_same n (λ i. mul (word i row) (get_or (listed n f) i 0)) (λ i. mul (word i row) (f i)) (λ i h. ap (mul (word i row)) (listed_at n f i h))
 
-killed_listed : (e : Echelon) → IsReduced e → (f : ℕ → ℕ) → AreElements f → Vanishes e f → Kills (system_of e) (listed e.columns f)
+killed_listed : (e : Echelon) → IsReduced e → (f : ℕ → ℕ) → AreElements f → Vanishes e f → IsKilled (system_of e) (listed e.columns f)
 killed_listed e r f small vanishes =
     (kills_view e r (listed e.columns f) (listed_vector e.columns f small)).1 (λ p hp. listed_sum e.columns f (list_at e.rows p) ∙ vanishes p hp)
 
@@ -55,27 +55,25 @@ new_system n m b R D e rows rights =
 -- ---- offer
 
 pub follows : (e : Echelon) → IsReduced e → (row bytes : List ℕ) → Spells row bytes (length row) → length row ≡ e.columns
-    → ((f : ℕ → ℕ) → AreElements f → Vanishes e f → row_sum e.columns bytes f ≡ 0) → Follows (system_of e) row
+    → ((f : ℕ → ℕ) → AreElements f → Vanishes e f → row_sum e.columns bytes f ≡ 0) → IsDependent (system_of e) row
 follows e r row bytes spells size sums v is killed =
     dot_spelled e.columns row bytes v spells size is.0
     ∙ sums (λ i. get_or v i 0) (elements_of e.columns v is) ((kills_view e r v is).0 killed)
 
-pub tells : (e : Echelon) → IsReduced e → (row bytes : List ℕ) → Spells row bytes (length row) → length row ≡ e.columns → ToldApart e bytes → TellsApart (system_of e) row
+pub tells : (e : Echelon) → IsReduced e → (row bytes : List ℕ) → Spells row bytes (length row) → length row ≡ e.columns → ToldApart e bytes → IsIndependent (system_of e) row
 tells e r row bytes spells size t =
     let is = listed_vector e.columns t.vector t.are_elements in
     record {
       vector = listed e.columns t.vector;
       is_vector = is;
       killed = killed_listed e r t.vector t.are_elements t.killed;
-      told = λ z. t.told (sym (listed_sum e.columns t.vector bytes) ∙ sym (dot_spelled e.columns row bytes (listed e.columns t.vector) spells size is.0) ∙ z);
+      not_killed = λ z. t.told (sym (listed_sum e.columns t.vector bytes) ∙ sym (dot_spelled e.columns row bytes (listed e.columns t.vector) spells size is.0) ∙ z);
     }
 
 pub cuts : (e new : Echelon) → IsReduced e → IsReduced new → (row bytes right : List ℕ) → Spells row bytes (length row) → length row ≡ e.columns
     → ((k : ℕ) → get_or bytes k 0 < 256) → length right ≡ e.bytes → ((k : ℕ) → get_or right k 0 < 256)
     → new.columns ≡ e.columns → new.bytes ≡ e.bytes → new.rank ≡ e.rank + 1 → Cut e new bytes right → CutDown (system_of e) (system_of new) row right
 cuts e new r s row bytes right spells size small right_size right_bytes columns texts_size one cut = record {
-  columns = columns;
-  bytes = texts_size;
   rank = rank_view new s ∙ one ∙ ap (λ x. x + 1) (sym (rank_view e r));
   kills = λ v is.
       let f : ℕ → ℕ = λ i. get_or v i 0 in
@@ -109,7 +107,7 @@ cuts e new r s row bytes right spells size small right_size right_bytes columns 
 
 -- ---- rank
 
-pub rank_full : (e : Echelon) → IsReduced e → (e.rank ≡ e.columns) ↔ KillsZeroAlone (system_of e)
+pub rank_full : (e : Echelon) → IsReduced e → (e.rank ≡ e.columns) ↔ OnlyZeroIsKilled (system_of e)
 rank_full e r = (
   (λ full v is killed. all_from (λ x. x ≡ 0) 0 v (λ i h.
       (full_rank e r).0 full (λ i. get_or v i 0) (elements_of e.columns v is) ((kills_view e r v is).0 killed) i (omega (arith, is.0)))),
@@ -117,6 +115,17 @@ rank_full e r = (
       sym (listed_at e.columns f i h)
       ∙ all_at (λ x. x ≡ 0) 0 refl (listed e.columns f) (only (listed e.columns f) (listed_vector e.columns f small) (killed_listed e r f small vanishes)) i)),
 )
+
+pub undetermined : (e : Echelon) → IsReduced e → e.rank < e.columns → IsUndetermined (system_of e)
+undetermined e r below =
+    let free = free_vector e r below in
+    record {
+      vector = listed e.columns free.vector;
+      is_vector = listed_vector e.columns free.vector free.are_elements;
+      killed = killed_listed e r free.vector free.are_elements free.killed;
+      not_zero = λ zeros.
+          one≢zero (sym free.one ∙ sym (listed_at e.columns free.vector free.place free.within) ∙ all_at (λ x. x ≡ 0) 0 refl (listed e.columns free.vector) zeros free.place);
+    }
 
 pub not_full : (e : Echelon) → IsReduced e → e.rank < e.columns → (false ≡ true) ↔ (rank (system_of e) ≡ e.columns)
 not_full e r below = (λ f. absurd (false≢true f), λ full. absurd (let h : e.rank ≡ e.columns = sym (rank_view e r) ∙ full in omega arith))

@@ -119,16 +119,38 @@ unit_row s r full f v p h =
     let all = all_present s.rows s.columns (sym r.rank ∙ full) in
     row_sum_unit s.columns p (list_at s.rows p) f h v (r.pivot p (all p h)) (λ i l n. r.cleared p i (λ e. n (sym e)) (all i l))
 
+pub one≢zero : ◌≡◌ {A = ℕ} 1 0 → ⊥
+one≢zero e = omega arith
+
+-- a vector that the equations send to 0, with 1 at a place
+pub record FreeVector (s : Echelon) : Type 0 where
+  pub vector : ℕ → ℕ
+  pub are_elements : AreElements vector
+  pub killed : Vanishes s vector
+  pub place : ℕ
+  pub within : place < s.columns
+  pub one : vector place ≡ 1
+
+pub free_vector : (s : Echelon) → IsReduced s → s.rank < s.columns → FreeVector s
+free_vector s r below =
+    let free = one_absent s.rows s.columns (subst (λ x. x < s.columns) r.rank below) in
+    record {
+      vector = witness s.rows free.0;
+      are_elements = witness_vector s r free.0;
+      killed = witness_killed s r free.0 free.1.0 free.1.1;
+      place = free.0;
+      within = free.1.0;
+      one = witness_here s.rows free.0;
+    }
+
 -- only the zero vector is killed exactly where the rank is the number of columns
 pub full_rank : (s : Echelon) → IsReduced s → (s.rank ≡ s.columns) ↔ ((f : ℕ → ℕ) → AreElements f → Vanishes s f → (i : ℕ) → i < s.columns → f i ≡ 0)
 full_rank s r = (
   λ full f v k i h. sym (unit_row s r full f v i h) ∙ k i h,
   λ only. elim (cases_lt s.rank s.columns) [
     | inl below ↦
-        let free = one_absent s.rows s.columns (subst (λ x. x < s.columns) r.rank below) in
-        let z = only (witness s.rows free.0) (witness_vector s r free.0) (witness_killed s r free.0 free.1.0 free.1.1) free.0 free.1.0 in
-        let one : ◌≡◌ {A = ℕ} 1 0 = sym (witness_here s.rows free.0) ∙ z in
-        absurd (omega arith)
+        let free = free_vector s r below in
+        absurd (one≢zero (sym free.one ∙ only free.vector free.are_elements free.killed free.place free.within))
     | inr above ↦ omega (arith, present_at_most s.rows s.columns, r.rank)
   ],
 )

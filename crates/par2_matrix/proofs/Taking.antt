@@ -10,6 +10,7 @@ use Rattle.par2_spec.proofs.FieldProducts.{product_comm, product-one}
 use Rattle.par2_spec.proofs.FieldOrder.{product-zero}
 use Rattle.par2_matrix.specs.Echelon.{row_sum, AreElements, Echelon, IsReduced, list_at, echelon, ReducedBelow, Scaled, IsMultiple}
 use Rattle.par2_matrix.proofs.Sums.{row_sum_added}
+use Rattle.par2_matrix.proofs.Reduced.{one≢zero}
 
 pub reduce_skip : (s : Echelon) (r0 d0 row right : List ℕ) (p : ℕ) → ReducedBelow s r0 d0 row right p
     → (0 < length (list_at s.rows p) → word p row ≡ 0) → ReducedBelow s r0 d0 row right (p + 1)
@@ -81,9 +82,6 @@ reduce_pass n b rows rights r0 d0 row right src p k ek es why so_far =
       | inl z ↦ sym ek ∙ z
       | inr e ↦ absurd (let h : length (list_at rows p) ≡ 0 = ap length (sym es) ∙ e in omega arith)
     ])
-
-one≢zero : ◌≡◌ {A = ℕ} 1 0 → ⊥
-one≢zero e = omega arith
 
 -- an equation times the inverse of one of its elements
 pub multiple_of : (row1 right1 row right : List ℕ) (x c : ℕ) → IsInverse x c → c < 65536 → Scaled c row1 row (length row1) → Scaled c right1 right (length right1)

@@ -10,7 +10,7 @@ use Rattle.par2_spec.specs.Field.{mul}
 use Rattle.par2_spec.specs.Slices.{word, words}
 use Rattle.par2_spec.specs.Recovery.{dot, combination}
 use Rattle.par2_spec.specs.Rank.{IsVector}
-use Rattle.par2_matrix.specs.Systems.{Equations, Kills, Solves, AreTexts}
+use Rattle.par2_matrix.specs.Systems.{Equations, IsKilled, Solves, AreTexts}
 use Rattle.par2_matrix.specs.Echelon.{field_sum, row_sum, AreElements, Echelon, Vanishes, Meets, IsReduced, list_at, equations, system_of, count_present, Spells}
 use Rattle.par2_matrix.proofs.Words.{word_empty, word-lt}
 use Rattle.par2_matrix.proofs.Sums.{field_sum_same, row_sum_empty, row_sum-lt}
@@ -103,7 +103,7 @@ length-equations ((b ∷ r) ∷ R) (d ∷ D) e =
 pub rank_view : (e : Echelon) → IsReduced e → length (equations e.rows e.rights) ≡ e.rank
 rank_view e r = length-equations e.rows e.rights (r.row_count ∙ sym r.right_count) ∙ ap (count_present e.rows) r.row_count ∙ sym r.rank
 
-pub kills_view : (e : Echelon) → IsReduced e → (v : List ℕ) → IsVector e.columns v → Kills (system_of e) v ↔ Vanishes e (λ i. get_or v i 0)
+pub kills_view : (e : Echelon) → IsReduced e → (v : List ℕ) → IsVector e.columns v → IsKilled (system_of e) v ↔ Vanishes e (λ i. get_or v i 0)
 kills_view e r v is = (
   (λ killed p hp. elim (cases_lt 0 (length (list_at e.rows p))) [
     | inl there ↦ sym (dot_words e.columns (list_at e.rows p) v is.0 (r.row_size p there)) ∙ equation_at (λ row right. dot row v ≡ 0) e.rows e.rights counts killed p there

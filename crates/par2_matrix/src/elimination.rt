@@ -43,7 +43,7 @@ fn list_at(lists: &[Vec<u8>], p: usize) -> &[u8]
 }
 
 /// `count` empty lists.
-pub fn empty_lists(alloc: Global, count: usize) -> Result<Vec<Vec<u8>>, AllocError>
+pub(crate) fn empty_lists(alloc: Global, count: usize) -> Result<Vec<Vec<u8>>, AllocError>
     ensures { IfOk result (λ lists. AllEmpty (lists_of lists.items) count) }
 {
     let mut lists = Vec::new(alloc);
@@ -63,7 +63,7 @@ fn spell(row: &[u16], bytes: &mut [u8])
 }
 
 /// The bytes of a row.
-pub fn bytes_of_row(alloc: Global, row: &[u16]) -> Result<Vec<u8>, AllocError>
+pub(crate) fn bytes_of_row(alloc: Global, row: &[u16]) -> Result<Vec<u8>, AllocError>
     ensures { IfOk result (λ bytes. Spells row.now bytes.items (length row.now)) }
 {
     let mut bytes = vec![in alloc; 0u8; 2 * row.len()]?;
@@ -130,7 +130,7 @@ fn normalize(gf: &Gf, row: &mut [u8], right: &mut [u8], q: usize)
 }
 
 /// Takes the pivots out of an equation, and gives the place that it can take, with its coefficient there made 1.
-pub fn prepare(
+pub(crate) fn prepare(
     gf: &Gf,
     rows: &[Vec<u8>],
     rights: &[Vec<u8>],
@@ -182,7 +182,8 @@ fn clear(gf: &Gf, rows: &mut [Vec<u8>], rights: &mut [Vec<u8>], q: usize, row: &
     requires reduced { IsReduced (echelon (length rows.old) (length right.now) rank (lists_of rows.old) (lists_of rights.old)) }
     ensures { ClearedBelow q row.now right.now (lists_of rows.old) (lists_of rights.old) (lists_of rows.new) (lists_of rights.new) (length rows.old) }
 {
-    for p in 0..rows.len() {
+    let columns = rows.len();
+    for p in 0..columns {
         let target = list_at(rows, p);
         if !target.is_empty() {
             let factor = element(target, q);
@@ -193,7 +194,7 @@ fn clear(gf: &Gf, rows: &mut [Vec<u8>], rights: &mut [Vec<u8>], q: usize, row: &
 }
 
 /// Clears the place q of each equation, and puts the equation there.
-pub fn put_in(
+pub(crate) fn put_in(
     gf: &Gf,
     rows: &mut [Vec<u8>],
     rights: &mut [Vec<u8>],

@@ -6,3 +6,6 @@ mod elimination;
 mod system;
 
 pub use system::{Offer, System};
+
+#[cfg(test)]
+mod tests;

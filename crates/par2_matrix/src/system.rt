@@ -1,6 +1,6 @@
 //! A system of equations.
-ghost use Rattle.std.specs.Prelude.{◌≡◌, ◌≢◌, ℕ, ◌%◌, ◌≤◌, ◌↔◌, length, IsOk, IfOk, IfErr, Ok};
-ghost use Rattle.par2_matrix.specs.Systems.{Equations, rank, no_equations, CutDown, TellsApart, Follows, KillsZeroAlone, IsTheSolution};
+ghost use Rattle.std.specs.Prelude.{◌≡◌, ◌≢◌, ℕ, ◌%◌, ◌<◌, ◌≤◌, ◌↔◌, length, IsOk, IfOk, IfErr, Ok};
+ghost use Rattle.par2_matrix.specs.Systems.{Equations, rank, no_equations, CutDown, IsIndependent, IsDependent, IsUndetermined, OnlyZeroIsKilled, IsTheSolution};
 ghost use Rattle.par2_matrix.specs.Echelon.{lists_of};
 
 use crate::elimination::{bytes_of_row, empty_lists, prepare, put_in};
@@ -13,17 +13,17 @@ use std::marker::Model;
 pub enum Offer {
     /// It was kept: its row isn't a sum of multiples of the rows kept before.
     Kept,
-    /// It was dropped, since its row is such a sum. Its right side was not looked at.
+    /// It was dropped: its row is such a sum. Whether its right side is the same sum wasn't looked at.
     Dependent,
 }
 
-/// Linear equations whose unknowns are texts, all of the same even number of bytes, in reduced row echelon form.
+/// Linear equations over the field, word by word, whose unknowns are texts of the same even number of bytes.
 #[derive(Drop)]
 pub struct System {
     bytes: usize,
     rank: usize,
-    // For each unknown the equation with this pivot, or two empty lists. The right sides are lists of their own,
-    // since at full rank they are the solution.
+    // In reduced row echelon form: for each unknown the equation that has its pivot there, or two empty lists. The right
+    // sides are lists of their own, since at full rank they are the solution.
     rows: Vec<Vec<u8>>,
     rights: Vec<Vec<u8>>,
 }
@@ -54,8 +54,10 @@ impl System {
         })
     }
 
-    /// Keeps the equation that the texts, combined by the elements of `row`, give `right`, where its row is independent
-    /// of the rows kept before. Beside a copy of the row it needs no memory.
+    /// Takes the equation by which the unknown texts, combined by the elements of `row`, give `right`. It is kept where
+    /// its row is independent of the rows kept before. After an error the system is as before, and `right` is gone.
+    ///
+    /// The memory that it asks for is a copy of the row: the text stays where it is.
     pub fn offer(
         &mut self,
         alloc: Global,
@@ -66,8 +68,10 @@ impl System {
         requires row { length row.now ≡ self.old.columns }
         requires right { length right.items ≡ self.old.bytes }
         ensures kept { result ≡ Ok Offer.Kept → CutDown self.old self.new row.now right.items }
-        ensures told { result ≡ Ok Offer.Kept → TellsApart self.old row.now }
-        ensures dependent { result ≡ Ok Offer.Dependent → Follows self.old row.now }
+        ensures independent { result ≡ Ok Offer.Kept → IsIndependent self.old row.now }
+        ensures dependent { result ≡ Ok Offer.Dependent → IsDependent self.old row.now }
+        ensures columns { self.new.columns ≡ self.old.columns }
+        ensures bytes { self.new.bytes ≡ self.old.bytes }
         ensures unchanged { result ≢ Ok Offer.Kept → self.new ≡ self.old }
     {
         let mut row = bytes_of_row(alloc, row)?;
@@ -97,7 +101,8 @@ impl System {
     pub fn rank(&self) -> usize
         ensures value { result ≡ rank self.now }
         ensures most { result ≤ self.now.columns }
-        ensures full { (result ≡ self.now.columns) ↔ KillsZeroAlone self.now }
+        ensures full { (result ≡ self.now.columns) ↔ OnlyZeroIsKilled self.now }
+        ensures below { result < self.now.columns → IsUndetermined self.now }
     {
         self.rank
     }

@@ -1,7 +1,7 @@
 use Rattle.std.proofs.Common.{◌≡◌, ◌<◌, ◌+◌, length, arith, rules, refl, sym, ap, ◌∙◌, subst}
 use Rattle.std.specs.Vec.{with_items}
 use Rattle.std.proofs.lemmas.List.{with_items_is}
-use Rattle.par2_matrix.specs.Systems.{Equations, CutDown, TellsApart, Follows}
+use Rattle.par2_matrix.specs.Systems.{Equations, CutDown, IsIndependent, IsDependent}
 use Rattle.par2_matrix.specs.Echelon.{echelon, IsReduced, lists_of, system_of}
 use Rattle.par2_matrix.proofs.Words.{length-lists_of}
 use Rattle.par2_matrix.proofs.Offering.{IsTaken, offered}
@@ -56,15 +56,21 @@ returns-clause-kept c is =
     (subst (λ n. CutDown (system_of (echelon (length s.rows.items) s.bytes s.rank (lists_of s.rows.items) (lists_of s.rights.items))) (system_of (echelon n s.bytes (s.rank + 1) (lists_of (with_items s.rows c.put_in.new.rows).items) (lists_of (with_items s.rights c.put_in.new.rights).items))) c.args.row.now c.args.right.items) (sym (columns_stay c))
     (cuts _ _ c.self.invariant t.reduced c.args.row.now c.in_ok-row.row.items c.args.right.items c.in_ok-row.ensures (columns_are c) t.row_bytes size t.right_bytes refl refl refl t.cut))
 
-pub returns-clause-told : goal.returns-clause-told
-returns-clause-told c is =
+pub returns-clause-independent : goal.returns-clause-independent
+returns-clause-independent c is =
     let s = c.self.inside in
-    subst (λ (old : Equations). TellsApart old c.args.row.now) c.self.view_is
+    subst (λ (old : Equations). IsIndependent old c.args.row.now) c.self.view_is
     (tells _ c.self.invariant c.args.row.now c.in_ok-row.row.items c.in_ok-row.ensures (columns_are c) (taken c).told)
 
 pub returns-in_default-clause-dependent : goal.returns-in_default-clause-dependent
 returns-in_default-clause-dependent c is =
     let size : length c.args.row.now ≡ length c.self.inside.rows.items = search (rules, (ap (λ (e : Equations). e.columns) c.self.view_is)) in
-    subst (λ (old : Equations). Follows old c.args.row.now) c.self.view_is
+    subst (λ (old : Equations). IsDependent old c.args.row.now) c.self.view_is
     (follows _ c.self.invariant c.args.row.now c.in_ok-row.row.items c.in_ok-row.ensures size
     (rw (c.deref.ensures.value, c.as_mut_slice.ensures.value) at (c.in_default.ensures.none refl)))
+
+pub returns-clause-columns : goal.returns-clause-columns
+returns-clause-columns c = columns_stay c ∙ ap (λ (e : Equations). e.columns) c.self.view_is
+
+pub returns-clause-bytes : goal.returns-clause-bytes
+returns-clause-bytes c = ap (λ (e : Equations). e.bytes) c.self.view_is

@@ -1,8 +1,8 @@
-use Rattle.std.proofs.Common.{◌≡◌, ◌≤◌, ◌↔◌, subst, sym, ◌∙◌, ap}
-use Rattle.par2_matrix.specs.Systems.{Equations, rank, KillsZeroAlone}
+use Rattle.std.proofs.Common.{◌<◌, ◌≡◌, ◌≤◌, ◌↔◌, subst, sym, ◌∙◌, ap}
+use Rattle.par2_matrix.specs.Systems.{Equations, rank, IsUndetermined, OnlyZeroIsKilled}
 use Rattle.par2_matrix.proofs.Standing.{rank_most}
 use Rattle.par2_matrix.proofs.Views.{rank_view}
-use Rattle.par2_matrix.proofs.Promises.{rank_full}
+use Rattle.par2_matrix.proofs.Promises.{rank_full, undetermined}
 use Rattle.par2_matrix.proofs.system.System.rank.Goals as goal
 
 pub returns-clause-value : goal.returns-clause-value
@@ -13,4 +13,8 @@ returns-clause-most c = subst (λ (s : Equations). c.self.inside.rank ≤ s.colu
 
 pub returns-clause-full : goal.returns-clause-full
 returns-clause-full c =
-    subst (λ (s : Equations). (c.self.inside.rank ≡ s.columns) ↔ KillsZeroAlone s) c.self.view_is (rank_full _ c.self.invariant)
+    subst (λ (s : Equations). (c.self.inside.rank ≡ s.columns) ↔ OnlyZeroIsKilled s) c.self.view_is (rank_full _ c.self.invariant)
+
+pub returns-clause-below : goal.returns-clause-below
+returns-clause-below c =
+    subst (λ (s : Equations). c.self.inside.rank < s.columns → IsUndetermined s) c.self.view_is (undetermined _ c.self.invariant)
