@@ -12,6 +12,8 @@ use Rattle.par2_spec.specs.declared.Fault.{Fault}
 use Rattle.par2_spec.specs.declared.Fault.TheVariants.{Memory}
 use Rattle.par2_journal.specs.Ready.{Changing, Undoing, Redoing, IsReady, next_of}
 use Rattle.par2_journal.specs.Faulted.{MayRefuse}
+use Rattle.par2_spec.specs.History.{IsChanging}
+use Rattle.par2_journal.proofs.Acting.{command_done, undo_done, redo_done}
 use Rattle.par2_journal.specs.declared.prepared.SessionFault.TheVariants.{Plan, NothingToUndo, NothingToRedo}
 
 -- a fault of the plan is one of the session
@@ -29,21 +31,24 @@ places_within (Rename from to ∷ changes) = omega (arith, places_within changes
 places_within (Remove name ∷ changes) = omega (arith, places_within changes)
 
 pub ready_command : (old new : KeptSession) (command : Command) (changes : List Change) (steps : List Step)
-    → OnlyGrew old new → refusal old.folder.files command ≡ None → changes ≡ plans.changes_of old.folder.files command
+    → IsChanging (Do command) → OnlyGrew old new → refusal old.folder.files command ≡ None → changes ≡ plans.changes_of old.folder.files command
     → are_applicable old.folder.files changes ≡ true → length changes ≤ new.folder.vacant → 0 < new.room → steps ≡ map step_of changes
     → IsReady (Do command) old (record { kind = Changing changes; steps = steps }) new
 unfolding changes_asked
-ready_command old new command changes steps grew accepted are applies room entry told = record {
-  fits = record {
-    can = (
-      takes_applicable new.folder changes (ap (λ f. are_applicable f changes) grew.files ∙ applies) (omega (arith, places_within changes, room)),
-      entry,
-    );
-    steps = told;
-  };
-  kind = tt;
-  asked = ap (λ r. planned r (plans.changes_of old.folder.files command)) accepted ∙ ap Ok (sym are);
-}
+ready_command old new command changes steps changing grew accepted are applies room entry told =
+    let asked = ap (λ r. planned r (plans.changes_of old.folder.files command)) accepted ∙ ap Ok (sym are) in
+    record {
+      fits = record {
+        can = (
+          takes_applicable new.folder changes (ap (λ f. are_applicable f changes) grew.files ∙ applies) (omega (arith, places_within changes, room)),
+          entry,
+        );
+        steps = told;
+      };
+      kind = tt;
+      asked = asked;
+      leads = command_done old new command (Changing changes) changing grew tt asked;
+    }
 
 pub nothing_to_undo : (s : KeptSession) → length s.undos ≡ 0 → MayRefuse Undo s NothingToUndo
 unfolding changes_asked
@@ -76,6 +81,7 @@ ready_undo s steps some told = record {
   fits = record { can = some_there s.undos some; steps = told };
   kind = tt;
   asked = first_is_next history.NothingToUndo s.undos some;
+  leads = undo_done s (some_there s.undos some);
 }
 
 pub ready_redo : (s : KeptSession) (steps : List Step) → 0 < length s.redos → steps ≡ map step_of (next_of s.redos)
@@ -85,4 +91,5 @@ ready_redo s steps some told = record {
   fits = record { can = some_there s.redos some; steps = told };
   kind = tt;
   asked = first_is_next history.NothingToRedo s.redos some;
+  leads = redo_done s (some_there s.redos some);
 }

@@ -6,7 +6,7 @@ use Rattle.par2_spec.specs.Codes.{change_code}
 use Rattle.par2_spec.specs.SessionCodes.{step_code}
 use Rattle.par2_spec.specs.Changes.{Change, takes_all}
 use Rattle.par2_spec.specs.Commands.{Action, Do, Undo, Redo}
-use Rattle.par2_spec.specs.Sessions.{KeptSession, session_of_kept, changes_asked, kept_done, kept_undone, kept_redone}
+use Rattle.par2_spec.specs.Sessions.{KeptSession, session_of_kept, session_after, changes_asked, kept_done, kept_undone, kept_redone}
 use Rattle.par2_spec.specs.Texts.{Step, step_of}
 
 -- what committing does: a command's own changes, or the next entry of one side
@@ -54,11 +54,13 @@ IsKindOf Undo Undoing = Unit {0}
 IsKindOf Redo Redoing = Unit {0}
 IsKindOf action kind = ⊥
 
--- what an action makes ready: it can be committed, and applies the changes that are asked for
+-- what an action makes ready: it can be committed, it applies the changes that are asked for, and the session
+-- afterwards is the one after the action
 pub record IsReady (action : Action) (old : KeptSession) (ready : Ready) (new : KeptSession) : Type 0 where
   pub fits : Fits ready new
   pub kind : IsKindOf action ready.kind
   pub asked : changes_asked (session_of_kept old) action ≡ Ok (changes_of ready.kind old)
+  pub leads : session_after (session_of_kept old) action ≡ Ok (session_of_kept (committed ready.kind new))
 
 -- how a model stores it
 abbrev pub kind_number : Kind → ℕ × List Change

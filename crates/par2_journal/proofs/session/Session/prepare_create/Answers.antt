@@ -13,6 +13,6 @@ returns-in-Err-clause-refused c =
 pub returns-in-Ok-make_room-clause-ready : goal.returns-in-Ok-make_room-clause-ready
 returns-in-Ok-make_room-clause-ready c =
     ready_command c.args.self.now c.make_room.new.self (Create (create_args_of c.args.args.now)) c.in-Ok.changes c.in-Ok-of.steps
-    c.make_room.ensures.kept (rw c.folder.ensures.folder at c.in-Ok.ensures.accepted) (rw c.folder.ensures.folder at c.in-Ok.ensures.changes)
+    tt c.make_room.ensures.kept (rw c.folder.ensures.folder at c.in-Ok.ensures.accepted) (rw c.folder.ensures.folder at c.in-Ok.ensures.changes)
     (rw c.folder.ensures.folder at c.in-Ok.ensures.applies) (rw c.len.ensures at c.in-Ok-make_room.ensures.vacant) c.in-Ok-make_room.ensures.room
     (c.in-Ok-of.ensures ∙ ap (map step_of) c.as_slice.ensures)

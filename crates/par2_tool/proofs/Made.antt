@@ -1,0 +1,21 @@
+-- Changes that were made one after the other in a store.
+use Rattle.std.proofs.Common.{◌≡◌, ◌<◌, ◌+◌, ℕ, List, [], ◌∷◌, ◌++◌, length, map, get_or, take, refl, sym, ap, ◌∙◌}
+use Rattle.std.proofs.lemmas.List.{take_more}
+use Rattle.std.proofs.lemmas.List.{map-append}
+use Rattle.par2_spec.specs.Changes as defined
+use Rattle.par2_spec.specs.Stores.{Contents, changed}
+use Rattle.par2_folder.specs.declared.change.Change.{Change}
+use Rattle.par2_folder.specs.Views.{change_of}
+use Rattle.par2_tool.specs.Performed.{all_changed}
+
+changed_more : (k : Contents) (cs : List defined.Change) (c : defined.Change) → all_changed k (cs ++ c ∷ []) ≡ changed (all_changed k cs) c
+changed_more k [] c = refl
+changed_more k (d ∷ cs) c = changed_more (changed k d) cs c
+
+pub made_next : (k : Contents) (changes : List Change) (i : ℕ) (item : Change) → i < length changes → item ≡ get_or changes i item
+    → changed (all_changed k (map change_of (take i changes))) (change_of item) ≡ all_changed k (map change_of (take (i + 1) changes))
+made_next k changes i item within is =
+    sym (changed_more k (map change_of (take i changes)) (change_of item))
+    ∙ ap (all_changed k) (sym (map-append change_of (take i changes) (item ∷ [])))
+    ∙ ap (λ x. all_changed k (map change_of (take i changes ++ x ∷ []))) is
+    ∙ ap (λ l. all_changed k (map change_of l)) (sym (take_more changes i item within))

@@ -1,0 +1,40 @@
+use Rattle.std.proofs.Common.{◌≡◌, ◌⊎◌, inl, inr, ◌+◌, ℕ, map, take, refl, sym, ap, ◌∙◌, arith}
+use Rattle.std.proofs.lemmas.List.{take-map}
+use Rattle.par2_spec.specs.Stores.{Contents, changed}
+use Rattle.par2_folder.specs.Views.{change_of}
+use Rattle.par2_tool.specs.Performed.{all_changed}
+use Rattle.par2_tool.proofs.Made.{made_next}
+use Rattle.par2_tool.proofs.writing.write_changes.Goals as goal
+
+pub returns-in-Err-clause-stopped : goal.returns-in-Err-clause-stopped
+returns-in-Err-clause-stopped g c honest =
+    let held = c.loop-change.invariant in
+    let i = c.loop-change.change-index in
+    let changes = c.args.changes.now in
+    let item = c.change-item.result in
+    let start = g.S.FolderStore.contents c.args.store.now in
+    let now = g.S.FolderStore.contents c.write_change.new.store in
+    let made = held.made honest in
+    elim (c.in-Err.ensures.stopped (held.honest honest)) as (λ _. (n : ℕ) × (now ≡ all_changed start (take n (map change_of changes)))) [
+      | inl none ↦ (i, none ∙ made ∙ ap (all_changed start) (sym (take-map change_of i changes)))
+      | inr one ↦ (
+        i + 1,
+        one
+            ∙ ap (λ (k : Contents). changed k (change_of item)) made
+            ∙ made_next start changes i item c.loop-change-test.true c.change-item.is
+            ∙ ap (all_changed start) (sym (take-map change_of (i + 1) changes)),
+      )
+    ]
+
+pub loop-change-preserved : goal.loop-change-preserved
+loop-change-preserved g c =
+    let held = c.loop-change.invariant in
+    let item = c.change-item.result in
+    record {
+      honest = λ h. c.write_change.ensures.honest (held.honest h);
+      made = λ h.
+          c.in-Ok.ensures.done (held.honest h)
+          ∙ ap (λ (k : Contents). changed k (change_of item)) (held.made h)
+          ∙ made_next (g.S.FolderStore.contents c.args.store.now) c.args.changes.now c.loop-change.change-index item c.loop-change-test.true c.change-item.is;
+      later = omega (arith, held.later, c.write_change.ensures.later);
+    }

@@ -1,0 +1,11 @@
+use Rattle.std.proofs.Common.{◌≡◌, ◌≤◌, map, take}
+use Rattle.par2_folder.specs.Views.{change_of}
+use Rattle.par2_tool.specs.Performed.{all_changed}
+use Rattle.par2_tool.proofs.writing.write_changes.Given as goal
+
+abbrev pub invariant-loop-change : goal.invariant-loop-change
+invariant-loop-change g l = record {
+  honest : g.S.FolderStore.honest l.initial.store → g.S.FolderStore.honest l.store;
+  made : g.S.FolderStore.honest l.initial.store → g.S.FolderStore.contents l.store ≡ all_changed (g.S.FolderStore.contents l.initial.store) (map change_of (take l.change-index l.changes));
+  later : g.S.FolderStore.failures l.initial.store ≤ g.S.FolderStore.failures l.store;
+}
