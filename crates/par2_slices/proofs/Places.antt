@@ -1,5 +1,5 @@
 -- The places of the pairs.
-use Rattle.std.proofs.Common.{◌≡◌, ℕ, ◌+◌, ◌-◌, ◌/◌, ◌^◌, ◌<◌, ◌≤◌, List, [], map, length, take, drop, get_or, refl, subst, sym, ap, ◌∙◌, arith}
+use Rattle.std.proofs.Common.{◌≡◌, ℕ, ◌+◌, ◌-◌, ◌/◌, ◌^◌, ◌<◌, ◌≤◌, List, map, length, take, drop, get_or, refl, subst, sym, ap, ◌∙◌, arith}
 use Rattle.std.specs.List.{All, range_with_len}
 use Rattle.std.specs.List.Sorted.{IsPermutation, IsNonDecreasingBy}
 use Rattle.std.proofs.lemmas.List.{get_or_default, get_or-take, get_or-drop, length-take-le, length-drop}
@@ -36,9 +36,9 @@ index_of pairs places sorted are moved rising =
       rising = rising;
       each = λ k below. All-get_or Its sorted k no_place below all_sorted;
       whole = λ i below.
-        let x : Place = place_of pairs i in
-        let found = Contains-permutation places sorted x moved (i, omega (arith, below, size), at i x below) in
-        (found.0, found.1, ap (λ (place : Place). place.index) (get_or_default sorted found.0 no_place x found.1 ∙ found.2));
+          let x : Place = place_of pairs i in
+          let found = Contains-permutation places sorted x moved (i, omega (arith, below, size), at i x below) in
+          (found.0, found.1, ap (λ (place : Place). place.index) (get_or_default sorted found.0 no_place x found.1 ∙ found.2));
     }
 
 group_rises : (shift a b : ℕ) → a ≤ b → a / 2 ^ shift ≤ b / 2 ^ shift
@@ -71,27 +71,26 @@ group_of pairs places rest shift crc start count index is bound below above memb
     let taken : length (take count rest) ≡ count = length-take-le count rest bound in
     record {
       each = λ k h.
-        let low : k < count = omega (arith, h, taken) in
-        let Its : Place → Type 0 = IsPlace pairs in
-        subst Its (sym (cut k low)) (index.each (start + k) (omega (arith, low, bound, size)));
+          let low : k < count = omega (arith, h, taken) in
+          let Its : Place → Type 0 = IsPlace pairs in
+          subst Its (sym (cut k low)) (index.each (start + k) (omega (arith, low, bound, size)));
       whole = λ i h same.
-        let found = index.whole i h in
-        let k : ℕ = found.0 in
-        let place : Place = place_at places k in
-        let its : place.crc / 2 ^ shift ≡ crc / 2 ^ shift = (
-            ap (λ c. c / 2 ^ shift) (sym ((index.each k found.1).crc) ∙ ap (λ j. (pair_at pairs j).1) found.2) ∙ same
-        ) in
-        let from : start ≤ k = not_below k start (λ early. absurd_equal (place.crc / 2 ^ shift) (crc / 2 ^ shift) its (below k early)) in
-        let until : k - start < count = not_above (k - start) count (λ late.
-            let inside : count < length rest = omega (arith, late, found.1, from, size) in
-            let last : Place = place_at places (start + count) in
-            let least : crc / 2 ^ shift ≤ last.crc / 2 ^ shift = above (start + count) (omega arith) (omega (arith, inside, size)) in
-            let most : last.crc / 2 ^ shift ≤ place.crc / 2 ^ shift = group_rises shift _ _ (index.rising (start + count) k no_place (omega (arith, late, from)) found.1) in
-            end inside (ap (λ (p : Place). p.crc / 2 ^ shift) (at count) ∙ between (crc / 2 ^ shift) (last.crc / 2 ^ shift) (place.crc / 2 ^ shift) least most its)
-        ) in
-        (
-          k - start,
-          omega (arith, until, taken),
-          ap (λ (p : Place). p.index) (cut (k - start) until ∙ ap (place_at places) (let e : start + (k - start) ≡ k = omega (arith, from) in e)) ∙ found.2,
-        );
+          let found = index.whole i h in
+          let k : ℕ = found.0 in
+          let place : Place = place_at places k in
+          let its : place.crc / 2 ^ shift ≡ crc / 2 ^ shift = (
+          ap (λ c. c / 2 ^ shift) (sym ((index.each k found.1).crc) ∙ ap (λ j. (pair_at pairs j).1) found.2) ∙ same
+          ) in
+          let from : start ≤ k = not_below k start (λ early. absurd_equal (place.crc / 2 ^ shift) (crc / 2 ^ shift) its (below k early)) in
+          let until : k - start < count = not_above (k - start) count (λ late.
+          let inside : count < length rest = omega (arith, late, found.1, from, size) in
+          let last : Place = place_at places (start + count) in
+          let least : crc / 2 ^ shift ≤ last.crc / 2 ^ shift = above (start + count) (omega arith) (omega (arith, inside, size)) in
+          let most : last.crc / 2 ^ shift ≤ place.crc / 2 ^ shift = group_rises shift _ _ (index.rising (start + count) k no_place (omega (arith, late, from)) found.1) in
+          end inside (ap (λ (p : Place). p.crc / 2 ^ shift) (at count) ∙ between (crc / 2 ^ shift) (last.crc / 2 ^ shift) (place.crc / 2 ^ shift) least most its)
+          ) in (
+            k - start,
+            omega (arith, until, taken),
+            ap (λ (p : Place). p.index) (cut (k - start) until ∙ ap (place_at places) (let e : start + (k - start) ≡ k = omega (arith, from) in e)) ∙ found.2,
+          );
     }

@@ -1,17 +1,17 @@
 -- A search under way.
-use Rattle.std.proofs.Common.{◌≡◌, ◌≢◌, ℕ, zero, suc, ◌+◌, ◌-◌, ◌*◌, ◌/◌, ◌^◌, ◌<◌, ◌≤◌, Bool, true, false, cond, List, [], ◌∷◌, ◌++◌, length, map, set, get_or, replicate, refl, sym, ap, subst, ◌∙◌, get_or-set_same, get_or-set_other, inl, inr, arith}
+use Rattle.std.proofs.Common.{◌≡◌, ℕ, zero, suc, ◌+◌, ◌-◌, ◌*◌, ◌/◌, ◌^◌, ◌<◌, ◌≤◌, Bool, true, false, cond, List, ◌∷◌, ◌++◌, length, map, set, replicate, refl, sym, ap, subst, ◌∙◌, get_or-set_same, get_or-set_other, inl, inr, arith}
 use Rattle.std.specs.Prelude.{◌⊎◌, ◌==◌, ◌&&◌, Option, Some, None, find}
-use Rattle.std.specs.List.{count_by, sum_by, list_all, range_with_len}
+use Rattle.std.specs.List.{count_by, list_all, range_with_len}
 use Rattle.std.specs.Option.{is_none, option_or}
 use Rattle.std.specs.Str.{bytes_eq}
 use Rattle.std.proofs.lemmas.Bool.{cases_eq, cases_lt, eqb-true, eq-eqb}
 use Rattle.std.proofs.lemmas.List.{length-set, length-replicate, get_or-replicate, length-map, get_or-map, ext_get_or}
 use Rattle.std.proofs.lemmas.List.Folds.{find-append, sum_by-zero, sum_by-replicate, list_all_at}
-use Rattle.std.proofs.lemmas.List.Sums.{sum_by-set, count_by-le-length}
+use Rattle.std.proofs.lemmas.List.Sums.{sum_by-set}
 use Rattle.par2_spec.specs.Checksums.{Pair, crc32}
 use Rattle.par2_spec.specs.Windows.{is_match, window, first_match}
 use Rattle.par2_slices.specs.Filters.{Bits, Marks}
-use Rattle.par2_slices.specs.Searches.{no_pair, pair_at, place_at, offset_at, IsPlace, HoldsGroup, advanced, has_checksums, first_below, IsAt}
+use Rattle.par2_slices.specs.Searches.{no_pair, pair_at, place_at, offset_at, HoldsGroup, advanced, has_checksums, first_below, IsAt}
 use Rattle.par2_slices.specs.declared.wanted.Place.{Place}
 
 range_split : (a m n : ℕ) → range_with_len a (m + n) ≡ range_with_len a m ++ range_with_len (a + m) n
@@ -60,10 +60,10 @@ pub no_more : (s : ℕ) (text : List ℕ) (o : ℕ) (pairs : List Pair) (found :
 no_more s text o pairs found left filter at none = record {
   len = at.len;
   answers = λ i h.
-    let pair : Pair = pair_at pairs i in
-    stays (is_match pair (window s text o)) o (offset_at found i) (none i h)
-    ∙ ap (advanced (is_match pair (window s text o)) o) (at.answers i h)
-    ∙ sym (first_below-more s text o pair);
+      let pair : Pair = pair_at pairs i in
+      stays (is_match pair (window s text o)) o (offset_at found i) (none i h)
+      ∙ ap (advanced (is_match pair (window s text o)) o) (at.answers i h)
+      ∙ sym (first_below-more s text o pair);
   count = at.count;
   marked = at.marked;
 }
@@ -71,27 +71,27 @@ no_more s text o pairs found left filter at none = record {
 pub no_crc : (pair : Pair) (md5 : List ℕ) (crc : ℕ) → (pair.1 ≡ crc → ⊥) → has_checksums md5 crc pair ≡ false
 no_crc pair md5 crc other =
     elim (crc == pair.1) as (λ b. (crc == pair.1) ≡ b → (b && bytes_eq md5 pair.0) ≡ false) [
-      true ↦ λ is. absurd (other (sym (eqb-true crc pair.1 is)))
-    | false ↦ λ is. refl
+      | true ↦ λ is. absurd (other (sym (eqb-true crc pair.1 is)))
+      | false ↦ λ is. refl
     ] refl
 
 -- the checksum of the window is of no group that is marked
 pub unmarked : (s : ℕ) (text : List ℕ) (o : ℕ) (pairs : List Pair) (found : List (Option ℕ)) (left : ℕ) (filter : Bits) (crc : ℕ) → IsAt s text o pairs found left filter → crc ≡ crc32 (window s text o) → (Marks filter crc → ⊥) → IsAt s text (o + 1) pairs found left filter
 unmarked s text o pairs found left filter crc at is not_marked =
     no_more s text o pairs found left filter at (λ i h none.
-        let Has : ℕ → Type 0 = λ c. Marks filter c in
-        no_crc (pair_at pairs i) _ (crc32 (window s text o)) (λ same. not_marked (subst Has (same ∙ sym is) (at.marked i h none))))
+    let Has : ℕ → Type 0 = λ c. Marks filter c in
+    no_crc (pair_at pairs i) _ (crc32 (window s text o)) (λ same. not_marked (subst Has (same ∙ sym is) (at.marked i h none))))
 
 -- no pair that has this checksum is open
 pub unawaited : (s : ℕ) (text : List ℕ) (o : ℕ) (pairs : List Pair) (found : List (Option ℕ)) (left : ℕ) (filter : Bits) (crc shift : ℕ) (group : List Place) → IsAt s text o pairs found left filter → crc ≡ crc32 (window s text o) → HoldsGroup pairs shift crc group → ((k : ℕ) → k < length group → (place_at group k).crc ≡ crc → offset_at found (place_at group k).index ≡ None → ⊥) → IsAt s text (o + 1) pairs found left filter
 unawaited s text o pairs found left filter crc shift group at is holds closed =
     no_more s text o pairs found left filter at (λ i h none.
-        no_crc (pair_at pairs i) _ (crc32 (window s text o)) (λ same.
-            let its : (pair_at pairs i).1 ≡ crc = same ∙ sym is in
-            let place = holds.whole i h (ap (λ c. c / 2 ^ shift) its) in
-            closed place.0 place.1
-                (sym (holds.each place.0 place.1).crc ∙ ap (λ j. (pair_at pairs j).1) place.2 ∙ its)
-                (ap (offset_at found) place.2 ∙ none)))
+    no_crc (pair_at pairs i) _ (crc32 (window s text o)) (λ same.
+    let its : (pair_at pairs i).1 ≡ crc = same ∙ sym is in
+    let place = holds.whole i h (ap (λ c. c / 2 ^ shift) its) in
+    closed place.0 place.1
+    (sym (holds.each place.0 place.1).crc ∙ ap (λ j. (pair_at pairs j).1) place.2 ∙ its)
+    (ap (offset_at found) place.2 ∙ none)))
 
 -- the pairs of the group have their answers
 pub answered : (s : ℕ) (text : List ℕ) (o : ℕ) (pairs : List Pair) (old new : List (Option ℕ)) (left settled : ℕ) (filter : Bits) (md5 : List ℕ) (crc shift : ℕ) (group : List Place) → IsAt s text o pairs old left filter → crc ≡ crc32 (window s text o) → ((pair : Pair) → has_checksums md5 crc pair ≡ is_match pair (window s text o)) → HoldsGroup pairs shift crc group → length new ≡ length old →
@@ -101,21 +101,21 @@ pub answered : (s : ℕ) (text : List ℕ) (o : ℕ) (pairs : List Pair) (old ne
     IsAt s text (o + 1) pairs new (left - settled) filter
 answered s text o pairs old new left settled filter md5 crc shift group at is matches holds size each done count =
     let all : (i : ℕ) → i < length pairs → offset_at new i ≡ advanced (has_checksums md5 crc (pair_at pairs i)) o (offset_at old i) = λ i h.
-      elim (cases_eq (pair_at pairs i).1 crc) [
-        inl same ↦ (
+    elim (cases_eq (pair_at pairs i).1 crc) [
+      | inl same ↦ (
           let place = holds.whole i h (ap (λ c. c / 2 ^ shift) same) in
           let Done : ℕ → Type 0 = λ j. offset_at new j ≡ advanced (has_checksums md5 crc (pair_at pairs j)) o (offset_at old j) in
           subst Done place.2 (done place.0 place.1)
-        )
+          )
       | inr other ↦ kept (has_checksums md5 crc (pair_at pairs i)) o (offset_at old i) (offset_at new i) (each i h) (λ none. no_crc (pair_at pairs i) md5 crc other)
-      ]
+    ]
     in record {
       len = size ∙ at.len;
       answers = λ i h.
-        all i h
-        ∙ ap (λ m. advanced m o (offset_at old i)) (matches (pair_at pairs i))
-        ∙ ap (advanced (is_match (pair_at pairs i) (window s text o)) o) (at.answers i h)
-        ∙ sym (first_below-more s text o (pair_at pairs i));
+          all i h
+          ∙ ap (λ m. advanced m o (offset_at old i)) (matches (pair_at pairs i))
+          ∙ ap (advanced (is_match (pair_at pairs i) (window s text o)) o) (at.answers i h)
+          ∙ sym (first_below-more s text o (pair_at pairs i));
       count = omega (arith, at.count, count);
       marked = λ i h none. at.marked i h (was_open (has_checksums md5 crc (pair_at pairs i)) o (offset_at old i) (offset_at new i) (inr (all i h)) none);
     }
@@ -127,9 +127,9 @@ unmark s text o pairs found left filter after crc shift group at holds closed ke
   answers = at.answers;
   count = at.count;
   marked = λ i h none.
-    keeps (pair_at pairs i).1
-        (λ same. let place = holds.whole i h same in closed place.0 place.1 (ap (offset_at found) place.2 ∙ none))
-        (at.marked i h none);
+      keeps (pair_at pairs i).1
+      (λ same. let place = holds.whole i h same in closed place.0 place.1 (ap (offset_at found) place.2 ∙ none))
+      (at.marked i h none);
 }
 
 -- before the first offset
@@ -139,10 +139,10 @@ at_start s text pairs found left filter found_is left_is marked = record {
   len = ap length found_is ∙ length-replicate (length pairs) None;
   answers = λ i h. ap (λ f. offset_at f i) found_is ∙ get_or-replicate (length pairs) i None None h;
   count =
-    left_is
-    ∙ (let e : length pairs ≡ length pairs * 1 = omega arith in e)
-    ∙ sym (sum_by-replicate (λ (x : Option ℕ). cond (is_none x) 1 0) (length pairs) None)
-    ∙ ap (count_by is_none) (sym found_is);
+      left_is
+      ∙ (let e : length pairs ≡ length pairs * 1 = omega arith in e)
+      ∙ sym (sum_by-replicate (λ (x : Option ℕ). cond (is_none x) 1 0) (length pairs) None)
+      ∙ ap (count_by is_none) (sym found_is);
   marked = λ i h none. marked i h;
 }
 
@@ -165,18 +165,18 @@ closed s text o pair (Some x) within is some =
 pub finished : (s : ℕ) (text : List ℕ) (o : ℕ) (pairs : List Pair) (found : List (Option ℕ)) (left : ℕ) (filter : Bits) → IsAt s text o pairs found left filter → o ≤ length text → (o ≡ length text) ⊎ (left ≡ 0) → found ≡ map (first_match s text) pairs
 finished s text o pairs found left filter at within (inl end) =
     ext_get_or None found (map (first_match s text) pairs)
-        (at.len ∙ sym (length-map pairs (first_match s text)))
-        (λ i h.
-            let inside : i < length pairs = omega (arith, h, at.len) in
-            at.answers i inside ∙ ap (λ n. first_below s text n (pair_at pairs i)) end ∙ whole s text (pair_at pairs i)
-            ∙ sym (get_or-map (first_match s text) pairs i no_pair None inside))
+    (at.len ∙ sym (length-map pairs (first_match s text)))
+    (λ i h.
+    let inside : i < length pairs = omega (arith, h, at.len) in
+    at.answers i inside ∙ ap (λ n. first_below s text n (pair_at pairs i)) end ∙ whole s text (pair_at pairs i)
+    ∙ sym (get_or-map (first_match s text) pairs i no_pair None inside))
 finished s text o pairs found left filter at within (inr none) =
     ext_get_or None found (map (first_match s text) pairs)
-        (at.len ∙ sym (length-map pairs (first_match s text)))
-        (λ i h.
-            let inside : i < length pairs = omega (arith, h, at.len) in
-            closed s text o (pair_at pairs i) (offset_at found i) within (at.answers i inside) (none_open found i (sym at.count ∙ none) h)
-            ∙ sym (get_or-map (first_match s text) pairs i no_pair None inside))
+    (at.len ∙ sym (length-map pairs (first_match s text)))
+    (λ i h.
+    let inside : i < length pairs = omega (arith, h, at.len) in
+    closed s text o (pair_at pairs i) (offset_at found i) within (at.answers i inside) (none_open found i (sym at.count ∙ none) h)
+    ∙ sym (get_or-map (first_match s text) pairs i no_pair None inside))
 
 -- what a walk over the first n places of a group has settled
 pub record Settled (pairs : List Pair) (md5 : List ℕ) (crc offset : ℕ) (old : List (Option ℕ)) (group : List Place) (n : ℕ) (found : List (Option ℕ)) (count : ℕ) : Type 0 where
@@ -193,13 +193,13 @@ not_settled pairs md5 crc offset old group n found count so_far inside fails =
       len = so_far.len;
       each = so_far.each;
       done = λ k h. elim (cases_lt k n) [
-          inl early ↦ so_far.done k early
+        | inl early ↦ so_far.done k early
         | inr late ↦ (
             let Done : ℕ → Type 0 = λ j. offset_at found (place_at group j).index ≡ advanced (has_checksums md5 crc (pair_at pairs (place_at group j).index)) offset (offset_at old (place_at group j).index) in
             let here : n ≡ k = omega (arith, h, late) in
             subst Done here (kept m offset (offset_at old i) (offset_at found i) (so_far.each i inside) fails)
-          )
-        ];
+            )
+      ];
       total = so_far.total;
     }
 
@@ -214,8 +214,8 @@ one_settled pairs md5 crc offset old group n found count so_far size inside none
     let new : List (Option ℕ) = set found i (Some offset) in
     let Is : ℕ → Type 0 = λ j. offset_at new j ≡ advanced (m j) offset (offset_at old j) in
     let here : Is i = (
-      get_or-set_same found i (Some offset) None within
-      ∙ sym (ap (λ b. advanced b offset (offset_at old i)) match_is ∙ ap (λ o. advanced true offset o) (was_open (m i) offset (offset_at old i) (offset_at found i) (so_far.each i inside) none))
+    get_or-set_same found i (Some offset) None within
+    ∙ sym (ap (λ b. advanced b offset (offset_at old i)) match_is ∙ ap (λ o. advanced true offset o) (was_open (m i) offset (offset_at old i) (offset_at found i) (so_far.each i inside) none))
     ) in
     let weight : Option ℕ → ℕ = λ x. cond (is_none x) 1 0 in
     let weighed : count_by is_none new + weight (offset_at found i) ≡ count_by is_none found + 0 = sum_by-set weight found i (Some offset) None within in
@@ -223,19 +223,19 @@ one_settled pairs md5 crc offset old group n found count so_far size inside none
     record {
       len = length-set found i (Some offset) ∙ so_far.len;
       each = λ j h. elim (cases_eq j i) [
-          inl same ↦ inr (subst Is (sym same) here)
+        | inl same ↦ inr (subst Is (sym same) here)
         | inr other ↦ elim (so_far.each j h) [
-            inl stayed ↦ inl (get_or-set_other found i j (Some offset) None other ∙ stayed)
+          | inl stayed ↦ inl (get_or-set_other found i j (Some offset) None other ∙ stayed)
           | inr moved ↦ inr (get_or-set_other found i j (Some offset) None other ∙ moved)
-          ]
-        ];
+        ]
+      ];
       done = λ k h. elim (cases_eq (place_at group k).index i) [
-          inl same ↦ subst Is (sym same) here
+        | inl same ↦ subst Is (sym same) here
         | inr other ↦ (
             let early : k < n = not_there k n h (λ is. other (ap (λ j. (place_at group j).index) is)) in
             get_or-set_other found i (place_at group k).index (Some offset) None other ∙ so_far.done k early
-          )
-        ];
+            )
+      ];
       total = omega (arith, weighed, heavy, so_far.total);
     }
 

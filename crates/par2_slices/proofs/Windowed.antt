@@ -1,6 +1,5 @@
 -- Windows that follow each other.
-use Rattle.std.proofs.Common.{◌≡◌, ℕ, zero, suc, ◌+◌, ◌-◌, ◌<◌, ◌≤◌, List, [], ◌∷◌, ◌++◌, length, take, drop, get_or, replicate, refl, sym, ap, ◌∙◌, arith}
-use Rattle.std.specs.Prelude.{◌⊎◌}
+use Rattle.std.proofs.Common.{◌≡◌, ℕ, ◌+◌, ◌-◌, ◌<◌, ◌≤◌, List, [], ◌∷◌, ◌++◌, length, take, drop, get_or, replicate, refl, sym, ap, ◌∙◌, arith}
 use Rattle.std.proofs.Common.{inl, inr}
 use Rattle.std.proofs.lemmas.Bool.{cases_lt}
 use Rattle.std.proofs.lemmas.List.{length-append, length-replicate, length-take, length-drop, get_or_append_left, get_or-append_right, get_or-take, get_or-drop, get_or-replicate, get_or_past, get_or_at, drop_more, length_push, ext_get_or}
@@ -19,10 +18,10 @@ window_at s text o k below =
     let size = length-take s (drop o text) in
     let rest = length-drop o text in
     elim (cases_lt k (length t)) [
-      inl inside ↦ get_or_append_left t (replicate (s - length t) 0) 0 k inside ∙ get_or-take s (drop o text) k 0 below ∙ get_or-drop o text k 0
-    | inr past ↦ get_or-append_right t (replicate (s - length t) 0) (length t) k 0 refl past
-        ∙ get_or-replicate (s - length t) (k - length t) 0 0 (omega (arith, past, below))
-        ∙ sym (get_or_past text (o + k) 0 (omega (arith, past, below, size, rest)))
+      | inl inside ↦ get_or_append_left t (replicate (s - length t) 0) 0 k inside ∙ get_or-take s (drop o text) k 0 below ∙ get_or-drop o text k 0
+      | inr past ↦ get_or-append_right t (replicate (s - length t) 0) (length t) k 0 refl past
+          ∙ get_or-replicate (s - length t) (k - length t) 0 0 (omega (arith, past, below))
+          ∙ sym (get_or_past text (o + k) 0 (omega (arith, past, below, size, rest)))
     ]
 
 -- without its first byte, and with the next one behind, it is the next window
@@ -32,17 +31,17 @@ next_window s text o next some is =
     let rest : List ℕ = drop 1 w in
     let rest_len : length rest + 1 ≡ s = omega (arith, length-drop 1 w, window_len s text o, some) in
     ext_get_or 0 (rest ++ next ∷ []) (window s text (o + 1))
-        (length_push rest next ∙ rest_len ∙ sym (window_len s text (o + 1)))
-        (λ k inside.
-            let below : k < s = omega (arith, inside, length_push rest next, rest_len) in
-            elim (cases_lt k (length rest)) [
-              inl early ↦ get_or_append_left rest (next ∷ []) 0 k early ∙ get_or-drop 1 w k 0 ∙ window_at s text o (1 + k) (omega (arith, early, rest_len))
-                ∙ ap (λ i. get_or text i 0) (let e : o + (1 + k) ≡ o + 1 + k = omega arith in e)
-                ∙ sym (window_at s text (o + 1) k below)
-            | inr late ↦ get_or_at rest next [] 0 k (omega (arith, late, below, rest_len)) ∙ is
-                ∙ ap (λ i. get_or text i 0) (let e : s + o ≡ o + 1 + k = omega (arith, late, below, rest_len) in e)
-                ∙ sym (window_at s text (o + 1) k below)
-            ])
+    (length_push rest next ∙ rest_len ∙ sym (window_len s text (o + 1)))
+    (λ k inside.
+    let below : k < s = omega (arith, inside, length_push rest next, rest_len) in
+    elim (cases_lt k (length rest)) [
+      | inl early ↦ get_or_append_left rest (next ∷ []) 0 k early ∙ get_or-drop 1 w k 0 ∙ window_at s text o (1 + k) (omega (arith, early, rest_len))
+          ∙ ap (λ i. get_or text i 0) (let e : o + (1 + k) ≡ o + 1 + k = omega arith in e)
+          ∙ sym (window_at s text (o + 1) k below)
+      | inr late ↦ get_or_at rest next [] 0 k (omega (arith, late, below, rest_len)) ∙ is
+          ∙ ap (λ i. get_or text i 0) (let e : s + o ≡ o + 1 + k = omega (arith, late, below, rest_len) in e)
+          ∙ sym (window_at s text (o + 1) k below)
+    ])
 
 pub first_byte : (s : ℕ) (text : List ℕ) (o out : ℕ) → 1 ≤ s → out ≡ get_or text o 0 → window s text o ≡ out ∷ drop 1 (window s text o)
 first_byte s text o out some is =

@@ -1,5 +1,5 @@
 -- Sets of groups of checksums, as bits.
-use Rattle.std.specs.Prelude.{◌≡◌, ℕ, ◌-◌, ◌*◌, ◌/◌, ◌%◌, ◌^◌, ◌≤◌, List, length, slice_index}
+use Rattle.std.specs.Prelude.{◌≡◌, ℕ, ◌-◌, ◌/◌, ◌%◌, ◌^◌, ◌≤◌, List, length, slice_index}
 use Rattle.std.specs.Int.{bit_at}
 
 -- checksums that have the same bits from `shift` on are of one group, and each group has a bit

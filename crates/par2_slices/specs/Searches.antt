@@ -1,5 +1,5 @@
 -- A search for slices by their checksums, under way.
-use Rattle.std.specs.Prelude.{◌≡◌, [], ℕ, ◌/◌, ◌^◌, ◌<◌, ◌==◌, ◌&&◌, Bool, cond, Option, Some, None, List, length, find, map, slice_index_or}
+use Rattle.std.specs.Prelude.{◌≡◌, [], ℕ, ◌/◌, ◌^◌, ◌<◌, ◌==◌, ◌&&◌, Bool, cond, Option, Some, None, List, length, find, slice_index_or}
 use Rattle.std.specs.List.{count_by, range_with_len}
 use Rattle.std.specs.List.Sorted.{IsNonDecreasingBy}
 use Rattle.std.specs.Option.{is_none, option_or}

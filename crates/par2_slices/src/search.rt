@@ -7,12 +7,11 @@ ghost use Rattle.par2_spec.specs.Checksums.{crc32};
 ghost use Rattle.par2_spec.specs.Windows.{first_match, window};
 ghost use Rattle.par2_slices.specs.Searches.{advanced, has_checksums, offset_at, pair_at, place_at, HoldsGroup, IsAt, IsPlace};
 
-use std::alloc::{AllocError, Global};
-
 use crate::digest::padded_md5;
 use crate::filter::Filter;
 use crate::rolling::Rolling;
 use crate::wanted::{Pair, Place, Wanted};
+use std::alloc::{AllocError, Global};
 
 /// The bytes of the file in its window at `offset`: fewer than `s` at the end of the file.
 fn window_bytes(bytes: &[u8], s: u64, offset: usize) -> &[u8]
@@ -20,7 +19,11 @@ fn window_bytes(bytes: &[u8], s: u64, offset: usize) -> &[u8]
     ensures { result.now ≡ take s (drop offset bytes.now) }
 {
     let rest = &bytes[offset..];
-    if s < rest.len() as u64 { &rest[..s as usize] } else { rest }
+    if s < rest.len() as u64 {
+        &rest[..s as usize]
+    } else {
+        rest
+    }
 }
 
 /// Whether a pair that has this CRC-32 has no answer yet.
@@ -50,7 +53,14 @@ fn is_waiting(group: &[Place], found: &[Option<usize>]) -> bool
 }
 
 /// Gives each pair of the group that has these checksums and no answer yet the answer `offset`, and counts them.
-fn settle(group: &[Place], pairs: &[Pair], md5: &[u8; 16], crc: u32, offset: usize, found: &mut [Option<usize>]) -> usize
+fn settle(
+    group: &[Place],
+    pairs: &[Pair],
+    md5: &[u8; 16],
+    crc: u32,
+    offset: usize,
+    found: &mut [Option<usize>],
+) -> usize
     requires places { (k : ℕ) → k < length group.now → IsPlace pairs.now (place_at group.now k) }
     requires len { length found.old ≡ length pairs.now }
     ensures each { (i : ℕ) → i < length pairs.now → (offset_at found.new i ≡ offset_at found.old i) ⊎ (offset_at found.new i ≡ advanced (has_checksums md5.now crc (pair_at pairs.now i)) offset (offset_at found.old i)) }
@@ -93,7 +103,15 @@ impl Search {
     }
 
     /// Gives the pairs of the group that the window at `offset` matches their answer.
-    fn answer(&mut self, wanted: &Wanted, group: &[Place], bytes: &[u8], s: u64, offset: usize, crc: u32)
+    fn answer(
+        &mut self,
+        wanted: &Wanted,
+        group: &[Place],
+        bytes: &[u8],
+        s: u64,
+        offset: usize,
+        crc: u32,
+    )
         requires at { IsAt s bytes.now offset wanted.now self.old.found.items self.old.left self.old.filter }
         requires group { (shift : ℕ) × HoldsGroup wanted.now shift crc group.now }
         requires within { offset < length bytes.now }
@@ -129,7 +147,11 @@ impl Search {
 fn bytes_from(bytes: &[u8], start: u64) -> &[u8]
     ensures { result.now ≡ drop start bytes.now }
 {
-    if start < bytes.len() as u64 { &bytes[start as usize..] } else { &[] }
+    if start < bytes.len() as u64 {
+        &bytes[start as usize..]
+    } else {
+        &[]
+    }
 }
 
 /// The byte at a place, 0 past the end.
@@ -141,7 +163,12 @@ fn byte_at(bytes: &[u8], at: usize) -> u8
 
 /// For each pair the least offset at which the window of `s` bytes of the file matches it, zeros standing past
 /// the end of the file; None where there is no such offset.
-pub fn find(alloc: Global, bytes: &[u8], s: u64, wanted: &Wanted) -> Result<Vec<Option<usize>>, AllocError>
+pub fn find(
+    alloc: Global,
+    bytes: &[u8],
+    s: u64,
+    wanted: &Wanted,
+) -> Result<Vec<Option<usize>>, AllocError>
     requires { 1 ≤ s }
     ensures { IfOk result (λ offsets. offsets.items ≡ map (first_match s bytes.now) wanted.now) }
 {

@@ -17,15 +17,15 @@ loop-offset-preserved c =
       at = c.look.ensures;
       size = c.slide.ensures.size ∙ c.loop-offset.invariant.size;
       value =
-        c.slide.ensures.value (drop 1 (window s text o)) (rest_len s text o c.requires ∙ sym c.loop-offset.invariant.size)
-            (c.loop-offset.invariant.value ∙ ap crc32 (first_byte s text o (get_or text o 0) c.requires refl))
-        ∙ ap crc32 (next_window s text o c.byte_at.result c.requires next_is);
+          c.slide.ensures.value (drop 1 (window s text o)) (rest_len s text o c.requires ∙ sym c.loop-offset.invariant.size)
+          (c.loop-offset.invariant.value ∙ ap crc32 (first_byte s text o (get_or text o 0) c.requires refl))
+          ∙ ap crc32 (next_window s text o c.byte_at.result c.requires next_is);
     }
 
 pub returns : goal.returns
 returns c =
     let at = finished c.args.s c.args.bytes.now c.loop-offset.offset c.args.wanted.now c.loop-offset.search.found.items c.loop-offset.search.left c.loop-offset.search.filter c.loop-offset.invariant.at c.loop-offset.auto.offset-end in
     elim c.loop-offset-test.branch [
-      else-loop-offset-test w ↦ at (inl (omega arith))
-    | then-loop-offset-test+then-search-eq0 w ↦ at (inr w.if-search-eq0.true)
+      | else-loop-offset-test w ↦ at (inl (omega arith))
+      | then-loop-offset-test+then-search-eq0 w ↦ at (inr w.if-search-eq0.true)
     ]

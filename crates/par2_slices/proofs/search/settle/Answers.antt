@@ -1,4 +1,4 @@
-use Rattle.std.proofs.Common.{◌≡◌, ◌∙◌, ◌+◌, ◌<◌, ℕ, List, true, false, length, set, not, ap, sym, subst}
+use Rattle.std.proofs.Common.{◌≡◌, ◌∙◌, ◌+◌, ℕ, List, true, false, set, not, ap, sym, subst}
 use Rattle.std.specs.Prelude.{Option, Some, None}
 use Rattle.par2_spec.specs.Checksums.{Pair}
 use Rattle.par2_slices.specs.Searches.{offset_at, pair_at, place_at, has_checksums, IsPlace}
@@ -23,22 +23,22 @@ loop-place-preserved c =
     let pair : Pair = pair_at pairs place.index in
     let After : List (Option ℕ) → ℕ → Type 0 = λ f k. Settled pairs md5 crc offset old group (n + 1) f k in
     let same_after : c.if-place-crc.found ≡ found → c.if-place-crc.count ≡ count → (offset_at found place.index ≡ None → has_checksums md5 crc pair ≡ false) → After c.if-place-crc.found c.if-place-crc.count = λ f k fails.
-        let Found : List (Option ℕ) → Type 0 = λ g. After g c.if-place-crc.count in
-        let Count : ℕ → Type 0 = λ j. After found j in
-        subst Found (sym f) (subst Count (sym k) (not_settled pairs md5 crc offset old group n found count c.loop-place.invariant its.within fails))
+    let Found : List (Option ℕ) → Type 0 = λ g. After g c.if-place-crc.count in
+    let Count : ℕ → Type 0 = λ j. After found j in
+    subst Found (sym f) (subst Count (sym k) (not_settled pairs md5 crc offset old group n found count c.loop-place.invariant its.within fails))
     in
     elim c.if-place-crc.branch [
-      then-place-crc+then-is_none+then-eq w ↦ (
-        let new : List (Option ℕ) = set found place.index (Some offset) in
-        let Found : List (Option ℕ) → Type 0 = λ g. After g c.if-place-crc.count in
-        let Count : ℕ → Type 0 = λ j. After new j in
-        let open_place : offset_at found place.index ≡ None = open_is (offset_at found place.index) (ap not (w.is_none.ensures ∙ ap not w.if-is_none.true)) in
-        let matched : has_checksums md5 crc pair ≡ true = has_is pair md5 crc (its.crc ∙ w.if-place-crc.true) (sym w.eq.ensures ∙ w.if-eq.true) in
-        subst Found (sym w.found-is) (subst Count (sym w.count-is) (one_settled pairs md5 crc offset old group n found count c.loop-place.invariant c.requires.len its.within open_place matched))
-      )
-    | else-place-crc w ↦ elim w.else-place-crc.branch [
-        else-place-crc-via-then-place-crc+then-is_none+else-eq w' ↦ same_after w.found-is w.count-is (λ none. no_md5 pair md5 crc (sym w'.eq.ensures ∙ w'.if-eq.false))
-      | else-place-crc-via-then-place-crc+else-is_none w' ↦ same_after w.found-is w.count-is (λ none. absurd (is_open (offset_at found place.index) (ap not (w'.is_none.ensures ∙ ap not w'.if-is_none.false)) none))
-      | else-place-crc-via-else-place-crc w' ↦ same_after w.found-is w.count-is (λ none. no_crc pair md5 crc (λ same. w'.if-place-crc.false (sym its.crc ∙ same)))
+      | then-place-crc+then-is_none+then-eq w ↦ (
+          let new : List (Option ℕ) = set found place.index (Some offset) in
+          let Found : List (Option ℕ) → Type 0 = λ g. After g c.if-place-crc.count in
+          let Count : ℕ → Type 0 = λ j. After new j in
+          let open_place : offset_at found place.index ≡ None = open_is (offset_at found place.index) (ap not (w.is_none.ensures ∙ ap not w.if-is_none.true)) in
+          let matched : has_checksums md5 crc pair ≡ true = has_is pair md5 crc (its.crc ∙ w.if-place-crc.true) (sym w.eq.ensures ∙ w.if-eq.true) in
+          subst Found (sym w.found-is) (subst Count (sym w.count-is) (one_settled pairs md5 crc offset old group n found count c.loop-place.invariant c.requires.len its.within open_place matched))
+          )
+      | else-place-crc w ↦ elim w.else-place-crc.branch [
+        | else-place-crc-via-then-place-crc+then-is_none+else-eq w' ↦ same_after w.found-is w.count-is (λ none. no_md5 pair md5 crc (sym w'.eq.ensures ∙ w'.if-eq.false))
+        | else-place-crc-via-then-place-crc+else-is_none w' ↦ same_after w.found-is w.count-is (λ none. absurd (is_open (offset_at found place.index) (ap not (w'.is_none.ensures ∙ ap not w'.if-is_none.false)) none))
+        | else-place-crc-via-else-place-crc w' ↦ same_after w.found-is w.count-is (λ none. no_crc pair md5 crc (λ same. w'.if-place-crc.false (sym its.crc ∙ same)))
       ]
     ]

@@ -1,4 +1,4 @@
-use Rattle.std.proofs.Common.{◌≡◌, ℕ, ◌-◌, ◌/◌, ◌^◌, ◌<◌, ◌≤◌, length}
+use Rattle.std.proofs.Common.{ℕ, ◌-◌, ◌/◌, ◌^◌, ◌<◌, ◌≤◌, length}
 use Rattle.par2_slices.specs.Searches.{place_at}
 use Rattle.par2_slices.proofs.wanted.group_start.Given as goal
 

@@ -1,4 +1,4 @@
-use Rattle.std.proofs.Common.{◌≡◌, ◌∙◌, get_or, ◌/◌, ◌^◌, ◌<◌, length, sym, ap, subst, arith}
+use Rattle.std.proofs.Common.{◌≡◌, get_or, ◌/◌, ◌^◌, ◌<◌, length, sym, subst, arith}
 use Rattle.std.proofs.lemmas.List.{get_or_read}
 use Rattle.par2_slices.specs.Filters.{Bits, Marks}
 use Rattle.par2_slices.proofs.Groups.{within, marked, kept_by_insert}

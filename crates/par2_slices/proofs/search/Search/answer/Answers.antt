@@ -1,8 +1,8 @@
-use Rattle.std.proofs.Common.{rules, ◌≡◌, ◌∙◌, ◌-◌, ◌+◌, ◌++◌, ℕ, List, length, take, drop, ap, sym, subst, arith}
+use Rattle.std.proofs.Common.{◌≡◌, ◌∙◌, ◌-◌, ◌+◌, ◌++◌, ℕ, List, length, take, drop, ap, sym, subst}
 use Rattle.std.specs.Prelude.{Option}
 use Rattle.std.proofs.lemmas.List.{take_at}
 use Rattle.md5.specs.Md5.{md5}
-use Rattle.par2_spec.specs.Checksums.{Pair, crc32}
+use Rattle.par2_spec.specs.Checksums.{Pair}
 use Rattle.par2_spec.specs.Slices.{padded}
 use Rattle.par2_spec.specs.Windows.{window, is_match}
 use Rattle.par2_slices.specs.Searches.{has_checksums, offset_at, place_at, IsAt, HoldsGroup}
@@ -22,7 +22,7 @@ returns-then-is_awaited-clause-at c =
     let digest : List ℕ = c.padded_md5-md5.result in
     let digest_is : digest ≡ md5 (window s text o) = c.padded_md5-md5.ensures ∙ ap (λ b. md5 (padded s b)) c.window_bytes.ensures in
     let matches : (pair : Pair) → has_checksums digest c.args.crc pair ≡ is_match pair (window s text o) = λ pair.
-        ap (λ m. has_checksums m c.args.crc pair) digest_is ∙ ap (λ k. has_checksums (md5 (window s text o)) k pair) c.requires.crc
+    ap (λ m. has_checksums m c.args.crc pair) digest_is ∙ ap (λ k. has_checksums (md5 (window s text o)) k pair) c.requires.crc
     in
     let Before : List Pair → List (Option ℕ) → Type 0 = λ ps found. IsAt s text o ps found left filter in
     let Found : List (Option ℕ) → Type 0 = λ found. Before c.args.wanted.now found in
@@ -40,5 +40,5 @@ returns-then-is_awaited-clause-at c =
 pub returns-else-is_awaited-clause-at : goal.returns-else-is_awaited-clause-at
 returns-else-is_awaited-clause-at c =
     unawaited c.args.s c.args.bytes.now c.args.offset c.args.wanted.now c.args.self.now.found.items c.args.self.now.left c.args.self.now.filter c.args.crc c.requires.group.0 c.args.group.now
-        c.requires.at c.requires.crc c.requires.group.1
-        (λ k h its none. c.is_awaited.ensures c.if-is_awaited.false k h its (ap (λ found. offset_at found (place_at c.args.group.now k).index) c.deref.ensures.value ∙ none))
+    c.requires.at c.requires.crc c.requires.group.1
+    (λ k h its none. c.is_awaited.ensures c.if-is_awaited.false k h its (ap (λ found. offset_at found (place_at c.args.group.now k).index) c.deref.ensures.value ∙ none))

@@ -1,5 +1,5 @@
-use Rattle.std.proofs.Common.{rules, refl, ◌≡◌, ◌∙◌, ℕ, List, length, ap, sym, subst, arith}
-use Rattle.std.specs.Prelude.{Option, None, replicate}
+use Rattle.std.proofs.Common.{rules, refl, ℕ, List, length, subst, arith}
+use Rattle.std.specs.Prelude.{Option}
 use Rattle.par2_spec.specs.Checksums.{Pair}
 use Rattle.par2_slices.specs.Searches.{IsAt}
 use Rattle.par2_slices.proofs.Searching.{at_start}

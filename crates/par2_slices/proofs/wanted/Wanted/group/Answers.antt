@@ -1,4 +1,4 @@
-use Rattle.std.proofs.Common.{rules, ◌≡◌, ℕ, ◌-◌, ◌/◌, ◌^◌, ◌<◌, ◌≤◌, ◌∙◌, List, take, drop, length, ap, sym, subst, arith}
+use Rattle.std.proofs.Common.{◌≡◌, ℕ, ◌-◌, ◌/◌, ◌^◌, ◌<◌, ◌≤◌, ◌∙◌, List, take, drop, length, ap, subst}
 use Rattle.std.proofs.lemmas.List.{take_rest}
 use Rattle.par2_spec.specs.Checksums.{Pair}
 use Rattle.par2_slices.specs.Searches.{place_at, HoldsGroup}
@@ -19,7 +19,7 @@ returns c =
     let Above : List Place → Type 0 = λ ps. (k : ℕ) → start ≤ k → k < length ps → group ≤ (place_at ps k).crc / 2 ^ c.args.shift in
     let Held : List Pair → Type 0 = λ pairs. HoldsGroup pairs c.args.shift c.args.crc (take c.group_len.result rest) in
     subst Held c.self.view_is
-        (group_of c.self.inside.pairs.items places rest c.args.shift c.args.crc start c.group_len.result c.self.invariant rest_is c.group_len.ensures.bound
-            (subst Below c.deref-2.ensures.value c.group_start.ensures.below)
-            (subst Above c.deref-2.ensures.value c.group_start.ensures.above)
-            c.group_len.ensures.members c.group_len.ensures.end)
+    (group_of c.self.inside.pairs.items places rest c.args.shift c.args.crc start c.group_len.result c.self.invariant rest_is c.group_len.ensures.bound
+    (subst Below c.deref-2.ensures.value c.group_start.ensures.below)
+    (subst Above c.deref-2.ensures.value c.group_start.ensures.above)
+    c.group_len.ensures.members c.group_len.ensures.end)

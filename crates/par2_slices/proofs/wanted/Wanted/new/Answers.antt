@@ -20,7 +20,7 @@ invariant_of-result c =
     let Its : List Pair → Type 0 = λ pairs. IsIndex pairs sorted in
     let all : c.loop-index.index ≡ length c.args.pairs.now = omega arith in
     subst Its (sym c.in_ok-pairs.ensures.items)
-        (index_of c.args.pairs.now c.loop-index.places.items sorted
-            (c.loop-index.invariant ∙ ap (λ n. map (place_of c.args.pairs.now) (range_with_len 0 n)) all)
-            c.sort_unstable_by_key.ensures.permutation
-            (IsNonDecreasingBy-from_sort_by_key (λ place. place.crc) _ c.sort_unstable_by_key.ensures.sorted (λ a r q k. search rules)))
+    (index_of c.args.pairs.now c.loop-index.places.items sorted
+    (c.loop-index.invariant ∙ ap (λ n. map (place_of c.args.pairs.now) (range_with_len 0 n)) all)
+    c.sort_unstable_by_key.ensures.permutation
+    (IsNonDecreasingBy-from_sort_by_key (λ place. place.crc) _ c.sort_unstable_by_key.ensures.sorted (λ a r q k. search rules)))
