@@ -3,3 +3,7 @@ pub mod Bytes
 pub mod Padding
 pub mod Shifts
 pub mod Sliding
+pub mod Groups
+pub mod Places
+pub mod Windowed
+pub mod Searching

@@ -15,7 +15,8 @@ pub fn slice_count(len: u64, s: u64) -> u64
 pub fn slice_bytes(bytes: &[u8], s: u64, j: u64) -> &[u8]
     requires size { 1 ≤ s }
     requires place { j < spec.slice_count s (length bytes.now) }
-    ensures { result.now ≡ take s (drop (j * s) bytes.now) }
+    ensures value { result.now ≡ take s (drop (j * s) bytes.now) }
+    ensures short { length result.now ≤ s }
 {
     let rest = &bytes[(j * s) as usize..];
     if s < rest.len() as u64 {

@@ -4,14 +4,19 @@
 mod checksum;
 mod cutting;
 mod digest;
+mod filter;
 mod rolling;
+mod search;
 mod tables;
+mod wanted;
 mod zeros;
 
 pub use checksum::crc32;
 pub use cutting::{slice_bytes, slice_count, slice_into};
 pub use digest::padded_md5;
 pub use rolling::Rolling;
+pub use search::find;
+pub use wanted::{Pair, Wanted, pair_of};
 pub use zeros::padded_crc32;
 
 #[cfg(test)]

@@ -1,4 +1,8 @@
+ghost use Rattle.std.specs.Prelude.{◌≤◌, length};
+ghost use Rattle.std.specs.List.{All};
+
 use super::*;
+use std::alloc::{AllocError, Global};
 
 #[test]
 fn checksums_and_rolling(rt: HostRuntime) {
@@ -41,4 +45,105 @@ fn checksums_with_padding(rt: HostRuntime) {
     rolling.slide(b'a', 0);
     assert!(rt; rolling.value() == padded_crc32(b"b", 1 << 30));
     assert!(rt; rolling.value() != whole);
+}
+
+// What `find` answers for the pairs of these slices.
+fn offsets(
+    alloc: Global,
+    bytes: &[u8],
+    s: u64,
+    slices: &[&[u8]],
+) -> Result<Vec<Option<usize>>, AllocError>
+    requires size { 1 ≤ s }
+    requires fit { All (λ slice. length slice.now ≤ s) slices.now }
+{
+    let mut pairs = Vec::new(alloc);
+    for slice in slices {
+        pairs.push(pair_of(slice, s))?;
+    }
+    find(alloc, bytes, s, &Wanted::new(alloc, &pairs)?)
+}
+
+#[test]
+fn shifted_by_one_byte(rt: HostRuntime) {
+    let found = offsets(rt.alloc(), b"Xabcdefgh", 4, &[b"abcd", b"efgh"]).expect(&rt, "memory");
+    assert!(rt; found.as_slice() == [Some(1), Some(5)].as_slice());
+}
+
+#[test]
+fn first_offsets(rt: HostRuntime) {
+    let found = offsets(rt.alloc(), b"aaaaaaaa", 4, &[b"aaaa", b"aa", b"aaaa"]).expect(
+        &rt, "memory",
+    );
+    assert!(rt; found.as_slice() == [Some(0), Some(6), Some(0)].as_slice());
+    let found = offsets(rt.alloc(), b"ab", 4, &[b"ab", b"abc"]).expect(&rt, "memory");
+    assert!(rt; found.as_slice() == [Some(0), None].as_slice());
+    let found = offsets(rt.alloc(), b"", 4, &[b"", b"ab"]).expect(&rt, "memory");
+    assert!(rt; found.as_slice() == [None, None].as_slice());
+    let found = offsets(rt.alloc(), b"aaaa", 4, &[]).expect(&rt, "memory");
+    assert!(rt; found.is_empty());
+}
+
+#[test]
+fn slice_larger_than_the_file(rt: HostRuntime) {
+    let found = offsets(rt.alloc(), b"abc", 1 << 20, &[b"bc", b"abc", b"ab"]).expect(&rt, "memory");
+    assert!(rt; found.as_slice() == [Some(1), Some(0), None].as_slice());
+}
+
+// The pair of the same CRC-32 with another MD5 is nowhere.
+#[test]
+fn same_crc_with_another_md5(rt: HostRuntime) {
+    let (md5, crc) = pair_of(b"bcde", 4);
+    let pairs = [([7; 16], crc), (md5, crc), (md5, crc ^ 1)];
+    let wanted = Wanted::new(rt.alloc(), &pairs).expect(&rt, "memory");
+    let found = find(rt.alloc(), b"abcdebcde", 4, &wanted).expect(&rt, "memory");
+    assert!(rt; found.as_slice() == [None, Some(1), None].as_slice());
+}
+
+// The same answers by looking at each window anew.
+fn plain_offset(bytes: &[u8], s: u64, pair: &Pair) -> Option<usize>
+    requires { 1 ≤ s }
+{
+    for offset in 0..bytes.len() {
+        let rest = &bytes[offset..];
+        let window = if s < rest.len() as u64 {
+            &rest[..s as usize]
+        } else {
+            rest
+        };
+        let (md5, crc) = pair_of(window, s);
+        if md5 == pair.0 && crc == pair.1 {
+            return Some(offset);
+        }
+    }
+    None
+}
+
+#[test]
+fn same_as_a_plain_search(rt: HostRuntime) {
+    let texts: [&[u8]; 6] = [
+        b"",
+        b"a",
+        b"\0\0\0\0\0",
+        b"abababab",
+        b"aabaabaaab\0\0b",
+        b"mississippi",
+    ];
+    for text in texts {
+        for other in texts {
+            for s in 1..10u64 {
+                let mut pairs = Vec::new(rt.alloc());
+                for j in 0..slice_count(other.len() as u64, s) {
+                    pairs
+                        .push(pair_of(slice_bytes(other, s, j), s))
+                        .expect(&rt, "memory");
+                }
+                let wanted = Wanted::new(rt.alloc(), &pairs).expect(&rt, "memory");
+                let found = find(rt.alloc(), text, s, &wanted).expect(&rt, "memory");
+                for (k, pair) in pairs.iter().enumerate() {
+                    assert!(rt; found.get(k).copied() == Some(plain_offset(text, s, pair)));
+                }
+            }
+        }
+    }
 }

@@ -1,0 +1,82 @@
+-- Sets of groups of checksums.
+use Rattle.std.proofs.Common.{◌≡◌, ◌≢◌, ℕ, ◌+◌, ◌-◌, ◌*◌, ◌^◌, ◌<◌, ◌≤◌, ◌%◌, ◌/◌, List, length, get_or, set, subst, sym, ap, ◌∙◌, get_or-set_same, get_or-set_other, arith}
+use Rattle.std.specs.Prelude.{bit_and, bit_or}
+use Rattle.std.specs.Int.{w64, bit_at, bit_not}
+use Rattle.std.proofs.lemmas.Bool.{cases_eq}
+use Rattle.std.proofs.Common.{inl, inr}
+use Rattle.std.proofs.lemmas.Nat.{shr_below}
+use Rattle.std.proofs.lemmas.Nat.Bits.{bit_at_set_same, bit_at_set_other, bit_at_clear_same, bit_at_clear_other}
+use Rattle.par2_slices.specs.Filters.{Marks}
+
+pub within : (crc shift : ℕ) → crc < 2 ^ 32 → shift ≤ 26 → crc / 2 ^ shift / 64 < 2 ^ (26 - shift)
+within crc shift fits low =
+    let Fits : ℕ → Type 0 = λ k. crc < 2 ^ k in
+    let Group : ℕ → Type 0 = λ k. crc / 2 ^ shift < 2 ^ k in
+    let split : 32 ≡ 26 - shift + 6 + shift = omega arith in
+    shr_below (crc / 2 ^ shift) (26 - shift) 6 (shr_below crc (26 - shift + 6) shift (subst Fits split fits))
+
+-- a word with a bit more
+pub marked : (shift crc : ℕ) (words : List ℕ) → crc / 2 ^ shift / 64 < length words → Marks (record { shift = shift; words = set words (crc / 2 ^ shift / 64) (bit_or (get_or words (crc / 2 ^ shift / 64) 0) (1 * 2 ^ (crc / 2 ^ shift % 64) % 2 ^ 64)) }) crc
+marked shift crc words place =
+    let group : ℕ = crc / 2 ^ shift in
+    record {
+      bit =
+          ap (λ word. bit_at word (group % 64)) (get_or-set_same words (group / 64) (bit_or (get_or words (group / 64) 0) (1 * 2 ^ (group % 64) % 2 ^ 64)) 0 place)
+          ∙ bit_at_set_same w64 (get_or words (group / 64) 0) (group % 64) (omega arith);
+    }
+
+-- a bit of a word stays where another is set
+stays : (word k j : ℕ) → k < 64 → bit_at word j ≡ 1 → bit_at (bit_or word (1 * 2 ^ k % 2 ^ 64)) j ≡ 1
+stays word k j low is =
+    elim (cases_eq j k) [
+      | inl same ↦ ap (bit_at (bit_or word (1 * 2 ^ k % 2 ^ 64))) same ∙ bit_at_set_same w64 word k low
+      | inr other ↦ bit_at_set_other w64 word k low j other ∙ is
+    ]
+
+pub kept_by_insert : (shift crc : ℕ) (words : List ℕ) → crc / 2 ^ shift / 64 < length words → (other : ℕ) → Marks (record { shift = shift; words = words }) other → Marks (record { shift = shift; words = set words (crc / 2 ^ shift / 64) (bit_or (get_or words (crc / 2 ^ shift / 64) 0) (1 * 2 ^ (crc / 2 ^ shift % 64) % 2 ^ 64)) }) other
+kept_by_insert shift crc words place other is =
+    let group : ℕ = crc / 2 ^ shift in
+    let its : ℕ = other / 2 ^ shift in
+    let word : ℕ = get_or words (group / 64) 0 in
+    let new : ℕ = bit_or word (1 * 2 ^ (group % 64) % 2 ^ 64) in
+    elim (cases_eq (its / 64) (group / 64)) [
+      | inl same ↦ record {
+        bit =
+            ap (λ i. bit_at (get_or (set words (group / 64) new) i 0) (its % 64)) same
+            ∙ ap (λ w. bit_at w (its % 64)) (get_or-set_same words (group / 64) new 0 place)
+            ∙ stays word (group % 64) (its % 64) (omega arith) (ap (λ i. bit_at (get_or words i 0) (its % 64)) (sym same) ∙ is.bit);
+      }
+      | inr apart ↦ record { bit = ap (λ w. bit_at w (its % 64)) (get_or-set_other words (group / 64) (its / 64) new 0 apart) ∙ is.bit }
+    ]
+
+pub gone : (shift crc : ℕ) (words : List ℕ) → crc / 2 ^ shift / 64 < length words → Marks (record { shift = shift; words = set words (crc / 2 ^ shift / 64) (bit_and (get_or words (crc / 2 ^ shift / 64) 0) (bit_not w64 (1 * 2 ^ (crc / 2 ^ shift % 64) % 2 ^ 64))) }) crc → ⊥
+gone shift crc words place is =
+    let group : ℕ = crc / 2 ^ shift in
+    let word : ℕ = get_or words (group / 64) 0 in
+    let new : ℕ = bit_and word (bit_not w64 (1 * 2 ^ (group % 64) % 2 ^ 64)) in
+    let zero : bit_at (get_or (set words (group / 64) new) (group / 64) 0) (group % 64) ≡ 0 = (
+    ap (λ w. bit_at w (group % 64)) (get_or-set_same words (group / 64) new 0 place) ∙ bit_at_clear_same w64 word (group % 64) (omega arith)
+    ) in
+    let both : 0 ≡ 1 = sym zero ∙ is.bit in
+    omega (arith, both)
+
+pub kept_by_remove : (shift crc : ℕ) (words : List ℕ) → crc / 2 ^ shift / 64 < length words → (other : ℕ) → (other / 2 ^ shift ≡ crc / 2 ^ shift → ⊥) → Marks (record { shift = shift; words = words }) other → Marks (record { shift = shift; words = set words (crc / 2 ^ shift / 64) (bit_and (get_or words (crc / 2 ^ shift / 64) 0) (bit_not w64 (1 * 2 ^ (crc / 2 ^ shift % 64) % 2 ^ 64))) }) other
+kept_by_remove shift crc words place other differs is =
+    let group : ℕ = crc / 2 ^ shift in
+    let its : ℕ = other / 2 ^ shift in
+    let word : ℕ = get_or words (group / 64) 0 in
+    let new : ℕ = bit_and word (bit_not w64 (1 * 2 ^ (group % 64) % 2 ^ 64)) in
+    elim (cases_eq (its / 64) (group / 64)) [
+      | inl same ↦ (
+          let apart : its % 64 ≢ group % 64 = λ low. differs (omega (arith, same, low)) in
+          record {
+            bit =
+                ap (λ i. bit_at (get_or (set words (group / 64) new) i 0) (its % 64)) same
+                ∙ ap (λ w. bit_at w (its % 64)) (get_or-set_same words (group / 64) new 0 place)
+                ∙ bit_at_clear_other w64 word (group % 64) (omega arith) (its % 64) (omega arith) apart
+                ∙ ap (λ i. bit_at (get_or words i 0) (its % 64)) (sym same)
+                ∙ is.bit;
+          }
+          )
+      | inr apart ↦ record { bit = ap (λ w. bit_at w (its % 64)) (get_or-set_other words (group / 64) (its / 64) new 0 apart) ∙ is.bit }
+    ]

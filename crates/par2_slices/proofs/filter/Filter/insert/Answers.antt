@@ -1,0 +1,25 @@
+use Rattle.std.proofs.Common.{◌≡◌, get_or, ◌/◌, ◌^◌, ◌<◌, length, sym, subst, arith}
+use Rattle.std.proofs.lemmas.List.{get_or_read}
+use Rattle.par2_slices.specs.Filters.{Bits, Marks}
+use Rattle.par2_slices.proofs.Groups.{within, marked, kept_by_insert}
+use Rattle.par2_slices.proofs.filter.Filter.insert.Goals as goal
+
+pub index_mut-requires : goal.index_mut-requires
+index_mut-requires c = omega (arith, within c.args.crc c.self.inside.shift c.ranges.crc.fits c.self.invariant.low, c.self.invariant.len, c.self.inside.words.ok.0)
+
+pub returns-clause-marked : goal.returns-clause-marked
+returns-clause-marked c =
+    let items = c.self.inside.words.items in
+    let place = c.args.crc / 2 ^ c.self.inside.shift / 64 in
+    let held : place < length items = omega (arith, within c.args.crc c.self.inside.shift c.ranges.crc.fits c.self.invariant.low, c.self.invariant.len) in
+    let read : c.index_mut.result.now ≡ get_or items place 0 = get_or_read items place c.index_mut.result.now held c.index_mut.ensures.value 0 in
+    rw read (marked c.self.inside.shift c.args.crc items held)
+
+pub returns-clause-kept : goal.returns-clause-kept
+returns-clause-kept c other is =
+    let items = c.self.inside.words.items in
+    let place = c.args.crc / 2 ^ c.self.inside.shift / 64 in
+    let held : place < length items = omega (arith, within c.args.crc c.self.inside.shift c.ranges.crc.fits c.self.invariant.low, c.self.invariant.len) in
+    let read : c.index_mut.result.now ≡ get_or items place 0 = get_or_read items place c.index_mut.result.now held c.index_mut.ensures.value 0 in
+    let Has : Bits → Type 0 = λ bits. Marks bits other in
+    rw read (kept_by_insert c.self.inside.shift c.args.crc items held other (subst Has (sym c.self.view_is) is))

@@ -1,0 +1,26 @@
+use Rattle.std.proofs.Common.{◌≡◌, ◌∙◌, get_or, ◌/◌, ◌^◌, ◌<◌, length, sym, ap, subst, arith}
+use Rattle.std.proofs.lemmas.List.{get_or_read}
+use Rattle.par2_slices.specs.Filters.{Bits, Marks}
+use Rattle.par2_slices.proofs.Groups.{within, gone, kept_by_remove}
+use Rattle.par2_slices.proofs.filter.Filter.remove.Goals as goal
+
+pub index_mut-requires : goal.index_mut-requires
+index_mut-requires c = omega (arith, within c.args.crc c.self.inside.shift c.ranges.crc.fits c.self.invariant.low, c.self.invariant.len, c.self.inside.words.ok.0)
+
+pub returns-clause-gone : goal.returns-clause-gone
+returns-clause-gone c =
+    let items = c.self.inside.words.items in
+    let place = c.args.crc / 2 ^ c.self.inside.shift / 64 in
+    let held : place < length items = omega (arith, within c.args.crc c.self.inside.shift c.ranges.crc.fits c.self.invariant.low, c.self.invariant.len) in
+    let read : c.index_mut.result.now ≡ get_or items place 0 = get_or_read items place c.index_mut.result.now held c.index_mut.ensures.value 0 in
+    rw read (gone c.self.inside.shift c.args.crc items held)
+
+pub returns-clause-kept : goal.returns-clause-kept
+returns-clause-kept c other differs is =
+    let items = c.self.inside.words.items in
+    let place = c.args.crc / 2 ^ c.self.inside.shift / 64 in
+    let held : place < length items = omega (arith, within c.args.crc c.self.inside.shift c.ranges.crc.fits c.self.invariant.low, c.self.invariant.len) in
+    let read : c.index_mut.result.now ≡ get_or items place 0 = get_or_read items place c.index_mut.result.now held c.index_mut.ensures.value 0 in
+    let Has : Bits → Type 0 = λ bits. Marks bits other in
+    let apart : other / 2 ^ c.self.inside.shift ≡ c.args.crc / 2 ^ c.self.inside.shift → ⊥ = λ same. differs (ap (λ (bits : Bits). other / 2 ^ bits.shift) (sym c.self.view_is) ∙ same ∙ ap (λ (bits : Bits). c.args.crc / 2 ^ bits.shift) c.self.view_is) in
+    rw read (kept_by_remove c.self.inside.shift c.args.crc items held other apart (subst Has (sym c.self.view_is) is))

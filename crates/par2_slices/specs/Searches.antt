@@ -1,0 +1,62 @@
+-- A search for slices by their checksums, under way.
+use Rattle.std.specs.Prelude.{◌≡◌, [], ℕ, ◌/◌, ◌^◌, ◌<◌, ◌==◌, ◌&&◌, Bool, cond, Option, Some, None, List, length, find, slice_index_or}
+use Rattle.std.specs.List.{count_by, range_with_len}
+use Rattle.std.specs.List.Sorted.{IsNonDecreasingBy}
+use Rattle.std.specs.Option.{is_none, option_or}
+use Rattle.std.specs.Str.{bytes_eq}
+use Rattle.par2_spec.specs.Checksums.{Pair}
+use Rattle.par2_spec.specs.Windows.{is_match, window}
+use Rattle.par2_slices.specs.Filters.{Bits, Marks}
+use Rattle.par2_slices.specs.declared.wanted.Place.{Place}
+
+-- what a look beyond a list gives
+abbrev pub no_pair : Pair
+no_pair = ([], 0)
+
+abbrev pub no_place : Place
+no_place = record { crc = 0; index = 0 }
+
+-- pair i of a list
+abbrev pub pair_at : List Pair → ℕ → Pair
+pair_at pairs i = slice_index_or pairs i no_pair
+
+abbrev pub place_at : List Place → ℕ → Place
+place_at places k = slice_index_or places k no_place
+
+abbrev pub offset_at : List (Option ℕ) → ℕ → Option ℕ
+offset_at found i = slice_index_or found i None
+
+-- a place of one of the pairs, with the checksum of that pair
+pub record IsPlace (pairs : List Pair) (place : Place) : Type 0 where
+  pub within : place.index < length pairs
+  pub crc : (pair_at pairs place.index).1 ≡ place.crc
+
+-- the places of all pairs, by rising checksums
+pub record IsIndex (pairs : List Pair) (places : List Place) : Type 0 where
+  pub rising : IsNonDecreasingBy (λ place. place.crc) places
+  pub each : (k : ℕ) → k < length places → IsPlace pairs (place_at places k)
+  pub whole : (i : ℕ) → i < length pairs → (k : ℕ) × (k < length places) × ((place_at places k).index ≡ i)
+
+-- these places hold each pair whose checksum is of the group
+pub record HoldsGroup (pairs : List Pair) (shift crc : ℕ) (group : List Place) : Type 0 where
+  pub each : (k : ℕ) → k < length group → IsPlace pairs (place_at group k)
+  pub whole : (i : ℕ) → i < length pairs → (pair_at pairs i).1 / 2 ^ shift ≡ crc / 2 ^ shift → (k : ℕ) × (k < length group) × ((place_at group k).index ≡ i)
+
+-- an answer after one offset more
+abbrev pub advanced : Bool → ℕ → Option ℕ → Option ℕ
+advanced matches offset answer = option_or answer (cond matches (Some offset) None)
+
+-- whether these are the checksums of the pair
+abbrev pub has_checksums : List ℕ → ℕ → Pair → Bool
+has_checksums md5 crc pair = crc == pair.1 && bytes_eq md5 pair.0
+
+-- the least offset below `offset` at which the window matches the pair
+unfoldable pub first_below : ℕ → List ℕ → ℕ → Pair → Option ℕ
+first_below s text offset pair = find (λ o. is_match pair (window s text o)) (range_with_len 0 offset)
+
+-- the answers of a search that has looked at the offsets below `offset`
+pub record IsAt (s : ℕ) (text : List ℕ) (offset : ℕ) (pairs : List Pair) (found : List (Option ℕ)) (left : ℕ) (filter : Bits) : Type 0 where
+  pub len : length found ≡ length pairs
+  pub answers : (i : ℕ) → i < length pairs → offset_at found i ≡ first_below s text offset (pair_at pairs i)
+  pub count : left ≡ count_by is_none found
+  pub marked : (i : ℕ) → i < length pairs → offset_at found i ≡ None → Marks filter (pair_at pairs i).1

@@ -1,0 +1,74 @@
+//! Which checksums may be wanted still, one bit for all those that have the same high bits.
+
+ghost use Rattle.std.specs.Prelude.{◌≡◌, ◌≤◌, ◌/◌, ◌^◌, ◌↔◌, ℕ, IsTrue};
+ghost use Rattle.par2_slices.specs.Filters.{Marks};
+
+use std::alloc::{AllocError, Global};
+use std::marker::Model;
+
+// At most 2^20 words of 64 bits.
+const MOST_WORD_BITS: u32 = 20;
+
+/// A set of groups of checksums; a group is those that have the same bits from `shift` on.
+#[derive(Drop)]
+pub(crate) struct Filter {
+    shift: u32,
+    words: Vec<u64>,
+}
+
+impl Model for Filter {
+    ghost use Rattle.par2_slices.specs.Filters.{Bits, IsSized};
+
+    ghost Value = { Bits };
+
+    ghost view = { λ a. record { shift = a.shift; words = a.words.items } };
+
+    ghost invariant = { λ a. IsSized a.shift a.words.items };
+}
+
+impl Filter {
+    /// No group, with some 64 groups for each of `count` checksums.
+    pub(crate) fn new(alloc: Global, count: usize) -> Result<Filter, AllocError> {
+        let word_bits = (usize::BITS - count.leading_zeros()).min(MOST_WORD_BITS);
+        Ok(Filter {
+            shift: 26 - word_bits,
+            words: vec![in alloc; 0u64; 1 << word_bits]?,
+        })
+    }
+
+    /// The number of low bits in which the checksums of a group differ.
+    pub(crate) fn shift(&self) -> u32
+        ensures value { result ≡ self.now.shift }
+        ensures small { result ≤ 26 }
+    {
+        self.shift
+    }
+
+    /// Adds the group of `crc`.
+    pub(crate) fn insert(&mut self, crc: u32)
+        ensures shift { self.new.shift ≡ self.old.shift }
+        ensures marked { Marks self.new crc }
+        ensures kept { (other : ℕ) → Marks self.old other → Marks self.new other }
+    {
+        let group = crc >> self.shift;
+        self.words[(group / 64) as usize] |= 1 << (group % 64);
+    }
+
+    /// Takes the group of `crc` away.
+    pub(crate) fn remove(&mut self, crc: u32)
+        ensures shift { self.new.shift ≡ self.old.shift }
+        ensures gone { ¬ (Marks self.new crc) }
+        ensures kept { (other : ℕ) → ¬ (other / 2 ^ self.old.shift ≡ crc / 2 ^ self.old.shift) → Marks self.old other → Marks self.new other }
+    {
+        let group = crc >> self.shift;
+        self.words[(group / 64) as usize] &= !(1 << (group % 64));
+    }
+
+    /// Whether the group of `crc` is in the set.
+    pub(crate) fn contains(&self, crc: u32) -> bool
+        ensures { IsTrue result ↔ Marks self.now crc }
+    {
+        let group = crc >> self.shift;
+        (self.words[(group / 64) as usize] >> (group % 64)) % 2 == 1
+    }
+}
