@@ -100,7 +100,13 @@ fn next_packet(text: &[u8]) -> Option<(Packet<'_>, &[u8])>
     None
 }
 
-/// The accepted packets of a text, in order.
+/// The accepted packets of a text, in order: those with the magic, a claimed length that is a multiple of 4, at
+/// least 64 and within the text, and the right MD5. What stands between them is passed over, and so is a packet with
+/// a false digest, whose claim hides none.
+///
+/// The time is that of a search for the magic and of one MD5 of each packet. Where a false digest stands behind a
+/// magic it is the MD5 of what that claims, so a text of n bytes that was made for it takes up to n * n / 32 bytes
+/// of MD5.
 #[derive(Clone, Copy, Drop)]
 pub struct Packets<'a> {
     rest: &'a [u8],

@@ -26,3 +26,4 @@ pub mod WrittenBodies
 pub mod WrittenNames
 pub mod AcceptedCommands
 pub mod StopLaws
+pub mod WrittenSets

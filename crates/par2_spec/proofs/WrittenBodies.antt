@@ -8,6 +8,7 @@ use Rattle.std.proofs.lemmas.List.{take_at, drop_at, length-append, append-nil}
 use Rattle.std.proofs.lemmas.Nat.{from_le_bytes-to_le_bytes_4, from_le_bytes-to_le_bytes_8}
 use Rattle.par2_spec.specs.declared.Kind.TheVariants.{Main, Ifsc, Recovery}
 use Rattle.par2_spec.specs.Checksums.{Pair}
+use Rattle.par2_spec.specs.Packing.{IsPair}
 use Rattle.par2_spec.specs.Packets.{bytes_at, u64_at, u32_at, items_at, MainBody, IfscBody, RecoveryBody, read_main, read_ifsc, read_recovery}
 use Rattle.par2_spec.specs.Volumes.{FileRecord, main_bytes, ifsc_bytes, pair_bytes, recovery_bytes}
 use Rattle.par2_spec.proofs.WrittenPackets.{part_at}
@@ -24,7 +25,7 @@ u64_there front rest o n h lt = ap (from_le_bytes w64) (part_at front (to_le_byt
 
 -- ---- items of one length
 
-length_items : {A : Type 0} (text : A → List ℕ) (item : ℕ) (xs : List A) → AllByRecursion (λ x. length (text x) ≡ item) xs → length (flat_map text xs) ≡ item * length xs
+pub length_items : {A : Type 0} (text : A → List ℕ) (item : ℕ) (xs : List A) → AllByRecursion (λ x. length (text x) ≡ item) xs → length (flat_map text xs) ≡ item * length xs
 length_items text item [] h = omega arith
 length_items text item (x ∷ xs) h =
     let more : item * suc (length xs) ≡ item + item * length xs = omega arith in
@@ -87,17 +88,13 @@ recovery_reads e bytes lt =
 
 -- ---- IFSC
 
--- a pair as its digest and its checksum are read
-abbrev IsPair : Pair → Type 0
-IsPair pair = (length pair.0 ≡ 16) × (pair.1 < 2 ^ 32)
-
 abbrev ArePairs : List Pair → Type 0
 ArePairs pairs = AllByRecursion IsPair pairs
 
 abbrev pair_in : List ℕ → Pair
 pair_in item = (take 16 item, u32_at 16 item)
 
-pair_lengths : (pairs : List Pair) → ArePairs pairs → AllByRecursion (λ pair. length (pair_bytes pair) ≡ 20) pairs
+pub pair_lengths : (pairs : List Pair) → ArePairs pairs → AllByRecursion (λ pair. length (pair_bytes pair) ≡ 20) pairs
 pair_lengths [] h = tt
 pair_lengths (pair ∷ pairs) h =
     (length-append pair.0 (to_le_bytes w32 pair.1) ∙ ap (λ (n : ℕ). n + 4) h.0.0, pair_lengths pairs h.1)
@@ -115,7 +112,7 @@ pairs_there (pair ∷ pairs) h = ap (λ (p : Pair). p ∷ map pair_in (map pair_
 abbrev ifsc_of : List ℕ → List Pair → Option IfscBody
 ifsc_of id pairs = Some (record { id = id; pairs = pairs })
 
-pub ifsc_reads : (file : FileRecord) → length file.id ≡ 16 → AllByRecursion (λ (pair : Pair). (length pair.0 ≡ 16) × (pair.1 < 2 ^ 32)) file.pairs
+pub ifsc_reads : (file : FileRecord) → length file.id ≡ 16 → AllByRecursion IsPair file.pairs
     → read_ifsc Ifsc (ifsc_bytes file) ≡ Some (record { id = file.id; pairs = file.pairs })
 unfolding read_ifsc
 ifsc_reads file long each =

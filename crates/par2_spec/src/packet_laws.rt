@@ -1,12 +1,11 @@
 //! Laws of packets. Each is the contract of a function that does nothing.
 
-ghost use Rattle.std.specs.Prelude.{◌≡◌, ◌<◌, ◌^◌, ◌++◌, ◌==◌, ℕ, List, [], ◌∷◌, Some, map, flat_map, length, drop, true, false};
+ghost use Rattle.std.specs.Prelude.{◌≡◌, ◌<◌, ◌^◌, ◌%◌, ◌++◌, ◌==◌, ℕ, List, [], ◌∷◌, Some, map, flat_map, length, drop, true, false};
 ghost use Rattle.std.specs.List.{AllByRecursion, list_any};
-ghost use Rattle.par2_spec.specs.declared.Kind.TheVariants.{Main, FileDesc, Ifsc, Recovery};
+ghost use Rattle.par2_spec.specs.declared.Kind.TheVariants.{Main, FileDesc, Ifsc, Recovery, Creator};
 ghost use Rattle.par2_spec.specs.Packets.{Packet, packet, claimed, begins_with_packet, first_packet, accepted, read_main, read_desc, read_ifsc, read_recovery};
-ghost use Rattle.par2_spec.specs.Checksums.{Pair};
-ghost use Rattle.par2_spec.specs.Volumes.{FileRecord, main_bytes, desc_bytes, ifsc_bytes, recovery_bytes};
-ghost use Rattle.par2_spec.specs.Packing.{IsPacket};
+ghost use Rattle.par2_spec.specs.Volumes.{FileRecord, main_bytes, desc_bytes, ifsc_bytes, recovery_bytes, creator_bytes, main_id, packet_of, index_packets, recovery_packets};
+ghost use Rattle.par2_spec.specs.Packing.{IsPacket, IsPair, IsFileRecord};
 
 /// A text of fewer than 64 bytes has no packets.
 pub fn none_in_short_text()
@@ -42,11 +41,48 @@ pub fn desc_is_read()
 
 /// An IFSC that was written says what was given.
 pub fn ifsc_is_read()
-    ensures { (file : FileRecord) → length file.id ≡ 16 → AllByRecursion (λ (pair : Pair). (length pair.0 ≡ 16) × (pair.1 < 2 ^ 32)) file.pairs
+    ensures { (file : FileRecord) → length file.id ≡ 16 → AllByRecursion IsPair file.pairs
         → read_ifsc Ifsc (ifsc_bytes file) ≡ Some (record { id = file.id; pairs = file.pairs }) }
 {}
 
 /// A RecvSlic that was written says what was given.
 pub fn recovery_is_read()
     ensures { (e : ℕ) (bytes : List ℕ) → e < 2 ^ 32 → read_recovery Recovery (recovery_bytes e bytes) ≡ Some (record { exponent = e; bytes = bytes }) }
+{}
+
+/// The Main of such records is one packet, and is read as it is.
+pub fn main_is_a_packet()
+    ensures { (s : ℕ) (files : List FileRecord) → length files < 2 ^ 32 → AllByRecursion IsFileRecord files → IsPacket (packet_of (main_id s files) Main (main_bytes s files)) }
+{}
+
+/// So is the FileDesc of such a record.
+pub fn desc_is_a_packet()
+    ensures { (id : List ℕ) (file : FileRecord) → length id ≡ 16 → IsFileRecord file → IsPacket (packet_of id FileDesc (desc_bytes file)) }
+{}
+
+/// So is its IFSC.
+pub fn ifsc_is_a_packet()
+    ensures { (id : List ℕ) (file : FileRecord) → length id ≡ 16 → IsFileRecord file → IsPacket (packet_of id Ifsc (ifsc_bytes file)) }
+{}
+
+/// So is the Creator.
+pub fn creator_is_a_packet()
+    ensures { (id : List ℕ) → length id ≡ 16 → IsPacket (packet_of id Creator creator_bytes) }
+{}
+
+/// So is a RecvSlic of a multiple of 4 bytes.
+pub fn recovery_is_a_packet()
+    ensures { (id : List ℕ) (e : ℕ) (bytes : List ℕ) → length id ≡ 16 → length bytes % 4 ≡ 0 → length bytes < 2 ^ 60 → IsPacket (packet_of id Recovery (recovery_bytes e bytes)) }
+{}
+
+/// The packets of an index that was written are read as they are, and what is behind them as it is.
+pub fn index_is_read()
+    ensures { (s : ℕ) (files : List FileRecord) (text : List ℕ) → length files < 2 ^ 32 → AllByRecursion IsFileRecord files
+        → accepted (flat_map packet (index_packets s files) ++ text) ≡ index_packets s files ++ accepted text }
+{}
+
+/// So are the recovery slices of a volume.
+pub fn recovery_slices_are_read()
+    ensures { (s : ℕ) (id : List ℕ) (slices : List (List ℕ)) (e n : ℕ) (text : List ℕ) → length id ≡ 16 → s % 4 ≡ 0 → s < 2 ^ 60
+        → accepted (flat_map packet (recovery_packets s id slices e n) ++ text) ≡ recovery_packets s id slices e n ++ accepted text }
 {}
