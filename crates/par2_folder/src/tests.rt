@@ -172,7 +172,7 @@ fn changes_and_their_way_back(rt: HostRuntime) -> Result<(), Fail> {
     Ok(())
 }
 
-// The answers of each call in turn, on a store with the file a = 1 and the journal j: 1 is a failure.
+// Whether each call in turn has an answer, on a store with the file `a` and the journal `j`.
 fn calls<S: FolderStore, R: Abort + AllocGlobal>(rt: &R, store: &mut S) -> [bool; 7] {
     let (a, b) = (name(rt, "a"), name(rt, "b"));
     [
@@ -247,7 +247,7 @@ fn impossible_calls_fail(rt: HostRuntime) -> Result<(), Fail> {
     Ok(())
 }
 
-// What the store holds after so many of the calls: the last three writes, one by one.
+// What the store holds after so many of these calls.
 const AFTER: [&str; 8] = [
     "a old", "a old", "a old", "a old", "a b old", "b c old", "c old", "c new",
 ];
