@@ -2,3 +2,4 @@ pub mod Texts
 pub mod Sorted
 pub mod Lists
 pub mod Steps
+pub mod Filling

@@ -1,6 +1,6 @@
 -- Files sorted by their names: what a search finds in them, and what an edit at a place does to the folder that
 -- they make.
-use Rattle.std.proofs.Common.{◌≡◌, ℕ, zero, suc, ◌<◌, ◌≤◌, Bool, true, false, cond, not, ◌&&◌, List, [], ◌∷◌, length, set, Option, Some, None, inl, inr, Result, Ok, Err, IfOk, IfErr, IsTrue, T, refl, sym, ap, subst, ◌∙◌, arith}
+use Rattle.std.proofs.Common.{◌≡◌, ℕ, zero, suc, ◌+◌, ◌<◌, ◌≤◌, Bool, true, false, cond, not, ◌&&◌, List, [], ◌∷◌, ◌++◌, length, flat_map, take, drop, get_or, set, is_some, Option, Some, None, inl, inr, Result, Ok, Err, IfOk, IfErr, IsTrue, T, refl, sym, ap, subst, ◌∙◌, arith}
 use Rattle.std.specs.List.{insert, remove, AllByRecursion}
 use Rattle.std.specs.List.Sorted.{IsSearchInRange, IsBinarySearchResult, IsNonDecreasingBy}
 use Rattle.std.specs.Ordering.{ordering_index, ordering_reverse, eq_by_cmp, is_lt, is_eq}
@@ -12,8 +12,10 @@ use Rattle.std.specs.Cmp.Lexicographic.{nat_list_cmp_total}
 use Rattle.std.specs.FinMap as map_of
 use Rattle.std.specs.FinMap.{entries, is_sorted, find, put, IsAntisymmetric, slice_cmp-IsAntisymmetric, nat_cmp-IsAntisymmetric, same_entries_map, same_map, entries_sorted, entries-from_sorted, get-from_sorted, entries-insert, get-remove, get-empty}
 use Rattle.std.specs.FinMap.Entries.{where_key, find-where_key, is_sorted-where_key}
+use Rattle.std.proofs.lemmas.List.{length-map, get_or-map, length-take-le, get_or-take, take_all, drop_all, take_more, get_or_default}
 use Rattle.std.proofs.lemmas.List.Sorted.{IsNonDecreasingBy-from_default}
-use Rattle.par2_spec.specs.Folders.{File, Folder, IsFolder}
+use Rattle.par2_spec.specs.Folders.{File, Folder, IsFolder, has, names, counted, fingerprint}
+use Rattle.md5.specs.Md5.{md5}
 use Rattle.par2_folder.specs.View.{name_cmp, IsSortedByName, folder_of, file_at, IsAt, IsGapFor, IsFile, IsKept}
 
 pub same_names : IsAntisymmetric name_cmp
@@ -264,3 +266,43 @@ stays_absent folder gone name none = get-remove nat_list_cmp_total folder gone n
     either : (b : Bool) (o : Option (List ℕ)) → o ≡ None → cond b None o ≡ None
     either true o h = refl
     either false o h = h
+
+pub fingerprint_of : (files : List File) → IsSortedByName files → fingerprint (folder_of files) ≡ md5 (flat_map (λ (file : File). counted file.0 ++ counted file.1) files)
+unfolding fingerprint
+fingerprint_of files h = ap (λ l. md5 (flat_map (λ (file : File). counted file.0 ++ counted file.1) l)) (files_of files h)
+
+-- ---- a folder that is filled file by file, in the order of another folder's names
+
+pub begins_empty : (whole : Folder) → entries (map_of.empty {X = List ℕ} {R = name_cmp}) ≡ take 0 (entries whole)
+begins_empty whole = ap entries (sym no_files) ∙ files_of [] refl
+
+-- the next file of the other folder
+pub record IsNext (whole folder : Folder) (i : ℕ) (name bytes : List ℕ) : Type 0 where
+  pub is_new : has folder name ≡ false
+  pub files : entries (map_of.insert folder name bytes) ≡ take (i + 1) (entries whole)
+
+pub next_file : (whole folder : Folder) (i : ℕ) (name bytes d : List ℕ) → entries folder ≡ take i (entries whole) → i < length (names whole) → name ≡ get_or (names whole) i d → map_of.get whole name ≡ Some bytes → IsNext whole folder i name bytes
+next_file whole folder i name bytes d so_far lt is found =
+    let all = entries whole in
+    let sorted : IsSortedByName all = is_true _ (entries_sorted whole) in
+    let in_range : i < length all = omega (arith, length-map all (λ (file : File). file.0)) in
+    let named : (file_at all i).0 ≡ name = sym (is ∙ get_or_default (names whole) i d [] lt ∙ get_or-map (λ (file : File). file.0) all i ([], []) [] in_range) in
+    let here : IsAt all name i = record { in_range = in_range; has_name = named } in
+    let its_bytes : bytes ≡ (file_at all i).1 = let same = sym found ∙ map_of.get-entries whole name ∙ find_at all sorted name i here in cc in
+    let so_many : length (take i all) ≡ i = length-take-le i all (omega arith) in
+    let gap : IsGapFor (take i all) name i = record {
+      in_range = omega arith;
+      smaller_before = λ j before. rw (get_or-take i all j ([], []) before) (subst (λ n. name_cmp (file_at all j).0 n ≡ Less) named (rises all sorted j i before in_range));
+      greater_after = λ j after within. absurd (omega arith);
+    } in
+    record {
+      is_new = ap is_some (map_of.get-entries folder name ∙ ap (find name_cmp name) so_far ∙ find_in_gap (take i all) name i gap);
+      files = entries-insert nat_list_cmp_total folder name bytes ∙ ap (put name_cmp name bytes) so_far ∙ put_in_gap (take i all) name bytes i gap
+          ∙ ap (λ front. front ++ (name, bytes) ∷ drop i (take i all)) (take_all i (take i all) (omega arith))
+          ∙ ap (λ rest. take i all ++ (name, bytes) ∷ rest) (drop_all i (take i all) (omega arith))
+          ∙ ap (λ (file : File). take i all ++ file ∷ []) (λ k. (sym named k, its_bytes k))
+          ∙ sym (take_more all i ([], []) in_range);
+    }
+
+pub is_whole : (whole folder : Folder) (i : ℕ) → entries folder ≡ take i (entries whole) → length (names whole) ≤ i → folder ≡ whole
+is_whole whole folder i so_far over = same_entries_map folder whole (so_far ∙ take_all i (entries whole) (omega (arith, length-map (entries whole) (λ (file : File). file.0))))

@@ -2,3 +2,4 @@ pub mod View
 pub mod Views
 pub mod Memory
 pub mod Disk
+pub mod Fuse

@@ -1,6 +1,11 @@
 //! A flat folder in memory.
+ghost use Rattle.std.specs.Prelude.{ℕ, List, ◌++◌};
+ghost use Rattle.md5.specs.Md5.{Holds};
+ghost use Rattle.par2_spec.specs.Folders.{counted};
+
 use crate::place::{exchange_at, insert_at, remove_at, search};
 use crate::{Bytes, Change, Name};
+use md5::{Digest, Md5};
 use par2_spec::ChangeFault;
 use std::alloc::{AllocError, Global};
 use std::marker::Model;
@@ -10,6 +15,15 @@ use std::mem;
 #[derive(Debug, Drop)]
 pub struct Folder {
     files: Vec<(Name, Bytes)>,
+}
+
+// Adds the bytes behind their length to what is hashed.
+fn hash_counted(hasher: &mut Md5, bytes: &[u8])
+    ensures { (m : List ℕ) → Holds hasher.old m → Holds hasher.new (m ++ counted bytes.now) }
+{
+    let length = bytes.len() as u64;
+    hasher.update(length.to_le_bytes().as_slice());
+    hasher.update(bytes);
 }
 
 impl Model for Folder {
@@ -30,7 +44,7 @@ impl Model for Folder {
 impl Folder {
     ghost use Rattle.std.specs.Prelude.{◌≡◌, Some, None, max, map, is_some, option_copied, IsTrue, IfOk, IfErr, OnOk, OnErr, IfSome};
     ghost use Rattle.std.specs.FinMap.{empty, get};
-    ghost use Rattle.par2_spec.specs.Folders.{has, names, IsFolder};
+    ghost use Rattle.par2_spec.specs.Folders.{has, names, fingerprint, IsFolder};
     ghost use Rattle.par2_spec.specs.Changes.{Rename, change_refusal, state_after, inverse, takes_all, state_after_all, way_back};
     ghost use Rattle.par2_folder.specs.Views.{change_of};
 
@@ -88,6 +102,19 @@ impl Folder {
             names.push(file.0.copied())?;
         }
         Ok(names)
+    }
+
+    /// What tells folders apart: the MD5 of names and bytes, in the order of the names, each behind its length as
+    /// eight bytes.
+    pub fn fingerprint(&self, _alloc: Global) -> Result<[u8; 16], AllocError>
+        ensures { IfOk result (λ digest. digest ≡ fingerprint self.now.files) }
+    {
+        let mut hasher = Md5::new();
+        for (name, bytes) in &self.files {
+            hash_counted(&mut hasher, name.as_str().as_bytes());
+            hash_counted(&mut hasher, bytes.as_slice());
+        }
+        Ok(hasher.finalize())
     }
 
     /// Does the change, and leaves in its place the change that takes it back. It takes no memory.

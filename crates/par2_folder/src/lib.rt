@@ -6,17 +6,23 @@ mod change;
 mod disk;
 mod failures;
 mod folder;
+mod fuse;
+mod loading;
 mod memory;
 mod name;
 mod place;
 mod reading;
 mod store;
+#[cfg(test)]
+mod tests;
 
 pub use bytes::Bytes;
 pub use change::Change;
 pub use disk::DiskStore;
 pub use failures::Failures;
 pub use folder::Folder;
+pub use fuse::FuseStore;
+pub use loading::read_folder;
 pub use memory::MemoryStore;
 pub use name::{BadName, Name};
 pub use par2_spec::ChangeFault;

@@ -1,0 +1,173 @@
+//! The speed of folders and stores. With the name of a file of the current directory it prints how long a folder of
+//! 1,000 and of 10,000 names takes to be read, looked up and changed, how fast a fingerprint and MD5 are, and how
+//! fast that file is read by the store and plainly; without it, its usage.
+#![tactic(auto)]
+
+ghost use Rattle.std.specs.Prelude.{◌≡◌, IfOk, vec_len};
+
+use anyhow::Result;
+use md5::{Digest, Md5};
+use par2_folder::{Bytes, Change, DiskStore, Folder, FolderStore, MemoryStore, Name, read_folder};
+use std::alloc::{AllocError, Global};
+use std::io::Read;
+use std::time::{Duration, Instant};
+use std::{env, fs};
+
+const SIZE: usize = 64 << 20;
+
+const BLOCK: usize = 128 << 10;
+
+const MOST_BLOCKS: u64 = 1 << 20;
+
+fn named(alloc: Global, number: usize) -> Result<Name> {
+    let text = format!(in alloc; "file {number:05}")?;
+    match Name::new(text.as_str()) {
+        Ok(name) => Ok(name),
+        Err(fault) => Err(fault.into()),
+    }
+}
+
+fn filled(alloc: Global, count: usize) -> Result<MemoryStore> {
+    let mut store = MemoryStore::new(alloc);
+    for number in 0..count {
+        store.put(&named(alloc, number)?, b"bytes")?;
+    }
+    Ok(store)
+}
+
+fn each(took: Duration, count: usize) -> u128 {
+    took.as_nanos() / (count as u128).max(1)
+}
+
+fn megabytes_a_second(bytes: usize, took: Duration) -> u128 {
+    bytes as u128 * 1000 / took.as_nanos().max(1)
+}
+
+// Looks each name up, and gives each file another name and its name back.
+fn look_up_and_change(rt: &HostRuntime, folder: &mut Folder, names: &[Name]) -> Result<()> {
+    let count = names.len();
+    let start = Instant::now(rt)?;
+    let found = names
+        .iter()
+        .filter(|name| folder.get(name).is_some())
+        .count();
+    println!(rt;
+        "  look up: {} ns each ({found} found)",
+        each(start.elapsed(rt)?, count)
+    )?;
+    let other = named(rt.alloc(), 0)?;
+    let start = Instant::now(rt)?;
+    for name in names {
+        let mut change = Change::Remove(name.copied());
+        let _removed = folder.apply(&mut change);
+        let _written = folder.apply(&mut change);
+    }
+    println!(rt;
+        "  remove and write: {} ns each",
+        each(start.elapsed(rt)?, count)
+    )?;
+    let mut change = Change::Replace(other, Bytes::copy_of(rt.alloc(), b"other")?);
+    let start = Instant::now(rt)?;
+    for _ in names {
+        let _replaced = folder.apply(&mut change);
+    }
+    println!(rt; "  replace: {} ns each", each(start.elapsed(rt)?, count))?;
+    Ok(())
+}
+
+fn names_of(rt: &HostRuntime, count: usize) -> Result<()> {
+    println!(rt; "{count} names")?;
+    let start = Instant::now(rt)?;
+    let mut store = filled(rt.alloc(), count)?;
+    println!(rt; "  put: {} ns each", each(start.elapsed(rt)?, count))?;
+    let start = Instant::now(rt)?;
+    let mut folder = read_folder(rt.alloc(), &mut store)?;
+    println!(rt; "  read: {} ns each", each(start.elapsed(rt)?, count))?;
+    let names = folder.names(rt.alloc())?;
+    look_up_and_change(rt, &mut folder, &names)
+}
+
+// Bytes without a pattern, by xorshift.
+fn random_bytes(alloc: Global, len: usize) -> Result<Vec<u8>, AllocError>
+    ensures { IfOk result (λ bytes. vec_len bytes ≡ len) }
+{
+    let mut bytes = vec![in alloc; 0u8; len]?;
+    let mut state = 0x9e37_79b9_7f4a_7c15u64;
+    for byte in bytes.iter_mut() {
+        state ^= state << 13;
+        state ^= state >> 7;
+        state ^= state << 17;
+        *byte = state.to_le_bytes()[7];
+    }
+    Ok(bytes)
+}
+
+fn fingerprints(rt: &HostRuntime) -> Result<()> {
+    let bytes = random_bytes(rt.alloc(), SIZE)?;
+    let start = Instant::now(rt)?;
+    let first = Md5::digest(&bytes)[0];
+    let rate = megabytes_a_second(SIZE, start.elapsed(rt)?);
+    println!(rt; "MD5 alone: {rate} MB/s (first byte {first})")?;
+    let mut folder = Folder::new(rt.alloc());
+    folder.reserve(1)?;
+    let mut change = Change::Write(named(rt.alloc(), 0)?, bytes.into());
+    let _written = folder.apply(&mut change);
+    let start = Instant::now(rt)?;
+    let first = folder.fingerprint(rt.alloc())?[0];
+    let rate = megabytes_a_second(SIZE, start.elapsed(rt)?);
+    println!(rt; "fingerprint: {rate} MB/s (first byte {first})")?;
+    Ok(())
+}
+
+// Reads a file to its end and keeps nothing.
+fn read_through(rt: &HostRuntime, path: &str) -> Result<usize> {
+    let mut file = fs::open(rt, path)?;
+    let mut block = vec![in rt.alloc(); 0u8; BLOCK]?;
+    let mut total = 0usize;
+    for _ in 0..MOST_BLOCKS {
+        let read = file.read(&mut block)?;
+        if read == 0 {
+            break;
+        }
+        total = total.saturating_add(read);
+    }
+    Ok(total)
+}
+
+fn reading(rt: &HostRuntime, path: &str) -> Result<()> {
+    let name = match Name::new(path) {
+        Ok(name) => name,
+        Err(fault) => return Err(fault.into()),
+    };
+    for _ in 0..3 {
+        let start = Instant::now(rt)?;
+        let bytes = read_through(rt, path)?;
+        let rate = megabytes_a_second(bytes, start.elapsed(rt)?);
+        println!(rt; "read and forgotten: {rate} MB/s ({bytes} bytes)")?;
+        let start = Instant::now(rt)?;
+        let bytes = fs::read(rt, path)?.len();
+        let rate = megabytes_a_second(bytes, start.elapsed(rt)?);
+        println!(rt; "fs::read: {rate} MB/s ({bytes} bytes)")?;
+        let mut store = DiskStore::new(rt);
+        let start = Instant::now(rt)?;
+        let bytes = store.read(rt.alloc(), &name)?.len();
+        let rate = megabytes_a_second(bytes, start.elapsed(rt)?);
+        println!(rt; "store: {rate} MB/s ({bytes} bytes)")?;
+    }
+    Ok(())
+}
+
+fn main(rt: HostRuntime) -> Result<()> {
+    match env::args(&rt)?.nth(1) {
+        Some(path) => {
+            names_of(&rt, 1000)?;
+            names_of(&rt, 10000)?;
+            fingerprints(&rt)?;
+            reading(&rt, path.as_str())
+        }
+        None => {
+            println!(rt; "usage: folder_benchmark NAME")?;
+            Ok(())
+        }
+    }
+}

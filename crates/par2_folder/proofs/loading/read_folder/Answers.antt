@@ -1,0 +1,42 @@
+use Rattle.std.proofs.Common.{◌∙◌, ◌≡◌, ◌<◌, ◌≤◌, length, get_or, Some, ap, subst, arith}
+use Rattle.std.specs.FinMap as map_of
+use Rattle.std.specs.FinMap.{entries}
+use Rattle.par2_spec.specs.Folders.{names}
+use Rattle.par2_folder.proofs.Sorted.{begins_empty, next_file, is_whole}
+use Rattle.par2_folder.proofs.Filling.{tried}
+use Rattle.par2_folder.proofs.loading.read_folder.Goals as goal
+
+pub loop-name-init : goal.loop-name-init
+loop-name-init g c = record {
+  honest = c.in-Ok.ensures.honest;
+  same = c.in-Ok.ensures.same;
+  later = c.in-Ok.ensures.later;
+  listed = λ h. c.deref-name-items.ensures.value ∙ c.in-Ok.ensures.names h;
+  files = λ h. ap entries (c.in-Ok-reserve.ensures.files ∙ c.new-folder.ensures.files) ∙ begins_empty (g.S.FolderStore.contents c.args.store.now).files;
+  places = let room = c.in-Ok-reserve.ensures.ok in omega (arith, c.len.ensures, c.deref-name-items.ensures.len);
+}
+
+pub loop-name-preserved : goal.loop-name-preserved
+loop-name-preserved g c =
+    let so_far = c.loop-name.invariant in
+    let after = tried _ c.loop-name.folder c.apply-taken.new.self _ _ c.apply-taken.result c.apply-taken.ensures.refused c.apply-taken.ensures.unchanged c.apply-taken.ensures.folder in
+    record {
+      honest = λ h. c.in-Ok-read.ensures.honest (so_far.honest h);
+      same = λ h. c.in-Ok-read.ensures.same (so_far.honest h) ∙ so_far.same h;
+      later = omega (arith, so_far.later, c.in-Ok-read.ensures.later);
+      listed = so_far.listed;
+      files = λ h.
+          let whole = (g.S.FolderStore.contents c.args.store.now).files in
+          let i = c.loop-name.name-index in
+          let named : c.copied.result ≡ get_or (names whole) i c.name-item.result = c.copied.ensures ∙ c.name-item.is ∙ ap (λ l. get_or l i c.name-item.result) (so_far.listed h) in
+          let found : map_of.get whole c.copied.result ≡ Some c.into.result =
+          let bytes = c.in-Ok-read.ensures.bytes (so_far.honest h) in let same = so_far.same h in let item = c.name-item.is in cc (c.copied.ensures, c.into.ensures) in
+          let in_range : i < length (names whole) = subst (λ l. i < length l) (so_far.listed h) c.loop-name-test.true in
+          let next = next_file whole c.loop-name.folder.files i _ _ c.name-item.result (so_far.files h) in_range named found in
+          let room : 0 < c.loop-name.folder.vacant = omega (arith, so_far.places, c.loop-name-test.true) in
+          ap entries (after.written next.is_new room) ∙ next.files;
+      places = after.places _ _ so_far.places c.loop-name-test.true;
+    }
+
+pub returns-clause-files : goal.returns-clause-files
+returns-clause-files g c h = is_whole _ _ c.loop-name.name-index (c.loop-name.invariant.files h) (subst (λ l. length l ≤ c.loop-name.name-index) (c.loop-name.invariant.listed h) c.loop-name-test.false)
