@@ -14,3 +14,9 @@ pub mod RankLaws
 pub mod SessionLaws
 pub mod AcceptedLaws
 pub mod StopLaws
+pub mod RowsSlices
+pub mod RowsVolumes
+pub mod RowsTexts
+pub mod RowsJournals
+pub mod RowsFolders
+pub mod RowsRank
