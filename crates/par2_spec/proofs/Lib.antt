@@ -1,3 +1,10 @@
+pub mod FieldBits
+pub mod FieldProducts
+pub mod FieldOnto
+pub mod FieldOrder
+pub mod FieldSteps
+pub mod FieldConstants
+pub mod FieldRows
 pub mod FolderLaws
 pub mod CommandLaws
 pub mod NamesLaws
@@ -20,3 +27,4 @@ pub mod RowsTexts
 pub mod RowsJournals
 pub mod RowsFolders
 pub mod RowsRank
+pub mod UniqueLaws

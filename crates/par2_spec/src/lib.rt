@@ -3,6 +3,7 @@
 
 mod asked;
 pub mod create_laws;
+pub mod field_laws;
 pub mod folder_laws;
 pub mod rank_laws;
 pub mod repair_laws;

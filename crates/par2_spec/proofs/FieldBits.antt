@@ -1,0 +1,99 @@
+-- Functions that respect the exclusive or, and induction over the bits of a number.
+use Rattle.std.proofs.Common.{ℕ, zero, suc, ◌+◌, ◌*◌, ◌/◌, ◌%◌, ◌^◌, ◌<◌, ◌≡◌, ◌⊎◌, inl, inr, refl, sym, ap, ap₂, ◌∙◌, subst, Bool, true, eqb, ◌&&◌, arith, add-zero, zero-mul, one-mul, pow_pos, pow-suc, mod-lt, div-lt_iff_lt-mul, mul_comm}
+use Rattle.std.proofs.Math.Nat.{div-add-mod}
+use Rattle.std.proofs.lemmas.Nat.{xor_comm, xor_block}
+use Rattle.std.proofs.lemmas.Nat.Bits.{bit_at_xor, bit_at-lt}
+use Rattle.std.proofs.lemmas.Bool.{eqb-true, and_parts, cases_eq}
+use Rattle.std.specs.Int.{bit_at}
+use Rattle.std.specs.Int.RustNames.{bit_xor}
+use Rattle.std.specs.Int.Bits.{xor_assoc, xor_self, xor_zero_r, xor_shifted}
+
+-- f takes an exclusive or to the exclusive or of its values
+pub record IsLinear (f : ℕ → ℕ) : Type 0 where
+  pub on_xor : (x y : ℕ) → f (bit_xor x y) ≡ bit_xor (f x) (f y)
+
+pub xor_middle : (a b c d : ℕ) → bit_xor (bit_xor a b) (bit_xor c d) ≡ bit_xor (bit_xor a c) (bit_xor b d)
+xor_middle a b c d =
+    xor_assoc a b (bit_xor c d)
+    ∙ ap (λ x. bit_xor a x) (sym (xor_assoc b c d) ∙ ap (λ x. bit_xor x d) (xor_comm b c) ∙ xor_assoc c b d)
+    ∙ sym (xor_assoc a c (bit_xor b d))
+
+pub xor_shl : (k a b : ℕ) → bit_xor a b * 2 ^ k ≡ bit_xor (a * 2 ^ k) (b * 2 ^ k)
+xor_shl k a b =
+    sym (sym (ap₂ bit_xor (add-zero (a * 2 ^ k)) (add-zero (b * 2 ^ k)))
+    ∙ xor_block k a b 0 0 (pow_pos k) (pow_pos k)
+    ∙ add-zero (bit_xor a b * 2 ^ k))
+
+-- a bit is 0 or 1
+pub bit_cases : (x i : ℕ) → (bit_at x i ≡ 0) ⊎ (bit_at x i ≡ 1)
+bit_cases x i = below_two (bit_at x i) (bit_at-lt x i)
+  where
+    below_two : (n : ℕ) → n < 2 → (n ≡ 0) ⊎ (n ≡ 1)
+    below_two zero h = inl refl
+    below_two (suc zero) h = inr refl
+    below_two (suc (suc n)) h = absurd (omega arith)
+
+-- a bit times a number
+pub bit_times_xor : (x i a b : ℕ) → bit_at x i * bit_xor a b ≡ bit_xor (bit_at x i * a) (bit_at x i * b)
+bit_times_xor x i a b = elim (bit_cases x i) [
+  | inl e ↦ rw e (zero-mul (bit_xor a b) ∙ sym (ap₂ bit_xor (zero-mul a) (zero-mul b)))
+  | inr e ↦ rw e (one-mul (bit_xor a b) ∙ sym (ap₂ bit_xor (one-mul a) (one-mul b)))
+]
+
+pub bit_xor_times : (x y i v : ℕ) → bit_at (bit_xor x y) i * v ≡ bit_xor (bit_at x i * v) (bit_at y i * v)
+bit_xor_times x y i v =
+    ap (λ c. c * v) (bit_at_xor x y i)
+    ∙ elim (bit_cases x i) [
+      | inl e ↦ rw e (elim (bit_cases y i) [
+        | inl f ↦ rw f (zero-mul v ∙ sym (ap₂ bit_xor (zero-mul v) (zero-mul v)))
+        | inr f ↦ rw f (sym (ap₂ bit_xor (zero-mul v) refl))
+      ])
+      | inr e ↦ rw e (elim (bit_cases y i) [
+        | inl f ↦ rw f (one-mul v ∙ sym (ap₂ bit_xor (one-mul v) (zero-mul v) ∙ xor_zero_r v))
+        | inr f ↦ rw f (zero-mul v ∙ sym (xor_self (1 * v)))
+      ])
+    ]
+
+-- What holds of 0, of each power of 2 below 2 ^ n, and of the exclusive or of two numbers of which it holds, holds below 2 ^ n.
+pub bits_ind : (P : ℕ → Type 0) → P 0 → ((x y : ℕ) → P x → P y → P (bit_xor x y)) → (n : ℕ) → ((i : ℕ) → i < n → P (2 ^ i)) → (x : ℕ) → x < 2 ^ n → P x
+bits_ind P none more zero ones x h = let e : x ≡ 0 = omega arith in subst P (sym e) none
+bits_ind P none more (suc n) ones x h =
+    let low : x % 2 ^ n < 2 ^ n = mod-lt x (pow_pos n) in
+    let whole : bit_xor (x / 2 ^ n * 2 ^ n) (x % 2 ^ n) ≡ x =
+    xor_shifted (x / 2 ^ n) n (x % 2 ^ n) low ∙ ap (λ y. y + x % 2 ^ n) (mul_comm (x / 2 ^ n) (2 ^ n)) ∙ div-add-mod x (2 ^ n) in
+    let rest : P (x % 2 ^ n) = bits_ind P none more n (λ i k. ones i (omega arith)) (x % 2 ^ n) low in
+    let high : x / 2 ^ n < 2 = (div-lt_iff_lt-mul (pow_pos n)).1 (rw (← mul_comm (2 ^ n) 2, ← pow-suc 2 n) h) in
+    subst P whole (more (x / 2 ^ n * 2 ^ n) (x % 2 ^ n) (top (x / 2 ^ n) high) rest)
+  where
+    top : (q : ℕ) → q < 2 → P (q * 2 ^ n)
+    top zero k = subst P (sym (zero-mul (2 ^ n))) none
+    top (suc zero) k = subst P (sym (one-mul (2 ^ n))) (ones n (omega arith))
+    top (suc (suc q)) k = absurd (omega arith)
+
+pub linear-zero : (f : ℕ → ℕ) → IsLinear f → f 0 ≡ 0
+linear-zero f l = l.on_xor 0 0 ∙ xor_self (f 0)
+
+-- a test of each number below n
+abbrev pub tested : (ℕ → Bool) → ℕ → Bool
+tested t zero = true
+tested t (suc n) = t n && tested t n
+
+pub tested_at : (t : ℕ → Bool) (n i : ℕ) → tested t n ≡ true → i < n → t i ≡ true
+tested_at t zero i e h = absurd (omega arith)
+tested_at t (suc n) i e h =
+    let parts = and_parts (t n) (tested t n) e in
+    elim (cases_eq i n) [
+      | inl same ↦ ap t same ∙ parts.0
+      | inr other ↦ tested_at t n i parts.1 (omega arith)
+    ]
+
+-- two functions that respect the exclusive or and agree at each power of 2 below 2 ^ n agree below 2 ^ n
+pub linear_same : (f g : ℕ → ℕ) → IsLinear f → IsLinear g → (n : ℕ) → ((i : ℕ) → i < n → f (2 ^ i) ≡ g (2 ^ i)) → (x : ℕ) → x < 2 ^ n → f x ≡ g x
+linear_same f g lf lg n ones x h =
+    bits_ind (λ y. f y ≡ g y) (linear-zero f lf ∙ sym (linear-zero g lg))
+    (λ a b p q. lf.on_xor a b ∙ ap₂ bit_xor p q ∙ sym (lg.on_xor a b)) n ones x h
+
+-- the same, by a test
+pub linear_same_tested : (f g : ℕ → ℕ) → IsLinear f → IsLinear g → (n : ℕ) → tested (λ i. eqb (f (2 ^ i)) (g (2 ^ i))) n ≡ true → (x : ℕ) → x < 2 ^ n → f x ≡ g x
+linear_same_tested f g lf lg n t x h =
+    linear_same f g lf lg n (λ i k. eqb-true (f (2 ^ i)) (g (2 ^ i)) (tested_at (λ j. eqb (f (2 ^ j)) (g (2 ^ j))) n i t k)) x h

@@ -1,0 +1,162 @@
+-- 2 has the order 65535, and each element but 0 is a power of 2 and has one inverse.
+use Rattle.std.proofs.Common.{ℕ, zero, suc, ◌+◌, ◌-◌, ◌*◌, ◌^◌, ◌<◌, ◌≡◌, refl, sym, ap, ap₂, ◌∙◌, Bool, true, false, eqb, ◌&&◌, not, arith, suc-add, zero-add}
+use Rattle.std.proofs.lemmas.Bool.{eqb-false, not-true, and_parts}
+use Rattle.std.specs.Int.{bit_at}
+use Rattle.std.specs.Int.RustNames.{bit_xor}
+use Rattle.par2_spec.specs.Field.{modulus, mul, pow}
+use Rattle.par2_spec.proofs.FieldBits.{IsLinear, xor_middle, xor_shl, bit_xor_times, linear_same_tested, linear-zero, tested}
+use Rattle.par2_spec.proofs.FieldProducts.{product-lt, product_comm, product-one, product_assoc, product_linear_left, product_linear_right}
+use Rattle.par2_spec.proofs.FieldOnto.{onto_from_injective}
+
+-- the product of 2 and an element: a shift, and the remainder of one step
+unfoldable pub double : ℕ → ℕ
+double x = bit_xor (x * 2) (bit_at x 15 * modulus)
+
+double_linear : IsLinear double
+unfolding double
+double_linear = record { on_xor = λ x y. ap₂ bit_xor (xor_shl 1 x y) (bit_xor_times x y 15 modulus) ∙ xor_middle (x * 2) (y * 2) _ _ }
+
+test_double : tested (λ i. eqb (double (2 ^ i)) (mul 2 (2 ^ i))) 16 ≡ true
+unfolding double mul
+test_double = refl
+
+pub double_product : (x : ℕ) → x < 65536 → double x ≡ mul 2 x
+double_product x h = linear_same_tested double (λ y. mul 2 y) double_linear (product_linear_right 2) 16 test_double x h
+
+pub power-lt : (a n : ℕ) → a < 65536 → pow a n < 65536
+unfolding pow
+power-lt a zero h = omega arith
+power-lt a (suc n) h = product-lt a (pow a n) h (power-lt a n h)
+
+pub power-add : (a m n : ℕ) → a < 65536 → pow a (m + n) ≡ mul (pow a m) (pow a n)
+unfolding pow
+power-add a zero n h = ap (pow a) (zero-add n) ∙ sym (product-one (pow a n) (power-lt a n h)) ∙ product_comm (pow a n) 1 (power-lt a n h) (omega arith)
+power-add a (suc m) n h =
+    ap (pow a) (suc-add m n) ∙ ap (mul a) (power-add a m n h)
+    ∙ sym (product_assoc a (pow a m) (pow a n) h (power-lt a m h) (power-lt a n h))
+
+-- n doublings
+walk : ℕ → ℕ → ℕ
+walk zero x = x
+walk (suc n) x = walk n (double x)
+
+walk_power : (n x : ℕ) → x < 65536 → walk n x ≡ mul (pow 2 n) x
+unfolding walk pow
+walk_power zero x h = sym (product-one x h) ∙ product_comm x 1 h (omega arith)
+walk_power (suc n) x h =
+    let p : pow 2 n < 65536 = power-lt 2 n (omega arith) in
+    let d : mul 2 x < 65536 = product-lt 2 x (omega arith) h in
+    ap (walk n) (double_product x h) ∙ walk_power n (mul 2 x) d
+    ∙ sym (product_assoc (pow 2 n) 2 x p (omega arith) h)
+    ∙ ap (λ v. mul v x) (product_comm (pow 2 n) 2 p (omega arith))
+
+walk_one : (n : ℕ) → walk n 1 ≡ pow 2 n
+walk_one n = walk_power n 1 (omega arith) ∙ product-one (pow 2 n) (power-lt 2 n (omega arith))
+
+-- whether none of the next n doublings is 1
+leaves_one : ℕ → ℕ → Bool → Bool
+leaves_one zero x so_far = so_far
+leaves_one (suc n) x so_far = let y = double x in leaves_one n y (so_far && not (eqb y 1))
+
+leaves_one_at : (n x : ℕ) (so_far : Bool) → leaves_one n x so_far ≡ true → (so_far ≡ true) × ((k : ℕ) → k < n → walk (suc k) x ≡ 1 → ⊥)
+unfolding leaves_one walk
+leaves_one_at zero x so_far e = (e, λ k h. absurd (omega arith))
+leaves_one_at (suc n) x so_far e =
+    let rest = leaves_one_at n (double x) (so_far && not (eqb (double x) 1)) e in
+    let parts = and_parts so_far (not (eqb (double x) 1)) rest.0 in
+    (parts.0, at (double x) (not-true _ parts.1) rest.1)
+  where
+    at : (y : ℕ) → eqb y 1 ≡ false → ((k : ℕ) → k < n → walk (suc k) y ≡ 1 → ⊥) → (k : ℕ) → k < suc n → walk k y ≡ 1 → ⊥
+    at y first later zero h = eqb-false y 1 first
+    at y first later (suc k) h = later k (omega arith)
+
+-- the two computations: 65535 doublings lead from 1 to 1, and no fewer do
+test_around : walk 65535 1 ≡ 1
+unfolding walk double
+test_around = refl
+
+test_no_sooner : leaves_one 65534 1 true ≡ true
+unfolding leaves_one double
+test_no_sooner = refl
+
+pub power-65535 : pow 2 65535 ≡ 1
+power-65535 = sym (walk_one 65535) ∙ test_around
+
+pub power-sooner : (k : ℕ) → 0 < k → k < 65535 → pow 2 k ≡ 1 → ⊥
+power-sooner zero z h e = absurd (omega arith)
+power-sooner (suc k) z h e = (leaves_one_at 65534 1 true test_no_sooner).1 k (omega arith) (walk_one (suc k) ∙ e)
+
+power-whole : (i j : ℕ) → i + j ≡ 65535 → mul (pow 2 i) (pow 2 j) ≡ 1
+power-whole i j e = sym (power-add 2 i j (omega arith)) ∙ ap (pow 2) e ∙ power-65535
+
+pub product-zero : (a : ℕ) → mul a 0 ≡ 0
+product-zero a = linear-zero (λ b. mul a b) (product_linear_right a)
+
+pub zero-product : (b : ℕ) → mul 0 b ≡ 0
+zero-product b = linear-zero (λ a. mul a b) (product_linear_left b)
+
+one≢zero : ◌≡◌ {A = ℕ} 1 0 → ⊥
+one≢zero e = omega arith
+
+pub power-nonzero : (i : ℕ) → i < 65535 → pow 2 i ≡ 0 → ⊥
+power-nonzero i h e =
+    one≢zero (sym (power-whole i (65535 - i) (omega arith)) ∙ ap (λ v. mul v (pow 2 (65535 - i))) e ∙ zero-product _)
+
+pub power-injective : (i j : ℕ) → i < j → j < 65535 → pow 2 i ≡ pow 2 j → ⊥
+power-injective i j h k e =
+    power-sooner (i + (65535 - j)) (omega arith) (omega arith)
+    (power-add 2 i (65535 - j) (omega arith) ∙ ap (λ v. mul v (pow 2 (65535 - j))) e ∙ power-whole j (65535 - j) (omega arith))
+
+-- 0, and then the powers of 2
+element : ℕ → ℕ
+element zero = 0
+element (suc i) = pow 2 i
+
+element-lt : (i : ℕ) → i < 65536 → element i < 65536
+unfolding element
+element-lt zero h = h
+element-lt (suc i) h = power-lt 2 i (omega arith)
+
+element_injective : (i j : ℕ) → i < j → j < 65536 → element i ≡ element j → ⊥
+unfolding element
+element_injective i zero h k e = absurd (omega arith)
+element_injective zero (suc j) h k e = power-nonzero j (omega arith) (sym e)
+element_injective (suc i) (suc j) h k e = power-injective i j (omega arith) (omega arith) e
+
+-- each element but 0 is a power of 2
+pub logarithm : (a : ℕ) → 0 < a → a < 65536 → (i : ℕ) × ((i < 65535) × (pow 2 i ≡ a))
+unfolding element
+logarithm a z h = let found = onto_from_injective element 65536 element-lt element_injective a h in at found.0 found.1.0 found.1.1
+  where
+    at : (i : ℕ) → i < 65536 → element i ≡ a → (j : ℕ) × ((j < 65535) × (pow 2 j ≡ a))
+    at zero k e = absurd (omega arith)
+    at (suc j) k e = (j, (omega arith, e))
+
+pub has_inverse : (a : ℕ) → 0 < a → a < 65536 → (b : ℕ) × ((b < 65536) × (mul a b ≡ 1))
+has_inverse a z h =
+    let found = logarithm a z h in (
+      pow 2 (65535 - found.0),
+      (
+        power-lt 2 _ (omega arith),
+        ap (λ v. mul v (pow 2 (65535 - found.0))) (sym found.1.1) ∙ power-whole found.0 (65535 - found.0) (omega (arith, found.1.0)),
+      ),
+    )
+
+-- a product with an element that has an inverse can be undone
+pub cancel : (a b c : ℕ) → 0 < a → a < 65536 → b < 65536 → c < 65536 → mul a b ≡ mul a c → b ≡ c
+cancel a b c z ha hb hc e =
+    let i = has_inverse a z ha in
+    let back : (v : ℕ) → v < 65536 → mul i.0 (mul a v) ≡ v = λ v hv.
+    sym (product_assoc i.0 a v i.1.0 ha hv) ∙ ap (λ w. mul w v) (product_comm i.0 a i.1.0 ha ∙ i.1.1)
+    ∙ product_comm 1 v (omega arith) hv ∙ product-one v hv in
+    sym (back b hb) ∙ ap (mul i.0) e ∙ back c hc
+
+pub one_inverse : (a b c : ℕ) → a < 65536 → b < 65536 → c < 65536 → mul a b ≡ 1 → mul a c ≡ 1 → b ≡ c
+one_inverse a b c ha hb hc e f = cancel a b c (positive a e) ha hb hc (e ∙ sym f)
+  where
+    positive : (a : ℕ) → mul a b ≡ 1 → 0 < a
+    positive zero k = absurd (one≢zero (sym k ∙ zero-product b))
+    positive (suc n) k = omega arith
+
+pub no_zero_divisor : (a b : ℕ) → 0 < a → a < 65536 → b < 65536 → mul a b ≡ 0 → b ≡ 0
+no_zero_divisor a b z ha hb e = cancel a b 0 z ha hb (omega arith) (e ∙ sym (product-zero a))

@@ -1,0 +1,48 @@
+-- A doubling as a shift of sixteen bits, and powers of powers.
+use Rattle.std.proofs.Common.{ℕ, zero, suc, ◌+◌, ◌*◌, ◌%◌, ◌^◌, ◌<◌, ◌≤◌, ◌≡◌, refl, sym, ap, ◌∙◌, arith, zero-mul, mul_comm, zero-add}
+use Rattle.std.proofs.lemmas.Nat.{xor_block}
+use Rattle.std.specs.Int.{bit_at}
+use Rattle.std.specs.Int.RustNames.{bit_xor}
+use Rattle.std.specs.Int.Bits.{xor_zero_r}
+use Rattle.par2_spec.specs.Field.{modulus, mul, pow}
+use Rattle.par2_spec.proofs.FieldProducts.{product-one}
+use Rattle.par2_spec.proofs.FieldOrder.{double, power-add, power-65535, logarithm}
+
+-- doubling as the code does it
+pub double_low : (x : ℕ) → x < 32768 → double x ≡ x * 2
+unfolding double
+double_low x h =
+    let b : bit_at x 15 ≡ 0 = omega arith in
+    ap (λ v. bit_xor (x * 2) (v * modulus)) b ∙ xor_zero_r (x * 2)
+
+pub double_high : (x : ℕ) → 32768 ≤ x → x < 65536 → double x ≡ bit_xor (x * 2 % 65536) 4107
+unfolding double
+double_high x h k =
+    let b : bit_at x 15 ≡ 1 = omega arith in
+    let e : x * 2 ≡ 1 * 2 ^ 16 + x * 2 % 65536 = omega arith in
+    ap (λ v. bit_xor (x * 2) (v * modulus)) b
+    ∙ ap (λ v. bit_xor v modulus) e
+    ∙ xor_block 16 1 1 (x * 2 % 65536) 4107 (omega arith) (omega arith)
+    ∙ zero-add _
+
+pub power-mul : (a m n : ℕ) → a < 65536 → pow (pow a m) n ≡ pow a (n * m)
+unfolding pow
+power-mul a m zero h = sym (ap (pow a) (zero-mul m))
+power-mul a m (suc n) h =
+    ap (mul (pow a m)) (power-mul a m n h) ∙ sym (power-add a m (n * m) h) ∙ ap (pow a) (let e : m + n * m ≡ suc n * m = omega arith in e)
+
+pub one-power : (n : ℕ) → pow 1 n ≡ 1
+unfolding pow
+one-power zero = refl
+one-power (suc n) = ap (mul 1) (one-power n) ∙ product-one 1 (omega arith)
+
+pub power_inverse : (a : ℕ) → 0 < a → a < 65536 → mul a (pow a 65534) ≡ 1
+unfolding pow
+power_inverse a z h =
+    let log = logarithm a z h in
+    let whole : pow a 65535 ≡ 1 =
+    ap (λ v. pow v 65535) (sym log.1.1) ∙ power-mul 2 log.0 65535 (omega arith)
+    ∙ ap (pow 2) (mul_comm 65535 log.0) ∙ sym (power-mul 2 65535 log.0 (omega arith))
+    ∙ ap (λ v. pow v log.0) power-65535 ∙ one-power log.0 in
+    let once : pow a (1 + 65534) ≡ mul (pow a 1) (pow a 65534) = power-add a 1 65534 h in
+    ap (λ v. mul v (pow a 65534)) (sym (product-one a h)) ∙ sym once ∙ whole
