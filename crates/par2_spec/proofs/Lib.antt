@@ -27,3 +27,10 @@ pub mod WrittenNames
 pub mod AcceptedCommands
 pub mod StopLaws
 pub mod WrittenSets
+pub mod RowsSlices
+pub mod RowsVolumes
+pub mod RowsTexts
+pub mod RowsJournals
+pub mod RowsFolders
+pub mod RowsRank
+pub mod UniqueLaws

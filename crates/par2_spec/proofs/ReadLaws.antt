@@ -185,12 +185,15 @@ put_recovery s k v (r ∷ rs) small long h = step (nat_cmp k r.0) (put_recovery 
     step Equal later = ((h.0.0, long), h.1)
     step Greater later = (h.0, later)
 
-none_of_length : (rs : List (ℕ × List ℕ)) → length rs ≡ 0 → rs ≡ []
+none_of_length : {A : Type 0} (xs : List A) → length xs ≡ 0 → xs ≡ []
 none_of_length [] e = refl
-none_of_length (r ∷ rs) e = absurd (omega (arith, e))
+none_of_length (x ∷ xs) e = absurd (omega (arith, e))
+
+pub entries-empty : {K : Type 0} (R : K → K → Ordering) (X : Type 0) → map_of.entries (map_of.empty {X = X} {R = R}) ≡ []
+entries-empty R X = none_of_length (map_of.entries (map_of.empty {X = X} {R = R})) (sym (len-entries map_of.empty) ∙ len-empty R X)
 
 entries_are : (s : ℕ) (rs : List (ℕ × List ℕ)) → AreRecovery s rs → AreRecovery s (map_of.entries (map_of.from_entries {R = nat_cmp} rs))
-entries_are s [] h = subst (AreRecovery s) (sym (none_of_length (map_of.entries (map_of.empty {R = nat_cmp})) (sym (len-entries map_of.empty) ∙ len-empty nat_cmp (List ℕ)))) tt
+entries_are s [] h = subst (AreRecovery s) (sym (entries-empty nat_cmp (List ℕ))) tt
 entries_are s (r ∷ rs) h =
     subst (AreRecovery s) (sym (entries-insert nat_cmp_total (map_of.from_entries rs) r.0 r.1)) (put_recovery s r.0 r.1 (map_of.entries (map_of.from_entries rs)) h.0.0 h.0.1 (entries_are s rs h.1))
 

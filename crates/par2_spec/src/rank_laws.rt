@@ -1,9 +1,9 @@
 //! Laws of rank and of rebuilt slices: each is the contract of a function that does nothing.
 
-ghost use Rattle.std.specs.Prelude.{◌≡◌, ◌<◌, ◌↔◌, ℕ, List, IsTrue, Option, length};
+ghost use Rattle.std.specs.Prelude.{◌≡◌, ◌<◌, ◌%◌, ◌↔◌, ℕ, List, IsTrue, Option, length, map};
 ghost use Rattle.std.specs.List.{AllByRecursion, Contains};
 ghost use Rattle.std.specs.FinMap as map_of;
-ghost use Rattle.par2_spec.specs.Rank.{is_repairable, IsRepairable, kept, IsKept, agrees, Agrees, kept_slices, IsRebuilt};
+ghost use Rattle.par2_spec.specs.Rank.{is_repairable, IsRepairable, kept, IsKept, agrees, Agrees, kept_slices, IsRebuilt, IsVector, Kills};
 ghost use Rattle.par2_spec.specs.Sets.{ParSet};
 ghost use Rattle.par2_spec.specs.Search.{lost, survivors};
 ghost use Rattle.par2_spec.specs.Repairs.{rebuilt};
@@ -19,4 +19,15 @@ pub fn tests_say_the_words()
 pub fn rebuilt_slices_agree()
     ensures some { (set : ParSet) (known : List (Option (List ℕ))) (slices : List (List ℕ)) → Agrees set.slice_size known (kept_slices (lost known) (survivors set) (map_of.entries set.recovery)) slices → Agrees set.slice_size known (kept_slices (lost known) (survivors set) (map_of.entries set.recovery)) (rebuilt set known) }
     ensures only { (set : ParSet) (known : List (Option (List ℕ))) (slices : List (List ℕ)) → IsRebuilt set.slice_size known (kept_slices (lost known) (survivors set) (map_of.entries set.recovery)) slices → rebuilt set known ≡ slices }
+{}
+
+/// Where the lost slices are determined, one list alone agrees, and what agrees is what is rebuilt.
+pub fn one_list_alone_agrees()
+    ensures one { (s : ℕ) (known : List (Option (List ℕ))) (recovery : List (ℕ × List ℕ)) (one other : List (List ℕ)) → s % 2 ≡ 0 → IsRepairable (lost known) (map (λ r. r.0) recovery) → Agrees s known (kept_slices (lost known) (map (λ r. r.0) recovery) recovery) one → Agrees s known (kept_slices (lost known) (map (λ r. r.0) recovery) recovery) other → one ≡ other }
+    ensures rebuilt { (set : ParSet) (known : List (Option (List ℕ))) (slices : List (List ℕ)) → set.slice_size % 2 ≡ 0 → IsRepairable (lost known) (survivors set) → Agrees set.slice_size known (kept_slices (lost known) (survivors set) (map_of.entries set.recovery)) slices → rebuilt set known ≡ slices }
+{}
+
+/// A vector that all kept exponents kill is killed by all survivors.
+pub fn kept_exponents_kill_as_all()
+    ensures { (lost survivors v : List ℕ) → IsVector (length lost) v → ((e : ℕ) → Contains (kept lost survivors) e → Kills lost e v) → AllByRecursion (λ e. Kills lost e v) survivors }
 {}

@@ -1,0 +1,291 @@
+-- Where the lost slices are determined, one list alone agrees.
+use Rattle.std.proofs.Common.{◌≡◌, ℕ, zero, suc, ◌+◌, ◌*◌, ◌/◌, ◌%◌, ◌^◌, ◌<◌, ◌≤◌, List, [], ◌∷◌, length, map, take, drop, get_or, refl, sym, ap, ◌∙◌, subst, cond, true, false, Bool, arith, inl, inr}
+use Rattle.std.specs.Prelude.{bit_xor, flat_map, filter, slice_index, ◌==◌, Option, Some, None, is_none}
+use Rattle.std.specs.Int.{w16, to_le_bytes, from_le_bytes}
+use Rattle.std.specs.Int.Bits.{xor_assoc, xor_self, xor_zero_r}
+use Rattle.std.specs.List.{range_with_len, enumerate_from, list_any, AllByRecursion, AllZip, Contains}
+use Rattle.std.specs.Option.{ForSome}
+use Rattle.std.specs.FinMap as map_of
+use Rattle.std.proofs.lemmas.Nat.{xor_lt, from_le_bytes-to_le_bytes_2}
+use Rattle.std.proofs.lemmas.List.{ext_get_or, length-map}
+use Rattle.std.proofs.lemmas.Bool.{or_left, or_right, eq-eqb, cases_eq}
+use Rattle.std.proofs.lemmas.Slice.Zip.{AllZip-long}
+use Rattle.par2_spec.specs.Field.{mul, coefficient}
+use Rattle.par2_spec.specs.Slices.{word}
+use Rattle.par2_spec.specs.Recovery.{dot, coefficients, combination, recovery}
+use Rattle.par2_spec.specs.Rank.{kept, IsVector, Kills, IsRepairable, Agrees, kept_slices, IsRebuilt}
+use Rattle.par2_spec.specs.Sets.{ParSet}
+use Rattle.par2_spec.specs.Search.{lost, survivors}
+use Rattle.par2_spec.proofs.FieldBits.{xor_middle}
+use Rattle.par2_spec.proofs.FieldProducts.{product_linear_right, product-lt}
+use Rattle.par2_spec.proofs.FieldOrder.{product-zero, power-lt}
+use Rattle.par2_spec.proofs.FieldConstants.{constant-lt}
+use Rattle.par2_spec.proofs.NamesLaws.{clash}
+use Rattle.par2_spec.proofs.RankLaws.{kept-iff}
+
+-- ---- sums of lists
+
+-- the sum at each place
+abbrev pub sums : List ℕ → List ℕ → List ℕ
+sums [] v = []
+sums (x ∷ u) [] = []
+sums (x ∷ u) (y ∷ v) = bit_xor x y ∷ sums u v
+
+abbrev AreElements : List ℕ → Type 0
+AreElements v = AllByRecursion (λ x. x < 2 ^ 16) v
+
+dot-sums : (row u v : List ℕ) → length u ≡ length v → dot row (sums u v) ≡ bit_xor (dot row u) (dot row v)
+unfolding dot
+dot-sums [] u v e = refl
+dot-sums (c ∷ row) [] [] e = refl
+dot-sums (c ∷ row) [] (y ∷ v) e = absurd (omega (arith, e))
+dot-sums (c ∷ row) (x ∷ u) [] e = absurd (omega (arith, e))
+dot-sums (c ∷ row) (x ∷ u) (y ∷ v) e =
+    ap (λ t. bit_xor t (dot row (sums u v))) ((product_linear_right c).on_xor x y)
+    ∙ ap (bit_xor (bit_xor (mul c x) (mul c y))) (dot-sums row u v (omega (arith, e)))
+    ∙ xor_middle (mul c x) (mul c y) (dot row u) (dot row v)
+
+dot-lt : (row v : List ℕ) → AreElements row → AreElements v → dot row v < 2 ^ 16
+unfolding dot
+dot-lt [] v h k = omega arith
+dot-lt (c ∷ row) [] h k = omega arith
+dot-lt (c ∷ row) (x ∷ v) h k = xor_lt 16 (mul c x) (dot row v) (product-lt c x h.0 k.0) (dot-lt row v h.1 k.1)
+
+same_sum : (x y : ℕ) → bit_xor x y ≡ 0 → x ≡ y
+same_sum x y e = sym (xor_zero_r x) ∙ ap (bit_xor x) (sym (xor_self y)) ∙ sym (xor_assoc x y y) ∙ ap (λ t. bit_xor t y) e
+
+coefficients_are : (e : ℕ) (is : List ℕ) → AreElements (coefficients is e)
+unfolding coefficient
+coefficients_are e [] = tt
+coefficients_are e (i ∷ is) = (power-lt _ e (constant-lt i), coefficients_are e is)
+
+-- ---- words
+
+byte_at : (bytes : List ℕ) (i : ℕ) → AllByRecursion (λ b. b < 256) bytes → slice_index bytes i < 256
+byte_at [] i h = omega arith
+byte_at (b ∷ bytes) zero h = h.0
+byte_at (b ∷ bytes) (suc i) h = byte_at bytes i h.1
+
+word-lt : (p : ℕ) (bytes : List ℕ) → AllByRecursion (λ b. b < 256) bytes → word p bytes < 2 ^ 16
+word-lt p bytes h =
+    let low : slice_index bytes (2 * p) < 256 = byte_at bytes (2 * p) h in
+    let high : slice_index bytes (2 * p + 1) < 256 = byte_at bytes (2 * p + 1) h in
+    omega (arith, low, high)
+
+abbrev AreTexts : List (List ℕ) → Type 0
+AreTexts texts = AllByRecursion (λ text. AllByRecursion (λ b. b < 256) text) texts
+
+words_are : (p : ℕ) (texts : List (List ℕ)) → AreTexts texts → AreElements (map (word p) texts)
+words_are p [] h = tt
+words_are p (text ∷ texts) h = (word-lt p text h.0, words_are p texts h.1)
+
+-- texts of an even length with the same words are the same
+same_words : (s : ℕ) (a b : List ℕ) → s % 2 ≡ 0 → length a ≡ s → length b ≡ s → AllByRecursion (λ x. x < 256) a → AllByRecursion (λ x. x < 256) b → ((p : ℕ) → p < s / 2 → word p a ≡ word p b) → a ≡ b
+same_words s a b even la lb ha hb same = ext_get_or 0 a b (la ∙ sym lb) (λ i lt. byte i (omega (arith, lt, la)))
+  where
+    low_high : (p : ℕ) → word p a ≡ word p b → (slice_index a (2 * p) ≡ slice_index b (2 * p)) × (slice_index a (2 * p + 1) ≡ slice_index b (2 * p + 1))
+    low_high p e =
+        let k : slice_index a (2 * p) < 256 = byte_at a (2 * p) ha in
+        let l : slice_index b (2 * p) < 256 = byte_at b (2 * p) hb in
+        (omega (arith, e, k, l), omega (arith, e, k, l))
+
+    byte : (i : ℕ) → i < s → slice_index a i ≡ slice_index b i
+    byte i lt =
+        let half : i / 2 < s / 2 = omega (arith, lt, even) in
+        let both = low_high (i / 2) (same (i / 2) half) in
+        elim (cases_eq (i % 2) 0) as (λ _. slice_index a i ≡ slice_index b i) [
+          | inl e ↦ let place : 2 * (i / 2) ≡ i = omega (arith, e) in subst (λ n. slice_index a n ≡ slice_index b n) place both.0
+          | inr e ↦ let place : 2 * (i / 2) + 1 ≡ i = omega (arith, e) in subst (λ n. slice_index a n ≡ slice_index b n) place both.1
+        ]
+
+-- ---- equal recovery slices have equal sums
+
+pieces : (f g : ℕ → ℕ) (a n : ℕ) → flat_map (λ p. to_le_bytes w16 (f p)) (range_with_len a n) ≡ flat_map (λ p. to_le_bytes w16 (g p)) (range_with_len a n)
+    → (p : ℕ) → a ≤ p → p < a + n → to_le_bytes w16 (f p) ≡ to_le_bytes w16 (g p)
+pieces f g a zero e p low high = absurd (omega (arith, low, high))
+pieces f g a (suc n) e p low high = elim (cases_eq a p) as (λ _. to_le_bytes w16 (f p) ≡ to_le_bytes w16 (g p)) [
+  | inl same ↦ subst (λ q. to_le_bytes w16 (f q) ≡ to_le_bytes w16 (g q)) same (ap (take 2) e)
+  | inr other ↦ pieces f g (a + 1) n (ap (drop 2) e) p (omega (arith, low, other)) (omega (arith, high))
+]
+
+same_number : (m n : ℕ) → m < 2 ^ 16 → n < 2 ^ 16 → to_le_bytes w16 m ≡ to_le_bytes w16 n → m ≡ n
+same_number m n small_m small_n e = sym (from_le_bytes-to_le_bytes_2 m small_m) ∙ ap (from_le_bytes w16) e ∙ from_le_bytes-to_le_bytes_2 n small_n
+
+-- the row of a recovery slice over n slices
+abbrev whole_row : ℕ → ℕ → List ℕ
+whole_row n e = coefficients (range_with_len 0 n) e
+
+same_dots : (s e : ℕ) (a b : List (List ℕ)) → AreTexts a → AreTexts b → length a ≡ length b → recovery s a e ≡ recovery s b e → (p : ℕ) → p < s / 2
+    → dot (whole_row (length a) e) (map (word p) a) ≡ dot (whole_row (length a) e) (map (word p) b)
+unfolding recovery combination
+same_dots s e a b ha hb long h p lt =
+    let row = whole_row (length a) e in
+    let same = subst (λ n. recovery s a e ≡ combination s (whole_row n e) b) (sym long) h in
+    same_number (dot row (map (word p) a)) (dot row (map (word p) b)) (dot-lt row (map (word p) a) (coefficients_are e (range_with_len 0 (length a))) (words_are p a ha))
+    (dot-lt row (map (word p) b) (coefficients_are e (range_with_len 0 (length a))) (words_are p b hb))
+    (pieces (λ q. dot row (map (word q) a)) (λ q. dot row (map (word q) b)) 0 (s / 2) same p (omega arith) (omega (arith, lt)))
+
+-- ---- what is not zero is at a lost place
+
+abbrev lost_from : ℕ → List (Option (List ℕ)) → List ℕ
+lost_from i ks = map (λ z. z.0) (filter (λ z. is_none z.1) (enumerate_from i ks))
+
+-- zero at each known place
+abbrev IsZeroAtKnown : List (Option (List ℕ)) → List ℕ → Type 0
+IsZeroAtKnown [] [] = Unit {0}
+IsZeroAtKnown [] (x ∷ d) = ⊥
+IsZeroAtKnown (k ∷ ks) [] = ⊥
+IsZeroAtKnown (None ∷ ks) (x ∷ d) = IsZeroAtKnown ks d
+IsZeroAtKnown (Some y ∷ ks) (x ∷ d) = (x ≡ 0) × IsZeroAtKnown ks d
+
+-- what stands at the lost places
+abbrev at_lost : List (Option (List ℕ)) → List ℕ → List ℕ
+at_lost [] d = []
+at_lost (k ∷ ks) [] = []
+at_lost (None ∷ ks) (x ∷ d) = x ∷ at_lost ks d
+at_lost (Some y ∷ ks) (x ∷ d) = at_lost ks d
+
+length-at_lost : (i : ℕ) (ks : List (Option (List ℕ))) (d : List ℕ) → IsZeroAtKnown ks d → length (at_lost ks d) ≡ length (lost_from i ks)
+length-at_lost i [] d z = refl
+length-at_lost i (k ∷ ks) [] z = absurd z
+length-at_lost i (None ∷ ks) (x ∷ d) z = ap suc (length-at_lost (i + 1) ks d z)
+length-at_lost i (Some y ∷ ks) (x ∷ d) z = length-at_lost (i + 1) ks d z.1
+
+elements-at_lost : (ks : List (Option (List ℕ))) (d : List ℕ) → AreElements d → AreElements (at_lost ks d)
+elements-at_lost [] d h = tt
+elements-at_lost (k ∷ ks) [] h = tt
+elements-at_lost (None ∷ ks) (x ∷ d) h = (h.0, elements-at_lost ks d h.1)
+elements-at_lost (Some y ∷ ks) (x ∷ d) h = elements-at_lost ks d h.1
+
+-- the sum over all places is that over the lost ones
+dot-at_lost : (e i : ℕ) (ks : List (Option (List ℕ))) (d : List ℕ) → IsZeroAtKnown ks d → dot (coefficients (range_with_len i (length ks)) e) d ≡ dot (coefficients (lost_from i ks) e) (at_lost ks d)
+unfolding dot
+dot-at_lost e i [] [] z = refl
+dot-at_lost e i [] (x ∷ d) z = absurd z
+dot-at_lost e i (k ∷ ks) [] z = absurd z
+dot-at_lost e i (None ∷ ks) (x ∷ d) z = ap (bit_xor (mul (coefficient e i) x)) (dot-at_lost e (i + 1) ks d z)
+dot-at_lost e i (Some y ∷ ks) (x ∷ d) z =
+    ap (λ t. bit_xor (mul (coefficient e i) t) (dot (coefficients (range_with_len (i + 1) (length ks)) e) d)) z.0
+    ∙ ap (λ t. bit_xor t (dot (coefficients (range_with_len (i + 1) (length ks)) e) d)) (product-zero (coefficient e i))
+    ∙ dot-at_lost e (i + 1) ks d z.1
+
+all_zero : (ks : List (Option (List ℕ))) (d : List ℕ) → IsZeroAtKnown ks d → AllByRecursion (λ x. x ≡ 0) (at_lost ks d) → AllByRecursion (λ x. x ≡ 0) d
+all_zero [] [] z h = tt
+all_zero [] (x ∷ d) z h = absurd z
+all_zero (k ∷ ks) [] z h = absurd z
+all_zero (None ∷ ks) (x ∷ d) z h = (h.0, all_zero ks d z h.1)
+all_zero (Some y ∷ ks) (x ∷ d) z h = (z.0, all_zero ks d z.1 h)
+
+no_difference : (u v : List ℕ) → length u ≡ length v → AllByRecursion (λ x. x ≡ 0) (sums u v) → u ≡ v
+no_difference [] [] e h = refl
+no_difference [] (y ∷ v) e h = absurd (omega (arith, e))
+no_difference (x ∷ u) [] e h = absurd (omega (arith, e))
+no_difference (x ∷ u) (y ∷ v) e h = ap (λ z. z ∷ u) (same_sum x y h.0) ∙ ap (λ w. y ∷ w) (no_difference u v (omega (arith, e)) h.1)
+
+sums-elements : (u v : List ℕ) → AreElements u → AreElements v → AreElements (sums u v)
+sums-elements [] v h k = tt
+sums-elements (x ∷ u) [] h k = tt
+sums-elements (x ∷ u) (y ∷ v) h k = (xor_lt 16 x y h.0 k.0, sums-elements u v h.1 k.1)
+
+-- two lists that agree with the known slices do not differ there
+zero_at_known : (ks : List (Option (List ℕ))) (a b : List (List ℕ)) (p : ℕ) → AllZip (λ slice text. ForSome slice (λ found. text ≡ found)) ks a → AllZip (λ slice text. ForSome slice (λ found. text ≡ found)) ks b
+    → IsZeroAtKnown ks (sums (map (word p) a) (map (word p) b))
+zero_at_known [] [] [] p h k = tt
+zero_at_known [] [] (y ∷ b) p h k = absurd k
+zero_at_known [] (x ∷ a) b p h k = absurd h
+zero_at_known (o ∷ ks) [] b p h k = absurd h
+zero_at_known (o ∷ ks) (x ∷ a) [] p h k = absurd k
+zero_at_known (None ∷ ks) (x ∷ a) (y ∷ b) p h k = zero_at_known ks a b p h.1 k.1
+zero_at_known (Some z ∷ ks) (x ∷ a) (y ∷ b) p h k =
+    (ap (λ t. bit_xor (word p t) (word p y)) (h.0 z refl) ∙ ap (λ t. bit_xor (word p z) (word p t)) (k.0 z refl) ∙ xor_self (word p z), zero_at_known ks a b p h.1 k.1)
+
+-- ---- what all kept exponents kill, all survivors kill
+
+contains_later : (x : ℕ) (xs : List ℕ) (q : ℕ) → Contains xs q → Contains (x ∷ xs) q
+contains_later x xs q c = (suc c.0, (let l : c.0 < length xs = c.1 in omega (arith, l)), c.2)
+
+all_from_contains : (P : ℕ → Type 0) (xs : List ℕ) → ((q : ℕ) → Contains xs q → P q) → AllByRecursion P xs
+all_from_contains P [] h = tt
+all_from_contains P (x ∷ xs) h = (h x (0, omega arith, refl), all_from_contains P xs (λ q c. h q (contains_later x xs q c)))
+
+killed_by_bound : (is es : List ℕ) (v : List ℕ) → IsVector (length is) v → ((e : ℕ) → Contains (kept is es) e → Kills is e v) → (m e : ℕ) → e < m → Contains es e → Kills is e v
+killed_by_bound is es v vector kills zero e lt c = absurd (omega (arith, lt))
+killed_by_bound is es v vector kills (suc m) e lt c = elim (cases_eq (dot (coefficients is e) v) 0) as (λ _. Kills is e v) [
+  | inl here ↦ here
+  | inr other ↦ kills e ((kept-iff is es e).1 (c, (v, vector, all_from_contains (λ x. x < e → Kills is x v) es (λ x d l. killed_by_bound is es v vector kills m x (omega (arith, l, lt)) d), other)))
+]
+
+pub kept_kill_all : (is es : List ℕ) (v : List ℕ) → IsVector (length is) v → ((e : ℕ) → Contains (kept is es) e → Kills is e v) → AllByRecursion (λ e. Kills is e v) es
+kept_kill_all is es v vector kills = all_from_contains (λ e. Kills is e v) es (λ e c. killed_by_bound is es v vector kills (suc e) e (omega arith) c)
+
+-- ---- the recovery slice of each kept exponent is there
+
+at_key : (P : ℕ → Type 0) (t : ℕ → Bool) (rs : List (ℕ × List ℕ)) (e : ℕ) → AllByRecursion (λ r. P r.0) (filter (λ r. t r.0) rs) → t e ≡ true → (k : ℕ) → k < length (map (λ r. r.0) rs) → get_or (map (λ r. r.0) rs) k e ≡ e → P e
+at_key P t [] e h i k lt here = absurd (omega (arith, lt))
+at_key P t (r ∷ rs) e h i zero lt here = step (t r.0) refl (filter (λ q. t q.0) rs) h
+  where
+    step : (b : Bool) → t r.0 ≡ b → (qs : List (ℕ × List ℕ)) → AllByRecursion (λ q. P q.0) (cond b (r ∷ qs) qs) → P e
+    step true j qs l = subst P here l.0
+    step false j qs l = absurd (clash i (ap t (sym here) ∙ j))
+at_key P t (r ∷ rs) e h i (suc k) lt here = at_key P t rs e (rest (t r.0) (filter (λ q. t q.0) rs) h) i k (omega (arith, lt)) here
+  where
+    rest : (b : Bool) (qs : List (ℕ × List ℕ)) → AllByRecursion (λ q. P q.0) (cond b (r ∷ qs) qs) → AllByRecursion (λ q. P q.0) qs
+    rest true qs l = l.1
+    rest false qs l = l
+
+any_here : (xs : List ℕ) (e k : ℕ) → k < length xs → get_or xs k e ≡ e → list_any (λ x. x == e) xs ≡ true
+any_here [] e k lt here = absurd (omega (arith, lt))
+any_here (x ∷ xs) e zero lt here = or_left _ _ (eq-eqb x e here)
+any_here (x ∷ xs) e (suc k) lt here = or_right _ _ (any_here xs e k (omega (arith, lt)) here)
+
+of_kept : (P : ℕ → Type 0) (is : List ℕ) (rs : List (ℕ × List ℕ)) → AllByRecursion (λ r. P r.0) (kept_slices is (map (λ r. r.0) rs) rs) → (e : ℕ) → Contains (kept is (map (λ r. r.0) rs)) e → P e
+of_kept P is rs h e c =
+    let there = ((kept-iff is (map (λ r. r.0) rs) e).0 c).0 in
+    at_key P (λ x. list_any (λ y. y == x) (kept is (map (λ r. r.0) rs))) rs e h (any_here (kept is (map (λ r. r.0) rs)) e c.0 c.1 c.2) there.0 there.1 there.2
+
+both_recovered : (s : ℕ) (a b : List (List ℕ)) (rs : List (ℕ × List ℕ)) → AllByRecursion (λ r. recovery s a r.0 ≡ r.1) rs → AllByRecursion (λ r. recovery s b r.0 ≡ r.1) rs → AllByRecursion (λ r. recovery s a r.0 ≡ recovery s b r.0) rs
+both_recovered s a b [] h k = tt
+both_recovered s a b (r ∷ rs) h k = (h.0 ∙ sym k.0, both_recovered s a b rs h.1 k.1)
+
+-- ---- one list alone agrees
+
+same_texts : (s : ℕ) (a b : List (List ℕ)) → s % 2 ≡ 0 → length a ≡ length b → AllByRecursion (λ text. length text ≡ s) a → AllByRecursion (λ text. length text ≡ s) b → AreTexts a → AreTexts b
+    → ((p : ℕ) → p < s / 2 → map (word p) a ≡ map (word p) b) → a ≡ b
+same_texts s [] [] even e la lb ha hb same = refl
+same_texts s [] (y ∷ b) even e la lb ha hb same = absurd (omega (arith, e))
+same_texts s (x ∷ a) [] even e la lb ha hb same = absurd (omega (arith, e))
+same_texts s (x ∷ a) (y ∷ b) even e la lb ha hb same =
+    ap (λ z. z ∷ a) (same_words s x y even la.0 lb.0 ha.0 hb.0 (λ p lt. ap (λ ws. slice_index ws 0) (same p lt)))
+    ∙ ap (λ zs. y ∷ zs) (same_texts s a b even (omega (arith, e)) la.1 lb.1 ha.1 hb.1 (λ p lt. ap (drop 1) (same p lt)))
+
+pub agreeing_are_one : (s : ℕ) (known : List (Option (List ℕ))) (rs : List (ℕ × List ℕ)) (a b : List (List ℕ)) → s % 2 ≡ 0 → IsRepairable (lost known) (map (λ r. r.0) rs)
+    → Agrees s known (kept_slices (lost known) (map (λ r. r.0) rs) rs) a → Agrees s known (kept_slices (lost known) (map (λ r. r.0) rs) rs) b → a ≡ b
+agreeing_are_one s known rs a b even repairable ga gb =
+    let long_a : length a ≡ length known = AllZip-long (λ slice text. ForSome slice (λ found. text ≡ found)) known a ga.as_known in
+    let long_b : length b ≡ length known = AllZip-long (λ slice text. ForSome slice (λ found. text ≡ found)) known b gb.as_known in
+    same_texts s a b even (long_a ∙ sym long_b) ga.sizes gb.sizes ga.bytes gb.bytes (λ p lt. words_alike p lt (long_a) (long_b))
+  where
+    words_alike : (p : ℕ) → p < s / 2 → length a ≡ length known → length b ≡ length known → map (word p) a ≡ map (word p) b
+    words_alike p lt long_a long_b =
+        let u = map (word p) a in
+        let v = map (word p) b in
+        let long : length u ≡ length v = length-map a (word p) ∙ long_a ∙ sym long_b ∙ sym (length-map b (word p)) in
+        let d = sums u v in
+        let z = zero_at_known known a b p ga.as_known gb.as_known in
+        let vector : IsVector (length (lost known)) (at_lost known d) = (length-at_lost 0 known d z, elements-at_lost known d (sums-elements u v (words_are p a ga.bytes) (words_are p b gb.bytes))) in
+        let kills = (λ (e : ℕ) (c : Contains (kept (lost known) (map (λ r. r.0) rs)) e).
+        sym (dot-at_lost e 0 known d z)
+        ∙ dot-sums (coefficients (range_with_len 0 (length known)) e) u v long
+        ∙ ap (λ t. bit_xor t (dot (whole_row (length known) e) v))
+        (subst (λ n. dot (whole_row n e) u ≡ dot (whole_row n e) v) long_a (same_dots s e a b ga.bytes gb.bytes (long_a ∙ sym long_b)
+        (of_kept (λ x. recovery s a x ≡ recovery s b x) (lost known) rs (both_recovered s a b (kept_slices (lost known) (map (λ r. r.0) rs) rs) ga.as_recovered gb.as_recovered) e c) p lt))
+        ∙ xor_self (dot (whole_row (length known) e) v)) in
+        no_difference u v long (all_zero known d z (repairable (at_lost known d) vector (kept_kill_all (lost known) (map (λ r. r.0) rs) (at_lost known d) vector kills)))
+
+-- what agrees is what is rebuilt
+pub agreeing_is_rebuilt : (set : ParSet) (known : List (Option (List ℕ))) (slices : List (List ℕ)) → set.slice_size % 2 ≡ 0 → IsRepairable (lost known) (survivors set)
+    → Agrees set.slice_size known (kept_slices (lost known) (survivors set) (map_of.entries set.recovery)) slices → IsRebuilt set.slice_size known (kept_slices (lost known) (survivors set) (map_of.entries set.recovery)) slices
+agreeing_is_rebuilt set known slices even repairable agrees = record {
+  agrees = agrees;
+  only = λ others more. agreeing_are_one set.slice_size known (map_of.entries set.recovery) others slices even repairable more agrees;
+}
