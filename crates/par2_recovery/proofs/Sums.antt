@@ -1,0 +1,60 @@
+-- Sums in the field.
+use Rattle.std.proofs.Common.{ℕ, zero, suc, ◌+◌, ◌*◌, ◌^◌, ◌<◌, ◌≤◌, ◌≡◌, ◌≢◌, ◌⊎◌, inl, inr, refl, sym, ap, ap₂, ◌∙◌, subst, arith, List, length, bit_xor}
+use Rattle.std.proofs.lemmas.Bool.{cases_eq}
+use Rattle.std.proofs.lemmas.Nat.{xor_comm, xor_lt}
+use Rattle.std.specs.Int.Bits.{xor_assoc, xor_self, xor_zero_l, xor_zero_r}
+use Rattle.par2_spec.specs.Field.{mul}
+use Rattle.par2_spec.proofs.FieldBits.{IsLinear, xor_middle}
+use Rattle.par2_spec.proofs.FieldProducts.{product_linear_left, product_linear_right, product_assoc, product_comm, product-one, product-lt}
+use Rattle.par2_spec.proofs.FieldOrder.{product-zero, zero-product}
+
+-- the sum in the field of the first n values of f
+unfoldable pub field_sum : ℕ → (ℕ → ℕ) → ℕ
+field_sum zero f = 0
+field_sum (suc n) f = bit_xor (field_sum n f) (f n)
+
+pub field_sum_same : (n : ℕ) (f g : ℕ → ℕ) → ((i : ℕ) → i < n → f i ≡ g i) → field_sum n f ≡ field_sum n g
+unfolding field_sum
+field_sum_same zero f g same = refl
+field_sum_same (suc n) f g same = ap₂ bit_xor (field_sum_same n f g (λ i h. same i (omega arith))) (same n (omega arith))
+
+pub field_sum_xor : (n : ℕ) (f g : ℕ → ℕ) → field_sum n (λ i. bit_xor (f i) (g i)) ≡ bit_xor (field_sum n f) (field_sum n g)
+unfolding field_sum
+field_sum_xor zero f g = refl
+field_sum_xor (suc n) f g = ap (λ s. bit_xor s (bit_xor (f n) (g n))) (field_sum_xor n f g) ∙ xor_middle (field_sum n f) (field_sum n g) (f n) (g n)
+
+pub field_sum_scaled : (n k : ℕ) (f : ℕ → ℕ) → field_sum n (λ i. mul k (f i)) ≡ mul k (field_sum n f)
+unfolding field_sum
+field_sum_scaled zero k f = sym (product-zero k)
+field_sum_scaled (suc n) k f =
+    ap (λ s. bit_xor s (mul k (f n))) (field_sum_scaled n k f) ∙ sym ((product_linear_right k).on_xor (field_sum n f) (f n))
+
+pub field_sum_none : (n : ℕ) (f : ℕ → ℕ) → ((i : ℕ) → i < n → f i ≡ 0) → field_sum n f ≡ 0
+unfolding field_sum
+field_sum_none zero f none = refl
+field_sum_none (suc n) f none = ap₂ bit_xor (field_sum_none n f (λ i h. none i (omega arith))) (none n (omega arith))
+
+-- one place alone counts
+pub field_sum_one : (n q : ℕ) (f : ℕ → ℕ) → q < n → ((i : ℕ) → i < n → i ≢ q → f i ≡ 0) → field_sum n f ≡ f q
+unfolding field_sum
+field_sum_one zero q f h none = absurd (omega arith)
+field_sum_one (suc n) q f h none = elim (cases_eq q n) [
+    inl same ↦ ap₂ bit_xor (field_sum_none n f (λ i l. none i (omega arith) (λ e. omega arith))) (sym (ap f same))
+  | inr other ↦ ap₂ bit_xor (field_sum_one n q f (omega arith) (λ i l. none i (omega arith))) (none n (omega arith) (λ e. other (sym e))) ∙ xor_zero_r (f q)
+  ]
+
+pub field_sum_two : (n p q : ℕ) (f : ℕ → ℕ) → p < n → q < n → p ≢ q → ((i : ℕ) → i < n → i ≢ p → i ≢ q → f i ≡ 0) → field_sum n f ≡ bit_xor (f p) (f q)
+unfolding field_sum
+field_sum_two zero p q f hp hq apart none = absurd (omega arith)
+field_sum_two (suc n) p q f hp hq apart none = elim (cases_eq q n) [
+    inl same ↦ ap₂ bit_xor (field_sum_one n p f (omega arith) (λ i l m. none i (omega arith) m (λ e. omega arith))) (sym (ap f same))
+  | inr other ↦ elim (cases_eq p n) [
+        inl same ↦ ap₂ bit_xor (field_sum_one n q f (omega arith) (λ i l m. none i (omega arith) (λ e. omega arith) m)) (sym (ap f same)) ∙ xor_comm (f q) (f p)
+      | inr else ↦ ap₂ bit_xor (field_sum_two n p q f (omega arith) (omega arith) apart (λ i l. none i (omega arith))) (none n (omega arith) (λ e. else (sym e)) (λ e. other (sym e))) ∙ xor_zero_r _
+      ]
+  ]
+
+pub field_sum-lt : (n : ℕ) (f : ℕ → ℕ) → ((i : ℕ) → f i < 65536) → field_sum n f < 65536
+unfolding field_sum
+field_sum-lt zero f small = omega arith
+field_sum-lt (suc n) f small = xor_lt 16 (field_sum n f) (f n) (field_sum-lt n f small) (small n)
