@@ -1,13 +1,13 @@
 -- The sum of products of a row and a vector, by places.
-use Rattle.std.proofs.Common.{ℕ, zero, suc, ◌+◌, ◌*◌, ◌^◌, ◌<◌, ◌≤◌, ◌≡◌, ◌≢◌, refl, sym, ap, ap₂, ◌∙◌, subst, arith, List, [], ◌∷◌, length, get_or, bit_xor}
-use Rattle.std.proofs.lemmas.Nat.{xor_comm, xor_lt}
-use Rattle.std.specs.Int.Bits.{xor_assoc, xor_self, xor_zero_l, xor_zero_r}
+use Rattle.std.proofs.Common.{ℕ, zero, suc, ◌<◌, ◌≤◌, ◌≡◌, refl, sym, ap, ◌∙◌, arith, List, [], ◌∷◌, length, get_or, bit_xor}
+use Rattle.std.proofs.lemmas.Nat.{xor_comm}
+use Rattle.std.specs.Int.Bits.{xor_assoc}
 use Rattle.par2_spec.specs.Field.{mul}
 use Rattle.par2_spec.specs.Recovery.{dot}
-use Rattle.par2_spec.proofs.FieldBits.{xor_middle}
-use Rattle.par2_spec.proofs.FieldProducts.{product_linear_left, product_linear_right, product_assoc, product-lt}
+use Rattle.par2_spec.proofs.FieldProducts.{product_linear_left, product_assoc}
 use Rattle.par2_spec.proofs.FieldOrder.{product-zero, zero-product}
-use Rattle.par2_recovery.proofs.Sums.{field_sum, field_sum_same, field_sum_none, field_sum_xor, field_sum_scaled, field_sum-lt}
+use Rattle.par2_matrix.specs.Echelon.{field_sum}
+use Rattle.par2_matrix.proofs.Sums.{field_sum_same, field_sum_none, field_sum_xor, field_sum_scaled}
 
 -- the first value apart from the others
 pub field_sum_head : (n : ℕ) (f : ℕ → ℕ) → field_sum (suc n) f ≡ bit_xor (f 0) (field_sum n (λ i. f (suc i)))

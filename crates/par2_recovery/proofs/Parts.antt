@@ -1,5 +1,5 @@
 -- Words of a text of which a part was written.
-use Rattle.std.proofs.Common.{ℕ, zero, suc, ◌+◌, ◌-◌, ◌*◌, ◌<◌, ◌≤◌, ◌≡◌, ◌≢◌, refl, sym, ap, ap₂, ◌∙◌, subst, arith, rules, List, [], ◌∷◌, ◌++◌, length, length-append, length-take, length-drop, get_or, bit_xor}
+use Rattle.std.proofs.Common.{ℕ, zero, suc, ◌+◌, ◌-◌, ◌*◌, ◌<◌, ◌≤◌, ◌≡◌, refl, sym, ap, ap₂, ◌∙◌, arith, List, [], ◌∷◌, ◌++◌, length, length-append, length-take, length-drop, get_or, bit_xor}
 use Rattle.std.proofs.lemmas.List.{get_or_append_left, get_or-append_right, get_or-take, get_or-drop, get_or_past}
 use Rattle.std.proofs.lemmas.List.Edits.{get_or-between, length-between}
 use Rattle.std.specs.List.{between}
@@ -46,18 +46,20 @@ added_part c f t src part old new order room alike added = record {
   same_length = length-mid (2 * f) (2 * t - 2 * f) old new (omega arith) size;
   inside = λ i low high fits. inside i low high;
   below = λ i low. ap₂ (λ x y. x + 256 * y) (mid_below (2 * f) (2 * t - 2 * f) old new (2 * i) (omega arith) (omega arith)) (mid_below (2 * f) (2 * t - 2 * f) old new (2 * i + 1) (omega arith) (omega arith));
-  above = λ i low. ap₂ (λ x y. x + 256 * y) (mid_past (2 * f) (2 * t - 2 * f) old new (2 * i) (omega arith) size (omega arith)) (mid_past (2 * f) (2 * t - 2 * f) old new (2 * i + 1) (omega arith) size (omega arith))
+  above = λ i low. ap₂ (λ x y. x + 256 * y) (mid_past (2 * f) (2 * t - 2 * f) old new (2 * i) (omega arith) size (omega arith)) (mid_past (2 * f) (2 * t - 2 * f) old new (2 * i + 1) (omega arith) size (omega arith));
 }
   where
     size : length new ≡ 2 * t - 2 * f
     size = added.same_length ∙ length-between old (2 * f) (2 * t) (omega arith)
+
     place : (i j : ℕ) → f + j ≡ i → i < t → (word i (put_mid (2 * f) (2 * t - 2 * f) old new) ≡ word j new) × (word j (between (2 * f) (2 * t) old) ≡ word i old)
     place i j e high = (
       ap₂ (λ x y. x + 256 * y) (mid_within (2 * f) (2 * t - 2 * f) old new (2 * i) (2 * j) (omega arith) (omega (arith, size)) (omega arith)) (mid_within (2 * f) (2 * t - 2 * f) old new (2 * i + 1) (2 * j + 1) (omega arith) (omega (arith, size)) (omega arith)),
       ap₂ (λ x y. x + 256 * y)
-      (get_or-between old (2 * f) (2 * t) (2 * j) 0 (omega arith) ∙ ap (λ m. get_or old m 0) (let is : 2 * f + 2 * j ≡ 2 * i = omega arith in is))
-      (get_or-between old (2 * f) (2 * t) (2 * j + 1) 0 (omega arith) ∙ ap (λ m. get_or old m 0) (let is : 2 * f + (2 * j + 1) ≡ 2 * i + 1 = omega arith in is)),
+          (get_or-between old (2 * f) (2 * t) (2 * j) 0 (omega arith) ∙ ap (λ m. get_or old m 0) (let is : 2 * f + 2 * j ≡ 2 * i = omega arith in is))
+          (get_or-between old (2 * f) (2 * t) (2 * j + 1) 0 (omega arith) ∙ ap (λ m. get_or old m 0) (let is : 2 * f + (2 * j + 1) ≡ 2 * i + 1 = omega arith in is)),
     )
+
     inside : (i : ℕ) → f ≤ i → i < t → word i (put_mid (2 * f) (2 * t - 2 * f) old new) ≡ bit_xor (word i old) (mul c (word i src))
     inside i low high =
         let j : ℕ = i - f in
@@ -73,7 +75,7 @@ nothing_past c src old from to h = record {
   same_length = refl;
   inside = λ i low high fits. sym (ap (λ x. bit_xor (word i old) x) (ap (mul c) (none i (h i low high)) ∙ product-zero c) ∙ xor_zero_r (word i old));
   below = λ i low. refl;
-  above = λ i low. refl
+  above = λ i low. refl;
 }
   where
     none : (i : ℕ) → length src ≤ 2 * i → word i src ≡ 0

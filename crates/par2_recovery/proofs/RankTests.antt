@@ -1,10 +1,10 @@
 -- What the tests over all vectors say.
-use Rattle.std.proofs.Common.{◌≡◌, ◌≢◌, ℕ, ◌^◌, ◌<◌, List, [], ◌∷◌, T, true, false, Bool, ◌&&◌, not, eqb, length, map, refl, sym, eq-eqb, eqb→eq, subst, ap}
+use Rattle.std.proofs.Common.{◌≡◌, ◌≢◌, ℕ, ◌^◌, List, [], ◌∷◌, T, true, false, Bool, ◌&&◌, not, eqb, refl, sym, eq-eqb, eqb→eq, subst}
 use Rattle.std.specs.Prelude.{◌↔◌}
 use Rattle.std.specs.List.{list_all, AllByRecursion}
-use Rattle.par2_spec.specs.Recovery.{dot, coefficients}
-use Rattle.par2_spec.specs.Rank.{IsVector, IsRepairable, Kills, kills, is_zero, is_independent, is_solvable, is_repairable}
-use Rattle.par2_recovery.proofs.Vectors.{AreBelow, some_list}
+use Rattle.par2_spec.specs.Recovery.{dot}
+use Rattle.par2_spec.specs.Rank.{IsVector, kills, is_zero, is_independent, is_solvable}
+use Rattle.par2_recovery.proofs.Vectors.{some_list}
 
 negated : (b : Bool) → T (not b) → T b → ⊥
 negated true h k = h
@@ -71,9 +71,12 @@ independent n before row h =
 pub told_apart : (n : ℕ) (before : List (List ℕ)) (row : List ℕ) → is_independent n before row ≡ true → IsToldApart n before row
 unfolding is_independent
 told_apart n before row h =
-    let some = (some_list (2 ^ 16) n (λ v. list_all (kills v) before && not (kills v row))).0 (by_true _ h) in
-    (some.0, some.1, all_killed some.0 before (first (list_all (kills some.0) before) _ some.2),
-      λ k. negated (kills some.0 row) (second (list_all (kills some.0) before) _ some.2) (by_true (kills some.0 row) (eq-eqb (dot row some.0) 0 k)))
+    let some = (some_list (2 ^ 16) n (λ v. list_all (kills v) before && not (kills v row))).0 (by_true _ h) in (
+      some.0,
+      some.1,
+      all_killed some.0 before (first (list_all (kills some.0) before) _ some.2),
+      λ k. negated (kills some.0 row) (second (list_all (kills some.0) before) _ some.2) (by_true (kills some.0 row) (eq-eqb (dot row some.0) 0 k)),
+    )
 
 -- each vector that the rows kill is killed by the row
 abbrev pub Follows : ℕ → List (List ℕ) → List ℕ → Type 0
