@@ -1,0 +1,128 @@
+-- The loops that add products.
+use Rattle.std.proofs.Common.{ℕ, zero, suc, ◌+◌, ◌*◌, ◌<◌, ◌≤◌, ◌≡◌, inl, inr, refl, sym, ap, ◌∙◌, subst, arith, List, [], ◌∷◌, length, get_or, bit_xor}
+use Rattle.std.proofs.lemmas.Bool.{cases_eq, cases_lt}
+use Rattle.std.specs.Int.Bits.{xor_assoc, xor_zero_r}
+use Rattle.par2_spec.specs.Field.{mul}
+use Rattle.par2_spec.specs.Slices.{word}
+use Rattle.par2_gf16.specs.Steps.{AddsWithin}
+use Rattle.par2_matrix.specs.Echelon.{field_sum, list_at, OneChanged}
+use Rattle.par2_recovery.specs.Products.{AddsSource, Adds, products}
+
+-- nothing was added to any target yet
+pub no_target : (factor : ℕ → ℕ) (source : List ℕ) (old : List (List ℕ)) (from to : ℕ) → AddsSource factor source old old from to 0
+no_target factor source old from to = record { count = refl; done = λ r h. absurd (omega arith); rest = λ r h. refl; bytes = λ h. h }
+
+-- one target more
+pub next_target : (factor : ℕ → ℕ) (source : List ℕ) (old mid new : List (List ℕ)) (from to n c : ℕ) → AddsSource factor source old mid from to n → c ≡ factor n
+    → OneChanged mid new n → AddsWithin c source (list_at mid n) (list_at new n) from to → ((k : ℕ) → get_or (list_at new n) k 0 < 256)
+    → AddsSource factor source old new from to (n + 1)
+next_target factor source old mid new from to n c so_far is changed added fits = record {
+  count = changed.count ∙ so_far.count;
+  done = λ r h. elim (cases_eq r n) [
+    | inl same ↦ subst (λ x. AddsWithin (factor x) source (list_at old x) (list_at new x) from to) (sym same)
+        (subst (λ xs. AddsWithin (factor n) source xs (list_at new n) from to) (so_far.rest n (omega arith))
+        (subst (λ x. AddsWithin x source (list_at mid n) (list_at new n) from to) is added))
+    | inr other ↦ subst (λ xs. AddsWithin (factor r) source (list_at old r) xs from to) (sym (changed.others r other)) (so_far.done r (omega arith))
+  ];
+  rest = λ r h. changed.others r (λ e. omega arith) ∙ so_far.rest r (omega arith);
+  bytes = λ all r k. elim (cases_eq r n) [
+    | inl same ↦ subst (λ x. get_or (list_at new x) k 0 < 256) (sym same) (fits k)
+    | inr other ↦ subst (λ xs. get_or xs k 0 < 256) (sym (changed.others r other)) (so_far.bytes all r k)
+  ];
+}
+
+-- a target that is not yet reached has room
+pub room_kept : (factor : ℕ → ℕ) (source : List ℕ) (old mid : List (List ℕ)) (from to n m : ℕ) → AddsSource factor source old mid from to n
+    → ((r : ℕ) → r < m → 2 * to ≤ length (list_at old r)) → n < m → 2 * to ≤ length (list_at mid n)
+room_kept factor source old mid from to n m so_far room low = subst (λ xs. 2 * to ≤ length xs) (sym (so_far.rest n (omega arith))) (room n low)
+
+-- no source was added yet
+pub no_source : (factors sources old : List (List ℕ)) (from to : ℕ) → Adds factors sources old old from to 0
+unfolding field_sum
+no_source factors sources old from to = record {
+  count = refl;
+  sizes = λ r. refl;
+  inside = λ r p low from_here to_here fits. sym (xor_zero_r (word p (list_at old r)));
+  below = λ r p h. refl;
+  above = λ r p h. refl;
+  bytes = λ h. h;
+}
+
+past : (lists : List (List ℕ)) (r : ℕ) → length lists ≤ r → list_at lists r ≡ []
+past [] r h = refl
+past (x ∷ lists) zero h = absurd (omega arith)
+past (x ∷ lists) (suc r) h = past lists r (omega arith)
+
+-- one source more
+pub next_source : (factors sources old mid new : List (List ℕ)) (from to n : ℕ) → Adds factors sources old mid from to n
+    → AddsSource (λ r. get_or (list_at factors r) n 0) (list_at sources n) mid new from to (length mid) → Adds factors sources old new from to (n + 1)
+unfolding field_sum
+next_source factors sources old mid new from to n so_far added = record {
+  count = added.count ∙ so_far.count;
+  sizes = λ r. sizes r ∙ so_far.sizes r;
+  inside = λ r p low from_here to_here fits.
+      let at = added.done r (omega (arith, so_far.count)) in
+      let size : 2 * p + 1 < length (list_at mid r) = omega (arith, so_far.sizes r) in
+      at.inside p from_here to_here size
+      ∙ ap (λ x. bit_xor x (mul (get_or (list_at factors r) n 0) (word p (list_at sources n)))) (so_far.inside r p low from_here to_here fits)
+      ∙ xor_assoc (word p (list_at old r)) (products n factors sources r p) (mul (get_or (list_at factors r) n 0) (word p (list_at sources n)))
+      ∙ ap (bit_xor (word p (list_at old r))) (more n (λ k. mul (get_or (list_at factors r) k 0) (word p (list_at sources k))));
+  below = λ r p h. elim (cases_lt r (length mid)) [
+    | inl low ↦ (added.done r low).below p h ∙ so_far.below r p h
+    | inr high ↦ ap (λ xs. word p xs) (added.rest r high) ∙ so_far.below r p h
+  ];
+  above = λ r p h. elim (cases_lt r (length mid)) [
+    | inl low ↦ (added.done r low).above p h ∙ so_far.above r p h
+    | inr high ↦ ap (λ xs. word p xs) (added.rest r high) ∙ so_far.above r p h
+  ];
+  bytes = λ all. added.bytes (so_far.bytes all);
+}
+  where
+    sizes : (r : ℕ) → length (list_at new r) ≡ length (list_at mid r)
+    sizes r = elim (cases_lt r (length mid)) [
+      | inl low ↦ (added.done r low).same_length
+      | inr high ↦ ap length (added.rest r high)
+    ]
+
+    more : (m : ℕ) (f : ℕ → ℕ) → bit_xor (field_sum m f) (f m) ≡ field_sum (m + 1) f
+    more m f = let e : suc m ≡ m + 1 = omega arith in ap (λ x. field_sum x f) e
+
+-- nothing was added in no columns
+pub no_columns : (factors sources old : List (List ℕ)) (at n : ℕ) → Adds factors sources old old at at n
+no_columns factors sources old at n = record {
+  count = refl;
+  sizes = λ r. refl;
+  inside = λ r p low from_here to_here fits. absurd (omega arith);
+  below = λ r p h. refl;
+  above = λ r p h. refl;
+  bytes = λ h. h;
+}
+
+-- columns behind columns
+pub more_columns : (factors sources old mid new : List (List ℕ)) (a b d n : ℕ) → a ≤ b → b ≤ d → Adds factors sources old mid a b n → Adds factors sources mid new b d n
+    → Adds factors sources old new a d n
+more_columns factors sources old mid new a b d n ab bd first second = record {
+  count = second.count ∙ first.count;
+  sizes = λ r. second.sizes r ∙ first.sizes r;
+  inside = λ r p low from_here to_here fits. elim (cases_lt p b) [
+    | inl early ↦ second.below r p early ∙ first.inside r p low from_here early fits
+    | inr late ↦
+        second.inside r p (omega (arith, first.count)) late to_here (omega (arith, first.sizes r))
+        ∙ ap (λ x. bit_xor x (products n factors sources r p)) (first.above r p late)
+  ];
+  below = λ r p h. second.below r p (omega arith) ∙ first.below r p h;
+  above = λ r p h. second.above r p h ∙ first.above r p (omega arith);
+  bytes = λ all. second.bytes (first.bytes all);
+}
+
+-- after some blocks of columns
+pub more_blocks : (factors sources old mid new : List (List ℕ)) (from to at next n : ℕ) → from ≡ at → to ≡ next → at ≤ next → Adds factors sources old mid 0 at n
+    → Adds factors sources mid new from to n → Adds factors sources old new 0 next n
+more_blocks factors sources old mid new from to at next n e f order first second =
+    more_columns factors sources old mid new 0 at next n (omega arith) order first
+    (subst (λ x. Adds factors sources mid new x next n) e (subst (λ x. Adds factors sources mid new from x n) f second))
+
+-- the targets have the same room as before
+pub same_room : (factors sources old mid : List (List ℕ)) (from to n m bound : ℕ) → Adds factors sources old mid from to n
+    → ((r : ℕ) → r < m → bound ≤ length (list_at old r)) → (r : ℕ) → r < m → bound ≤ length (list_at mid r)
+same_room factors sources old mid from to n m bound so_far room r low = omega (arith, so_far.sizes r, room r low)

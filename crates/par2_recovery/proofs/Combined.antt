@@ -1,0 +1,232 @@
+-- From added products to recovery slices.
+use Rattle.std.proofs.lemmas.Bool.{cases_lt}
+use Rattle.std.proofs.Common.{◌⊎◌, inl, inr, ℕ, zero, suc, ◌+◌, ◌-◌, ◌*◌, ◌/◌, ◌%◌, ◌<◌, ◌≤◌, ◌≡◌, refl, sym, ap, ap₂, ◌∙◌, subst, arith, List, [], ◌∷◌, ◌++◌, length, get_or, map, replicate, bit_xor, Vec, Global, length-append}
+use Rattle.std.specs.Borrow.{Bor}
+use Rattle.std.specs.List.{range_with_len, AllByRecursion}
+use Rattle.std.specs.Int.Bits.{xor_zero_l}
+use Rattle.std.proofs.Common.{append_assoc, zero-add, true}
+use Rattle.std.proofs.lemmas.List.{take_more, ext_get_or, length-map, map-append, get_or_append_left, get_or_at, get_or_past}
+use Rattle.std.proofs.lemmas.List.FromFn.{map-range_with_len_more, get_or-map-range_with_len, length-map-range_with_len, length-range_with_len, get_or-range_with_len}
+use Rattle.par2_spec.specs.Field.{mul, coefficient, constant}
+use Rattle.std.specs.Prelude.{take, drop}
+use Rattle.par2_spec.specs.Slices.{padded, word, slice_at, slices}
+use Rattle.par2_spec.specs.Names.{is_name}
+use Rattle.par2_spec.specs.Folders.{Folder, bytes_of}
+use Rattle.par2_spec.specs.Volumes.{all_slices}
+use Rattle.par2_spec.specs.Commands.{files_of}
+use Rattle.par2_spec.specs.Recovery.{dot, coefficients, combination, recovery}
+use Rattle.par2_spec.proofs.FieldOrder.{power-lt}
+use Rattle.par2_spec.proofs.FieldProducts.{product-lt}
+use Rattle.par2_spec.proofs.FieldConstants.{constant-lt}
+use Rattle.par2_matrix.specs.Echelon.{field_sum, list_at, lists_of}
+use Rattle.par2_matrix.proofs.Sums.{field_sum_same, field_sum-lt}
+use Rattle.par2_matrix.proofs.Views.{all_at, combination_words}
+use Rattle.par2_matrix.proofs.Words.{word-lt}
+use Rattle.par2_recovery.specs.Products.{AreBytes, Adds, products}
+use Rattle.par2_recovery.specs.Views.{texts_of, AreBlank}
+use Rattle.par2_recovery.proofs.Dots.{dot_sum, product_at}
+
+-- ---- padding
+
+zeros_read : (m i : ℕ) → get_or {A = ℕ} (replicate m 0) i 0 ≡ 0
+zeros_read zero i = refl
+zeros_read (suc m) zero = refl
+zeros_read (suc m) (suc i) = zeros_read m i
+
+padded_read : (t : List ℕ) (m i : ℕ) → get_or (t ++ replicate m 0) i 0 ≡ get_or t i 0
+padded_read [] m i = zeros_read m i
+padded_read (x ∷ t) m zero = refl
+padded_read (x ∷ t) m (suc i) = padded_read t m i
+
+-- padding changes no word
+pub word-padded : (s : ℕ) (t : List ℕ) (p : ℕ) → word p (padded s t) ≡ word p t
+word-padded s t p = ap₂ (λ x y. x + 256 * y) (padded_read t (s - length t) (2 * p)) (padded_read t (s - length t) (2 * p + 1))
+
+words_of_padded : (s : ℕ) (lists : List (List ℕ)) (p k : ℕ) → get_or (map (word p) (map (padded s) lists)) k 0 ≡ word p (list_at lists k)
+words_of_padded s [] p k = refl
+words_of_padded s (t ∷ lists) p zero = word-padded s t p
+words_of_padded s (t ∷ lists) p (suc k) = words_of_padded s lists p k
+
+-- ---- coefficients
+
+pub coefficient-lt : (e k : ℕ) → coefficient e k < 65536
+unfolding coefficient
+coefficient-lt e k = power-lt (constant k) e (constant-lt k)
+
+pub coefficients-lt : (numbers : List ℕ) (e k : ℕ) → get_or (coefficients numbers e) k 0 < 65536
+coefficients-lt [] e k = omega arith
+coefficients-lt (n ∷ numbers) e zero = coefficient-lt e n
+coefficients-lt (n ∷ numbers) e (suc k) = coefficients-lt numbers e k
+
+-- the sum of products by a row of coefficients, at a word of padded texts
+pub dot_padded : (s : ℕ) (row : List ℕ) (lists : List (List ℕ)) (p : ℕ) → length row ≤ length lists
+    → dot row (map (word p) (map (padded s) lists)) ≡ field_sum (length lists) (λ k. mul (get_or row k 0) (word p (list_at lists k)))
+dot_padded s row lists p h =
+    dot_sum (length lists) row (map (word p) (map (padded s) lists)) h
+    ∙ field_sum_same (length lists) (product_at row (map (word p) (map (padded s) lists))) (λ k. mul (get_or row k 0) (word p (list_at lists k)))
+    (λ k low. ap (mul (get_or row k 0)) (words_of_padded s lists p k))
+
+pub dot_padded-lt : (s : ℕ) (row : List ℕ) (lists : List (List ℕ)) (p : ℕ) → length row ≤ length lists → ((k : ℕ) → get_or row k 0 < 65536) → AreBytes lists
+    → dot row (map (word p) (map (padded s) lists)) < 65536
+dot_padded-lt s row lists p h small bytes =
+    subst (λ x. x < 65536) (sym (dot_padded s row lists p h))
+    (field_sum-lt (length lists) (λ k. mul (get_or row k 0) (word p (list_at lists k))) (λ k. product-lt _ _ (small k) (word-lt (list_at lists k) p (bytes k))))
+
+-- ---- recovery slices
+
+pub blank_push : (s n : ℕ) (xs : List (Vec ℕ Global)) (v : Vec ℕ Global) → AreBlank s n (lists_of xs) → v.items ≡ replicate s 0 → AreBlank s (n + 1) (lists_of (xs ++ v ∷ []))
+blank_push s n xs v so_far is =
+    subst (λ lists. AreBlank s (n + 1) lists) (sym (map-append (λ (x : Vec ℕ Global). x.items) xs (v ∷ [])))
+    (record {
+      count = length-append (lists_of xs) (v.items ∷ []) ∙ ap (λ m. m + 1) so_far.count;
+      each = λ r h. each (lists_of xs) so_far.count r h so_far.each;
+    })
+  where
+    apart : (r m : ℕ) → r < m + 1 → (r < m) ⊎ (r ≡ m)
+    apart r m h = elim (cases_lt r m) [ inl low ↦ inl low | inr high ↦ inr (omega arith) ]
+
+    each : (lists : List (List ℕ)) → length lists ≡ n → (r : ℕ) → r < n + 1 → ((q : ℕ) → q < n → list_at lists q ≡ replicate s 0) → list_at (lists ++ v.items ∷ []) r ≡ replicate s 0
+    each lists e r h before = elim (apart r n h) [
+      | inl low ↦ get_or_append_left lists (v.items ∷ []) [] r (omega arith) ∙ before r low
+      | inr same ↦ ap (λ m. list_at (lists ++ v.items ∷ []) m) same ∙ get_or_at lists v.items [] [] n e ∙ is
+    ]
+
+blank_word : (s p : ℕ) → word p (replicate s 0) ≡ 0
+blank_word s p = ap₂ (λ x y. x + 256 * y) (zeros_read s (2 * p)) (zeros_read s (2 * p + 1))
+
+length-blank : (s : ℕ) → length {A = ℕ} (replicate s 0) ≡ s
+length-blank zero = refl
+length-blank (suc s) = ap suc (length-blank s)
+
+pub blank_room : (s n bound : ℕ) (lists : List (List ℕ)) → AreBlank s n lists → bound ≤ s → (r : ℕ) → r < n → bound ≤ length (list_at lists r)
+blank_room s n bound lists blank h r low = subst (λ xs. bound ≤ length xs) (sym (blank.each r low)) (let e = length-blank s in omega (arith, e))
+
+-- what was added to zeros by the rows of the exponents are the recovery slices
+pub are_recovery : (s first count : ℕ) (factors lists old new : List (List ℕ)) → s % 2 ≡ 0 → AreBytes lists
+    → factors ≡ map (coefficients (range_with_len 0 (length lists))) (range_with_len first count) → AreBlank s count old
+    → Adds factors lists old new 0 (s / 2) (length lists) → new ≡ map (recovery s (map (padded s) lists)) (range_with_len first count)
+unfolding recovery
+are_recovery s first count factors lists old new even bytes rows blank added =
+    ext_get_or [] new (map (recovery s (map (padded s) lists)) (range_with_len first count))
+    (added.count ∙ blank.count ∙ sym (length-map-range_with_len (recovery s (map (padded s) lists)) first count))
+    (λ r h.
+    let low : r < count = omega (arith, added.count, blank.count) in
+    let here = get_or-map-range_with_len (recovery s (map (padded s) lists)) first count r (first + r) [] low refl in
+    sym (one r low) ∙ sym here)
+  where
+    old_bytes : AreBytes old
+    old_bytes r k = elim (cases_lt r count) [
+      | inl low ↦ subst (λ xs. get_or xs k 0 < 256) (sym (blank.each r low)) (let e = zeros_read s k in omega (arith, e))
+      | inr high ↦ subst (λ xs. get_or xs k 0 < 256) (sym (get_or_past old r [] (omega (arith, blank.count)))) (omega arith)
+    ]
+
+    size : length (map (padded s) lists) ≡ length lists
+    size = length-map lists (padded s)
+
+    one : (r : ℕ) → r < count → recovery s (map (padded s) lists) (first + r) ≡ list_at new r
+    one r low =
+        let row = coefficients (range_with_len 0 (length lists)) (first + r) in
+        let row_is : list_at factors r ≡ row = ap (λ xs. list_at xs r) rows ∙ get_or-map-range_with_len (coefficients (range_with_len 0 (length lists))) first count r (first + r) [] low refl in
+        let long : length row ≡ length lists = length-map (range_with_len 0 (length lists)) (coefficient (first + r)) ∙ length-range_with_len 0 (length lists) in
+        let sized : length (list_at new r) ≡ s = added.sizes r ∙ ap length (blank.each r low) ∙ length-blank s in
+        ap (λ n. combination s (coefficients (range_with_len 0 n) (first + r)) (map (padded s) lists)) size
+        ∙ (combination_words s row (map (padded s) lists) (list_at new r) even
+        (λ w. dot_padded-lt s row lists w (omega (arith, long)) (coefficients-lt (range_with_len 0 (length lists)) (first + r)) bytes)
+        sized (added.bytes old_bytes r)).1
+        (λ w fits.
+        dot_padded s row lists w (omega (arith, long))
+        ∙ ap (λ (xs : List ℕ). field_sum (length lists) (λ k. mul (get_or xs k 0) (word w (list_at lists k)))) (sym row_is)
+        ∙ sym (added.inside r w (omega (arith, blank.count)) (omega arith) (omega arith) (let e = ap length (blank.each r low) ∙ length-blank s in omega (arith, e))
+        ∙ ap (λ x. bit_xor x (products (length lists) factors lists r w)) (ap (λ xs. word w xs) (blank.each r low) ∙ blank_word s w)
+        ∙ xor_zero_l (products (length lists) factors lists r w)))
+
+-- ---- rows of factors
+
+pub range_more : (n : ℕ) → range_with_len 0 (n + 1) ≡ range_with_len 0 n ++ n ∷ []
+range_more n = more 0 n n (omega arith)
+  where
+    more : (a m j : ℕ) → a + m ≡ j → range_with_len a (m + 1) ≡ range_with_len a m ++ j ∷ []
+    more a zero j e = let same : a ≡ j = omega arith in ap (λ x. x ∷ []) same
+    more a (suc m) j e =
+        let next : suc m + 1 ≡ suc (m + 1) = omega arith in
+        ap (range_with_len a) next ∙ ap (λ xs. a ∷ xs) (more (a + 1) m j (omega arith))
+
+pub range-lt : (n i bound : ℕ) → n ≤ bound → 0 < bound → get_or (range_with_len 0 n) i 0 < bound
+range-lt n i bound h some = elim (cases_lt i n) [
+  | inl low ↦ (let e = get_or-range_with_len 0 n i 0 low in omega (arith, e))
+  | inr high ↦ (let e = get_or_past (range_with_len 0 n) i 0 (omega (arith, length-range_with_len 0 n)) in omega (arith, e))
+]
+
+pub rows_push : (numbers : List ℕ) (first j : ℕ) (xs : List (Vec ℕ Global)) (v : Vec ℕ Global) → lists_of xs ≡ map (coefficients numbers) (range_with_len first j) → v.items ≡ coefficients numbers (first + j)
+    → lists_of (xs ++ v ∷ []) ≡ map (coefficients numbers) (range_with_len first (j + 1))
+rows_push numbers first j xs v so_far is =
+    map-append (λ (x : Vec ℕ Global). x.items) xs (v ∷ []) ∙ ap₂ (λ a b. a ++ b ∷ []) so_far is ∙ sym (map-range_with_len_more (coefficients numbers) first j (first + j) refl)
+
+pub length-rows : (numbers : List ℕ) (first count : ℕ) (xs : List (Vec ℕ Global)) → lists_of xs ≡ map (coefficients numbers) (range_with_len first count) → length xs ≡ count
+length-rows numbers first count xs e = sym (length-map xs (λ (x : Vec ℕ Global). x.items)) ∙ ap length e ∙ length-map-range_with_len (coefficients numbers) first count
+
+pub rows_long : (n first count : ℕ) (lists : List (List ℕ)) → lists ≡ map (coefficients (range_with_len 0 n)) (range_with_len first count) → (r : ℕ) → r < count → length (list_at lists r) ≡ n
+rows_long n first count lists e r low =
+    ap (λ xs. length (list_at xs r)) e
+    ∙ ap length (get_or-map-range_with_len (coefficients (range_with_len 0 n)) first count r (first + r) [] low refl)
+    ∙ length-map (range_with_len 0 n) (coefficient (first + r)) ∙ length-range_with_len 0 n
+
+-- ---- the slices of files
+
+pub slices_push : (s j : ℕ) (bytes : List ℕ) (xs : List (Bor (List ℕ))) (v : Bor (List ℕ)) (before : List (List ℕ)) → map (padded s) (texts_of xs) ≡ before ++ map (slice_at s bytes) (range_with_len 0 j)
+    → v.now ≡ take s (drop (j * s) bytes) → map (padded s) (texts_of (xs ++ v ∷ [])) ≡ before ++ map (slice_at s bytes) (range_with_len 0 (j + 1))
+slices_push s j bytes xs v before so_far is =
+    ap (map (padded s)) (map-append (λ (x : Bor (List ℕ)). x.now) xs (v ∷ []))
+    ∙ map-append (padded s) (texts_of xs) (v.now ∷ [])
+    ∙ ap₂ (λ a b. a ++ padded s b ∷ []) so_far is
+    ∙ append_assoc before (map (slice_at s bytes) (range_with_len 0 j)) (slice_at s bytes j ∷ [])
+    ∙ ap (λ xs. before ++ xs) (sym (map-range_with_len_more (slice_at s bytes) 0 j j (zero-add j)))
+
+pub bytes_push : (xs : List (Bor (List ℕ))) (v : Bor (List ℕ)) → AreBytes (texts_of xs) → AllByRecursion (λ b. b < 256) v.now → AreBytes (texts_of (xs ++ v ∷ []))
+bytes_push xs v before fits = subst AreBytes (sym (map-append (λ (x : Bor (List ℕ)). x.now) xs (v ∷ []))) (go (texts_of xs) before)
+  where
+    here : (k : ℕ) → get_or v.now k 0 < 256
+    here = all_at (λ b. b < 256) 0 (omega arith) v.now fits
+
+    go : (lists : List (List ℕ)) → AreBytes lists → AreBytes (lists ++ v.now ∷ [])
+    go [] all zero k = here k
+    go [] all (suc r) k = all r k
+    go (x ∷ lists) all zero k = all 0 k
+    go (x ∷ lists) all (suc r) k = go lists (λ q m. all (suc q) m) r k
+
+slices_of_more : (s : ℕ) (folder : Folder) (names : List (List ℕ)) (name : List ℕ) → all_slices s (files_of folder (names ++ name ∷ [])) ≡ all_slices s (files_of folder names) ++ slices s (bytes_of folder name)
+slices_of_more s folder [] name = append_none (slices s (bytes_of folder name))
+  where
+    append_none : (xs : List (List ℕ)) → xs ++ [] ≡ xs
+    append_none [] = refl
+    append_none (x ∷ xs) = ap (λ ys. x ∷ ys) (append_none xs)
+slices_of_more s folder (n ∷ names) name =
+    ap (λ xs. slices s (bytes_of folder n) ++ xs) (slices_of_more s folder names name)
+    ∙ sym (append_assoc (slices s (bytes_of folder n)) (all_slices s (files_of folder names)) (slices s (bytes_of folder name)))
+
+pub files_push : (s : ℕ) (folder : Folder) (names : List (List ℕ)) (i : ℕ) (old all : List (List ℕ)) (bytes : List ℕ) → i < length names → bytes ≡ bytes_of folder (get_or names i [])
+    → old ≡ all_slices s (files_of folder (take i names)) → all ≡ old ++ slices s bytes → all ≡ all_slices s (files_of folder (take (i + 1) names))
+files_push s folder names i old all bytes h is so_far e =
+    e ∙ ap₂ (λ a b. a ++ slices s b) so_far is ∙ sym (slices_of_more s folder (take i names) (get_or names i [])) ∙ ap (λ xs. all_slices s (files_of folder xs)) (sym (take_more names i [] h))
+
+pub all_of_them : (names : List (List ℕ)) (n : ℕ) → n ≡ length names → take n names ≡ names
+all_of_them names n e = ap (λ m. take m names) e ∙ whole names
+  where
+    whole : (xs : List (List ℕ)) → take (length xs) xs ≡ xs
+    whole [] = refl
+    whole (x ∷ xs) = ap (λ ys. x ∷ ys) (whole xs)
+
+pub name_within : (names : List (List ℕ)) (i : ℕ) → AllByRecursion (λ name. is_name name ≡ true) names → i < length names → is_name (get_or names i []) ≡ true
+name_within [] i all h = absurd (omega arith)
+name_within (x ∷ names) zero all h = all.0
+name_within (x ∷ names) (suc i) all h = name_within names i all.1 (omega arith)
+
+pub length-padded : (s : ℕ) (xs : List (Bor (List ℕ))) (ys : List (List ℕ)) → map (padded s) (texts_of xs) ≡ ys → length xs ≡ length ys
+length-padded s xs ys e = sym (length-map (texts_of xs) (padded s) ∙ length-map xs (λ (x : Bor (List ℕ)). x.now)) ∙ ap length e
+
+pub first_list : (xs : List (Vec ℕ Global)) (f : ℕ → List ℕ) (e : ℕ) (v : Vec ℕ Global) → lists_of xs ≡ map f (range_with_len e 1) → (0 < length xs) × (v ≡ get_or xs 0 v → v.items ≡ f e)
+first_list [] f e v is = (let none : ⊥ = cc in absurd none)
+first_list (x ∷ xs) f e v is = (omega arith, λ here. ap (λ (y : Vec ℕ Global). y.items) here ∙ ap (λ (ys : List (List ℕ)). get_or ys 0 []) is)
+
+pub length-texts_of : (xs : List (Bor (List ℕ))) → length (texts_of xs) ≡ length xs
+length-texts_of xs = length-map xs (λ (x : Bor (List ℕ)). x.now)

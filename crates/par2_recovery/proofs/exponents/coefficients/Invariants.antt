@@ -1,0 +1,7 @@
+use Rattle.std.proofs.Common.{◌≡◌, map}
+use Rattle.std.specs.Prelude.{take}
+use Rattle.par2_spec.specs.Field.{coefficient}
+use Rattle.par2_recovery.proofs.exponents.coefficients.Given as goal
+
+abbrev pub invariant-loop-k : goal.invariant-loop-k
+invariant-loop-k l = l.row.items ≡ map (coefficient l.e) (take l.k-index l.numbers)

@@ -1,0 +1,7 @@
+use Rattle.par2_matrix.specs.Echelon.{lists_of}
+use Rattle.par2_recovery.specs.Products.{Adds}
+use Rattle.par2_recovery.specs.Views.{texts_of}
+use Rattle.par2_recovery.proofs.products.add_columns.Given as goal
+
+abbrev pub invariant-loop-k : goal.invariant-loop-k
+invariant-loop-k l = Adds (lists_of l.factors) (texts_of l.sources) (lists_of l.initial.targets) (lists_of l.targets) l.from l.to l.k

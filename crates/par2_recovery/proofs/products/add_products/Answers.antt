@@ -1,0 +1,13 @@
+use Rattle.std.proofs.Common.{arith, ◌*◌, ◌+◌, length, min}
+use Rattle.par2_matrix.specs.Echelon.{lists_of}
+use Rattle.par2_recovery.specs.Views.{texts_of}
+use Rattle.par2_recovery.proofs.Adding.{more_blocks}
+use Rattle.par2_recovery.proofs.products.add_products.Goals as goal
+
+pub loop-block-preserved : goal.loop-block-preserved
+loop-block-preserved c =
+    let at = min c.args.words (c.loop-block.block * 4096) in
+    let next = min c.args.words ((c.loop-block.block + 1) * 4096) in
+    more_blocks (lists_of c.args.factors.now) (texts_of c.args.sources.now) (lists_of c.args.targets.now) (lists_of c.loop-block.targets) (lists_of c.add_columns.new.targets)
+    (c.loop-block.block * 4096) (c.loop-block.block * 4096 + c.min.result) at next (length c.args.sources.now) (omega arith) (omega arith) (omega arith)
+    c.loop-block.invariant c.add_columns.ensures

@@ -1,0 +1,12 @@
+use Rattle.std.proofs.Common.{get_or}
+use Rattle.par2_matrix.specs.Echelon.{list_at, lists_of}
+use Rattle.par2_recovery.proofs.Adding.{no_target, next_target}
+use Rattle.par2_recovery.proofs.products.add_source.Goals as goal
+
+pub loop-r-init : goal.loop-r-init
+loop-r-init c = no_target _ c.args.source.now (lists_of c.args.targets.now) c.args.from c.args.to
+
+pub loop-r-preserved : goal.loop-r-preserved
+loop-r-preserved c =
+    next_target (λ x. get_or (list_at (lists_of c.args.factors.now) x) c.args.k 0) c.args.source.now (lists_of c.args.targets.now) (lists_of c.loop-r.targets) (lists_of c.add_to.new.lists) c.args.from c.args.to c.loop-r.r c.factor_at-factor.result
+    c.loop-r.invariant c.factor_at-factor.ensures c.add_to.ensures.changed c.add_to.ensures.added c.add_to.ensures.bytes

@@ -1,0 +1,14 @@
+use Rattle.std.proofs.Common.{◌≡◌, map}
+use Rattle.std.specs.Prelude.{take}
+use Rattle.par2_spec.specs.Slices.{padded}
+use Rattle.par2_spec.specs.Volumes.{all_slices}
+use Rattle.par2_spec.specs.Commands.{files_of}
+use Rattle.par2_recovery.specs.Products.{AreBytes}
+use Rattle.par2_recovery.specs.Views.{texts_of, names_of}
+use Rattle.par2_recovery.proofs.recovery.slices_of.Given as goal
+
+abbrev pub invariant-loop-i : goal.invariant-loop-i
+invariant-loop-i l = record {
+  slices : map (padded l.record.slice) (texts_of l.all.items) ≡ all_slices l.record.slice (files_of l.folder.files (take l.i (names_of l.record)));
+  bytes : AreBytes (texts_of l.all.items);
+}

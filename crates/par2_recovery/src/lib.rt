@@ -1,0 +1,11 @@
+//! Recovery slices are made of the slices of files, and lost slices are rebuilt from them.
+#![tactic(auto)]
+
+mod exponents;
+mod products;
+mod recovery;
+mod set_record;
+
+pub use exponents::rank;
+pub use recovery::{recovery_slice, recovery_slices};
+pub use set_record::SetRecord;

@@ -1,0 +1,170 @@
+//! Sums of products of factors and texts.
+
+ghost use Rattle.std.specs.Prelude.{◌≡◌, ℕ, ◌+◌, ◌*◌, ◌^◌, ◌<◌, ◌≤◌, ◌%◌, length, map, slice_index};
+ghost use Rattle.par2_gf16.specs.Steps.{AddsWithin};
+ghost use Rattle.par2_matrix.specs.Echelon.{OneChanged, list_at, lists_of};
+ghost use Rattle.par2_recovery.specs.Products.{AddsSource, Adds};
+ghost use Rattle.par2_recovery.specs.Views.{texts_of};
+
+use par2_gf16::Gf;
+
+/// How many words of every text are taken at a time, so that what is written stays in the cache.
+const BLOCK: usize = 4096;
+
+// Adds c times the words of the source to those of the target, both from word `from` on.
+fn add_whole_words(gf: &Gf, c: u16, source: &[u8], target: &mut [u8], from: usize, to: usize)
+    requires order { from ≤ to }
+    requires source { 2 * to ≤ length source.now }
+    requires target { 2 * to ≤ length target.old }
+    ensures { AddsWithin c source.now target.old target.new from to }
+{
+    gf.mul_add(c, &source[2 * from..2 * to], &mut target[2 * from..2 * to]);
+}
+
+// Adds c times the last byte of the source, where it is half a word.
+fn add_last_byte(gf: &Gf, c: u16, source: &[u8], target: &mut [u8], at: usize)
+    requires source { length source.now ≡ 2 * at + 1 }
+    requires target { 2 * at + 1 < length target.old }
+    ensures { AddsWithin c source.now target.old target.new at (at + 1) }
+{
+    let last = [source[2 * at], 0];
+    gf.mul_add(c, &last, &mut target[2 * at..2 * (at + 1)]);
+}
+
+// Adds c times the words of the source from `from` up to `to` to those of the target. Zeros follow a source that
+// ends sooner.
+fn add_words(gf: &Gf, c: u16, source: &[u8], target: &mut [u8], from: usize, to: usize)
+    requires order { from ≤ to }
+    requires target { 2 * to ≤ length target.old }
+    ensures added { AddsWithin c source.now target.old target.new from to }
+    ensures bytes { (k : ℕ) → slice_index target.new k < 2 ^ 8 }
+{
+    let end = source.len().min(2 * to);
+    let whole = end / 2;
+    if whole < from {
+        return;
+    }
+    add_whole_words(gf, c, source, target, from, whole);
+    if end % 2 == 1 {
+        add_last_byte(gf, c, source, target, whole);
+    }
+}
+
+// Adds to list r.
+fn add_to(gf: &Gf, lists: &mut [Vec<u8>], r: usize, c: u16, source: &[u8], from: usize, to: usize)
+    requires place { r < length lists.old }
+    requires order { from ≤ to }
+    requires room { 2 * to ≤ length (list_at (lists_of lists.old) r) }
+    ensures changed { OneChanged (lists_of lists.old) (lists_of lists.new) r }
+    ensures added { AddsWithin c source.now (list_at (lists_of lists.old) r) (list_at (lists_of lists.new) r) from to }
+    ensures bytes { (k : ℕ) → slice_index (list_at (lists_of lists.new) r) k < 2 ^ 8 }
+{
+    add_words(gf, c, source, lists[r].as_mut_slice(), from, to);
+}
+
+#[inline(always)]
+fn row_at(rows: &[Vec<u16>], r: usize) -> &[u16]
+    requires { r < length rows.now }
+    ensures { result.now ≡ list_at (lists_of rows.now) r }
+{
+    &rows[r]
+}
+
+#[inline(always)]
+fn factor_at(rows: &[Vec<u16>], r: usize, k: usize) -> u16
+    requires row { r < length rows.now }
+    requires place { k < length (list_at (lists_of rows.now) r) }
+    ensures { result ≡ slice_index (list_at (lists_of rows.now) r) k }
+{
+    row_at(rows, r)[k]
+}
+
+// Adds the multiples of a source, which is the k-th one, to all targets.
+fn add_source(
+    gf: &Gf,
+    factors: &[Vec<u16>],
+    k: usize,
+    source: &[u8],
+    targets: &mut [Vec<u8>],
+    from: usize,
+    to: usize,
+)
+    requires rows { length factors.now ≡ length targets.old }
+    requires factors { (r : ℕ) → r < length factors.now → k < length (list_at (lists_of factors.now) r) }
+    requires order { from ≤ to }
+    requires room { (r : ℕ) → r < length targets.old → 2 * to ≤ length (list_at (lists_of targets.old) r) }
+    ensures { AddsSource (λ r. slice_index (list_at (lists_of factors.now) r) k) source.now (lists_of targets.old) (lists_of targets.new) from to (length targets.old) }
+{
+    for r in 0..targets.len() {
+        let factor = factor_at(factors, r, k);
+        add_to(gf, targets, r, factor, source, from, to);
+    }
+}
+
+#[inline(always)]
+fn source_at<'a>(sources: &[&'a [u8]], k: usize) -> &'a [u8]
+    requires { k < length sources.now }
+    ensures { result.now ≡ list_at (texts_of sources.now) k }
+{
+    sources[k]
+}
+
+// Adds the multiples of all sources, in some columns.
+fn add_columns(
+    gf: &Gf,
+    factors: &[Vec<u16>],
+    sources: &[&[u8]],
+    targets: &mut [Vec<u8>],
+    from: usize,
+    to: usize,
+)
+    requires rows { length factors.now ≡ length targets.old }
+    requires factors { (r : ℕ) → r < length factors.now → length sources.now ≤ length (list_at (lists_of factors.now) r) }
+    requires order { from ≤ to }
+    requires room { (r : ℕ) → r < length targets.old → 2 * to ≤ length (list_at (lists_of targets.old) r) }
+    ensures { Adds (lists_of factors.now) (texts_of sources.now) (lists_of targets.old) (lists_of targets.new) from to (length sources.now) }
+{
+    for k in 0..sources.len() {
+        let source = source_at(sources, k);
+        add_source(gf, factors, k, source, targets, from, to);
+    }
+}
+
+/// To each of the first `words` words of each target, adds the sum of the sources' words there, each times its factor
+/// in the row of the target. All sources are read once, some columns of all of them at a time.
+fn add_products(
+    gf: &Gf,
+    factors: &[Vec<u16>],
+    sources: &[&[u8]],
+    targets: &mut [Vec<u8>],
+    words: usize,
+)
+    requires rows { length factors.now ≡ length targets.old }
+    requires factors { (r : ℕ) → r < length factors.now → length sources.now ≤ length (list_at (lists_of factors.now) r) }
+    requires room { (r : ℕ) → r < length targets.old → 2 * words ≤ length (list_at (lists_of targets.old) r) }
+    ensures { Adds (lists_of factors.now) (texts_of sources.now) (lists_of targets.old) (lists_of targets.new) 0 words (length sources.now) }
+{
+    for block in 0..words.div_ceil(BLOCK) {
+        let from = block * BLOCK;
+        let to = from + BLOCK.min(words - from);
+        add_columns(gf, factors, sources, targets, from, to);
+    }
+}
+
+/// The texts after `add_products`.
+pub(crate) fn with_products(
+    gf: &Gf,
+    factors: &[Vec<u16>],
+    sources: &[&[u8]],
+    targets: Vec<Vec<u8>>,
+    words: usize,
+) -> Vec<Vec<u8>>
+    requires rows { length factors.now ≡ length targets.items }
+    requires factors { (r : ℕ) → r < length factors.now → length sources.now ≤ length (list_at (lists_of factors.now) r) }
+    requires room { (r : ℕ) → r < length targets.items → 2 * words ≤ length (list_at (lists_of targets.items) r) }
+    ensures { Adds (lists_of factors.now) (texts_of sources.now) (lists_of targets.items) (lists_of result.items) 0 words (length sources.now) }
+{
+    let mut sums = targets;
+    add_products(gf, factors, sources, sums.as_mut_slice(), words);
+    sums
+}

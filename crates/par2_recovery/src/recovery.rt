@@ -1,0 +1,193 @@
+//! Recovery slices over the files of a set (Parity Volume Set Specification 2.0, "Recovery Slice packet").
+
+ghost use Rattle.std.specs.Prelude.{◌≡◌, ℕ, ◌+◌, ◌*◌, ◌%◌, ◌^◌, ◌<◌, ◌≤◌, ◌++◌, length, map, slice_index_or, [], IfOk, IsTrue};
+ghost use Rattle.std.specs.List.{range_with_len, AllByRecursion};
+ghost use Rattle.par2_spec.specs.Names.{is_name};
+ghost use Rattle.par2_spec.specs.Folders.{bytes_of};
+ghost use Rattle.par2_spec.specs.Slices as spec;
+ghost use Rattle.par2_spec.specs.Volumes.{all_slices};
+ghost use Rattle.par2_spec.specs.Commands.{files_of};
+ghost use Rattle.par2_spec.specs.Recovery.{recovery, coefficients};
+ghost use Rattle.par2_matrix.specs.Echelon.{lists_of};
+ghost use Rattle.par2_recovery.specs.Products.{AreBytes};
+ghost use Rattle.par2_recovery.specs.Views.{texts_of, names_of, AreBlank};
+
+use crate::exponents::coefficients;
+use crate::products::with_products;
+use crate::set_record::SetRecord;
+use par2_folder::{Folder, Name};
+use par2_gf16::Gf;
+use par2_slices::{slice_bytes, slice_count};
+use std::alloc::{AllocError, Global};
+
+// The numbers below n.
+#[tactic(auto, using(crate::proofs::Combined::range_more))]
+fn numbers_below(alloc: Global, n: usize) -> Result<Vec<u32>, AllocError>
+    requires { n ≤ 32768 }
+    ensures { IfOk result (λ numbers. numbers.items ≡ range_with_len 0 n) }
+{
+    let mut numbers = Vec::with_capacity(alloc, n)?;
+    for k in 0..n {
+        numbers.push(k as u32)?;
+    }
+    Ok(numbers)
+}
+
+// For each exponent, what it multiplies the first n input slices by.
+fn factors(
+    alloc: Global,
+    gf: &Gf,
+    n: usize,
+    first: u32,
+    count: u32,
+) -> Result<Vec<Vec<u16>>, AllocError>
+    requires slices { n ≤ 32768 }
+    requires exponents { first + count ≤ 65536 }
+    ensures { IfOk result (λ rows. lists_of rows.items ≡ map (coefficients (range_with_len 0 n)) (range_with_len first count)) }
+{
+    let numbers = numbers_below(alloc, n)?;
+    let mut rows = Vec::with_capacity(alloc, count as usize)?;
+    for j in 0..count {
+        rows.push(coefficients(alloc, gf, &numbers, first + j)?)?;
+    }
+    Ok(rows)
+}
+
+// Zeros.
+pub(crate) fn blank(alloc: Global, count: usize, size: usize) -> Result<Vec<Vec<u8>>, AllocError>
+    ensures { IfOk result (λ texts. AreBlank size count (lists_of texts.items)) }
+{
+    let mut texts = Vec::with_capacity(alloc, count)?;
+    for _i in 0..count {
+        texts.push(vec![in alloc; 0u8; size]?)?;
+    }
+    Ok(texts)
+}
+
+// The recovery slices of some exponents over slices that zeros fill up.
+fn recovery_of(
+    alloc: Global,
+    gf: &Gf,
+    slices: &[&[u8]],
+    size: usize,
+    first: u32,
+    count: u32,
+) -> Result<Vec<Vec<u8>>, AllocError>
+    requires slices { length slices.now ≤ 32768 }
+    requires bytes { AreBytes (texts_of slices.now) }
+    requires even { size % 2 ≡ 0 }
+    requires exponents { first + count ≤ 65536 }
+    ensures { IfOk result (λ texts. lists_of texts.items ≡ map (recovery size (map (spec.padded size) (texts_of slices.now))) (range_with_len first count)) }
+{
+    let factors = factors(alloc, gf, slices.len(), first, count)?;
+    let zeros = blank(alloc, count as usize, size)?;
+    Ok(with_products(gf, &factors, slices, zeros, size / 2))
+}
+
+// What the type says of each byte, for proofs.
+#[inline(always)]
+fn fitting(bytes: &[u8]) -> &[u8]
+    ensures same { result.now ≡ bytes.now }
+    ensures bytes { AllByRecursion (λ b. b < 256) bytes.now }
+{
+    let _ = bytes.len();
+    bytes
+}
+
+// The bytes of a file, none where it is absent.
+fn bytes_of<'a>(folder: &'a Folder, name: &str) -> &'a [u8]
+    requires { IsTrue (is_name name.now) }
+    ensures { result.now ≡ bytes_of folder.now.files name.now }
+{
+    let Ok(name) = Name::new(name) else {
+        return &[];
+    };
+    match folder.get(&name) {
+        Some(bytes) => bytes,
+        None => &[],
+    }
+}
+
+// The slices, and behind them those of one more file.
+fn with_slices<'a>(
+    slices: Vec<&'a [u8]>,
+    bytes: &'a [u8],
+    s: u64,
+) -> Result<Vec<&'a [u8]>, AllocError>
+    requires size { 1 ≤ s }
+    requires bytes { AreBytes (texts_of slices.items) }
+    ensures slices { IfOk result (λ all. map (spec.padded s) (texts_of all.items) ≡ map (spec.padded s) (texts_of slices.entry.items) ++ spec.slices s bytes.now) }
+    ensures bytes { IfOk result (λ all. AreBytes (texts_of all.items)) }
+{
+    let mut all = slices;
+    for j in 0..slice_count(bytes.len() as u64, s) {
+        all.push(fitting(slice_bytes(bytes, s, j)))?;
+    }
+    Ok(all)
+}
+
+// The name of file i.
+fn name_at(record: &SetRecord, i: usize) -> &str
+    requires { i < length record.now.files.items }
+    ensures { result.now ≡ slice_index_or (names_of record.now) i [] }
+{
+    record.files[i].name.as_str()
+}
+
+// The slices of the record's files, one file behind the other.
+fn slices_of<'a>(
+    alloc: Global,
+    record: &SetRecord,
+    folder: &'a Folder,
+) -> Result<Vec<&'a [u8]>, AllocError>
+    requires size { 1 ≤ record.now.slice }
+    requires names { AllByRecursion (λ name. IsTrue (is_name name)) (names_of record.now) }
+    ensures slices { IfOk result (λ all. map (spec.padded record.now.slice) (texts_of all.items) ≡ all_slices record.now.slice (files_of folder.now.files (names_of record.now))) }
+    ensures bytes { IfOk result (λ all. AreBytes (texts_of all.items)) }
+{
+    let mut all = Vec::new(alloc);
+    for i in 0..record.files.len() {
+        all = with_slices(all, bytes_of(folder, name_at(record, i)), record.slice)?;
+    }
+    Ok(all)
+}
+
+/// The recovery slices of `count` exponents from `first` on over the slices of the record's files, which are read once.
+/// A file that is absent has no slices.
+pub fn recovery_slices(
+    alloc: Global,
+    gf: &Gf,
+    record: &SetRecord,
+    folder: &Folder,
+    first: u32,
+    count: u32,
+) -> Result<Vec<Vec<u8>>, AllocError>
+    requires size { 1 ≤ record.now.slice }
+    requires even { record.now.slice % 2 ≡ 0 }
+    requires names { AllByRecursion (λ name. IsTrue (is_name name)) (names_of record.now) }
+    requires slices { length (all_slices record.now.slice (files_of folder.now.files (names_of record.now))) ≤ 32768 }
+    requires exponents { first + count ≤ 65536 }
+    ensures { IfOk result (λ texts. lists_of texts.items ≡ map (recovery record.now.slice (all_slices record.now.slice (files_of folder.now.files (names_of record.now)))) (range_with_len first count)) }
+{
+    let slices = slices_of(alloc, record, folder)?;
+    recovery_of(alloc, gf, &slices, record.slice as usize, first, count)
+}
+
+/// The recovery slice of exponent `e` over the slices of the record's files. A file that is absent has no slices.
+pub fn recovery_slice(
+    alloc: Global,
+    gf: &Gf,
+    record: &SetRecord,
+    folder: &Folder,
+    e: u32,
+) -> Result<Vec<u8>, AllocError>
+    requires size { 1 ≤ record.now.slice }
+    requires even { record.now.slice % 2 ≡ 0 }
+    requires names { AllByRecursion (λ name. IsTrue (is_name name)) (names_of record.now) }
+    requires slices { length (all_slices record.now.slice (files_of folder.now.files (names_of record.now))) ≤ 32768 }
+    requires exponent { e < 65536 }
+    ensures { IfOk result (λ text. text.items ≡ recovery record.now.slice (all_slices record.now.slice (files_of folder.now.files (names_of record.now))) e) }
+{
+    let mut texts = recovery_slices(alloc, gf, record, folder, e, 1)?;
+    Ok(texts.remove(0))
+}
