@@ -26,7 +26,12 @@ fn mixed_bytes(alloc: Global, seed: u32) -> Result<Vec<u8>, AllocError>
 }
 
 // what the recovery slice of an exponent multiplies the slices by
-fn coefficients(alloc: Global, gf: &Gf, columns: usize, exponent: u32) -> Result<Vec<u16>, AllocError>
+fn coefficients(
+    alloc: Global,
+    gf: &Gf,
+    columns: usize,
+    exponent: u32,
+) -> Result<Vec<u16>, AllocError>
     ensures { IfOk result (λ row. length row.items ≡ columns) }
 {
     let mut row = vec![in alloc; 0u16; columns]?;
@@ -50,7 +55,11 @@ fn solve(rt: &HostRuntime, gf: &Gf, columns: u16) -> io::Result<u128> {
         let _ = system.offer(rt.alloc(), gf, &row, right)?;
         nanos = nanos.saturating_add(start.elapsed(rt)?.as_nanos());
     }
-    println!(rt; "{columns} columns: rank {}, {} microseconds", system.rank(), nanos / 1000)?;
+    println!(rt;
+        "{columns} columns: rank {}, {} microseconds",
+        system.rank(),
+        nanos / 1000
+    )?;
     Ok(nanos)
 }
 
@@ -58,7 +67,10 @@ fn measure(rt: &HostRuntime, columns: u16) -> io::Result<()> {
     let gf = Gf::new(rt.alloc())?;
     let half = solve(rt, &gf, columns / 2)?;
     let whole = solve(rt, &gf, columns)?;
-    println!(rt; "growth: {} hundredths", whole.saturating_mul(100) / half.max(1))
+    println!(rt;
+        "growth: {} hundredths",
+        whole.saturating_mul(100) / half.max(1)
+    )
 }
 
 fn main(rt: HostRuntime) -> io::Result<()> {

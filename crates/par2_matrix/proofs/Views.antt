@@ -26,11 +26,6 @@ pub all_from : {X : Type 0} (P : X → Type 0) (d : X) (xs : List X) → ((i : �
 all_from P d [] at = tt
 all_from P d (x ∷ xs) at = (at 0 (omega arith), all_from P d xs (λ i h. at (suc i) (omega arith)))
 
-all_within : {X : Type 0} (P : X → Type 0) (d : X) (xs : List X) → AllByRecursion P xs → (i : ℕ) → i < length xs → P (get_or xs i d)
-all_within P d [] all i h = absurd (omega arith)
-all_within P d (x ∷ xs) all zero h = all.0
-all_within P d (x ∷ xs) all (suc i) h = all_within P d xs all.1 i (omega arith)
-
 -- ---- sums
 
 field_sum_front : (n : ℕ) (f : ℕ → ℕ) → field_sum (suc n) f ≡ bit_xor (f 0) (field_sum n (λ i. f (suc i)))

@@ -1,11 +1,8 @@
 -- Words of bytes, and lists of lists.
-use Rattle.std.proofs.Common.{ℕ, zero, suc, ◌+◌, ◌*◌, ◌<◌, ◌≤◌, ◌≡◌, refl, sym, ap, ap₂, ◌∙◌, arith, List, [], ◌∷◌, ◌++◌, length, get_or, set, map, Vec, Global, length-set, length-append}
+use Rattle.std.proofs.Common.{ℕ, ◌+◌, ◌*◌, ◌<◌, ◌≤◌, ◌≡◌, sym, ap, ap₂, ◌∙◌, arith, List, [], length, get_or, set, map, Vec, Global, length-set}
 use Rattle.std.proofs.lemmas.List.{map-set, get_or-set_same, get_or-set_other, length-map, get_or-map, get_or_past}
 use Rattle.par2_spec.specs.Slices.{word}
-use Rattle.par2_matrix.specs.Echelon.{list_at, lists_of, OneChanged, AllEmpty}
-
-pub empty_reads : (xs : List ℕ) (i : ℕ) → length xs ≡ 0 → get_or xs i 0 ≡ 0
-empty_reads xs i e = get_or_past xs i 0 (omega arith)
+use Rattle.par2_matrix.specs.Echelon.{list_at, lists_of, OneChanged}
 
 pub word_past : (xs : List ℕ) (w : ℕ) → length xs ≤ 2 * w → word w xs ≡ 0
 word_past xs w l = ap₂ (λ x y. x + 256 * y) (get_or_past xs (2 * w) 0 l) (get_or_past xs (2 * w + 1) 0 (omega arith))
@@ -36,15 +33,3 @@ written_changed vs p w =
 
 pub length-lists_of : (vs : List (Vec ℕ Global)) → length (lists_of vs) ≡ length vs
 length-lists_of vs = length-map vs (λ (x : Vec ℕ Global). x.items)
-
-pub empties_push : (xs : List (Vec ℕ Global)) (v : Vec ℕ Global) (n : ℕ) → AllEmpty (lists_of xs) n → v.items ≡ [] → AllEmpty (lists_of (xs ++ v ∷ [])) (n + 1)
-empties_push xs v n so_far e = record {
-  count = length-map (xs ++ v ∷ []) (λ (x : Vec ℕ Global). x.items) ∙ length-append xs (v ∷ []) ∙ ap (λ x. x + 1) (sym (length-map xs (λ (x : Vec ℕ Global). x.items)) ∙ so_far.count);
-  each = go xs so_far.each;
-}
-  where
-    go : (xs : List (Vec ℕ Global)) → ((i : ℕ) → get_or (lists_of xs) i [] ≡ []) → (i : ℕ) → get_or (lists_of (xs ++ v ∷ [])) i [] ≡ []
-    go [] h zero = e
-    go [] h (suc i) = refl
-    go (x ∷ xs) h zero = h zero
-    go (x ∷ xs) h (suc i) = go xs (λ j. h (suc j)) i

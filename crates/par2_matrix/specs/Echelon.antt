@@ -38,6 +38,10 @@ pub record Echelon : Type 0 where
 abbrev pub echelon : (columns bytes rank : ℕ) → List (List ℕ) → List (List ℕ) → Echelon
 echelon columns bytes rank rows rights = record { columns = columns; bytes = bytes; rank = rank; rows = rows; rights = rights }
 
+-- the same, of the vectors that the code holds
+abbrev pub echelon_of : (bytes rank : ℕ) → List (Vec ℕ Global) → List (Vec ℕ Global) → Echelon
+echelon_of bytes rank rows rights = echelon (length rows) bytes rank (lists_of rows) (lists_of rights)
+
 -- the equations that are there
 unfoldable pub equations : List (List ℕ) → List (List ℕ) → List (List ℕ × List ℕ)
 equations [] rights = []
@@ -71,6 +75,10 @@ pub record IsReduced (e : Echelon) : Type 0 where
 -- each row sends f to 0
 abbrev pub Vanishes : Echelon → (ℕ → ℕ) → Type 0
 Vanishes e f = (p : ℕ) → p < e.columns → row_sum e.columns (list_at e.rows p) f ≡ 0
+
+-- the row sends to 0 what the equations do
+abbrev pub IsImplied : Echelon → List ℕ → Type 0
+IsImplied e row = (f : ℕ → ℕ) → AreElements f → Vanishes e f → row_sum e.columns row f ≡ 0
 
 -- each row sends f to the word at w of its right side
 abbrev pub Meets : Echelon → ℕ → (ℕ → ℕ) → Type 0

@@ -3,7 +3,7 @@
 ghost use Rattle.std.specs.Prelude.{◌≡◌, ◌≢◌, ℕ, ◌+◌, ◌*◌, ◌%◌, ◌^◌, ◌<◌, ◌≤◌, List, length, slice_index, IfSome, IfOk, IsNone};
 ghost use Rattle.par2_spec.specs.Slices.{word};
 ghost use Rattle.par2_gf16.specs.Products.{AddsProducts};
-ghost use Rattle.par2_matrix.specs.Echelon.{WordPut, Spells, Scaled, ReducedBelow, IsReduced, IsMultiple, IsPrepared, OneChanged, ClearedBelow, PutAt, AllEmpty, Echelon, echelon, Vanishes, row_sum, AreElements, lists_of, list_at};
+ghost use Rattle.par2_matrix.specs.Echelon.{WordPut, Spells, Scaled, ReducedBelow, IsReduced, IsImplied, IsMultiple, IsPrepared, OneChanged, ClearedBelow, PutAt, AllEmpty, echelon_of, lists_of, list_at};
 
 use par2_gf16::Gf;
 use std::alloc::{AllocError, Global};
@@ -83,9 +83,10 @@ fn scale(gf: &Gf, factor: u16, bytes: &mut [u8])
 // Takes the pivots out of an equation.
 fn reduce(gf: &Gf, rows: &[Vec<u8>], rights: &[Vec<u8>], row: &mut [u8], right: &mut [u8])
     ghost rank: { ℕ }
-    requires reduced { IsReduced (echelon (length rows.now) (length right.old) rank (lists_of rows.now) (lists_of rights.now)) }
+    requires reduced { IsReduced (echelon_of (length right.old) rank rows.now rights.now) }
     requires size { length row.old ≡ 2 * length rows.now }
-    ensures taken { ReducedBelow (echelon (length rows.now) (length right.old) 0 (lists_of rows.now) (lists_of rights.now)) row.old right.old row.new right.new (length rows.now) }
+    ensures taken { ReducedBelow (echelon_of (length right.old) 0 rows.now rights.now)
+        row.old right.old row.new right.new (length rows.now) }
     ensures row_bytes { (k : ℕ) → slice_index row.new k < 2 ^ 8 }
     ensures right_bytes { (k : ℕ) → slice_index right.new k < 2 ^ 8 }
 {
@@ -119,7 +120,8 @@ fn normalize(gf: &Gf, row: &mut [u8], right: &mut [u8], q: usize)
     requires nonzero { word q row.old ≢ 0 }
     requires row_bytes { (k : ℕ) → slice_index row.old k < 2 ^ 8 }
     requires right_bytes { (k : ℕ) → slice_index right.old k < 2 ^ 8 }
-    ensures multiple { (n : ℕ) → length row.old ≡ 2 * n → IsMultiple n (length right.old) row.old right.old row.new right.new }
+    ensures multiple { (n : ℕ) → length row.old ≡ 2 * n
+        → IsMultiple n (length right.old) row.old right.old row.new right.new }
     ensures pivot { word q row.new ≡ 1 }
     ensures row_size { length row.new ≡ length row.old }
     ensures right_size { length right.new ≡ length right.old }
@@ -138,10 +140,11 @@ pub(crate) fn prepare(
     right: &mut [u8],
 ) -> Option<usize>
     ghost rank: { ℕ }
-    requires reduced { IsReduced (echelon (length rows.now) (length right.old) rank (lists_of rows.now) (lists_of rights.now)) }
+    requires reduced { IsReduced (echelon_of (length right.old) rank rows.now rights.now) }
     requires size { length row.old ≡ 2 * length rows.now }
-    ensures none { IsNone result → (f : ℕ → ℕ) → AreElements f → Vanishes (echelon (length rows.now) (length right.old) rank (lists_of rows.now) (lists_of rights.now)) f → row_sum (length rows.now) row.old f ≡ 0 }
-    ensures some { IfSome result (IsPrepared (echelon (length rows.now) (length right.old) 0 (lists_of rows.now) (lists_of rights.now)) row.old right.old row.new right.new) }
+    ensures none { IsNone result → IsImplied (echelon_of (length right.old) rank rows.now rights.now) row.old }
+    ensures some { IfSome result (IsPrepared (echelon_of (length right.old) 0 rows.now rights.now)
+        row.old right.old row.new right.new) }
     ensures room { IfSome result (λ q. rank < length rows.now) }
 {
     fit_bytes(row);
@@ -158,7 +161,8 @@ fn add_to(gf: &Gf, lists: &mut [Vec<u8>], p: usize, factor: u16, src: &[u8])
     requires same { length src.now ≡ length (list_at (lists_of lists.old) p) }
     requires even { length src.now % 2 ≡ 0 }
     ensures changed { OneChanged (lists_of lists.old) (lists_of lists.new) p }
-    ensures added { AddsProducts factor src.now (list_at (lists_of lists.old) p) (list_at (lists_of lists.new) p) }
+    ensures added { AddsProducts factor src.now (list_at (lists_of lists.old) p)
+        (list_at (lists_of lists.new) p) }
     ensures bytes { (k : ℕ) → slice_index (list_at (lists_of lists.new) p) k < 2 ^ 8 }
 {
     add_products(gf, factor, src, lists[p].as_mut_slice());
@@ -179,8 +183,9 @@ fn clear(gf: &Gf, rows: &mut [Vec<u8>], rights: &mut [Vec<u8>], q: usize, row: &
     ghost rank: { ℕ }
     requires place { q < length rows.old }
     requires size { length row.now ≡ 2 * length rows.old }
-    requires reduced { IsReduced (echelon (length rows.old) (length right.now) rank (lists_of rows.old) (lists_of rights.old)) }
-    ensures { ClearedBelow q row.now right.now (lists_of rows.old) (lists_of rights.old) (lists_of rows.new) (lists_of rights.new) (length rows.old) }
+    requires reduced { IsReduced (echelon_of (length right.now) rank rows.old rights.old) }
+    ensures { ClearedBelow q row.now right.now (lists_of rows.old) (lists_of rights.old)
+        (lists_of rows.new) (lists_of rights.new) (length rows.old) }
 {
     let columns = rows.len();
     for p in 0..columns {
@@ -205,8 +210,9 @@ pub(crate) fn put_in(
     ghost rank: { ℕ }
     requires place { q < length rows.old }
     requires size { length row.items ≡ 2 * length rows.old }
-    requires reduced { IsReduced (echelon (length rows.old) (length right.items) rank (lists_of rows.old) (lists_of rights.old)) }
-    ensures { PutAt q row.items right.items (lists_of rows.old) (lists_of rights.old) (lists_of rows.new) (lists_of rights.new) }
+    requires reduced { IsReduced (echelon_of (length right.items) rank rows.old rights.old) }
+    ensures { PutAt q row.items right.items (lists_of rows.old) (lists_of rights.old)
+        (lists_of rows.new) (lists_of rights.new) }
 {
     clear(gf, rows, rights, q, &row, &right);
     fit_bytes(&row);

@@ -29,15 +29,14 @@ pub struct System {
 }
 
 impl Model for System {
-    ghost use Rattle.std.specs.Prelude.{length};
     ghost use Rattle.par2_matrix.specs.Systems.{Equations};
-    ghost use Rattle.par2_matrix.specs.Echelon.{IsReduced, echelon, system_of, lists_of};
+    ghost use Rattle.par2_matrix.specs.Echelon.{IsReduced, echelon_of, system_of};
 
     ghost Value = { Equations };
 
-    ghost view = { λ a. system_of (echelon (length a.rows.items) a.bytes a.rank (lists_of a.rows.items) (lists_of a.rights.items)) };
+    ghost view = { λ a. system_of (echelon_of a.bytes a.rank a.rows.items a.rights.items) };
 
-    ghost invariant = { λ a. IsReduced (echelon (length a.rows.items) a.bytes a.rank (lists_of a.rows.items) (lists_of a.rights.items)) };
+    ghost invariant = { λ a. IsReduced (echelon_of a.bytes a.rank a.rows.items a.rights.items) };
 }
 
 impl System {

@@ -1,22 +1,28 @@
-use Rattle.std.proofs.Common.{◌≡◌, ◌<◌, ◌+◌, length, arith, rules, refl, sym, ap, ◌∙◌, subst}
+use Rattle.std.proofs.Common.{◌≡◌, ◌<◌, ◌+◌, ℕ, List, length, arith, rules, refl, sym, ap, ◌∙◌, subst}
 use Rattle.std.specs.Vec.{with_items}
 use Rattle.std.proofs.lemmas.List.{with_items_is}
 use Rattle.par2_matrix.specs.Systems.{Equations, CutDown, IsIndependent, IsDependent}
-use Rattle.par2_matrix.specs.Echelon.{echelon, IsReduced, lists_of, system_of}
+use Rattle.par2_matrix.specs.Echelon.{echelon, echelon_of, IsReduced, lists_of, system_of}
 use Rattle.par2_matrix.proofs.Words.{length-lists_of}
 use Rattle.par2_matrix.proofs.Offering.{IsTaken, offered}
 use Rattle.par2_matrix.proofs.Promises.{cuts, tells, follows}
 use Rattle.par2_matrix.proofs.system.System.offer.Goals as goal
 
+-- the rows and the right sides after the equation was put in
+abbrev new_rows : goal.After-self-3-1 → List (List ℕ)
+new_rows c = lists_of (with_items c.self.inside.rows c.put_in.new.rows).items
+
+abbrev new_rights : goal.After-self-3-1 → List (List ℕ)
+new_rights c = lists_of (with_items c.self.inside.rights c.put_in.new.rights).items
+
 columns_are : (c : goal.After-self-3-1) → length c.args.row.now ≡ length c.self.inside.rows.items
 columns_are c = search (rules, (ap (λ (e : Equations). e.columns) c.self.view_is))
 
-taken : (c : goal.After-self-3-1) → IsTaken (length c.self.inside.rows.items) c.self.inside.bytes c.self.inside.rank c.in_ok-row.row.items c.args.right.items
-    (lists_of c.self.inside.rows.items) (lists_of c.self.inside.rights.items)
-    (lists_of (with_items c.self.inside.rows c.put_in.new.rows).items) (lists_of (with_items c.self.inside.rights c.put_in.new.rights).items)
+taken : (c : goal.After-self-3-1)
+    → let s = c.self.inside in
+    IsTaken (length s.rows.items) s.bytes s.rank c.in_ok-row.row.items c.args.right.items (lists_of s.rows.items) (lists_of s.rights.items) (new_rows c) (new_rights c)
 taken c =
     let s = c.self.inside in
-    let er : length c.args.row.now ≡ length s.rows.items = search rules in
     let ed : length c.args.right.items ≡ s.bytes = search rules in
     let ea1 : c.as_mut_slice.result.now ≡ c.in_ok-row.row.items = search rules in
     let ea2 : c.as_mut_slice-2.result.now ≡ c.args.right.items = search rules in
@@ -44,17 +50,18 @@ overflow_add-self c =
 pub invariant_of-self : goal.invariant_of-self
 invariant_of-self c =
     let s = c.self.inside in
-    subst (λ n. IsReduced (echelon n s.bytes (s.rank + 1) (lists_of (with_items s.rows c.put_in.new.rows).items) (lists_of (with_items s.rights c.put_in.new.rights).items)))
-    (sym (columns_stay c)) (taken c).reduced
+    subst (λ n. IsReduced (echelon n s.bytes (s.rank + 1) (new_rows c) (new_rights c))) (sym (columns_stay c)) (taken c).reduced
 
 pub returns-clause-kept : goal.returns-clause-kept
 returns-clause-kept c is =
     let s = c.self.inside in
     let t = taken c in
     let size : length c.args.right.items ≡ s.bytes = search (rules, (ap (λ (e : Equations). e.bytes) c.self.view_is)) in
-    subst (λ (old : Equations). CutDown old (system_of (echelon (length (with_items s.rows c.put_in.new.rows).items) s.bytes (s.rank + 1) (lists_of (with_items s.rows c.put_in.new.rows).items) (lists_of (with_items s.rights c.put_in.new.rights).items))) c.args.row.now c.args.right.items) c.self.view_is
-    (subst (λ n. CutDown (system_of (echelon (length s.rows.items) s.bytes s.rank (lists_of s.rows.items) (lists_of s.rights.items))) (system_of (echelon n s.bytes (s.rank + 1) (lists_of (with_items s.rows c.put_in.new.rows).items) (lists_of (with_items s.rights c.put_in.new.rights).items))) c.args.row.now c.args.right.items) (sym (columns_stay c))
-    (cuts _ _ c.self.invariant t.reduced c.args.row.now c.in_ok-row.row.items c.args.right.items c.in_ok-row.ensures (columns_are c) t.row_bytes size t.right_bytes refl refl refl t.cut))
+    let new : ℕ → Equations = λ n. system_of (echelon n s.bytes (s.rank + 1) (new_rows c) (new_rights c)) in
+    let cut : CutDown (system_of (echelon_of s.bytes s.rank s.rows.items s.rights.items)) (new (length s.rows.items)) c.args.row.now c.args.right.items =
+    cuts _ _ c.self.invariant t.reduced c.args.row.now c.in_ok-row.row.items c.args.right.items c.in_ok-row.ensures (columns_are c) t.row_bytes size t.right_bytes refl refl refl t.cut in
+    subst (λ (old : Equations). CutDown old (new (length (with_items s.rows c.put_in.new.rows).items)) c.args.row.now c.args.right.items) c.self.view_is
+    (subst (λ n. CutDown (system_of (echelon_of s.bytes s.rank s.rows.items s.rights.items)) (new n) c.args.row.now c.args.right.items) (sym (columns_stay c)) cut)
 
 pub returns-clause-independent : goal.returns-clause-independent
 returns-clause-independent c is =
