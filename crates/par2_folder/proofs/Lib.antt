@@ -1,3 +1,4 @@
 pub mod Texts
 pub mod Sorted
 pub mod Lists
+pub mod Steps

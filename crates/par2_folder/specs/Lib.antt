@@ -1,2 +1,4 @@
 pub mod View
 pub mod Views
+pub mod Memory
+pub mod Disk

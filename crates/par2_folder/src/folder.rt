@@ -45,6 +45,11 @@ impl Folder {
         }
     }
 
+    // How many files there are.
+    pub(crate) fn len(&self) -> usize {
+        self.files.len()
+    }
+
     /// How many files can be written without asking for memory.
     pub fn vacant(&self) -> usize
         ensures vacant { result ≡ self.now.vacant }

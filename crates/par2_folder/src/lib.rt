@@ -3,12 +3,21 @@
 
 mod bytes;
 mod change;
+mod disk;
+mod failures;
 mod folder;
+mod memory;
 mod name;
 mod place;
+mod reading;
+mod store;
 
 pub use bytes::Bytes;
 pub use change::Change;
+pub use disk::DiskStore;
+pub use failures::Failures;
 pub use folder::Folder;
+pub use memory::MemoryStore;
 pub use name::{BadName, Name};
 pub use par2_spec::ChangeFault;
+pub use store::{FolderStore, ReadFault, StoreFault};

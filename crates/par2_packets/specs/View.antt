@@ -1,7 +1,11 @@
 -- What the types of this crate say, without where they lie in memory.
-use Rattle.std.specs.Prelude.{string_bytes}
+use Rattle.std.specs.Prelude.{ℕ, List, string_bytes}
+use Rattle.std.specs.Int.{w128, from_le_bytes}
+use Rattle.par2_spec.specs.Packets as packets
 use Rattle.par2_spec.specs.Volumes as volumes
 use Rattle.par2_packets.specs.declared.record.FileRecord.{FileRecord}
+use Rattle.par2_packets.specs.declared.scan.Packet.{Packet}
+use Rattle.par2_packets.specs.declared.scan.Packets.{Packets}
 
 -- what a record says of a file
 abbrev pub file_record_of : FileRecord → volumes.FileRecord
@@ -13,3 +17,15 @@ file_record_of file = record {
   name = string_bytes file.name;
   pairs = file.pairs.items;
 }
+
+-- the File ID as a little-endian number
+abbrev pub id_number : FileRecord → ℕ
+id_number file = from_le_bytes w128 file.id
+
+-- a packet
+abbrev pub packet_of : Packet → packets.Packet
+packet_of p = record { set_id = p.set_id; kind = p.kind; body = p.body.now }
+
+-- the packets that an iterator has left
+abbrev pub packets_of : Packets → List packets.Packet
+packets_of p = packets.accepted p.rest.now

@@ -5,24 +5,11 @@ ghost use Rattle.par2_spec.specs.Packets as packets;
 ghost use Rattle.par2_spec.specs.Volumes as volumes;
 ghost use Rattle.par2_packets.specs.View.{file_record_of};
 
+use crate::kind::type_of;
 use crate::record::FileRecord;
 use md5::{Digest, Md5};
 use par2_spec::Kind;
 use std::alloc::{AllocError, Global};
-
-// The sixteen bytes of a type.
-fn type_of(kind: Kind) -> [u8; 16]
-    ensures { result ≡ packets.type_of kind }
-{
-    match kind {
-        Kind::Main => *b"PAR 2.0\0Main\0\0\0\0",
-        Kind::FileDesc => *b"PAR 2.0\0FileDesc",
-        Kind::Ifsc => *b"PAR 2.0\0IFSC\0\0\0\0",
-        Kind::Recovery => *b"PAR 2.0\0RecvSlic",
-        Kind::Creator => *b"PAR 2.0\0Creator\0",
-        Kind::Other(bytes) => bytes,
-    }
-}
 
 // The packet whose body is given in two parts.
 fn append_packet(

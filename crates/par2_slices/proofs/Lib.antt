@@ -1,3 +1,5 @@
 pub mod Entries
 pub mod Bytes
 pub mod Padding
+pub mod Shifts
+pub mod Sliding

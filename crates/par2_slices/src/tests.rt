@@ -10,6 +10,11 @@ fn checksums_and_rolling(rt: HostRuntime) {
         0x1f,
     ];
     assert!(rt; padded_md5(b"abcd", 4) == digest);
+    let mut rolling = Rolling::new(rt.alloc(), 4).expect(&rt, "memory");
+    rolling.start(b"abcd");
+    assert!(rt; rolling.value() == 0xed82_cd11);
+    rolling.slide(b'a', b'e');
+    assert!(rt; rolling.value() == crc32(b"bcde"));
 }
 
 #[test]
@@ -23,4 +28,17 @@ fn slices_of_a_file(rt: HostRuntime) {
     assert!(rt; slice == *b"abcd");
     slice_into(b"abcdef", 4, 1, &mut slice);
     assert!(rt; slice == *b"ef\0\0");
+}
+
+#[test]
+fn checksums_with_padding(rt: HostRuntime) {
+    assert!(rt; padded_crc32(b"ab", 4) == crc32(b"ab\0\0"));
+    assert!(rt; padded_crc32(b"", 0) == 0);
+    assert!(rt; padded_md5(b"ab", 4) == padded_md5(b"ab\0\0", 4));
+    let mut rolling = Rolling::new(rt.alloc(), 1 << 30).expect(&rt, "memory");
+    rolling.start(b"ab");
+    let whole = rolling.value();
+    rolling.slide(b'a', 0);
+    assert!(rt; rolling.value() == padded_crc32(b"b", 1 << 30));
+    assert!(rt; rolling.value() != whole);
 }

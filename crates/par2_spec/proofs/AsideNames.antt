@@ -102,3 +102,6 @@ aside_is_name folder set name few h short =
     let r = aside_is folder set name few in
     let low : r.0 < 1 + (length (taken_for folder set) + 1) = r.1.below in
     subst (λ x. is_name x ≡ true) (sym r.2) (numbered_is_name name r.0 (omega (arith, low, few)) h (subst (λ x. length x ≤ 255) r.2 short))
+
+pub name_is_short : (name : List ℕ) → is_name name ≡ true → nat_le (length name) 255 ≡ true
+name_is_short name h = (tests_of name h).short

@@ -1,12 +1,12 @@
--- What one turn of the loops does.
-use Rattle.std.proofs.Common.{ℕ, zero, suc, ◌+◌, ◌*◌, ◌/◌, ◌%◌, ◌^◌, ◌<◌, ◌≤◌, ◌≡◌, refl, sym, ap, ap₂, ◌∙◌, subst, arith, zero-mul, mul_comm, zero-add}
-use Rattle.std.proofs.lemmas.Nat.{xor_comm, xor_block}
+-- A doubling as a shift of sixteen bits, and powers of powers.
+use Rattle.std.proofs.Common.{ℕ, zero, suc, ◌+◌, ◌*◌, ◌%◌, ◌^◌, ◌<◌, ◌≤◌, ◌≡◌, refl, sym, ap, ◌∙◌, arith, zero-mul, mul_comm, zero-add}
+use Rattle.std.proofs.lemmas.Nat.{xor_block}
 use Rattle.std.specs.Int.{bit_at}
 use Rattle.std.specs.Int.RustNames.{bit_xor}
-use Rattle.std.specs.Int.Bits.{xor_zero_r, xor_shifted}
+use Rattle.std.specs.Int.Bits.{xor_zero_r}
 use Rattle.par2_spec.specs.Field.{modulus, mul, pow}
-use Rattle.par2_spec.proofs.FieldProducts.{product-lt, product_comm, product-one, product_assoc, product_linear_right}
-use Rattle.par2_spec.proofs.FieldOrder.{double, double_product, power-lt, power-add, power-65535, logarithm, product-zero}
+use Rattle.par2_spec.proofs.FieldProducts.{product-one}
+use Rattle.par2_spec.proofs.FieldOrder.{double, power-add, power-65535, logarithm}
 
 -- doubling as the code does it
 pub double_low : (x : ℕ) → x < 32768 → double x ≡ x * 2
@@ -24,38 +24,6 @@ double_high x h k =
     ∙ ap (λ v. bit_xor v modulus) e
     ∙ xor_block 16 1 1 (x * 2 % 65536) 4107 (omega arith) (omega arith)
     ∙ zero-add _
-
--- a bit of b, taken off: the rest goes with the double of a
-pub product_halved : (a b : ℕ) → a < 65536 → b < 65536 → mul a b ≡ bit_xor (mul a (b % 2)) (mul (double a) (b / 2))
-product_halved a b ha hb =
-    let half : b / 2 < 32768 = omega arith in
-    let parts : bit_xor (b / 2 * 2 ^ 1) (b % 2) ≡ b = xor_shifted (b / 2) 1 (b % 2) (omega arith) ∙ omega arith in
-    ap (mul a) (sym parts)
-    ∙ (product_linear_right a).on_xor (b / 2 * 2) (b % 2)
-    ∙ xor_comm (mul a (b / 2 * 2)) (mul a (b % 2))
-    ∙ ap (bit_xor (mul a (b % 2)))
-    (ap (mul a) (sym (double_low (b / 2) half) ∙ double_product (b / 2) (omega arith))
-    ∙ sym (product_assoc a 2 (b / 2) ha (omega arith) (omega arith))
-    ∙ ap (λ v. mul v (b / 2)) (product_comm a 2 ha (omega arith) ∙ sym (double_product a ha)))
-
-pub product_even : (a b : ℕ) → a < 65536 → b < 65536 → b % 2 ≡ 0 → mul a b ≡ mul (double a) (b / 2)
-product_even a b ha hb e = product_halved a b ha hb ∙ ap₂ bit_xor (ap (mul a) e ∙ product-zero a) refl
-
-pub product_odd : (a b : ℕ) → a < 65536 → b < 65536 → b % 2 ≡ 1 → mul a b ≡ bit_xor a (mul (double a) (b / 2))
-product_odd a b ha hb e = product_halved a b ha hb ∙ ap₂ bit_xor (ap (mul a) e ∙ product-one a ha) refl
-
-pub double-lt : (x : ℕ) → x < 65536 → double x < 65536
-double-lt x h = subst (λ v. v < 65536) (sym (double_product x h)) (product-lt 2 x (omega arith) h)
-
--- ---- powers
-
-pub power_square : (a n : ℕ) → a < 65536 → pow (mul a a) n ≡ pow a (n * 2)
-unfolding pow
-power_square a zero h = refl
-power_square a (suc n) h =
-    ap (mul (mul a a)) (power_square a n h)
-    ∙ product_assoc a a (pow a (n * 2)) h h (power-lt a (n * 2) h)
-    ∙ sym (ap (pow a) (let e : suc n * 2 ≡ suc (suc (n * 2)) = omega arith in e))
 
 pub power-mul : (a m n : ℕ) → a < 65536 → pow (pow a m) n ≡ pow a (n * m)
 unfolding pow

@@ -1,15 +1,38 @@
--- A change and its inverse.
-use Rattle.std.proofs.Common.{◌≡◌, ℕ, List, [], ◌∷◌, ◌++◌, refl, sym, ap, ◌∙◌, T, cond, true, false, Bool, not, ◌&&◌}
-use Rattle.std.specs.Prelude.{unwrap_or, Some, None, Option, is_some}
+-- A change and its inverse; changes in order and their way back; the same for a folder as it is kept.
+use Rattle.std.proofs.Common.{◌≡◌, ℕ, ◌+◌, ◌-◌, ◌<◌, ◌≤◌, List, [], ◌∷◌, ◌++◌, refl, sym, ap, subst, ◌∙◌, cond, true, false, Bool, not, ◌&&◌, IsTrue, nat_lt, append_assoc, append-nil, arith}
+use Rattle.std.specs.Prelude.{unwrap_or, Some, None, Option, is_some, is_none}
 use Rattle.std.specs.FinMap as map_of
-use Rattle.std.specs.FinMap.{same_map, slice_cmp-IsAntisymmetric, nat_cmp-IsAntisymmetric, get-insert, get-remove, get_tied, get-from_sorted, get-empty}
+use Rattle.std.specs.FinMap.{same_map, slice_cmp-IsAntisymmetric, nat_cmp-IsAntisymmetric, get-insert, get-remove, get_tied}
 use Rattle.std.specs.Ordering.{nat_cmp, eq_by_cmp, is_eq}
 use Rattle.std.specs.declared.cmp.Ordering.{Ordering}
 use Rattle.std.specs.declared.cmp.Ordering.TheVariants.{Less, Equal, Greater}
 use Rattle.std.specs.Cmp.{eq_by_cmp_equiv}
 use Rattle.std.specs.Cmp.Lexicographic.{slice_cmp, nat_list_cmp_total}
+use Rattle.std.proofs.lemmas.Bool.Decides.{nat_tests}
 use Rattle.par2_spec.specs.Folders.{Folder, has, bytes_of}
-use Rattle.par2_spec.specs.Changes.{Change, Write, Replace, Rename, Remove, effect, inverse, is_applicable, effects, way_back, are_applicable}
+use Rattle.par2_spec.specs.Changes.{Change, Write, Replace, Rename, Remove, effect, inverse, is_applicable, effects, way_back, are_applicable, FolderState, fault_unless, change_refusal, vacant_after, state_after, takes_all, state_after_all, places_taken}
+use Rattle.par2_spec.specs.declared.ChangeFault.{ChangeFault}
+use Rattle.par2_spec.specs.declared.ChangeFault.TheVariants.{NameTaken, NoRoom, NoSuchName}
+
+-- ---- tests
+
+pub both_first : (a b : Bool) → IsTrue (a && b) → IsTrue a
+both_first true b h = refl
+both_first false b h = h
+
+pub both_second : (a b : Bool) → IsTrue (a && b) → IsTrue b
+both_second true b h = h
+both_second false b h = cc
+
+pub both_true : (a b : Bool) → IsTrue a → IsTrue b → IsTrue (a && b)
+both_true true b p q = q
+both_true false b p q = p
+
+is_off : (b : Bool) → IsTrue (not b) → b ≡ false
+is_off true h = cc
+is_off false h = refl
+
+-- ---- what a changed folder has under a name
 
 -- two folders that answer alike are equal
 pub same_folder : (f g : Folder) → ((q : List ℕ) → map_of.get f q ≡ map_of.get g q) → f ≡ g
@@ -18,89 +41,342 @@ same_folder f g is = same_map nat_list_cmp_total (slice_cmp-IsAntisymmetric nat_
 abbrev same : List ℕ → List ℕ → Bool
 same q n = eq_by_cmp (slice_cmp nat_cmp) q n
 
--- equal names have equal answers
-equal_by : (o : Ordering) → T (is_eq o) → o ≡ Equal
-equal_by Less p = absurd p
-equal_by Equal p = refl
-equal_by Greater p = absurd p
+itself : (n : List ℕ) → same n n ≡ true
+itself n = (eq_by_cmp_equiv nat_list_cmp_total).refl n
 
-tied : (f : Folder) (q n : List ℕ) → T (same q n) → map_of.get f q ≡ map_of.get f n
+equal_by : (o : Ordering) → IsTrue (is_eq o) → o ≡ Equal
+equal_by Less p = cc
+equal_by Equal p = refl
+equal_by Greater p = cc
+
+tied : (f : Folder) (q n : List ℕ) → IsTrue (same q n) → map_of.get f q ≡ map_of.get f n
 tied f q n t = sym (get_tied nat_list_cmp_total f q n (equal_by _ t))
 
-written : (f : Folder) (n b q : List ℕ) → map_of.get (map_of.insert f n b) q ≡ cond (same q n) (Some b) (map_of.get f q)
+pub written : (f : Folder) (n b q : List ℕ) → map_of.get (map_of.insert f n b) q ≡ cond (same q n) (Some b) (map_of.get f q)
 written f n b q = get-insert nat_list_cmp_total f n b q
 
-removed : (f : Folder) (n q : List ℕ) → map_of.get (map_of.remove f n) q ≡ cond (same q n) None (map_of.get f q)
-removed f n q = get-remove nat_list_cmp_total f n q
+pub gone : (f : Folder) (n q : List ℕ) → map_of.get (map_of.remove f n) q ≡ cond (same q n) None (map_of.get f q)
+gone f n q = get-remove nat_list_cmp_total f n q
 
-absent : (o : Option (List ℕ)) → T (not (is_some o)) → o ≡ None
+absent : (o : Option (List ℕ)) → IsTrue (not (is_some o)) → o ≡ None
 absent None h = refl
-absent (Some x) h = absurd h
+absent (Some x) h = cc
 
-present : (o : Option (List ℕ)) → T (is_some o) → o ≡ Some (unwrap_or o [])
-present None h = absurd h
+present : (o : Option (List ℕ)) → IsTrue (is_some o) → o ≡ Some (unwrap_or o [])
+present None h = cc
 present (Some x) h = refl
 
-off : (b : Bool) (x : List ℕ) (g : Option (List ℕ)) → (T b → g ≡ None) → cond b None (cond b (Some x) g) ≡ g
-off true x g h = sym (h tt)
-off false x g h = refl
+here : (f : Folder) (n x : List ℕ) → map_of.get (map_of.insert f n x) n ≡ Some x
+here f n x = written f n x n ∙ ap (λ t. cond t (Some x) (map_of.get f n)) (itself n)
 
-back : (b : Bool) (o : Option (List ℕ)) (x : List ℕ) (g : Option (List ℕ)) → (T b → g ≡ Some x) → (b ≡ b) → cond b (Some x) (cond b o g) ≡ g
-back true o x g h e = sym (h tt)
-back false o x g h e = refl
-
-pub undo_Write : (f : Folder) (n b : List ℕ) → T (not (has f n)) → map_of.remove (map_of.insert f n b) n ≡ f
-undo_Write f n b h = same_folder _ _ (λ q. removed _ n q ∙ ap (cond (same q n) None) (written f n b q) ∙ off (same q n) b _ (λ t. tied f q n t ∙ absent _ h))
-
-pub undo_Remove : (f : Folder) (n : List ℕ) → T (has f n) → map_of.insert (map_of.remove f n) n (bytes_of f n) ≡ f
-undo_Remove f n h = same_folder _ _ (λ q. written _ n _ q ∙ ap (cond (same q n) (Some (bytes_of f n))) (removed f n q) ∙ back (same q n) None _ _ (λ t. tied f q n t ∙ present _ h) refl)
-
-pub undo_Replace : (f : Folder) (n b : List ℕ) → T (has f n) → map_of.insert (map_of.insert f n b) n (bytes_of f n) ≡ f
-undo_Replace f n b h = same_folder _ _ (λ q. written _ n _ q ∙ ap (cond (same q n) (Some (bytes_of f n))) (written f n b q) ∙ back (same q n) (Some b) _ _ (λ t. tied f q n t ∙ present _ h) refl)
-
-moved : (a b : Bool) (x y : List ℕ) (g : Option (List ℕ)) → y ≡ x → (T a → g ≡ Some x) → (T b → g ≡ None) → cond a (Some y) (cond b None (cond b (Some x) (cond a None g))) ≡ g
-moved true b x y g e h k = ap Some e ∙ sym (h tt)
-moved false true x y g e h k = sym (k tt)
-moved false false x y g e h k = refl
+nowhere : (f : Folder) (n : List ℕ) → map_of.get (map_of.remove f n) n ≡ None
+nowhere f n = gone f n n ∙ ap (λ t. cond t None (map_of.get f n)) (itself n)
 
 landed : (f : Folder) (n x : List ℕ) → bytes_of (map_of.insert f n x) n ≡ x
-landed f n x = ap (λ o. unwrap_or o []) (written f n x n ∙ ap (λ t. cond t (Some x) (map_of.get f n)) ((eq_by_cmp_equiv nat_list_cmp_total).refl n))
+landed f n x = ap (λ o. unwrap_or o []) (here f n x)
 
-pub undo_Rename : (f : Folder) (a b : List ℕ) → T (has f a) → T (not (has f b)) → effect (effect f (Rename a b)) (Rename b a) ≡ f
+-- ---- one change
+
+off : (b : Bool) (x : List ℕ) (g : Option (List ℕ)) → (IsTrue b → g ≡ None) → cond b None (cond b (Some x) g) ≡ g
+off true x g h = sym (h refl)
+off false x g h = refl
+
+back : (b : Bool) (o : Option (List ℕ)) (x : List ℕ) (g : Option (List ℕ)) → (IsTrue b → g ≡ Some x) → cond b (Some x) (cond b o g) ≡ g
+back true o x g h = sym (h refl)
+back false o x g h = refl
+
+moved : (a b : Bool) (x y : List ℕ) (g : Option (List ℕ)) → y ≡ x → (IsTrue a → g ≡ Some x) → (IsTrue b → g ≡ None) → cond a (Some y) (cond b None (cond b (Some x) (cond a None g))) ≡ g
+moved true b x y g e h k = ap Some e ∙ sym (h refl)
+moved false true x y g e h k = sym (k refl)
+moved false false x y g e h k = refl
+
+undo_Write : (f : Folder) (n b : List ℕ) → IsTrue (not (has f n)) → map_of.remove (map_of.insert f n b) n ≡ f
+undo_Write f n b h = same_folder _ _ (λ q. gone _ n q ∙ ap (cond (same q n) None) (written f n b q) ∙ off (same q n) b _ (λ t. tied f q n t ∙ absent _ h))
+
+undo_Remove : (f : Folder) (n : List ℕ) → IsTrue (has f n) → map_of.insert (map_of.remove f n) n (bytes_of f n) ≡ f
+undo_Remove f n h = same_folder _ _ (λ q. written _ n _ q ∙ ap (cond (same q n) (Some (bytes_of f n))) (gone f n q) ∙ back (same q n) None _ _ (λ t. tied f q n t ∙ present _ h))
+
+undo_Replace : (f : Folder) (n b : List ℕ) → IsTrue (has f n) → map_of.insert (map_of.insert f n b) n (bytes_of f n) ≡ f
+undo_Replace f n b h = same_folder _ _ (λ q. written _ n _ q ∙ ap (cond (same q n) (Some (bytes_of f n))) (written f n b q) ∙ back (same q n) (Some b) _ _ (λ t. tied f q n t ∙ present _ h))
+
+undo_Rename : (f : Folder) (a b : List ℕ) → IsTrue (has f a) → IsTrue (not (has f b)) → effect (effect f (Rename a b)) (Rename b a) ≡ f
 unfolding effect
 undo_Rename f a b h k = same_folder _ _ (λ q.
-    written _ a _ q ∙ ap (cond (same q a) (Some _)) (removed _ b q ∙ ap (cond (same q b) None) (written _ b _ q ∙ ap (cond (same q b) (Some _)) (removed f a q)))
+    written _ a _ q ∙ ap (cond (same q a) (Some _)) (gone _ b q ∙ ap (cond (same q b) None) (written _ b _ q ∙ ap (cond (same q b) (Some _)) (gone f a q)))
     ∙ moved (same q a) (same q b) _ _ _ (landed _ b _) (λ t. tied f q a t ∙ present _ h) (λ t. tied f q b t ∙ absent _ k))
 
-first : (a b : Bool) → T (a && b) → T a
-first true b h = tt
-first false b h = absurd h
-
-second : (a b : Bool) → T (a && b) → T b
-second true b h = h
-second false b h = absurd h
-
--- what the inverse of a change undoes
-pub undo_change : (f : Folder) (c : Change) → T (is_applicable f c) → effect (effect f c) (inverse f c) ≡ f
+pub undo_change : (f : Folder) (c : Change) → IsTrue (is_applicable f c) → effect (effect f c) (inverse f c) ≡ f
 unfolding effect inverse is_applicable
 undo_change f (Write n b) h = undo_Write f n b h
 undo_change f (Replace n b) h = undo_Replace f n b h
-undo_change f (Rename a b) h = unfold effect in undo_Rename f a b (first _ _ h) (second _ _ h)
+undo_change f (Rename a b) h = unfold effect in undo_Rename f a b (both_first _ _ h) (both_second _ _ h)
 undo_change f (Remove n) h = undo_Remove f n h
+
+-- a name that is there and one that is not are two
+two_names : (f : Folder) (a b : List ℕ) → IsTrue (has f a) → IsTrue (not (has f b)) → same a b ≡ false
+two_names f a b h k = split (same a b) refl
+  where
+    split : (t : Bool) → same a b ≡ t → t ≡ false
+    split true e = let p : map_of.get f a ≡ map_of.get f b = tied f a b e in let there = present _ h in let missing = absent _ k in cc
+    split false e = refl
+
+-- after a rename the old name is free
+left_behind : (f : Folder) (a b : List ℕ) → IsTrue (has f a) → IsTrue (not (has f b)) → map_of.get (map_of.insert (map_of.remove f a) b (bytes_of f a)) a ≡ None
+left_behind f a b h k = written (map_of.remove f a) b _ a ∙ ap (λ t. cond t (Some (bytes_of f a)) (map_of.get (map_of.remove f a) a)) (two_names f a b h k) ∙ nowhere f a
+
+pub undo_is_applicable : (f : Folder) (c : Change) → IsTrue (is_applicable f c) → IsTrue (is_applicable (effect f c) (inverse f c))
+unfolding effect inverse is_applicable
+undo_is_applicable f (Write n b) h = ap is_some (here f n b)
+undo_is_applicable f (Replace n b) h = ap is_some (here f n b)
+undo_is_applicable f (Rename a b) h = both_true _ _ (ap is_some (here _ b _)) (ap (λ o. not (is_some o)) (left_behind f a b (both_first _ _ h) (both_second _ _ h)))
+undo_is_applicable f (Remove n) h = ap (λ o. not (is_some o)) (nowhere f n)
+
+pub inverse_twice : (f : Folder) (c : Change) → inverse (effect f c) (inverse f c) ≡ c
+unfolding effect inverse
+inverse_twice f (Write n b) = ap (Write n) (landed f n b)
+inverse_twice f (Replace n b) = ap (Replace n) (landed f n b)
+inverse_twice f (Rename a b) = refl
+inverse_twice f (Remove n) = refl
+
+-- ---- changes in order
 
 pub effects-append : (f : Folder) (cs ds : List Change) → effects f (cs ++ ds) ≡ effects (effects f cs) ds
 unfolding effects
 effects-append f [] ds = refl
 effects-append f (c ∷ cs) ds = effects-append (effect f c) cs ds
 
--- the way back gives the folder back
-pub undo_changes : (f : Folder) (cs : List Change) → T (are_applicable f cs) → effects (effects f cs) (way_back f cs) ≡ f
+pub are_applicable-append : (f : Folder) (cs ds : List Change) → IsTrue (are_applicable f cs) → IsTrue (are_applicable (effects f cs) ds) → IsTrue (are_applicable f (cs ++ ds))
+unfolding effects are_applicable
+are_applicable-append f [] ds h k = k
+are_applicable-append f (c ∷ cs) ds h k = both_true _ _ (both_first _ _ h) (are_applicable-append (effect f c) cs ds (both_second _ _ h) k)
+
+pub way_back-append : (f : Folder) (cs ds : List Change) → way_back f (cs ++ ds) ≡ way_back (effects f cs) ds ++ way_back f cs
+unfolding effects way_back
+way_back-append f [] ds = sym (append-nil (way_back f ds))
+way_back-append f (c ∷ cs) ds = ap (λ l. l ++ inverse f c ∷ []) (way_back-append (effect f c) cs ds) ∙ append_assoc (way_back (effects (effect f c) cs) ds) (way_back (effect f c) cs) (inverse f c ∷ [])
+
+pub undo_changes : (f : Folder) (cs : List Change) → IsTrue (are_applicable f cs) → effects (effects f cs) (way_back f cs) ≡ f
 unfolding effects way_back are_applicable
 undo_changes f [] h = refl
 undo_changes f (c ∷ cs) h =
     effects-append _ (way_back (effect f c) cs) (inverse f c ∷ [])
-    ∙ ap (λ g. effect g (inverse f c)) (undo_changes (effect f c) cs (second _ _ h)) ∙ undo_change f c (first _ _ h)
+    ∙ ap (λ g. effect g (inverse f c)) (undo_changes (effect f c) cs (both_second _ _ h)) ∙ undo_change f c (both_first _ _ h)
 
--- a list without entries is the empty folder
-pub no_files : (es : List (List ℕ × List ℕ)) → es ≡ [] → map_of.from_sorted {R = slice_cmp nat_cmp} es ≡ map_of.empty
-no_files es e = rw e (same_folder _ _ (λ q. get-from_sorted _ [] q tt ∙ sym (get-empty _ q)))
+one_applicable : (f : Folder) (c : Change) → IsTrue (is_applicable f c) → IsTrue (are_applicable f (c ∷ []))
+unfolding are_applicable
+one_applicable f c h = both_true _ _ h refl
+
+pub undo_are_applicable : (f : Folder) (cs : List Change) → IsTrue (are_applicable f cs) → IsTrue (are_applicable (effects f cs) (way_back f cs))
+unfolding effects way_back are_applicable
+undo_are_applicable f [] h = refl
+undo_are_applicable f (c ∷ cs) h =
+    let rest = both_second (is_applicable f c) (are_applicable (effect f c) cs) h in
+    let end = effects (effect f c) cs in
+    are_applicable-append end (way_back (effect f c) cs) (inverse f c ∷ []) (undo_are_applicable (effect f c) cs rest)
+    (subst (λ g. IsTrue (are_applicable g (inverse f c ∷ []))) (sym (undo_changes (effect f c) cs rest)) (one_applicable (effect f c) (inverse f c) (undo_is_applicable f c (both_first _ _ h))))
+
+pub way_back_twice : (f : Folder) (cs : List Change) → IsTrue (are_applicable f cs) → way_back (effects f cs) (way_back f cs) ≡ cs
+unfolding effects way_back are_applicable
+way_back_twice f [] h = refl
+way_back_twice f (c ∷ cs) h =
+    let rest = both_second (is_applicable f c) (are_applicable (effect f c) cs) h in
+    let home = way_back (effect f c) cs in
+    let end = effects (effect f c) cs in
+    way_back-append end home (inverse f c ∷ [])
+    ∙ ap (λ g. inverse g (inverse f c) ∷ way_back end home) (undo_changes (effect f c) cs rest)
+    ∙ ap (λ d. d ∷ way_back end home) (inverse_twice f c)
+    ∙ ap (λ l. c ∷ l) (way_back_twice (effect f c) cs rest)
+
+-- ---- whether changes apply is a matter of the names alone
+
+either_way : (t : Bool) (b c : List ℕ) (g h : Option (List ℕ)) → is_some g ≡ is_some h → is_some (cond t (Some b) g) ≡ is_some (cond t (Some c) h)
+either_way true b c g h e = refl
+either_way false b c g h e = e
+
+neither_way : (t : Bool) (g h : Option (List ℕ)) → is_some g ≡ is_some h → is_some (cond t None g) ≡ is_some (cond t None h)
+neither_way true g h e = refl
+neither_way false g h e = e
+
+AreAlike : Folder → Folder → Type 0
+AreAlike f g = (q : List ℕ) → has f q ≡ has g q
+
+alike_written : (f g : Folder) (n b c : List ℕ) → AreAlike f g → AreAlike (map_of.insert f n b) (map_of.insert g n c)
+unfolding AreAlike
+alike_written f g n b c h q = ap is_some (written f n b q) ∙ either_way (same q n) b c _ _ (h q) ∙ ap is_some (sym (written g n c q))
+
+alike_gone : (f g : Folder) (n : List ℕ) → AreAlike f g → AreAlike (map_of.remove f n) (map_of.remove g n)
+unfolding AreAlike
+alike_gone f g n h q = ap is_some (gone f n q) ∙ neither_way (same q n) _ _ (h q) ∙ ap is_some (sym (gone g n q))
+
+alike_after : (f g : Folder) (c : Change) → AreAlike f g → AreAlike (effect f c) (effect g c)
+unfolding effect
+alike_after f g (Write n b) h = alike_written f g n b b h
+alike_after f g (Replace n b) h = alike_written f g n b b h
+alike_after f g (Rename a b) h = alike_written _ _ b _ _ (alike_gone f g a h)
+alike_after f g (Remove n) h = alike_gone f g n h
+
+alike_applicable : (f g : Folder) (c : Change) → AreAlike f g → is_applicable f c ≡ is_applicable g c
+unfolding is_applicable AreAlike
+alike_applicable f g (Write n b) h = ap not (h n)
+alike_applicable f g (Replace n b) h = h n
+alike_applicable f g (Rename a b) h = λ i. h a i && not (h b i)
+alike_applicable f g (Remove n) h = h n
+
+alike_all : (f g : Folder) (cs : List Change) → AreAlike f g → are_applicable f cs ≡ are_applicable g cs
+unfolding are_applicable
+alike_all f g [] h = refl
+alike_all f g (c ∷ cs) h = λ i. alike_applicable f g c h i && alike_all (effect f c) (effect g c) cs (alike_after f g c h) i
+
+pub applicable_by_names : (f g : Folder) (cs : List Change) → ((q : List ℕ) → has f q ≡ has g q) → are_applicable f cs ≡ are_applicable g cs
+unfolding AreAlike
+applicable_by_names f g cs h = alike_all f g cs h
+
+-- ---- a kept folder
+
+not_refused : (b : Bool) (x : ChangeFault) (o : Option ChangeFault) → fault_unless b x o ≡ None → IsTrue b × (o ≡ None)
+not_refused true x o h = (refl, h)
+not_refused false x o h = cc
+
+pub taken_is_applicable : (s : FolderState) (c : Change) → change_refusal s c ≡ None → IsTrue (is_applicable s.files c)
+unfolding change_refusal is_applicable
+taken_is_applicable s (Write n b) h = (not_refused _ _ _ h).0
+taken_is_applicable s (Replace n b) h = (not_refused _ _ _ h).0
+taken_is_applicable s (Rename a b) h =
+    let from = not_refused (has s.files a) NoSuchName _ h in
+    both_true _ _ from.0 (not_refused (not (has s.files b)) NameTaken None from.1).0
+taken_is_applicable s (Remove n) h = (not_refused _ _ _ h).0
+
+has_room : (n : ℕ) → 0 < n → nat_lt 0 n ≡ true
+has_room n h = grind (arith, nat_tests)
+
+has_place : (n : ℕ) → nat_lt 0 n ≡ true → 0 < n
+has_place n h = grind (arith, nat_tests)
+
+pub taken_with_room : (s : FolderState) (c : Change) → IsTrue (is_applicable s.files c) → 0 < s.vacant → change_refusal s c ≡ None
+unfolding change_refusal is_applicable
+taken_with_room s (Write n b) h room = rw (h, has_room s.vacant room)
+taken_with_room s (Replace n b) h room = rw h
+taken_with_room s (Rename a b) h room = rw (both_first (has s.files a) _ h, both_second (has s.files a) _ h)
+taken_with_room s (Remove n) h room = rw h
+
+-- the inverse of a change that was taken is taken
+pub inverse_taken : (s : FolderState) (c : Change) → change_refusal s c ≡ None → change_refusal (state_after s c) (inverse s.files c) ≡ None
+unfolding change_refusal effect inverse
+inverse_taken s (Write n b) h = rw (here s.files n b)
+inverse_taken s (Replace n b) h = rw (here s.files n b)
+inverse_taken s (Rename a b) h =
+    let from = not_refused (has s.files a) NoSuchName _ h in
+    let to = not_refused (not (has s.files b)) NameTaken None from.1 in
+    rw (here (map_of.remove s.files a) b (bytes_of s.files a), left_behind s.files a b from.0 to.0)
+inverse_taken s (Remove n) h = rw (nowhere s.files n, has_room (s.vacant + 1) (omega arith))
+
+vacant_back : (s : FolderState) (c : Change) → change_refusal s c ≡ None → vacant_after (vacant_after s.vacant c) (inverse s.files c) ≡ s.vacant
+unfolding change_refusal inverse
+vacant_back s (Write n b) h =
+    let name = not_refused (not (has s.files n)) NameTaken _ h in
+    let room = has_place s.vacant (not_refused (nat_lt 0 s.vacant) NoRoom None name.1).0 in
+    omega arith
+vacant_back s (Replace n b) h = refl
+vacant_back s (Rename a b) h = refl
+vacant_back s (Remove n) h = omega arith
+
+pub state_back : (s : FolderState) (c : Change) → change_refusal s c ≡ None → state_after (state_after s c) (inverse s.files c) ≡ s
+state_back s c h = λ i. record { files = undo_change s.files c (taken_is_applicable s c h) i; vacant = vacant_back s c h i }
+
+none_of : (o : Option ChangeFault) → IsTrue (is_none o) → o ≡ None
+none_of None h = refl
+none_of (Some x) h = cc
+
+pub takes_first : (s : FolderState) (c : Change) (cs : List Change) → IsTrue (takes_all s (c ∷ cs)) → change_refusal s c ≡ None
+unfolding takes_all
+takes_first s c cs h = none_of _ (both_first _ _ h)
+
+pub takes_rest : (s : FolderState) (c : Change) (cs : List Change) → IsTrue (takes_all s (c ∷ cs)) → IsTrue (takes_all (state_after s c) cs)
+unfolding takes_all
+takes_rest s c cs h = both_second _ _ h
+
+pub takes_both : (s : FolderState) (c : Change) (cs : List Change) → change_refusal s c ≡ None → IsTrue (takes_all (state_after s c) cs) → IsTrue (takes_all s (c ∷ cs))
+unfolding takes_all
+takes_both s c cs h k = both_true _ _ (ap is_none h) k
+
+takes_none : (s : FolderState) → IsTrue (takes_all s [])
+unfolding takes_all
+takes_none s = refl
+
+pub takes_all-append : (s : FolderState) (cs ds : List Change) → IsTrue (takes_all s cs) → IsTrue (takes_all (state_after_all s cs) ds) → IsTrue (takes_all s (cs ++ ds))
+unfolding state_after_all
+takes_all-append s [] ds h k = k
+takes_all-append s (c ∷ cs) ds h k = takes_both s c (cs ++ ds) (takes_first s c cs h) (takes_all-append (state_after s c) cs ds (takes_rest s c cs h) k)
+
+pub state_after_all-append : (s : FolderState) (cs ds : List Change) → state_after_all s (cs ++ ds) ≡ state_after_all (state_after_all s cs) ds
+unfolding state_after_all
+state_after_all-append s [] ds = refl
+state_after_all-append s (c ∷ cs) ds = state_after_all-append (state_after s c) cs ds
+
+pub state_files : (s : FolderState) (cs : List Change) → (state_after_all s cs).files ≡ effects s.files cs
+unfolding state_after_all effects
+state_files s [] = refl
+state_files s (c ∷ cs) = state_files (state_after s c) cs
+
+pub taken_are_applicable : (s : FolderState) (cs : List Change) → IsTrue (takes_all s cs) → IsTrue (are_applicable s.files cs)
+unfolding are_applicable
+taken_are_applicable s [] h = refl
+taken_are_applicable s (c ∷ cs) h = both_true _ _ (taken_is_applicable s c (takes_first s c cs h)) (taken_are_applicable (state_after s c) cs (takes_rest s c cs h))
+
+pub state_all_back : (s : FolderState) (cs : List Change) → IsTrue (takes_all s cs) → state_after_all (state_after_all s cs) (way_back s.files cs) ≡ s
+unfolding state_after_all way_back
+state_all_back s [] h = refl
+state_all_back s (c ∷ cs) h =
+    state_after_all-append (state_after_all (state_after s c) cs) (way_back (effect s.files c) cs) (inverse s.files c ∷ [])
+    ∙ ap (λ t. state_after t (inverse s.files c)) (state_all_back (state_after s c) cs (takes_rest s c cs h)) ∙ state_back s c (takes_first s c cs h)
+
+pub way_back_taken : (s : FolderState) (cs : List Change) → IsTrue (takes_all s cs) → IsTrue (takes_all (state_after_all s cs) (way_back s.files cs))
+unfolding state_after_all way_back
+way_back_taken s [] h = takes_none s
+way_back_taken s (c ∷ cs) h =
+    let next = state_after s c in
+    let rest = takes_rest s c cs h in
+    takes_all-append (state_after_all next cs) (way_back next.files cs) (inverse s.files c ∷ []) (way_back_taken next cs rest)
+    (subst (λ t. IsTrue (takes_all t (inverse s.files c ∷ []))) (sym (state_all_back next cs rest)) (takes_both next (inverse s.files c) [] (inverse_taken s c (takes_first s c cs h)) (takes_none _)))
+
+pub changes_back : (s : FolderState) (cs : List Change) → IsTrue (takes_all s cs) → way_back (state_after_all s cs).files (way_back s.files cs) ≡ cs
+changes_back s cs h = ap (λ f. way_back f (way_back s.files cs)) (state_files s cs) ∙ way_back_twice s.files cs (taken_are_applicable s cs h)
+
+-- ---- room
+
+-- the same files with more vacant places
+abbrev pub with_room : FolderState → ℕ → FolderState
+with_room s k = record { files = s.files; vacant = s.vacant + k }
+
+more_room : (s : FolderState) (k : ℕ) (c : Change) → change_refusal s c ≡ None → (change_refusal (with_room s k) c ≡ None) × (state_after (with_room s k) c ≡ with_room (state_after s c) k)
+unfolding change_refusal
+more_room s k (Write n b) h =
+    let name = not_refused (not (has s.files n)) NameTaken _ h in
+    let room = has_place s.vacant (not_refused (nat_lt 0 s.vacant) NoRoom None name.1).0 in
+    let less : s.vacant + k - 1 ≡ s.vacant - 1 + k = omega arith in
+    (rw (name.0, has_room (s.vacant + k) (omega arith)), λ i. record { files = effect s.files (Write n b); vacant = less i })
+more_room s k (Replace n b) h = (h, refl)
+more_room s k (Rename a b) h = (h, refl)
+more_room s k (Remove n) h = let more : s.vacant + k + 1 ≡ s.vacant + 1 + k = omega arith in (h, λ i. record { files = effect s.files (Remove n); vacant = more i })
+
+pub more_room_all : (s : FolderState) (k : ℕ) (cs : List Change) → IsTrue (takes_all s cs) → IsTrue (takes_all (with_room s k) cs) × (state_after_all (with_room s k) cs ≡ with_room (state_after_all s cs) k)
+unfolding state_after_all
+more_room_all s k [] h = (takes_none _, refl)
+more_room_all s k (c ∷ cs) h =
+    let one = more_room s k c (takes_first s c cs h) in
+    let rest = more_room_all (state_after s c) k cs (takes_rest s c cs h) in
+    (takes_both (with_room s k) c cs one.0 (subst (λ t. IsTrue (takes_all t cs)) (sym one.1) rest.0), ap (λ t. state_after_all t cs) one.1 ∙ rest.1)
+
+-- with places enough a kept folder takes changes that apply in order
+pub takes_applicable : (s : FolderState) (cs : List Change) → IsTrue (are_applicable s.files cs) → places_taken cs ≤ s.vacant → IsTrue (takes_all s cs)
+unfolding are_applicable change_refusal is_applicable
+takes_applicable s [] h room = takes_none s
+takes_applicable s (Write n b ∷ cs) h room =
+    takes_both s (Write n b) cs (rw (both_first (not (has s.files n)) _ h, has_room s.vacant (omega arith))) (takes_applicable (state_after s (Write n b)) cs (both_second _ _ h) (omega arith))
+takes_applicable s (Replace n b ∷ cs) h room =
+    takes_both s (Replace n b) cs (rw (both_first (has s.files n) _ h)) (takes_applicable (state_after s (Replace n b)) cs (both_second _ _ h) room)
+takes_applicable s (Rename a b ∷ cs) h room =
+    let one = both_first (has s.files a && not (has s.files b)) _ h in
+    takes_both s (Rename a b) cs (rw (both_first (has s.files a) _ one, both_second (has s.files a) _ one)) (takes_applicable (state_after s (Rename a b)) cs (both_second _ _ h) room)
+takes_applicable s (Remove n ∷ cs) h room =
+    takes_both s (Remove n) cs (rw (both_first (has s.files n) _ h)) (takes_applicable (state_after s (Remove n)) cs (both_second _ _ h) (omega arith))

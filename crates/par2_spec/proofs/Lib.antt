@@ -17,5 +17,12 @@ pub mod FoundLaws
 pub mod ReadLaws
 pub mod RepairLaws
 pub mod ListsLaws
-pub mod LinearLaws
 pub mod ChecksumLaws
+pub mod RankLaws
+pub mod SessionLaws
+pub mod AcceptedLaws
+pub mod WrittenPackets
+pub mod WrittenBodies
+pub mod WrittenNames
+pub mod AcceptedCommands
+pub mod StopLaws

@@ -1,6 +1,6 @@
 -- Renames and writes one after the other, as one change of a map.
-use Rattle.std.proofs.Common.{◌≡◌, ℕ, List, [], ◌∷◌, ◌++◌, map, refl, sym, ap, ◌∙◌, subst, T, cond, true, false, Bool, not, ◌&&◌, ◌||◌, ◌+◌, ◌≤◌, arith}
-use Rattle.std.specs.Prelude.{filter, Option, Some, None, is_some, unwrap_or, is_none}
+use Rattle.std.proofs.Common.{◌≡◌, ℕ, List, [], ◌∷◌, ◌++◌, map, refl, sym, ap, ◌∙◌, subst, T, cond, true, false, Bool, not, ◌&&◌, ◌||◌}
+use Rattle.std.specs.Prelude.{filter, Option, Some, None, is_some, unwrap_or}
 use Rattle.std.specs.FinMap as map_of
 use Rattle.std.specs.FinMap.{get-insert, get-remove, get-retain_keys, slice_cmp-IsAntisymmetric, nat_cmp-IsAntisymmetric, contains_key-keys, entries_sorted}
 use Rattle.std.specs.Ordering.{nat_cmp, eq_by_cmp, is_lt, is_eq}
@@ -11,9 +11,9 @@ use Rattle.std.specs.Cmp.Lexicographic.{slice_cmp, nat_list_cmp_total}
 use Rattle.std.specs.Str.{bytes_eq}
 use Rattle.std.specs.List.{list_any, AllByRecursion}
 use Rattle.std.proofs.lemmas.Map.Text.{is_eq-slice_cmp}
-use Rattle.std.proofs.lemmas.Bool.{lt-ltb, and_parts, or_left, or_right, or_from, false_from_ne_true, and_from, not_from_false}
+use Rattle.std.proofs.lemmas.Bool.{or_left, or_right, or_from, false_from_ne_true, and_from, not_from_false}
 use Rattle.par2_spec.specs.Names.{is_among}
-use Rattle.par2_spec.specs.Changes.{FolderState, change_refusal, vacant_after, state_after, Change, Write, Replace, Rename, Remove, effect, effects, is_applicable, are_applicable, places_taken, takes_all, state_after_all}
+use Rattle.par2_spec.specs.Changes.{Change, Write, Rename, Remove, effect, effects, is_applicable, are_applicable}
 use Rattle.par2_spec.specs.Folders.{Folder, has, bytes_of, names, File, laid_over, without}
 use Rattle.par2_spec.proofs.FolderLaws.{same_folder}
 use Rattle.par2_spec.proofs.CommandLaws.{gone_first, none_gone}
@@ -204,36 +204,7 @@ without_without gone more f = same_folder _ _ (λ q.
     both true b g = refl
     both false b g = refl
 
--- ---- changes in a row
-
-pub are_applicable-append : (f : Folder) (cs ds : List Change) → are_applicable f cs ≡ true → are_applicable (effects f cs) ds ≡ true → are_applicable f (cs ++ ds) ≡ true
-unfolding effects are_applicable
-are_applicable-append f [] ds h k = k
-are_applicable-append f (c ∷ cs) ds h k =
-    let r = and_parts (is_applicable f c) (are_applicable (effect f c) cs) h in
-    and_from _ _ r.0 (are_applicable-append (effect f c) cs ds r.1 k)
-
--- whether changes apply is a matter of the names alone
-same_names_after : (f g : Folder) (c : Change) → ((q : List ℕ) → has f q ≡ has g q) → (q : List ℕ) → has (effect f c) q ≡ has (effect g c) q
-unfolding effect
-same_names_after f g (Write n b) h q = has_put f n b q ∙ ap (λ t. bytes_eq q n || t) (h q) ∙ sym (has_put g n b q)
-same_names_after f g (Replace n b) h q = has_put f n b q ∙ ap (λ t. bytes_eq q n || t) (h q) ∙ sym (has_put g n b q)
-same_names_after f g (Rename a b) h q = unfold effect in has_renamed f a b q ∙ ap (λ t. bytes_eq q b || (not (bytes_eq q a) && t)) (h q) ∙ sym (has_renamed g a b q)
-same_names_after f g (Remove n) h q = has_gone f n q ∙ ap (λ t. not (bytes_eq q n) && t) (h q) ∙ sym (has_gone g n q)
-
-applicable_by_names : (f g : Folder) (c : Change) → ((q : List ℕ) → has f q ≡ has g q) → is_applicable f c ≡ is_applicable g c
-unfolding is_applicable
-applicable_by_names f g (Write n b) h = ap not (h n)
-applicable_by_names f g (Replace n b) h = h n
-applicable_by_names f g (Rename a b) h = ap (λ t. t && not (has f b)) (h a) ∙ ap (λ t. has g a && not t) (h b)
-applicable_by_names f g (Remove n) h = h n
-
-pub are_applicable_by_names : (f g : Folder) (cs : List Change) → ((q : List ℕ) → has f q ≡ has g q) → are_applicable f cs ≡ are_applicable g cs
-unfolding are_applicable
-are_applicable_by_names f g [] h = refl
-are_applicable_by_names f g (c ∷ cs) h =
-    ap (λ t. t && are_applicable (effect f c) cs) (applicable_by_names f g c h)
-    ∙ ap (λ t. is_applicable g c && t) (are_applicable_by_names (effect f c) (effect g c) cs (same_names_after f g c h))
+-- ---- renames in a row
 
 -- from names to names
 abbrev pub Move : Type 0
@@ -340,35 +311,3 @@ removals_apply f [] d h = refl
 removals_apply f (name ∷ gone) d h =
     and_from _ _ (h name (or_left _ _ (itself name)))
     (removals_apply (map_of.remove f name) gone d.1 (λ q i. has_gone f name q ∙ and_from _ _ (not_from_false _ (not_first name gone d.0 q i)) (h q (or_right _ _ i))))
-
--- ---- in a kept folder
-
-one_place : (c : Change) (cs : List Change) → places_taken (c ∷ []) + places_taken cs ≡ places_taken (c ∷ cs)
-one_place (Write name bytes) cs = omega arith
-one_place (Replace name bytes) cs = omega arith
-one_place (Rename from to) cs = omega arith
-one_place (Remove name) cs = omega arith
-
-refusal_none : (state : FolderState) (c : Change) (places : ℕ) → is_applicable state.files c ≡ true → places_taken (c ∷ []) + places ≤ state.vacant
-    → (is_none (change_refusal state c) ≡ true) × (places ≤ vacant_after state.vacant c)
-unfolding is_applicable change_refusal
-refusal_none state (Write name bytes) places h room =
-    (rw h (rw (lt-ltb 0 state.vacant (omega (arith, room))) refl), omega (arith, room))
-refusal_none state (Replace name bytes) places h room = (rw h refl, omega (arith, room))
-refusal_none state (Rename from to) places h room =
-    let r = and_parts (has state.files from) (not (has state.files to)) h in (rw r.0 (rw r.1 refl), omega (arith, room))
-refusal_none state (Remove name) places h room = (rw h refl, omega (arith, room))
-
--- with places enough a kept folder takes changes that apply in order
-pub takes_applicable : (state : FolderState) (cs : List Change) → are_applicable state.files cs ≡ true → places_taken cs ≤ state.vacant → takes_all state cs ≡ true
-unfolding are_applicable takes_all
-takes_applicable state [] h room = refl
-takes_applicable state (c ∷ cs) h room =
-    let r = and_parts (is_applicable state.files c) (are_applicable (effect state.files c) cs) h in
-    let taken = refusal_none state c (places_taken cs) r.0 (subst (λ n. n ≤ state.vacant) (sym (one_place c cs)) room) in
-    and_from _ _ taken.0 (takes_applicable (state_after state c) cs r.1 taken.1)
-
-pub state_files : (state : FolderState) (cs : List Change) → (state_after_all state cs).files ≡ effects state.files cs
-unfolding effects state_after_all
-state_files state [] = refl
-state_files state (c ∷ cs) = state_files (state_after state c) cs

@@ -1,17 +1,26 @@
 -- What holds of a set that reads, and of the names that are searched.
-use Rattle.std.proofs.Common.{◌≡◌, ℕ, suc, ◌≤◌, List, [], ◌∷◌, ◌++◌, length, map, inl, inr, refl, sym, ap, ◌∙◌, subst, cond, true, false, Bool, not, ◌&&◌, ◌||◌, arith}
-use Rattle.std.specs.Prelude.{filter, filter_map, flat_map, find, slice_get, sum_by, nat_le, Option, Some, None, is_some, unwrap_or, option_map, option_and_then, Result, Ok, Err, ok_or, ◌==◌, ◌%◌, if◌then◌else◌}
-use Rattle.std.specs.List.{list_all}
+use Rattle.std.proofs.Common.{◌≡◌, ℕ, suc, ◌≤◌, List, [], ◌∷◌, ◌++◌, length, map, inl, inr, refl, sym, ap, ◌∙◌, subst, cond, true, false, Bool, not, ◌&&◌, ◌||◌, arith, length-append, ◌<◌, ◌+◌}
+use Rattle.std.specs.Prelude.{min, nat_lt, filter, filter_map, flat_map, find, slice_get, sum_by, nat_le, Option, Some, None, is_some, unwrap_or, option_map, option_and_then, Result, Ok, Err, ok_or, ◌==◌, ◌%◌, if◌then◌else◌}
+use Rattle.std.specs.List.{list_all, AllByRecursion}
+use Rattle.std.specs.FinMap as map_of
+use Rattle.std.specs.FinMap.{entries-insert, len-entries, len-empty}
+use Rattle.std.specs.Cmp.{nat_cmp_total}
+use Rattle.std.specs.FinMap.Entries.{put, by_order}
+use Rattle.std.specs.Ordering.{nat_cmp}
+use Rattle.std.specs.declared.cmp.Ordering.{Ordering}
+use Rattle.std.specs.declared.cmp.Ordering.TheVariants.{Less, Equal, Greater}
+use Rattle.std.proofs.Math.Nat.{zero-div, zero-mod}
 use Rattle.std.specs.Str.{bytes_eq}
 use Rattle.std.proofs.lemmas.List.{length-map}
+use Rattle.std.proofs.lemmas.List.Sums.{sum_by-cons}
 use Rattle.std.proofs.lemmas.List.Folds.{list_all-map}
-use Rattle.std.proofs.lemmas.Bool.{and_parts, and_from, or_cases, or_left, or_right, false_from_ne_true, eqb-true, leb-true}
+use Rattle.std.proofs.lemmas.Bool.{and_parts, and_from, or_cases, or_left, or_right, false_from_ne_true, eqb-true, leb-true, ltb-true}
 use Rattle.par2_spec.specs.declared.Fault.{Fault}
 use Rattle.par2_spec.specs.declared.Fault.TheVariants.{NoPackets, NoMain, NoDescription, NoChecksums, BadSet}
 use Rattle.par2_spec.specs.Checksums.{Pair}
 use Rattle.par2_spec.specs.Slices.{slice_count}
 use Rattle.par2_spec.specs.Names.{is_name, is_among, distinct}
-use Rattle.par2_spec.specs.Packets.{Packet, accepted, MainBody, DescBody, read_ifsc}
+use Rattle.par2_spec.specs.Packets.{Packet, accepted, MainBody, DescBody, RecoveryBody, read_ifsc, read_recovery}
 use Rattle.par2_spec.specs.Folders.{Folder, has, bytes_of}
 use Rattle.par2_spec.specs.Sets.{ParSet, Target, ◌>>=◌, unless, all_some, is_slice_size, packets_with, main_of, description_of, pairs_of, target_of, are_in_profile, recovery_of, read_set, other_par_names, set_of}
 use Rattle.par2_spec.specs.Search.{candidates, known, lost}
@@ -73,7 +82,7 @@ distinct_by_length (x ∷ xs) e =
 
 -- ---- a set that reads
 
-abbrev came_out : {A : Type 0} → Result A Fault → Bool
+abbrev pub came_out : {A : Type 0} → Result A Fault → Bool
 came_out (Ok a) = true
 came_out (Err e) = false
 
@@ -109,36 +118,92 @@ find_passes {A = A} p (x ∷ xs) a h = step (p x) refl h (find_passes p xs a)
     step true e k later = subst (λ y. p y ≡ true) (ap (λ o. unwrap_or o x) k) e
     step false e k later = later k
 
-enough_pairs : (packets : List Packet) (id : List ℕ) (n : ℕ) (pairs : List Pair) → pairs_of packets id n ≡ Some pairs → length pairs ≤ n
-enough_pairs packets id n pairs h =
+all_the_pairs : (packets : List Packet) (id : List ℕ) (n : ℕ) (pairs : List Pair) → pairs_of packets id n ≡ Some pairs → length pairs ≡ n
+all_the_pairs packets id n pairs h =
     let found = mapped (λ c. c.pairs) (find (λ c. bytes_eq c.id id && length c.pairs == n) (filter_map (λ p. read_ifsc p.kind p.body) packets)) pairs h in
     let right = find_passes (λ c. bytes_eq c.id id && length c.pairs == n) (filter_map (λ p. read_ifsc p.kind p.body) packets) found.0 found.1 in
     let e : length found.0.pairs ≡ n = eqb-true _ _ (and_parts (bytes_eq found.0.id id) _ right).1 in
-    subst (λ ps. length ps ≤ n) found.2 (omega (arith, e))
+    subst (λ ps. length ps ≡ n) found.2 e
 
-pairs_fit : (packets : List Packet) (id : List ℕ) (n : ℕ) (empty : Bool) (pairs : List Pair) → (if empty then Some [] else pairs_of packets id n) ≡ Some pairs → length pairs ≤ n
-pairs_fit packets id n true pairs h = subst (λ ps. length ps ≤ n) (ap (λ o. unwrap_or o []) h) (omega arith)
-pairs_fit packets id n false pairs h = enough_pairs packets id n pairs h
+no_slices : (s : ℕ) → slice_count s 0 ≡ 0
+no_slices s = ap (λ q. q + min 1 (0 % s)) (zero-div s) ∙ ap (λ r. 0 + min 1 r) (zero-mod s)
+
+pairs_fit : (packets : List Packet) (id : List ℕ) (s n : ℕ) (pairs : List Pair) → (if n == 0 then Some [] else pairs_of packets id (slice_count s n)) ≡ Some pairs → length pairs ≡ slice_count s n
+pairs_fit packets id s n pairs h = step (n == 0) refl h
+  where
+    step : (b : Bool) → (n == 0) ≡ b → (if b then Some [] else pairs_of packets id (slice_count s n)) ≡ Some pairs → length pairs ≡ slice_count s n
+    step true e k = subst (λ ps. length ps ≡ slice_count s n) (ap (λ o. unwrap_or o []) k) (sym (ap (slice_count s) (eqb-true n 0 e) ∙ no_slices s))
+    step false e k = all_the_pairs packets id (slice_count s n) pairs k
 
 abbrev target_with : DescBody → List Pair → Target
 target_with d pairs = record { name = d.name; size = d.size; digest = d.digest; pairs = pairs }
 
-of_target : (packets : List Packet) (s : ℕ) (d : DescBody) (t : Target) → target_of packets s d ≡ Some t → (t.name ≡ d.name) × (length t.pairs ≤ slice_count s t.size)
+abbrev IsTargetOf : ℕ → DescBody → Target → Type 0
+IsTargetOf s d t = (t.name ≡ d.name) × (t.size ≡ d.size) × (length t.pairs ≡ slice_count s t.size)
+
+of_target : (packets : List Packet) (s : ℕ) (d : DescBody) (t : Target) → target_of packets s d ≡ Some t → IsTargetOf s d t
 of_target packets s d t h =
     let r = mapped (target_with d) (if d.size == 0 then Some [] else pairs_of packets d.id (slice_count s d.size)) t h in
-    subst (λ u. (u.name ≡ d.name) × (length u.pairs ≤ slice_count s u.size)) r.2 (refl, pairs_fit packets d.id (slice_count s d.size) (d.size == 0) r.0 r.1)
+    subst (IsTargetOf s d) r.2 (refl, refl, pairs_fit packets d.id s d.size r.0 r.1)
+
+abbrev AreCounted : ℕ → List Target → Type 0
+AreCounted s ts = AllByRecursion (λ t. length t.pairs ≡ slice_count s t.size) ts
 
 abbrev AreTargetsOf : ℕ → List DescBody → List Target → Type 0
-AreTargetsOf s ds ts = (map (λ t. t.name) ts ≡ map (λ d. d.name) ds) × AreSized s ts
+AreTargetsOf s ds ts = (map (λ t. t.name) ts ≡ map (λ d. d.name) ds) × AreCounted s ts × (length (flat_map (λ t. t.pairs) ts) ≡ sum_by (λ d. slice_count s d.size) ds)
 
 targets_are : (packets : List Packet) (s : ℕ) (ds : List DescBody) (ts : List Target) → all_some (map (target_of packets s) ds) ≡ Some ts → AreTargetsOf s ds ts
-targets_are packets s [] ts h = subst (AreTargetsOf s []) (ap (λ o. unwrap_or o []) h) (refl, tt)
+targets_are packets s [] ts h = subst (AreTargetsOf s []) (ap (λ o. unwrap_or o []) h) (refl, tt, refl)
 targets_are packets s (d ∷ ds) ts h =
     let a = chained (λ t. option_map (λ us. t ∷ us) (all_some (map (target_of packets s) ds))) (target_of packets s d) ts h in
     let b = mapped (λ us. a.0 ∷ us) (all_some (map (target_of packets s) ds)) ts a.2 in
     let first = of_target packets s d a.0 a.1 in
     let rest = targets_are packets s ds b.0 b.1 in
-    subst (AreTargetsOf s (d ∷ ds)) b.2 (ap (λ n. n ∷ map (λ t. t.name) b.0) first.0 ∙ ap (λ ns. d.name ∷ ns) rest.0, (first.1, rest.1))
+    subst (AreTargetsOf s (d ∷ ds)) b.2 (
+      ap (λ n. n ∷ map (λ t. t.name) b.0) first.0 ∙ ap (λ ns. d.name ∷ ns) rest.0,
+      (first.2, rest.1),
+      length-append a.0.pairs (flat_map (λ t. t.pairs) b.0) ∙ ap (λ n. n + length (flat_map (λ t. t.pairs) b.0)) (first.2 ∙ ap (slice_count s) first.1)
+          ∙ ap (λ n. slice_count s d.size + n) rest.2 ∙ sym (sum_by-cons (λ d. slice_count s d.size) d ds),
+    )
+
+-- as many pairs as slices are not more
+pub sized_from_counted : (s : ℕ) (ts : List Target) → AreCounted s ts → AreSized s ts
+sized_from_counted s [] h = tt
+sized_from_counted s (t ∷ ts) h = (subst (λ n. length t.pairs ≤ n) h.0 (omega arith), sized_from_counted s ts h.1)
+
+-- ---- the recovery slices
+
+abbrev AreRecovery : ℕ → List (ℕ × List ℕ) → Type 0
+AreRecovery s rs = AllByRecursion (λ r. (r.0 < 65536) × (length r.1 ≡ s)) rs
+
+put_recovery : (s k : ℕ) (v : List ℕ) (rs : List (ℕ × List ℕ)) → k < 65536 → length v ≡ s → AreRecovery s rs → AreRecovery s (put nat_cmp k v rs)
+put_recovery s k v [] small long h = ((small, long), tt)
+put_recovery s k v (r ∷ rs) small long h = step (nat_cmp k r.0) (put_recovery s k v rs small long h.1)
+  where
+    step : (o : Ordering) → AreRecovery s (put nat_cmp k v rs) → AreRecovery s (by_order o ((k, v) ∷ r ∷ rs) ((r.0, v) ∷ rs) (r ∷ put nat_cmp k v rs))
+    step Less later = ((small, long), h)
+    step Equal later = ((h.0.0, long), h.1)
+    step Greater later = (h.0, later)
+
+none_of_length : (rs : List (ℕ × List ℕ)) → length rs ≡ 0 → rs ≡ []
+none_of_length [] e = refl
+none_of_length (r ∷ rs) e = absurd (omega (arith, e))
+
+entries_are : (s : ℕ) (rs : List (ℕ × List ℕ)) → AreRecovery s rs → AreRecovery s (map_of.entries (map_of.from_entries {R = nat_cmp} rs))
+entries_are s [] h = subst (AreRecovery s) (sym (none_of_length (map_of.entries (map_of.empty {R = nat_cmp})) (sym (len-entries map_of.empty) ∙ len-empty nat_cmp (List ℕ)))) tt
+entries_are s (r ∷ rs) h =
+    subst (AreRecovery s) (sym (entries-insert nat_cmp_total (map_of.from_entries rs) r.0 r.1)) (put_recovery s r.0 r.1 (map_of.entries (map_of.from_entries rs)) h.0.0 h.0.1 (entries_are s rs h.1))
+
+chosen_are : (s : ℕ) (rs : List RecoveryBody) → AreRecovery s (map (λ r. (r.exponent, r.bytes)) (filter (λ r. nat_lt r.exponent 65536 && length r.bytes == s) rs))
+chosen_are s [] = tt
+chosen_are s (r ∷ rs) = step (nat_lt r.exponent 65536 && length r.bytes == s) refl (filter (λ q. nat_lt q.exponent 65536 && length q.bytes == s) rs) (chosen_are s rs)
+  where
+    step : (b : Bool) → (nat_lt r.exponent 65536 && length r.bytes == s) ≡ b → (qs : List RecoveryBody) → AreRecovery s (map (λ q. (q.exponent, q.bytes)) qs) → AreRecovery s (map (λ q. (q.exponent, q.bytes)) (cond b (r ∷ qs) qs))
+    step true e qs h = let p = and_parts (nat_lt r.exponent 65536) (length r.bytes == s) e in ((ltb-true r.exponent 65536 p.0, eqb-true (length r.bytes) s p.1), h)
+    step false e qs h = h
+
+recovery_is : (packets : List Packet) (s : ℕ) → AreRecovery s (map_of.entries (recovery_of packets s))
+recovery_is packets s = entries_are s _ (chosen_are s (filter_map (λ p. read_recovery p.kind p.body) packets))
 
 -- the steps of the reading, the last one first
 abbrev finished : List ℕ → List Packet → ℕ → List Target → Result ParSet Fault
@@ -175,18 +240,25 @@ sound_set base others set h =
     let profile = took (unless (are_in_profile s described.0) BadSet) (by_checksums id packets s described.0) set described.2 in
     let targets = took (ok_or (all_some (map (target_of packets s) described.0)) NoChecksums) (finished id packets s) set profile.2 in
     let are = targets_are packets s described.0 targets.0 (was_some (all_some (map (target_of packets s) described.0)) NoChecksums targets.0 targets.1) in
-    let least : 4 ≤ s = leb-true 4 s (and_parts (s % 4 == 0) _ (and_parts (s % 4 == 0 && nat_le 4 s) _ (passed (is_slice_size s) BadSet size.0 size.1)).0).1 in
+    let fits = and_parts _ (length (distinct (map (λ d. d.name) described.0)) == length described.0) (passed (are_in_profile s described.0) BadSet profile.0 profile.1) in
+    let parts = and_parts (nat_le (sum_by (λ d. slice_count s d.size) described.0) 32768) (list_all (λ d. is_name d.name) described.0) fits.0 in
     let once : length (distinct (map (λ d. d.name) described.0)) ≡ length described.0 =
-    eqb-true _ _ (and_parts _ (length (distinct (map (λ d. d.name) described.0)) == length described.0) (passed (are_in_profile s described.0) BadSet profile.0 profile.1)).1 in
+    eqb-true _ _ fits.1 in
     subst IsSound (ap (value_or set) targets.2)
     (record {
-      are_names = ap (list_all is_name) are.0 ∙ list_all-map is_name (λ d. d.name) described.0
-          ∙ (and_parts (nat_le (sum_by (λ d. slice_count s d.size) described.0) 32768) (list_all (λ d. is_name d.name) described.0)
-          (and_parts _ (length (distinct (map (λ d. d.name) described.0)) == length described.0) (passed (are_in_profile s described.0) BadSet profile.0 profile.1)).0).1;
+      are_names = ap (list_all is_name) are.0 ∙ list_all-map is_name (λ d. d.name) described.0 ∙ parts.1;
       names_once = std_from_distinct _ (subst AreDistinct (sym are.0) (distinct_by_length (map (λ d. d.name) described.0) (once ∙ sym (length-map described.0 (λ d. d.name)))));
-      slice_positive = omega (arith, least);
-      pairs_enough = are.1;
+      size = passed (is_slice_size s) BadSet size.0 size.1;
+      pairs = are.1;
+      slices = subst (λ n. n ≤ 32768) (sym are.2) (leb-true (sum_by (λ d. slice_count s d.size) described.0) 32768 parts.0);
+      recovery = recovery_is packets s;
     })
+
+-- a slice size is positive
+pub size_positive : (s : ℕ) → is_slice_size s ≡ true → 0 < s
+size_positive s h =
+    let least : 4 ≤ s = leb-true 4 s (and_parts (s % 4 == 0) _ (and_parts (s % 4 == 0 && nat_le 4 s) _ h).0).1 in
+    omega (arith, least)
 
 -- ---- the names that are searched
 
@@ -236,4 +308,4 @@ fits_of folder base set extras h there few = record {
 pub lost_of : (folder : Folder) (base : List ℕ) (set : ParSet) (extras : List (List ℕ)) → set_of folder base ≡ Ok set → lost (known folder set (candidates folder set extras)) ≡ lost_of_unmatched folder set (candidates folder set extras)
 lost_of folder base set extras h =
     let sound = sound_of folder base set h in
-    lost_is folder set (candidates folder set extras) sound.slice_positive sound.pairs_enough (present_searched folder set extras)
+    lost_is folder set (candidates folder set extras) (size_positive set.slice_size sound.size) (sized_from_counted set.slice_size set.targets sound.pairs) (present_searched folder set extras)

@@ -7,7 +7,7 @@ use Rattle.std.specs.Option.{ForSome}
 use Rattle.std.specs.Str.{bytes_eq}
 use Rattle.std.proofs.lemmas.List.{map-append}
 use Rattle.std.proofs.lemmas.Simd.{map-map}
-use Rattle.par2_spec.proofs.FolderLaws.{effects-append}
+use Rattle.par2_spec.proofs.FolderLaws.{effects-append, are_applicable-append}
 use Rattle.std.proofs.lemmas.Bool.{and_parts, or_parts, or_cases, or_left, or_right, or_from, and_from, false_from_ne_true, cases_Bool, not_from_false}
 use Rattle.par2_spec.specs.Names.{is_among, is_par_name}
 use Rattle.par2_spec.specs.Folders.{Folder, has, bytes_of, names, File, laid_over, without}
@@ -20,7 +20,7 @@ use Rattle.par2_spec.specs.Plans.{now_at, matching, repair_changes, repair_remov
 use Rattle.par2_spec.specs.Rules.{FitsRepair, HoldsRepaired}
 use Rattle.par2_spec.proofs.CommandLaws.{removals_lead}
 use Rattle.par2_spec.proofs.NamesLaws.{false_from_not, same_name, itself, clash, false_true, AreDistinct, among-filter, among-append, among_some, apart_by_test, distinct-map, distinct-filter, distinct_some, image_of, image_in, distinct-append, distinct_from_std}
-use Rattle.par2_spec.proofs.MovesLaws.{Move, CanMove, renames, sources, goals, arrived, renames_apply, renames_lead, writes_apply, writes_lead, get_put, get_laid, get_without, has_laid, has_without, has_by_names, laid_over-append, without-laid_over, without_without, same_without, are_applicable-append, removals_apply, names_once, all_laid}
+use Rattle.par2_spec.proofs.MovesLaws.{Move, CanMove, renames, sources, goals, arrived, renames_apply, renames_lead, writes_apply, writes_lead, get_put, get_laid, get_without, has_laid, has_without, has_by_names, laid_over-append, without-laid_over, without_without, same_without, removals_apply, names_once, all_laid}
 use Rattle.par2_spec.proofs.AsideLaws.{aside_out, aside_one}
 use Rattle.par2_spec.proofs.ReadLaws.{each_there}
 use Rattle.par2_spec.proofs.SearchLaws.{names_of_pairs, taken_was_free, taken_once}

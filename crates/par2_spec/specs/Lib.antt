@@ -27,3 +27,5 @@ pub mod Journals
 pub mod Opening
 pub mod Rules
 pub mod SessionCodes
+pub mod Stores
+pub mod Packing

@@ -1,5 +1,5 @@
 -- What laws say of the definitions: premises, and rules of a set in other words than the definitions'.
-use Rattle.std.specs.Prelude.{◌≡◌, ℕ, ◌+◌, ◌^◌, ◌<◌, ◌≤◌, ◌&&◌, Bool, IsTrue, IsFalse, List, [], ◌∷◌, ◌++◌, length, map, flat_map, filter, find, not, Option, Some, None, is_none, option_to_list}
+use Rattle.std.specs.Prelude.{◌≡◌, ℕ, ◌+◌, ◌^◌, ◌<◌, ◌≤◌, ◌&&◌, Bool, IsTrue, IsFalse, List, [], ◌∷◌, ◌++◌, length, map, flat_map, filter, find, not, Option, Some, None, is_none, option_to_list, Ok}
 use Rattle.std.specs.List.{enumerate_from, list_all, IsDistinct, AllByRecursion}
 use Rattle.std.specs.Option.{ForSome}
 use Rattle.std.specs.FinMap as map_of
@@ -8,10 +8,16 @@ use Rattle.par2_spec.specs.Windows.{found}
 use Rattle.par2_spec.specs.Slices.{slice_count}
 use Rattle.par2_spec.specs.Names.{is_name, is_among, numbered}
 use Rattle.par2_spec.specs.Folders.{Folder, bytes_of, has, names}
-use Rattle.par2_spec.specs.Sets.{ParSet, Target}
-use Rattle.par2_spec.specs.Search.{is_intact, matches, needing}
+use Rattle.par2_spec.specs.Changes.{are_applicable, effects}
+use Rattle.par2_spec.specs.Sets.{ParSet, Target, is_slice_size, set_of}
+use Rattle.par2_spec.specs.Search.{all_pairs, is_intact, matches, needing}
 use Rattle.par2_spec.specs.Repairs.{names_without_match, rebuilt_targets, put_aside, aside}
-use Rattle.par2_spec.specs.Plans.{matching}
+use Rattle.par2_spec.specs.Commands.{Command, Create, Verify, Repair, Purge, Action, Do, Undo, Redo}
+use Rattle.par2_spec.specs.Refusals.{refusal, after}
+use Rattle.par2_spec.specs.Plans.{matching, changes_of}
+use Rattle.par2_spec.specs.Sessions.{Session}
+use Rattle.par2_spec.specs.declared.Version.{Version}
+use Rattle.par2_spec.specs.declared.Version.TheVariants.{One, Two}
 
 -- the names of a set's targets
 abbrev pub target_names : ParSet → List (List ℕ)
@@ -21,12 +27,15 @@ target_names set = map (λ t. t.name) set.targets
 abbrev pub needing_names : Folder → ParSet → List (List ℕ)
 needing_names folder set = map (λ t. t.name) (needing folder set)
 
--- what holds of each set that reads
+-- what holds of each set that reads: names that are names, each once, a slice size in the profile, a pair for each
+-- slice, no more slices than there are constants, and recovery slices of their size
 pub record IsSound (set : ParSet) : Type 0 where
   pub are_names : IsTrue (list_all is_name (target_names set))
   pub names_once : IsDistinct bytes_eq (target_names set)
-  pub slice_positive : 0 < set.slice_size
-  pub pairs_enough : AllByRecursion (λ t. length t.pairs ≤ slice_count set.slice_size t.size) set.targets
+  pub size : IsTrue (is_slice_size set.slice_size)
+  pub pairs : AllByRecursion (λ t. length t.pairs ≡ slice_count set.slice_size t.size) set.targets
+  pub slices : length (all_pairs set) ≤ 32768
+  pub recovery : AllByRecursion (λ r. (r.0 < 65536) × (length r.1 ≡ set.slice_size)) (map_of.entries set.recovery)
 
 -- the names that an aside keeps away from: those of the folder and of the targets
 abbrev pub taken_for : Folder → ParSet → List (List ℕ)
@@ -82,3 +91,29 @@ AreFirstMatches folder s searched intact before [] = Unit {0}
 AreFirstMatches folder s searched intact before (m ∷ ms) =
     (m.1 ≡ find (λ name. is_intact s m.0 (bytes_of folder name) && not (is_among intact name) && not (is_among before name)) searched)
     × AreFirstMatches folder s searched intact (before ++ option_to_list m.1) ms
+
+-- ---- commands
+
+-- where a repair reads a set, the numbers of its asides are written in full
+abbrev pub AreFewFor : Folder → Command → Type 0
+AreFewFor folder (Create a) = Unit {0}
+AreFewFor folder (Verify base extras) = Unit {0}
+AreFewFor folder (Repair base extras purge) = (set : ParSet) → set_of folder base ≡ Ok set → AreFew folder set
+AreFewFor folder (Purge base) = Unit {0}
+
+-- the changes of a command can be applied in order and lead to its folder
+abbrev pub LeadsToAfter : Folder → Command → Type 0
+LeadsToAfter folder command = IsTrue (are_applicable folder (changes_of folder command)) × (effects folder (changes_of folder command) ≡ after folder command)
+
+-- an action that is a command leads to its folder where it is accepted
+abbrev pub LeadsToAfterAsked : Folder → Action → Type 0
+LeadsToAfterAsked folder (Do command) = refusal folder command ≡ None → LeadsToAfter folder command
+LeadsToAfterAsked folder Undo = Unit {0}
+LeadsToAfterAsked folder Redo = Unit {0}
+
+-- ---- journals
+
+-- what a journal keeps of a session: version 1 has no place for what could be redone
+abbrev pub kept_in : Version → Session → Session
+kept_in One s = record { folder = s.folder; undos = s.undos; redos = [] }
+kept_in Two s = s

@@ -2,12 +2,18 @@
 #![tactic(auto)]
 
 mod asked;
+pub mod checksum_laws;
 pub mod create_laws;
+pub mod field_laws;
+pub mod folder_laws;
+pub mod packet_laws;
+pub mod rank_laws;
 pub mod repair_laws;
 pub mod search_laws;
+pub mod session_laws;
+pub mod stop_laws;
 
 pub use asked::{Action, Command, CreateArgs};
-pub mod field_laws;
 
 /// The type of a packet.
 #[derive(Clone, Copy, PartialEq, Eq, Debug, Drop)]

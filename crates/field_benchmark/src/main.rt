@@ -1,0 +1,92 @@
+//! Measures the field's arithmetic. With no argument it only says how to call it, so that its output is fixed.
+#![tactic(auto)]
+
+ghost use Rattle.std.specs.Prelude.{◌≡◌, ◌%◌, length};
+
+use par2_gf16::Gf;
+use std::time::Instant;
+use std::{env, io};
+
+/// How many bytes lie in a buffer: few enough to stay in the cache.
+const BYTES: usize = 65536;
+
+// bytes that differ
+fn fill(bytes: &mut [u8]) {
+    let mut next = 1u8;
+    for byte in bytes.iter_mut() {
+        *byte = next;
+        next = next.wrapping_mul(77).wrapping_add(13);
+    }
+}
+
+// all bytes in one number, so that no work can be left out
+fn weight(bytes: &[u8]) -> u32 {
+    let mut weight = 0u32;
+    for byte in bytes {
+        weight = weight.wrapping_mul(31).wrapping_add(u32::from(*byte));
+    }
+    weight
+}
+
+fn add_often(gf: &Gf, rounds: u32, src: &[u8], dst: &mut [u8])
+    requires same { length src.now ≡ length dst.old }
+    requires even { length dst.old % 2 ≡ 0 }
+{
+    let mut factor = 3u16;
+    for _ in 0..rounds {
+        gf.mul_add(factor, src, dst);
+        factor = factor.wrapping_mul(5).wrapping_add(7);
+    }
+}
+
+// each copy changes with its round
+fn copy_often(rounds: u32, src: &mut [u8], dst: &mut [u8])
+    requires { length src.old ≡ length dst.old }
+{
+    for round in 0..rounds {
+        if let Some(first) = src.first_mut() {
+            *first = (round % 256) as u8;
+        }
+        dst.copy_from_slice(src);
+    }
+}
+
+// thousandths of a GB/s
+fn rate(rounds: u32, nanos: u128) -> u128 {
+    u128::from(rounds) * BYTES as u128 * 1000 / nanos.max(1)
+}
+
+fn measure(rt: &HostRuntime, rounds: u32) -> io::Result<()> {
+    let start = Instant::now(rt)?;
+    let gf = Gf::new(rt.alloc())?;
+    let tables = start.elapsed(rt)?.as_nanos();
+    let mut src = vec![in rt.alloc(); 0u8; BYTES]?;
+    let mut dst = vec![in rt.alloc(); 0u8; BYTES]?;
+    fill(&mut src);
+    let start = Instant::now(rt)?;
+    add_often(&gf, rounds, &src, &mut dst);
+    let sums = start.elapsed(rt)?.as_nanos();
+    let mut total = weight(&dst);
+    let start = Instant::now(rt)?;
+    copy_often(rounds, &mut src, &mut dst);
+    let copies = start.elapsed(rt)?.as_nanos();
+    total ^= weight(&dst);
+    println!(rt; "tables: {} microseconds", tables / 1000)?;
+    println!(rt; "sums: {} MB/s", rate(rounds, sums))?;
+    println!(rt;
+        "copies: {} MB/s, {} times the sums",
+        rate(rounds, copies),
+        sums / copies.max(1)
+    )?;
+    println!(rt; "weight: {total}")
+}
+
+fn main(rt: HostRuntime) -> io::Result<()> {
+    let rounds = env::args(&rt)?
+        .nth(1)
+        .and_then(|word| word.parse::<u32>().ok());
+    match rounds {
+        Some(rounds) => measure(&rt, rounds),
+        None => println!(rt; "usage: field_benchmark ROUNDS"),
+    }
+}

@@ -1,0 +1,10 @@
+-- What a store in memory holds, and how often it has failed.
+use Rattle.std.specs.Prelude.{ℕ}
+use Rattle.par2_spec.specs.Stores.{Contents}
+use Rattle.par2_folder.specs.declared.memory.MemoryStore.{MemoryStore}
+
+abbrev pub memory_contents : MemoryStore → Contents
+memory_contents store = record { files = store.folder.files; journal = store.journal }
+
+abbrev pub memory_failures : MemoryStore → ℕ
+memory_failures store = store.failures.count

@@ -1,0 +1,151 @@
+//! A store in memory.
+use crate::{Bytes, Change, Failures, Folder, FolderStore, Name, ReadFault, StoreFault};
+use std::alloc::{AllocError, Global};
+
+/// A folder and a journal in memory. It is honest, and where a growth is refused in a writing call it fails.
+#[derive(Debug, Drop)]
+pub struct MemoryStore {
+    alloc: Global,
+    folder: Folder,
+    journal: Option<Bytes>,
+    failures: Failures,
+}
+
+impl MemoryStore {
+    ghost use Rattle.std.specs.Prelude.{◌≡◌, ◌+◌, ◌<◌, None, OnOk, OnErr, IfErr, Some};
+    ghost use Rattle.std.specs.FinMap.{empty};
+    ghost use Rattle.par2_spec.specs.Changes.{Replace};
+    ghost use Rattle.par2_spec.specs.Stores.{Contents, changed};
+    ghost use Rattle.par2_folder.specs.Memory.{memory_contents, memory_failures};
+
+    /// A store without files and without a journal, which has not failed yet.
+    pub fn new(alloc: Global) -> Self
+        ensures files { (memory_contents result).files ≡ empty }
+        ensures journal { (memory_contents result).journal ≡ None }
+        ensures failures { memory_failures result ≡ 0 }
+    {
+        MemoryStore {
+            alloc,
+            folder: Folder::new(alloc),
+            journal: None,
+            failures: Failures::new(),
+        }
+    }
+
+    // Counts a failure.
+    fn fault(&mut self) -> StoreFault
+        ensures contents { memory_contents self.new ≡ memory_contents self.old }
+        ensures failures { memory_failures self.new ≡ memory_failures self.old + 1 }
+    {
+        self.failures.rise();
+        StoreFault
+    }
+
+    // Makes a place for one more file: as many as there are files, so that many puts copy each file a few times.
+    fn make_place(&mut self) -> Result<(), AllocError>
+        ensures contents { memory_contents self.new ≡ memory_contents self.old }
+        ensures failures { memory_failures self.new ≡ memory_failures self.old }
+        ensures place { OnOk result (0 < self.new.folder.vacant) }
+    {
+        if self.folder.vacant() == 0 {
+            self.folder.reserve(self.folder.len().max(1))?;
+        }
+        Ok(())
+    }
+
+    // Writes a file, or other bytes over those that it has. Without memory all stays as it is.
+    #[tactic(auto, unfolding(par2_spec::specs::Changes::change_refusal, par2_spec::specs::Changes::effect))]
+    fn write(&mut self, name: &Name, bytes: &[u8]) -> Result<(), AllocError>
+        ensures done { OnOk result (memory_contents self.new ≡ changed (memory_contents self.old) (Replace name.now bytes.now)) }
+        ensures err { OnErr result (memory_contents self.new ≡ memory_contents self.old) }
+        ensures failures { memory_failures self.new ≡ memory_failures self.old }
+    {
+        let copy = Bytes::copy_of(self.alloc, bytes)?;
+        let mut change = if self.folder.get(name).is_some() {
+            Change::Replace(name.copied(), copy)
+        } else {
+            self.make_place()?;
+            Change::Write(name.copied(), copy)
+        };
+        match self.folder.apply(&mut change) {
+            Ok(()) => Ok(()),
+            Err(_) => unreachable!(),
+        }
+    }
+}
+
+impl FolderStore for MemoryStore {
+    ghost use Rattle.par2_folder.specs.Memory.{memory_contents, memory_failures};
+
+    ghost honest = { λ _. Unit {0} };
+
+    ghost contents = { memory_contents };
+
+    ghost failures = { memory_failures };
+
+    fn names(&mut self, alloc: Global) -> Result<Vec<Name>, ReadFault> {
+        match self.folder.names(alloc) {
+            Ok(names) => Ok(names),
+            Err(AllocError) => Err(ReadFault::Memory),
+        }
+    }
+
+    fn read(&mut self, alloc: Global, name: &Name) -> Result<Vec<u8>, ReadFault> {
+        match self.folder.get(name) {
+            Some(bytes) => match bytes.to_vec(alloc) {
+                Ok(copy) => Ok(copy),
+                Err(AllocError) => Err(ReadFault::Memory),
+            },
+            None => {
+                self.failures.rise();
+                Err(ReadFault::Store)
+            }
+        }
+    }
+
+    fn read_journal(&mut self, alloc: Global) -> Result<Option<Vec<u8>>, ReadFault> {
+        match &self.journal {
+            None => Ok(None),
+            Some(bytes) => match bytes.as_slice().to_vec(alloc) {
+                Ok(copy) => Ok(Some(copy)),
+                Err(AllocError) => Err(ReadFault::Memory),
+            },
+        }
+    }
+
+    fn put(&mut self, name: &Name, bytes: &[u8]) -> Result<(), StoreFault> {
+        match self.write(name, bytes) {
+            Ok(()) => Ok(()),
+            Err(AllocError) => Err(self.fault()),
+        }
+    }
+
+    #[tactic(auto, unfolding(par2_spec::specs::Changes::change_refusal, par2_spec::specs::Changes::is_applicable))]
+    fn rename(&mut self, from: &Name, to: &Name) -> Result<(), StoreFault> {
+        match self
+            .folder
+            .apply(&mut Change::Rename(from.copied(), to.copied()))
+        {
+            Ok(()) => Ok(()),
+            Err(_) => Err(self.fault()),
+        }
+    }
+
+    #[tactic(auto, unfolding(par2_spec::specs::Changes::change_refusal, par2_spec::specs::Changes::is_applicable))]
+    fn remove(&mut self, name: &Name) -> Result<(), StoreFault> {
+        match self.folder.apply(&mut Change::Remove(name.copied())) {
+            Ok(()) => Ok(()),
+            Err(_) => Err(self.fault()),
+        }
+    }
+
+    fn put_journal(&mut self, bytes: &[u8]) -> Result<(), StoreFault> {
+        match Bytes::copy_of(self.alloc, bytes) {
+            Ok(copy) => {
+                self.journal = Some(copy);
+                Ok(())
+            }
+            Err(AllocError) => Err(self.fault()),
+        }
+    }
+}

@@ -1,0 +1,216 @@
+-- A block of thirty-two words, in bytes and in lanes.
+use Rattle.std.proofs.Common.{ℕ, zero, suc, ◌+◌, ◌-◌, ◌*◌, ◌/◌, ◌%◌, ◌^◌, ◌<◌, ◌≤◌, ◌≡◌, refl, sym, ap, ap₂, ◌∙◌, subst, arith, List, [], ◌∷◌, ◌++◌, map, flat_map, length, get_or, eqb, ◌&&◌, inl, inr, true, w8, Fits, bit_and, replicate}
+use Rattle.std.proofs.lemmas.Bool.{cases_lt, eqb-true, and_parts}
+use Rattle.std.proofs.lemmas.Nat.{and_mask}
+use Rattle.std.proofs.lemmas.List.{get_or-map, length-map, get_or_append_left, get_or-append_right, ext_get_or}
+use Rattle.std.proofs.lemmas.Simd.{Each1-get_or, below_from_Fits, length-chunk, get_or_wider, chunk-fits, zip2_splat, get_or-chunk, get_or-put_chunk_below, get_or-put_chunk_at, get_or-put_chunk_above, length-put_chunk, get_or-zip2, length-zip2, get_or-swz_l_below, length-swz_l, swz_l, SwzOk, SwzOk-from_below}
+use Rattle.std.specs.List.{range_with_len}
+use Rattle.std.specs.Prelude.{bit_xor}
+use lib.Lanes.{number_l, digits_l, zip2, Each1, chunk, put_chunk, pick_l}
+use Rattle.par2_spec.specs.Field.{mul}
+use Rattle.par2_spec.specs.Slices.{word}
+use Rattle.par2_spec.proofs.FieldBits.{tested, tested_at}
+use Rattle.par2_spec.proofs.FieldProducts.{product-lt}
+use Rattle.par2_gf16.specs.Steps.{AddsWithin, IsTable, IsInterleaving, AddsLanes}
+use Rattle.par2_gf16.proofs.LaneLaws.{map_all}
+use Rattle.par2_gf16.proofs.WordLaws.{word_xor}
+
+-- ---- words and their bytes
+
+length-digits_l : (p n x : ℕ) → length (digits_l p n x) ≡ n
+length-digits_l p zero x = refl
+length-digits_l p (suc n) x = ap suc (length-digits_l p n (x / p))
+
+two_digits : (ys : List ℕ) → length ys ≡ 2 → number_l 256 ys ≡ get_or ys 0 0 + 256 * get_or ys 1 0
+two_digits [] e = absurd (omega arith)
+two_digits (x ∷ []) e = absurd (omega arith)
+two_digits (x ∷ y ∷ []) e = omega arith
+two_digits (x ∷ y ∷ z ∷ zs) e = absurd (omega arith)
+
+-- a word of a block, the lower byte first
+block_word : (block : List ℕ) (j : ℕ) → length block ≡ 64 → Each1 (λ x. x < 256) block → j < 32
+    → get_or (digits_l 65536 32 (number_l 256 block)) j 0 ≡ get_or block (2 * j) 0 + 256 * get_or block (2 * j + 1) 0
+block_word block j long small h =
+    let pair : length (chunk (2 * j) 2 block) ≡ 2 = length-chunk (2 * j) 2 block (omega arith) in
+    get_or_wider 256 2 65536 32 block j refl small h
+    ∙ two_digits (chunk (2 * j) 2 block) pair
+    ∙ ap₂ (λ x y. x + 256 * y)
+    (get_or-chunk (2 * j) 2 block 0 0 (omega arith) ∙ ap (λ i. get_or block i 0) (let e : 2 * j + 0 ≡ 2 * j = omega arith in e))
+    (get_or-chunk (2 * j) 2 block 1 0 (omega arith))
+
+pub words_split : (bytes : List ℕ) (at : ℕ) (low high : List ℕ) → at + 64 ≤ length bytes → ((i : ℕ) → Fits w8 (get_or bytes i 0))
+    → low ≡ map (λ x. x % 256) (digits_l 65536 32 (number_l 256 (chunk at 64 bytes)))
+    → high ≡ map (λ x. x / 256) (digits_l 65536 32 (number_l 256 (chunk at 64 bytes)))
+    → IsInterleaving low high (chunk at 64 bytes)
+words_split bytes at low high room fits el eh =
+    let block = chunk at 64 bytes in
+    let long : length block ≡ 64 = length-chunk at 64 bytes room in
+    let small : Each1 (λ x. x < 256) block = below_from_Fits w8 block (chunk-fits w8 at 64 bytes fits) in
+    let words = digits_l 65536 32 (number_l 256 block) in
+    let count : length words ≡ 32 = length-digits_l 65536 32 (number_l 256 block) in
+    record {
+      low_count = ap length el ∙ length-map words (λ x. x % 256) ∙ count;
+      high_count = ap length eh ∙ length-map words (λ x. x / 256) ∙ count;
+      lows = λ j h.
+          let byte : get_or block (2 * j) 0 < 256 = Each1-get_or (λ x. x < 256) block (2 * j) 0 (omega arith) small in
+          sym (ap (λ xs. get_or xs j 0) el ∙ get_or-map (λ x. x % 256) words j 0 0 (omega arith)
+          ∙ ap (λ x. x % 256) (block_word block j long small h) ∙ omega arith);
+      highs = λ j h.
+          let byte : get_or block (2 * j) 0 < 256 = Each1-get_or (λ x. x < 256) block (2 * j) 0 (omega arith) small in
+          sym (ap (λ xs. get_or xs j 0) eh ∙ get_or-map (λ x. x / 256) words j 0 0 (omega arith)
+          ∙ ap (λ x. x / 256) (block_word block j long small h) ∙ omega arith);
+    }
+
+abbrev pub woven : List ℕ
+woven = flat_map (λ j. j ∷ (32 + j) ∷ []) (range_with_len 0 32)
+
+test_woven : tested (λ j. eqb (get_or woven (2 * j) 0) j && eqb (get_or woven (2 * j + 1) 0) (32 + j)) 32 ≡ true
+test_woven = refl
+
+woven_at : (j : ℕ) → j < 32 → (get_or woven (2 * j) 0 ≡ j) × (get_or woven (2 * j + 1) 0 ≡ 32 + j)
+woven_at j h =
+    let parts = and_parts (eqb (get_or woven (2 * j) 0) j) (eqb (get_or woven (2 * j + 1) 0) (32 + j))
+    (tested_at (λ i. eqb (get_or woven (2 * i) 0) i && eqb (get_or woven (2 * i + 1) 0) (32 + i)) 32 j test_woven h) in
+    (eqb-true _ _ parts.0, eqb-true _ _ parts.1)
+
+pub interleaving : (low high : List ℕ) → length low ≡ 32 → length high ≡ 32 → IsInterleaving low high (pick_l 0 (low ++ high) woven)
+interleaving low high ll lh = record {
+  low_count = ll;
+  high_count = lh;
+  lows = λ j h. get_or-map (λ k. get_or (low ++ high) k 0) woven (2 * j) 0 0 (omega arith)
+      ∙ ap (λ k. get_or (low ++ high) k 0) (woven_at j h).0 ∙ get_or_append_left low high 0 j (omega (arith, ll));
+  highs = λ j h. get_or-map (λ k. get_or (low ++ high) k 0) woven (2 * j + 1) 0 0 (omega arith)
+      ∙ ap (λ k. get_or (low ++ high) k 0) (woven_at j h).1
+      ∙ get_or-append_right low high 32 (32 + j) 0 ll (omega arith) ∙ ap (λ k. get_or high k 0) (let e : 32 + j - 32 ≡ j = omega arith in e);
+}
+
+-- ---- look-ups
+
+abbrev pub IsVector : List ℕ → Type 0
+IsVector v = (length v ≡ 32) × Each1 (Fits w8) v
+
+abbrev pub down : ℕ → ℕ → ℕ
+down a b = a / 2 ^ b
+
+pub masked : (v : List ℕ) → length v ≡ 32 → zip2 bit_and v (replicate 32 15) ≡ map (λ x. x % 16) v
+masked v long = zip2_splat bit_and v 32 15 long ∙ map_all (λ x. bit_and x 15) (λ x. x % 16) (λ x. and_mask x 4) v
+
+pub shifted : (v : List ℕ) → length v ≡ 32 → zip2 down v (replicate 32 4) ≡ map (λ x. x / 16) v
+shifted v long = zip2_splat down v 32 4 long
+
+small_places : (g : ℕ → ℕ) → ((x : ℕ) → x < 256 → g x < 16) → (v js : List ℕ) → Each1 (Fits w8) v → js ≡ map g v → Each1 (λ j. j < 16) js
+small_places g small [] js fits e = subst (Each1 (λ j. j < 16)) (sym e) tt
+small_places g small (x ∷ xs) js fits e = subst (Each1 (λ j. j < 16)) (sym e) (small x fits.0.fits, small_places g small xs (map g xs) fits.1 refl)
+
+pub places_ok : (g : ℕ → ℕ) → ((x : ℕ) → x < 256 → g x < 16) → (v js : List ℕ) → IsVector v → js ≡ map g v → SwzOk w8 16 32 0 js
+places_ok g small v js fits e =
+    SwzOk-from_below w8 16 2 32 0 js refl (let k : 0 + length js ≤ 32 = omega (arith, ap length e, length-map v g, fits.0) in k) (small_places g small v js fits.1 e)
+
+lane_fits : (v : List ℕ) (i : ℕ) → Each1 (Fits w8) v → get_or v i 0 < 256
+lane_fits [] i h = omega arith
+lane_fits (x ∷ xs) zero h = h.0.fits
+lane_fits (x ∷ xs) (suc i) h = lane_fits xs i h.1
+
+pub looked_up : (f g : ℕ → ℕ) → ((x : ℕ) → x < 256 → g x < 16) → (t v js : List ℕ) → IsTable f t → IsVector v → js ≡ map g v → swz_l w8 16 t 0 js ≡ map (λ x. f (g x)) v
+looked_up f g small t v js table fits e =
+    let long : length js ≡ 32 = ap length e ∙ length-map v g ∙ fits.0 in
+    ext_get_or 0 _ _ (length-swz_l w8 16 t 0 js ∙ long ∙ sym (length-map v (λ x. f (g x)) ∙ fits.0)) (λ i h.
+    let lt : i < 32 = omega (arith, length-swz_l w8 16 t 0 js) in
+    let is : get_or js i 0 ≡ g (get_or v i 0) = ap (λ l. get_or l i 0) e ∙ get_or-map g v i 0 0 (omega (arith, fits.0)) in
+    let below : get_or js i 0 < 16 = omega (arith, small (get_or v i 0) (lane_fits v i fits.1)) in
+    get_or-swz_l_below w8 16 t 0 js i (omega arith) below
+    ∙ table.each (16 * ((0 + i) / 16) + get_or js i 0) (omega arith)
+    ∙ ap f ((let k : (16 * ((0 + i) / 16) + get_or js i 0) % 16 ≡ get_or js i 0 = omega arith in k) ∙ is)
+    ∙ sym (get_or-map (λ x. f (g x)) v i 0 0 (omega (arith, fits.0))))
+
+-- two vectors that were computed lane by lane, one from xs and one from ys
+pub zip2_of_two : (f : ℕ → ℕ → ℕ) (g h : ℕ → ℕ) (xs ys : List ℕ) → zip2 f (map g xs) (map h ys) ≡ zip2 (λ x y. f (g x) (h y)) xs ys
+zip2_of_two f g h [] ys = refl
+zip2_of_two f g h (x ∷ xs) [] = refl
+zip2_of_two f g h (x ∷ xs) (y ∷ ys) = ap (λ zs. f (g x) (h y) ∷ zs) (zip2_of_two f g h xs ys)
+
+pub zip2_same : (f g : ℕ → ℕ → ℕ) → ((x y : ℕ) → x < 256 → y < 256 → f x y ≡ g x y) → (xs ys : List ℕ) → Each1 (Fits w8) xs → Each1 (Fits w8) ys → zip2 f xs ys ≡ zip2 g xs ys
+zip2_same f g same [] ys a b = refl
+zip2_same f g same (x ∷ xs) [] a b = refl
+zip2_same f g same (x ∷ xs) (y ∷ ys) a b = ap₂ (λ z zs. z ∷ zs) (same x y a.0.fits b.0.fits) (zip2_same f g same xs ys a.1 b.1)
+
+-- ---- sums in place
+
+pub vector_added : (old v : List ℕ) (at : ℕ) → at + 32 ≤ length old → length v ≡ 32 → ((i : ℕ) → get_or old i 0 < 256)
+    → AddsLanes old (put_chunk at old (zip2 bit_xor (chunk at 32 old) v)) at v
+vector_added old v at room long fit =
+    let part = chunk at 32 old in
+    let part_count : length part ≡ 32 = length-chunk at 32 old room in
+    let sums = zip2 bit_xor part v in
+    let count : length sums ≡ 32 = length-zip2 bit_xor part v (part_count ∙ sym long) ∙ part_count in
+    record {
+      count = long;
+      others = record {
+        same_length = length-put_chunk at old sums;
+        below = λ k h. get_or-put_chunk_below at old sums k 0 h;
+        above = λ k h. get_or-put_chunk_above at old sums k 0 (omega arith);
+      };
+      fit = λ j h. fit (at + j);
+      each = λ j h. get_or-put_chunk_at at old sums j 0 (omega arith) (omega arith)
+          ∙ get_or-zip2 bit_xor part v j 0 0 0 (omega arith) (omega arith)
+          ∙ ap (λ x. bit_xor x (get_or v j 0)) (get_or-chunk at 32 old j 0 h);
+    }
+
+-- two vectors, one behind the other
+both_added : (old mid new first second : List ℕ) (at k : ℕ) → AddsLanes old mid at first → AddsLanes mid new (at + 32) second → k < 64
+    → (get_or new (at + k) 0 ≡ bit_xor (get_or old (at + k) 0) (get_or (first ++ second) k 0)) × (get_or old (at + k) 0 < 256)
+both_added old mid new first second at k one two h = elim (cases_lt k 32) [
+  | inl l ↦ (
+    two.others.below (at + k) (omega arith) ∙ one.each k l ∙ ap (bit_xor (get_or old (at + k) 0)) (sym (get_or_append_left first second 0 k (omega (arith, one.count)))),
+    one.fit k l,
+  )
+  | inr g ↦
+      let place : at + 32 + (k - 32) ≡ at + k = omega arith in
+      let same : get_or mid (at + k) 0 ≡ get_or old (at + k) 0 = one.others.above (at + k) (omega arith) in (
+        ap (λ i. get_or new i 0) (sym place) ∙ two.each (k - 32) (omega arith)
+            ∙ ap₂ bit_xor (ap (λ i. get_or mid i 0) place ∙ same) (sym (get_or-append_right first second 32 k 0 one.count g)),
+        (let low : get_or mid (at + 32 + (k - 32)) 0 < 256 = two.fit (k - 32) (omega arith) in
+            subst (λ x. x < 256) (ap (λ i. get_or mid i 0) place ∙ same) low),
+      )
+]
+
+pub block_added : (c : ℕ) (src old mid new low high lows highs first second : List ℕ) (n : ℕ) → c < 65536 → ((i : ℕ) → get_or src i 0 < 256)
+    → IsInterleaving low high (chunk (2 * n) 64 src)
+    → lows ≡ zip2 (λ l h. mul c (l + 256 * h) % 256) low high → highs ≡ zip2 (λ l h. mul c (l + 256 * h) / 256) low high
+    → IsInterleaving lows highs (first ++ second) → AddsLanes old mid (2 * n) first → AddsLanes mid new (2 * n + 32) second
+    → AddsWithin c src old new n (n + 32)
+block_added c src old mid new low high lows highs first second n hc fit from el eh to one two = record {
+  same_length = two.others.same_length ∙ one.others.same_length;
+  inside = λ i g l room.
+      let j = i - n in
+      let hj : j < 32 = omega arith in
+      let even : 2 * i ≡ 2 * n + 2 * j = omega arith in
+      let odd : 2 * i + 1 ≡ 2 * n + (2 * j + 1) = omega arith in
+      let at : (bytes : List ℕ) → word i bytes ≡ get_or bytes (2 * n + 2 * j) 0 + 256 * get_or bytes (2 * n + (2 * j + 1)) 0 = λ bytes.
+      ap₂ (λ x y. get_or bytes x 0 + 256 * get_or bytes y 0) even odd in
+      let p = mul c (get_or low j 0 + 256 * get_or high j 0) in
+      let low_is : get_or low j 0 ≡ get_or src (2 * n + 2 * j) 0 = sym (from.lows j hj) ∙ get_or-chunk (2 * n) 64 src (2 * j) 0 (omega arith) in
+      let high_is : get_or high j 0 ≡ get_or src (2 * n + (2 * j + 1)) 0 = sym (from.highs j hj) ∙ get_or-chunk (2 * n) 64 src (2 * j + 1) 0 (omega arith) in
+      let p_is : p ≡ mul c (word i src) = ap (mul c) (ap₂ (λ x y. x + 256 * y) low_is high_is ∙ sym (at src)) in
+      let small : p < 65536 = product-lt c (get_or low j 0 + 256 * get_or high j 0) hc (omega (arith, low_is, high_is, fit (2 * n + 2 * j), fit (2 * n + (2 * j + 1)))) in
+      let even_sum = both_added old mid new first second (2 * n) (2 * j) one two (omega arith) in
+      let odd_sum = both_added old mid new first second (2 * n) (2 * j + 1) one two (omega arith) in
+      let lows_is : get_or (first ++ second) (2 * j) 0 ≡ p % 256 = to.lows j hj ∙ ap (λ xs. get_or xs j 0) el
+      ∙ get_or-zip2 (λ l h. mul c (l + 256 * h) % 256) low high j 0 0 0 (omega (arith, from.low_count)) (omega (arith, from.high_count)) in
+      let highs_is : get_or (first ++ second) (2 * j + 1) 0 ≡ p / 256 = to.highs j hj ∙ ap (λ xs. get_or xs j 0) eh
+      ∙ get_or-zip2 (λ l h. mul c (l + 256 * h) / 256) low high j 0 0 0 (omega (arith, from.low_count)) (omega (arith, from.high_count)) in
+      at new
+      ∙ ap₂ (λ x y. x + 256 * y)
+      (even_sum.0 ∙ ap (bit_xor (get_or old (2 * n + 2 * j) 0)) lows_is)
+      (odd_sum.0 ∙ ap (bit_xor (get_or old (2 * n + (2 * j + 1)) 0)) highs_is)
+      ∙ word_xor (get_or old (2 * n + 2 * j) 0) (get_or old (2 * n + (2 * j + 1)) 0) p even_sum.1 odd_sum.1 small
+      ∙ ap₂ bit_xor (sym (at old)) p_is;
+  below = λ i h. ap₂ (λ x y. x + 256 * y) (before (2 * i) (omega arith)) (before (2 * i + 1) (omega arith));
+  above = λ i h. ap₂ (λ x y. x + 256 * y) (behind (2 * i) (omega arith)) (behind (2 * i + 1) (omega arith));
+}
+  where
+    before : (k : ℕ) → k < 2 * n → get_or new k 0 ≡ get_or old k 0
+    before k h = two.others.below k (omega arith) ∙ one.others.below k h
+
+    behind : (k : ℕ) → 2 * n + 64 ≤ k → get_or new k 0 ≡ get_or old k 0
+    behind k h = two.others.above k (omega arith) ∙ one.others.above k (omega arith)

@@ -1,0 +1,5 @@
+pub mod WordLaws
+pub mod LaneLaws
+pub mod NibbleLaws
+pub mod BlockLaws
+pub mod TableLaws

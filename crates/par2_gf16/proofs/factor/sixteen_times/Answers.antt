@@ -1,0 +1,9 @@
+use Rattle.std.proofs.Common.{◌∙◌, ap}
+use Rattle.par2_spec.specs.Field.{mul}
+use Rattle.par2_gf16.proofs.NibbleLaws.{four_doublings}
+use Rattle.par2_gf16.proofs.factor.sixteen_times.Goals as goal
+
+pub returns : goal.returns
+returns c =
+    c.doubled-4.ensures ∙ ap (mul 2) (c.doubled-3.ensures ∙ ap (mul 2) (c.doubled-2.ensures ∙ ap (mul 2) c.doubled.ensures))
+    ∙ four_doublings c.args.x c.ranges.x.fits

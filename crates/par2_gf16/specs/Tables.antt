@@ -1,0 +1,36 @@
+-- What the tables hold.
+use Rattle.std.specs.Prelude.{ℕ, ◌+◌, ◌<◌, ◌≡◌, List, length, slice_index, map, filter}
+use Rattle.std.specs.List.{range_with_len}
+use Rattle.par2_spec.specs.Field.{pow, is_spared, constant_powers}
+
+-- the powers of 2 from 2 ^ 0 on
+pub record PowersBelow (powers : List ℕ) (n : ℕ) : Type 0 where
+  pub count : length powers ≡ n
+  pub each : (i : ℕ) → i < n → slice_index powers i ≡ pow 2 i
+
+-- at each power of 2 below 2 ^ n, its exponent
+pub record LogsBelow (logs : List ℕ) (n : ℕ) : Type 0 where
+  pub count : length logs ≡ 65536
+  pub each : (i : ℕ) → i < n → slice_index logs (pow 2 i) ≡ i
+
+-- the powers of 2 whose exponents below n are spared
+unfoldable pub constants_below : ℕ → List ℕ
+constants_below n = map (pow 2) (filter is_spared (range_with_len 0 n))
+
+-- the powers stand twice, so that the sum of two logarithms needs no remainder
+pub record AreTables (logs powers constants : List ℕ) : Type 0 where
+  pub logs_are : LogsBelow logs 65535
+  pub powers_are : PowersBelow powers 131070
+  pub constants_are : constants ≡ map (pow 2) constant_powers
+
+-- the powers below 2 ^ i are in the tables
+pub record FirstRound (logs powers constants : List ℕ) (x i : ℕ) : Type 0 where
+  pub logs_are : LogsBelow logs i
+  pub powers_are : PowersBelow powers i
+  pub constants_are : constants ≡ constants_below i
+  pub next : x ≡ pow 2 i
+
+-- j powers of the second round are in the table
+pub record SecondRound (powers : List ℕ) (x j : ℕ) : Type 0 where
+  pub powers_are : PowersBelow powers (65535 + j)
+  pub next : x ≡ pow 2 (65535 + j)

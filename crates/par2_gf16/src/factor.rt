@@ -1,0 +1,167 @@
+//! Thirty-two words at a time. A word is the sum of its four nibbles, each in its place, so its product is the sum of
+//! theirs, and those are looked up.
+
+ghost use Rattle.std.specs.Prelude.{◌≡◌, ℕ, ◌+◌, ◌*◌, ◌/◌, ◌%◌, ◌^◌, ◌<◌, ◌≤◌, length, map, bit_xor};
+ghost use Rattle.std.specs.Simd.Lanes.{zip2};
+ghost use Rattle.par2_spec.specs.Field.{mul};
+ghost use Rattle.par2_gf16.specs.Steps.{AddsWithin, IsTable, nibbles};
+
+use crate::doubling::doubled;
+use crate::lanes;
+use std::simd::prelude::*;
+
+/// Each nibble, twice over, since a look-up sees sixteen lanes of a table at a time.
+const NIBBLES: [u16; 32] = [
+    0, 1, 2, 3, 4, 5, 6, 7, 8, 9, 10, 11, 12, 13, 14, 15, 0, 1, 2, 3, 4, 5, 6, 7, 8, 9, 10, 11, 12,
+    13, 14, 15,
+];
+
+/// The products of one element and each nibble: their lower and their higher bytes.
+#[derive(Drop)]
+struct NibbleProducts {
+    element: u16,
+    low: u8x32,
+    high: u8x32,
+    ghost fits: { element < 2 ^ 16 },
+    ghost lows: { IsTable (λ n. mul element n % 256) low },
+    ghost highs: { IsTable (λ n. mul element n / 256) high },
+}
+
+impl NibbleProducts {
+    #[inline(always)]
+    fn new(element: u16) -> NibbleProducts
+        ensures { result.element ≡ element }
+    {
+        let products = nibble_products(element);
+        let low = lanes::lower_bytes(products);
+        let high = lanes::higher_bytes(products);
+        NibbleProducts { element, low, high }
+    }
+}
+
+/// The products of one element and the nibbles at each of the four places of a word.
+#[derive(Drop)]
+pub(crate) struct Factor {
+    first: NibbleProducts,
+    second: NibbleProducts,
+    third: NibbleProducts,
+    fourth: NibbleProducts,
+    ghost second_is: { second.element ≡ mul first.element 16 },
+    ghost third_is: { third.element ≡ mul first.element 256 },
+    ghost fourth_is: { fourth.element ≡ mul first.element 4096 },
+}
+
+impl Factor {
+    #[inline(always)]
+    pub(crate) fn new(element: u16) -> Factor
+        ensures { result.first.element ≡ element }
+    {
+        let second = sixteen_times(element);
+        let third = sixteen_times(second);
+        let fourth = sixteen_times(third);
+        Factor {
+            first: NibbleProducts::new(element),
+            second: NibbleProducts::new(second),
+            third: NibbleProducts::new(third),
+            fourth: NibbleProducts::new(fourth),
+        }
+    }
+
+    // the lower bytes of the products of words
+    #[inline(always)]
+    fn lower_bytes(&self, low: u8x32, high: u8x32) -> u8x32
+        ensures { result ≡ zip2 (λ l h. mul self.now.first.element (l + 256 * h) % 256) low high }
+    {
+        four_looked_up(
+            self.first.low,
+            self.second.low,
+            self.third.low,
+            self.fourth.low,
+            low,
+            high,
+        )
+    }
+
+    // the higher bytes of the products of words
+    #[inline(always)]
+    fn higher_bytes(&self, low: u8x32, high: u8x32) -> u8x32
+        ensures { result ≡ zip2 (λ l h. mul self.now.first.element (l + 256 * h) / 256) low high }
+    {
+        four_looked_up(
+            self.first.high,
+            self.second.high,
+            self.third.high,
+            self.fourth.high,
+            low,
+            high,
+        )
+    }
+
+    // adds the products for the thirty-two words from word n on
+    #[inline(always)]
+    pub(crate) fn add_block(&self, src: &[u8], dst: &mut [u8], n: usize)
+        requires fits { 2 * n + 64 ≤ length dst.old }
+        requires same { length src.now ≡ length dst.old }
+        ensures { AddsWithin self.now.first.element src.now dst.old dst.new n (n + 32) }
+    {
+        let (low, high) = lanes::words_at(src, 2 * n);
+        let lows = self.lower_bytes(low, high);
+        let highs = self.higher_bytes(low, high);
+        let (first, second) = lanes::interleaved(lows, highs);
+        lanes::add_vector(dst, 2 * n, first);
+        lanes::add_vector(dst, 2 * n + 32, second);
+    }
+}
+
+// adds the products for the words of the first blocks of sixty-four bytes
+pub(crate) fn add_blocks(c: u16, src: &[u8], dst: &mut [u8], blocks: usize)
+    requires fits { 64 * blocks ≤ length dst.old }
+    requires same { length src.now ≡ length dst.old }
+    ensures { AddsWithin c src.now dst.old dst.new 0 (32 * blocks) }
+{
+    let factor = Factor::new(c);
+    for block in 0..blocks {
+        factor.add_block(src, dst, 32 * block);
+    }
+}
+
+#[inline(always)]
+fn sixteen_times(x: u16) -> u16
+    ensures { result ≡ mul x 16 }
+{
+    doubled(doubled(doubled(doubled(x))))
+}
+
+// the sum of the copies of k, each doubled as often as its bit of the nibble calls for
+#[inline(always)]
+fn nibble_products(element: u16) -> u16x32
+    ensures { result ≡ map (mul element) nibbles }
+{
+    let all = u16x32::from_array(NIBBLES);
+    let mut sum = lanes::zeros(all);
+    let mut rest = all;
+    let mut k = element;
+    for j in 0..4u32 {
+        sum = lanes::select_add(sum, rest, k);
+        rest = lanes::halved(rest);
+        k = doubled(k);
+    }
+    sum
+}
+
+// the sum of what stands in four tables at the nibbles of words
+#[inline(always)]
+fn four_looked_up(
+    first: u8x32,
+    second: u8x32,
+    third: u8x32,
+    fourth: u8x32,
+    low: u8x32,
+    high: u8x32,
+) -> u8x32
+    ensures { (f g h k : ℕ → ℕ) → IsTable f first → IsTable g second → IsTable h third → IsTable k fourth → result ≡ zip2 (λ x y. bit_xor (bit_xor (f (x % 16)) (g (x / 16))) (bit_xor (h (y % 16)) (k (y / 16)))) low high }
+{
+    let lower = lanes::sum(lanes::look_low(first, low), lanes::look_high(second, low));
+    let higher = lanes::sum(lanes::look_low(third, high), lanes::look_high(fourth, high));
+    lanes::sum(lower, higher)
+}

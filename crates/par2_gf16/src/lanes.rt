@@ -1,0 +1,104 @@
+//! Operations on vectors, lane by lane.
+
+ghost use Rattle.std.specs.Prelude.{◌≡◌, ℕ, ◌+◌, ◌*◌, ◌/◌, ◌%◌, ◌++◌, ◌<◌, ◌≤◌, length, slice_index, map, take, drop, bit_xor};
+ghost use Rattle.std.specs.Simd.Lanes.{zip2};
+ghost use Rattle.par2_gf16.specs.Steps.{IsTable, IsInterleaving, AddsLanes};
+
+use std::simd::prelude::*;
+
+// k is added to the sum where the lowest bit of the lane is set
+#[inline(always)]
+pub(crate) fn select_add(sum: u16x32, v: u16x32, k: u16) -> u16x32
+    ensures { result ≡ zip2 (λ s x. bit_xor s (x % 2 * k)) sum v }
+{
+    let one = u16x32::splat(1);
+    let odd = (v & one).simd_eq(one);
+    sum ^ odd.select(u16x32::splat(k), u16x32::splat(0))
+}
+
+#[inline(always)]
+pub(crate) fn halved(v: u16x32) -> u16x32
+    ensures { result ≡ map (λ x. x / 2) v }
+{
+    v >> u16x32::splat(1)
+}
+
+#[inline(always)]
+pub(crate) fn zeros(v: u16x32) -> u16x32
+    ensures { result ≡ map (λ _. 0) v }
+{
+    u16x32::splat(0)
+}
+
+#[inline(always)]
+pub(crate) fn lower_bytes(v: u16x32) -> u8x32
+    ensures { result ≡ map (λ x. x % 256) v }
+{
+    (v & u16x32::splat(255)).cast::<u8>()
+}
+
+#[inline(always)]
+pub(crate) fn higher_bytes(v: u16x32) -> u8x32
+    ensures { result ≡ map (λ x. x / 256) v }
+{
+    (v >> u16x32::splat(8)).cast::<u8>()
+}
+
+// looks the lower nibble of each lane up
+#[inline(always)]
+pub(crate) fn look_low(table: u8x32, v: u8x32) -> u8x32
+    ensures { (f : ℕ → ℕ) → IsTable f table → result ≡ map (λ x. f (x % 16)) v }
+{
+    table.swizzle_dyn_within::<16>(v & u8x32::splat(15))
+}
+
+// looks the higher nibble of each lane up
+#[inline(always)]
+pub(crate) fn look_high(table: u8x32, v: u8x32) -> u8x32
+    ensures { (f : ℕ → ℕ) → IsTable f table → result ≡ map (λ x. f (x / 16)) v }
+{
+    table.swizzle_dyn_within::<16>(v >> u8x32::splat(4))
+}
+
+#[inline(always)]
+pub(crate) fn sum(a: u8x32, b: u8x32) -> u8x32
+    ensures { result ≡ zip2 bit_xor a b }
+{
+    a ^ b
+}
+
+#[inline(always)]
+fn vector_at(bytes: &[u8], at: usize) -> u8x32
+    requires { at + 32 ≤ length bytes.now }
+    ensures value { result ≡ take 32 (drop at bytes.now) }
+    ensures fit { (i : ℕ) → slice_index bytes.now i < 256 }
+{
+    u8x32::from_slice(&bytes[at..])
+}
+
+// the lower and the higher bytes of the thirty-two words from byte `at` on
+#[inline(always)]
+pub(crate) fn words_at(bytes: &[u8], at: usize) -> (u8x32, u8x32)
+    requires { at + 64 ≤ length bytes.now }
+    ensures { IsInterleaving result.0 result.1 (take 64 (drop at bytes.now)) }
+{
+    let words = u16x32::from_le_bytes(u8x64::from_slice(&bytes[at..]));
+    (lower_bytes(words), higher_bytes(words))
+}
+
+#[inline(always)]
+pub(crate) fn interleaved(low: u8x32, high: u8x32) -> (u8x32, u8x32)
+    ensures { IsInterleaving low high (result.0 ++ result.1) }
+{
+    low.interleave(high)
+}
+
+// adds a vector to the bytes from `at` on
+#[inline(always)]
+pub(crate) fn add_vector(dst: &mut [u8], at: usize, v: u8x32)
+    requires { at + 32 ≤ length dst.old }
+    ensures { AddsLanes dst.old dst.new at v }
+{
+    let old = vector_at(dst, at);
+    sum(old, v).copy_to_slice(&mut dst[at..]);
+}

@@ -1,0 +1,165 @@
+//! The field by tables of logarithms and powers.
+
+ghost use Rattle.std.specs.Prelude.{◌≡◌, ◌<◌, ◌≤◌, ◌↔◌, ◌+◌, ◌*◌, ◌%◌, length, slice_index, IfOk, IfSome, IsNone};
+ghost use Rattle.par2_spec.specs.Field.{mul, pow, constant, is_spared};
+ghost use Rattle.par2_gf16.specs.Products.{IsInverse, AddsProducts};
+ghost use Rattle.par2_gf16.specs.Steps.{AddsWithin};
+ghost use Rattle.par2_gf16.specs.Tables.{AreTables};
+
+use crate::doubling::doubled;
+use crate::factor::add_blocks;
+use crate::words::{add_at, word_at};
+use std::alloc::{AllocError, Global};
+
+/// How many powers of 2 there are, which is how many elements but zero.
+const ORDER: u16 = 65535;
+
+/// How many constants there are.
+const CONSTANTS: u32 = 32768;
+
+// The length is a variable, so that no search computes a list of that length.
+fn blank(alloc: Global, n: usize) -> Result<Vec<u16>, AllocError>
+    ensures { IfOk result (λ v. length v.items ≡ n) }
+{
+    vec![in alloc; 0u16; n]
+}
+
+#[inline(always)]
+fn entry(table: &[u16], place: usize) -> u16
+    requires { place < length table.now }
+    ensures { result ≡ slice_index table.now place }
+{
+    table[place]
+}
+
+// whether the constants have this power of 2 among them
+fn is_constant_power(n: u16) -> bool
+    ensures { result ≡ is_spared n }
+{
+    n % 3 != 0 && n % 5 != 0 && n % 17 != 0 && n % 257 != 0
+}
+
+/// The field, with tables of the powers of 2, of their logarithms and of the constants of input slices. They take
+/// some 450 KB.
+#[derive(Drop)]
+pub struct Gf {
+    logs: Vec<u16>,
+    powers: Vec<u16>,
+    constants: Vec<u16>,
+    ghost tables: { AreTables logs.items powers.items constants.items },
+}
+
+impl Gf {
+    /// Fills the tables.
+    pub fn new(alloc: Global) -> Result<Gf, AllocError> {
+        let mut logs = blank(alloc, 65536)?;
+        let mut powers = Vec::new(alloc);
+        let mut constants = Vec::new(alloc);
+        let mut x = 1u16;
+        for i in 0..ORDER {
+            powers.push(x)?;
+            logs[x as usize] = i;
+            if is_constant_power(i) {
+                constants.push(x)?;
+            }
+            x = doubled(x);
+        }
+        for j in 0..ORDER {
+            powers.push(x)?;
+            x = doubled(x);
+        }
+        Ok(Gf {
+            logs,
+            powers,
+            constants,
+        })
+    }
+
+    /// The product of two elements.
+    pub fn mul(&self, a: u16, b: u16) -> u16
+        ensures { result ≡ mul a b }
+    {
+        if a == 0 || b == 0 {
+            return 0;
+        }
+        self.power(self.log(a) as usize + self.log(b) as usize)
+    }
+
+    /// The product of `e` copies of `a`: 1 where `e` is 0.
+    pub fn pow(&self, a: u16, e: u32) -> u16
+        ensures { result ≡ pow a e }
+    {
+        if e == 0 {
+            return 1;
+        }
+        if a == 0 {
+            return 0;
+        }
+        let exponent = self.log(a) as u64 * e as u64 % ORDER as u64;
+        self.power(exponent as usize)
+    }
+
+    /// The element whose product with `a` is 1, which zero alone does not have.
+    pub fn inv(&self, a: u16) -> Option<u16>
+        ensures none { IsNone result ↔ (a ≡ 0) }
+        ensures inverse { IfSome result (IsInverse a) }
+    {
+        if a == 0 {
+            None
+        } else {
+            Some(self.power((ORDER - self.log(a)) as usize))
+        }
+    }
+
+    /// What input slice `k`, counted from 0, is multiplied by in the recovery slice of exponent 1. There are 32,768.
+    pub fn constant(&self, k: u32) -> Option<u16>
+        ensures none { IsNone result ↔ (32768 ≤ k) }
+        ensures value { IfSome result (λ c. c ≡ constant k) }
+    {
+        if k < CONSTANTS {
+            Some(entry(&self.constants, k as usize))
+        } else {
+            None
+        }
+    }
+
+    /// To each word of `dst`, the lower byte first, adds the product of `c` and the word of `src`.
+    pub fn mul_add(&self, c: u16, src: &[u8], dst: &mut [u8])
+        requires same { length src.now ≡ length dst.old }
+        requires even { length dst.old % 2 ≡ 0 }
+        ensures { AddsProducts c src.now dst.old dst.new }
+    {
+        let blocks = dst.len() / 64;
+        add_blocks(c, src, dst, blocks);
+        for i in 32 * blocks..dst.len() / 2 {
+            self.add_word(c, src, dst, i);
+        }
+    }
+
+    // adds the product for word i
+    fn add_word(&self, c: u16, src: &[u8], dst: &mut [u8], i: usize)
+        requires fits { 2 * i + 1 < length dst.old }
+        requires same { length src.now ≡ length dst.old }
+        ensures { AddsWithin c src.now dst.old dst.new i (i + 1) }
+    {
+        let p = self.mul(c, word_at(src, 2 * i));
+        add_at(dst, 2 * i, p);
+    }
+
+    #[inline(always)]
+    fn log(&self, a: u16) -> u16
+        requires { 0 < a }
+        ensures below { result < 65535 }
+        ensures value { pow 2 result ≡ a }
+    {
+        entry(&self.logs, a as usize)
+    }
+
+    #[inline(always)]
+    fn power(&self, n: usize) -> u16
+        requires { n < 131070 }
+        ensures { result ≡ pow 2 n }
+    {
+        entry(&self.powers, n)
+    }
+}

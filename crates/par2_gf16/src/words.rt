@@ -1,0 +1,23 @@
+//! Words in bytes, the lower byte first.
+
+ghost use Rattle.std.specs.Prelude.{◌≡◌, ◌+◌, ◌*◌, ◌/◌, ◌%◌, ◌<◌, length, slice_index, slice_set, bit_xor};
+
+// adds p to the word at byte `at`
+#[inline(always)]
+pub(crate) fn add_at(dst: &mut [u8], at: usize, p: u16)
+    requires { at + 1 < length dst.old }
+    ensures bytes { (slice_index dst.old at < 256) × (slice_index dst.old (at + 1) < 256) }
+    ensures written { dst.new ≡ slice_set (slice_set dst.old at (bit_xor (slice_index dst.old at) (p % 256))) (at + 1) (bit_xor (slice_index dst.old (at + 1)) (p / 256)) }
+{
+    let [low, high] = p.to_le_bytes();
+    dst[at] ^= low;
+    dst[at + 1] ^= high;
+}
+
+#[inline(always)]
+pub(crate) fn word_at(src: &[u8], at: usize) -> u16
+    requires { at + 1 < length src.now }
+    ensures { result ≡ slice_index src.now at + 256 * slice_index src.now (at + 1) }
+{
+    u16::from_le_bytes([src[at], src[at + 1]])
+}

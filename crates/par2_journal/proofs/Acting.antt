@@ -1,0 +1,115 @@
+-- What an accepted action makes of a session, and a run of them.
+use Rattle.std.proofs.Common.{◌≡◌, ◌≢◌, ℕ, zero, suc, ◌+◌, ◌<◌, ◌≤◌, List, [], ◌∷◌, length, map, get_or, drop, Ok, Err, Result, true, refl, sym, ap, subst, ◌∙◌, add-one, arith}
+use Rattle.std.proofs.Math.Seq.{drop-cons}
+use Rattle.std.specs.Prelude.{IsErr}
+use Rattle.std.specs.List.{AllByRecursion}
+use Rattle.std.proofs.lemmas.List.{get_or-map, length-map, drop_all}
+use Rattle.par2_spec.specs.Views.{action_of}
+use Rattle.par2_spec.specs.declared.asked.Action as given
+use Rattle.par2_spec.specs.Changes.{Change}
+use Rattle.par2_spec.specs.Commands.{Action, Do, Undo, Redo, Command, Create, Verify, Repair, Purge}
+use Rattle.par2_spec.specs.History.{History, history_after, Run, Accepted, Passed, MayBeRefused, IsChanging, Refusal, NothingToUndo, NothingToRedo}
+use Rattle.par2_spec.specs.Sessions.{Session, KeptSession, OnlyGrew, CanWalk, session_of_kept, session_after, session_with, changes_asked, applied, first_entry, history_of, kept_undone, kept_redone}
+use Rattle.par2_spec.proofs.SessionLaws.{accepted_next, refused_alike, done_of_kept, undone_of_kept, redone_of_kept, walked_is_valid}
+use Rattle.par2_spec.proofs.AcceptedCommands.{command_leads}
+use Rattle.par2_journal.specs.Ready.{Kind, Changing, Undoing, Redoing, IsKindOf, changes_of, committed, next_of}
+use Rattle.par2_spec.specs.Opening.{is_valid}
+use Rattle.par2_journal.specs.Plain.{IsPlain}
+
+pub same_session : (old new : KeptSession) → OnlyGrew old new → session_of_kept new ≡ session_of_kept old
+same_session old new grew = λ i. record { folder = grew.files i; undos = grew.undos i; redos = grew.redos i }
+
+-- a command that was made ready
+pub command_done : (old mid : KeptSession) (command : Command) (kind : Kind) → IsChanging (Do command) → OnlyGrew old mid → IsKindOf (Do command) kind
+    → changes_asked (session_of_kept old) (Do command) ≡ Ok (changes_of kind old)
+    → session_after (session_of_kept old) (Do command) ≡ Ok (session_of_kept (committed kind mid))
+unfolding session_after
+command_done old mid command (Changing changes) changing grew is asked =
+    ap (applied (session_of_kept old) (Do command)) asked
+    ∙ ap (λ (s : Session). Ok (session_with s (Do command) changes)) (sym (same_session old mid grew))
+    ∙ ap Ok (sym (done_of_kept mid command changes changing))
+command_done old mid command Undoing changing grew is asked = absurd is
+command_done old mid command Redoing changing grew is asked = absurd is
+
+with_undos : KeptSession → List (List Change) → KeptSession
+with_undos s undos = record { folder = s.folder; undos = undos; redos = s.redos; room = s.room }
+
+with_redos : KeptSession → List (List Change) → KeptSession
+with_redos s redos = record { folder = s.folder; undos = s.undos; redos = redos; room = s.room }
+
+undo_by : (s : KeptSession) (undos : List (List Change)) → undos ≢ [] → session_after (session_of_kept (with_undos s undos)) Undo ≡ Ok (session_of_kept (kept_undone (with_undos s undos) (next_of undos)))
+unfolding session_after changes_asked with_undos
+undo_by s [] some = absurd (some refl)
+undo_by s (entry ∷ undos) some = ap Ok (sym (undone_of_kept (with_undos s (entry ∷ undos)) entry))
+
+pub undo_done : (s : KeptSession) → s.undos ≢ [] → session_after (session_of_kept s) Undo ≡ Ok (session_of_kept (kept_undone s (next_of s.undos)))
+unfolding with_undos
+undo_done s some = undo_by s s.undos some
+
+redo_by : (s : KeptSession) (redos : List (List Change)) → redos ≢ [] → session_after (session_of_kept (with_redos s redos)) Redo ≡ Ok (session_of_kept (kept_redone (with_redos s redos) (next_of redos)))
+unfolding session_after changes_asked with_redos
+redo_by s [] some = absurd (some refl)
+redo_by s (entry ∷ redos) some = ap Ok (sym (redone_of_kept (with_redos s (entry ∷ redos)) entry))
+
+pub redo_done : (s : KeptSession) → s.redos ≢ [] → session_after (session_of_kept s) Redo ≡ Ok (session_of_kept (kept_redone s (next_of s.redos)))
+unfolding with_redos
+redo_done s some = redo_by s s.redos some
+
+-- an empty side refuses
+no_undo : (s : KeptSession) → s.undos ≡ [] → session_after (session_of_kept s) Undo ≡ Err NothingToUndo
+unfolding session_after changes_asked
+no_undo s none = ap (λ entries. applied (session_of_kept s) Undo (first_entry NothingToUndo entries)) none
+
+no_redo : (s : KeptSession) → s.redos ≡ [] → session_after (session_of_kept s) Redo ≡ Err NothingToRedo
+unfolding session_after changes_asked
+no_redo s none = ap (λ entries. applied (session_of_kept s) Redo (first_entry NothingToRedo entries)) none
+
+pub undo_refused : (s : KeptSession) → s.undos ≡ [] → MayBeRefused (history_of (session_of_kept s)) Undo
+undo_refused s none = subst (λ (r : Result History Refusal). IsErr r) (sym (refused_alike (session_of_kept s) Undo NothingToUndo (no_undo s none))) refl
+
+pub redo_refused : (s : KeptSession) → s.redos ≡ [] → MayBeRefused (history_of (session_of_kept s)) Redo
+redo_refused s none = subst (λ (r : Result History Refusal). IsErr r) (sym (refused_alike (session_of_kept s) Redo NothingToRedo (no_redo s none))) refl
+
+-- the history goes along
+leads_asked : (s : Session) (action : Action) → IsPlain action → (t : Session) → is_valid s ≡ true → session_after s action ≡ Ok t → history_after (history_of s) action ≡ Ok (history_of t)
+leads_asked s (Do (Create a)) plain t valid h = (accepted_next s t (Do (Create a)) valid (λ _. command_leads s.folder (Create a) tt) h).0
+leads_asked s (Do (Verify base extras)) plain t valid h = absurd plain
+leads_asked s (Do (Repair base extras purge)) plain t valid h = absurd plain
+leads_asked s (Do (Purge base)) plain t valid h = absurd plain
+leads_asked s Undo plain t valid h = (accepted_next s t Undo valid tt h).0
+leads_asked s Redo plain t valid h = (accepted_next s t Redo valid tt h).0
+
+-- a run of what is left goes on from an accepted and from a refused action
+module _ (all : List Action) (i : ℕ) (within : i < length all) (action : Action) (read : action ≡ get_or all i action) (start : History) (old new : KeptSession) (n : ℕ)
+    (on : (k : ℕ) (end : History) → Run (history_of (session_of_kept old)) (drop i all) k end → Run start all (n + k) end) where
+  left : drop i all ≡ action ∷ drop (i + 1) all
+  left = rw add-one (drop-cons all i action within ∙ ap (λ a. a ∷ drop (suc i) all) (sym read))
+
+  pub on_accepted : IsPlain action → CanWalk old → session_after (session_of_kept old) action ≡ Ok (session_of_kept new)
+      → (k : ℕ) (end : History) → Run (history_of (session_of_kept new)) (drop (i + 1) all) k end → Run start all (n + 1 + k) end
+  on_accepted plain walks step k end run =
+      let sum : n + suc k ≡ n + 1 + k = omega arith in
+      let next = leads_asked (session_of_kept old) action plain (session_of_kept new) (walked_is_valid old walks) step in
+      subst (λ m. Run start all m end) sum (on (suc k) end (subst (λ l. Run (history_of (session_of_kept old)) l (suc k) end) (sym left) (Accepted next run)))
+
+  pub on_refused : MayBeRefused (history_of (session_of_kept old)) action → OnlyGrew old new
+      → (k : ℕ) (end : History) → Run (history_of (session_of_kept new)) (drop (i + 1) all) k end → Run start all (n + k) end
+  on_refused may grew k end run =
+      on k end (subst (λ l. Run (history_of (session_of_kept old)) l k end) (sym left)
+      (Passed may (subst (λ s. Run (history_of s) (drop (i + 1) all) k end) (same_session old new grew) run)))
+
+-- ---- the actions as they are handed in
+
+pub plain_at : (actions : List given.Action) (i : ℕ) (d : given.Action) → i < length actions → AllByRecursion IsPlain (map action_of actions) → IsPlain (action_of (get_or actions i d))
+plain_at [] i d within all = absurd (omega (arith, within))
+plain_at (action ∷ actions) zero d within all = all.0
+plain_at (action ∷ actions) (suc i) d within all = plain_at actions i d (omega (arith, within)) all.1
+
+pub read_at : (actions : List given.Action) (i : ℕ) (item : given.Action) → i < length actions → item ≡ get_or actions i item → action_of item ≡ get_or (map action_of actions) i (action_of item)
+read_at actions i item within is = ap action_of is ∙ sym (get_or-map action_of actions i item (action_of item) within)
+
+pub within_all : (actions : List given.Action) (i : ℕ) → i < length actions → i < length (map action_of actions)
+within_all actions i within = rw (length-map actions action_of) within
+
+pub none_left : (actions : List given.Action) (i : ℕ) → length actions ≤ i → drop i (map action_of actions) ≡ []
+none_left actions i all = drop_all i (map action_of actions) (rw (length-map actions action_of) all)

@@ -1,0 +1,4 @@
+mod Entries
+mod Turned
+mod Asked
+mod Acting

@@ -1,0 +1,21 @@
+use Rattle.std.proofs.Common.{ap, sym, subst, ◌∙◌, arith}
+use Rattle.std.specs.Prelude.{IsTrue}
+use Rattle.std.specs.List.{insert}
+use Rattle.par2_spec.specs.Changes.{takes_all}
+use Rattle.par2_spec.specs.Sessions.{KeptSession}
+use Rattle.par2_journal.proofs.Entries.{length_added}
+use Rattle.par2_journal.proofs.Turned.{done_walks}
+use Rattle.par2_journal.proofs.session.Session.add.Goals as goal
+
+pub invariant_of-self : goal.invariant_of-self
+invariant_of-self c =
+    let xs = c.self.inside.entries.items in
+    let n = c.self.inside.cursor in
+    let within = c.self.invariant.within in
+    let turned = c.turn.new.self in
+    let applies = subst (λ (s : KeptSession). IsTrue (takes_all s.folder c.args.changes)) (sym c.self.view_is) c.requires.applies in
+    let items = c.in-Ok.ensures.items ∙ ap (λ l. insert l n turned) c.truncate.ensures.items in
+    record {
+      within = rw items (omega (arith, length_added xs n within turned));
+      walks = rw items (done_walks c.self.inside.folder c.turn.new.folder xs n within _ _ c.args.changes turned c.turn.ensures.folder c.turn.ensures.way_back c.self.invariant.walks applies);
+    }

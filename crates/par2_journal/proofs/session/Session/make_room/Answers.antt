@@ -1,0 +1,20 @@
+use Rattle.std.proofs.Common.{ap, take, drop, arith}
+use Rattle.std.specs.Prelude.{reverse}
+use Rattle.par2_spec.proofs.SessionLaws.{grown_can_walk}
+use Rattle.par2_journal.specs.Kept.{kept_session}
+use Rattle.par2_journal.proofs.session.Session.make_room.Goals as goal
+
+pub invariant_of-self-2 : goal.invariant_of-self-2
+invariant_of-self-2 c =
+    let items = c.reserve-2.ensures.items in
+    let i = c.self.inside.cursor in
+    record {
+      within = rw items c.self.invariant.within;
+      walks = grown_can_walk (kept_session c.self.inside) _ c.self.invariant.walks (record {
+        files = c.in_ok-reserve.ensures.files;
+        undos = ap (λ xs. reverse (take i xs)) items;
+        redos = ap (drop i) items;
+        vacant = omega (arith, c.in_ok-reserve.ensures.ok);
+        room = omega (arith, c.reserve-2.ensures.capacity, c.reserve-2.ensures.len);
+      });
+    }

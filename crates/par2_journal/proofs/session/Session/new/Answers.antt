@@ -1,0 +1,10 @@
+use Rattle.std.proofs.Common.{refl, arith}
+use Rattle.par2_spec.specs.Sessions.{walks}
+use Rattle.par2_journal.proofs.session.Session.new.Goals as goal
+
+pub invariant_of-result : goal.invariant_of-result
+unfolding walks
+invariant_of-result c = record {
+  within = omega arith;
+  walks = record { back = refl; forth = rw c.new.ensures.items refl };
+}

@@ -1,0 +1,60 @@
+use Rattle.std.proofs.Common.{◌≡◌, ◌+◌, map, sym, subst, arith}
+use Rattle.par2_spec.specs.Views.{action_of}
+use Rattle.par2_spec.specs.History.{Run, Ended}
+use Rattle.par2_spec.specs.Sessions.{session_of_kept, history_of}
+use Rattle.par2_spec.proofs.SessionLaws.{run_leaves}
+use Rattle.par2_journal.specs.Plain.{IsPlain}
+use Rattle.par2_journal.proofs.Acting.{plain_at, within_all, read_at, none_left, on_accepted, on_refused}
+use Rattle.par2_journal.proofs.session.Session.play.Goals as goal
+
+pub act-requires : goal.act-requires
+act-requires c = rw c.action-item.is (plain_at c.args.actions.now c.loop-action.action-index _ c.loop-action-test.true c.requires)
+
+pub loop-action-preserved-in-Err : goal.loop-action-preserved-in-Err
+loop-action-preserved-in-Err c =
+    let actions = c.args.actions.now in
+    let all = map action_of actions in
+    let i = c.loop-action.action-index in
+    let item = c.action-item.result in
+    let within = c.loop-action-test.true in
+    record {
+      counted = omega (arith, c.loop-action.invariant.counted);
+      run = on_refused all i (within_all actions i within) (action_of item) (read_at actions i item within c.action-item.is) (history_of (session_of_kept c.args.self.now)) c.loop-action.self c.act.new.self c.loop-action.accepted c.loop-action.invariant.run c.in-Err.ensures.refused c.in-Err.ensures.unchanged;
+    }
+
+pub loop-action-preserved : goal.loop-action-preserved
+loop-action-preserved c =
+    let actions = c.args.actions.now in
+    let all = map action_of actions in
+    let i = c.loop-action.action-index in
+    let item = c.action-item.result in
+    let within = c.loop-action-test.true in
+    let plain : IsPlain (action_of item) = rw c.action-item.is (plain_at actions i _ within c.requires) in
+    record {
+      counted = omega (arith, c.loop-action.invariant.counted);
+      run = on_accepted all i (within_all actions i within) (action_of item) (read_at actions i item within c.action-item.is) (history_of (session_of_kept c.args.self.now)) c.loop-action.self c.act.new.self c.loop-action.accepted c.loop-action.invariant.run plain c.in-Ok.ensures.walks c.in-Ok.ensures.done;
+    }
+
+pub returns-clause-run : goal.returns-clause-run
+returns-clause-run c =
+    let actions = c.args.actions.now in
+    let all = map action_of actions in
+    let i = c.loop-action.action-index in
+    let start = history_of (session_of_kept c.args.self.now) in
+    let here = history_of (session_of_kept c.loop-action.self) in
+    let n = c.loop-action.accepted in
+    let sum : n + 0 ≡ n = omega arith in
+    let run : Run start all n here = subst (λ m. Run start all m here) sum (c.loop-action.invariant.run 0 here (subst (λ l. Run here l 0 here) (sym (none_left actions i c.loop-action-test.false)) Ended)) in
+    run
+
+pub returns-clause-undos : goal.returns-clause-undos
+returns-clause-undos c changing =
+    let actions = c.args.actions.now in
+    let all = map action_of actions in
+    let i = c.loop-action.action-index in
+    let start = history_of (session_of_kept c.args.self.now) in
+    let here = history_of (session_of_kept c.loop-action.self) in
+    let n = c.loop-action.accepted in
+    let sum : n + 0 ≡ n = omega arith in
+    let run : Run start all n here = subst (λ m. Run start all m here) sum (c.loop-action.invariant.run 0 here (subst (λ l. Run here l 0 here) (sym (none_left actions i c.loop-action-test.false)) Ended)) in
+    run_leaves start here all n run changing

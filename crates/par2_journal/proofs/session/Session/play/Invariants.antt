@@ -1,0 +1,13 @@
+use Rattle.std.proofs.Common.{ℕ, ◌+◌, ◌≤◌, drop, map}
+use Rattle.par2_spec.specs.History.{History, Run}
+use Rattle.par2_spec.specs.Sessions.{session_of_kept, history_of}
+use Rattle.par2_spec.specs.Views.{action_of}
+use Rattle.par2_journal.proofs.session.Session.play.Given as goal
+
+-- a run of what is left is a run of all
+abbrev pub invariant-loop-action : goal.invariant-loop-action
+invariant-loop-action l =
+    record {
+      counted : l.accepted ≤ l.action-index;
+      run : (k : ℕ) (end : History) → Run (history_of (session_of_kept l.self)) (drop l.action-index (map action_of l.actions)) k end → Run (history_of (session_of_kept l.fn.self)) (map action_of l.actions) (l.accepted + k) end;
+    }

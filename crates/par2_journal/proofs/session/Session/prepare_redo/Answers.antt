@@ -1,0 +1,15 @@
+use Rattle.std.proofs.Common.{◌≡◌, ◌<◌, ◌∙◌, length, ap, arith}
+use Rattle.par2_spec.specs.Texts.{step_of}
+use Rattle.std.specs.Prelude.{map}
+use Rattle.par2_journal.proofs.Asked.{nothing_to_redo, ready_redo}
+use Rattle.par2_journal.proofs.session.Session.prepare_redo.Goals as goal
+
+pub returns-then-redo_depth-eq0-clause-refused : goal.returns-then-redo_depth-eq0-clause-refused
+returns-then-redo_depth-eq0-clause-refused c =
+    let none : length c.args.self.now.redos ≡ 0 = grind (arith, c.redo_depth.ensures, c.if-redo_depth-eq0.true) in
+    nothing_to_redo c.args.self.now none
+
+pub returns-in-Ok-clause-ready : goal.returns-in-Ok-clause-ready
+returns-in-Ok-clause-ready c =
+    let some : 0 < length c.args.self.now.redos = grind (arith, c.redo_depth.ensures, c.if-redo_depth-eq0.false) in
+    ready_redo c.args.self.now c.in-Ok.steps some (c.in-Ok.ensures ∙ ap (map step_of) c.next_redo.ensures)

@@ -1,0 +1,15 @@
+use Rattle.std.proofs.Common.{◌≡◌, ◌<◌, ◌∙◌, length, ap, arith}
+use Rattle.par2_spec.specs.Texts.{step_of}
+use Rattle.std.specs.Prelude.{map}
+use Rattle.par2_journal.proofs.Asked.{nothing_to_undo, ready_undo}
+use Rattle.par2_journal.proofs.session.Session.prepare_undo.Goals as goal
+
+pub returns-then-undo_depth-eq0-clause-refused : goal.returns-then-undo_depth-eq0-clause-refused
+returns-then-undo_depth-eq0-clause-refused c =
+    let none : length c.args.self.now.undos ≡ 0 = grind (arith, c.undo_depth.ensures, c.if-undo_depth-eq0.true) in
+    nothing_to_undo c.args.self.now none
+
+pub returns-in-Ok-clause-ready : goal.returns-in-Ok-clause-ready
+returns-in-Ok-clause-ready c =
+    let some : 0 < length c.args.self.now.undos = grind (arith, c.undo_depth.ensures, c.if-undo_depth-eq0.false) in
+    ready_undo c.args.self.now c.in-Ok.steps some (c.in-Ok.ensures ∙ ap (map step_of) c.next_undo.ensures)

@@ -1,0 +1,41 @@
+use Rattle.std.proofs.Common.{◌<◌, ◌-◌, length, length-set, ap, ◌∙◌, arith, sym, vec_len, vec_capacity}
+use Rattle.par2_spec.specs.Sessions.{KeptSession, kept_redone}
+use Rattle.par2_journal.specs.Ready.{next_of}
+use Rattle.par2_journal.specs.Kept.{kept_session}
+use Rattle.par2_journal.proofs.Turned.{redo_taken, redone_to, redone_walks, next_redo_is}
+use Rattle.par2_journal.proofs.session.Session.redo.Goals as goal
+
+pub turn-requires : goal.turn-requires
+turn-requires c =
+    let xs = c.self.inside.entries.items in
+    let i = c.self.inside.cursor in
+    let least = c.self.invariant.within in
+    let same = c.self.inside.entries.ok.0 in
+    let within : i < length xs = grind (arith, c.if-at-len.false, c.len.ensures) in
+    let entry = c.index_mut-entry.result.now in
+    redo_taken xs i within entry c.index_mut-entry.ensures.value c.self.inside.folder _ c.self.invariant.walks
+
+pub invariant_of-self : goal.invariant_of-self
+invariant_of-self c =
+    let xs = c.self.inside.entries.items in
+    let i = c.self.inside.cursor in
+    let least = c.self.invariant.within in
+    let same = c.self.inside.entries.ok.0 in
+    let within : i < length xs = grind (arith, c.if-at-len.false, c.len.ensures) in
+    let entry = c.index_mut-entry.result.now in
+    record {
+      within = omega (arith, within, length-set xs i c.turn.new.self);
+      walks = redone_walks xs i within entry c.index_mut-entry.ensures.value c.self.inside.folder c.turn.new.folder _ c.turn.new.self c.turn.ensures.folder c.turn.ensures.way_back c.self.invariant.walks;
+    }
+
+pub returns-clause-redone : goal.returns-clause-redone
+returns-clause-redone c =
+    let xs = c.self.inside.entries.items in
+    let i = c.self.inside.cursor in
+    let least = c.self.invariant.within in
+    let same = c.self.inside.entries.ok.0 in
+    let within : i < length xs = grind (arith, c.if-at-len.false, c.len.ensures) in
+    let entry = c.index_mut-entry.result.now in
+    redone_to xs i within entry c.index_mut-entry.ensures.value c.self.inside.folder c.turn.new.folder (vec_capacity c.self.inside.entries - vec_len c.self.inside.entries) c.turn.new.self c.turn.ensures.folder c.turn.ensures.way_back
+    ∙ ap (kept_redone (kept_session c.self.inside)) (sym (next_redo_is xs i within entry c.index_mut-entry.ensures.value))
+    ∙ ap (λ (s : KeptSession). kept_redone s (next_of s.redos)) c.self.view_is

@@ -1,0 +1,17 @@
+-- Why a session refuses an action.
+use Rattle.std.specs.Prelude.{◌≡◌, ◌⊎◌, Err}
+use Rattle.par2_spec.specs.Commands.{Action}
+use Rattle.par2_spec.specs.History as history
+use Rattle.par2_spec.specs.Sessions.{KeptSession, session_of_kept, changes_asked}
+use Rattle.par2_spec.specs.declared.Fault.TheVariants.{Memory}
+use Rattle.par2_journal.specs.declared.prepared.SessionFault.{SessionFault}
+use Rattle.par2_journal.specs.declared.prepared.SessionFault.TheVariants.{Plan, NothingToUndo, NothingToRedo}
+
+abbrev pub refusal_of : SessionFault → history.Refusal
+refusal_of (Plan fault) = history.Refused fault
+refusal_of NothingToUndo = history.NothingToUndo
+refusal_of NothingToRedo = history.NothingToRedo
+
+-- for the cause that the definitions name, or for want of memory
+abbrev pub MayRefuse : Action → KeptSession → SessionFault → Type 0
+MayRefuse action s fault = (fault ≡ Plan Memory) ⊎ (changes_asked (session_of_kept s) action ≡ Err (refusal_of fault))

@@ -1,0 +1,6 @@
+pub mod Stepped
+pub mod Ready
+pub mod Kinds
+pub mod Kept
+pub mod Plain
+pub mod Faulted

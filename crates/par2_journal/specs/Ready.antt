@@ -1,0 +1,83 @@
+-- What a session makes ready, when it still fits, and what committing it leaves.
+use Rattle.std.specs.Prelude.{◌≡◌, ◌≢◌, ◌<◌, ℕ, zero, suc, List, [], ◌∷◌, map, IsTrue, Ok}
+use Rattle.std.specs.Prelude.{refl}
+use Rattle.std.specs.Coded.{Coded, code_by, coded×, coded_ℕ, coded_list}
+use Rattle.par2_spec.specs.Codes.{change_code}
+use Rattle.par2_spec.specs.SessionCodes.{step_code}
+use Rattle.par2_spec.specs.Changes.{Change, takes_all}
+use Rattle.par2_spec.specs.Commands.{Action, Do, Undo, Redo}
+use Rattle.par2_spec.specs.Sessions.{KeptSession, session_of_kept, changes_asked, kept_done, kept_undone, kept_redone}
+use Rattle.par2_spec.specs.Texts.{Step, step_of}
+
+-- what committing does: a command's own changes, or the next entry of one side
+pub data Kind : Type 0 where
+  Changing : List Change → Kind
+  Undoing : Kind
+  Redoing : Kind
+
+-- what was made ready: its kind, and the steps that are told of it
+pub record Ready : Type 0 where
+  pub kind : Kind
+  pub steps : List Step
+
+abbrev pub next_of : List (List Change) → List Change
+next_of [] = []
+next_of (entry ∷ entries) = entry
+
+-- the changes that committing applies
+abbrev pub changes_of : Kind → KeptSession → List Change
+changes_of (Changing changes) s = changes
+changes_of Undoing s = next_of s.undos
+changes_of Redoing s = next_of s.redos
+
+-- there is something to apply, and room for it
+abbrev pub CanBe : Kind → KeptSession → Type 0
+CanBe (Changing changes) s = IsTrue (takes_all s.folder changes) × (0 < s.room)
+CanBe Undoing s = s.undos ≢ []
+CanBe Redoing s = s.redos ≢ []
+
+-- it can be committed
+pub record Fits (ready : Ready) (s : KeptSession) : Type 0 where
+  pub can : CanBe ready.kind s
+  pub steps : ready.steps ≡ map step_of (changes_of ready.kind s)
+
+-- the session afterwards
+abbrev pub committed : Kind → KeptSession → KeptSession
+committed (Changing changes) s = kept_done s changes
+committed Undoing s = kept_undone s (next_of s.undos)
+committed Redoing s = kept_redone s (next_of s.redos)
+
+-- what is made ready is of the kind that was asked for
+abbrev pub IsKindOf : Action → Kind → Type 0
+IsKindOf (Do command) (Changing changes) = Unit {0}
+IsKindOf Undo Undoing = Unit {0}
+IsKindOf Redo Redoing = Unit {0}
+IsKindOf action kind = ⊥
+
+-- what an action makes ready: it can be committed, and applies the changes that are asked for
+pub record IsReady (action : Action) (old : KeptSession) (ready : Ready) (new : KeptSession) : Type 0 where
+  pub fits : Fits ready new
+  pub kind : IsKindOf action ready.kind
+  pub asked : changes_asked (session_of_kept old) action ≡ Ok (changes_of ready.kind old)
+
+-- how a model stores it
+abbrev pub kind_number : Kind → ℕ × List Change
+kind_number (Changing changes) = (0, changes)
+kind_number Undoing = (1, [])
+kind_number Redoing = (2, [])
+
+abbrev pub numbered_kind : ℕ → List Change → Kind
+numbered_kind zero changes = Changing changes
+numbered_kind (suc zero) changes = Undoing
+numbered_kind (suc (suc n)) changes = Redoing
+
+pub kind_number_back : (kind : Kind) → numbered_kind (kind_number kind).0 (kind_number kind).1 ≡ kind
+kind_number_back (Changing changes) = refl
+kind_number_back Undoing = refl
+kind_number_back Redoing = refl
+
+abbrev pub kind_code : Coded Kind
+kind_code = code_by (ℕ × List Change) (coded× coded_ℕ (coded_list change_code)) kind_number (λ p. numbered_kind p.0 p.1) kind_number_back
+
+abbrev pub ready_code : Coded Ready
+ready_code = code_by (Kind × List Step) (coded× kind_code (coded_list step_code)) (λ r. (r.kind, r.steps)) (λ p. record { kind = p.0; steps = p.1 }) (λ _. refl)

@@ -1,0 +1,15 @@
+//! A session on a folder: commands that change it, and undo and redo of each, by changes that turn into their
+//! inverses.
+#![tactic(auto)]
+
+mod history;
+mod prepared;
+mod session;
+mod step;
+
+pub use history::{NothingToRedo, NothingToUndo};
+pub use par2_plan::{Changes, CreateArgs, Fault};
+pub use par2_spec::Action;
+pub use prepared::{Prepared, SessionFault};
+pub use session::Session;
+pub use step::{Step, Steps};

@@ -1,0 +1,53 @@
+//! What a session has made ready.
+use crate::Steps;
+use par2_plan::{Changes, Fault};
+use std::marker::Model;
+use thiserror::Error;
+
+/// Why a session refuses an action.
+#[derive(Debug, Error, Clone, Copy, PartialEq, Eq)]
+pub enum SessionFault {
+    #[error("the command is refused")]
+    Plan(Fault),
+    #[error("nothing to undo")]
+    NothingToUndo,
+    #[error("nothing to redo")]
+    NothingToRedo,
+}
+
+// What committing does.
+#[derive(Debug, Drop)]
+pub enum Task {
+    Change(Changes),
+    Undo,
+    Redo,
+}
+
+/// An action that a session has made ready: what it does, and the steps that are told of it.
+#[derive(Debug, Drop)]
+pub struct Prepared {
+    pub(crate) task: Task,
+    pub(crate) steps: Steps,
+}
+
+impl Model for Prepared {
+    ghost use Rattle.par2_journal.specs.Ready.{Ready, ready_code};
+    ghost use Rattle.par2_journal.specs.Kinds.{kind_of};
+
+    ghost Value = { Ready };
+
+    ghost coded = { ready_code };
+
+    ghost view = { λ a. record { kind = kind_of a.task; steps = a.steps } };
+}
+
+impl Prepared {
+    ghost use Rattle.std.specs.Prelude.{◌≡◌};
+
+    /// The steps, in the order in which their changes are applied.
+    pub fn steps(&self) -> &Steps
+        ensures { result.now ≡ self.now.steps }
+    {
+        &self.steps
+    }
+}

@@ -1,0 +1,96 @@
+-- Clearing a column, one equation after the other.
+use Rattle.std.proofs.Common.{ℕ, ◌+◌, ◌*◌, ◌<◌, ◌≡◌, inl, inr, sym, ap, ◌∙◌, subst, arith, List, length, get_or, set, bit_xor, Vec, Global}
+use Rattle.std.proofs.lemmas.Bool.{cases_eq}
+use Rattle.par2_spec.specs.Field.{mul}
+use Rattle.par2_spec.specs.Slices.{word}
+use Rattle.par2_gf16.specs.Products.{AddsProducts}
+use Rattle.par2_matrix.specs.Echelon.{list_at, lists_of, OneChanged, ClearedBelow, PutAt}
+use Rattle.par2_matrix.proofs.Words.{written_here, written_changed, length-lists_of}
+
+same_sizes : (old mid new : List (List ℕ)) (p : ℕ) → OneChanged mid new p → length (list_at new p) ≡ length (list_at mid p)
+    → ((i : ℕ) → length (list_at mid i) ≡ length (list_at old i)) → (i : ℕ) → length (list_at new i) ≡ length (list_at old i)
+same_sizes old mid new p changed here before i = elim (cases_eq i p) [
+  | inl same ↦ subst (λ x. length (list_at new x) ≡ length (list_at old x)) (sym same) (here ∙ before p)
+  | inr other ↦ ap length (changed.others i other) ∙ before i
+]
+
+-- a multiple of src was added to list p, where the lists below p have theirs
+added_below : (old mid new : List (List ℕ)) (src : List ℕ) (k : ℕ → ℕ) (p : ℕ) → OneChanged mid new p → AddsProducts (k p) src (list_at mid p) (list_at new p) → list_at mid p ≡ list_at old p
+    → ((i w : ℕ) → i < p → 2 * w + 1 < length (list_at old i) → word w (list_at mid i) ≡ bit_xor (word w (list_at old i)) (mul (k i) (word w src)))
+    → (i w : ℕ) → i < p + 1 → 2 * w + 1 < length (list_at old i) → word w (list_at new i) ≡ bit_xor (word w (list_at old i)) (mul (k i) (word w src))
+added_below old mid new src k p changed added was below i w hi hw = elim (cases_eq i p) [
+  | inl same ↦
+      subst (λ x. word w (list_at new x) ≡ bit_xor (word w (list_at old x)) (mul (k x) (word w src))) (sym same)
+      (subst (λ xs. word w (list_at new p) ≡ bit_xor (word w xs) (mul (k p) (word w src))) was
+      (added.each w (subst (λ n. 2 * w + 1 < n) (ap (λ x. length (list_at old x)) same ∙ sym (ap length was)) hw)))
+  | inr other ↦ ap (λ xs. word w xs) (changed.others i other) ∙ below i w (omega arith) hw
+]
+
+pub clear_turn : (q p k : ℕ) (row right target : List ℕ) (R D R1 D1 R2 D2 : List (List ℕ)) → ClearedBelow q row right R D R1 D1 p
+    → target ≡ list_at R1 p → k ≡ word q target
+    → OneChanged R1 R2 p → AddsProducts k row (list_at R1 p) (list_at R2 p)
+    → OneChanged D1 D2 p → AddsProducts k right (list_at D1 p) (list_at D2 p) → ((i : ℕ) → get_or (list_at D2 p) i 0 < 256)
+    → ClearedBelow q row right R D R2 D2 (p + 1)
+clear_turn q p k row right target R D R1 D1 R2 D2 so_far et ek rows row_added rights right_added bytes =
+    let at_row : list_at R1 p ≡ list_at R p = so_far.rows_above p (omega arith) in
+    let at_right : list_at D1 p ≡ list_at D p = so_far.rights_above p (omega arith) in
+    let factor : ℕ → ℕ = λ i. word q (list_at R i) in
+    let is : k ≡ factor p = ek ∙ ap (λ xs. word q xs) (et ∙ at_row) in
+    let row_adds : AddsProducts (factor p) row (list_at R1 p) (list_at R2 p) = subst (λ x. AddsProducts x row (list_at R1 p) (list_at R2 p)) is row_added in
+    let right_adds : AddsProducts (factor p) right (list_at D1 p) (list_at D2 p) = subst (λ x. AddsProducts x right (list_at D1 p) (list_at D2 p)) is right_added in
+    record {
+      row_count = rows.count ∙ so_far.row_count;
+      right_count = rights.count ∙ so_far.right_count;
+      row_sizes = same_sizes R R1 R2 p rows row_added.same_length so_far.row_sizes;
+      right_sizes = same_sizes D D1 D2 p rights right_added.same_length so_far.right_sizes;
+      entries = added_below R R1 R2 row factor p rows row_adds at_row so_far.entries;
+      texts = added_below D D1 D2 right factor p rights right_adds at_right so_far.texts;
+      are_bytes = λ i b. elim (cases_eq i p) [
+        | inl same ↦ subst (λ x. get_or (list_at D2 x) b 0 < 256) (sym same) (bytes b)
+        | inr other ↦ subst (λ xs. get_or xs b 0 < 256) (sym (rights.others i other)) (so_far.are_bytes i b)
+      ];
+      rows_above = λ i l. rows.others i (λ e. omega arith) ∙ so_far.rows_above i (omega arith);
+      rights_above = λ i l. rights.others i (λ e. omega arith) ∙ so_far.rights_above i (omega arith);
+    }
+
+-- where there is no equation, nothing is added
+pub clear_pass : (q p : ℕ) (row right target : List ℕ) (R D R1 D1 : List (List ℕ)) → ClearedBelow q row right R D R1 D1 p
+    → target ≡ list_at R1 p → length target ≡ 0 → (length (list_at R p) ≡ 0 → length (list_at D p) ≡ 0) → ClearedBelow q row right R D R1 D1 (p + 1)
+clear_pass q p row right target R D R1 D1 so_far et none absent =
+    let row_none : length (list_at R p) ≡ 0 = ap length (sym (et ∙ so_far.rows_above p (omega arith))) ∙ none in
+    let right_none : length (list_at D p) ≡ 0 = absent row_none in
+    record {
+      row_count = so_far.row_count;
+      right_count = so_far.right_count;
+      row_sizes = so_far.row_sizes;
+      right_sizes = so_far.right_sizes;
+      entries = λ i w hi hw. elim (cases_eq i p) [
+        | inl same ↦ absurd (let z : length (list_at R i) ≡ 0 = ap (λ x. length (list_at R x)) same ∙ row_none in omega arith)
+        | inr other ↦ so_far.entries i w (omega arith) hw
+      ];
+      texts = λ i w hi hw. elim (cases_eq i p) [
+        | inl same ↦ absurd (let z : length (list_at D i) ≡ 0 = ap (λ x. length (list_at D x)) same ∙ right_none in omega arith)
+        | inr other ↦ so_far.texts i w (omega arith) hw
+      ];
+      are_bytes = so_far.are_bytes;
+      rows_above = λ i l. so_far.rows_above i (omega arith);
+      rights_above = λ i l. so_far.rights_above i (omega arith);
+    }
+
+pub put_at : (q n : ℕ) (row right : List ℕ) (R D : List (List ℕ)) (rs ds : List (Vec ℕ Global)) (v w : Vec ℕ Global) → q < length rs → q < length ds → v.items ≡ row → w.items ≡ right
+    → ((k : ℕ) → get_or row k 0 < 256) → ((k : ℕ) → get_or right k 0 < 256)
+    → n ≡ length R → ClearedBelow q row right R D (lists_of rs) (lists_of ds) n → PutAt q row right R D (lists_of (set rs q v)) (lists_of (set ds q w))
+put_at q n row right R D rs ds v w hr hd ev ew row_bytes right_bytes en cleared = record {
+  cleared_rows = lists_of rs;
+  cleared_rights = lists_of ds;
+  cleared = subst (λ x. ClearedBelow q row right R D (lists_of rs) (lists_of ds) x) en cleared;
+  at_row = written_here rs q v hr ∙ ev;
+  at_right = written_here ds q w hd ∙ ew;
+  row_bytes = row_bytes;
+  right_bytes = right_bytes;
+  other_rows = written_changed rs q v;
+  other_rights = written_changed ds q w;
+}
+
+pub place_within : (vs : List (Vec ℕ Global)) (old : List (List ℕ)) (q n : ℕ) → q < n → length (lists_of vs) ≡ length old → length old ≡ n → q < length vs
+place_within vs old q n h e f = omega (arith, length-lists_of vs)

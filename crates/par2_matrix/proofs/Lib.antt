@@ -1,0 +1,10 @@
+pub mod Words
+pub mod Sums
+pub mod Reduced
+pub mod Taking
+pub mod Clearing
+pub mod Placing
+pub mod Standing
+pub mod Offering
+pub mod Views
+pub mod Promises

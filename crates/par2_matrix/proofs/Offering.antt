@@ -1,0 +1,92 @@
+-- An offer, put together.
+use Rattle.std.proofs.Common.{ℕ, ◌+◌, ◌*◌, ◌<◌, ◌≡◌, ◌≢◌, inl, inr, sym, ap, ◌∙◌, subst, arith, List, length, get_or}
+use Rattle.std.proofs.lemmas.Bool.{cases_lt}
+use Rattle.par2_spec.specs.Field.{mul}
+use Rattle.par2_spec.specs.Slices.{word}
+use Rattle.par2_spec.proofs.FieldOrder.{product-zero}
+use Rattle.par2_matrix.specs.Echelon.{echelon, IsReduced, PutAt, ReducedBelow, list_at, IsPrepared}
+use Rattle.par2_matrix.proofs.Words.{word-lt}
+use Rattle.par2_matrix.proofs.Reduced.{ToldApart, told_apart, all_present, present_at_most}
+use Rattle.par2_matrix.proofs.Placing.{Placed, Cut, cut_down}
+use Rattle.par2_matrix.proofs.Standing.{placed_reduced}
+
+-- an equation was kept: it told a vector apart, and it cuts the system down
+pub record IsTaken (n b rank : ℕ) (row right : List ℕ) (R D R'' D'' : List (List ℕ)) : Type 0 where
+  pub told : ToldApart (echelon n b rank R D) row
+  pub cut : Cut (echelon n b rank R D) (echelon n b (rank + 1) R'' D'') row right
+  pub reduced : IsReduced (echelon n b (rank + 1) R'' D'')
+  pub row_bytes : (k : ℕ) → get_or row k 0 < 256
+  pub right_bytes : (k : ℕ) → get_or right k 0 < 256
+
+tells : (n b rank : ℕ) (R D : List (List ℕ)) (row0 right0 row right : List ℕ) (q : ℕ) → IsReduced (echelon n b rank R D)
+    → IsPrepared (echelon n b 0 R D) row0 right0 row right q → ToldApart (echelon n b rank R D) row0
+tells n b rank R D row0 right0 row right q r p =
+    let t = told_apart (echelon n b rank R D) r p.row1 q p.place p.nonzero (λ i. word-lt p.row1 i p.bytes1) p.taken.none in
+    record {
+      vector = t.vector;
+      are_elements = t.are_elements;
+      killed = t.killed;
+      told = λ e. t.told (p.taken.kills t.vector t.are_elements t.killed ∙ e);
+    }
+
+-- the place that an offer takes was free
+free_at : (n b : ℕ) (R D : List (List ℕ)) (row0 right0 row right : List ℕ) (q : ℕ) → IsPrepared (echelon n b 0 R D) row0 right0 row right q → length (list_at R q) ≡ 0
+free_at n b R D row0 right0 row right q p = elim (cases_lt 0 (length (list_at R q))) [
+  | inl there ↦ absurd (p.nonzero (p.taken.none q p.place there))
+  | inr none ↦ omega arith
+]
+
+placed : (n b rank : ℕ) (R D R'' D'' : List (List ℕ)) (row0 right0 row right : List ℕ) (q : ℕ) → IsReduced (echelon n b rank R D)
+    → IsPrepared (echelon n b 0 R D) row0 right0 row right q → PutAt q row right R D R'' D'' → Placed n b rank R D R'' D'' q row right
+placed n b rank R D R'' D'' row0 right0 row right q r p put = record {
+  reduced = r;
+  put = put;
+  place = p.place;
+  free = free_at n b R D row0 right0 row right q p;
+  row_size = p.row_size;
+  right_size = p.right_size;
+  pivot = p.pivot;
+  none = λ i hi there. p.multiple.entries i hi ∙ ap (mul p.multiple.factor) (p.taken.none i hi there) ∙ product-zero p.multiple.factor;
+}
+
+taken_whole : (n b rank : ℕ) (R D R'' D'' : List (List ℕ)) (row0 right0 row right : List ℕ) (q : ℕ) → IsReduced (echelon n b rank R D)
+    → IsPrepared (echelon n b 0 R D) row0 right0 row right q → PutAt q row right R D R'' D'' → IsTaken n b rank row0 right0 R D R'' D''
+taken_whole n b rank R D R'' D'' row0 right0 row right q r p put =
+    let stands = placed n b rank R D R'' D'' row0 right0 row right q r p put in
+    record {
+      told = tells n b rank R D row0 right0 row right q r p;
+      cut = cut_down n b rank R D R'' D'' q row0 right0 p.row1 p.right1 row right stands p.multiple p.bytes1 p.right_bytes1 p.taken;
+      reduced = placed_reduced n b rank R D R'' D'' q row right stands;
+      row_bytes = p.bytes0;
+      right_bytes = p.right_bytes0;
+    }
+
+-- as long as an offer finds a place, the system is not full
+pub room_left : (n b rank : ℕ) (R D : List (List ℕ)) (row0 right0 row right : List ℕ) (q : ℕ) → IsReduced (echelon n b rank R D)
+    → ReducedBelow (echelon n b 0 R D) row0 right0 row right n → 2 * q + 1 < length row → word q row ≢ 0 → rank < n
+room_left n b rank R D row0 right0 row right q r taken hq nonzero = elim (cases_lt rank n) [
+  | inl below ↦ below
+  | inr full ↦
+      let place : q < n = omega (arith, taken.row_size) in
+      let there : 0 < length (list_at R q) = all_present R n (omega (arith, r.rank, present_at_most R n)) q place in
+      absurd (nonzero (taken.none q place there))
+]
+
+-- the same, of the values that the code names
+pub offered : (n b rank : ℕ) (R D R1 D1 R2 D2 R3 D3 R'' D'' : List (List ℕ)) (n1 : ℕ) (r0 d0 a1 a2 row right x y : List ℕ) (q : ℕ) → IsReduced (echelon n b rank R D)
+    → a1 ≡ r0 → a2 ≡ d0 → length d0 ≡ b → n1 ≡ n → R1 ≡ R → D1 ≡ D → IsPrepared (echelon n1 (length a2) 0 R1 D1) a1 a2 row right q
+    → x ≡ row → y ≡ right → R2 ≡ R → D2 ≡ D → R'' ≡ R3 → D'' ≡ D3 → PutAt q x y R2 D2 R3 D3 → IsTaken n b rank r0 d0 R D R'' D''
+offered n b rank R D R1 D1 R2 D2 R3 D3 R'' D'' n1 r0 d0 a1 a2 row right x y q r ea1 ea2 eb en eR1 eD1 p ex ey eR2 eD2 eR3 eD3 put =
+    let p1 : IsPrepared (echelon n1 (length a2) 0 R D) a1 a2 row right q =
+    subst (λ z. IsPrepared (echelon n1 (length a2) 0 R z) a1 a2 row right q) eD1 (subst (λ z. IsPrepared (echelon n1 (length a2) 0 z D1) a1 a2 row right q) eR1 p) in
+    let p2 : IsPrepared (echelon n1 (length d0) 0 R D) r0 d0 row right q =
+    subst (λ z. IsPrepared (echelon n1 (length z) 0 R D) r0 z row right q) ea2 (subst (λ z. IsPrepared (echelon n1 (length a2) 0 R D) z a2 row right q) ea1 p1) in
+    let p3 : IsPrepared (echelon n b 0 R D) r0 d0 row right q =
+    subst (λ z. IsPrepared (echelon n z 0 R D) r0 d0 row right q) eb (subst (λ z. IsPrepared (echelon z (length d0) 0 R D) r0 d0 row right q) en p2) in
+    let q1 : PutAt q row right R2 D2 R3 D3 =
+    subst (λ z. PutAt q row z R2 D2 R3 D3) ey (subst (λ z. PutAt q z y R2 D2 R3 D3) ex put) in
+    let q2 : PutAt q row right R D R3 D3 =
+    subst (λ z. PutAt q row right R z R3 D3) eD2 (subst (λ z. PutAt q row right z D2 R3 D3) eR2 q1) in
+    let q3 : PutAt q row right R D R'' D'' =
+    subst (λ z. PutAt q row right R D R'' z) (sym eD3) (subst (λ z. PutAt q row right R D z D3) (sym eR3) q2) in
+    taken_whole n b rank R D R'' D'' r0 d0 row right q r p3 q3

@@ -1,0 +1,90 @@
+-- Sums in the field.
+use Rattle.std.proofs.Common.{ℕ, zero, suc, ◌<◌, ◌≡◌, ◌≢◌, inl, inr, refl, sym, ap, ap₂, ◌∙◌, arith, List, bit_xor}
+use Rattle.std.proofs.lemmas.Bool.{cases_eq}
+use Rattle.std.proofs.lemmas.Nat.{xor_comm, xor_lt}
+use Rattle.std.specs.Int.Bits.{xor_zero_r}
+use Rattle.par2_spec.specs.Field.{mul}
+use Rattle.par2_spec.specs.Slices.{word}
+use Rattle.par2_spec.proofs.FieldBits.{xor_middle}
+use Rattle.par2_spec.proofs.FieldProducts.{product_linear_left, product_linear_right, product_assoc, product_comm, product-one, product-lt}
+use Rattle.par2_spec.proofs.FieldOrder.{product-zero, zero-product}
+use Rattle.par2_matrix.specs.Echelon.{field_sum, row_sum, AreElements}
+
+pub field_sum_same : (n : ℕ) (f g : ℕ → ℕ) → ((i : ℕ) → i < n → f i ≡ g i) → field_sum n f ≡ field_sum n g
+unfolding field_sum
+field_sum_same zero f g same = refl
+field_sum_same (suc n) f g same = ap₂ bit_xor (field_sum_same n f g (λ i h. same i (omega arith))) (same n (omega arith))
+
+pub field_sum_xor : (n : ℕ) (f g : ℕ → ℕ) → field_sum n (λ i. bit_xor (f i) (g i)) ≡ bit_xor (field_sum n f) (field_sum n g)
+unfolding field_sum
+field_sum_xor zero f g = refl
+field_sum_xor (suc n) f g = ap (λ s. bit_xor s (bit_xor (f n) (g n))) (field_sum_xor n f g) ∙ xor_middle (field_sum n f) (field_sum n g) (f n) (g n)
+
+pub field_sum_scaled : (n k : ℕ) (f : ℕ → ℕ) → field_sum n (λ i. mul k (f i)) ≡ mul k (field_sum n f)
+unfolding field_sum
+field_sum_scaled zero k f = sym (product-zero k)
+field_sum_scaled (suc n) k f =
+    ap (λ s. bit_xor s (mul k (f n))) (field_sum_scaled n k f) ∙ sym ((product_linear_right k).on_xor (field_sum n f) (f n))
+
+pub field_sum_none : (n : ℕ) (f : ℕ → ℕ) → ((i : ℕ) → i < n → f i ≡ 0) → field_sum n f ≡ 0
+unfolding field_sum
+field_sum_none zero f none = refl
+field_sum_none (suc n) f none = ap₂ bit_xor (field_sum_none n f (λ i h. none i (omega arith))) (none n (omega arith))
+
+-- one place alone counts
+pub field_sum_one : (n q : ℕ) (f : ℕ → ℕ) → q < n → ((i : ℕ) → i < n → i ≢ q → f i ≡ 0) → field_sum n f ≡ f q
+unfolding field_sum
+field_sum_one zero q f h none = absurd (omega arith)
+field_sum_one (suc n) q f h none = elim (cases_eq q n) [
+  | inl same ↦ ap₂ bit_xor (field_sum_none n f (λ i l. none i (omega arith) (λ e. omega arith))) (sym (ap f same))
+  | inr other ↦ ap₂ bit_xor (field_sum_one n q f (omega arith) (λ i l. none i (omega arith))) (none n (omega arith) (λ e. other (sym e))) ∙ xor_zero_r (f q)
+]
+
+-- two places alone count
+pub field_sum_two : (n p q : ℕ) (f : ℕ → ℕ) → p < n → q < n → p ≢ q → ((i : ℕ) → i < n → i ≢ p → i ≢ q → f i ≡ 0) → field_sum n f ≡ bit_xor (f p) (f q)
+unfolding field_sum
+field_sum_two zero p q f hp hq apart none = absurd (omega arith)
+field_sum_two (suc n) p q f hp hq apart none = elim (cases_eq q n) [
+  | inl same ↦ ap₂ bit_xor (field_sum_one n p f (omega arith) (λ i l m. none i (omega arith) m (λ e. omega arith))) (sym (ap f same))
+  | inr other ↦ elim (cases_eq p n) [
+    | inl same ↦ ap₂ bit_xor (field_sum_one n q f (omega arith) (λ i l m. none i (omega arith) (λ e. omega arith) m)) (sym (ap f same)) ∙ xor_comm (f q) (f p)
+    | inr else ↦ ap₂ bit_xor (field_sum_two n p q f (omega arith) (omega arith) apart (λ i l. none i (omega arith))) (none n (omega arith) (λ e. else (sym e)) (λ e. other (sym e))) ∙ xor_zero_r _
+  ]
+]
+
+pub field_sum-lt : (n : ℕ) (f : ℕ → ℕ) → ((i : ℕ) → f i < 65536) → field_sum n f < 65536
+unfolding field_sum
+field_sum-lt zero f small = omega arith
+field_sum-lt (suc n) f small = xor_lt 16 (field_sum n f) (f n) (field_sum-lt n f small) (small n)
+
+-- ---- rows
+
+pub row_sum-lt : (n : ℕ) (row : List ℕ) (f : ℕ → ℕ) → ((i : ℕ) → word i row < 65536) → AreElements f → row_sum n row f < 65536
+row_sum-lt n row f small v = field_sum-lt n (λ i. mul (word i row) (f i)) (λ i. product-lt (word i row) (f i) (small i) (v i))
+
+pub row_sum_empty : (n : ℕ) (row : List ℕ) (f : ℕ → ℕ) → ((i : ℕ) → i < n → word i row ≡ 0) → row_sum n row f ≡ 0
+row_sum_empty n row f none = field_sum_none n (λ i. mul (word i row) (f i)) (λ i h. ap (λ x. mul x (f i)) (none i h) ∙ zero-product (f i))
+
+-- a multiple of a row
+pub row_sum_scaled : (n k : ℕ) (row new : List ℕ) (f : ℕ → ℕ) → k < 65536 → ((i : ℕ) → word i row < 65536) → AreElements f
+    → ((i : ℕ) → i < n → word i new ≡ mul k (word i row)) → row_sum n new f ≡ mul k (row_sum n row f)
+row_sum_scaled n k row new f hk small v is =
+    field_sum_same n (λ i. mul (word i new) (f i)) (λ i. mul k (mul (word i row) (f i)))
+    (λ i h. ap (λ x. mul x (f i)) (is i h) ∙ product_assoc k (word i row) (f i) hk (small i) (v i))
+    ∙ field_sum_scaled n k (λ i. mul (word i row) (f i))
+
+-- a multiple of a row, added to another
+pub row_sum_added : (n k : ℕ) (row add new : List ℕ) (f : ℕ → ℕ) → k < 65536 → ((i : ℕ) → word i add < 65536) → AreElements f
+    → ((i : ℕ) → i < n → word i new ≡ bit_xor (word i row) (mul k (word i add))) → row_sum n new f ≡ bit_xor (row_sum n row f) (mul k (row_sum n add f))
+row_sum_added n k row add new f hk small v is =
+    field_sum_same n (λ i. mul (word i new) (f i)) (λ i. bit_xor (mul (word i row) (f i)) (mul k (mul (word i add) (f i))))
+    (λ i h. ap (λ x. mul x (f i)) (is i h) ∙ (product_linear_left (f i)).on_xor (word i row) (mul k (word i add))
+    ∙ ap (bit_xor (mul (word i row) (f i))) (product_assoc k (word i add) (f i) hk (small i) (v i)))
+    ∙ field_sum_xor n (λ i. mul (word i row) (f i)) (λ i. mul k (mul (word i add) (f i)))
+    ∙ ap (bit_xor (row_sum n row f)) (field_sum_scaled n k (λ i. mul (word i add) (f i)))
+
+-- a row that has 1 at one place and else 0
+pub row_sum_unit : (n p : ℕ) (row : List ℕ) (f : ℕ → ℕ) → p < n → AreElements f → word p row ≡ 1 → ((i : ℕ) → i < n → i ≢ p → word i row ≡ 0) → row_sum n row f ≡ f p
+row_sum_unit n p row f h v one none =
+    field_sum_one n p (λ i. mul (word i row) (f i)) h (λ i l m. ap (λ x. mul x (f i)) (none i l m) ∙ zero-product (f i))
+    ∙ ap (λ x. mul x (f p)) one ∙ product_comm 1 (f p) (omega arith) (v p) ∙ product-one (f p) (v p)

@@ -1,0 +1,76 @@
+use Rattle.std.proofs.Common.{◌≡◌, ◌<◌, ◌+◌, length, arith, rules, refl, sym, ap, ◌∙◌, subst}
+use Rattle.std.specs.Vec.{with_items}
+use Rattle.std.proofs.lemmas.List.{with_items_is}
+use Rattle.par2_matrix.specs.Systems.{Equations, CutDown, IsIndependent, IsDependent}
+use Rattle.par2_matrix.specs.Echelon.{echelon, IsReduced, lists_of, system_of}
+use Rattle.par2_matrix.proofs.Words.{length-lists_of}
+use Rattle.par2_matrix.proofs.Offering.{IsTaken, offered}
+use Rattle.par2_matrix.proofs.Promises.{cuts, tells, follows}
+use Rattle.par2_matrix.proofs.system.System.offer.Goals as goal
+
+columns_are : (c : goal.After-self-3-1) → length c.args.row.now ≡ length c.self.inside.rows.items
+columns_are c = search (rules, (ap (λ (e : Equations). e.columns) c.self.view_is))
+
+taken : (c : goal.After-self-3-1) → IsTaken (length c.self.inside.rows.items) c.self.inside.bytes c.self.inside.rank c.in_ok-row.row.items c.args.right.items
+    (lists_of c.self.inside.rows.items) (lists_of c.self.inside.rights.items)
+    (lists_of (with_items c.self.inside.rows c.put_in.new.rows).items) (lists_of (with_items c.self.inside.rights c.put_in.new.rights).items)
+taken c =
+    let s = c.self.inside in
+    let er : length c.args.row.now ≡ length s.rows.items = search rules in
+    let ed : length c.args.right.items ≡ s.bytes = search rules in
+    let ea1 : c.as_mut_slice.result.now ≡ c.in_ok-row.row.items = search rules in
+    let ea2 : c.as_mut_slice-2.result.now ≡ c.args.right.items = search rules in
+    let en : length c.deref.result.now ≡ length s.rows.items = search rules in
+    let lr : length c.prepare.new.row ≡ c.in_ok-row.row.len = search rules in
+    let ls : length c.prepare.new.right ≡ c.args.right.len = search rules in
+    let l4 : length c.put_in.new.rows ≡ s.rows.len = search rules in
+    let l5 : length c.put_in.new.rights ≡ s.rights.len = search rules in
+    offered (length s.rows.items) s.bytes s.rank (lists_of s.rows.items) (lists_of s.rights.items) _ _ _ _ _ _ _ _ (length c.deref.result.now)
+    c.in_ok-row.row.items c.args.right.items c.as_mut_slice.result.now c.as_mut_slice-2.result.now c.prepare.new.row c.prepare.new.right _ _ c.in-Some.pivot
+    c.self.invariant ea1 ea2 ed en (ap lists_of c.deref.ensures.value) (ap lists_of c.deref-2.ensures.value) c.in-Some.ensures.some
+    (with_items_is c.in_ok-row.row c.prepare.new.row lr) (with_items_is c.args.right c.prepare.new.right ls)
+    (ap lists_of c.as_mut_slice-3.ensures.value) (ap lists_of c.as_mut_slice-4.ensures.value)
+    (ap lists_of (with_items_is s.rows c.put_in.new.rows l4)) (ap lists_of (with_items_is s.rights c.put_in.new.rights l5))
+    c.put_in.ensures
+
+columns_stay : (c : goal.After-self-3-1) → length (with_items c.self.inside.rows c.put_in.new.rows).items ≡ length c.self.inside.rows.items
+columns_stay c = sym (length-lists_of _) ∙ (taken c).reduced.row_count
+
+pub overflow_add-self : goal.overflow_add-self
+overflow_add-self c =
+    let room : c.self.inside.rank < length c.self.inside.rows.items = rw (c.self.invariant.rank, ← c.deref.ensures.value) c.in-Some.ensures.room in
+    omega arith
+
+pub invariant_of-self : goal.invariant_of-self
+invariant_of-self c =
+    let s = c.self.inside in
+    subst (λ n. IsReduced (echelon n s.bytes (s.rank + 1) (lists_of (with_items s.rows c.put_in.new.rows).items) (lists_of (with_items s.rights c.put_in.new.rights).items)))
+    (sym (columns_stay c)) (taken c).reduced
+
+pub returns-clause-kept : goal.returns-clause-kept
+returns-clause-kept c is =
+    let s = c.self.inside in
+    let t = taken c in
+    let size : length c.args.right.items ≡ s.bytes = search (rules, (ap (λ (e : Equations). e.bytes) c.self.view_is)) in
+    subst (λ (old : Equations). CutDown old (system_of (echelon (length (with_items s.rows c.put_in.new.rows).items) s.bytes (s.rank + 1) (lists_of (with_items s.rows c.put_in.new.rows).items) (lists_of (with_items s.rights c.put_in.new.rights).items))) c.args.row.now c.args.right.items) c.self.view_is
+    (subst (λ n. CutDown (system_of (echelon (length s.rows.items) s.bytes s.rank (lists_of s.rows.items) (lists_of s.rights.items))) (system_of (echelon n s.bytes (s.rank + 1) (lists_of (with_items s.rows c.put_in.new.rows).items) (lists_of (with_items s.rights c.put_in.new.rights).items))) c.args.row.now c.args.right.items) (sym (columns_stay c))
+    (cuts _ _ c.self.invariant t.reduced c.args.row.now c.in_ok-row.row.items c.args.right.items c.in_ok-row.ensures (columns_are c) t.row_bytes size t.right_bytes refl refl refl t.cut))
+
+pub returns-clause-independent : goal.returns-clause-independent
+returns-clause-independent c is =
+    let s = c.self.inside in
+    subst (λ (old : Equations). IsIndependent old c.args.row.now) c.self.view_is
+    (tells _ c.self.invariant c.args.row.now c.in_ok-row.row.items c.in_ok-row.ensures (columns_are c) (taken c).told)
+
+pub returns-in_default-clause-dependent : goal.returns-in_default-clause-dependent
+returns-in_default-clause-dependent c is =
+    let size : length c.args.row.now ≡ length c.self.inside.rows.items = search (rules, (ap (λ (e : Equations). e.columns) c.self.view_is)) in
+    subst (λ (old : Equations). IsDependent old c.args.row.now) c.self.view_is
+    (follows _ c.self.invariant c.args.row.now c.in_ok-row.row.items c.in_ok-row.ensures size
+    (rw (c.deref.ensures.value, c.as_mut_slice.ensures.value) at (c.in_default.ensures.none refl)))
+
+pub returns-clause-columns : goal.returns-clause-columns
+returns-clause-columns c = columns_stay c ∙ ap (λ (e : Equations). e.columns) c.self.view_is
+
+pub returns-clause-bytes : goal.returns-clause-bytes
+returns-clause-bytes c = ap (λ (e : Equations). e.bytes) c.self.view_is

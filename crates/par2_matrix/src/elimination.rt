@@ -1,0 +1,216 @@
+//! The steps of the elimination. Rows and right sides are bytes: element `i` of a row is the little-endian word at
+//! `2 * i`, so that one kernel adds both.
+ghost use Rattle.std.specs.Prelude.{◌≡◌, ◌≢◌, ℕ, ◌+◌, ◌*◌, ◌%◌, ◌^◌, ◌<◌, ◌≤◌, List, length, slice_index, IfSome, IfOk, IsNone};
+ghost use Rattle.par2_spec.specs.Slices.{word};
+ghost use Rattle.par2_gf16.specs.Products.{AddsProducts};
+ghost use Rattle.par2_matrix.specs.Echelon.{WordPut, Spells, Scaled, ReducedBelow, IsReduced, IsMultiple, IsPrepared, OneChanged, ClearedBelow, PutAt, AllEmpty, Echelon, echelon, Vanishes, row_sum, AreElements, lists_of, list_at};
+
+use par2_gf16::Gf;
+use std::alloc::{AllocError, Global};
+
+// What the type says of each byte, for proofs.
+#[inline(always)]
+fn fit_bytes(bytes: &[u8])
+    ensures { (k : ℕ) → slice_index bytes.now k < 2 ^ 8 }
+{
+    let _ = bytes.len();
+}
+
+#[inline(always)]
+fn element(row: &[u8], i: usize) -> u16
+    requires { 2 * i + 1 < length row.now }
+    ensures { result ≡ word i row.now }
+{
+    u16::from_le_bytes([row[2 * i], row[2 * i + 1]])
+}
+
+#[inline(always)]
+fn put_element(row: &mut [u8], i: usize, element: u16)
+    requires { 2 * i + 1 < length row.old }
+    ensures { WordPut i element row.old row.new }
+{
+    let [low, high] = element.to_le_bytes();
+    row[2 * i] = low;
+    row[2 * i + 1] = high;
+}
+
+#[inline(always)]
+fn list_at(lists: &[Vec<u8>], p: usize) -> &[u8]
+    requires { p < length lists.now }
+    ensures { result.now ≡ list_at (lists_of lists.now) p }
+{
+    &lists[p]
+}
+
+/// `count` empty lists.
+pub(crate) fn empty_lists(alloc: Global, count: usize) -> Result<Vec<Vec<u8>>, AllocError>
+    ensures { IfOk result (λ lists. AllEmpty (lists_of lists.items) count) }
+{
+    let mut lists = Vec::new(alloc);
+    for _i in 0..count {
+        lists.push(Vec::new(alloc))?;
+    }
+    Ok(lists)
+}
+
+fn spell(row: &[u16], bytes: &mut [u8])
+    requires { length bytes.old ≡ 2 * length row.now }
+    ensures { Spells row.now bytes.new (length row.now) }
+{
+    for i in 0..row.len() {
+        put_element(bytes, i, row[i]);
+    }
+}
+
+/// The bytes of a row.
+pub(crate) fn bytes_of_row(alloc: Global, row: &[u16]) -> Result<Vec<u8>, AllocError>
+    ensures { IfOk result (λ bytes. Spells row.now bytes.items (length row.now)) }
+{
+    let mut bytes = vec![in alloc; 0u8; 2 * row.len()]?;
+    spell(row, bytes.as_mut_slice());
+    Ok(bytes)
+}
+
+fn scale(gf: &Gf, factor: u16, bytes: &mut [u8])
+    ensures { Scaled factor bytes.old bytes.new (length bytes.old) }
+{
+    for i in 0..bytes.len() / 2 {
+        let product = gf.mul(factor, element(bytes, i));
+        put_element(bytes, i, product);
+    }
+}
+
+// Takes the pivots out of an equation.
+fn reduce(gf: &Gf, rows: &[Vec<u8>], rights: &[Vec<u8>], row: &mut [u8], right: &mut [u8])
+    ghost rank: { ℕ }
+    requires reduced { IsReduced (echelon (length rows.now) (length right.old) rank (lists_of rows.now) (lists_of rights.now)) }
+    requires size { length row.old ≡ 2 * length rows.now }
+    ensures taken { ReducedBelow (echelon (length rows.now) (length right.old) 0 (lists_of rows.now) (lists_of rights.now)) row.old right.old row.new right.new (length rows.now) }
+    ensures row_bytes { (k : ℕ) → slice_index row.new k < 2 ^ 8 }
+    ensures right_bytes { (k : ℕ) → slice_index right.new k < 2 ^ 8 }
+{
+    for p in 0..rows.len() {
+        let factor = element(row, p);
+        let source = list_at(rows, p);
+        if factor != 0 && !source.is_empty() {
+            gf.mul_add(factor, source, row);
+            gf.mul_add(factor, list_at(rights, p), right);
+        }
+    }
+    fit_bytes(row);
+    fit_bytes(right);
+}
+
+fn first_nonzero(row: &[u8]) -> Option<usize>
+    ensures none { IsNone result → (i : ℕ) → 2 * i + 1 < length row.now → word i row.now ≡ 0 }
+    ensures some { IfSome result (λ q. (2 * q + 1 < length row.now) × (word q row.now ≢ 0)) }
+{
+    for i in 0..row.len() / 2 {
+        if element(row, i) != 0 {
+            return Some(i);
+        }
+    }
+    None
+}
+
+// Makes the element at q 1.
+fn normalize(gf: &Gf, row: &mut [u8], right: &mut [u8], q: usize)
+    requires place { 2 * q + 1 < length row.old }
+    requires nonzero { word q row.old ≢ 0 }
+    requires row_bytes { (k : ℕ) → slice_index row.old k < 2 ^ 8 }
+    requires right_bytes { (k : ℕ) → slice_index right.old k < 2 ^ 8 }
+    ensures multiple { (n : ℕ) → length row.old ≡ 2 * n → IsMultiple n (length right.old) row.old right.old row.new right.new }
+    ensures pivot { word q row.new ≡ 1 }
+    ensures row_size { length row.new ≡ length row.old }
+    ensures right_size { length right.new ≡ length right.old }
+{
+    let factor = gf.inv(element(row, q)).unwrap();
+    scale(gf, factor, row);
+    scale(gf, factor, right);
+}
+
+/// Takes the pivots out of an equation, and gives the place that it can take, with its coefficient there made 1.
+pub(crate) fn prepare(
+    gf: &Gf,
+    rows: &[Vec<u8>],
+    rights: &[Vec<u8>],
+    row: &mut [u8],
+    right: &mut [u8],
+) -> Option<usize>
+    ghost rank: { ℕ }
+    requires reduced { IsReduced (echelon (length rows.now) (length right.old) rank (lists_of rows.now) (lists_of rights.now)) }
+    requires size { length row.old ≡ 2 * length rows.now }
+    ensures none { IsNone result → (f : ℕ → ℕ) → AreElements f → Vanishes (echelon (length rows.now) (length right.old) rank (lists_of rows.now) (lists_of rights.now)) f → row_sum (length rows.now) row.old f ≡ 0 }
+    ensures some { IfSome result (IsPrepared (echelon (length rows.now) (length right.old) 0 (lists_of rows.now) (lists_of rights.now)) row.old right.old row.new right.new) }
+    ensures room { IfSome result (λ q. rank < length rows.now) }
+{
+    fit_bytes(row);
+    fit_bytes(right);
+    reduce(gf, rows, rights, row, right);
+    let q = first_nonzero(row)?;
+    normalize(gf, row, right, q);
+    Some(q)
+}
+
+// Adds `factor` times `src` to list `p`.
+fn add_to(gf: &Gf, lists: &mut [Vec<u8>], p: usize, factor: u16, src: &[u8])
+    requires place { p < length lists.old }
+    requires same { length src.now ≡ length (list_at (lists_of lists.old) p) }
+    requires even { length src.now % 2 ≡ 0 }
+    ensures changed { OneChanged (lists_of lists.old) (lists_of lists.new) p }
+    ensures added { AddsProducts factor src.now (list_at (lists_of lists.old) p) (list_at (lists_of lists.new) p) }
+    ensures bytes { (k : ℕ) → slice_index (list_at (lists_of lists.new) p) k < 2 ^ 8 }
+{
+    add_products(gf, factor, src, lists[p].as_mut_slice());
+}
+
+#[inline(always)]
+fn add_products(gf: &Gf, factor: u16, src: &[u8], dst: &mut [u8])
+    requires same { length src.now ≡ length dst.old }
+    requires even { length dst.old % 2 ≡ 0 }
+    ensures added { AddsProducts factor src.now dst.old dst.new }
+    ensures bytes { (k : ℕ) → slice_index dst.new k < 2 ^ 8 }
+{
+    gf.mul_add(factor, src, dst);
+}
+
+// Clears the place q of each equation.
+fn clear(gf: &Gf, rows: &mut [Vec<u8>], rights: &mut [Vec<u8>], q: usize, row: &[u8], right: &[u8])
+    ghost rank: { ℕ }
+    requires place { q < length rows.old }
+    requires size { length row.now ≡ 2 * length rows.old }
+    requires reduced { IsReduced (echelon (length rows.old) (length right.now) rank (lists_of rows.old) (lists_of rights.old)) }
+    ensures { ClearedBelow q row.now right.now (lists_of rows.old) (lists_of rights.old) (lists_of rows.new) (lists_of rights.new) (length rows.old) }
+{
+    let columns = rows.len();
+    for p in 0..columns {
+        let target = list_at(rows, p);
+        if !target.is_empty() {
+            let factor = element(target, q);
+            add_to(gf, rows, p, factor, row);
+            add_to(gf, rights, p, factor, right);
+        }
+    }
+}
+
+/// Clears the place q of each equation, and puts the equation there.
+pub(crate) fn put_in(
+    gf: &Gf,
+    rows: &mut [Vec<u8>],
+    rights: &mut [Vec<u8>],
+    q: usize,
+    row: Vec<u8>,
+    right: Vec<u8>,
+)
+    ghost rank: { ℕ }
+    requires place { q < length rows.old }
+    requires size { length row.items ≡ 2 * length rows.old }
+    requires reduced { IsReduced (echelon (length rows.old) (length right.items) rank (lists_of rows.old) (lists_of rights.old)) }
+    ensures { PutAt q row.items right.items (lists_of rows.old) (lists_of rights.old) (lists_of rows.new) (lists_of rights.new) }
+{
+    clear(gf, rows, rights, q, &row, &right);
+    fit_bytes(&row);
+    fit_bytes(&right);
+    rows[q] = row;
+    rights[q] = right;
+}

@@ -1,0 +1,119 @@
+-- The order of identifiers by their numbers.
+use Rattle.std.proofs.Common.{◌≡◌, ◌≢◌, ℕ, suc, ◌+◌, ◌-◌, ◌*◌, ◌≤◌, ◌<◌, List, [], ◌∷◌, length, map, get_or, refl, sym, ap, ◌∙◌, arith}
+use Rattle.std.specs.Int.{w128, from_le_bytes}
+use Rattle.std.specs.List.{AllPairs, AllAdjacentBelow, IsDistinct}
+use Rattle.std.specs.List.Sorted.{IsNonDecreasingBy, IsStrictlyIncreasing, IsPermutation}
+use Rattle.std.specs.Str.{bytes_eq}
+use Rattle.std.proofs.lemmas.Bool.Decides.{same_from_decides}
+use Rattle.std.proofs.lemmas.List.{get_or-map, get_or_default, length-map}
+use Rattle.std.proofs.lemmas.List.Kept.{AllPairs-from_increasing}
+use Rattle.std.proofs.lemmas.List.Sorted.{all_adjacent_more, IsPermutation-map, IsPermutation-sym}
+use Rattle.std.proofs.lemmas.Map.Keys.{IsDistinct-IsPermutation}
+use Rattle.std.proofs.lemmas.Map.Made.{AllPairs-from_IsDistinct, IsDistinct-from_AllPairs}
+use Rattle.std.proofs.lemmas.Slice.Eq.{bytes_eq-Decides}
+
+-- ---- sixteen bytes and their number
+
+-- the number that bytes spell, the lowest first
+abbrev le_number : List ℕ → ℕ
+le_number [] = 0
+le_number (b ∷ bytes) = b + 256 * le_number bytes
+
+le_number_16 : (xs : List ℕ) → length xs ≡ 16 → from_le_bytes w128 xs ≡ le_number xs
+le_number_16 [] l = absurd (omega arith)
+le_number_16 (a ∷ []) size = absurd (omega arith)
+le_number_16 (a ∷ b ∷ []) size = absurd (omega arith)
+le_number_16 (a ∷ b ∷ c ∷ []) size = absurd (omega arith)
+le_number_16 (a ∷ b ∷ c ∷ d ∷ []) size = absurd (omega arith)
+le_number_16 (a ∷ b ∷ c ∷ d ∷ e ∷ []) size = absurd (omega arith)
+le_number_16 (a ∷ b ∷ c ∷ d ∷ e ∷ f ∷ []) size = absurd (omega arith)
+le_number_16 (a ∷ b ∷ c ∷ d ∷ e ∷ f ∷ g ∷ []) size = absurd (omega arith)
+le_number_16 (a ∷ b ∷ c ∷ d ∷ e ∷ f ∷ g ∷ h ∷ []) size = absurd (omega arith)
+le_number_16 (a ∷ b ∷ c ∷ d ∷ e ∷ f ∷ g ∷ h ∷ i ∷ []) size = absurd (omega arith)
+le_number_16 (a ∷ b ∷ c ∷ d ∷ e ∷ f ∷ g ∷ h ∷ i ∷ j ∷ []) size = absurd (omega arith)
+le_number_16 (a ∷ b ∷ c ∷ d ∷ e ∷ f ∷ g ∷ h ∷ i ∷ j ∷ k ∷ []) size = absurd (omega arith)
+le_number_16 (a ∷ b ∷ c ∷ d ∷ e ∷ f ∷ g ∷ h ∷ i ∷ j ∷ k ∷ l ∷ []) size = absurd (omega arith)
+le_number_16 (a ∷ b ∷ c ∷ d ∷ e ∷ f ∷ g ∷ h ∷ i ∷ j ∷ k ∷ l ∷ m ∷ []) size = absurd (omega arith)
+le_number_16 (a ∷ b ∷ c ∷ d ∷ e ∷ f ∷ g ∷ h ∷ i ∷ j ∷ k ∷ l ∷ m ∷ n ∷ []) size = absurd (omega arith)
+le_number_16 (a ∷ b ∷ c ∷ d ∷ e ∷ f ∷ g ∷ h ∷ i ∷ j ∷ k ∷ l ∷ m ∷ n ∷ o ∷ []) size = absurd (omega arith)
+le_number_16 (a ∷ b ∷ c ∷ d ∷ e ∷ f ∷ g ∷ h ∷ i ∷ j ∷ k ∷ l ∷ m ∷ n ∷ o ∷ p ∷ []) size = omega arith
+le_number_16 (a ∷ b ∷ c ∷ d ∷ e ∷ f ∷ g ∷ h ∷ i ∷ j ∷ k ∷ l ∷ m ∷ n ∷ o ∷ p ∷ q ∷ xs) size = absurd (omega arith)
+
+abbrev AreBytes : List ℕ → Type 0
+AreBytes xs = (k : ℕ) → get_or xs k 0 < 256
+
+same_parts : (a b m n : ℕ) → a < 256 → b < 256 → a + 256 * m ≡ b + 256 * n → (a ≡ b) × (m ≡ n)
+same_parts a b m n a' b' is = (omega arith, omega arith)
+
+same_bytes : (xs ys : List ℕ) → length xs ≡ length ys → AreBytes xs → AreBytes ys → le_number xs ≡ le_number ys → xs ≡ ys
+same_bytes [] [] l p q is = refl
+same_bytes [] (y ∷ ys) l p q is = absurd (let e : 0 ≡ suc (length ys) = l in omega arith)
+same_bytes (x ∷ xs) [] l p q is = absurd (let e : suc (length xs) ≡ 0 = l in omega arith)
+same_bytes (x ∷ xs) (y ∷ ys) l p q is =
+    let parts = same_parts x y (le_number xs) (le_number ys) (p 0) (q 0) is in
+    let shorter : suc (length xs) ≡ suc (length ys) = l in
+    let rest : xs ≡ ys = same_bytes xs ys (omega arith) (λ k. p (suc k)) (λ k. q (suc k)) parts.1 in
+    λ i. parts.0 i ∷ rest i
+
+-- identifiers with one number are equal
+pub same_ids : (xs ys : List ℕ) → length xs ≡ 16 → length ys ≡ 16 → AreBytes xs → AreBytes ys → from_le_bytes w128 xs ≡ from_le_bytes w128 ys → xs ≡ ys
+same_ids xs ys l m p q is = same_bytes xs ys (l ∙ sym m) p q (sym (le_number_16 xs l) ∙ is ∙ le_number_16 ys m)
+
+-- ---- what is sorted rises where no two neighbours are equal
+
+pub rises_more : {X : Type 0} (n : X → ℕ) (xs : List X) (i : ℕ) (a b : X) → 0 < i → i < length xs → IsNonDecreasingBy n xs
+    → AllAdjacentBelow (λ x y. n x < n y) xs i → a ≡ get_or xs (i - 1) a → b ≡ get_or xs i b → n a ≢ n b → AllAdjacentBelow (λ x y. n x < n y) xs (i + 1)
+rises_more n xs i a b above within up inv at_a at_b differ =
+    all_adjacent_more xs (λ x y. n x < n y) i above inv
+    (λ d.
+    let first : n a ≡ n (get_or xs (i - 1) d) = ap n (at_a ∙ get_or_default xs (i - 1) a d (omega arith)) in
+    let second : n b ≡ n (get_or xs i d) = ap n (at_b ∙ get_or_default xs i b d within) in
+    let order : n (get_or xs (i - 1) d) ≤ n (get_or xs i d) = up (i - 1) i d (omega arith) within in
+    omega (arith, first, second, order, differ))
+
+pub increasing : {X : Type 0} (n : X → ℕ) (xs : List X) → AllAdjacentBelow (λ x y. n x < n y) xs (length xs) → IsStrictlyIncreasing (map n xs)
+increasing n [] up k within = absurd (omega arith)
+increasing n (x ∷ xs) up k within =
+    let size : length (map n (x ∷ xs)) ≡ length (x ∷ xs) = length-map (x ∷ xs) n in
+    let second : k + 1 < length (x ∷ xs) = omega (arith, size, within) in
+    let first : k < length (x ∷ xs) = omega (arith, second) in
+    let at_first : get_or (map n (x ∷ xs)) k 0 ≡ n (get_or (x ∷ xs) k x) = get_or-map n (x ∷ xs) k x 0 first in
+    let at_second : get_or (map n (x ∷ xs)) (k + 1) 0 ≡ n (get_or (x ∷ xs) (k + 1) x) = get_or-map n (x ∷ xs) (k + 1) x 0 second in
+    let rise : n (get_or (x ∷ xs) k x) < n (get_or (x ∷ xs) (k + 1) x) = up k x second in
+    omega (arith, at_first, at_second, rise)
+
+-- ---- what rises is distinct
+
+flips : (x y : List ℕ) → bytes_eq x y ≡ bytes_eq y x
+flips x y =
+    let back = bytes_eq-Decides y x in
+    same_from_decides (bytes_eq x y) (bytes_eq y x) (bytes_eq-Decides x y) (λ h. sym (back.0 h), λ e. back.1 (sym e))
+
+-- what rises by a number of a key has distinct keys
+keys_differ : {X : Type 0} (key : X → List ℕ) (m : List ℕ → ℕ) (xs : List X) → IsStrictlyIncreasing (map (λ x. m (key x)) xs) → AllPairs (λ a b. a ≢ b) (map key xs)
+keys_differ key m [] up i j d before within same = absurd (omega arith)
+keys_differ key m (x ∷ xs) up i j d before within same =
+    let n : List ℕ = map (λ y. m (key y)) (x ∷ xs) in
+    let keys : length (map key (x ∷ xs)) ≡ length (x ∷ xs) = length-map (x ∷ xs) key in
+    let numbers : length n ≡ length (x ∷ xs) = length-map (x ∷ xs) (λ y. m (key y)) in
+    let second : j < length (x ∷ xs) = omega (arith, keys, within) in
+    let first : i < length (x ∷ xs) = omega (arith, second, before) in
+    let rise : get_or n i 0 < get_or n j 0 = AllPairs-from_increasing n up i j 0 before (omega (arith, numbers, second)) in
+    let number_first : get_or n i 0 ≡ m (get_or (map key (x ∷ xs)) i d) = get_or-map (λ y. m (key y)) (x ∷ xs) i x 0 first ∙ ap m (sym (get_or-map key (x ∷ xs) i x d first)) in
+    let number_second : get_or n j 0 ≡ m (get_or (map key (x ∷ xs)) j d) = get_or-map (λ y. m (key y)) (x ∷ xs) j x 0 second ∙ ap m (sym (get_or-map key (x ∷ xs) j x d second)) in
+    absurd (omega (arith, rise, number_first, number_second, ap m same))
+
+pub distinct_keys : {X : Type 0} (key : X → List ℕ) (m : List ℕ → ℕ) (xs ys : List X) → IsPermutation xs ys → IsStrictlyIncreasing (map (λ x. m (key x)) ys) → IsDistinct bytes_eq (map key xs)
+distinct_keys key m xs ys moved up =
+    IsDistinct-IsPermutation bytes_eq flips (map key ys) (map key xs) (IsPermutation-sym _ _ (IsPermutation-map key xs ys moved))
+    (IsDistinct-from_AllPairs bytes_eq-Decides (map key ys) (keys_differ key m ys up))
+
+-- two equal keys among what was moved
+pub not_distinct : {X : Type 0} (key : X → List ℕ) (xs ys : List X) (i j : ℕ) (a b : X) → IsPermutation xs ys → i < j → j < length ys
+    → a ≡ get_or ys i a → b ≡ get_or ys j b → key a ≡ key b → ¬ IsDistinct bytes_eq (map key xs)
+not_distinct key xs ys i j a b moved before within at_a at_b same distinct =
+    let there : IsDistinct bytes_eq (map key ys) = IsDistinct-IsPermutation bytes_eq flips (map key xs) (map key ys) (IsPermutation-map key xs ys moved) distinct in
+    let size : length (map key ys) ≡ length ys = length-map ys key in
+    let first : get_or (map key ys) i [] ≡ key a = get_or-map key ys i a [] (omega (arith, before, within)) ∙ ap key (sym at_a) in
+    let second : get_or (map key ys) j [] ≡ key b = get_or-map key ys j b [] within ∙ ap key (sym at_b) in
+    AllPairs-from_IsDistinct bytes_eq-Decides (map key ys) there i j [] before (omega (arith, size, within)) (first ∙ same ∙ sym second)

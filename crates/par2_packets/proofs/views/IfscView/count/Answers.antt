@@ -1,0 +1,7 @@
+use Rattle.std.proofs.Common.{length, sym, ap, ◌∙◌}
+use Rattle.par2_spec.specs.Packets.{IfscBody}
+use Rattle.par2_packets.proofs.Items.{pairs_count}
+use Rattle.par2_packets.proofs.views.IfscView.count.Goals as goal
+
+pub returns : goal.returns
+returns c = sym (pairs_count c.self.inside.body.now) ∙ ap (λ (i : IfscBody). length i.pairs) c.self.view_is

@@ -1,0 +1,48 @@
+//! The order of the File IDs in a set.
+
+ghost use Rattle.std.specs.Prelude.{◌≡◌, ◌<◌, ◌↔◌, ℕ, length, map, slice_index, IsOk, OnOk, IsPermutation};
+ghost use Rattle.std.specs.Int.{w128, from_le_bytes};
+ghost use Rattle.std.specs.List.{IsDistinct};
+ghost use Rattle.std.specs.List.Sorted.{IsStrictlyIncreasing};
+ghost use Rattle.std.specs.Str.{bytes_eq};
+ghost use Rattle.par2_packets.specs.View.{id_number};
+
+use crate::record::FileRecord;
+
+/// Two files have one File ID.
+#[derive(Clone, Copy, PartialEq, Eq, Debug, Drop)]
+pub struct DuplicateId;
+
+fn little_endian(id: &[u8; 16]) -> u128
+    ensures value { result ≡ from_le_bytes w128 id.now }
+    ensures size { length id.now ≡ 16 }
+    ensures bytes { (k : ℕ) → slice_index id.now k < 256 }
+{
+    u128::from_le_bytes(*id)
+}
+
+// The File ID as a number.
+fn number_of(file: &FileRecord) -> u128
+    ensures value { result ≡ id_number file.now }
+    ensures size { length file.now.id ≡ 16 }
+    ensures bytes { (k : ℕ) → slice_index file.now.id k < 256 }
+{
+    little_endian(&file.id)
+}
+
+/// Brings the records into the order of a set: rising File IDs, as little-endian numbers.
+pub fn sort_ids(files: &mut [FileRecord]) -> Result<(), DuplicateId>
+    ensures permutation { IsPermutation files.old files.new }
+    ensures rising { OnOk result (IsStrictlyIncreasing (map id_number files.new)) }
+
+    // Refused are exactly the records of which two have one identifier.
+    ensures distinct { IsOk result ↔ IsDistinct bytes_eq (map (λ file. file.id) files.old) }
+{
+    files.sort_unstable_by_key(number_of);
+    for i in 1..files.len() {
+        if number_of(&files[i - 1]) == number_of(&files[i]) {
+            return Err(DuplicateId);
+        }
+    }
+    Ok(())
+}

@@ -1,0 +1,248 @@
+//! What the bodies of packets say, read where they lie.
+
+ghost use Rattle.std.specs.Prelude.{◌≡◌, ◌<◌, Some, length, slice_get};
+ghost use Rattle.par2_spec.specs.Packets as packets;
+
+use crate::bytes::{block, u32_at, u64_at};
+use crate::record::Pair;
+use crate::scan::Packet;
+use par2_spec::Kind;
+use std::marker::Model;
+
+/// What a Main says.
+#[derive(Drop)]
+pub struct MainView<'a> {
+    body: &'a [u8],
+}
+
+impl<'a> Model for MainView<'a> {
+    ghost use Rattle.std.specs.Prelude.{◌+◌, ◌*◌, ◌≤◌, length};
+    ghost use Rattle.par2_spec.specs.Packets.{MainBody, u32_at};
+    ghost use Rattle.par2_packets.specs.Bodies.{main_said};
+
+    ghost Value = { MainBody };
+
+    ghost view = { λ main. main_said main.body.now };
+
+    ghost invariant = { λ main. 12 + 16 * u32_at 8 main.body.now ≤ length main.body.now };
+}
+
+impl<'a> MainView<'a> {
+    pub fn slice_size(&self) -> u64
+        ensures { result ≡ self.now.slice_size }
+    {
+        u64_at(self.body, 0)
+    }
+
+    /// How many files are in the recovery set.
+    pub fn count(&self) -> usize
+        ensures { result ≡ length self.now.ids }
+    {
+        u32_at(self.body, 8) as usize
+    }
+
+    /// The File ID of file `k` of the recovery set, from 0.
+    pub fn id(&self, k: usize) -> [u8; 16]
+        requires { k < length self.now.ids }
+        ensures { slice_get self.now.ids k ≡ Some result }
+    {
+        let body = self.body;
+        block(body, 12 + 16 * k)
+    }
+}
+
+/// What a FileDesc says.
+#[derive(Drop)]
+pub struct DescView<'a> {
+    body: &'a [u8],
+}
+
+impl<'a> Model for DescView<'a> {
+    ghost use Rattle.std.specs.Prelude.{◌≤◌, length};
+    ghost use Rattle.par2_spec.specs.Packets.{DescBody};
+    ghost use Rattle.par2_packets.specs.Bodies.{desc_said};
+
+    ghost Value = { DescBody };
+
+    ghost view = { λ desc. desc_said desc.body.now };
+
+    ghost invariant = { λ desc. 56 ≤ length desc.body.now };
+}
+
+impl<'a> DescView<'a> {
+    /// The File ID.
+    pub fn id(&self) -> [u8; 16]
+        ensures { result ≡ self.now.id }
+    {
+        block(self.body, 0)
+    }
+
+    /// The MD5 of the file.
+    pub fn md5(&self) -> [u8; 16]
+        ensures { result ≡ self.now.digest }
+    {
+        block(self.body, 16)
+    }
+
+    /// The MD5 of its first 16,384 bytes, or of all where it is shorter.
+    pub fn md5_16k(&self) -> [u8; 16]
+        ensures { result ≡ self.now.digest_16k }
+    {
+        block(self.body, 32)
+    }
+
+    /// How many bytes the file has.
+    pub fn length(&self) -> u64
+        ensures { result ≡ self.now.size }
+    {
+        u64_at(self.body, 48)
+    }
+
+    /// The name without the zero bytes at its end. It may be no text.
+    pub fn name_bytes(&self) -> &'a [u8]
+        ensures { result.now ≡ self.now.name }
+    {
+        let (_, name) = self.body.split_at(56);
+        stripped(name)
+    }
+}
+
+/// What an IFSC says.
+#[derive(Drop)]
+pub struct IfscView<'a> {
+    body: &'a [u8],
+}
+
+impl<'a> Model for IfscView<'a> {
+    ghost use Rattle.std.specs.Prelude.{◌≤◌, length};
+    ghost use Rattle.par2_spec.specs.Packets.{IfscBody};
+    ghost use Rattle.par2_packets.specs.Bodies.{ifsc_said};
+
+    ghost Value = { IfscBody };
+
+    ghost view = { λ ifsc. ifsc_said ifsc.body.now };
+
+    ghost invariant = { λ ifsc. 16 ≤ length ifsc.body.now };
+}
+
+impl<'a> IfscView<'a> {
+    /// The File ID.
+    pub fn id(&self) -> [u8; 16]
+        ensures { result ≡ self.now.id }
+    {
+        block(self.body, 0)
+    }
+
+    /// How many slices have checksums here.
+    pub fn count(&self) -> usize
+        ensures { result ≡ length self.now.pairs }
+    {
+        (self.body.len() - 16) / 20
+    }
+
+    /// The checksums of slice `k`, from 0.
+    pub fn pair(&self, k: usize) -> Pair
+        requires { k < length self.now.pairs }
+        ensures { slice_get self.now.pairs k ≡ Some result }
+    {
+        let body = self.body;
+        let at = 16 + 20 * k;
+        (block(body, at), u32_at(body, at + 16))
+    }
+}
+
+/// What a RecvSlic says.
+#[derive(Drop)]
+pub struct RecoveryView<'a> {
+    body: &'a [u8],
+}
+
+impl<'a> Model for RecoveryView<'a> {
+    ghost use Rattle.std.specs.Prelude.{◌≤◌, length};
+    ghost use Rattle.par2_spec.specs.Packets.{RecoveryBody};
+    ghost use Rattle.par2_packets.specs.Bodies.{recovery_said};
+
+    ghost Value = { RecoveryBody };
+
+    ghost view = { λ recovery. recovery_said recovery.body.now };
+
+    ghost invariant = { λ recovery. 4 ≤ length recovery.body.now };
+}
+
+impl<'a> RecoveryView<'a> {
+    pub fn exponent(&self) -> u32
+        ensures { result ≡ self.now.exponent }
+    {
+        u32_at(self.body, 0)
+    }
+
+    /// The recovery slice.
+    pub fn bytes(&self) -> &'a [u8]
+        ensures { result.now ≡ self.now.bytes }
+    {
+        &self.body[4..]
+    }
+}
+
+// The bytes without the zeros at their end.
+fn stripped(bytes: &[u8]) -> &[u8]
+    ensures { result.now ≡ packets.stripped bytes.now }
+{
+    let mut len = bytes.len();
+    while len > 0 && bytes[len - 1] == 0 {
+        len -= 1;
+    }
+    &bytes[..len]
+}
+
+/// What a Main says: `None` for another kind, and for a body that isn't well-formed, as one that claims
+/// more files than it lists.
+#[tactic(auto, unfolding(par2_spec::specs::Packets::read_main))]
+pub fn read_main<'a>(packet: &Packet<'a>) -> Option<MainView<'a>>
+    ensures { result ≡ packets.read_main packet.now.kind packet.now.body.now }
+{
+    let body = packet.body;
+    if packet.kind != Kind::Main || body.len() < 12 || (body.len() - 12) % 16 != 0 {
+        return None;
+    }
+    if u32_at(body, 8) as usize > (body.len() - 12) / 16 {
+        return None;
+    }
+    Some(MainView { body })
+}
+
+/// What a FileDesc says: `None` for another kind, and for a body that isn't well-formed.
+#[tactic(auto, unfolding(par2_spec::specs::Packets::read_desc))]
+pub fn read_desc<'a>(packet: &Packet<'a>) -> Option<DescView<'a>>
+    ensures { result ≡ packets.read_desc packet.now.kind packet.now.body.now }
+{
+    let body = packet.body;
+    if packet.kind != Kind::FileDesc || body.len() < 56 {
+        return None;
+    }
+    Some(DescView { body })
+}
+
+/// What an IFSC says: `None` for another kind, and for a body that isn't well-formed.
+#[tactic(auto, unfolding(par2_spec::specs::Packets::read_ifsc))]
+pub fn read_ifsc<'a>(packet: &Packet<'a>) -> Option<IfscView<'a>>
+    ensures { result ≡ packets.read_ifsc packet.now.kind packet.now.body.now }
+{
+    let body = packet.body;
+    if packet.kind != Kind::Ifsc || body.len() < 16 || (body.len() - 16) % 20 != 0 {
+        return None;
+    }
+    Some(IfscView { body })
+}
+
+/// What a RecvSlic says: `None` for another kind, and for a body that isn't well-formed.
+#[tactic(auto, unfolding(par2_spec::specs::Packets::read_recovery))]
+pub fn read_recovery<'a>(packet: &Packet<'a>) -> Option<RecoveryView<'a>>
+    ensures { result ≡ packets.read_recovery packet.now.kind packet.now.body.now }
+{
+    let body = packet.body;
+    if packet.kind != Kind::Recovery || body.len() < 4 {
+        return None;
+    }
+    Some(RecoveryView { body })
+}

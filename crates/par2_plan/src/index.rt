@@ -1,0 +1,54 @@
+//! The index file of a set.
+ghost use Rattle.std.specs.Prelude.{◌≡◌, ◌≤◌, ◌++◌, length, map, flat_map, IfOk, OnOk};
+ghost use Rattle.par2_spec.specs.Packets.{packet};
+ghost use Rattle.par2_spec.specs.Volumes.{packet_of, index_packets, desc_bytes, ifsc_bytes};
+ghost use Rattle.par2_spec.specs.declared.Kind.TheVariants.{FileDesc, Ifsc};
+ghost use Rattle.par2_packets.specs.View.{file_record_of};
+
+use par2_packets::{FileRecord, append_creator, append_desc, append_ifsc, append_main, main_id};
+use std::alloc::{AllocError, Global};
+
+// The FileDescs of these files, in order.
+fn append_descs(
+    alloc: Global,
+    out: &mut Vec<u8>,
+    set_id: &[u8; 16],
+    files: &[FileRecord],
+) -> Result<(), AllocError>
+    ensures { OnOk result (out.new.items ≡ out.old.items ++ flat_map (λ file. packet (packet_of set_id.now FileDesc (desc_bytes (file_record_of file)))) files.now) }
+{
+    for file in files {
+        append_desc(alloc, out, set_id, file)?;
+    }
+    Ok(())
+}
+
+// Their IFSCs, in order.
+fn append_ifscs(
+    alloc: Global,
+    out: &mut Vec<u8>,
+    set_id: &[u8; 16],
+    files: &[FileRecord],
+) -> Result<(), AllocError>
+    ensures { OnOk result (out.new.items ≡ out.old.items ++ flat_map (λ file. packet (packet_of set_id.now Ifsc (ifsc_bytes (file_record_of file)))) files.now) }
+{
+    for file in files {
+        append_ifsc(alloc, out, set_id, file)?;
+    }
+    Ok(())
+}
+
+/// The index of a set of these files, whose order it keeps: Main, the FileDescs, the IFSCs, Creator.
+#[tactic(auto, unfolding(par2_spec::specs::Volumes::index_packets))]
+pub fn index_of(alloc: Global, s: u64, files: &[FileRecord]) -> Result<Vec<u8>, AllocError>
+    requires { length files.now ≤ 32768 }
+    ensures { IfOk result (λ index. index.items ≡ flat_map packet (index_packets s (map file_record_of files.now))) }
+{
+    let set_id = main_id(s, files);
+    let mut index = Vec::new(alloc);
+    append_main(alloc, &mut index, s, files)?;
+    append_descs(alloc, &mut index, &set_id, files)?;
+    append_ifscs(alloc, &mut index, &set_id, files)?;
+    append_creator(alloc, &mut index, &set_id)?;
+    Ok(index)
+}

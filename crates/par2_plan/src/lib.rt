@@ -1,0 +1,11 @@
+//! What a command changes in a folder, or why it is refused.
+#![tactic(auto)]
+
+mod changes;
+mod create;
+mod index;
+mod words;
+
+pub use changes::Changes;
+pub use create::plan_create;
+pub use par2_spec::{CreateArgs, Fault};

@@ -1,0 +1,17 @@
+-- What a rolling checksum holds.
+use Rattle.std.specs.Prelude.{◌≡◌, ℕ, ◌*◌, ◌<◌, List, [], ◌∷◌, bit_xor, slice_index}
+use Rattle.par2_spec.specs.Checksums.{crc32}
+use Rattle.par2_slices.specs.Steps.{steps}
+
+-- the size of its windows and a checksum
+pub record Roll : Type 0 where
+  pub size : ℕ
+  pub value : ℕ
+
+-- what the byte that leaves a window of s bytes adds to the checksum
+unfoldable pub leaving : ℕ → ℕ → ℕ
+leaving s byte = bit_xor (steps (8 * s) (crc32 (byte ∷ []))) (crc32 (0 ∷ []))
+
+-- the table has this for each byte
+pub record IsLeaving (s : ℕ) (table : List ℕ) : Type 0 where
+  pub entry : (byte : ℕ) → byte < 256 → slice_index table byte ≡ leaving s byte

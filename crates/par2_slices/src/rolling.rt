@@ -1,0 +1,80 @@
+//! The CRC-32 of a window that moves along a file.
+
+ghost use Rattle.std.specs.Prelude.{◌≡◌, ◌≤◌, ◌<◌, ◌+◌, ◌++◌, ◌∷◌, [], List, ℕ, IfOk, length, slice_index};
+ghost use Rattle.par2_spec.specs.Checksums as spec;
+ghost use Rattle.par2_spec.specs.Slices.{padded};
+ghost use Rattle.par2_slices.specs.Rolls.{leaving};
+
+use crate::checksum::{after_byte, crc32};
+use crate::zeros::{after_zeros, padded_crc32};
+use std::alloc::{AllocError, Global};
+use std::marker::Model;
+
+/// The CRC-32 of a window of a fixed size, which moves on by a byte at a time in a constant number of steps.
+#[derive(Drop)]
+pub struct Rolling {
+    size: u64,
+    leaving: Box<[u32; 256]>,
+    value: u32,
+}
+
+impl Model for Rolling {
+    ghost use Rattle.par2_slices.specs.Rolls.{Roll, IsLeaving};
+
+    ghost Value = { Roll };
+
+    ghost view = { λ a. record { size = a.size; value = a.value } };
+
+    ghost invariant = { λ a. IsLeaving a.size a.leaving.value };
+}
+
+/// What each byte adds to the checksum when it leaves a window of `s` bytes.
+fn leaving_table(s: u64) -> [u32; 256]
+    ensures { (byte : ℕ) → byte < 256 → slice_index result byte ≡ leaving s byte }
+{
+    let none = crc32(&[0]);
+    let mut table = [0; 256];
+    for byte in 0..256usize {
+        table[byte] = after_zeros(crc32(&[byte as u8]), s) ^ none;
+    }
+    table
+}
+
+impl Rolling {
+    /// For windows of `s` bytes. The value is that of no window before `start`.
+    pub fn new(alloc: Global, s: u64) -> Result<Rolling, AllocError>
+        requires { 1 ≤ s }
+        ensures { IfOk result (λ rolling. rolling.size ≡ s) }
+    {
+        Ok(Rolling {
+            size: s,
+            leaving: Box::new(alloc, leaving_table(s))?,
+            value: 0,
+        })
+    }
+
+    /// Begins at a window. A shorter one is padded with zeros.
+    pub fn start(&mut self, window: &[u8])
+        requires { length window.now ≤ self.old.size }
+        ensures size { self.new.size ≡ self.old.size }
+        ensures padded { self.new.value ≡ spec.crc32 (padded self.old.size window.now) }
+        ensures whole { length window.now ≡ self.old.size → self.new.value ≡ spec.crc32 window.now }
+    {
+        self.value = padded_crc32(window, self.size);
+    }
+
+    /// Moves the window on by a byte: `out` leaves it in front, `next` comes in behind.
+    pub fn slide(&mut self, out: u8, next: u8)
+        ensures size { self.new.size ≡ self.old.size }
+        ensures value { (rest : List ℕ) → length rest + 1 ≡ self.old.size → self.old.value ≡ spec.crc32 (out ∷ rest) → self.new.value ≡ spec.crc32 (rest ++ next ∷ []) }
+    {
+        self.value = after_byte(self.value, next) ^ self.leaving[out as usize];
+    }
+
+    /// The CRC-32 of the window.
+    pub fn value(&self) -> u32
+        ensures { result ≡ self.now.value }
+    {
+        self.value
+    }
+}

@@ -1,0 +1,95 @@
+-- The changes of a command lead to its folder.
+use Rattle.std.proofs.Common.{◌≡◌, ℕ, ◌+◌, List, [], ◌∷◌, ◌++◌, refl, sym, ap, ◌∙◌, cond, true, false, Bool, not, ◌&&◌}
+use Rattle.std.specs.Prelude.{Option, Some, None, Result, Ok, Err, position, is_some, if◌then◌else◌}
+use Rattle.std.specs.List.{list_all, position_from}
+use Rattle.std.proofs.lemmas.Bool.{and_parts, and_from}
+use Rattle.std.proofs.lemmas.Iterator.Adapters.{position_from-zero}
+use Rattle.par2_spec.specs.declared.Fault.{Fault}
+use Rattle.par2_spec.specs.declared.Fault.TheVariants.{NoSuchFile}
+use Rattle.par2_spec.specs.Folders.{Folder, has}
+use Rattle.par2_spec.specs.Changes.{Change, effects, are_applicable}
+use Rattle.par2_spec.specs.Sets.{ParSet, set_of}
+use Rattle.par2_spec.specs.Search.{candidates}
+use Rattle.par2_spec.specs.Repairs.{after_repair, after_repair_and_purge, after_purge, par_files}
+use Rattle.par2_spec.specs.Commands.{Command, Create, Verify, Repair, Purge}
+use Rattle.par2_spec.specs.Refusals.{set_in, by_set, after}
+use Rattle.par2_spec.specs.Plans.{changes_of, repair_changes, repair_removals, purge_changes}
+use Rattle.par2_spec.specs.Rules.{AreFewFor, LeadsToAfter, FitsRepair}
+use Rattle.par2_spec.proofs.NamesLaws.{false_true}
+use Rattle.par2_spec.proofs.CommandLaws.{create_leads, removals_lead}
+use Rattle.par2_spec.proofs.CreateLaws.{create_applies}
+use Rattle.par2_spec.proofs.ReadLaws.{fits_of, came_out}
+use Rattle.par2_spec.proofs.RepairLaws.{fits_all, repair_applies, repair_leads, repair_and_purge_applies, repair_and_purge_leads, purge_applies}
+
+abbrev missing : Folder → List (List ℕ) → Option ℕ
+missing folder names = position (λ word. not (has folder word)) names
+
+there_from : (folder : Folder) (n : ℕ) (names : List (List ℕ)) → position_from (λ word. not (has folder word)) n names ≡ None → list_all (has folder) names ≡ true
+there_from folder n [] h = refl
+there_from folder n (name ∷ names) h = step (has folder name) refl h (there_from folder (n + 1) names)
+  where
+    rest : Option ℕ
+    rest = position_from (λ word. not (has folder word)) (n + 1) names
+
+    step : (b : Bool) → has folder name ≡ b → cond (not b) (Some n) rest ≡ None → (rest ≡ None → list_all (has folder) names ≡ true) → (has folder name && list_all (has folder) names) ≡ true
+    step false e k later = absurd (false_true (sym (ap is_some k)))
+    step true e k later = and_from _ _ e (later k)
+
+all_there : (folder : Folder) (names : List (List ℕ)) → missing folder names ≡ None → list_all (has folder) names ≡ true
+all_there folder names h = there_from folder 0 names (sym (position_from-zero (λ word. not (has folder word)) names) ∙ h)
+
+in_full : (folder : Folder) (base : List ℕ) (extras : List (List ℕ)) → missing folder (base ∷ extras) ≡ None → set_in folder base extras ≡ set_of folder base
+unfolding set_in
+in_full folder base extras e = rw e refl
+
+in_part : (folder : Folder) (base : List ℕ) (extras : List (List ℕ)) (k : ℕ) → missing folder (base ∷ extras) ≡ Some k → set_in folder base extras ≡ Err (NoSuchFile (0 + k))
+unfolding set_in
+in_part folder base extras k e = rw e refl
+
+no_fault : (set : ParSet) (fault : Fault) → ◌≡◌ {A = Result ParSet Fault} (Err fault) (Ok set) → ⊥
+no_fault set fault e = false_true (ap came_out e)
+
+-- what a set that is read in a folder with these names tells
+pub set_in_reads : (folder : Folder) (base : List ℕ) (extras : List (List ℕ)) (set : ParSet) → set_in folder base extras ≡ Ok set → (set_of folder base ≡ Ok set) × (list_all (has folder) (base ∷ extras) ≡ true)
+set_in_reads folder base extras set h = step (missing folder (base ∷ extras)) refl
+  where
+    step : (o : Option ℕ) → missing folder (base ∷ extras) ≡ o → (set_of folder base ≡ Ok set) × (list_all (has folder) (base ∷ extras) ≡ true)
+    step None e = (sym (in_full folder base extras e) ∙ h, all_there folder (base ∷ extras) e)
+    step (Some k) e = absurd (no_fault set (NoSuchFile (0 + k)) (sym (in_part folder base extras k e) ∙ h))
+
+-- ---- what leads
+
+abbrev Leads : Folder → List Change → Folder → Type 0
+Leads folder changes goal = (are_applicable folder changes ≡ true) × (effects folder changes ≡ goal)
+
+nothing_leads : (folder : Folder) → Leads folder [] folder
+unfolding effects are_applicable
+nothing_leads folder = (refl, refl)
+
+repair_of_set : (folder : Folder) (set : ParSet) (searched : List (List ℕ)) (purge : Bool) → FitsRepair folder set searched
+    → Leads folder (if purge then repair_changes folder set searched ++ repair_removals folder set searched else repair_changes folder set searched)
+    (if purge then after_repair_and_purge folder set searched else after_repair folder set searched)
+repair_of_set folder set searched true fits = let all = fits_all folder set searched fits in (repair_and_purge_applies folder set searched all, repair_and_purge_leads folder set searched all)
+repair_of_set folder set searched false fits = let all = fits_all folder set searched fits in (repair_applies folder set searched all, repair_leads folder set searched all)
+
+repair_of : (folder : Folder) (base : List ℕ) (extras : List (List ℕ)) (purge : Bool) → AreFewFor folder (Repair base extras purge) → (r : Result ParSet Fault) → set_in folder base extras ≡ r
+    → Leads folder
+    (by_set [] (λ set. if purge then repair_changes folder set (candidates folder set extras) ++ repair_removals folder set (candidates folder set extras) else repair_changes folder set (candidates folder set extras)) r)
+    (by_set folder (λ set. if purge then after_repair_and_purge folder set (candidates folder set extras) else after_repair folder set (candidates folder set extras)) r)
+repair_of folder base extras purge few (Err fault) e = nothing_leads folder
+repair_of folder base extras purge few (Ok set) e =
+    let reads = set_in_reads folder base extras set e in
+    repair_of_set folder set (candidates folder set extras) purge
+    (fits_of folder base set extras reads.0 (and_parts (has folder base) (list_all (has folder) extras) reads.1).1 (few set reads.0))
+
+purge_of : (folder : Folder) (r : Result ParSet Fault) → Leads folder (by_set [] (purge_changes folder) r) (by_set folder (after_purge folder) r)
+purge_of folder (Err fault) = nothing_leads folder
+purge_of folder (Ok set) = (purge_applies folder set, removals_lead folder (par_files folder set))
+
+-- the changes of each command lead to its folder
+pub command_leads : (folder : Folder) (command : Command) → AreFewFor folder command → LeadsToAfter folder command
+unfolding changes_of after
+command_leads folder (Create a) few = (create_applies folder a, create_leads folder a)
+command_leads folder (Verify base extras) few = nothing_leads folder
+command_leads folder (Repair base extras purge) few = repair_of folder base extras purge few (set_in folder base extras) refl
+command_leads folder (Purge base) few = purge_of folder (set_in folder base [])

@@ -1,0 +1,257 @@
+-- The tests over all vectors and all texts say what the words say.
+use Rattle.std.proofs.Common.{◌≡◌, ℕ, ◌^◌, ◌<◌, List, [], ◌∷◌, length, map, refl, sym, ap, ◌∙◌, subst, T, true, false, Bool, ◌&&◌, ◌||◌, not, cond, arith}
+use Rattle.std.specs.Prelude.{◌↔◌, ◌==◌, nat_lt, filter, find, zip, Option, Some, None, is_some, unwrap_or, IsTrue, nat_eq}
+use Rattle.std.specs.List.{list_all, list_any, AllByRecursion, AllZip, Contains}
+use Rattle.std.specs.Option.{ForSome}
+use Rattle.std.specs.FinMap as map_of
+use Rattle.std.specs.Str.{bytes_eq}
+use Rattle.std.proofs.lemmas.Bool.{and_parts, and_from, eqb-true, eq-eqb, ltb-true, lt-ltb, not_from_false, false_from_ne_true}
+use Rattle.std.proofs.lemmas.Slice.Zip.{AllZip-long}
+use Rattle.std.proofs.lemmas.Map.Views.{Contains-from_any, list_any-from_Contains}
+use Rattle.std.proofs.lemmas.Cmp.{nat_eq_equiv}
+use Rattle.par2_spec.specs.Lists.{all_lists, all_texts, all_below}
+use Rattle.par2_spec.specs.Recovery.{dot, coefficients, recovery}
+use Rattle.par2_spec.specs.Rank.{kills, is_zero, is_independent, is_solvable, is_repairable, kept, smaller, Kills, IsRepairable, IsKept, Agrees, agrees, is_as_known, kept_slices, IsRebuilt}
+use Rattle.par2_spec.specs.Sets.{ParSet}
+use Rattle.par2_spec.specs.Search.{lost, survivors}
+use Rattle.par2_spec.specs.Repairs.{rebuilt}
+use Rattle.par2_spec.proofs.ListsLaws.{AreOf, IsBelow, IsComplete, some_list, all_below_are, all_below_complete, all_lists_are, all_lists_complete, find_one}
+use Rattle.par2_spec.proofs.NamesLaws.{same_name, itself, clash, false_true}
+
+is_true : {b : Bool} → T b → b ≡ true
+is_true {b = true} t = refl
+is_true {b = false} t = absurd t
+
+by_true : {b : Bool} → b ≡ true → T b
+by_true e = subst T (sym e) tt
+
+-- ---- tests of lists
+
+all_from_test : {A : Type 0} (p : A → Bool) (xs : List A) → list_all p xs ≡ true → AllByRecursion (λ x. p x ≡ true) xs
+all_from_test p [] h = tt
+all_from_test p (x ∷ xs) h = let r = and_parts (p x) (list_all p xs) h in (r.0, all_from_test p xs r.1)
+
+test_from_all : {A : Type 0} (p : A → Bool) (xs : List A) → AllByRecursion (λ x. p x ≡ true) xs → list_all p xs ≡ true
+test_from_all p [] h = refl
+test_from_all p (x ∷ xs) h = and_from _ _ h.0 (test_from_all p xs h.1)
+
+all_weaker : {A : Type 0} (P Q : A → Type 0) → ((x : A) → P x → Q x) → (xs : List A) → AllByRecursion P xs → AllByRecursion Q xs
+all_weaker P Q f [] h = tt
+all_weaker P Q f (x ∷ xs) h = (f x h.0, all_weaker P Q f xs h.1)
+
+-- each item is zero
+zero_from_test : (v : List ℕ) → is_zero v ≡ true → AllByRecursion (λ x. x ≡ 0) v
+zero_from_test v h = all_weaker (λ x. (x == 0) ≡ true) (λ x. x ≡ 0) (λ x e. eqb-true x 0 e) v (all_from_test (λ x. x == 0) v h)
+
+test_from_zero : (v : List ℕ) → AllByRecursion (λ x. x ≡ 0) v → is_zero v ≡ true
+test_from_zero v h = test_from_all (λ x. x == 0) v (all_weaker (λ x. x ≡ 0) (λ x. (x == 0) ≡ true) (λ x e. ap (λ y. y == 0) e) v h)
+
+-- every row of some exponents kills the vector
+all_killed : (lost : List ℕ) (v : List ℕ) (es : List ℕ) → list_all (kills v) (map (coefficients lost) es) ≡ true → AllByRecursion (λ e. Kills lost e v) es
+all_killed lost v [] h = tt
+all_killed lost v (e ∷ es) h =
+    let r = and_parts (kills v (coefficients lost e)) (list_all (kills v) (map (coefficients lost) es)) h in
+    (eqb-true (dot (coefficients lost e) v) 0 r.0, all_killed lost v es r.1)
+
+killed_all : (lost : List ℕ) (v : List ℕ) (es : List ℕ) → AllByRecursion (λ e. Kills lost e v) es → list_all (kills v) (map (coefficients lost) es) ≡ true
+killed_all lost v [] h = refl
+killed_all lost v (e ∷ es) h = and_from _ _ (ap (λ n. n == 0) h.0) (killed_all lost v es h.1)
+
+-- ---- repairable
+
+stable : (b : Bool) → (b ≡ false → ⊥) → b ≡ true
+stable true h = refl
+stable false h = absurd (h refl)
+
+false_from_not_any : (b : Bool) → not b ≡ true → T b → ⊥
+false_from_not_any true h t = false_true h
+false_from_not_any false h t = t
+
+not_from_none : (b : Bool) → (T b → ⊥) → not b ≡ true
+not_from_none true h = absurd (h tt)
+not_from_none false h = refl
+
+pub repairable-iff : (lost survivors : List ℕ) → IsTrue (is_repairable lost survivors) ↔ IsRepairable lost survivors
+unfolding is_solvable
+repairable-iff lost survivors =
+    let rows = map (coefficients lost) survivors in
+    let test = (λ (v : List ℕ). not (is_zero v) && list_all (kills v) rows) in
+    let law = some_list (2 ^ 16) (length lost) test in (
+      λ h v is k. zero_from_test v (stable (is_zero v) (λ z.
+          false_from_not_any (list_any test (all_lists (all_below (2 ^ 16)) (length lost))) h (law.1 (v, is, by_true (and_from _ _ (not_from_false _ z) (killed_all lost v survivors k)))))),
+      λ h. not_from_none (list_any test (all_lists (all_below (2 ^ 16)) (length lost))) (λ some.
+          let found = law.0 some in
+          let r = and_parts (not (is_zero found.0)) (list_all (kills found.0) rows) (is_true found.2) in
+          false_true (sym (ap not (test_from_zero found.0 (h found.0 found.1 (all_killed lost found.0 survivors r.1)))) ∙ r.0)),
+    )
+
+-- ---- kept exponents
+
+-- what holds of the smaller ones
+all_smaller : (P : ℕ → Type 0) (e : ℕ) (es : List ℕ) → AllByRecursion P (smaller e es) → AllByRecursion (λ x. x < e → P x) es
+all_smaller P e [] h = tt
+all_smaller P e (x ∷ es) h = step (nat_lt x e) refl (smaller e es) h (all_smaller P e es)
+  where
+    step : (b : Bool) → nat_lt x e ≡ b → (rest : List ℕ) → AllByRecursion P (cond b (x ∷ rest) rest) → (AllByRecursion P rest → AllByRecursion (λ y. y < e → P y) es) → AllByRecursion (λ y. y < e → P y) (x ∷ es)
+    step true i rest h later = (λ l. h.0, later h.1)
+    step false i rest h later = (λ l. absurd (clash (lt-ltb x e l) i), later h)
+
+smaller_all : (P : ℕ → Type 0) (e : ℕ) (es : List ℕ) → AllByRecursion (λ x. x < e → P x) es → AllByRecursion P (smaller e es)
+smaller_all P e [] h = tt
+smaller_all P e (x ∷ es) h = step (nat_lt x e) refl (smaller e es) (smaller_all P e es h.1)
+  where
+    step : (b : Bool) → nat_lt x e ≡ b → (rest : List ℕ) → AllByRecursion P rest → AllByRecursion P (cond b (x ∷ rest) rest)
+    step true i rest k = (h.0 (ltb-true x e i), k)
+    step false i rest k = k
+
+pub independent-iff : (lost survivors : List ℕ) (e : ℕ) → (is_independent (length lost) (map (coefficients lost) (smaller e survivors)) (coefficients lost e) ≡ true) ↔ IsKept lost survivors e
+unfolding is_independent
+independent-iff lost survivors e =
+    let before = map (coefficients lost) (smaller e survivors) in
+    let test = (λ (v : List ℕ). list_all (kills v) before && not (kills v (coefficients lost e))) in
+    let law = some_list (2 ^ 16) (length lost) test in (
+      λ h. let found = law.0 (by_true h) in
+          let r = and_parts (list_all (kills found.0) before) (not (kills found.0 (coefficients lost e))) (is_true found.2) in (
+            found.0,
+            found.1,
+            all_smaller (λ x. Kills lost x found.0) e survivors (all_killed lost found.0 (smaller e survivors) r.0),
+            λ k. false_true (sym (ap (λ n. not (n == 0)) k) ∙ r.1),
+          ),
+      λ k. is_true (law.1 (
+        k.0,
+        k.1,
+        by_true (and_from _ _ (killed_all lost k.0 (smaller e survivors) (smaller_all (λ x. Kills lost x k.0) e survivors k.2))
+            (not_from_false _ (false_from_ne_true _ (λ z. k.3 (eqb-true (dot (coefficients lost e) k.0) 0 z))))),
+      )),
+    )
+
+-- ---- the numbers that pass a test
+
+counts : List ℕ → ℕ → Bool
+counts xs q = list_any (nat_eq q) xs
+
+counts-filter : (p : ℕ → Bool) (xs : List ℕ) (q : ℕ) → counts (filter p xs) q ≡ (counts xs q && p q)
+unfolding counts
+counts-filter p [] q = refl
+counts-filter p (x ∷ xs) q =
+    chosen (p x) x (filter p xs) ∙ ap (λ r. cond (p x) (nat_eq q x || r) r) (counts-filter p xs q)
+    ∙ kept_one (nat_eq q x) (p x) (p q) (list_any (nat_eq q) xs) (λ e. ap p (sym (eqb-true q x e)))
+  where
+    chosen : (b : Bool) (y : ℕ) (ys : List ℕ) → list_any (nat_eq q) (cond b (y ∷ ys) ys) ≡ cond b (nat_eq q y || list_any (nat_eq q) ys) (list_any (nat_eq q) ys)
+    chosen true y ys = refl
+    chosen false y ys = refl
+
+    kept_one : (e px pq r : Bool) → (e ≡ true → px ≡ pq) → cond px (e || (r && pq)) (r && pq) ≡ ((e || r) && pq)
+    kept_one true true true r h = refl
+    kept_one true true false r h = absurd (false_true (sym (h refl)))
+    kept_one true false true r h = absurd (false_true (h refl))
+    kept_one true false false true h = refl
+    kept_one true false false false h = refl
+    kept_one false true pq r h = refl
+    kept_one false false pq r h = refl
+
+counts-iff : (xs : List ℕ) (q : ℕ) → (counts xs q ≡ true) ↔ Contains xs q
+unfolding counts
+counts-iff xs q = (Contains-from_any {eq = nat_eq} eqb-true q xs, list_any-from_Contains nat_eq_equiv q xs)
+
+filter-contains : (p : ℕ → Bool) (xs : List ℕ) (q : ℕ) → Contains (filter p xs) q ↔ (Contains xs q × (p q ≡ true))
+filter-contains p xs q = (
+  λ c. let r = and_parts (counts xs q) (p q) (sym (counts-filter p xs q) ∙ (counts-iff (filter p xs) q).1 c) in ((counts-iff xs q).0 r.0, r.1),
+  λ c. (counts-iff (filter p xs) q).0 (counts-filter p xs q ∙ and_from _ _ ((counts-iff xs q).1 c.0) c.1),
+)
+
+pub kept-iff : (lost survivors : List ℕ) (e : ℕ) → Contains (kept lost survivors) e ↔ (Contains survivors e × IsKept lost survivors e)
+kept-iff lost survivors e =
+    let law = filter-contains (λ x. is_independent (length lost) (map (coefficients lost) (smaller x survivors)) (coefficients lost x)) survivors e in (
+      λ c. let r = law.0 c in (r.0, (independent-iff lost survivors e).0 r.1),
+      λ c. law.1 (c.0, (independent-iff lost survivors e).1 c.1),
+    )
+
+-- ---- lists that agree
+
+known_one : (o : Option (List ℕ)) (text : List ℕ) → is_as_known (o, text) ≡ true → ForSome o (λ found. text ≡ found)
+known_one None text h = λ x e. absurd (false_true (ap is_some e))
+known_one (Some y) text h = λ x e. sym (same_name y text h) ∙ ap (λ o. unwrap_or o y) e
+
+one_known : (o : Option (List ℕ)) (text : List ℕ) → ForSome o (λ found. text ≡ found) → is_as_known (o, text) ≡ true
+one_known None text h = refl
+one_known (Some y) text h = subst (λ z. bytes_eq y z ≡ true) (sym (h y refl)) (itself y)
+
+as_known : (known : List (Option (List ℕ))) (slices : List (List ℕ)) → length slices ≡ length known → list_all is_as_known (zip known slices) ≡ true → AllZip (λ slice text. ForSome slice (λ found. text ≡ found)) known slices
+as_known [] [] e h = tt
+as_known [] (y ∷ ys) e h = absurd (omega (arith, e))
+as_known (x ∷ xs) [] e h = absurd (omega (arith, e))
+as_known (x ∷ xs) (y ∷ ys) e h =
+    let r = and_parts (is_as_known (x, y)) (list_all is_as_known (zip xs ys)) h in
+    (known_one x y r.0, as_known xs ys (omega (arith, e)) r.1)
+
+known_as : (known : List (Option (List ℕ))) (slices : List (List ℕ)) → AllZip (λ slice text. ForSome slice (λ found. text ≡ found)) known slices → list_all is_as_known (zip known slices) ≡ true
+known_as [] [] h = refl
+known_as [] (y ∷ ys) h = absurd h
+known_as (x ∷ xs) [] h = absurd h
+known_as (x ∷ xs) (y ∷ ys) h = and_from _ _ (one_known x y h.0) (known_as xs ys h.1)
+
+-- a list of texts of s bytes passes the test exactly if it agrees
+pub agrees-iff : (s : ℕ) (known : List (Option (List ℕ))) (recovered : List (ℕ × List ℕ)) (slices : List (List ℕ))
+    → AllByRecursion (λ text. length text ≡ s) slices → AllByRecursion (λ text. AllByRecursion (λ b. b < 256) text) slices
+    → IsTrue (agrees s known recovered slices) ↔ Agrees s known recovered slices
+unfolding agrees
+agrees-iff s known recovered slices sizes bytes = (
+  λ h. let r = and_parts (length slices == length known && list_all is_as_known (zip known slices)) _ h in
+      let q = and_parts (length slices == length known) _ r.0 in
+      record {
+        sizes = sizes;
+        bytes = bytes;
+        as_known = as_known known slices (eqb-true (length slices) (length known) q.0) q.1;
+        as_recovered = all_weaker (λ (r : ℕ × List ℕ). bytes_eq (recovery s slices r.0) r.1 ≡ true) (λ (r : ℕ × List ℕ). recovery s slices r.0 ≡ r.1) (λ r e. same_name (recovery s slices r.0) r.1 e) recovered
+            (all_from_test (λ (r : ℕ × List ℕ). bytes_eq (recovery s slices r.0) r.1) recovered r.1);
+      },
+  λ a. and_from _ _ (and_from _ _ (eq-eqb (length slices) (length known) (AllZip-long (λ slice text. ForSome slice (λ found. text ≡ found)) known slices a.as_known)) (known_as known slices a.as_known))
+      (test_from_all (λ (r : ℕ × List ℕ). bytes_eq (recovery s slices r.0) r.1) recovered
+      (all_weaker (λ (r : ℕ × List ℕ). recovery s slices r.0 ≡ r.1) (λ (r : ℕ × List ℕ). bytes_eq (recovery s slices r.0) r.1 ≡ true) (λ r e. subst (λ z. bytes_eq (recovery s slices r.0) z ≡ true) e (itself (recovery s slices r.0))) recovered a.as_recovered)),
+)
+
+-- ---- what is rebuilt
+
+-- a text of s bytes
+abbrev IsText : ℕ → List ℕ → Type 0
+IsText s text = AreOf (IsBelow 256) s text
+
+texts_from : (s : ℕ) (slices : List (List ℕ)) → AllByRecursion (λ text. length text ≡ s) slices → AllByRecursion (λ text. AllByRecursion (λ b. b < 256) text) slices → AllByRecursion (IsText s) slices
+texts_from s [] h k = tt
+texts_from s (x ∷ xs) h k = ((h.0, k.0), texts_from s xs h.1 k.1)
+
+sizes_from : (s : ℕ) (slices : List (List ℕ)) → AllByRecursion (IsText s) slices → AllByRecursion (λ text. length text ≡ s) slices
+sizes_from s slices h = all_weaker (IsText s) (λ text. length text ≡ s) (λ x t. t.0) slices h
+
+bytes_from : (s : ℕ) (slices : List (List ℕ)) → AllByRecursion (IsText s) slices → AllByRecursion (λ text. AllByRecursion (λ b. b < 256) text) slices
+bytes_from s slices h = all_weaker (IsText s) (λ text. AllByRecursion (λ b. b < 256) text) (λ x t. t.1) slices h
+
+texts_are : (s : ℕ) → AllByRecursion (IsText s) (all_texts s)
+texts_are s = all_lists_are (IsBelow 256) (all_below 256) (all_below_are 256) s
+
+texts_complete : (s : ℕ) → IsComplete (IsText s) (all_texts s)
+texts_complete s = all_lists_complete (IsBelow 256) (all_below 256) (all_below_complete 256) s
+
+-- where a list agrees, one is found, and it agrees
+pub agreeing_found : (s : ℕ) (known : List (Option (List ℕ))) (recovered : List (ℕ × List ℕ)) (slices : List (List ℕ)) → Agrees s known recovered slices
+    → (found : List (List ℕ)) × (find (agrees s known recovered) (all_lists (all_texts s) (length known)) ≡ Some found) × Agrees s known recovered found
+agreeing_found s known recovered slices a =
+    let r = find_one (AreOf (IsText s) (length known)) (agrees s known recovered) (all_lists (all_texts s) (length known)) (all_lists_are (IsText s) (all_texts s) (texts_are s) (length known))
+    (all_lists_complete (IsText s) (all_texts s) (texts_complete s) (length known) (agrees s known recovered) slices
+    (AllZip-long (λ slice text. ForSome slice (λ found. text ≡ found)) known slices a.as_known, texts_from s slices a.sizes a.bytes)
+    (by_true ((agrees-iff s known recovered slices a.sizes a.bytes).1 a))) in
+    (r.0, r.1, (agrees-iff s known recovered r.0 (sizes_from s r.0 r.2.1) (bytes_from s r.0 r.2.1)).0 (is_true r.3))
+
+pub rebuilt_agrees : (set : ParSet) (known : List (Option (List ℕ))) (slices : List (List ℕ))
+    → Agrees set.slice_size known (kept_slices (lost known) (survivors set) (map_of.entries set.recovery)) slices
+    → Agrees set.slice_size known (kept_slices (lost known) (survivors set) (map_of.entries set.recovery)) (rebuilt set known)
+unfolding rebuilt
+rebuilt_agrees set known slices a =
+    let recovered = kept_slices (lost known) (survivors set) (map_of.entries set.recovery) in
+    let r = agreeing_found set.slice_size known recovered slices a in
+    subst (Agrees set.slice_size known recovered) (sym (ap (λ o. unwrap_or o []) r.1)) r.2
+
+pub rebuilt_is_only : (set : ParSet) (known : List (Option (List ℕ))) (slices : List (List ℕ))
+    → IsRebuilt set.slice_size known (kept_slices (lost known) (survivors set) (map_of.entries set.recovery)) slices → rebuilt set known ≡ slices
+rebuilt_is_only set known slices is = is.only (rebuilt set known) (rebuilt_agrees set known slices is.agrees)

@@ -1,0 +1,315 @@
+-- A session is a history, and a kept session keeps its room.
+use Rattle.std.proofs.Common.{◌≡◌, ℕ, zero, suc, ◌+◌, ◌-◌, ◌≤◌, List, [], ◌∷◌, refl, sym, ap, ◌∙◌, subst, true, false, Bool, arith}
+use Rattle.std.specs.Prelude.{Option, Some, None, Result, Ok, Err, drop, replicate, length, sum_by}
+use Rattle.std.specs.List.{AllByRecursion}
+use Rattle.std.proofs.lemmas.Bool.{and_parts, and_from}
+use Rattle.std.proofs.lemmas.List.Sums.{sum_by-cons}
+use Rattle.par2_spec.specs.declared.Fault.{Fault}
+use Rattle.par2_spec.specs.Folders.{Folder}
+use Rattle.par2_spec.specs.Changes.{Change, Write, Replace, Rename, Remove, state_after, effects, are_applicable, way_back, FolderState, takes_all, state_after_all, places_taken}
+use Rattle.par2_spec.specs.Commands.{Command, Create, Verify, Repair, Purge, Action, Do, Undo, Redo}
+use Rattle.par2_spec.specs.Refusals.{refusal, after}
+use Rattle.par2_spec.specs.Plans.{changes_of}
+use Rattle.par2_spec.specs.History.{History, Refusal, Refused, NothingToUndo, NothingToRedo, in_front, done, unless_refused, undone, redone, history_after, Run, Ended, Accepted, Passed, folders, IsChanging}
+use Rattle.par2_spec.specs.Sessions.{Session, folders_along, history_of, first_entry, planned, changes_asked, others, session_with, applied, session_after, KeptSession, session_of_kept, walks, CanWalk, OnlyGrew, kept_done, kept_undone, kept_redone}
+use Rattle.par2_spec.specs.Opening.{leads, is_valid}
+use Rattle.par2_spec.specs.Rules.{LeadsToAfter, LeadsToAfterAsked}
+use Rattle.par2_spec.proofs.FolderLaws.{undo_changes, undo_are_applicable, state_files, taken_are_applicable, state_all_back, way_back_taken, changes_back, with_room, more_room_all, takes_applicable}
+use Rattle.par2_spec.proofs.NamesLaws.{false_true}
+
+-- ---- what came out
+
+is_ok : {A E : Type 0} → Result A E → Bool
+is_ok (Ok a) = true
+is_ok (Err e) = false
+
+ok_or_else : {A E : Type 0} → A → Result A E → A
+ok_or_else a (Ok x) = x
+ok_or_else a (Err e) = a
+
+err_or_else : {A E : Type 0} → E → Result A E → E
+err_or_else e (Ok x) = e
+err_or_else e (Err x) = x
+
+same_ok : {A E : Type 0} (x y : A) → ◌≡◌ {A = Result A E} (Ok x) (Ok y) → x ≡ y
+unfolding ok_or_else
+same_ok x y e = ap (ok_or_else x) e
+
+same_err : {A E : Type 0} (x y : E) → ◌≡◌ {A = Result A E} (Err x) (Err y) → x ≡ y
+unfolding err_or_else
+same_err x y e = ap (err_or_else x) e
+
+ok_no_err : {A E : Type 0} (x : A) (y : E) → ◌≡◌ {A = Result A E} (Ok x) (Err y) → ⊥
+unfolding is_ok
+ok_no_err x y e = false_true (sym (ap is_ok e))
+
+-- ---- an entry and its way back
+
+-- the folders along the way back and further entries
+along_back : (folder : Folder) (cs : List Change) (entries : List (List Change)) → are_applicable folder cs ≡ true → folders_along (effects folder cs) (way_back folder cs ∷ entries) ≡ folder ∷ folders_along folder entries
+unfolding folders_along
+along_back folder cs entries h = ap (λ f. f ∷ folders_along f entries) (undo_changes folder cs h)
+
+leads_back : (folder : Folder) (cs : List Change) (entries : List (List Change)) → are_applicable folder cs ≡ true → leads folder entries ≡ true → leads (effects folder cs) (way_back folder cs ∷ entries) ≡ true
+unfolding leads
+leads_back folder cs entries h l = and_from _ _ (undo_are_applicable folder cs h) (ap (λ f. leads f entries) (undo_changes folder cs h) ∙ l)
+
+-- ---- an accepted action
+
+abbrev at_command : Session → List Change → Session
+at_command s cs = record { folder = effects s.folder cs; undos = way_back s.folder cs ∷ s.undos; redos = [] }
+
+command_in_front : (s : Session) (cs : List Change) (folder : Folder) → are_applicable s.folder cs ≡ true → effects s.folder cs ≡ folder → in_front folder (history_of s) ≡ history_of (at_command s cs)
+unfolding history_of folders_along
+command_in_front s cs folder h e = λ i. record { older = sym (along_back s.folder cs s.undos h) i; now = sym e i; newer = [] }
+
+done_is : (s : Session) (command : Command) → LeadsToAfter s.folder command → done command (history_of s) ≡ history_of (session_with s (Do command) (changes_of s.folder command))
+unfolding session_with history_of
+done_is s (Create a) l = command_in_front s (changes_of s.folder (Create a)) (after s.folder (Create a)) l.0 l.1
+done_is s (Verify base extras) l = refl
+done_is s (Repair base extras purge) l = command_in_front s (changes_of s.folder (Repair base extras purge)) (after s.folder (Repair base extras purge)) l.0 l.1
+done_is s (Purge base) l = command_in_front s (changes_of s.folder (Purge base)) (after s.folder (Purge base)) l.0 l.1
+
+valid_command : (s : Session) (cs : List Change) → is_valid s ≡ true → are_applicable s.folder cs ≡ true → is_valid (at_command s cs) ≡ true
+unfolding leads
+valid_command s cs v h = and_from _ _ (leads_back s.folder cs s.undos h (and_parts (leads s.folder s.undos) (leads s.folder s.redos) v).0) refl
+
+valid_done : (s : Session) (command : Command) → is_valid s ≡ true → LeadsToAfter s.folder command → is_valid (session_with s (Do command) (changes_of s.folder command)) ≡ true
+unfolding session_with
+valid_done s (Create a) v l = valid_command s (changes_of s.folder (Create a)) v l.0
+valid_done s (Verify base extras) v l = v
+valid_done s (Repair base extras purge) v l = valid_command s (changes_of s.folder (Repair base extras purge)) v l.0
+valid_done s (Purge base) v l = valid_command s (changes_of s.folder (Purge base)) v l.0
+
+-- a session after an accepted action: it is the history after it, and can be walked again
+abbrev IsNext : Session → Action → Session → Type 0
+IsNext s action t = (history_after (history_of s) action ≡ Ok (history_of t)) × (is_valid t ≡ true)
+
+done_next : (s t : Session) (command : Command) (o : Option Fault) → is_valid s ≡ true → (o ≡ None → LeadsToAfter s.folder command) → applied s (Do command) (planned o (changes_of s.folder command)) ≡ Ok t
+    → (unless_refused o (done command (history_of s)) ≡ Ok (history_of t)) × (is_valid t ≡ true)
+done_next s t command (Some fault) v l h = absurd (ok_no_err t (Refused fault) (sym h))
+done_next s t command None v l h =
+    let e = same_ok (session_with s (Do command) (changes_of s.folder command)) t h in
+    (ap Ok (done_is s command (l refl) ∙ ap history_of e), subst (λ u. is_valid u ≡ true) e (valid_done s command v (l refl)))
+
+abbrev session_at : Folder → List (List Change) → List (List Change) → Session
+session_at folder undos redos = record { folder = folder; undos = undos; redos = redos }
+
+undo_next : (folder : Folder) (undos redos : List (List Change)) (t : Session) → is_valid (session_at folder undos redos) ≡ true → applied (session_at folder undos redos) Undo (first_entry NothingToUndo undos) ≡ Ok t
+    → (undone folder (folders_along folder undos) (folders_along folder redos) ≡ Ok (history_of t)) × (is_valid t ≡ true)
+unfolding session_with history_of folders_along leads
+undo_next folder [] redos t v h = absurd (ok_no_err t NothingToUndo (sym h))
+undo_next folder (entry ∷ undos) redos t v h =
+    let e = same_ok (session_at (effects folder entry) undos (way_back folder entry ∷ redos)) t h in
+    let both = and_parts (leads folder (entry ∷ undos)) (leads folder redos) v in
+    let first = and_parts (are_applicable folder entry) (leads (effects folder entry) undos) both.0 in (
+      (λ i. Ok (record { older = folders_along (effects folder entry) undos; now = effects folder entry; newer = sym (along_back folder entry redos first.0) i })) ∙ ap (λ u. Ok (history_of u)) e,
+      subst (λ u. is_valid u ≡ true) e (and_from _ _ first.1 (leads_back folder entry redos first.0 both.1)),
+    )
+
+redo_next : (folder : Folder) (undos redos : List (List Change)) (t : Session) → is_valid (session_at folder undos redos) ≡ true → applied (session_at folder undos redos) Redo (first_entry NothingToRedo redos) ≡ Ok t
+    → (redone (folders_along folder undos) folder (folders_along folder redos) ≡ Ok (history_of t)) × (is_valid t ≡ true)
+unfolding session_with history_of folders_along leads
+redo_next folder undos [] t v h = absurd (ok_no_err t NothingToRedo (sym h))
+redo_next folder undos (entry ∷ redos) t v h =
+    let e = same_ok (session_at (effects folder entry) (way_back folder entry ∷ undos) redos) t h in
+    let both = and_parts (leads folder undos) (leads folder (entry ∷ redos)) v in
+    let first = and_parts (are_applicable folder entry) (leads (effects folder entry) redos) both.1 in (
+      (λ i. Ok (record { older = sym (along_back folder entry undos first.0) i; now = effects folder entry; newer = folders_along (effects folder entry) redos })) ∙ ap (λ u. Ok (history_of u)) e,
+      subst (λ u. is_valid u ≡ true) e (and_from _ _ (leads_back folder entry undos first.0 both.0) first.1),
+    )
+
+-- a session that can be walked goes where the history goes, and can be walked again
+pub accepted_next : (s t : Session) (action : Action) → is_valid s ≡ true → LeadsToAfterAsked s.folder action → session_after s action ≡ Ok t → IsNext s action t
+unfolding session_after changes_asked history_after history_of
+accepted_next s t (Do command) v l h = done_next s t command (refusal s.folder command) v l h
+accepted_next s t Undo v l h = undo_next s.folder s.undos s.redos t v h
+accepted_next s t Redo v l h = redo_next s.folder s.undos s.redos t v h
+
+-- ---- a refused action
+
+refused_command : (s : Session) (h : History) (cs : List Change) (command : Command) (o : Option Fault) (reason : Refusal) → applied s (Do command) (planned o cs) ≡ Err reason → unless_refused o h ≡ Err reason
+refused_command s h cs command None reason e = absurd (ok_no_err (session_with s (Do command) cs) reason e)
+refused_command s h cs command (Some fault) reason e = ap Err (same_err (Refused fault) reason e)
+
+refused_undo : (folder : Folder) (undos redos : List (List Change)) (reason : Refusal) → applied (session_at folder undos redos) Undo (first_entry NothingToUndo undos) ≡ Err reason → undone folder (folders_along folder undos) (folders_along folder redos) ≡ Err reason
+unfolding folders_along
+refused_undo folder [] redos reason e = ap Err (same_err NothingToUndo reason e)
+refused_undo folder (entry ∷ undos) redos reason e = absurd (ok_no_err (session_with (session_at folder (entry ∷ undos) redos) Undo entry) reason e)
+
+refused_redo : (folder : Folder) (undos redos : List (List Change)) (reason : Refusal) → applied (session_at folder undos redos) Redo (first_entry NothingToRedo redos) ≡ Err reason → redone (folders_along folder undos) folder (folders_along folder redos) ≡ Err reason
+unfolding folders_along
+refused_redo folder undos [] reason e = ap Err (same_err NothingToRedo reason e)
+refused_redo folder undos (entry ∷ redos) reason e = absurd (ok_no_err (session_with (session_at folder undos (entry ∷ redos)) Redo entry) reason e)
+
+pub refused_alike : (s : Session) (action : Action) (reason : Refusal) → session_after s action ≡ Err reason → history_after (history_of s) action ≡ Err reason
+unfolding session_after changes_asked history_after history_of
+refused_alike s (Do command) reason e = refused_command s (done command (history_of s)) (changes_of s.folder command) command (refusal s.folder command) reason e
+refused_alike s Undo reason e = refused_undo s.folder s.undos s.redos reason e
+refused_alike s Redo reason e = refused_redo s.folder s.undos s.redos reason e
+
+-- ---- runs of commands
+
+-- an accepted create, repair or purge puts a folder in front
+put_in_front : (h next : History) (folder : Folder) (o : Option Fault) → unless_refused o (in_front folder h) ≡ Ok next → next.older ≡ h.now ∷ h.older
+put_in_front h next folder None e = ap (λ k. k.older) (sym (same_ok (in_front folder h) next e))
+put_in_front h next folder (Some fault) e = absurd (ok_no_err next (Refused fault) (sym e))
+
+changed_older : (h next : History) (action : Action) → IsChanging action → history_after h action ≡ Ok next → next.older ≡ h.now ∷ h.older
+unfolding history_after
+changed_older h next (Do (Create a)) is e = put_in_front h next (after h.now (Create a)) (refusal h.now (Create a)) e
+changed_older h next (Do (Verify base extras)) is e = absurd is
+changed_older h next (Do (Repair base extras purge)) is e = put_in_front h next (after h.now (Repair base extras purge)) (refusal h.now (Repair base extras purge)) e
+changed_older h next (Do (Purge base)) is e = put_in_front h next (after h.now (Purge base)) (refusal h.now (Purge base)) e
+changed_older h next Undo is e = absurd is
+changed_older h next Redo is e = absurd is
+
+drop_one_more : {A : Type 0} (n : ℕ) (xs : List A) (y : A) (ys : List A) → drop n xs ≡ y ∷ ys → drop (suc n) xs ≡ ys
+drop_one_more zero [] y ys e = absurd (let k : 0 ≡ suc (length ys) = ap length e in omega (arith, k))
+drop_one_more zero (x ∷ xs) y ys e = ap (drop 1) e
+drop_one_more (suc n) [] y ys e = absurd (let k : 0 ≡ suc (length ys) = ap length e in omega (arith, k))
+drop_one_more (suc n) (x ∷ xs) y ys e = drop_one_more n xs y ys e
+
+-- n accepted ones left the n folders before them
+pub run_leaves : (start end : History) (actions : List Action) (n : ℕ) → Run start actions n end → AllByRecursion IsChanging actions → drop n (folders end) ≡ folders start
+run_leaves start end actions n Ended is = refl
+run_leaves start end actions n (Accepted {next = next} {action = action} {actions = rest} {n = m} e run) is =
+    drop_one_more m (folders end) next.now (folders start) (run_leaves next end rest m run is.1 ∙ ap (λ fs. next.now ∷ fs) (changed_older start next action is.0 e))
+run_leaves start end actions n (Passed {actions = rest} may run) is = run_leaves start end rest n run is.1
+
+none_dropped : {A : Type 0} (n : ℕ) (y : A) (ys : List A) → drop n [] ≡ y ∷ ys → ⊥
+none_dropped zero y ys e = let k : 0 ≡ suc (length ys) = ap length e in omega (arith, k)
+none_dropped (suc n) y ys e = let k : 0 ≡ suc (length ys) = ap length e in omega (arith, k)
+
+abbrev Undone : ℕ → History → Folder → List Folder → Type 0
+Undone n h folder older = (back : History) × Run h (replicate n Undo) n back × (folders back ≡ folder ∷ older)
+
+one_undone : (n : ℕ) (h : History) (folder : Folder) (older : List Folder) (fs : List Folder) → h.older ≡ fs → drop n fs ≡ folder ∷ older
+    → ((next : History) → drop n (folders next) ≡ folder ∷ older → Undone n next folder older) → Undone (suc n) h folder older
+unfolding history_after
+one_undone n h folder older [] i k later = absurd (none_dropped n folder older k)
+one_undone n h folder older (f ∷ fs) i k later =
+    let next : History = record { older = fs; now = f; newer = h.now ∷ h.newer } in
+    let r = later next k in
+    (r.0, Accepted (ap (λ o. undone h.now o h.newer) i) r.1, r.2)
+
+-- n undos pass over n folders
+undos_pass : (n : ℕ) (h : History) (folder : Folder) (older : List Folder) → drop n (folders h) ≡ folder ∷ older → Undone n h folder older
+undos_pass zero h folder older e = (h, Ended, e)
+undos_pass (suc n) h folder older e = one_undone n h folder older h.older refl e (λ next k. undos_pass n next folder older k)
+
+-- n undos after n accepted ones lead back
+pub undos_lead_back : (start end : History) (actions : List Action) (n : ℕ) → Run start actions n end → AllByRecursion IsChanging actions → (back : History) × Run end (replicate n Undo) n back × (folders back ≡ folders start)
+undos_lead_back start end actions n run is = undos_pass n end start.now start.older (run_leaves start end actions n run is)
+
+-- ---- kept sessions
+
+pub done_of_kept : (s : KeptSession) (command : Command) (cs : List Change) → IsChanging (Do command) → session_of_kept (kept_done s cs) ≡ session_with (session_of_kept s) (Do command) cs
+unfolding kept_done session_with
+done_of_kept s (Create a) cs is = λ i. record { folder = state_files s.folder cs i; undos = way_back s.folder.files cs ∷ s.undos; redos = [] }
+done_of_kept s (Verify base extras) cs is = absurd is
+done_of_kept s (Repair base extras purge) cs is = λ i. record { folder = state_files s.folder cs i; undos = way_back s.folder.files cs ∷ s.undos; redos = [] }
+done_of_kept s (Purge base) cs is = λ i. record { folder = state_files s.folder cs i; undos = way_back s.folder.files cs ∷ s.undos; redos = [] }
+
+pub undone_of_kept : (s : KeptSession) (cs : List Change) → session_of_kept (kept_undone s cs) ≡ session_with (session_of_kept s) Undo cs
+unfolding kept_undone session_with
+undone_of_kept s cs = λ i. record { folder = state_files s.folder cs i; undos = others s.undos; redos = way_back s.folder.files cs ∷ s.redos }
+
+pub redone_of_kept : (s : KeptSession) (cs : List Change) → session_of_kept (kept_redone s cs) ≡ session_with (session_of_kept s) Redo cs
+unfolding kept_redone session_with
+redone_of_kept s cs = λ i. record { folder = state_files s.folder cs i; undos = way_back s.folder.files cs ∷ s.undos; redos = others s.redos }
+
+-- the entries can be walked behind the way back
+walks_back : (folder : FolderState) (cs : List Change) (entries : List (List Change)) → takes_all folder cs ≡ true → walks folder entries ≡ true → walks (state_after_all folder cs) (way_back folder.files cs ∷ entries) ≡ true
+unfolding walks
+walks_back folder cs entries h w = and_from _ _ (way_back_taken folder cs h) (ap (λ f. walks f entries) (state_all_back folder cs h) ∙ w)
+
+pub done_can_walk : (s : KeptSession) (cs : List Change) → CanWalk s → takes_all s.folder cs ≡ true → CanWalk (kept_done s cs)
+unfolding kept_done walks
+done_can_walk s cs c h = record { back = walks_back s.folder cs s.undos h c.back; forth = refl }
+
+-- the next entry is taken, and the entries behind it can be walked
+pub next_taken : (folder : FolderState) (entries : List (List Change)) (cs : List Change) (rest : List (List Change)) → walks folder entries ≡ true → entries ≡ cs ∷ rest → (takes_all folder cs ≡ true) × (walks (state_after_all folder cs) rest ≡ true)
+unfolding walks
+next_taken folder entries cs rest w e = and_parts (takes_all folder cs) (walks (state_after_all folder cs) rest) (sym (ap (walks folder) e) ∙ w)
+
+pub undone_can_walk : (s : KeptSession) (cs : List Change) (rest : List (List Change)) → CanWalk s → s.undos ≡ cs ∷ rest → CanWalk (kept_undone s cs)
+unfolding kept_undone
+undone_can_walk s cs rest c e =
+    let r = next_taken s.folder s.undos cs rest c.back e in
+    record { back = ap (λ es. walks (state_after_all s.folder cs) (others es)) e ∙ r.1; forth = walks_back s.folder cs s.redos r.0 c.forth }
+
+pub redone_can_walk : (s : KeptSession) (cs : List Change) (rest : List (List Change)) → CanWalk s → s.redos ≡ cs ∷ rest → CanWalk (kept_redone s cs)
+unfolding kept_redone
+redone_can_walk s cs rest c e =
+    let r = next_taken s.folder s.redos cs rest c.forth e in
+    record { back = walks_back s.folder cs s.undos r.0 c.back; forth = ap (λ es. walks (state_after_all s.folder cs) (others es)) e ∙ r.1 }
+
+-- an undo is redone by its way back, and a redo undone
+pub redo_of_undo : (s : KeptSession) (cs : List Change) (rest : List (List Change)) → CanWalk s → s.undos ≡ cs ∷ rest → kept_redone (kept_undone s cs) (way_back s.folder.files cs) ≡ s
+unfolding kept_redone kept_undone
+redo_of_undo s cs rest c e =
+    let taken = (next_taken s.folder s.undos cs rest c.back e).0 in
+    λ i. record { folder = state_all_back s.folder cs taken i; undos = (ap (λ d. d ∷ others s.undos) (changes_back s.folder cs taken) ∙ ap (λ es. cs ∷ others es) e ∙ sym e) i; redos = s.redos; room = s.room }
+
+pub undo_of_redo : (s : KeptSession) (cs : List Change) (rest : List (List Change)) → CanWalk s → s.redos ≡ cs ∷ rest → kept_undone (kept_redone s cs) (way_back s.folder.files cs) ≡ s
+unfolding kept_redone kept_undone
+undo_of_redo s cs rest c e =
+    let taken = (next_taken s.folder s.redos cs rest c.forth e).0 in
+    λ i. record { folder = state_all_back s.folder cs taken i; undos = s.undos; redos = (ap (λ d. d ∷ others s.redos) (changes_back s.folder cs taken) ∙ ap (λ es. cs ∷ others es) e ∙ sym e) i; room = s.room }
+
+-- ---- room
+
+roomier_walks : (folder : FolderState) (k : ℕ) (entries : List (List Change)) → walks folder entries ≡ true → walks (with_room folder k) entries ≡ true
+unfolding walks
+roomier_walks folder k [] h = refl
+roomier_walks folder k (entry ∷ entries) h =
+    let r = and_parts (takes_all folder entry) (walks (state_after_all folder entry) entries) h in
+    let more = more_room_all folder k entry r.0 in
+    and_from _ _ more.0 (ap (λ f. walks f entries) more.1 ∙ roomier_walks (state_after_all folder entry) k entries r.1)
+
+roomier : (old new : FolderState) → new.files ≡ old.files → old.vacant ≤ new.vacant → with_room old (new.vacant - old.vacant) ≡ new
+roomier old new e h =
+    let more : old.vacant + (new.vacant - old.vacant) ≡ new.vacant = omega (arith, h) in
+    λ i. record { files = sym e i; vacant = more i }
+
+pub grown_can_walk : (old new : KeptSession) → CanWalk old → OnlyGrew old new → CanWalk new
+grown_can_walk old new c g =
+    let same = roomier old.folder new.folder g.files g.vacant in
+    let places = new.folder.vacant - old.folder.vacant in
+    record {
+      back = sym (ap (λ f. walks f new.undos) same) ∙ ap (walks (with_room old.folder places)) g.undos ∙ roomier_walks old.folder places old.undos c.back;
+      forth = sym (ap (λ f. walks f new.redos) same) ∙ ap (walks (with_room old.folder places)) g.redos ∙ roomier_walks old.folder places old.redos c.forth;
+    }
+
+pub walked_leads : (folder : FolderState) (entries : List (List Change)) → walks folder entries ≡ true → leads folder.files entries ≡ true
+unfolding walks leads
+walked_leads folder [] h = refl
+walked_leads folder (entry ∷ entries) h =
+    let r = and_parts (takes_all folder entry) (walks (state_after_all folder entry) entries) h in
+    and_from _ _ (taken_are_applicable folder entry r.0) (ap (λ f. leads f entries) (sym (state_files folder entry)) ∙ walked_leads (state_after_all folder entry) entries r.1)
+
+pub walked_is_valid : (s : KeptSession) → CanWalk s → is_valid (session_of_kept s) ≡ true
+walked_is_valid s c = and_from _ _ (walked_leads s.folder s.undos c.back) (walked_leads s.folder s.redos c.forth)
+
+-- ---- places
+
+-- of the vacant places only those of the files that are written are taken
+places_left : (folder : FolderState) (cs : List Change) → folder.vacant ≤ (state_after_all folder cs).vacant + places_taken cs
+unfolding state_after_all
+places_left folder [] = omega arith
+places_left folder (Write n b ∷ cs) = let later : folder.vacant - 1 ≤ (state_after_all (state_after folder (Write n b)) cs).vacant + places_taken cs = places_left (state_after folder (Write n b)) cs in omega (arith, later)
+places_left folder (Replace n b ∷ cs) = places_left (state_after folder (Replace n b)) cs
+places_left folder (Rename a b ∷ cs) = places_left (state_after folder (Rename a b)) cs
+places_left folder (Remove n ∷ cs) = let later : folder.vacant + 1 ≤ (state_after_all (state_after folder (Remove n)) cs).vacant + places_taken cs = places_left (state_after folder (Remove n)) cs in omega (arith, later)
+
+-- with a place for each file that the entries write, entries that lead can be walked
+pub leading_walks : (folder : FolderState) (entries : List (List Change)) → leads folder.files entries ≡ true → sum_by places_taken entries ≤ folder.vacant → walks folder entries ≡ true
+unfolding leads walks
+leading_walks folder [] h room = refl
+leading_walks folder (entry ∷ entries) h room =
+    let r = and_parts (are_applicable folder.files entry) (leads (effects folder.files entry) entries) h in
+    let split : sum_by places_taken (entry ∷ entries) ≡ places_taken entry + sum_by places_taken entries = sum_by-cons places_taken entry entries in
+    let left : folder.vacant ≤ (state_after_all folder entry).vacant + places_taken entry = places_left folder entry in
+    and_from _ _ (takes_applicable folder entry r.0 (omega (arith, room, split)))
+    (leading_walks (state_after_all folder entry) entries (ap (λ f. leads f entries) (state_files folder entry) ∙ r.1) (omega (arith, room, split, left)))

@@ -1,0 +1,483 @@
+-- Whatever a stopped command left, it opens as the session from before it.
+use Rattle.std.proofs.Common.{◌≡◌, ℕ, zero, suc, ◌+◌, ◌-◌, ◌<◌, ◌≤◌, List, [], ◌∷◌, ◌++◌, length, map, take, drop, get_or, refl, sym, ap, ◌∙◌, subst, cond, true, false, Bool, not, ◌&&◌, inl, arith, length-append, length-drop}
+use Rattle.std.specs.Prelude.{IfSome, reverse, position, Option, Some, None, Result, Ok, Err, unwrap_or, is_some, if◌then◌else◌}
+use Rattle.std.specs.List.{AllByRecursion, position_from}
+use Rattle.std.specs.Str.{bytes_eq}
+use Rattle.std.proofs.Math.Seq.{drop-append_seam, take-append_seam}
+use Rattle.std.proofs.lemmas.List.{reverse-reverse, reverse-append, length-reverse, get_or-reverse, get_or-map, take-append-drop, length-map, length-take-le, append-nil, take-map, take-take, get_or-take, drop-drop}
+use Rattle.std.proofs.lemmas.Grind.{reverse_onto}
+use Rattle.std.proofs.lemmas.Bool.{and_parts, and_from}
+use Rattle.std.proofs.lemmas.Iterator.Adapters.{position_from-zero}
+use Rattle.par2_spec.specs.declared.JournalFault.{JournalFault}
+use Rattle.par2_spec.specs.declared.JournalFault.TheVariants.{JournalInvalid, FolderChanged}
+use Rattle.par2_spec.specs.declared.Version.{Version}
+use Rattle.par2_spec.specs.declared.Version.TheVariants.{One, Two}
+use Rattle.par2_spec.specs.Folders.{Folder, fingerprint}
+use Rattle.par2_spec.specs.Changes.{Change, effect, effects, inverse, is_applicable, are_applicable, way_back, folders_after}
+use Rattle.par2_spec.specs.Sessions.{Session}
+use Rattle.par2_spec.specs.Journals.{Journal, Halfway, IsHalfway, IsJournal, Spells}
+use Rattle.par2_spec.specs.Opening.{settled_journal, halfway_journal, leads, session_of, is_valid, leads_through, Opened, Settled, ToTakeBack, taken_back, opened_at, opened_by, opened, TellsApart, session_opened, OpensAs, Opens}
+use Rattle.par2_spec.specs.Rules.{kept_in}
+use Rattle.par2_spec.proofs.FolderLaws.{undo_changes, undo_change, undo_is_applicable, effects-append, way_back-append}
+use Rattle.par2_spec.proofs.NamesLaws.{itself, same_name, false_true}
+
+-- ---- places in a list
+
+-- the least place of what stands at n
+place_from : (q : List ℕ) (i : ℕ) (all : List (List ℕ)) (n : ℕ) → n < length all → get_or all n q ≡ q → (k : ℕ) × (position_from (bytes_eq q) i all ≡ Some (i + k)) × (k ≤ n) × (get_or all k q ≡ q)
+place_from q i [] n lt here = absurd (omega (arith, lt))
+place_from q i (x ∷ all) zero lt here =
+    (0, ap (λ b. cond b (Some i) (position_from (bytes_eq q) (i + 1) all)) (subst (λ y. bytes_eq q y ≡ true) (sym here) (itself q)) ∙ ap Some (let e : i ≡ i + 0 = omega arith in e), omega arith, here)
+place_from q i (x ∷ all) (suc n) lt here = step (bytes_eq q x) refl (place_from q (i + 1) all n (omega (arith, lt)) here)
+  where
+    step : (b : Bool) → bytes_eq q x ≡ b → (k : ℕ) × (position_from (bytes_eq q) (i + 1) all ≡ Some ((i + 1) + k)) × (k ≤ n) × (get_or all k q ≡ q)
+        → (k : ℕ) × (cond b (Some i) (position_from (bytes_eq q) (i + 1) all) ≡ Some (i + k)) × (k ≤ suc n) × (get_or (x ∷ all) k q ≡ q)
+    step true e r = (0, ap Some (let z : i ≡ i + 0 = omega arith in z), omega arith, sym (same_name q x e))
+    step false e r = (suc r.0, r.1 ∙ ap Some (let z : (i + 1) + r.0 ≡ i + suc r.0 = omega arith in z), (let l : r.0 ≤ n = r.2 in omega (arith, l)), r.3)
+
+least_place : (q : List ℕ) (all : List (List ℕ)) (n : ℕ) → n < length all → get_or all n q ≡ q → (k : ℕ) × (position (bytes_eq q) all ≡ Some k) × (k ≤ n) × (get_or all k q ≡ q)
+least_place q all n lt here =
+    let r = place_from q 0 all n lt here in
+    (r.0, position_from-zero (bytes_eq q) all ∙ r.1 ∙ ap Some (let e : 0 + r.0 ≡ r.0 = omega arith in e), r.2, r.3)
+
+-- what stands at the place that was found
+at_place : (q : List ℕ) (i : ℕ) (all : List (List ℕ)) (k : ℕ) → position_from (bytes_eq q) i all ≡ Some k → (n : ℕ) × (k ≡ i + n) × (n < length all) × (get_or all n q ≡ q)
+at_place q i [] k h = absurd (false_true (ap is_some h))
+at_place q i (x ∷ all) k h = step (bytes_eq q x) refl h (at_place q (i + 1) all k)
+  where
+    step : (b : Bool) → bytes_eq q x ≡ b → cond b (Some i) (position_from (bytes_eq q) (i + 1) all) ≡ Some k
+        → (position_from (bytes_eq q) (i + 1) all ≡ Some k → (n : ℕ) × (k ≡ (i + 1) + n) × (n < length all) × (get_or all n q ≡ q))
+        → (n : ℕ) × (k ≡ i + n) × (n < length (x ∷ all)) × (get_or (x ∷ all) n q ≡ q)
+    step true e j later = let same : i ≡ k = ap (λ o. unwrap_or o i) j in (0, omega (arith, same), omega arith, sym (same_name q x e))
+    step false e j later =
+        let r = later j in
+        let z : k ≡ (i + 1) + r.0 = r.1 in
+        let l : r.0 < length all = r.2 in
+        (suc r.0, omega (arith, z), omega (arith, l), r.3)
+
+all_at : {A : Type 0} (P : A → Type 0) (xs : List A) (n : ℕ) (d : A) → AllByRecursion P xs → n < length xs → P (get_or xs n d)
+all_at P [] n d h lt = absurd (omega (arith, lt))
+all_at P (x ∷ xs) zero d h lt = h.0
+all_at P (x ∷ xs) (suc n) d h lt = all_at P xs n d h.1 (omega (arith, lt))
+
+-- ---- the folders that changes pass through
+
+abbrev passed : Folder → List Change → List Folder
+passed folder cs = folder ∷ folders_after folder cs
+
+length-passed : (folder : Folder) (cs : List Change) → length (passed folder cs) ≡ length cs + 1
+unfolding folders_after
+length-passed folder [] = refl
+length-passed folder (c ∷ cs) = let e : length (passed (effect folder c) cs) ≡ length cs + 1 = length-passed (effect folder c) cs in omega (arith, e)
+
+passed_at : (folder : Folder) (cs : List Change) (j : ℕ) (d : Folder) → j ≤ length cs → get_or (passed folder cs) j d ≡ effects folder (take j cs)
+unfolding folders_after effects
+passed_at folder [] zero d le = refl
+passed_at folder (c ∷ cs) zero d le = refl
+passed_at folder [] (suc j) d le = absurd (omega (arith, le))
+passed_at folder (c ∷ cs) (suc j) d le = passed_at (effect folder c) cs j d (omega (arith, le))
+
+-- told apart, two folders of one fingerprint are one
+one_folder : (folder : Folder) (cs : List Change) (a b : ℕ) → TellsApart folder cs → a ≤ length cs → b ≤ length cs → fingerprint (effects folder (take a cs)) ≡ fingerprint (effects folder (take b cs)) → effects folder (take a cs) ≡ effects folder (take b cs)
+one_folder folder cs a b apart le_a le_b e =
+    let size : length (passed folder cs) ≡ length cs + 1 = length-passed folder cs in
+    let first = passed_at folder cs a folder le_a in
+    let second = passed_at folder cs b folder le_b in
+    sym first
+    ∙ all_at (λ g. fingerprint (get_or (passed folder cs) a folder) ≡ fingerprint g → get_or (passed folder cs) a folder ≡ g) (passed folder cs) b folder
+    (all_at (λ f. AllByRecursion (λ g. fingerprint f ≡ fingerprint g → f ≡ g) (passed folder cs)) (passed folder cs) a folder apart (omega (arith, size, le_a)))
+    (omega (arith, size, le_b)) (ap fingerprint first ∙ e ∙ sym (ap fingerprint second))
+    ∙ second
+
+-- ---- the way back of some of the changes
+
+length-way_back : (folder : Folder) (cs : List Change) → length (way_back folder cs) ≡ length cs
+unfolding way_back
+length-way_back folder [] = refl
+length-way_back folder (c ∷ cs) =
+    let e : length (way_back (effect folder c) cs) ≡ length cs = length-way_back (effect folder c) cs in
+    length-append (way_back (effect folder c) cs) (inverse folder c ∷ []) ∙ (let z : length (way_back (effect folder c) cs) + 1 ≡ suc (length cs) = omega (arith, e) in z)
+
+-- the last k of the way back are the way back of the first k changes
+last_of_way_back : (folder : Folder) (cs : List Change) (k : ℕ) → k ≤ length cs → drop (length (way_back folder cs) - k) (way_back folder cs) ≡ way_back folder (take k cs)
+last_of_way_back folder cs k le =
+    let whole = ap (way_back folder) (sym (take-append-drop k cs)) ∙ way_back-append folder (take k cs) (drop k cs) in
+    let rest = way_back (effects folder (take k cs)) (drop k cs) in
+    let size : length (way_back folder cs) ≡ length cs = length-way_back folder cs in
+    let behind : length rest ≡ length cs - k = length-way_back (effects folder (take k cs)) (drop k cs) ∙ length-drop k cs in
+    let cut : length (way_back folder cs) - k ≡ length rest = omega (arith, size, behind, le) in
+    ap (λ n. drop n (way_back folder cs)) cut ∙ ap (drop (length rest)) whole ∙ drop-append_seam rest (way_back folder (take k cs))
+
+-- the folders before each change
+befores : Folder → List Change → List Folder
+befores folder [] = []
+befores folder (c ∷ cs) = folder ∷ befores (effect folder c) cs
+
+take-passed : (folder : Folder) (cs : List Change) (k : ℕ) → k ≤ length cs → take k (passed folder cs) ≡ befores folder (take k cs)
+unfolding befores folders_after
+take-passed folder cs zero le = refl
+take-passed folder [] (suc k) le = absurd (omega (arith, le))
+take-passed folder (c ∷ cs) (suc k) le = ap (λ fs. folder ∷ fs) (take-passed (effect folder c) cs k (omega (arith, le)))
+
+length-befores : (folder : Folder) (cs : List Change) → length (befores folder cs) ≡ length cs
+unfolding befores
+length-befores folder [] = refl
+length-befores folder (c ∷ cs) = ap suc (length-befores (effect folder c) cs)
+
+through-append : (folder : Folder) (cs ds : List Change) (ps qs : List (List ℕ)) → length ps ≡ length cs → leads_through folder cs ps ≡ true → leads_through (effects folder cs) ds qs ≡ true → leads_through folder (cs ++ ds) (ps ++ qs) ≡ true
+unfolding leads_through effects
+through-append folder [] ds [] qs e h k = k
+through-append folder [] ds (p ∷ ps) qs e h k = absurd (omega (arith, e))
+through-append folder (c ∷ cs) ds [] qs e h k = absurd (omega (arith, e))
+through-append folder (c ∷ cs) ds (p ∷ ps) qs e h k =
+    let r = and_parts (is_applicable folder c && bytes_eq (fingerprint (effect folder c)) p) (leads_through (effect folder c) cs ps) h in
+    and_from _ _ r.0 (through-append (effect folder c) cs ds ps qs (omega (arith, e)) r.1 k)
+
+-- the way back leads through the folders before each change, the last one first
+way_back_through : (folder : Folder) (cs : List Change) → are_applicable folder cs ≡ true → leads_through (effects folder cs) (way_back folder cs) (reverse (map fingerprint (befores folder cs))) ≡ true
+unfolding leads_through effects way_back befores are_applicable
+way_back_through folder [] h = refl
+way_back_through folder (c ∷ cs) h =
+    let r = and_parts (is_applicable folder c) (are_applicable (effect folder c) cs) h in
+    let next = effect folder c in
+    let prints = map fingerprint (befores next cs) in
+    let home = undo_change folder c r.0 in
+    ap (leads_through (effects next cs) (way_back next cs ++ inverse folder c ∷ [])) (reverse_onto prints (fingerprint folder) [])
+    ∙ through-append (effects next cs) (way_back next cs) (inverse folder c ∷ []) (reverse prints) (fingerprint folder ∷ [])
+    (length-reverse prints ∙ length-map (befores next cs) fingerprint ∙ length-befores next cs ∙ sym (length-way_back next cs))
+    (way_back_through next cs r.1)
+    (ap (λ f. leads_through f (inverse folder c ∷ []) (fingerprint folder ∷ [])) (undo_changes next cs r.1)
+    ∙ and_from _ _ (and_from _ _ (undo_is_applicable folder c r.0) (ap (λ f. bytes_eq (fingerprint f) (fingerprint folder)) home ∙ itself (fingerprint folder))) refl)
+
+-- ---- the session of a journal
+
+abbrev with_folder : Folder → Session → Session
+with_folder folder s = record { folder = folder; undos = s.undos; redos = s.redos }
+
+undos_back : (undos rest : List (List Change)) → reverse (take (length undos) (reverse undos ++ rest)) ≡ undos
+undos_back undos rest =
+    ap (λ n. reverse (take n (reverse undos ++ rest))) (sym (length-reverse undos)) ∙ ap reverse (take-append_seam (reverse undos) rest) ∙ reverse-reverse undos
+
+redos_back : (undos rest : List (List Change)) → drop (length undos) (reverse undos ++ rest) ≡ rest
+redos_back undos rest = ap (λ n. drop n (reverse undos ++ rest)) (sym (length-reverse undos)) ∙ drop-append_seam (reverse undos) rest
+
+session_of_settled : (v : Version) (s : Session) (folder : Folder) → session_of folder (settled_journal v s) ≡ with_folder folder (kept_in v s)
+unfolding settled_journal
+session_of_settled One s folder =
+    let none = append-nil (reverse s.undos) in
+    λ i. record {
+      folder = folder;
+      undos = (ap (λ es. reverse (take (length s.undos) es)) (sym none) ∙ undos_back s.undos []) i;
+      redos = (ap (drop (length s.undos)) (sym none) ∙ redos_back s.undos []) i;
+    }
+session_of_settled Two s folder = λ i. record { folder = folder; undos = undos_back s.undos s.redos i; redos = redos_back s.undos s.redos i }
+
+kept_is_valid : (v : Version) (s : Session) → is_valid s ≡ true → is_valid (kept_in v s) ≡ true
+unfolding leads
+kept_is_valid One s h = and_from _ _ (and_parts (leads s.folder s.undos) (leads s.folder s.redos) h).0 refl
+kept_is_valid Two s h = h
+
+kept_folder : (v : Version) (s : Session) → with_folder s.folder (kept_in v s) ≡ kept_in v s
+kept_folder One s = refl
+kept_folder Two s = refl
+
+not_halfway : (v : Version) (s : Session) → (settled_journal v s).halfway ≡ None
+unfolding settled_journal
+not_halfway One s = refl
+not_halfway Two s = refl
+
+print_of : (v : Version) (s : Session) → (settled_journal v s).fingerprint ≡ fingerprint s.folder
+unfolding settled_journal
+print_of One s = refl
+print_of Two s = refl
+
+-- the settled journal of a session opens as it
+pub settled_opens : (v : Version) (s : Session) → is_valid s ≡ true → opened s.folder (settled_journal v s) ≡ Ok (Settled (kept_in v s))
+unfolding opened
+settled_opens v s h =
+    ap (λ o. opened_by s.folder (settled_journal v s) o) (not_halfway v s)
+    ∙ ap (λ p. if not (bytes_eq (fingerprint s.folder) p) then Err (FolderChanged false) else if is_valid (session_of s.folder (settled_journal v s)) then Ok (Settled (session_of s.folder (settled_journal v s))) else Err JournalInvalid) (print_of v s)
+    ∙ ap (λ b. if not b then Err (FolderChanged false) else if is_valid (session_of s.folder (settled_journal v s)) then Ok (Settled (session_of s.folder (settled_journal v s))) else Err JournalInvalid) (itself (fingerprint s.folder))
+    ∙ ap (λ t. if is_valid t then Ok (Settled t) else Err JournalInvalid) (session_of_settled v s s.folder ∙ kept_folder v s)
+    ∙ ap (λ b. if b then Ok (Settled (kept_in v s)) else Err JournalInvalid) (kept_is_valid v s h)
+
+-- ---- a command that was begun
+
+abbrev begun : Folder → List Change → Halfway
+begun folder cs = record { fingerprints = map fingerprint (folders_after folder cs); back = way_back folder cs }
+
+abbrev decided : Bool → Session → List Change → Result Opened JournalFault
+decided b s back = if b then Ok (ToTakeBack s back) else Err JournalInvalid
+
+applicable-take : (folder : Folder) (cs : List Change) (k : ℕ) → are_applicable folder cs ≡ true → are_applicable folder (take k cs) ≡ true
+unfolding are_applicable
+applicable-take folder cs zero h = refl
+applicable-take folder [] (suc k) h = refl
+applicable-take folder (c ∷ cs) (suc k) h =
+    let r = and_parts (is_applicable folder c) (are_applicable (effect folder c) cs) h in and_from _ _ r.0 (applicable-take (effect folder c) cs k r.1)
+
+-- of the folder after the first k changes
+taken_from : (v : Version) (s : Session) (cs : List Change) (k : ℕ) → is_valid s ≡ true → are_applicable s.folder cs ≡ true → k ≤ length cs
+    → taken_back (effects s.folder (take k cs)) (halfway_journal v s cs) (begun s.folder cs) k ≡ Ok (ToTakeBack (kept_in v s) (way_back s.folder (take k cs)))
+unfolding taken_back halfway_journal
+taken_from v s cs k valid applies le =
+    let journal = halfway_journal v s cs in
+    let some = take k cs in
+    let g = effects s.folder some in
+    let back = way_back s.folder some in
+    let prints = map fingerprint (folders_after s.folder cs) in
+    let ok = applicable-take s.folder cs k applies in
+    let walked : leads_through g back (reverse (take k (fingerprint s.folder ∷ prints))) ≡ true =
+    ap (λ ps. leads_through g back (reverse ps)) (take-map fingerprint k (passed s.folder cs) ∙ ap (map fingerprint) (take-passed s.folder cs k le)) ∙ way_back_through s.folder some ok in
+    ap (λ b. decided (leads_through g b (reverse (take k (journal.fingerprint ∷ prints))) && is_valid (session_of (effects g b) journal)) (session_of (effects g b) journal) b) (last_of_way_back s.folder cs k le)
+    ∙ ap (λ p. decided (leads_through g back (reverse (take k (p ∷ prints))) && is_valid (session_of (effects g back) journal)) (session_of (effects g back) journal) back) (print_of v s)
+    ∙ ap (λ b. decided (b && is_valid (session_of (effects g back) journal)) (session_of (effects g back) journal) back) walked
+    ∙ ap (λ t. decided (is_valid t) t back) (ap (λ f. session_of f journal) (undo_changes s.folder some ok) ∙ session_of_settled v s s.folder ∙ kept_folder v s)
+    ∙ ap (λ b. decided b (kept_in v s) back) (kept_is_valid v s valid)
+
+-- the halfway journal of a command opens each folder that the command passes through as the session from before it
+pub halfway_opens : (v : Version) (s : Session) (cs : List Change) (j : ℕ) → is_valid s ≡ true → are_applicable s.folder cs ≡ true → TellsApart s.folder cs → j ≤ length cs
+    → (back : List Change) × (opened (effects s.folder (take j cs)) (halfway_journal v s cs) ≡ Ok (ToTakeBack (kept_in v s) back))
+unfolding opened halfway_journal
+halfway_opens v s cs j valid applies apart le =
+    let journal = halfway_journal v s cs in
+    let g = effects s.folder (take j cs) in
+    let prints = map fingerprint (passed s.folder cs) in
+    let size : length prints ≡ length cs + 1 = length-map (passed s.folder cs) fingerprint ∙ length-passed s.folder cs in
+    let here : get_or prints j (fingerprint g) ≡ fingerprint g = get_or-map fingerprint (passed s.folder cs) j g (fingerprint g) (let n : length (passed s.folder cs) ≡ length cs + 1 = length-passed s.folder cs in omega (arith, n, le)) ∙ ap fingerprint (passed_at s.folder cs j g le) in
+    let place = least_place (fingerprint g) prints j (omega (arith, size, le)) here in
+    let k = place.0 in
+    let le_k : k ≤ length cs = (let low : place.0 ≤ j = place.2 in omega (arith, low, le)) in
+    let there : fingerprint (effects s.folder (take k cs)) ≡ fingerprint g =
+    sym (get_or-map fingerprint (passed s.folder cs) k g (fingerprint g) (let n : length (passed s.folder cs) ≡ length cs + 1 = length-passed s.folder cs in omega (arith, n, le_k)) ∙ ap fingerprint (passed_at s.folder cs k g le_k)) ∙ place.3 in
+    let same : effects s.folder (take k cs) ≡ g = one_folder s.folder cs k j apart le_k le there in (
+      way_back s.folder (take k cs),
+      ap (λ p. opened_at g journal (begun s.folder cs) (position (bytes_eq (fingerprint g)) (p ∷ map fingerprint (folders_after s.folder cs)))) (print_of v s)
+          ∙ ap (opened_at g journal (begun s.folder cs)) place.1
+          ∙ ap (λ f. taken_back f journal (begun s.folder cs) k) (sym same)
+          ∙ taken_from v s cs k valid applies le_k,
+    )
+
+-- ---- what is opened
+
+-- what is to be taken back, where it is
+back_of : Result Opened JournalFault → Option (List Change)
+back_of (Ok (Settled s)) = None
+back_of (Ok (ToTakeBack s back)) = Some back
+back_of (Err fault) = None
+
+session_or : Session → Result Opened JournalFault → Session
+session_or other (Ok (Settled s)) = s
+session_or other (Ok (ToTakeBack s back)) = s
+session_or other (Err fault) = other
+
+settled_is : (answer : Result Opened JournalFault) (s : Session) (back : List Change) → back_of answer ≡ None → answer ≡ Ok (ToTakeBack s back) → ⊥
+unfolding back_of
+settled_is answer s back e h = false_true (ap is_some (sym e ∙ ap back_of h))
+
+-- the parts of an opening that takes back
+record TakesBack (folder : Folder) (journal : Journal) (s : Session) (back : List Change) : Type 0 where
+  halfway : Halfway
+  begun_there : journal.halfway ≡ Some halfway
+  place : ℕ
+  found : position (bytes_eq (fingerprint folder)) (journal.fingerprint ∷ halfway.fingerprints) ≡ Some place
+  last : back ≡ drop (length halfway.back - place) halfway.back
+  through : leads_through folder back (reverse (take place (journal.fingerprint ∷ halfway.fingerprints))) ≡ true
+  session : s ≡ session_of (effects folder back) journal
+  valid : is_valid s ≡ true
+
+taken_parts : (folder : Folder) (journal : Journal) (h : Halfway) (k : ℕ) (s : Session) (back : List Change) → journal.halfway ≡ Some h → position (bytes_eq (fingerprint folder)) (journal.fingerprint ∷ h.fingerprints) ≡ Some k
+    → taken_back folder journal h k ≡ Ok (ToTakeBack s back) → TakesBack folder journal s back
+unfolding taken_back back_of session_or
+taken_parts folder journal h k s back there found e =
+    let some = drop (length h.back - k) h.back in
+    let opened_as = session_of (effects folder some) journal in
+    step (leads_through folder some (reverse (take k (journal.fingerprint ∷ h.fingerprints))) && is_valid opened_as) refl e
+  where
+    some : List Change
+    some = drop (length h.back - k) h.back
+
+    opened_as : Session
+    opened_as = session_of (effects folder some) journal
+
+    prints : List (List ℕ)
+    prints = reverse (take k (journal.fingerprint ∷ h.fingerprints))
+
+    step : (b : Bool) → (leads_through folder some prints && is_valid opened_as) ≡ b → decided b opened_as some ≡ Ok (ToTakeBack s back) → TakesBack folder journal s back
+    step false i j = absurd (settled_is (Err JournalInvalid) s back refl j)
+    step true i j =
+        let parts = and_parts (leads_through folder some prints) (is_valid opened_as) i in
+        let same_back : some ≡ back = ap (λ a. unwrap_or (back_of a) some) j in
+        let same_session : opened_as ≡ s = ap (session_or opened_as) j in
+        record {
+          halfway = h;
+          begun_there = there;
+          place = k;
+          found = found;
+          last = sym same_back;
+          through = ap (λ cs. leads_through folder cs prints) (sym same_back) ∙ parts.0;
+          session = sym same_session ∙ ap (λ cs. session_of (effects folder cs) journal) same_back;
+          valid = ap is_valid (sym same_session) ∙ parts.1;
+        }
+
+takes_back : (folder : Folder) (journal : Journal) (s : Session) (back : List Change) → opened folder journal ≡ Ok (ToTakeBack s back) → TakesBack folder journal s back
+unfolding opened back_of
+takes_back folder journal s back e = by_halfway journal.halfway refl e
+  where
+    by_place : (h : Halfway) → journal.halfway ≡ Some h → (o : Option ℕ) → position (bytes_eq (fingerprint folder)) (journal.fingerprint ∷ h.fingerprints) ≡ o → opened_at folder journal h o ≡ Ok (ToTakeBack s back) → TakesBack folder journal s back
+    by_place h there None i j = absurd (settled_is (Err (FolderChanged true)) s back refl j)
+    by_place h there (Some k) i j = taken_parts folder journal h k s back there i j
+
+    by_print : (b : Bool) → (if not b then Err (FolderChanged false) else if is_valid (session_of folder journal) then Ok (Settled (session_of folder journal)) else Err JournalInvalid) ≡ Ok (ToTakeBack s back) → TakesBack folder journal s back
+    by_print false j = absurd (settled_is (Err (FolderChanged false)) s back refl j)
+    by_print true j = by_valid (is_valid (session_of folder journal)) j
+      where
+        by_valid : (b : Bool) → (if b then Ok (Settled (session_of folder journal)) else Err JournalInvalid) ≡ Ok (ToTakeBack s back) → TakesBack folder journal s back
+        by_valid false k = absurd (settled_is (Err JournalInvalid) s back refl k)
+        by_valid true k = absurd (settled_is (Ok (Settled (session_of folder journal))) s back refl k)
+
+    by_halfway : (o : Option Halfway) → journal.halfway ≡ o → opened_by folder journal o ≡ Ok (ToTakeBack s back) → TakesBack folder journal s back
+    by_halfway None i j = by_print (bytes_eq (fingerprint folder) journal.fingerprint) j
+    by_halfway (Some h) i j = by_place h i (position (bytes_eq (fingerprint folder)) (journal.fingerprint ∷ h.fingerprints)) refl j
+
+-- ---- a stop while a command is taken back
+
+through_drop : (folder : Folder) (cs : List Change) (ps : List (List ℕ)) (a : ℕ) → leads_through folder cs ps ≡ true → leads_through (effects folder (take a cs)) (drop a cs) (drop a ps) ≡ true
+unfolding leads_through effects
+through_drop folder cs ps zero h = h
+through_drop folder [] ps (suc a) h = refl
+through_drop folder (c ∷ cs) [] (suc a) h = absurd (false_true h)
+through_drop folder (c ∷ cs) (p ∷ ps) (suc a) h = through_drop (effect folder c) cs ps a (and_parts (is_applicable folder c && bytes_eq (fingerprint (effect folder c)) p) (leads_through (effect folder c) cs ps) h).1
+
+-- the fingerprints that changes lead through
+through_at : (folder : Folder) (cs : List Change) (ps : List (List ℕ)) (m : ℕ) (d : List ℕ) → leads_through folder cs ps ≡ true → m < length cs → get_or ps m d ≡ fingerprint (effects folder (take (suc m) cs))
+unfolding leads_through effects
+through_at folder [] ps m d h lt = absurd (omega (arith, lt))
+through_at folder (c ∷ cs) [] m d h lt = absurd (false_true h)
+through_at folder (c ∷ cs) (p ∷ ps) zero d h lt =
+    sym (same_name (fingerprint (effect folder c)) p (and_parts (is_applicable folder c) (bytes_eq (fingerprint (effect folder c)) p) (and_parts (is_applicable folder c && bytes_eq (fingerprint (effect folder c)) p) (leads_through (effect folder c) cs ps) h).0).1)
+through_at folder (c ∷ cs) (p ∷ ps) (suc m) d h lt =
+    through_at (effect folder c) cs ps m d (and_parts (is_applicable folder c && bytes_eq (fingerprint (effect folder c)) p) (leads_through (effect folder c) cs ps) h).1 (omega (arith, lt))
+
+pub through_applies : (folder : Folder) (cs : List Change) (ps : List (List ℕ)) → leads_through folder cs ps ≡ true → are_applicable folder cs ≡ true
+unfolding leads_through are_applicable
+through_applies folder [] ps h = refl
+through_applies folder (c ∷ cs) [] h = absurd (false_true h)
+through_applies folder (c ∷ cs) (p ∷ ps) h =
+    let r = and_parts (is_applicable folder c && bytes_eq (fingerprint (effect folder c)) p) (leads_through (effect folder c) cs ps) h in
+    and_from _ _ (and_parts (is_applicable folder c) (bytes_eq (fingerprint (effect folder c)) p) r.0).0 (through_applies (effect folder c) cs ps r.1)
+
+drop-reverse : (xs : List (List ℕ)) (k a : ℕ) → a ≤ k → k ≤ length xs → drop a (reverse (take k xs)) ≡ reverse (take (k - a) xs)
+drop-reverse xs k a le_a le_k =
+    let front = take (k - a) (take k xs) in
+    let rest = drop (k - a) (take k xs) in
+    let size : length (take k xs) ≡ k = length-take-le k xs le_k in
+    let long : length (reverse rest) ≡ a = length-reverse rest ∙ length-drop (k - a) (take k xs) ∙ (let e : length (take k xs) - (k - a) ≡ a = omega (arith, size, le_a) in e) in
+    ap (λ ys. drop a (reverse ys)) (sym (take-append-drop (k - a) (take k xs)))
+    ∙ ap (drop a) (reverse-append front rest)
+    ∙ ap (λ n. drop n (reverse rest ++ reverse front)) (sym long)
+    ∙ drop-append_seam (reverse rest) (reverse front)
+    ∙ ap reverse (take-take (k - a) k xs (omega arith))
+
+-- the fingerprints along the way back are those of the journal, the last one that of the folder before
+print_along : (folder : Folder) (prints : List (List ℕ)) (back : List Change) (k a : ℕ) (d : List ℕ) → length back ≡ k → k < length prints → get_or prints k d ≡ fingerprint folder → leads_through folder back (reverse (take k prints)) ≡ true
+    → a ≤ k → get_or prints (k - a) d ≡ fingerprint (effects folder (take a back))
+unfolding effects
+print_along folder prints back k zero d size lt here h le = ap (λ n. get_or prints n d) (let e : k - 0 ≡ k = omega arith in e) ∙ here
+print_along folder prints back k (suc m) d size lt here h le =
+    let long : length (take k prints) ≡ k = length-take-le k prints (omega (arith, lt)) in
+    let turned : get_or (reverse (take k prints)) m d ≡ get_or (take k prints) (length (take k prints) - 1 - m) d = get_or-reverse (take k prints) m d (omega (arith, long, le)) in
+    let place : length (take k prints) - 1 - m ≡ k - suc m = omega (arith, long) in
+    sym (get_or-take k prints (k - suc m) d (omega (arith, le))) ∙ ap (λ n. get_or (take k prints) n d) (sym place) ∙ sym turned
+    ∙ through_at folder back (reverse (take k prints)) m d h (omega (arith, size, le))
+
+-- from a folder on the way back the rest of it is taken back
+rest_taken : (folder : Folder) (journal : Journal) (h : Halfway) (s : Session) (back : List Change) (k a : ℕ) → k ≤ length h.back → k < length (journal.fingerprint ∷ h.fingerprints) → a ≤ k
+    → back ≡ drop (length h.back - k) h.back → leads_through folder back (reverse (take k (journal.fingerprint ∷ h.fingerprints))) ≡ true
+    → s ≡ session_of (effects folder back) journal → is_valid s ≡ true
+    → taken_back (effects folder (take a back)) journal h (k - a) ≡ Ok (ToTakeBack s (drop a back))
+unfolding taken_back
+rest_taken folder journal h s back k a le_k lt le_a last through session valid =
+    let prints = journal.fingerprint ∷ h.fingerprints in
+    let g = effects folder (take a back) in
+    let rest = drop a back in
+    let cut : length h.back - k + a ≡ length h.back - (k - a) = omega (arith, le_k, le_a) in
+    let same_rest : drop (length h.back - (k - a)) h.back ≡ rest = ap (λ n. drop n h.back) (sym cut) ∙ sym (drop-drop a (length h.back - k) h.back) ∙ ap (drop a) (sym last) in
+    let walked : leads_through g rest (reverse (take (k - a) prints)) ≡ true = ap (leads_through g rest) (sym (drop-reverse prints k a le_a (omega (arith, lt)))) ∙ through_drop folder back (reverse (take k prints)) a through in
+    let home : effects g rest ≡ effects folder back = sym (effects-append folder (take a back) rest) ∙ ap (effects folder) (take-append-drop a back) in
+    ap (λ b. decided (leads_through g b (reverse (take (k - a) prints)) && is_valid (session_of (effects g b) journal)) (session_of (effects g b) journal) b) same_rest
+    ∙ ap (λ b. decided (b && is_valid (session_of (effects g rest) journal)) (session_of (effects g rest) journal) rest) walked
+    ∙ ap (λ t. decided (is_valid t) t rest) (ap (λ f. session_of f journal) home ∙ sym session)
+    ∙ ap (λ b. decided b s rest) valid
+
+within_all : (xs : List (List ℕ)) (k : ℕ) (d e : List ℕ) → k < length xs → get_or xs k d ≡ get_or xs k e
+within_all [] k d e lt = absurd (omega (arith, lt))
+within_all (x ∷ xs) zero d e lt = refl
+within_all (x ∷ xs) (suc k) d e lt = within_all xs k d e (omega (arith, lt))
+
+still_taken : (journal : Journal) (folder : Folder) (h : Halfway) (s : Session) (back : List Change) (k i : ℕ) → length h.fingerprints ≡ length h.back → k < length (journal.fingerprint ∷ h.fingerprints)
+    → get_or (journal.fingerprint ∷ h.fingerprints) k (fingerprint folder) ≡ fingerprint folder
+    → back ≡ drop (length h.back - k) h.back → leads_through folder back (reverse (take k (journal.fingerprint ∷ h.fingerprints))) ≡ true
+    → s ≡ session_of (effects folder back) journal → is_valid s ≡ true → TellsApart folder back → i ≤ length back
+    → (rest : List Change) × (opened_at (effects folder (take i back)) journal h (position (bytes_eq (fingerprint (effects folder (take i back)))) (journal.fingerprint ∷ h.fingerprints)) ≡ Ok (ToTakeBack s rest))
+still_taken journal folder h s back k i each lt here last through session valid apart le =
+    let prints = journal.fingerprint ∷ h.fingerprints in
+    let g = effects folder (take i back) in
+    let q = fingerprint g in
+    let le_k : k ≤ length h.back = omega (arith, lt, each) in
+    let size : length back ≡ k = ap length last ∙ length-drop (length h.back - k) h.back ∙ (let z : length h.back - (length h.back - k) ≡ k = omega (arith, le_k) in z) in
+    let start : get_or prints k q ≡ fingerprint folder = within_all prints k q (fingerprint folder) lt ∙ here in
+    let le_i : i ≤ k = omega (arith, le, size) in
+    let place = least_place q prints (k - i) (omega (arith, lt)) (print_along folder prints back k i q size lt start through le_i) in
+    let low : place.0 ≤ k - i = place.2 in
+    let a = k - place.0 in
+    let turn : k - a ≡ place.0 = omega (arith, low) in
+    let alike : fingerprint (effects folder (take a back)) ≡ q = sym (print_along folder prints back k a q size lt start through (omega arith)) ∙ ap (λ n. get_or prints n q) turn ∙ place.3 in
+    let same : effects folder (take a back) ≡ g = one_folder folder back a i apart (omega (arith, size)) le alike in (
+      drop a back,
+      ap (opened_at g journal h) place.1 ∙ ap (taken_back g journal h) (sym turn) ∙ ap (λ f. taken_back f journal h (k - a)) (sym same)
+          ∙ rest_taken folder journal h s back k a le_k lt (omega arith) last through session valid,
+    )
+
+-- where a halfway journal opens a folder, it opens each folder that the way back passes through as that session too
+pub still_opens : (journal : Journal) (folder : Folder) (s : Session) (back : List Change) (i : ℕ) → IsJournal journal → opened folder journal ≡ Ok (ToTakeBack s back) → TellsApart folder back → i ≤ length back
+    → (rest : List Change) × (opened (effects folder (take i back)) journal ≡ Ok (ToTakeBack s rest))
+unfolding opened
+still_opens journal folder s back i is e apart le =
+    let t = takes_back folder journal s back e in
+    let h = t.halfway in
+    let k = t.place in
+    let prints = journal.fingerprint ∷ h.fingerprints in
+    let shape : IsHalfway h = subst (λ o. IfSome o IsHalfway) t.begun_there is.halfway in
+    let each : length h.fingerprints ≡ length h.back = shape.each in
+    let found = at_place (fingerprint folder) 0 prints k (sym (position_from-zero (bytes_eq (fingerprint folder)) prints) ∙ t.found) in
+    let place : k ≡ found.0 = found.1 ∙ (let z : 0 + found.0 ≡ found.0 = omega arith in z) in
+    let r = still_taken journal folder h s back k i each (subst (λ n. n < length prints) (sym place) found.2) (ap (λ n. get_or prints n (fingerprint folder)) place ∙ found.3) t.last t.through t.session t.valid apart le in
+    (r.0, ap (opened_by (effects folder (take i back)) journal) t.begun_there ∙ r.1)
+
+-- what is taken back applies and leads to the session's folder, and the session can be walked
+pub taken_back_leads : (journal : Journal) (folder : Folder) (s : Session) (back : List Change) → opened folder journal ≡ Ok (ToTakeBack s back) → (are_applicable folder back ≡ true) × (effects folder back ≡ s.folder) × (is_valid s ≡ true)
+taken_back_leads journal folder s back e =
+    let t = takes_back folder journal s back e in
+    (through_applies folder back (reverse (take t.place (journal.fingerprint ∷ t.halfway.fingerprints))) t.through, ap (λ u. u.folder) (sym t.session), t.valid)
+
+-- ---- in a store
+
+stored_opens : (folder : Folder) (text : List ℕ) (journal : Journal) (o : Opened) → Spells text journal → opened folder journal ≡ Ok o → OpensAs folder (Some text) (Ok (record { session = session_opened o; dropped = false }))
+unfolding OpensAs Opens
+stored_opens folder text journal o spells e = (Ok o, inl (journal, spells, sym e), refl)
+
+pub settled_stored : (v : Version) (s : Session) (text : List ℕ) → is_valid s ≡ true → Spells text (settled_journal v s) → OpensAs s.folder (Some text) (Ok (record { session = kept_in v s; dropped = false }))
+settled_stored v s text valid spells = stored_opens s.folder text (settled_journal v s) (Settled (kept_in v s)) spells (settled_opens v s valid)
+
+pub halfway_stored : (v : Version) (s : Session) (cs : List Change) (j : ℕ) (text : List ℕ) → is_valid s ≡ true → are_applicable s.folder cs ≡ true → TellsApart s.folder cs → j ≤ length cs → Spells text (halfway_journal v s cs)
+    → OpensAs (effects s.folder (take j cs)) (Some text) (Ok (record { session = kept_in v s; dropped = false }))
+halfway_stored v s cs j text valid applies apart le spells =
+    let r = halfway_opens v s cs j valid applies apart le in
+    stored_opens (effects s.folder (take j cs)) text (halfway_journal v s cs) (ToTakeBack (kept_in v s) r.0) spells r.1
+
+pub still_stored : (journal : Journal) (folder : Folder) (s : Session) (back : List Change) (i : ℕ) (text : List ℕ) → Spells text journal → opened folder journal ≡ Ok (ToTakeBack s back) → TellsApart folder back → i ≤ length back
+    → OpensAs (effects folder (take i back)) (Some text) (Ok (record { session = s; dropped = false }))
+still_stored journal folder s back i text spells e apart le =
+    let r = still_opens journal folder s back i spells.0 e apart le in
+    stored_opens (effects folder (take i back)) text journal (ToTakeBack s r.0) spells r.1

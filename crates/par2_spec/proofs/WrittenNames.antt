@@ -1,0 +1,103 @@
+-- The body of a FileDesc that was written says what was given.
+use Rattle.std.proofs.Common.{◌≡◌, ℕ, zero, suc, ◌-◌, ◌+◌, ◌%◌, ◌^◌, ◌<◌, Bool, true, false, leb, eqb, cond, List, [], ◌∷◌, ◌++◌, length, drop, reverse, replicate, Option, Some, None, refl, sym, ap, ◌∙◌, append_assoc, arith}
+use Rattle.std.specs.Int.{w64, to_le_bytes}
+use Rattle.std.specs.List.{list_any, prefix_len, suffix_len}
+use Rattle.std.proofs.lemmas.Bool.{le-leb, or_parts, or_from, eq-eqb}
+use Rattle.std.proofs.lemmas.List.{take_at, drop_at, length-append, length-replicate, reverse-append, replicate_more}
+use Rattle.std.proofs.lemmas.List.Folds.{list_any-append, prefix_len-append, prefix_len-replicate}
+use Rattle.par2_spec.specs.declared.Kind.TheVariants.{FileDesc}
+use Rattle.par2_spec.specs.Packets.{bytes_at, u64_at, stripped, DescBody, read_desc}
+use Rattle.par2_spec.specs.Volumes.{FileRecord, desc_bytes, padded_4}
+use Rattle.par2_spec.proofs.WrittenPackets.{part_at}
+use Rattle.par2_spec.proofs.WrittenBodies.{u64_there, if_true}
+
+-- ---- zeros at the end
+
+abbrev is_zero : ℕ → Bool
+is_zero b = eqb b 0
+
+abbrev zeros : ℕ → List ℕ
+zeros k = replicate k 0
+
+none_first : (xs : List ℕ) → list_any is_zero xs ≡ false → prefix_len is_zero xs ≡ 0
+none_first [] h = refl
+none_first (x ∷ xs) h = rw (or_parts (is_zero x) (list_any is_zero xs) h).0 refl
+
+none_reversed : (xs : List ℕ) → list_any is_zero xs ≡ false → list_any is_zero (reverse xs) ≡ false
+none_reversed [] h = refl
+none_reversed (x ∷ xs) h =
+    let p = or_parts (is_zero x) (list_any is_zero xs) h in
+    let turned : reverse (x ∷ xs) ≡ reverse xs ++ x ∷ [] = reverse-append (x ∷ []) xs in
+    ap (list_any is_zero) turned ∙ list_any-append is_zero (reverse xs) (x ∷ [])
+    ∙ or_from (list_any is_zero (reverse xs)) (list_any is_zero (x ∷ [])) (none_reversed xs p.1) (or_from (is_zero x) false p.0 refl)
+
+zeros_reversed : (k : ℕ) → reverse (zeros k) ≡ zeros k
+zeros_reversed zero = refl
+zeros_reversed (suc k) =
+    let turned : reverse (0 ∷ zeros k) ≡ reverse (zeros k) ++ 0 ∷ [] = reverse-append (0 ∷ []) (zeros k) in
+    turned ∙ ap (λ (xs : List ℕ). xs ++ 0 ∷ []) (zeros_reversed k) ∙ replicate_more k 0 ∙ ap (λ (n : ℕ). zeros n) (let e : k + 1 ≡ suc k = omega arith in e)
+
+zeros_first : (k : ℕ) (xs : List ℕ) → prefix_len is_zero (zeros k ++ xs) ≡ k + prefix_len is_zero xs
+zeros_first k xs =
+    let size : length (zeros k) ≡ k = length-replicate k (let z : ℕ = 0 in z) in
+    let all : prefix_len is_zero (zeros k) ≡ k = prefix_len-replicate is_zero k 0 refl in
+    let same : eqb (prefix_len is_zero (zeros k)) (length (zeros k)) ≡ true = eq-eqb _ _ (all ∙ sym size) in
+    prefix_len-append is_zero (zeros k) xs
+    ∙ ap (λ (b : Bool). cond b (length (zeros k) + prefix_len is_zero xs) (prefix_len is_zero (zeros k))) same
+    ∙ ap (λ (n : ℕ). n + prefix_len is_zero xs) size
+
+pub stripped-padded : (name : List ℕ) (k : ℕ) → list_any (λ b. eqb b 0) name ≡ false → stripped (name ++ replicate k 0) ≡ name
+stripped-padded name k none =
+    let bytes : List ℕ = name ++ replicate k 0 in
+    let size : length bytes ≡ length name + k = length-append name (replicate k 0) ∙ ap (λ (n : ℕ). length name + n) (length-replicate k 0) in
+    let turned : reverse bytes ≡ replicate k 0 ++ reverse name = reverse-append name (replicate k 0) ∙ ap (λ (xs : List ℕ). xs ++ reverse name) (zeros_reversed k) in
+    let first : prefix_len is_zero (reverse name) ≡ 0 = none_first (reverse name) (none_reversed name none) in
+    let zeros : suffix_len is_zero bytes ≡ k = ap (prefix_len is_zero) turned ∙ zeros_first k (reverse name) ∙ ap (λ (n : ℕ). k + n) first ∙ (let e : k + 0 ≡ k = omega arith in e) in
+    take_at name (replicate k 0) (length bytes - suffix_len is_zero bytes) (omega (arith, size, zeros))
+
+-- ---- the body
+
+abbrev desc_of : List ℕ → List ℕ → List ℕ → ℕ → List ℕ → Option DescBody
+desc_of id digest short size name = Some (record { id = id; digest = digest; digest_16k = short; size = size; name = name })
+
+len3 : (a b c : List ℕ) → length (a ++ (b ++ c)) ≡ length a + (length b + length c)
+len3 a b c = length-append a (b ++ c) ∙ ap (λ (n : ℕ). length a + n) (length-append b c)
+
+at_16 : (a b c d e : List ℕ) → a ++ b ++ c ++ d ++ e ≡ a ++ (b ++ (c ++ (d ++ e)))
+at_16 a b c d e = simp append_assoc
+
+at_32 : (a b c d e : List ℕ) → a ++ b ++ c ++ d ++ e ≡ (a ++ b) ++ (c ++ (d ++ e))
+at_32 a b c d e = simp append_assoc
+
+at_48 : (a b c d e : List ℕ) → a ++ b ++ c ++ d ++ e ≡ (a ++ (b ++ c)) ++ (d ++ e)
+at_48 a b c d e = simp append_assoc
+
+at_56 : (a b c d e : List ℕ) → a ++ b ++ c ++ d ++ e ≡ (a ++ (b ++ (c ++ d))) ++ e
+at_56 a b c d e = simp append_assoc
+
+pub desc_reads : (file : FileRecord) → length file.id ≡ 16 → length file.digest ≡ 16 → length file.digest_16k ≡ 16 → file.size < 2 ^ 64 → list_any (λ b. eqb b 0) file.name ≡ false
+    → read_desc FileDesc (desc_bytes file) ≡ Some (record { id = file.id; digest = file.digest; digest_16k = file.digest_16k; size = file.size; name = file.name })
+unfolding read_desc
+desc_reads file i d s low none =
+    let body : List ℕ = desc_bytes file in
+    let n : List ℕ = to_le_bytes w64 file.size in
+    let name : List ℕ = padded_4 file.name in
+    let size32 : length (file.id ++ file.digest) ≡ 32 = omega (arith, length-append file.id file.digest, i, d) in
+    let size48 : length (file.id ++ (file.digest ++ file.digest_16k)) ≡ 48 = omega (arith, len3 file.id file.digest file.digest_16k, i, d, s) in
+    let eight : length n ≡ 8 = refl in
+    let size56 : length (file.id ++ (file.digest ++ (file.digest_16k ++ n))) ≡ 56 = omega (arith, len3 file.id file.digest (file.digest_16k ++ n), length-append file.digest_16k n, eight, i, d, s) in
+    let whole : length body ≡ 56 + length name = ap length (at_56 file.id file.digest file.digest_16k n name) ∙ length-append (file.id ++ (file.digest ++ (file.digest_16k ++ n))) name ∙ ap (λ (k : ℕ). k + length name) size56 in
+    let t : leb 56 (length body) ≡ true = le-leb 56 (length body) (omega (arith, whole)) in
+    let e1 : bytes_at 0 16 body ≡ file.id = ap (bytes_at 0 16) (at_16 file.id file.digest file.digest_16k n name) ∙ take_at file.id (file.digest ++ (file.digest_16k ++ (n ++ name))) 16 i in
+    let e2 : bytes_at 16 16 body ≡ file.digest = ap (bytes_at 16 16) (at_16 file.id file.digest file.digest_16k n name) ∙ part_at file.id file.digest (file.digest_16k ++ (n ++ name)) 16 16 i d in
+    let e3 : bytes_at 32 16 body ≡ file.digest_16k = ap (bytes_at 32 16) (at_32 file.id file.digest file.digest_16k n name) ∙ part_at (file.id ++ file.digest) file.digest_16k (n ++ name) 32 16 size32 s in
+    let e4 : u64_at 48 body ≡ file.size = ap (u64_at 48) (at_48 file.id file.digest file.digest_16k n name) ∙ u64_there (file.id ++ (file.digest ++ file.digest_16k)) name 48 file.size size48 low in
+    let e5 : stripped (drop 56 body) ≡ file.name =
+    ap stripped (ap (drop 56) (at_56 file.id file.digest file.digest_16k n name) ∙ drop_at (file.id ++ (file.digest ++ (file.digest_16k ++ n))) name 56 size56)
+    ∙ stripped-padded file.name ((4 - length file.name % 4) % 4) none in
+    if_true (leb 56 (length body)) (desc_of (bytes_at 0 16 body) (bytes_at 16 16 body) (bytes_at 32 16 body) (u64_at 48 body) (stripped (drop 56 body))) None t
+    ∙ ap (λ (x : List ℕ). desc_of x (bytes_at 16 16 body) (bytes_at 32 16 body) (u64_at 48 body) (stripped (drop 56 body))) e1
+    ∙ ap (λ (x : List ℕ). desc_of file.id x (bytes_at 32 16 body) (u64_at 48 body) (stripped (drop 56 body))) e2
+    ∙ ap (λ (x : List ℕ). desc_of file.id file.digest x (u64_at 48 body) (stripped (drop 56 body))) e3
+    ∙ ap (λ (x : ℕ). desc_of file.id file.digest file.digest_16k x (stripped (drop 56 body))) e4
+    ∙ ap (λ (x : List ℕ). desc_of file.id file.digest file.digest_16k file.size x) e5

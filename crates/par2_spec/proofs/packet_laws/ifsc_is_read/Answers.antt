@@ -1,0 +1,5 @@
+use Rattle.par2_spec.proofs.WrittenBodies.{ifsc_reads}
+use Rattle.par2_spec.proofs.packet_laws.ifsc_is_read.Goals as goal
+
+pub returns : goal.returns
+returns c = ifsc_reads

@@ -1,0 +1,17 @@
+-- What a place that keeps a folder and a journal holds.
+use Rattle.std.specs.Prelude.{ℕ, List, Option, Some}
+use Rattle.par2_spec.specs.Folders.{Folder}
+use Rattle.par2_spec.specs.Changes.{Change, effect}
+
+-- a folder, and the bytes of a journal where there is one
+pub record Contents : Type 0 where
+  pub files : Folder
+  pub journal : Option (List ℕ)
+
+-- the contents after a change of the folder
+abbrev pub changed : Contents → Change → Contents
+changed contents change = record { files = effect contents.files change; journal = contents.journal }
+
+-- the contents with this journal
+abbrev pub journaled : Contents → List ℕ → Contents
+journaled contents bytes = record { files = contents.files; journal = Some bytes }

@@ -1,0 +1,52 @@
+//! Laws of packets. Each is the contract of a function that does nothing.
+
+ghost use Rattle.std.specs.Prelude.{◌≡◌, ◌<◌, ◌^◌, ◌++◌, ◌==◌, ℕ, List, [], ◌∷◌, Some, map, flat_map, length, drop, true, false};
+ghost use Rattle.std.specs.List.{AllByRecursion, list_any};
+ghost use Rattle.par2_spec.specs.declared.Kind.TheVariants.{Main, FileDesc, Ifsc, Recovery};
+ghost use Rattle.par2_spec.specs.Packets.{Packet, packet, claimed, begins_with_packet, first_packet, accepted, read_main, read_desc, read_ifsc, read_recovery};
+ghost use Rattle.par2_spec.specs.Checksums.{Pair};
+ghost use Rattle.par2_spec.specs.Volumes.{FileRecord, main_bytes, desc_bytes, ifsc_bytes, recovery_bytes};
+ghost use Rattle.par2_spec.specs.Packing.{IsPacket};
+
+/// A text of fewer than 64 bytes has no packets.
+pub fn none_in_short_text()
+    ensures { (text : List ℕ) → length text < 64 → accepted text ≡ [] }
+{}
+
+/// Where a packet stands at the front, the packets are that one and those of what is behind it.
+pub fn packet_in_front()
+    ensures { (text : List ℕ) → begins_with_packet text ≡ true → accepted text ≡ first_packet text ∷ accepted (drop (claimed text) text) }
+{}
+
+/// Where none stands at the front, they are those of the text without its first byte.
+pub fn none_in_front()
+    ensures { (byte : ℕ) (text : List ℕ) → begins_with_packet (byte ∷ text) ≡ false → accepted (byte ∷ text) ≡ accepted text }
+{}
+
+/// Packets followed by any text are read as those packets, then as that text is.
+pub fn packets_then_text()
+    ensures { (ps : List Packet) (text : List ℕ) → AllByRecursion IsPacket ps → accepted (flat_map packet ps ++ text) ≡ ps ++ accepted text }
+{}
+
+/// A Main that was written says what was given.
+pub fn main_is_read()
+    ensures { (s : ℕ) (files : List FileRecord) → s < 2 ^ 64 → length files < 2 ^ 32 → AllByRecursion (λ file. length file.id ≡ 16) files
+        → read_main Main (main_bytes s files) ≡ Some (record { slice_size = s; ids = map (λ file. file.id) files }) }
+{}
+
+/// A FileDesc that was written says what was given.
+pub fn desc_is_read()
+    ensures { (file : FileRecord) → length file.id ≡ 16 → length file.digest ≡ 16 → length file.digest_16k ≡ 16 → file.size < 2 ^ 64 → list_any (λ b. b == 0) file.name ≡ false
+        → read_desc FileDesc (desc_bytes file) ≡ Some (record { id = file.id; digest = file.digest; digest_16k = file.digest_16k; size = file.size; name = file.name }) }
+{}
+
+/// An IFSC that was written says what was given.
+pub fn ifsc_is_read()
+    ensures { (file : FileRecord) → length file.id ≡ 16 → AllByRecursion (λ (pair : Pair). (length pair.0 ≡ 16) × (pair.1 < 2 ^ 32)) file.pairs
+        → read_ifsc Ifsc (ifsc_bytes file) ≡ Some (record { id = file.id; pairs = file.pairs }) }
+{}
+
+/// A RecvSlic that was written says what was given.
+pub fn recovery_is_read()
+    ensures { (e : ℕ) (bytes : List ℕ) → e < 2 ^ 32 → read_recovery Recovery (recovery_bytes e bytes) ≡ Some (record { exponent = e; bytes = bytes }) }
+{}

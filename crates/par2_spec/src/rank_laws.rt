@@ -1,0 +1,22 @@
+//! Laws of rank and of rebuilt slices: each is the contract of a function that does nothing.
+
+ghost use Rattle.std.specs.Prelude.{◌≡◌, ◌<◌, ◌↔◌, ℕ, List, IsTrue, Option, length};
+ghost use Rattle.std.specs.List.{AllByRecursion, Contains};
+ghost use Rattle.std.specs.FinMap as map_of;
+ghost use Rattle.par2_spec.specs.Rank.{is_repairable, IsRepairable, kept, IsKept, agrees, Agrees, kept_slices, IsRebuilt};
+ghost use Rattle.par2_spec.specs.Sets.{ParSet};
+ghost use Rattle.par2_spec.specs.Search.{lost, survivors};
+ghost use Rattle.par2_spec.specs.Repairs.{rebuilt};
+
+/// The tests over every vector and every text say what the words say.
+pub fn tests_say_the_words()
+    ensures repairable { (lost survivors : List ℕ) → IsTrue (is_repairable lost survivors) ↔ IsRepairable lost survivors }
+    ensures kept { (lost survivors : List ℕ) (e : ℕ) → Contains (kept lost survivors) e ↔ (Contains survivors e × IsKept lost survivors e) }
+    ensures agrees { (s : ℕ) (known : List (Option (List ℕ))) (recovered : List (ℕ × List ℕ)) (slices : List (List ℕ)) → AllByRecursion (λ text. length text ≡ s) slices → AllByRecursion (λ text. AllByRecursion (λ b. b < 256) text) slices → IsTrue (agrees s known recovered slices) ↔ Agrees s known recovered slices }
+{}
+
+/// The rebuilt slices agree where some slices do, and where one list alone agrees they are that list.
+pub fn rebuilt_slices_agree()
+    ensures some { (set : ParSet) (known : List (Option (List ℕ))) (slices : List (List ℕ)) → Agrees set.slice_size known (kept_slices (lost known) (survivors set) (map_of.entries set.recovery)) slices → Agrees set.slice_size known (kept_slices (lost known) (survivors set) (map_of.entries set.recovery)) (rebuilt set known) }
+    ensures only { (set : ParSet) (known : List (Option (List ℕ))) (slices : List (List ℕ)) → IsRebuilt set.slice_size known (kept_slices (lost known) (survivors set) (map_of.entries set.recovery)) slices → rebuilt set known ≡ slices }
+{}
