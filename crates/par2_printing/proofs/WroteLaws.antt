@@ -1,10 +1,11 @@
 -- Texts that are written one after the other.
-use Rattle.std.proofs.Common.{◌≡◌, ◌∙◌, ◌++◌, ◌+◌, ◌-◌, ◌<◌, ℕ, suc, List, [], take, drop, length, ap, sym, subst, append-nil, append_assoc, length-drop, Option, Some, None, Result, Ok, Err, arith, inl, inr}
+use Rattle.std.proofs.Common.{◌≡◌, ◌∙◌, ◌++◌, map, ◌+◌, ◌-◌, ◌<◌, ℕ, suc, List, [], take, drop, length, ap, sym, subst, append-nil, append_assoc, length-drop, Option, Some, None, Result, Ok, Err, arith, inl, inr}
 use Rattle.std.specs.Io.KnownBytes.{Appends, Keeps}
 use Rattle.std.proofs.Math.Seq.{take-append_seam, take-append-add}
 use Rattle.std.proofs.lemmas.Bool.{cases_lt}
 use Rattle.std.proofs.lemmas.List.{take-append-drop, take-append-le, take_all}
 use Rattle.std.proofs.lemmas.Grind.{flat_map-append}
+use Rattle.std.proofs.lemmas.List.Folds.{flat_map-map}
 use Rattle.std.proofs.Math.Seq.{drop-cons}
 use Rattle.std.proofs.Math.ListN.{get_or}
 use Rattle.std.specs.List.{flat_map}
@@ -49,24 +50,32 @@ wrote_then a b c xs ys (Err e) p q =
     (length xs + q.0, subst (Appends a c) (sym (take-append-add xs ys q.0)) (appends_both a b c xs (take q.0 ys) p q.1))
 
 -- a part of a text is a part of a longer one
-pub wrote_less : (a b : Option (List ℕ)) (xs ys : List ℕ) (n : ℕ) → Appends a b (take n xs) → (m : ℕ) × Appends a b (take m (xs ++ ys))
-wrote_less a b xs ys n p = elim (cases_lt n (length xs)) [
-  | inl within ↦ (n, subst (Appends a b) (sym (take-append-le n xs ys (omega arith))) p)
-  | inr past ↦ (length xs, subst (Appends a b) (take_all n xs past ∙ sym (take-append_seam xs ys)) p)
+pub wrote_less : (a b : Option (List ℕ)) (xs ys : List ℕ) → (n : ℕ) × Appends a b (take n xs) → (m : ℕ) × Appends a b (take m (xs ++ ys))
+wrote_less a b xs ys p = elim (cases_lt p.0 (length xs)) [
+  | inl within ↦ (p.0, subst (Appends a b) (sym (take-append-le p.0 xs ys (omega arith))) p.1)
+  | inr past ↦ (length xs, subst (Appends a b) (take_all p.0 xs past ∙ sym (take-append_seam xs ys)) p.1)
 ]
 
 -- the lines before the i-th were written, and then a part of that one
-pub lines_cut : {X : Type 0} (f : X → List ℕ) (a b c : Option (List ℕ)) (items : List X) (i k : ℕ) (item : X) → i < length items
-    → Appends a b (flat_map f (take i items)) → Appends b c (take k (f (get_or items i item)))
+pub lines_cut : {X : Type 0} (f : X → List ℕ) (a b c : Option (List ℕ)) (items : List X) (i : ℕ) (item : X) → i < length items
+    → Appends a b (flat_map f (take i items)) → (k : ℕ) × Appends b c (take k (f (get_or items i item)))
     → (m : ℕ) × Appends a c (take m (flat_map f items))
-lines_cut f a b c items i k item within before some =
+lines_cut f a b c items i item within before some =
     let here = f (get_or items i item) in
     let after = flat_map f (drop (suc i) items) in
     let whole : flat_map f items ≡ flat_map f (take i items) ++ (here ++ after) =
     ap (flat_map f) (sym (take-append-drop i items)) ∙ flat_map-append f (take i items) (drop i items)
     ∙ ap (λ xs. flat_map f (take i items) ++ flat_map f xs) (drop-cons items i item within) in
-    let more = wrote_less b c here after k some in (
+    let more = wrote_less b c here after some in (
       length (flat_map f (take i items)) + more.0,
       subst (Appends a c) (sym (ap (take (length (flat_map f (take i items)) + more.0)) whole ∙ take-append-add (flat_map f (take i items)) (here ++ after) more.0))
           (appends_both a b c (flat_map f (take i items)) (take more.0 (here ++ after)) before more.1),
     )
+
+-- the same for the lines of what the items stand for, where the line was written by a text that equals the i-th item's
+pub shown_lines_cut : {X Y : Type 0} (f : Y → List ℕ) (view : X → Y) (a b c : Option (List ℕ)) (items : List X) (i : ℕ) (item : X) (shown : Y)
+    → i < length items → shown ≡ view (get_or items i item) → Appends a b (flat_map f (map view (take i items))) → (k : ℕ) × Appends b c (take k (f shown))
+    → (m : ℕ) × Appends a c (take m (flat_map f (map view items)))
+shown_lines_cut f view a b c items i item shown within is before some =
+    let cut = lines_cut (λ x. f (view x)) a b c items i item within (subst (Appends a b) (flat_map-map f view (take i items)) before) (rw is at some) in
+    (cut.0, subst (λ text. Appends a c (take cut.0 text)) (sym (flat_map-map f view items)) cut.1)

@@ -1,4 +1,6 @@
 //! Prints what lists of words are read as, one list on each line of its input.
+//!
+//! Memory is ample here, so the stored output also refuses a `read_words` that always answers want of memory.
 #![tactic(auto)]
 
 use par2_words::read_words;

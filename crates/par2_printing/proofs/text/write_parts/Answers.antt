@@ -5,6 +5,5 @@ use Rattle.par2_printing.proofs.text.write_parts.Goals as goal
 pub returns-in_err-write_bytes : goal.returns-in_err-write_bytes
 returns-in_err-write_bytes g c =
     let p = err_from_is_err_and c.from_residual.result c.from_residual.ensures.1 in
-    let e = c.in_err-write_bytes.ensures in
-    rw p.1 (lines_cut (λ part. part.now) _ (g.W.Write.contents c.loop-part.out) _ c.args.parts.now c.loop-part.part-index e.0 _ c.loop-part-test.true c.loop-part.invariant
-    e.1)
+    rw p.1 (lines_cut (λ part. part.now) _ (g.W.Write.contents c.loop-part.out) _ c.args.parts.now c.loop-part.part-index _ c.loop-part-test.true
+    c.loop-part.invariant c.in_err-write_bytes.ensures)
