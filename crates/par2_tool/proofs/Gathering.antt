@@ -1,5 +1,5 @@
 -- All files of a folder, read one after the other, are the folder.
-use Rattle.std.proofs.Common.{◌≡◌, ◌<◌, ◌+◌, length, get_or, take, ℕ, List, [], ◌∷◌, ◌++◌, map, cond, true, false, Bool, ◌||◌, Option, Some, None, refl, sym, ap, ◌∙◌}
+use Rattle.std.proofs.Common.{◌≡◌, ◌<◌, ◌+◌, length, get_or, take, ℕ, List, [], ◌∷◌, ◌++◌, cond, true, false, Bool, ◌||◌, Option, Some, None, refl, sym, ap, ◌∙◌}
 use Rattle.std.specs.Prelude.{is_some, unwrap_or}
 use Rattle.std.proofs.lemmas.List.{take_more}
 use Rattle.std.specs.Str.{bytes_eq}
@@ -8,11 +8,11 @@ use Rattle.std.specs.FinMap.{get-empty}
 use Rattle.std.specs.Cmp.Lexicographic.{slice_cmp}
 use Rattle.std.specs.Ordering.{nat_cmp}
 use Rattle.par2_spec.specs.Names.{is_among}
-use Rattle.par2_spec.specs.Folders.{Folder, has, names, bytes_of, laid_over}
+use Rattle.par2_spec.specs.Folders.{Folder, names, bytes_of, laid_over}
 use Rattle.par2_spec.proofs.NamesLaws.{same_name}
 use Rattle.par2_spec.proofs.FolderLaws.{same_folder}
-use Rattle.par2_spec.proofs.MovesLaws.{get_put, has_by_names, laid_over-append}
-use Rattle.par2_tool.specs.Gathered.{file_of, gathered}
+use Rattle.par2_spec.proofs.MovesLaws.{get_put, has_by_names}
+use Rattle.par2_tool.specs.Gathered.{gathered}
 
 later_over : (among : Bool) (f : Folder) (q n : List ℕ) (b : Bool) → bytes_eq q n ≡ b → (g : Option (List ℕ))
     → cond among (Some (bytes_of f q)) (cond b (Some (bytes_of f n)) g) ≡ cond (b || among) (Some (bytes_of f q)) g

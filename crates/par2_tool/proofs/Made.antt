@@ -6,6 +6,10 @@ use Rattle.par2_spec.specs.Changes as defined
 use Rattle.par2_spec.specs.Stores.{Contents, changed}
 use Rattle.par2_folder.specs.declared.change.Change.{Change}
 use Rattle.par2_folder.specs.Views.{change_of}
+use Rattle.par2_spec.specs.Folders.{Folder}
+use Rattle.par2_spec.specs.Sessions.{KeptSession, OnlyGrew, session_of_kept}
+use Rattle.par2_spec.specs.Opening.{new_session}
+use Rattle.par2_journal.specs.Ready.{Kind, Changing, Undoing, Redoing, changes_of, next_of}
 use Rattle.par2_tool.specs.Performed.{all_changed}
 
 changed_more : (k : Contents) (cs : List defined.Change) (c : defined.Change) → all_changed k (cs ++ c ∷ []) ≡ changed (all_changed k cs) c
@@ -19,3 +23,13 @@ made_next k changes i item within is =
     ∙ ap (all_changed k) (sym (map-append change_of (take i changes) (item ∷ [])))
     ∙ ap (λ x. all_changed k (map change_of (take i changes ++ x ∷ []))) is
     ∙ ap (λ l. all_changed k (map change_of l)) (sym (take_more changes i item within))
+
+-- what was made ready applies the changes that were asked for
+pub same_changes : (old mid : KeptSession) (kind : Kind) → OnlyGrew old mid → changes_of kind old ≡ changes_of kind mid
+same_changes old mid (Changing changes) grew = refl
+same_changes old mid Undoing grew = ap next_of (sym grew.undos)
+same_changes old mid Redoing grew = ap next_of (sym grew.redos)
+
+-- a session that was opened
+pub is_new : (s : KeptSession) (f : Folder) → s.folder.files ≡ f → s.undos ≡ [] → s.redos ≡ [] → session_of_kept s ≡ new_session f
+is_new s f files undos redos = λ i. record { folder = files i; undos = undos i; redos = redos i }

@@ -1,3 +1,5 @@
 pub mod Gathered
 pub mod Performed
 pub mod Refused
+pub mod Asked
+pub mod Told

@@ -1,5 +1,5 @@
 -- What a command does to a store.
-use Rattle.std.specs.Prelude.{ℕ, List, [], ◌∷◌}
+use Rattle.std.specs.Prelude.{List, [], ◌∷◌}
 use Rattle.par2_spec.specs.Changes.{Change}
 use Rattle.par2_spec.specs.Stores.{Contents, changed}
 

@@ -1,17 +1,13 @@
 -- Why a command is not performed.
-use Rattle.std.specs.Prelude.{◌≡◌, ◌<◌, ℕ}
+use Rattle.std.specs.Prelude.{◌<◌, ℕ}
 use Rattle.par2_spec.specs.Commands.{Action}
 use Rattle.par2_spec.specs.Sessions.{KeptSession, OnlyGrew}
-use Rattle.par2_spec.specs.Texts as defined
 use Rattle.par2_journal.specs.Faulted.{MayRefuse}
-use Rattle.par2_tool.specs.declared.performing.Outcome.{Outcome}
-use Rattle.par2_tool.specs.declared.performing.Outcome.TheVariants.{Done}
+use Rattle.par2_spec.specs.declared.Failure.{Failure}
+use Rattle.par2_spec.specs.declared.Failure.TheVariants as failure
+use Rattle.par2_journal.specs.declared.prepared.SessionFault.TheVariants.{Plan, NothingToUndo, NothingToRedo}
 use Rattle.par2_tool.specs.declared.performing.PerformFault.{PerformFault}
 use Rattle.par2_tool.specs.declared.performing.PerformFault.TheVariants.{Session, Store}
-
--- what an outcome tells
-abbrev pub told : Outcome → defined.Outcome
-told (Done steps) = defined.Done steps
 
 -- the session refuses for the cause that the definitions name or for want of memory, and stays as it was; or the
 -- store failed
@@ -22,3 +18,10 @@ IsRefused action old new before after Store = before < after
 abbrev pub IsSession : PerformFault → Type 0
 IsSession (Session fault) = Unit {0}
 IsSession Store = ⊥
+
+-- what is told of it
+abbrev pub failed : PerformFault → Failure
+failed (Session (Plan fault)) = failure.Refused fault
+failed (Session NothingToUndo) = failure.NothingToUndo
+failed (Session NothingToRedo) = failure.NothingToRedo
+failed Store = failure.Store

@@ -2,9 +2,16 @@
 //! and what comes of it is printed.
 #![tactic(auto)]
 
+mod asking;
 mod opening;
 mod performing;
+mod printing;
+mod running;
 mod writing;
 
 pub use opening::{OpenFault, Started, open_store};
-pub use performing::{Outcome, PerformFault, perform};
+pub use par2_journal::{Session, SessionFault, Step, Steps};
+pub use par2_spec::{Action, Command, CreateArgs, Failure, Fault};
+pub use par2_words::{WordsFault, read_words};
+pub use performing::{PerformFault, perform};
+pub use running::run;

@@ -1,4 +1,4 @@
-use Rattle.std.proofs.Common.{◌≡◌, ◌<◌, ◌≤◌, ◌+◌, length, take}
+use Rattle.std.proofs.Common.{◌≡◌, ◌≤◌, ◌+◌, length, take}
 use Rattle.par2_tool.specs.Gathered.{gathered}
 use Rattle.par2_tool.proofs.opening.read_all.Given as goal
 

@@ -1,0 +1,102 @@
+//! What comes of a run is printed.
+ghost use Rattle.std.specs.Prelude.{◌≡◌, map, flat_map, false};
+ghost use Rattle.par2_spec.specs.Texts.{Done, done_text, step_line, output_of, error_of, status_of};
+ghost use Rattle.par2_spec.specs.Texts as texts;
+ghost use Rattle.par2_journal.specs.Stepped.{stepped};
+ghost use Rattle.par2_printing.specs.Printed.{step_shown, words_given};
+ghost use Rattle.par2_printing.specs.Wrote.{Wrote};
+ghost use Rattle.par2_tool.specs.Told.{Printed};
+
+use par2_journal::{Step, Steps};
+use par2_printing::{PrintedStep, WriteFault, write_done, write_failure, write_step};
+use par2_spec::{Command, Failure, Fault};
+use std::io::Write;
+
+// The status where a writer fails.
+const WRITER_FAILED: u8 = 6;
+
+fn printed(step: &Step) -> PrintedStep<'_>
+    ensures { step_shown result ≡ stepped step.now }
+{
+    match step {
+        Step::Write(name) => PrintedStep::Write(name.as_str()),
+        Step::Replace(name) => PrintedStep::Replace(name.as_str()),
+        Step::Rename(from, to) => PrintedStep::Rename(from.as_str(), to.as_str()),
+        Step::Remove(name) => PrintedStep::Remove(name.as_str()),
+    }
+}
+
+fn write_steps<W: Write>(out: &mut W, steps: &[Step]) -> Result<(), WriteFault>
+    ensures { Wrote (W.contents out.old) (W.contents out.new) (flat_map step_line (map stepped steps.now)) result }
+{
+    for step in steps {
+        write_step(out, printed(step))?;
+    }
+    Ok(())
+}
+
+#[tactic(auto, using(par2_printing::proofs::WroteLaws::wrote_then, par2_printing::proofs::WroteLaws::wrote_less))]
+fn write_all_done<W: Write>(out: &mut W, steps: &[Step]) -> Result<(), WriteFault>
+    ensures { Wrote (W.contents out.old) (W.contents out.new) (done_text (map stepped steps.now)) result }
+{
+    match write_steps(out, steps) {
+        Ok(()) => write_done(out, steps.len()),
+        Err(fault) => Err(fault),
+    }
+}
+
+/// Prints the steps of an accepted command on the output, and answers the status.
+#[tactic(auto, unfolding(par2_spec::specs::Texts::status_of, par2_spec::specs::Texts::output_of))]
+pub fn tell<W: Write>(out: &mut W, steps: &Steps) -> u8
+    ensures { Printed (W.contents out.old) (W.contents out.new) (output_of false (Done steps.now)) (status_of (Done steps.now)) result }
+{
+    match write_all_done(out, steps.as_slice()) {
+        Ok(()) => 0,
+        Err(_) => WRITER_FAILED,
+    }
+}
+
+// The status of a refused command.
+#[tactic(auto, unfolding(par2_spec::specs::Texts::status_of_fault))]
+fn status_of_fault(fault: Fault) -> u8
+    ensures { result ≡ texts.status_of_fault fault }
+{
+    match fault {
+        Fault::NoPackets
+        | Fault::NoMain
+        | Fault::NoDescription
+        | Fault::NoChecksums
+        | Fault::BadSet => 4,
+        Fault::NotRepairable { .. } => 2,
+        Fault::RepairFailed => 5,
+        Fault::NotComplete => 1,
+        Fault::Memory => 8,
+        _ => 3,
+    }
+}
+
+// The status of a failure.
+#[tactic(auto, unfolding(par2_spec::specs::Texts::status_of_failure))]
+fn status_of_failure(failure: Failure) -> u8
+    ensures { result ≡ texts.status_of_failure failure }
+{
+    match failure {
+        Failure::Refused(fault) => status_of_fault(fault),
+        Failure::Store => 6,
+        Failure::Arguments => 3,
+        Failure::JournalInvalid
+        | Failure::FolderChanged
+        | Failure::NothingToUndo
+        | Failure::NothingToRedo => 9,
+    }
+}
+
+/// Prints a failure on the error writer, and answers the status.
+pub fn fail<W: Write>(err: &mut W, command: Option<&Command>, failure: Failure) -> u8
+    ensures { Printed (W.contents err.old) (W.contents err.new) (error_of (words_given command.entry) failure) (texts.status_of_failure failure) result }
+{
+    match write_failure(err, command, failure) {
+        Ok(()) => status_of_failure(failure),
+        Err(_) => WRITER_FAILED,
+    }
+}
