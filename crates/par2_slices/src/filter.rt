@@ -27,9 +27,9 @@ impl Model for Filter {
 }
 
 impl Filter {
-    /// No group, with some 64 groups for each of `count` checksums.
+    /// No group, with some 256 groups for each of `count` checksums: few others fall into one of theirs.
     pub(crate) fn new(alloc: Global, count: usize) -> Result<Filter, AllocError> {
-        let word_bits = (usize::BITS - count.leading_zeros()).min(MOST_WORD_BITS);
+        let word_bits = (usize::BITS - count.leading_zeros() + 2).min(MOST_WORD_BITS);
         Ok(Filter {
             shift: 26 - word_bits,
             words: vec![in alloc; 0u64; 1 << word_bits]?,

@@ -125,16 +125,13 @@ impl Search {
         }
     }
 
-    /// Looks at the window at `offset`, whose CRC-32 is `crc`.
+    /// Looks at the window at `offset`, whose CRC-32 `crc` is marked.
     fn look(&mut self, wanted: &Wanted, bytes: &[u8], s: u64, offset: usize, crc: u32)
         requires at { IsAt s bytes.now offset wanted.now self.old.found.items self.old.left self.old.filter }
         requires within { offset < length bytes.now }
         requires crc { crc ≡ crc32 (window s bytes.now offset) }
         ensures { IsAt s bytes.now (offset + 1) wanted.now self.new.found.items self.new.left self.new.filter }
     {
-        if !self.filter.contains(crc) {
-            return;
-        }
         let group = wanted.group(crc, self.filter.shift());
         self.answer(wanted, group, bytes, s, offset, crc);
         if !is_waiting(group, &self.found) {
@@ -180,7 +177,10 @@ pub fn find(
         if search.left == 0 {
             break;
         }
-        search.look(wanted, bytes, s, offset, rolling.value());
+        let crc = rolling.value();
+        if search.filter.contains(crc) {
+            search.look(wanted, bytes, s, offset, crc);
+        }
         rolling.slide(out, byte_at(incoming, offset));
     }
     Ok(search.found)

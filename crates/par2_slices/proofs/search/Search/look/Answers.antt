@@ -1,13 +1,8 @@
-use Rattle.std.proofs.Common.{◌≡◌, ◌∙◌, ◌+◌, ◌/◌, ◌^◌, ℕ, true, false, ap, sym, subst}
+use Rattle.std.proofs.Common.{◌≡◌, ◌∙◌, ◌+◌, ◌/◌, ◌^◌, ℕ, ap, sym, subst}
 use Rattle.par2_slices.specs.Filters.{Bits}
 use Rattle.par2_slices.specs.Searches.{offset_at, place_at}
-use Rattle.par2_slices.proofs.Searching.{unmarked, unmark}
+use Rattle.par2_slices.proofs.Searching.{unmark}
 use Rattle.par2_slices.proofs.search.Search.look.Goals as goal
-
-pub returns-then-not-contains : goal.returns-then-not-contains
-returns-then-not-contains c =
-    unmarked c.args.s c.args.bytes.now c.args.offset c.args.wanted.now c.args.self.now.found.items c.args.self.now.left c.args.self.now.filter c.args.crc c.requires.at c.requires.crc
-    (λ is. let both : true ≡ false = sym (c.contains.ensures.1 is) ∙ c.if-not-contains.true in cc)
 
 pub returns-then-not-is_waiting : goal.returns-then-not-is_waiting
 returns-then-not-is_waiting c =
