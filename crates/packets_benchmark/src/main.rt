@@ -12,7 +12,9 @@ use std::env;
 use std::time::{Duration, Instant};
 
 const MEBIBYTE: usize = 1 << 20;
+
 const SIZE: usize = 64 * MEBIBYTE;
+
 const SLICE: usize = 65536;
 
 // Bytes without a pattern, by xorshift.

@@ -1,8 +1,8 @@
 //! Packets are written.
 
 ghost use Rattle.std.specs.Prelude.{◌≡◌, ◌≤◌, ◌+◌, ◌-◌, ◌%◌, ◌++◌, length, map, flat_map, OnOk, OnErr, IfOk};
-ghost use Rattle.par2_spec.specs.Packets as packets;
-ghost use Rattle.par2_spec.specs.Volumes as volumes;
+ghost use Rattle.par2_spec.specs.Packets.{packet};
+ghost use Rattle.par2_spec.specs.Volumes.{packet_of, main_id, main_bytes, desc_bytes, ifsc_bytes, creator_bytes, recovery_bytes, padded_4};
 ghost use Rattle.par2_packets.specs.View.{file_record_of};
 
 use crate::kind::type_of;
@@ -20,7 +20,8 @@ fn append_packet(
     tail: &[u8],
 ) -> Result<(), AllocError>
     requires { 64 + length head.now + length tail.now ≤ usize.MAX }
-    ensures ok { OnOk result (out.new.items ≡ out.old.items ++ packets.packet (volumes.packet_of set_id.now kind (head.now ++ tail.now))) }
+    ensures ok { let added = packet_of set_id.now kind (head.now ++ tail.now) in
+        OnOk result (out.new.items ≡ out.old.items ++ packet added) }
     ensures err { OnErr result (out.new.items ≡ out.old.items) }
 {
     let type_bytes = type_of(kind);
@@ -50,7 +51,7 @@ fn padding(len: usize) -> usize
 
 // The text and zeros up to a multiple of 4, behind what is there.
 fn append_padded(out: &mut Vec<u8>, text: &[u8]) -> Result<(), AllocError>
-    ensures { OnOk result (out.new.items ≡ out.old.items ++ volumes.padded_4 text.now) }
+    ensures { OnOk result (out.new.items ≡ out.old.items ++ padded_4 text.now) }
 {
     out.extend_from_slice(text)?;
     out.resize(out.len() + padding(text.len()), 0)
@@ -58,7 +59,7 @@ fn append_padded(out: &mut Vec<u8>, text: &[u8]) -> Result<(), AllocError>
 
 fn main_body(alloc: Global, s: u64, files: &[FileRecord]) -> Result<Vec<u8>, AllocError>
     requires { length files.now ≤ 32768 }
-    ensures { IfOk result (λ body. body.items ≡ volumes.main_bytes s (map file_record_of files.now)) }
+    ensures { IfOk result (λ body. body.items ≡ main_bytes s (map file_record_of files.now)) }
 {
     let mut body = Vec::from_slice(alloc, &s.to_le_bytes())?;
     body.extend_from_slice(&(files.len() as u32).to_le_bytes())?;
@@ -69,7 +70,7 @@ fn main_body(alloc: Global, s: u64, files: &[FileRecord]) -> Result<Vec<u8>, All
 }
 
 fn desc_body(alloc: Global, file: &FileRecord) -> Result<Vec<u8>, AllocError>
-    ensures { IfOk result (λ body. body.items ≡ volumes.desc_bytes (file_record_of file.now)) }
+    ensures { IfOk result (λ body. body.items ≡ desc_bytes (file_record_of file.now)) }
 {
     let mut body = Vec::from_slice(alloc, &file.id)?;
     body.extend_from_slice(&file.md5)?;
@@ -80,7 +81,7 @@ fn desc_body(alloc: Global, file: &FileRecord) -> Result<Vec<u8>, AllocError>
 }
 
 fn ifsc_body(alloc: Global, file: &FileRecord) -> Result<Vec<u8>, AllocError>
-    ensures { IfOk result (λ body. body.items ≡ volumes.ifsc_bytes (file_record_of file.now)) }
+    ensures { IfOk result (λ body. body.items ≡ ifsc_bytes (file_record_of file.now)) }
 {
     let mut body = Vec::from_slice(alloc, &file.id)?;
     for (md5, crc) in &file.pairs {
@@ -98,7 +99,9 @@ pub fn append_main(
     files: &[FileRecord],
 ) -> Result<(), AllocError>
     requires { length files.now ≤ 32768 }
-    ensures ok { let records = map file_record_of files.now in let main = volumes.packet_of (volumes.main_id s records) Kind.Main (volumes.main_bytes s records) in OnOk result (out.new.items ≡ out.old.items ++ packets.packet main) }
+    ensures ok { let records = map file_record_of files.now in
+        let main = packet_of (main_id s records) Kind.Main (main_bytes s records) in
+        OnOk result (out.new.items ≡ out.old.items ++ packet main) }
     ensures err { OnErr result (out.new.items ≡ out.old.items) }
 {
     let body = main_body(alloc, s, files)?;
@@ -112,7 +115,8 @@ pub fn append_desc(
     set_id: &[u8; 16],
     file: &FileRecord,
 ) -> Result<(), AllocError>
-    ensures ok { OnOk result (out.new.items ≡ out.old.items ++ packets.packet (volumes.packet_of set_id.now Kind.FileDesc (volumes.desc_bytes (file_record_of file.now)))) }
+    ensures ok { let added = packet_of set_id.now Kind.FileDesc (desc_bytes (file_record_of file.now)) in
+        OnOk result (out.new.items ≡ out.old.items ++ packet added) }
     ensures err { OnErr result (out.new.items ≡ out.old.items) }
 {
     let body = desc_body(alloc, file)?;
@@ -126,7 +130,8 @@ pub fn append_ifsc(
     set_id: &[u8; 16],
     file: &FileRecord,
 ) -> Result<(), AllocError>
-    ensures ok { OnOk result (out.new.items ≡ out.old.items ++ packets.packet (volumes.packet_of set_id.now Kind.Ifsc (volumes.ifsc_bytes (file_record_of file.now)))) }
+    ensures ok { let added = packet_of set_id.now Kind.Ifsc (ifsc_bytes (file_record_of file.now)) in
+        OnOk result (out.new.items ≡ out.old.items ++ packet added) }
     ensures err { OnErr result (out.new.items ≡ out.old.items) }
 {
     let body = ifsc_body(alloc, file)?;
@@ -139,7 +144,8 @@ pub fn append_creator(
     out: &mut Vec<u8>,
     set_id: &[u8; 16],
 ) -> Result<(), AllocError>
-    ensures ok { OnOk result (out.new.items ≡ out.old.items ++ packets.packet (volumes.packet_of set_id.now Kind.Creator volumes.creator_bytes)) }
+    ensures ok { let added = packet_of set_id.now Kind.Creator creator_bytes in
+        OnOk result (out.new.items ≡ out.old.items ++ packet added) }
     ensures err { OnErr result (out.new.items ≡ out.old.items) }
 {
     append_packet(out, set_id, Kind::Creator, b"par2 undo profile 1", &[0])
@@ -154,7 +160,8 @@ pub fn append_recovery(
     bytes: &[u8],
 ) -> Result<(), AllocError>
     requires { length bytes.now % 4 ≡ 0 }
-    ensures ok { OnOk result (out.new.items ≡ out.old.items ++ packets.packet (volumes.packet_of set_id.now Kind.Recovery (volumes.recovery_bytes e bytes.now))) }
+    ensures ok { let added = packet_of set_id.now Kind.Recovery (recovery_bytes e bytes.now) in
+        OnOk result (out.new.items ≡ out.old.items ++ packet added) }
     ensures err { OnErr result (out.new.items ≡ out.old.items) }
 {
     append_packet(out, set_id, Kind::Recovery, &e.to_le_bytes(), bytes)

@@ -46,7 +46,8 @@ fn has_magic(text: &[u8]) -> bool
 fn has_digest(text: &[u8], claim: usize) -> bool
     requires low { 64 ≤ claim }
     requires high { claim ≤ length text.now }
-    ensures { result ≡ bytes_eq (md5 (packets.bytes_at 32 (claim - 32) text.now)) (packets.bytes_at 16 16 text.now) }
+    ensures { let digested = packets.bytes_at 32 (claim - 32) text.now in
+        result ≡ bytes_eq (md5 digested) (packets.bytes_at 16 16 text.now) }
 {
     digest_of(&text[32..claim]) == block(text, 16)
 }
@@ -83,7 +84,8 @@ fn first_packet(text: &[u8]) -> Packet<'_>
 
 // The first packet of the text, and what is behind it.
 fn next_packet(text: &[u8]) -> Option<(Packet<'_>, &[u8])>
-    ensures { MatchOption result (packets.accepted text.now ≡ []) (λ x. packets.accepted text.now ≡ packet_of x.0 ∷ packets.accepted x.1.now) }
+    ensures { let found = packets.accepted text.now in
+        MatchOption result (found ≡ []) (λ x. found ≡ packet_of x.0 ∷ packets.accepted x.1.now) }
 {
     let finder = Finder::new(b"PAR2\0PKT");
     let mut rest = text;

@@ -333,7 +333,10 @@ fn bodies_of_each_length(rt: HostRuntime) -> Result<(), Fail> {
 
 #[test]
 fn packets_of_other_kinds(rt: HostRuntime) {
-    let other = packet(Kind::Other(*b"PAR 2.0\0Other\0\0\0"), b"\x04\0\0\0\0\0\0\0\0\0\0\0");
+    let other = packet(
+        Kind::Other(*b"PAR 2.0\0Other\0\0\0"),
+        b"\x04\0\0\0\0\0\0\0\0\0\0\0",
+    );
     assert!(rt; read_main(&other).is_none() && read_desc(&other).is_none());
     assert!(rt; read_ifsc(&other).is_none() && read_recovery(&other).is_none());
 }

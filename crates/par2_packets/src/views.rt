@@ -130,7 +130,8 @@ impl<'a> IfscView<'a> {
     pub fn id(&self) -> [u8; 16]
         ensures { result ≡ self.now.id }
     {
-        block(self.body, 0)
+        let body = self.body;
+        block(body, 0)
     }
 
     /// How many slices have checksums here.

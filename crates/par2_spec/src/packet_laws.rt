@@ -14,29 +14,40 @@ pub fn none_in_short_text()
 
 /// Where a packet stands at the front, the packets are that one and those of what is behind it.
 pub fn packet_in_front()
-    ensures { (text : List ℕ) → begins_with_packet text ≡ true → accepted text ≡ first_packet text ∷ accepted (drop (claimed text) text) }
+    ensures { (text : List ℕ) → begins_with_packet text ≡ true
+        → accepted text ≡ first_packet text ∷ accepted (drop (claimed text) text) }
 {}
 
 /// Where none stands at the front, they are those of the text without its first byte.
 pub fn none_in_front()
-    ensures { (byte : ℕ) (text : List ℕ) → begins_with_packet (byte ∷ text) ≡ false → accepted (byte ∷ text) ≡ accepted text }
+    ensures { (byte : ℕ) (text : List ℕ) → begins_with_packet (byte ∷ text) ≡ false
+        → accepted (byte ∷ text) ≡ accepted text }
 {}
 
 /// Packets followed by any text are read as those packets, then as that text is.
 pub fn packets_then_text()
-    ensures { (ps : List Packet) (text : List ℕ) → AllByRecursion IsPacket ps → accepted (flat_map packet ps ++ text) ≡ ps ++ accepted text }
+    ensures { (packets : List Packet) (text : List ℕ) → AllByRecursion IsPacket packets
+        → accepted (flat_map packet packets ++ text) ≡ packets ++ accepted text }
 {}
 
 /// A Main that was written says what was given.
 pub fn main_is_read()
-    ensures { (s : ℕ) (files : List FileRecord) → s < 2 ^ 64 → length files < 2 ^ 32 → AllByRecursion (λ file. length file.id ≡ 16) files
-        → read_main Main (main_bytes s files) ≡ Some (record { slice_size = s; ids = map (λ file. file.id) files }) }
+    ensures { (s : ℕ) (files : List FileRecord) → s < 2 ^ 64 → length files < 2 ^ 32
+        → AllByRecursion (λ file. length file.id ≡ 16) files
+        → read_main Main (main_bytes s files)
+            ≡ Some (record { slice_size = s; ids = map (λ file. file.id) files }) }
 {}
 
 /// A FileDesc that was written says what was given.
 pub fn desc_is_read()
-    ensures { (file : FileRecord) → length file.id ≡ 16 → length file.digest ≡ 16 → length file.digest_16k ≡ 16 → file.size < 2 ^ 64 → list_any (λ b. b == 0) file.name ≡ false
-        → read_desc FileDesc (desc_bytes file) ≡ Some (record { id = file.id; digest = file.digest; digest_16k = file.digest_16k; size = file.size; name = file.name }) }
+    ensures { (file : FileRecord) → length file.id ≡ 16 → length file.digest ≡ 16
+        → length file.digest_16k ≡ 16 → file.size < 2 ^ 64 → list_any (λ b. b == 0) file.name ≡ false
+        → read_desc FileDesc (desc_bytes file) ≡ Some (record {
+            id = file.id;
+            digest = file.digest;
+            digest_16k = file.digest_16k;
+            size = file.size;
+            name = file.name }) }
 {}
 
 /// An IFSC that was written says what was given.
@@ -47,22 +58,26 @@ pub fn ifsc_is_read()
 
 /// A RecvSlic that was written says what was given.
 pub fn recovery_is_read()
-    ensures { (e : ℕ) (bytes : List ℕ) → e < 2 ^ 32 → read_recovery Recovery (recovery_bytes e bytes) ≡ Some (record { exponent = e; bytes = bytes }) }
+    ensures { (e : ℕ) (bytes : List ℕ) → e < 2 ^ 32
+        → read_recovery Recovery (recovery_bytes e bytes) ≡ Some (record { exponent = e; bytes = bytes }) }
 {}
 
 /// The Main of such records is one packet, and is read as it is.
 pub fn main_is_a_packet()
-    ensures { (s : ℕ) (files : List FileRecord) → length files < 2 ^ 32 → AllByRecursion IsFileRecord files → IsPacket (packet_of (main_id s files) Main (main_bytes s files)) }
+    ensures { (s : ℕ) (files : List FileRecord) → length files < 2 ^ 32 → AllByRecursion IsFileRecord files
+        → IsPacket (packet_of (main_id s files) Main (main_bytes s files)) }
 {}
 
 /// So is the FileDesc of such a record.
 pub fn desc_is_a_packet()
-    ensures { (id : List ℕ) (file : FileRecord) → length id ≡ 16 → IsFileRecord file → IsPacket (packet_of id FileDesc (desc_bytes file)) }
+    ensures { (id : List ℕ) (file : FileRecord) → length id ≡ 16 → IsFileRecord file
+        → IsPacket (packet_of id FileDesc (desc_bytes file)) }
 {}
 
 /// So is its IFSC.
 pub fn ifsc_is_a_packet()
-    ensures { (id : List ℕ) (file : FileRecord) → length id ≡ 16 → IsFileRecord file → IsPacket (packet_of id Ifsc (ifsc_bytes file)) }
+    ensures { (id : List ℕ) (file : FileRecord) → length id ≡ 16 → IsFileRecord file
+        → IsPacket (packet_of id Ifsc (ifsc_bytes file)) }
 {}
 
 /// So is the Creator.
@@ -72,17 +87,21 @@ pub fn creator_is_a_packet()
 
 /// So is a RecvSlic of a multiple of 4 bytes.
 pub fn recovery_is_a_packet()
-    ensures { (id : List ℕ) (e : ℕ) (bytes : List ℕ) → length id ≡ 16 → length bytes % 4 ≡ 0 → length bytes < 2 ^ 60 → IsPacket (packet_of id Recovery (recovery_bytes e bytes)) }
+    ensures { (id : List ℕ) (e : ℕ) (bytes : List ℕ) → length id ≡ 16 → length bytes % 4 ≡ 0
+        → length bytes < 2 ^ 60 → IsPacket (packet_of id Recovery (recovery_bytes e bytes)) }
 {}
 
 /// The packets of an index that was written are read as they are, and what is behind them as it is.
 pub fn index_is_read()
-    ensures { (s : ℕ) (files : List FileRecord) (text : List ℕ) → length files < 2 ^ 32 → AllByRecursion IsFileRecord files
+    ensures { (s : ℕ) (files : List FileRecord) (text : List ℕ) → length files < 2 ^ 32
+        → AllByRecursion IsFileRecord files
         → accepted (flat_map packet (index_packets s files) ++ text) ≡ index_packets s files ++ accepted text }
 {}
 
 /// So are the recovery slices of a volume.
 pub fn recovery_slices_are_read()
-    ensures { (s : ℕ) (id : List ℕ) (slices : List (List ℕ)) (e n : ℕ) (text : List ℕ) → length id ≡ 16 → s % 4 ≡ 0 → s < 2 ^ 60
-        → accepted (flat_map packet (recovery_packets s id slices e n) ++ text) ≡ recovery_packets s id slices e n ++ accepted text }
+    ensures { (s : ℕ) (id : List ℕ) (slices : List (List ℕ)) (e n : ℕ) (text : List ℕ)
+        → length id ≡ 16 → s % 4 ≡ 0 → s < 2 ^ 60
+        → accepted (flat_map packet (recovery_packets s id slices e n) ++ text)
+            ≡ recovery_packets s id slices e n ++ accepted text }
 {}
