@@ -43,7 +43,7 @@ fn megabytes_a_second(bytes: usize, took: Duration) -> u128 {
     bytes as u128 * 1000 / took.as_nanos().max(1)
 }
 
-// Looks each name up, and gives each file another name and its name back.
+// Looks each name up, takes each file away and writes it back, and gives one file other bytes again and again.
 fn look_up_and_change(rt: &HostRuntime, folder: &mut Folder, names: &[Name]) -> Result<()> {
     let count = names.len();
     let start = Instant::now(rt)?;
