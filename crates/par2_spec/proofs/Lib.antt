@@ -28,3 +28,4 @@ pub mod RowsJournals
 pub mod RowsFolders
 pub mod RowsRank
 pub mod UniqueLaws
+pub mod RestoredLaws
