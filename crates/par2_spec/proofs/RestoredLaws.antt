@@ -1,32 +1,27 @@
 -- The slices of a file give the file back, and those of the files that a set was made from are rebuilt.
-use Rattle.std.proofs.Common.{◌≡◌, ℕ, zero, suc, ◌+◌, ◌-◌, ◌*◌, ◌/◌, ◌%◌, ◌^◌, ◌<◌, ◌≤◌, List, [], ◌∷◌, ◌++◌, length, map, take, drop, refl, sym, ap, ◌∙◌, subst, cond, true, false, Bool, not, ◌&&◌, ◌||◌, arith, inl, inr, length-append, length-drop}
-use Rattle.std.specs.Prelude.{flat_map, filter, find, zip, replicate, min, ◌==◌, ◌⊎◌, Option, Some, None, is_some, unwrap_or, Ok, option_to_list}
-use Rattle.std.specs.Int.{div_ceil}
-use Rattle.std.specs.List.{range_with_len, list_all, list_any, concat, AllByRecursion, AllZip}
+use Rattle.std.proofs.Common.{◌≡◌, ℕ, zero, suc, ◌+◌, ◌-◌, ◌*◌, ◌%◌, ◌<◌, ◌≤◌, List, [], ◌∷◌, ◌++◌, length, map, take, drop, refl, sym, ap, ◌∙◌, subst, cond, true, false, Bool, arith, inl, inr, length-append, length-drop}
+use Rattle.std.specs.Prelude.{flat_map, find, zip, replicate, min, ◌==◌, ◌⊎◌, Some, is_some, unwrap_or}
+use Rattle.std.specs.List.{range_with_len, list_any, concat, AllByRecursion, AllZip}
 use Rattle.std.specs.Option.{ForSome}
 use Rattle.std.specs.FinMap as map_of
-use Rattle.std.specs.Str.{bytes_eq}
 use Rattle.std.proofs.Math.Nat.{add-mul}
 use Rattle.std.proofs.Math.Seq.{drop-append_seam, take-append_seam, take-append-add}
 use Rattle.std.proofs.lemmas.Grind.{div_ceil_times}
-use Rattle.std.proofs.lemmas.List.{length-take, length-take-le, length-replicate, length-map, take_all, drop_all, take-append-le, take-append-drop, drop-drop, map-append, append_assoc, append-nil}
-use Rattle.std.proofs.lemmas.List.FromFn.{length-map-range_with_len}
-use Rattle.std.proofs.lemmas.Bool.{and_parts, and_from, or_cases, or_left, or_right, eqb-true}
-use Rattle.par2_spec.specs.Checksums.{Pair, pair_of}
-use Rattle.par2_spec.specs.Slices.{padded, slice_count, slice_at, slices}
-use Rattle.par2_spec.specs.Windows.{window, windows, is_match, found}
+use Rattle.std.proofs.lemmas.List.{length-take, length-take-le, length-replicate, length-map, take_all, drop_all, take-append-drop, drop-drop, map-append, append_assoc, append-nil}
+use Rattle.par2_spec.specs.Checksums.{pair_of}
+use Rattle.par2_spec.specs.Slices.{slice_count, slice_at, slices}
+use Rattle.par2_spec.specs.Windows.{windows, is_match, found}
 use Rattle.par2_spec.specs.Recovery.{recovery}
 use Rattle.par2_spec.specs.Rank.{Agrees, kept_slices, IsRepairable, kept}
-use Rattle.par2_spec.specs.Names.{is_among}
 use Rattle.par2_spec.specs.Folders.{Folder, File, bytes_of}
 use Rattle.par2_spec.specs.Volumes.{record_of, all_slices}
-use Rattle.par2_spec.specs.Sets.{ParSet, Target, target_of_file, MadeFrom}
-use Rattle.par2_spec.specs.Search.{is_intact, all_pairs, known, lost, survivors, NoCollision}
+use Rattle.par2_spec.specs.Sets.{Target, target_of_file, MadeFrom}
+use Rattle.par2_spec.specs.Search.{all_pairs, known, lost, survivors, NoCollision}
 use Rattle.par2_spec.specs.Repairs.{rebuilt, cut_into, files_of_slices}
-use Rattle.par2_spec.proofs.NamesLaws.{same_name, false_true}
-use Rattle.par2_spec.proofs.ListsLaws.{all-append, all-map, all-flat_map}
-use Rattle.par2_spec.proofs.FoundLaws.{slice_begins, all-filter}
-use Rattle.par2_spec.proofs.RankLaws.{all_weaker, rebuilt_is_only}
+use Rattle.par2_spec.proofs.NamesLaws.{false_true}
+use Rattle.par2_spec.proofs.ListsLaws.{all-append}
+use Rattle.par2_spec.proofs.FoundLaws.{all-filter}
+use Rattle.par2_spec.proofs.RankLaws.{rebuilt_is_only}
 use Rattle.par2_spec.proofs.UniqueLaws.{agreeing_is_rebuilt}
 
 -- ---- a slice
@@ -78,15 +73,15 @@ rest_joined s text (suc n) j le =
     let here = rest_joined s text n (j + 1) (let e : j + suc n ≡ j + 1 + n = omega arith in subst (λ k. length text ≤ k * s) e le) in
     elim (cases_le s m) as (λ _. take m (slice_at s text j ++ later) ≡ rest) [
       | inl full ↦
-        let part : length (take s rest) ≡ s = length-take-le s rest (omega (arith, full, long)) in
-        let whole : slice_at s text j ≡ take s rest = ap (λ k. take s rest ++ replicate k 0) (let e : s - length (take s rest) ≡ 0 = omega (arith, part) in e) ∙ append-nil (take s rest) in
-        let cut : m ≡ length (take s rest) + (length text - (j + 1) * s) = omega (arith, part, full, next) in
-        ap (λ x. take m (x ++ later)) whole ∙ ap (λ k. take k (take s rest ++ later)) cut ∙ take-append-add (take s rest) later (length text - (j + 1) * s)
-        ∙ ap (λ x. take s rest ++ x) (here ∙ ap (λ k. drop k text) (next ∙ (let e : j * s + 1 * s ≡ j * s + s = omega arith in e)) ∙ sym (drop-drop s (j * s) text)) ∙ take-append-drop s rest
+          let part : length (take s rest) ≡ s = length-take-le s rest (omega (arith, full, long)) in
+          let whole : slice_at s text j ≡ take s rest = ap (λ k. take s rest ++ replicate k 0) (let e : s - length (take s rest) ≡ 0 = omega (arith, part) in e) ∙ append-nil (take s rest) in
+          let cut : m ≡ length (take s rest) + (length text - (j + 1) * s) = omega (arith, part, full, next) in
+          ap (λ x. take m (x ++ later)) whole ∙ ap (λ k. take k (take s rest ++ later)) cut ∙ take-append-add (take s rest) later (length text - (j + 1) * s)
+          ∙ ap (λ x. take s rest ++ x) (here ∙ ap (λ k. drop k text) (next ∙ (let e : j * s + 1 * s ≡ j * s + s = omega arith in e)) ∙ sym (drop-drop s (j * s) text)) ∙ take-append-drop s rest
       | inr short ↦
-        let whole : take s rest ≡ rest = take_all s rest (omega (arith, short, long)) in
-        ap (λ x. take m ((x ++ replicate (s - length x) 0) ++ later)) whole ∙ ap (take m) (append_assoc rest (replicate (s - length rest) 0) later)
-        ∙ ap (λ k. take k (rest ++ (replicate (s - length rest) 0 ++ later))) (sym long) ∙ take-append_seam rest (replicate (s - length rest) 0 ++ later)
+          let whole : take s rest ≡ rest = take_all s rest (omega (arith, short, long)) in
+          ap (λ x. take m ((x ++ replicate (s - length x) 0) ++ later)) whole ∙ ap (take m) (append_assoc rest (replicate (s - length rest) 0) later)
+          ∙ ap (λ k. take k (rest ++ (replicate (s - length rest) 0 ++ later))) (sym long) ∙ take-append_seam rest (replicate (s - length rest) 0 ++ later)
     ]
   where
     cases_le : (a b : ℕ) → (a ≤ b) ⊎ (b < a)
