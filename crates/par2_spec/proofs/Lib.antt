@@ -29,3 +29,4 @@ pub mod RowsFolders
 pub mod RowsRank
 pub mod UniqueLaws
 pub mod RestoredLaws
+pub mod FilesLaws

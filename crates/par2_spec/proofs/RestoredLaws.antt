@@ -34,7 +34,7 @@ length-slice_at s text j =
     let fill : length zeros ≡ s - length part = length-replicate (s - length part) 0 in
     length-append part zeros ∙ (let e : length part + length zeros ≡ s = omega (arith, size, fill) in e)
 
-abbrev AreBytes : List ℕ → Type 0
+abbrev pub AreBytes : List ℕ → Type 0
 AreBytes bytes = AllByRecursion (λ b. b < 256) bytes
 
 bytes-take : (n : ℕ) (xs : List ℕ) → AreBytes xs → AreBytes (take n xs)
@@ -160,7 +160,7 @@ cut_files s (file ∷ files) positive =
 -- ---- what is found is true
 
 -- a window of a searched file that has the checksums of this slice is the slice
-abbrev IsTold : Folder → List (List ℕ) → ℕ → List ℕ → Type 0
+abbrev pub IsTold : Folder → List (List ℕ) → ℕ → List ℕ → Type 0
 IsTold folder searched s slice = AllByRecursion (λ name. AllByRecursion (λ w. is_match (pair_of slice) w ≡ true → w ≡ slice) (windows s (bytes_of folder name))) searched
 
 found_here : (p : List ℕ → Bool) (P : List ℕ → Type 0) (ws : List (List ℕ)) → AllByRecursion (λ w. p w ≡ true → P w) ws → (w : List ℕ) → find p ws ≡ Some w → P w
