@@ -1,12 +1,11 @@
 -- A repair leaves each of the files that a set was made from.
-use Rattle.std.proofs.Common.{◌≡◌, ℕ, zero, suc, ◌+◌, ◌*◌, ◌%◌, ◌^◌, ◌<◌, ◌≤◌, List, [], ◌∷◌, ◌++◌, length, map, refl, sym, ap, ◌∙◌, subst, cond, true, false, Bool, not, ◌&&◌, ◌||◌, arith, inl, inr}
-use Rattle.std.specs.Prelude.{flat_map, filter, find, zip, ◌==◌, ◌⊎◌, Option, Some, None, is_some, unwrap_or, Ok, option_to_list, IsTrue, nat_le}
+use Rattle.std.proofs.Common.{◌≡◌, ℕ, zero, suc, ◌+◌, ◌*◌, ◌%◌, ◌^◌, ◌<◌, ◌≤◌, List, [], ◌∷◌, ◌++◌, length, map, refl, sym, ap, ◌∙◌, subst, cond, true, false, Bool, not, ◌&&◌, arith, inl, inr}
+use Rattle.std.specs.Prelude.{filter, find, zip, ◌==◌, ◌⊎◌, Option, Some, None, is_some, unwrap_or, option_to_list, nat_le}
 use Rattle.std.specs.List.{range_with_len, list_all, AllByRecursion}
 use Rattle.std.specs.Option.{ForSome}
 use Rattle.std.specs.FinMap as map_of
 use Rattle.std.specs.Str.{bytes_eq}
 use Rattle.std.proofs.lemmas.Bool.{and_parts, and_from, or_from, or_cases, or_left, or_right, eqb-true, false_from_ne_true}
-use Rattle.std.proofs.lemmas.Simd.{map-map}
 use Rattle.md5.specs.Md5.{md5}
 use Rattle.par2_spec.specs.Checksums.{pair_of}
 use Rattle.par2_spec.specs.Slices.{slice_count, slice_at, slices}
@@ -16,16 +15,15 @@ use Rattle.par2_spec.specs.Names.{is_among}
 use Rattle.par2_spec.specs.Folders.{Folder, File, has, bytes_of, names}
 use Rattle.par2_spec.specs.Volumes.{record_of, all_slices}
 use Rattle.par2_spec.specs.Sets.{ParSet, Target, target_of_file, MadeFrom, is_slice_size}
-use Rattle.par2_spec.specs.Search.{is_intact, is_needing, needing, intact_names, matched, matches, known, lost, survivors, candidates, NoCollision}
-use Rattle.par2_spec.specs.Repairs.{aside, put_aside, names_without_match, rebuilt, files_of_slices, rebuilt_targets, after_repair, after_repair_and_purge, par_files, is_par_file}
-use Rattle.par2_spec.specs.Plans.{matching}
-use Rattle.par2_spec.specs.Rules.{FitsRepair, HoldsRepaired, AreFew, needing_names}
+use Rattle.par2_spec.specs.Search.{is_intact, is_needing, needing, intact_names, matches, known, lost, survivors, NoCollision}
+use Rattle.par2_spec.specs.Repairs.{aside, put_aside, names_without_match, files_of_slices, rebuilt_targets, after_repair, after_repair_and_purge, par_files, is_par_file}
+use Rattle.par2_spec.specs.Rules.{FitsRepair, HoldsRepaired}
 use Rattle.par2_spec.proofs.NamesLaws.{true_from_not, same_name, itself, clash, false_true, among-filter, among-append, apart_by_test, image_of}
 use Rattle.par2_spec.proofs.FoundLaws.{slice_begins, all-filter, all_by_test}
 use Rattle.par2_spec.proofs.RankLaws.{all_weaker}
 use Rattle.par2_spec.proofs.MovesLaws.{get_without}
 use Rattle.par2_spec.proofs.SearchLaws.{pairs_with, found_passes}
-use Rattle.par2_spec.proofs.ReadLaws.{sound_of, size_positive, fits_of, present_searched}
+use Rattle.par2_spec.proofs.ReadLaws.{sound_of, size_positive}
 use Rattle.par2_spec.proofs.RepairLaws.{Fits, fits_all, match_free, aside_no_target, repaired_holds}
 use Rattle.par2_spec.proofs.RestoredLaws.{IsTold, same_slices, true_slices_rebuilt, true_files}
 
@@ -77,7 +75,7 @@ exact_file folder s searched file positive told name i h =
     let count = slice_count s (length file.1) in
     let cut : slices s bytes ≡ map (slice_at s bytes) (range_with_len 0 count) = ap (λ n. map (slice_at s bytes) (range_with_len 0 (slice_count s n))) long in
     let mine = all_weaker (IsTold folder searched s) (λ x. AllByRecursion (λ w. is_match (pair_of x) w ≡ true → w ≡ x) (windows s bytes))
-        (λ x t. at_name (λ n. AllByRecursion (λ w. is_match (pair_of x) w ≡ true → w ≡ x) (windows s (bytes_of folder n))) searched name t i) (slices s file.1) told in
+    (λ x t. at_name (λ n. AllByRecursion (λ w. is_match (pair_of x) w ≡ true → w ≡ x) (windows s (bytes_of folder n))) searched name t i) (slices s file.1) told in
     same_slices s bytes file.1 positive long (cut ∙ matched_slices s bytes file.1 0 count
     (λ j l. subst (λ n. j * s < n) (sym long) (slice_begins (length file.1) s j positive (below j count l))) mine
     (sym (ap (λ ys. list_all (λ z. is_match z.0 z.1) (zip (map pair_of (slices s file.1)) ys)) cut) ∙ r.1))
