@@ -37,7 +37,7 @@ by_true : {b : Bool} → b ≡ true → T b
 by_true e = subst T (sym e) tt
 
 -- the slice of number j begins within the text
-slice_begins : (n s j : ℕ) → 0 < s → j < div_ceil n s → j * s < n
+pub slice_begins : (n s j : ℕ) → 0 < s → j < div_ceil n s → j * s < n
 slice_begins n s j positive h =
     let bound : (div_ceil n s) * s < n + s = (div_ceil_times n s positive).1 in
     let more : (j + 1) * s ≤ (div_ceil n s) * s = mul-le-mul_right s (omega (arith, h)) in
@@ -117,7 +117,7 @@ needing_found folder s names free (t ∷ ts) is_lost positive sized within lost_
     tail None ms q h = or_right (bytes_eq q t.name) (is_among (names_without_match ms) q) h
     tail (Some x) ms q h = h
 
-all-filter : {A : Type 0} (P : A → Type 0) (p : A → Bool) (xs : List A) → AllByRecursion P xs → AllByRecursion P (filter p xs)
+pub all-filter : {A : Type 0} (P : A → Type 0) (p : A → Bool) (xs : List A) → AllByRecursion P xs → AllByRecursion P (filter p xs)
 all-filter P p [] h = tt
 all-filter {A = A} P p (x ∷ xs) h = step (p x) (filter p xs) (all-filter P p xs h.1)
   where
@@ -126,7 +126,7 @@ all-filter {A = A} P p (x ∷ xs) h = step (p x) (filter p xs) (all-filter P p x
     step false ys k = k
 
 -- what holds of those that pass a test and of those that do not holds of all
-all_by_test : {A : Type 0} (P : A → Type 0) (p : A → Bool) (xs : List A) → AllByRecursion (λ x. p x ≡ false → P x) xs → AllByRecursion P (filter p xs) → AllByRecursion P xs
+pub all_by_test : {A : Type 0} (P : A → Type 0) (p : A → Bool) (xs : List A) → AllByRecursion (λ x. p x ≡ false → P x) xs → AllByRecursion P (filter p xs) → AllByRecursion P xs
 all_by_test P p [] out h = tt
 all_by_test {A = A} P p (x ∷ xs) out h = (step (p x) refl (filter p xs) h, all_by_test P p xs out.1 (rest (p x) (filter p xs) h))
   where

@@ -34,3 +34,5 @@ pub mod RowsJournals
 pub mod RowsFolders
 pub mod RowsRank
 pub mod UniqueLaws
+pub mod RestoredLaws
+pub mod FilesLaws

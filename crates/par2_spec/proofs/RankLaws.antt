@@ -35,7 +35,7 @@ test_from_all : {A : Type 0} (p : A → Bool) (xs : List A) → AllByRecursion (
 test_from_all p [] h = refl
 test_from_all p (x ∷ xs) h = and_from _ _ h.0 (test_from_all p xs h.1)
 
-all_weaker : {A : Type 0} (P Q : A → Type 0) → ((x : A) → P x → Q x) → (xs : List A) → AllByRecursion P xs → AllByRecursion Q xs
+pub all_weaker : {A : Type 0} (P Q : A → Type 0) → ((x : A) → P x → Q x) → (xs : List A) → AllByRecursion P xs → AllByRecursion Q xs
 all_weaker P Q f [] h = tt
 all_weaker P Q f (x ∷ xs) h = (f x h.0, all_weaker P Q f xs h.1)
 

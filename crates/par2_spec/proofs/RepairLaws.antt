@@ -153,7 +153,7 @@ module _ (folder : Folder) (set : ParSet) (given : List (List ℕ)) (fits : Fits
   aside_free : (n : List ℕ) → has folder (off n) ≡ false
   aside_free n = has_by_names folder (off n) ∙ (or_parts _ _ (sym (among-append (names folder) targets (off n)) ∙ fits.aside_out n)).0
 
-  aside_no_target : (n : List ℕ) → is_among targets (off n) ≡ false
+  pub aside_no_target : (n : List ℕ) → is_among targets (off n) ≡ false
   aside_no_target n = (or_parts _ _ (sym (among-append (names folder) targets (off n)) ∙ fits.aside_out n)).1
 
   -- the heads of the matches are the needing targets
@@ -171,7 +171,7 @@ module _ (folder : Folder) (set : ParSet) (given : List (List ℕ)) (fits : Fits
   heads_once = subst AreDistinct (sym heads) wanted_once
 
   -- a match was free
-  match_free : (q : List ℕ) → is_among taken_names q ≡ true → (is_among given q ≡ true) × (not (is_among intact q) ≡ true)
+  pub match_free : (q : List ℕ) → is_among taken_names q ≡ true → (is_among given q ≡ true) × (not (is_among intact q) ≡ true)
   unfolding matches
   match_free q h =
       and_parts _ _ (sym (among-filter (λ name. not (is_among intact name)) given q)

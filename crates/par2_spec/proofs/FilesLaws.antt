@@ -1,0 +1,319 @@
+-- A repair leaves each of the files that a set was made from.
+use Rattle.std.proofs.Common.{◌≡◌, ℕ, zero, suc, ◌+◌, ◌*◌, ◌%◌, ◌^◌, ◌<◌, ◌≤◌, List, [], ◌∷◌, ◌++◌, length, map, refl, sym, ap, ◌∙◌, subst, cond, true, false, Bool, not, ◌&&◌, arith, inl, inr}
+use Rattle.std.specs.Prelude.{filter, find, zip, ◌==◌, ◌⊎◌, Option, Some, None, is_some, unwrap_or, option_to_list, nat_le}
+use Rattle.std.specs.List.{range_with_len, list_all, AllByRecursion}
+use Rattle.std.specs.Option.{ForSome}
+use Rattle.std.specs.FinMap as map_of
+use Rattle.std.specs.Str.{bytes_eq}
+use Rattle.std.proofs.lemmas.Bool.{and_parts, and_from, or_from, or_cases, or_left, or_right, eqb-true, false_from_ne_true}
+use Rattle.md5.specs.Md5.{md5}
+use Rattle.par2_spec.specs.Checksums.{pair_of}
+use Rattle.par2_spec.specs.Slices.{slice_count, slice_at, slices}
+use Rattle.par2_spec.specs.Windows.{window, windows, is_match}
+use Rattle.par2_spec.specs.Rank.{IsRepairable}
+use Rattle.par2_spec.specs.Names.{is_among}
+use Rattle.par2_spec.specs.Folders.{Folder, File, has, bytes_of, names}
+use Rattle.par2_spec.specs.Volumes.{record_of, all_slices}
+use Rattle.par2_spec.specs.Sets.{ParSet, Target, target_of_file, MadeFrom, is_slice_size}
+use Rattle.par2_spec.specs.Search.{is_intact, is_needing, needing, intact_names, matches, known, lost, survivors, NoCollision}
+use Rattle.par2_spec.specs.Repairs.{aside, put_aside, names_without_match, files_of_slices, rebuilt_targets, after_repair, after_repair_and_purge, par_files, is_par_file}
+use Rattle.par2_spec.specs.Rules.{FitsRepair, HoldsRepaired}
+use Rattle.par2_spec.proofs.NamesLaws.{true_from_not, same_name, itself, clash, false_true, among-filter, among-append, apart_by_test, image_of}
+use Rattle.par2_spec.proofs.FoundLaws.{slice_begins, all-filter, all_by_test}
+use Rattle.par2_spec.proofs.RankLaws.{all_weaker}
+use Rattle.par2_spec.proofs.MovesLaws.{get_without}
+use Rattle.par2_spec.proofs.SearchLaws.{pairs_with, found_passes}
+use Rattle.par2_spec.proofs.ReadLaws.{sound_of, size_positive}
+use Rattle.par2_spec.proofs.RepairLaws.{Fits, fits_all, match_free, aside_no_target, repaired_holds}
+use Rattle.par2_spec.proofs.RestoredLaws.{IsTold, same_slices, true_slices_rebuilt, true_files}
+
+-- ---- bytes that are intact for a file are the file's
+
+at_range : {A : Type 0} (P : A → Type 0) (f : ℕ → A) (a n o : ℕ) → AllByRecursion P (map f (range_with_len a n)) → a ≤ o → o < a + n → P (f o)
+at_range P f a zero o h low high = absurd (omega (arith, low, high))
+at_range P f a (suc n) o h low high = elim (cases_le a o low) as (λ _. P (f o)) [
+  | inl same ↦ subst (λ x. P (f x)) same h.0
+  | inr more ↦ at_range P f (a + 1) n o h.1 (omega (arith, more)) (omega (arith, high))
+]
+  where
+    cases_le : (b y : ℕ) → b ≤ y → (b ≡ y) ⊎ (b < y)
+    cases_le zero zero l = inl refl
+    cases_le zero (suc y) l = inr (omega arith)
+    cases_le (suc b) zero l = absurd (omega (arith, l))
+    cases_le (suc b) (suc y) l = elim (cases_le b y (omega (arith, l))) as (λ _. (suc b ≡ suc y) ⊎ (suc b < suc y)) [ inl e ↦ inl (ap suc e) | inr s ↦ inr (omega (arith, s)) ]
+
+at_name : (P : List ℕ → Type 0) (names : List (List ℕ)) (q : List ℕ) → AllByRecursion P names → is_among names q ≡ true → P q
+at_name P [] q h i = absurd (false_true i)
+at_name P (x ∷ names) q h i = elim (or_cases (bytes_eq q x) (is_among names q) i) as (λ _. P q) [
+  | inl here ↦ subst P (sym (same_name q x here)) h.0
+  | inr there ↦ at_name P names q h.1 there
+]
+
+matched_slices : (s : ℕ) (bytes text : List ℕ) (a k : ℕ) → ((j : ℕ) → j < a + k → j * s < length bytes)
+    → AllByRecursion (λ x. AllByRecursion (λ w. is_match (pair_of x) w ≡ true → w ≡ x) (windows s bytes)) (map (slice_at s text) (range_with_len a k))
+    → list_all (λ z. is_match z.0 z.1) (zip (map pair_of (map (slice_at s text) (range_with_len a k))) (map (slice_at s bytes) (range_with_len a k))) ≡ true
+    → map (slice_at s bytes) (range_with_len a k) ≡ map (slice_at s text) (range_with_len a k)
+matched_slices s bytes text a zero begins told h = refl
+matched_slices s bytes text a (suc k) begins told h =
+    let x = slice_at s text a in
+    let r = and_parts (is_match (pair_of x) (slice_at s bytes a)) (list_all (λ z. is_match z.0 z.1) (zip (map pair_of (map (slice_at s text) (range_with_len (a + 1) k))) (map (slice_at s bytes) (range_with_len (a + 1) k)))) h in
+    let inside : a * s < length bytes = begins a (omega arith) in
+    let same : slice_at s bytes a ≡ x = at_range (λ w. is_match (pair_of x) w ≡ true → w ≡ x) (window s bytes) 0 (length bytes) (a * s) told.0 (omega arith) (omega (arith, inside)) r.0 in
+    ap (λ y. y ∷ map (slice_at s bytes) (range_with_len (a + 1) k)) same
+    ∙ ap (λ ys. x ∷ ys) (matched_slices s bytes text (a + 1) k (λ j l. begins j (omega (arith, l))) told.1 r.1)
+
+-- the file is the only text that is intact for it among the searched ones
+abbrev IsExact : Folder → ℕ → List (List ℕ) → File → Type 0
+IsExact folder s searched file = (name : List ℕ) → is_among searched name ≡ true → is_intact s (target_of_file s file) (bytes_of folder name) ≡ true → bytes_of folder name ≡ file.1
+
+exact_file : (folder : Folder) (s : ℕ) (searched : List (List ℕ)) (file : File) → 0 < s → AllByRecursion (IsTold folder searched s) (slices s file.1) → IsExact folder s searched file
+unfolding record_of
+exact_file folder s searched file positive told name i h =
+    let bytes = bytes_of folder name in
+    let r = and_parts (length bytes == length file.1) (list_all (λ z. is_match z.0 z.1) (zip (map pair_of (slices s file.1)) (slices s bytes))) h in
+    let long : length bytes ≡ length file.1 = eqb-true (length bytes) (length file.1) r.0 in
+    let count = slice_count s (length file.1) in
+    let cut : slices s bytes ≡ map (slice_at s bytes) (range_with_len 0 count) = ap (λ n. map (slice_at s bytes) (range_with_len 0 (slice_count s n))) long in
+    let mine = all_weaker (IsTold folder searched s) (λ x. AllByRecursion (λ w. is_match (pair_of x) w ≡ true → w ≡ x) (windows s bytes))
+    (λ x t. at_name (λ n. AllByRecursion (λ w. is_match (pair_of x) w ≡ true → w ≡ x) (windows s (bytes_of folder n))) searched name t i) (slices s file.1) told in
+    same_slices s bytes file.1 positive long (cut ∙ matched_slices s bytes file.1 0 count
+    (λ j l. subst (λ n. j * s < n) (sym long) (slice_begins (length file.1) s j positive (below j count l))) mine
+    (sym (ap (λ ys. list_all (λ z. is_match z.0 z.1) (zip (map pair_of (slices s file.1)) ys)) cut) ∙ r.1))
+  where
+    below : (j n : ℕ) → j < 0 + n → j < n
+    below j n l = omega (arith, l)
+
+all_parts : {A : Type 0} (P : A → Type 0) (xs ys : List A) → AllByRecursion P (xs ++ ys) → AllByRecursion P xs × AllByRecursion P ys
+all_parts P [] ys h = (tt, h)
+all_parts P (x ∷ xs) ys h = let r = all_parts P xs ys h.1 in ((h.0, r.0), r.1)
+
+exact_files : (folder : Folder) (s : ℕ) (searched : List (List ℕ)) (files : List File) → 0 < s → NoCollision folder searched s (all_slices s files) → AllByRecursion (IsExact folder s searched) files
+exact_files folder s searched [] positive told = tt
+exact_files folder s searched (file ∷ files) positive told =
+    let r = all_parts (IsTold folder searched s) (slices s file.1) (all_slices s files) told in
+    (exact_file folder s searched file positive r.0, exact_files folder s searched files positive r.1)
+
+-- ---- file by file
+
+-- the folder has the file
+abbrev pub Holds : Folder → File → Type 0
+Holds folder file = map_of.get folder file.0 ≡ Some file.1
+
+needing_hold : (folder after : Folder) (s : ℕ) (searched free : List (List ℕ)) (files : List File) (is_written : List ℕ → Bool)
+    → ((q : List ℕ) → is_among free q ≡ true → is_among searched q ≡ true)
+    → ((q : List ℕ) → is_among (names_without_match (pairs_with folder s free (map (target_of_file s) files))) q ≡ true → is_written q ≡ true)
+    → AllByRecursion (λ file. is_written file.0 ≡ true → Holds after file) files → AllByRecursion (IsExact folder s searched) files
+    → AllByRecursion (λ m. ForSome m.1 (λ name. map_of.get after m.0.name ≡ Some (bytes_of folder name))) (pairs_with folder s free (map (target_of_file s) files))
+    → AllByRecursion (Holds after) files
+unfolding record_of
+needing_hold folder after s searched free [] is_written within written by_slices exact by_match = tt
+needing_hold folder after s searched free (file ∷ files) is_written within written by_slices exact by_match =
+    let t = target_of_file s file in
+    let p = (λ (name : List ℕ). is_intact s t (bytes_of folder name)) in
+    let later = filter (λ name. not (is_among (option_to_list (find p free)) name)) free in (
+      head (find p free) (found_passes p free) (written file.0) by_match.0,
+      needing_hold folder after s searched later files is_written
+          (λ q h. within q (and_parts _ _ (sym (among-filter (λ name. not (is_among (option_to_list (find p free)) name)) free q) ∙ h)).0)
+          (λ q h. written q (tail (find p free) (pairs_with folder s later (map (target_of_file s) files)) q h))
+          by_slices.1 exact.1 by_match.1,
+    )
+  where
+    head : (o : Option (List ℕ)) → ((x : List ℕ) → o ≡ Some x → (is_among free x ≡ true) × (is_intact s (target_of_file s file) (bytes_of folder x) ≡ true))
+        → (is_among (names_without_match ((target_of_file s file, o) ∷ pairs_with folder s (filter (λ name. not (is_among (option_to_list o) name)) free) (map (target_of_file s) files))) file.0 ≡ true → is_written file.0 ≡ true)
+        → ForSome o (λ name. map_of.get after file.0 ≡ Some (bytes_of folder name)) → Holds after file
+    head None k w m = by_slices.0 (w (or_left _ _ (itself file.0)))
+    head (Some x) k w m = let r = k x refl in m x refl ∙ ap Some (exact.0 x (within x r.0) r.1)
+
+    tail : (o : Option (List ℕ)) (ms : List (Target × Option (List ℕ))) (q : List ℕ) → is_among (names_without_match ms) q ≡ true → is_among (names_without_match ((target_of_file s file, o) ∷ ms)) q ≡ true
+    tail None ms q h = or_right (bytes_eq q file.0) (is_among (names_without_match ms) q) h
+    tail (Some x) ms q h = h
+
+-- those that a test chooses, written from slices
+written_files : (after : Folder) (s : ℕ) (test : List ℕ → Bool) (files : List File) → AllByRecursion (λ c. map_of.get after c.0.name ≡ Some c.1) (filter (λ c. test c.0.name) (map (λ (file : File). let c : Target × List ℕ = (target_of_file s file, file.1) in c) files))
+    → AllByRecursion (λ file. test file.0 ≡ true → Holds after file) files
+unfolding record_of
+written_files after s test [] h = tt
+written_files after s test (file ∷ files) h = step (test file.0) refl (filter (λ c. test c.0.name) (map (λ (f : File). let c : Target × List ℕ = (target_of_file s f, f.1) in c) files)) h (written_files after s test files)
+  where
+    P : Target × List ℕ → Type 0
+    P c = map_of.get after c.0.name ≡ Some c.1
+
+    step : (b : Bool) → test file.0 ≡ b → (cs : List (Target × List ℕ)) → AllByRecursion P (cond b ((target_of_file s file, file.1) ∷ cs) cs) → (AllByRecursion P cs → AllByRecursion (λ f. test f.0 ≡ true → Holds after f) files)
+        → AllByRecursion (λ f. test f.0 ≡ true → Holds after f) (file ∷ files)
+    step true e cs k later = (λ i. k.0, later k.1)
+    step false e cs k later = (λ i. absurd (clash i e), later k)
+
+-- ---- names of targets
+
+all_names : {A : Type 0} (name : A → List ℕ) (xs : List A) → AllByRecursion (λ x. is_among (map name xs) (name x) ≡ true) xs
+all_names name [] = tt
+all_names name (x ∷ xs) = (or_left _ _ (itself (name x)), all_weaker (λ y. is_among (map name xs) (name y) ≡ true) (λ y. is_among (map name (x ∷ xs)) (name y) ≡ true) (λ y h. or_right (bytes_eq (name y) (name x)) (is_among (map name xs) (name y)) h) xs (all_names name xs))
+
+chosen_names : {A : Type 0} (name : A → List ℕ) (p : A → Bool) (xs : List A) → AllByRecursion (λ x. p x ≡ true → is_among (map name (filter p xs)) (name x) ≡ true) xs
+chosen_names name p [] = tt
+chosen_names {A = A} name p (x ∷ xs) = (
+  λ e. ap (λ b. is_among (map name (cond b (x ∷ filter p xs) (filter p xs))) (name x)) e ∙ or_left _ _ (itself (name x)),
+  all_weaker (λ y. p y ≡ true → is_among (map name (filter p xs)) (name y) ≡ true) (λ y. p y ≡ true → is_among (map name (filter p (x ∷ xs))) (name y) ≡ true) (λ y h e. step (p x) (filter p xs) (name y) (h e)) xs (chosen_names name p xs),
+)
+  where
+    step : (b : Bool) (ys : List A) (q : List ℕ) → is_among (map name ys) q ≡ true → is_among (map name (cond b (x ∷ ys) ys)) q ≡ true
+    step true ys q h = or_right (bytes_eq q (name x)) (is_among (map name ys) q) h
+    step false ys q h = h
+
+all_both : {A : Type 0} (P Q : A → Type 0) (xs : List A) → AllByRecursion P xs → AllByRecursion Q xs → AllByRecursion (λ x. P x × Q x) xs
+all_both P Q [] h k = tt
+all_both P Q (x ∷ xs) h k = ((h.0, k.0), all_both P Q xs h.1 k.1)
+
+all_unmap : {A B : Type 0} (P : B → Type 0) (g : A → B) (xs : List A) → AllByRecursion P (map g xs) → AllByRecursion (λ x. P (g x)) xs
+all_unmap P g [] h = tt
+all_unmap P g (x ∷ xs) h = (h.0, all_unmap P g xs h.1)
+
+filter-map : {A B : Type 0} (p : B → Bool) (g : A → B) (xs : List A) → filter p (map g xs) ≡ map g (filter (λ x. p (g x)) xs)
+filter-map p g [] = refl
+filter-map {A = A} p g (x ∷ xs) = step (p (g x)) (filter (λ y. p (g y)) xs) (filter-map p g xs)
+  where
+    step : (b : Bool) (ys : List A) → filter p (map g xs) ≡ map g ys → cond b (g x ∷ filter p (map g xs)) (filter p (map g xs)) ≡ map g (cond b (x ∷ ys) ys)
+    step true ys e = ap (λ zs. g x ∷ zs) e
+    step false ys e = e
+
+-- ---- after a repair
+
+is_there : (o : Option (List ℕ)) → is_some o ≡ true → o ≡ Some (unwrap_or o [])
+is_there None h = absurd (false_true h)
+is_there (Some x) h = refl
+
+twice : (b : Bool) → b ≡ not (not b)
+twice true = refl
+twice false = refl
+
+module _ (folder : Folder) (base : List ℕ) (files : List File) (s : ℕ) (searched : List (List ℕ)) (m : MadeFrom folder base files s) (fits : FitsRepair folder m.set searched) where
+  abbrev set : ParSet
+  set = m.set
+
+  abbrev after : Folder
+  after = after_repair folder m.set searched
+
+  abbrev targets : List (List ℕ)
+  targets = map (λ t. t.name) m.set.targets
+
+  abbrev all : Fits folder m.set searched
+  all = fits_all folder m.set searched fits
+
+  abbrev IsWanted : File → Bool
+  IsWanted file = is_needing folder m.set (target_of_file s file)
+
+  abbrev free : List (List ℕ)
+  free = filter (λ name. not (is_among (intact_names folder m.set) name)) searched
+
+  abbrev holds : HoldsRepaired folder m.set searched (after_repair folder m.set searched)
+  holds = repaired_holds folder m.set searched (fits_all folder m.set searched fits)
+
+  -- each target's name is one, and an intact one's is an intact one's
+  abbrev IsNamed : Target → Type 0
+  IsNamed t = (is_among (map (λ u. u.name) m.set.targets) t.name ≡ true) × (not (is_needing folder m.set t) ≡ true → is_among (intact_names folder m.set) t.name ≡ true)
+
+  named : AllByRecursion (λ file. IsNamed (target_of_file s file)) files
+  named =
+      all_unmap IsNamed (target_of_file s) files (subst (AllByRecursion IsNamed) m.targets
+      (all_both (λ t. is_among targets t.name ≡ true) (λ t. not (is_needing folder m.set t) ≡ true → is_among (intact_names folder m.set) t.name ≡ true) m.set.targets (all_names (λ t. t.name) m.set.targets) (chosen_names (λ t. t.name) (λ t. not (is_needing folder m.set t)) m.set.targets)))
+
+  untouched : (q : List ℕ) → is_among targets q ≡ true → is_among (intact_names folder m.set) q ≡ true → map_of.get after q ≡ map_of.get folder q
+  untouched q own intact =
+      holds.others q
+      (apart_by_test (λ t. t.name) (λ t. not (is_needing folder m.set t)) (is_needing folder m.set) (λ t. twice (is_needing folder m.set t)) m.set.targets all.once q intact)
+      (false_from_ne_true _ (λ i. clash intact (false_of (match_free folder m.set searched all q i).1)))
+      (false_from_ne_true _ (λ i. let r = image_of (aside folder m.set) (put_aside folder m.set) q i in clash own (subst (λ x. is_among targets x ≡ false) (sym r.2) (aside_no_target folder m.set searched all r.0))))
+    where
+      false_of : {b : Bool} → not b ≡ true → b ≡ false
+      false_of {b = true} e = absurd (false_true e)
+      false_of {b = false} e = refl
+
+  intact_hold : ((q : List ℕ) → is_among targets q ≡ true → has folder q ≡ true → is_among searched q ≡ true) → (fs : List File) → AllByRecursion (λ file. IsNamed (target_of_file s file)) fs → AllByRecursion (IsExact folder s searched) fs
+      → AllByRecursion (λ file. IsWanted file ≡ false → Holds after file) fs
+  unfolding record_of
+  intact_hold present [] n x = tt
+  intact_hold present (file ∷ fs) n x = (
+    λ e.
+        let r = and_parts (has folder file.0) (is_intact m.set.slice_size (target_of_file s file) (bytes_of folder file.0)) (true_from_not (has folder file.0 && is_intact m.set.slice_size (target_of_file s file) (bytes_of folder file.0)) e) in
+        let same = x.0 file.0 (present file.0 n.0.0 r.0) (sym (ap (λ k. is_intact k (target_of_file s file) (bytes_of folder file.0)) m.slice_size) ∙ r.1) in
+        untouched file.0 n.0.0 (n.0.1 (ap not e)) ∙ is_there (map_of.get folder file.0) r.0 ∙ ap Some same,
+    intact_hold present fs n.1 x.1,
+  )
+
+  -- each file stands there
+  pub repaired_files : ((q : List ℕ) → is_among (map (λ t. t.name) m.set.targets) q ≡ true → has folder q ≡ true → is_among searched q ≡ true) → 0 < s → s % 2 ≡ 0 → NoCollision folder searched s (all_slices s files)
+      → AllByRecursion (λ file. AllByRecursion (λ b. b < 256) file.1) files → IsRepairable (lost (known folder m.set searched)) (survivors m.set) → AllByRecursion (Holds (after_repair folder m.set searched)) files
+  unfolding matches rebuilt_targets
+  repaired_files present positive even told bytes repairable =
+      let exact = exact_files folder s searched files positive told in
+      let test = is_among (names_without_match (matches folder m.set searched)) in
+      let wanted = filter IsWanted files in
+      let needed : needing folder m.set ≡ map (target_of_file s) wanted = ap (filter (is_needing folder m.set)) m.targets ∙ filter-map (is_needing folder m.set) (target_of_file s) files in
+      let pairs : matches folder m.set searched ≡ pairs_with folder s free (map (target_of_file s) wanted) = ap (λ ts. pairs_with folder m.set.slice_size free ts) needed ∙ ap (λ n. pairs_with folder n free (map (target_of_file s) wanted)) m.slice_size in
+      let cut = ap (files_of_slices m.set) (true_slices_rebuilt folder base files s searched m even told bytes repairable) ∙ true_files folder base files s m positive in
+      let by_slices = written_files after s test files (subst (λ cs. AllByRecursion (λ c. map_of.get after c.0.name ≡ Some c.1) (filter (λ c. test c.0.name) cs)) cut holds.written_ones) in
+      all_by_test (Holds after) IsWanted files (intact_hold present files named exact)
+      (needing_hold folder after s searched free wanted test
+      (λ q h. (and_parts _ _ (sym (among-filter (λ name. not (is_among (intact_names folder m.set) name)) searched q) ∙ h)).0)
+      (λ q h. ap (λ ms. is_among (names_without_match ms) q) pairs ∙ h)
+      (all-filter (λ file. test file.0 ≡ true → Holds after file) IsWanted files by_slices)
+      (all-filter (IsExact folder s searched) IsWanted files exact)
+      (subst (AllByRecursion (λ n. ForSome n.1 (λ name. map_of.get after n.0.name ≡ Some (bytes_of folder name)))) pairs holds.matched_ones))
+
+  -- with their digests
+  pub right_digests : 0 < s → s % 2 ≡ 0 → NoCollision folder searched s (all_slices s files) → AllByRecursion (λ file. AllByRecursion (λ b. b < 256) file.1) files → IsRepairable (lost (known folder m.set searched)) (survivors m.set)
+      → list_all (λ c. bytes_eq (md5 c.1) c.0.digest) (rebuilt_targets folder m.set searched) ≡ true
+  unfolding rebuilt_targets record_of
+  right_digests positive even told bytes repairable =
+      let cut = ap (files_of_slices m.set) (true_slices_rebuilt folder base files s searched m even told bytes repairable) ∙ true_files folder base files s m positive in
+      ap (λ cs. list_all is_right (filter (λ c. is_among (names_without_match (matches folder m.set searched)) c.0.name) cs)) cut ∙ some_right (λ c. is_among (names_without_match (matches folder m.set searched)) c.0.name) files
+    where
+      is_right : Target × List ℕ → Bool
+      is_right c = bytes_eq (md5 c.1) c.0.digest
+
+      some_right : (test : Target × List ℕ → Bool) (fs : List File) → list_all is_right (filter test (map (λ (file : File). let c : Target × List ℕ = (target_of_file s file, file.1) in c) fs)) ≡ true
+      some_right test [] = refl
+      some_right test (file ∷ fs) = step (test (target_of_file s file, file.1)) (filter test (map (λ (f : File). let c : Target × List ℕ = (target_of_file s f, f.1) in c) fs)) (some_right test fs)
+        where
+          step : (b : Bool) (cs : List (Target × List ℕ)) → list_all is_right cs ≡ true → list_all is_right (cond b ((target_of_file s file, file.1) ∷ cs) cs) ≡ true
+          step true cs h = and_from _ _ (itself (md5 file.1)) h
+          step false cs h = h
+
+  -- a repair that also purges leaves them too
+  abbrev gone : List (List ℕ)
+  gone = map (aside folder m.set) (put_aside folder m.set) ++ par_files folder m.set
+
+  no_par_file : (q : List ℕ) → is_among targets q ≡ true → is_among (par_files folder m.set) q ≡ true → ⊥
+  no_par_file q own i =
+      let is_par = (and_parts _ _ (sym (among-filter (is_par_file folder m.set) (names folder) q) ∙ i)).1 in
+      let none = (and_parts _ _ (and_parts _ _ (and_parts _ _ is_par).0).0).1 in
+      clash none (ap not own)
+
+  no_aside : (q : List ℕ) → is_among targets q ≡ true → is_among (map (aside folder m.set) (put_aside folder m.set)) q ≡ true → ⊥
+  no_aside q own i = let r = image_of (aside folder m.set) (put_aside folder m.set) q i in clash own (subst (λ x. is_among targets x ≡ false) (sym r.2) (aside_no_target folder m.set searched all r.0))
+
+  stays : (q : List ℕ) → is_among targets q ≡ true → is_among gone q ≡ false
+  stays q own =
+      among-append (map (aside folder m.set) (put_aside folder m.set)) (par_files folder m.set) q
+      ∙ or_from _ _ (false_from_ne_true _ (no_aside q own)) (false_from_ne_true _ (no_par_file q own))
+
+  all_stay : (fs : List File) → AllByRecursion (λ file. IsNamed (target_of_file s file)) fs → AllByRecursion (Holds after) fs → AllByRecursion (Holds (after_repair_and_purge folder m.set searched)) fs
+  unfolding record_of
+  all_stay [] n k = tt
+  all_stay (file ∷ fs) n k = (get_without gone after file.0 ∙ ap (λ b. cond b None (map_of.get after file.0)) (stays file.0 n.0.0) ∙ k.0, all_stay fs n.1 k.1)
+
+  pub purged_files : AllByRecursion (Holds (after_repair folder m.set searched)) files → AllByRecursion (Holds (after_repair_and_purge folder m.set searched)) files
+  purged_files h = all_stay files named h
+
+-- ---- of a command
+
+pub size_even : (s : ℕ) → is_slice_size s ≡ true → s % 2 ≡ 0
+size_even s h =
+    let fours : s % 4 ≡ 0 = eqb-true (s % 4) 0 (and_parts (s % 4 == 0) (nat_le 4 s) (and_parts (s % 4 == 0 && nat_le 4 s) (nat_le s (2 ^ 30)) h).0).0 in
+    omega (arith, fours)
+
+-- what a set that was made from files gives for its slice size
+pub made_size : (folder : Folder) (base : List ℕ) (files : List File) (s : ℕ) (m : MadeFrom folder base files s) → (0 < s) × (s % 2 ≡ 0)
+made_size folder base files s m =
+    let right = subst (λ n. is_slice_size n ≡ true) m.slice_size (sound_of folder base m.set m.reads).size in
+    (size_positive s right, size_even s right)

@@ -1,0 +1,223 @@
+-- The slices of a file give the file back, and those of the files that a set was made from are rebuilt.
+use Rattle.std.proofs.Common.{◌≡◌, ℕ, zero, suc, ◌+◌, ◌-◌, ◌*◌, ◌%◌, ◌<◌, ◌≤◌, List, [], ◌∷◌, ◌++◌, length, map, take, drop, refl, sym, ap, ◌∙◌, subst, cond, true, false, Bool, arith, inl, inr, length-append, length-drop}
+use Rattle.std.specs.Prelude.{flat_map, find, zip, replicate, min, ◌==◌, ◌⊎◌, Some, is_some, unwrap_or}
+use Rattle.std.specs.List.{range_with_len, list_any, concat, AllByRecursion, AllZip}
+use Rattle.std.specs.Option.{ForSome}
+use Rattle.std.specs.FinMap as map_of
+use Rattle.std.proofs.Math.Nat.{add-mul}
+use Rattle.std.proofs.Math.Seq.{drop-append_seam, take-append_seam, take-append-add}
+use Rattle.std.proofs.lemmas.Grind.{div_ceil_times}
+use Rattle.std.proofs.lemmas.List.{length-take, length-take-le, length-replicate, length-map, take_all, drop_all, take-append-drop, drop-drop, map-append, append_assoc, append-nil}
+use Rattle.par2_spec.specs.Checksums.{pair_of}
+use Rattle.par2_spec.specs.Slices.{slice_count, slice_at, slices}
+use Rattle.par2_spec.specs.Windows.{windows, is_match, found}
+use Rattle.par2_spec.specs.Recovery.{recovery}
+use Rattle.par2_spec.specs.Rank.{Agrees, kept_slices, IsRepairable, kept}
+use Rattle.par2_spec.specs.Folders.{Folder, File, bytes_of}
+use Rattle.par2_spec.specs.Volumes.{record_of, all_slices}
+use Rattle.par2_spec.specs.Sets.{Target, target_of_file, MadeFrom}
+use Rattle.par2_spec.specs.Search.{all_pairs, known, lost, survivors, NoCollision}
+use Rattle.par2_spec.specs.Repairs.{rebuilt, cut_into, files_of_slices}
+use Rattle.par2_spec.proofs.NamesLaws.{false_true}
+use Rattle.par2_spec.proofs.ListsLaws.{all-append}
+use Rattle.par2_spec.proofs.FoundLaws.{all-filter}
+use Rattle.par2_spec.proofs.RankLaws.{rebuilt_is_only}
+use Rattle.par2_spec.proofs.UniqueLaws.{agreeing_is_rebuilt}
+
+-- ---- a slice
+
+pub length-slice_at : (s : ℕ) (text : List ℕ) (j : ℕ) → length (slice_at s text j) ≡ s
+length-slice_at s text j =
+    let part = take s (drop (j * s) text) in
+    let size : length part ≡ min s (length (drop (j * s) text)) = length-take s (drop (j * s) text) in
+    let zeros : List ℕ = replicate (s - length part) 0 in
+    let fill : length zeros ≡ s - length part = length-replicate (s - length part) 0 in
+    length-append part zeros ∙ (let e : length part + length zeros ≡ s = omega (arith, size, fill) in e)
+
+abbrev pub AreBytes : List ℕ → Type 0
+AreBytes bytes = AllByRecursion (λ b. b < 256) bytes
+
+bytes-take : (n : ℕ) (xs : List ℕ) → AreBytes xs → AreBytes (take n xs)
+bytes-take zero xs h = tt
+bytes-take (suc n) [] h = tt
+bytes-take (suc n) (x ∷ xs) h = (h.0, bytes-take n xs h.1)
+
+bytes-drop : (n : ℕ) (xs : List ℕ) → AreBytes xs → AreBytes (drop n xs)
+bytes-drop zero xs h = h
+bytes-drop (suc n) [] h = tt
+bytes-drop (suc n) (x ∷ xs) h = bytes-drop n xs h.1
+
+bytes-zeros : (n : ℕ) → AreBytes (replicate n 0)
+bytes-zeros zero = tt
+bytes-zeros (suc n) = (omega arith, bytes-zeros n)
+
+bytes-slice_at : (s : ℕ) (text : List ℕ) (j : ℕ) → AreBytes text → AreBytes (slice_at s text j)
+bytes-slice_at s text j h = all-append (λ b. b < 256) (take s (drop (j * s) text)) (replicate (s - length (take s (drop (j * s) text))) 0) (bytes-take s (drop (j * s) text) (bytes-drop (j * s) text h)) (bytes-zeros _)
+
+of_range : {A : Type 0} (P : A → Type 0) (f : ℕ → A) → ((j : ℕ) → P (f j)) → (a n : ℕ) → AllByRecursion P (map f (range_with_len a n))
+of_range P f h a zero = tt
+of_range P f h a (suc n) = (h a, of_range P f h (a + 1) n)
+
+-- ---- the slices of a text, joined, begin with the text
+
+rest_joined : (s : ℕ) (text : List ℕ) (n j : ℕ) → length text ≤ (j + n) * s → take (length text - j * s) (concat (map (slice_at s text) (range_with_len j n))) ≡ drop (j * s) text
+rest_joined s text zero j le =
+    let all : length text ≤ j * s = (let e : j + 0 ≡ j = omega arith in subst (λ m. length text ≤ m * s) e le) in
+    ap (λ n. take n []) (let e : length text - j * s ≡ 0 = omega (arith, all) in e) ∙ sym (drop_all (j * s) text all)
+rest_joined s text (suc n) j le =
+    let rest = drop (j * s) text in
+    let m = length text - j * s in
+    let long : length rest ≡ m = length-drop (j * s) text in
+    let later = concat (map (slice_at s text) (range_with_len (j + 1) n)) in
+    let next : (j + 1) * s ≡ j * s + 1 * s = add-mul j 1 s in
+    let here = rest_joined s text n (j + 1) (let e : j + suc n ≡ j + 1 + n = omega arith in subst (λ k. length text ≤ k * s) e le) in
+    elim (cases_le s m) as (λ _. take m (slice_at s text j ++ later) ≡ rest) [
+      | inl full ↦
+          let part : length (take s rest) ≡ s = length-take-le s rest (omega (arith, full, long)) in
+          let whole : slice_at s text j ≡ take s rest = ap (λ k. take s rest ++ replicate k 0) (let e : s - length (take s rest) ≡ 0 = omega (arith, part) in e) ∙ append-nil (take s rest) in
+          let cut : m ≡ length (take s rest) + (length text - (j + 1) * s) = omega (arith, part, full, next) in
+          ap (λ x. take m (x ++ later)) whole ∙ ap (λ k. take k (take s rest ++ later)) cut ∙ take-append-add (take s rest) later (length text - (j + 1) * s)
+          ∙ ap (λ x. take s rest ++ x) (here ∙ ap (λ k. drop k text) (next ∙ (let e : j * s + 1 * s ≡ j * s + s = omega arith in e)) ∙ sym (drop-drop s (j * s) text)) ∙ take-append-drop s rest
+      | inr short ↦
+          let whole : take s rest ≡ rest = take_all s rest (omega (arith, short, long)) in
+          ap (λ x. take m ((x ++ replicate (s - length x) 0) ++ later)) whole ∙ ap (take m) (append_assoc rest (replicate (s - length rest) 0) later)
+          ∙ ap (λ k. take k (rest ++ (replicate (s - length rest) 0 ++ later))) (sym long) ∙ take-append_seam rest (replicate (s - length rest) 0 ++ later)
+    ]
+  where
+    cases_le : (a b : ℕ) → (a ≤ b) ⊎ (b < a)
+    cases_le zero b = inl (omega arith)
+    cases_le (suc a) zero = inr (omega arith)
+    cases_le (suc a) (suc b) = elim (cases_le a b) as (λ _. (suc a ≤ suc b) ⊎ (suc b < suc a)) [ inl l ↦ inl (omega (arith, l)) | inr l ↦ inr (omega (arith, l)) ]
+
+zero_plus : (n : ℕ) → n ≡ 0 + n
+zero_plus n = omega arith
+
+no_times : (s : ℕ) → 0 * s ≡ 0
+no_times s = omega arith
+
+less_none : (n m : ℕ) → m ≡ 0 → n ≡ n - m
+less_none n m e = omega (arith, e)
+
+pub slices_joined : (s : ℕ) (text : List ℕ) → 0 < s → take (length text) (concat (slices s text)) ≡ text
+slices_joined s text positive =
+    let enough : length text ≤ (slice_count s (length text)) * s = (div_ceil_times (length text) s positive).0 in
+    ap (λ n. take n (concat (slices s text))) (less_none (length text) (0 * s) (no_times s))
+    ∙ rest_joined s text (slice_count s (length text)) 0 (subst (λ n. length text ≤ n * s) (zero_plus (slice_count s (length text))) enough)
+    ∙ ap (λ n. drop n text) (no_times s)
+
+-- texts of one length with the same slices are the same
+pub same_slices : (s : ℕ) (a b : List ℕ) → 0 < s → length a ≡ length b → slices s a ≡ slices s b → a ≡ b
+same_slices s a b positive long e = sym (slices_joined s a positive) ∙ ap (λ xs. take (length a) (concat xs)) e ∙ ap (λ n. take n (concat (slices s b))) long ∙ slices_joined s b positive
+
+-- ---- what a set of files says
+
+name-target : (s : ℕ) (file : File) → (target_of_file s file).name ≡ file.0
+unfolding record_of
+name-target s file = refl
+
+pairs-target : (s : ℕ) (file : File) → (target_of_file s file).pairs ≡ map pair_of (slices s file.1)
+unfolding record_of
+pairs-target s file = refl
+
+size-target : (s : ℕ) (file : File) → (target_of_file s file).size ≡ length file.1
+unfolding record_of
+size-target s file = refl
+
+pairs_of_files : (s : ℕ) (files : List File) → flat_map (λ t. t.pairs) (map (target_of_file s) files) ≡ map pair_of (all_slices s files)
+pairs_of_files s [] = refl
+pairs_of_files s (file ∷ files) =
+    ap (λ ps. ps ++ flat_map (λ t. t.pairs) (map (target_of_file s) files)) (pairs-target s file) ∙ ap (λ ps. map pair_of (slices s file.1) ++ ps) (pairs_of_files s files)
+    ∙ sym (map-append pair_of (slices s file.1) (all_slices s files))
+
+-- a target with its bytes
+abbrev with_bytes : Target → List ℕ → Target × List ℕ
+with_bytes t bytes = (t, bytes)
+
+abbrev with_file : ℕ → File → Target × List ℕ
+with_file s file = (target_of_file s file, file.1)
+
+abbrev cut_out : Target × List (List ℕ) → Target × List ℕ
+cut_out z = (z.0, take z.0.size (concat z.1))
+
+abbrev all_cut : List Target → List (List ℕ) → List (Target × List ℕ)
+all_cut ts xs = map cut_out (zip ts (cut_into (map (λ t. length t.pairs) ts) xs))
+
+-- the files cut out of all slices
+cut_files : (s : ℕ) (files : List File) → 0 < s → all_cut (map (target_of_file s) files) (all_slices s files) ≡ map (with_file s) files
+cut_files s [] positive = refl
+cut_files s (file ∷ files) positive =
+    let t = target_of_file s file in
+    let ts = map (target_of_file s) files in
+    let mine = slices s file.1 in
+    let rest = all_slices s files in
+    let count : length t.pairs ≡ length mine = ap length (pairs-target s file) ∙ length-map mine pair_of in
+    ap (λ n. with_bytes t (take t.size (concat (take n (mine ++ rest)))) ∷ all_cut ts (drop n (mine ++ rest))) count
+    ∙ ap (λ xs. with_bytes t (take t.size (concat xs)) ∷ all_cut ts (drop (length mine) (mine ++ rest))) (take-append_seam mine rest)
+    ∙ ap (λ xs. with_bytes t (take t.size (concat mine)) ∷ all_cut ts xs) (drop-append_seam mine rest)
+    ∙ ap (λ bytes. with_bytes t bytes ∷ all_cut ts rest) (ap (λ n. take n (concat mine)) (size-target s file) ∙ slices_joined s file.1 positive)
+    ∙ ap (λ zs. with_bytes t file.1 ∷ zs) (cut_files s files positive)
+
+-- ---- what is found is true
+
+-- a window of a searched file that has the checksums of this slice is the slice
+abbrev pub IsTold : Folder → List (List ℕ) → ℕ → List ℕ → Type 0
+IsTold folder searched s slice = AllByRecursion (λ name. AllByRecursion (λ w. is_match (pair_of slice) w ≡ true → w ≡ slice) (windows s (bytes_of folder name))) searched
+
+found_here : (p : List ℕ → Bool) (P : List ℕ → Type 0) (ws : List (List ℕ)) → AllByRecursion (λ w. p w ≡ true → P w) ws → (w : List ℕ) → find p ws ≡ Some w → P w
+found_here p P [] h w e = absurd (false_true (ap is_some e))
+found_here p P (x ∷ ws) h w e = step (p x) refl e (found_here p P ws h.1 w)
+  where
+    step : (b : Bool) → p x ≡ b → cond b (Some x) (find p ws) ≡ Some w → (find p ws ≡ Some w → P w) → P w
+    step true i k later = subst P (ap (λ o. unwrap_or o x) k) (h.0 i)
+    step false i k later = later k
+
+windows_of : (folder : Folder) (s : ℕ) (P : List ℕ → Type 0) (searched : List (List ℕ)) → AllByRecursion (λ name. AllByRecursion P (windows s (bytes_of folder name))) searched → AllByRecursion P (flat_map (windows s) (map (bytes_of folder) searched))
+windows_of folder s P [] h = tt
+windows_of folder s P (name ∷ searched) h = all-append P (windows s (bytes_of folder name)) (flat_map (windows s) (map (bytes_of folder) searched)) h.0 (windows_of folder s P searched h.1)
+
+known_true : (folder : Folder) (searched : List (List ℕ)) (s : ℕ) (xs : List (List ℕ)) → AllByRecursion (IsTold folder searched s) xs
+    → AllZip (λ slice text. ForSome slice (λ found. text ≡ found)) (map (found s (map (bytes_of folder) searched)) (map pair_of xs)) xs
+known_true folder searched s [] h = tt
+known_true folder searched s (x ∷ xs) h = (
+  λ w e. sym (found_here (is_match (pair_of x)) (λ v. v ≡ x) (flat_map (windows s) (map (bytes_of folder) searched)) (windows_of folder s (λ v. is_match (pair_of x) v ≡ true → v ≡ x) searched h.0) w e),
+  known_true folder searched s xs h.1,
+)
+
+-- ---- what is rebuilt
+
+sizes_of_files : (s : ℕ) (files : List File) → AllByRecursion (λ text. length text ≡ s) (all_slices s files)
+sizes_of_files s [] = tt
+sizes_of_files s (file ∷ files) = all-append (λ text. length text ≡ s) (slices s file.1) (all_slices s files) (of_range (λ text. length text ≡ s) (slice_at s file.1) (length-slice_at s file.1) 0 (slice_count s (length file.1))) (sizes_of_files s files)
+
+bytes_of_files : (s : ℕ) (files : List File) → AllByRecursion (λ file. AreBytes file.1) files → AllByRecursion AreBytes (all_slices s files)
+bytes_of_files s [] h = tt
+bytes_of_files s (file ∷ files) h = all-append AreBytes (slices s file.1) (all_slices s files) (of_range AreBytes (slice_at s file.1) (λ j. bytes-slice_at s file.1 j h.0) 0 (slice_count s (length file.1))) (bytes_of_files s files h.1)
+
+turned : (s : ℕ) (xs : List (List ℕ)) (rs : List (ℕ × List ℕ)) → AllByRecursion (λ r. r.1 ≡ recovery s xs r.0) rs → AllByRecursion (λ r. recovery s xs r.0 ≡ r.1) rs
+turned s xs [] h = tt
+turned s xs (r ∷ rs) h = (sym h.0, turned s xs rs h.1)
+
+-- the slices of the files that a set was made from agree
+pub true_slices_agree : (folder : Folder) (base : List ℕ) (files : List File) (s : ℕ) (searched : List (List ℕ)) (m : MadeFrom folder base files s) → NoCollision folder searched s (all_slices s files) → AllByRecursion (λ file. AreBytes file.1) files
+    → Agrees s (known folder m.set searched) (kept_slices (lost (known folder m.set searched)) (survivors m.set) (map_of.entries m.set.recovery)) (all_slices s files)
+unfolding known
+true_slices_agree folder base files s searched m told bytes = record {
+  sizes = sizes_of_files s files;
+  bytes = bytes_of_files s files bytes;
+  as_known = subst (λ ks. AllZip (λ slice text. ForSome slice (λ found. text ≡ found)) ks (all_slices s files))
+      (ap (map (found s (map (bytes_of folder) searched))) (sym (ap (flat_map (λ t. t.pairs)) m.targets ∙ pairs_of_files s files)) ∙ ap (λ n. map (found n (map (bytes_of folder) searched)) (all_pairs m.set)) (sym m.slice_size))
+      (known_true folder searched s (all_slices s files) told);
+  as_recovered = all-filter (λ r. recovery s (all_slices s files) r.0 ≡ r.1) (λ r. list_any (λ e. e == r.0) (kept (lost (known folder m.set searched)) (survivors m.set))) (map_of.entries m.set.recovery) (turned s (all_slices s files) (map_of.entries m.set.recovery) m.recovered);
+}
+
+-- so they are what is rebuilt
+pub true_slices_rebuilt : (folder : Folder) (base : List ℕ) (files : List File) (s : ℕ) (searched : List (List ℕ)) (m : MadeFrom folder base files s) → s % 2 ≡ 0 → NoCollision folder searched s (all_slices s files) → AllByRecursion (λ file. AreBytes file.1) files
+    → IsRepairable (lost (known folder m.set searched)) (survivors m.set) → rebuilt m.set (known folder m.set searched) ≡ all_slices s files
+true_slices_rebuilt folder base files s searched m even told bytes repairable =
+    rebuilt_is_only m.set (known folder m.set searched) (all_slices s files)
+    (agreeing_is_rebuilt m.set (known folder m.set searched) (all_slices s files) (ap (λ n. n % 2) m.slice_size ∙ even) repairable
+    (subst (λ n. Agrees n (known folder m.set searched) (kept_slices (lost (known folder m.set searched)) (survivors m.set) (map_of.entries m.set.recovery)) (all_slices s files)) (sym m.slice_size) (true_slices_agree folder base files s searched m told bytes)))
+
+-- and the files are cut out of them
+pub true_files : (folder : Folder) (base : List ℕ) (files : List File) (s : ℕ) (m : MadeFrom folder base files s) → 0 < s → files_of_slices m.set (all_slices s files) ≡ map (λ file. (target_of_file s file, file.1)) files
+true_files folder base files s m positive = ap (λ ts. all_cut ts (all_slices s files)) m.targets ∙ cut_files s files positive
