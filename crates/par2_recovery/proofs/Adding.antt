@@ -143,7 +143,7 @@ next_text factors sources old mid new source n even so_far is added = record {
       added.inside w (omega arith) (omega (arith, size)) (omega (arith, size))
       ∙ ap₂ bit_xor (so_far.words w h) (ap (λ xs. mul (get_or factors n 0) (word w xs)) is)
       ∙ xor_assoc (word w old) (field_sum n (λ k. mul (get_or factors k 0) (word w (list_at sources k)))) (mul (get_or factors n 0) (word w (list_at sources n)))
-      ∙ ap (bit_xor (word w old)) (more n (λ k. mul (get_or factors k 0) (word w (list_at sources k))))
+      ∙ ap (bit_xor (word w old)) (more n (λ k. mul (get_or factors k 0) (word w (list_at sources k))));
 }
   where
     more : (m : ℕ) (f : ℕ → ℕ) → bit_xor (field_sum m f) (f m) ≡ field_sum (m + 1) f

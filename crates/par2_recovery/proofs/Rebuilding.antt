@@ -1,21 +1,17 @@
 -- What a list of all slices says of the lost ones among them.
-use Rattle.std.proofs.Common.{ℕ, zero, suc, ◌+◌, ◌-◌, ◌*◌, ◌/◌, ◌%◌, ◌^◌, ◌<◌, ◌≤◌, ◌≡◌, ◌≢◌, ◌↔◌, refl, sym, ap, ap₂, ◌∙◌, subst, arith, Bool, true, false, cond, List, [], ◌∷◌, ◌++◌, length, get_or, map, bit_xor}
-use Rattle.std.specs.Prelude.{Option, Some, None, option_map, is_none, filter, take, drop}
-use Rattle.std.specs.Borrow.{Bor}
+use Rattle.std.proofs.Common.{ℕ, zero, suc, ◌+◌, ◌*◌, ◌%◌, ◌<◌, ◌≤◌, ◌≡◌, ◌↔◌, refl, sym, ap, ap₂, ◌∙◌, subst, arith, List, [], ◌∷◌, length, get_or, map, bit_xor}
+use Rattle.std.specs.Prelude.{Option, Some, None, option_map, is_none, filter}
 use Rattle.std.specs.List.{range_with_len, enumerate_from, AllByRecursion, AllZip}
 use Rattle.std.specs.Option.{ForSome}
-use Rattle.std.specs.Int.Bits.{xor_assoc, xor_self, xor_zero_l, xor_zero_r}
+use Rattle.std.specs.Int.Bits.{xor_assoc, xor_self, xor_zero_r}
 use Rattle.std.proofs.lemmas.Nat.{xor_comm, xor_lt}
-use Rattle.std.proofs.lemmas.List.{length-map}
-use Rattle.std.proofs.lemmas.List.FromFn.{length-range_with_len}
 use Rattle.par2_spec.specs.Field.{mul, coefficient}
-use Rattle.par2_spec.specs.Slices.{padded, word}
+use Rattle.par2_spec.specs.Slices.{word}
 use Rattle.par2_spec.specs.Recovery.{dot, coefficients, combination, recovery}
-use Rattle.par2_spec.specs.Rank.{Agrees, IsRebuilt}
+use Rattle.par2_spec.specs.Rank.{IsRebuilt}
 use Rattle.par2_spec.specs.Search.{lost}
 use Rattle.par2_spec.proofs.FieldProducts.{product-lt}
-use Rattle.par2_matrix.specs.Echelon.{list_at}
-use Rattle.par2_matrix.specs.Systems.{Equations, Solves, AreTexts, IsTheSolution}
+use Rattle.par2_matrix.specs.Systems.{Equations, Solves, IsTheSolution}
 use Rattle.par2_matrix.proofs.Views.{all_at, combination_words}
 use Rattle.par2_matrix.proofs.Words.{word-lt}
 use Rattle.par2_recovery.specs.Survivors.{filled, lost_from, known_from, present}
@@ -153,16 +149,22 @@ equation s e known found right texts even are_known sized count offered = (
   where
     ours : ℕ → ℕ
     ours w = dot (coefficients (known_from 0 known) e) (map (word w) (present known))
+
     others : ℕ → ℕ
     others w = dot (coefficients (lost_from 0 known) e) (map (word w) texts)
+
     rows : List ℕ
     rows = coefficients (range_with_len 0 (length known)) e
+
     whole : recovery s (filled known texts) e ≡ combination s rows (filled known texts)
     whole = ap (λ n. combination s (coefficients (range_with_len 0 n) e) (filled known texts)) (length-filled 0 known texts)
+
     parts : (w : ℕ) → dot rows (map (word w) (filled known texts)) ≡ bit_xor (ours w) (others w)
     parts w = split e w 0 known texts count
+
     lost_words : (combination s (coefficients (lost_from 0 known) e) texts ≡ right) ↔ ((w : ℕ) → 2 * w + 1 < s → others w ≡ word w right)
     lost_words = combination_words s (coefficients (lost_from 0 known) e) texts right even (λ w. dot-lt (lost_from 0 known) e (map (word w) texts) (words_small texts w sized.1)) offered.size offered.bytes
+
     all_words : (combination s rows (filled known texts) ≡ found) ↔ ((w : ℕ) → 2 * w + 1 < s → dot rows (map (word w) (filled known texts)) ≡ word w found)
     all_words = combination_words s rows (filled known texts) found even
         (λ w. dot-lt (range_with_len 0 (length known)) e (map (word w) (filled known texts)) (words_small (filled known texts) w (sized_filled s 0 known texts are_known sized count).1))
@@ -225,7 +227,7 @@ rebuilt_from s known found system texts are_known says solution = record {
     sizes = (sized_filled s 0 known texts are_known sized count).0;
     bytes = (sized_filled s 0 known texts are_known sized count).1;
     as_known = filled_known 0 known texts count;
-    as_recovered = (says.solves texts sized count).0 solution.solves
+    as_recovered = (says.solves texts sized count).0 solution.solves;
   };
   only = λ others agrees.
       let lost_ones = picked known others in
@@ -234,10 +236,11 @@ rebuilt_from s known found system texts are_known says solution = record {
       let number : length lost_ones ≡ length (lost_from 0 known) = picked_count 0 known others agrees.as_known in
       let solved = (says.solves lost_ones ours number).1 (subst (λ slices. AllByRecursion (λ r. recovery s slices r.0 ≡ r.1) found) (sym whole) agrees.as_recovered) in
       let same = solution.only lost_ones (record { count = number ∙ sym says.columns; sizes = subst (λ n. AllByRecursion (λ text. length text ≡ n) lost_ones) (sym says.bytes) ours.0; bytes = ours.1 }) solved in
-      sym whole ∙ ap (filled known) same
+      sym whole ∙ ap (filled known) same;
 }
   where
     sized : AreSized s texts
     sized = (subst (λ n. AllByRecursion (λ text. length text ≡ n) texts) says.bytes solution.are_texts.sizes, solution.are_texts.bytes)
+
     count : length texts ≡ length (lost_from 0 known)
     count = solution.are_texts.count ∙ says.columns

@@ -1,10 +1,10 @@
 -- The loop that offers the surviving recovery slices.
-use Rattle.std.proofs.Common.{replicate, length-append, ◌-◌, ℕ, zero, suc, ◌+◌, ◌*◌, ◌%◌, ◌<◌, ◌≤◌, ◌≡◌, ◌≢◌, ◌↔◌, refl, sym, ap, ap₂, ◌∙◌, subst, arith, Bool, true, false, cond, eqb, ◌||◌, List, [], ◌∷◌, ◌++◌, length, get_or, map, bit_xor}
+use Rattle.std.proofs.Common.{replicate, length-append, ◌-◌, ℕ, zero, suc, ◌+◌, ◌%◌, ◌<◌, ◌≤◌, ◌≡◌, ◌≢◌, ◌↔◌, refl, sym, ap, ap₂, ◌∙◌, subst, arith, Bool, true, false, cond, eqb, ◌||◌, List, [], ◌∷◌, ◌++◌, length, get_or, map, bit_xor}
 use Rattle.std.specs.Prelude.{Option, Result, Ok, filter, take}
 use Rattle.std.specs.List.{list_any, AllByRecursion}
 use Rattle.std.specs.List.Sorted.{IsStrictlyIncreasing}
 use Rattle.std.specs.declared.alloc.AllocError.{AllocError}
-use Rattle.std.proofs.lemmas.Bool.{cases_eq, eqb-true, ne_eqb, eq-eqb, false≢true}
+use Rattle.std.proofs.lemmas.Bool.{ne_eqb, eq-eqb, false≢true}
 use Rattle.std.proofs.lemmas.List.{take_more, get_or-map, length-map}
 use Rattle.std.proofs.lemmas.List.Elements.{filter-append}
 use Rattle.par2_spec.specs.Slices.{padded, word}
@@ -65,7 +65,7 @@ each_among [] = tt
 each_among (x ∷ recs) = (
   ap (λ c. c || list_any (λ e. eqb e x.0) (map (λ r. r.0) recs)) (eq-eqb x.0 x.0 refl),
   weaker (λ r. list_any (λ e. eqb e r.0) (map (λ r. r.0) recs) ≡ true) (λ r. list_any (λ e. eqb e r.0) (x.0 ∷ map (λ r. r.0) recs) ≡ true)
-  (λ r h. ap (λ c. eqb x.0 r.0 || c) h ∙ or_true (eqb x.0 r.0)) recs (each_among recs),
+      (λ r h. ap (λ c. eqb x.0 r.0 || c) h ∙ or_true (eqb x.0 r.0)) recs (each_among recs),
 )
 
 same_filter : (p q : ℕ × List ℕ → Bool) (recs : List (ℕ × List ℕ)) → AllByRecursion (λ r. p r ≡ q r) recs → filter p recs ≡ filter q recs
@@ -115,7 +115,7 @@ right_is s e known texts found right same fit size bytes is = record {
   size = is.size;
   bytes = is.bytes;
   words = λ w low. is.words w low ∙ ap (bit_xor (word w found))
-      (sym (ap (λ xs. dot (coefficients (known_from 0 known) e) (map (word w) xs)) (sym same) ∙ dot_padded s (coefficients (known_from 0 known) e) texts w fit))
+      (sym (ap (λ xs. dot (coefficients (known_from 0 known) e) (map (word w) xs)) (sym same) ∙ dot_padded s (coefficients (known_from 0 known) e) texts w fit));
 }
 
 pub stands_more : (s : ℕ) (known : List (Option (List ℕ))) (recs : List (ℕ × List ℕ)) (i : ℕ) (system new : Equations) (texts : List (List ℕ)) (r : Result Offer AllocError) (o : Offer) → r ≡ Ok o
@@ -138,7 +138,7 @@ stands_more s known recs i system new texts r Kept is even are_known same count 
     let yes_kept : is_kept lost_ones all found.0 ≡ true = ap (is_kept lost_ones all) (sym e) ∙ kept_is lost_ones all i system up low before.so_far told_here in
     let fits : length (coefficients (known_from 0 known) found.0) ≤ length texts = omega (arith, length-map (known_from 0 known) (coefficient found.0)) in
     let right_of : Offered s known found.0 found.1 made.right =
-        right_is s found.0 known texts found.1 made.right same fits size bytes (subst (λ n. IsRight n (coefficients (known_from 0 known) found.0) texts found.1 made.right) before.bytes made.is_right) in
+    right_is s found.0 known texts found.1 made.right same fits size bytes (subst (λ n. IsRight n (coefficients (known_from 0 known) found.0) texts found.1 made.right) before.bytes made.is_right) in
     record {
       so_far = one_kept lost_ones all i system new made.right up low before.so_far columns cut_here told_here;
       bytes = new_bytes ∙ before.bytes;
@@ -147,15 +147,15 @@ stands_more s known recs i system new texts r Kept is even are_known same count 
           let texts_are : AreTexts system xs = record {
             count = number ∙ sym before.so_far.columns;
             sizes = subst (λ n. AllByRecursion (λ text. length text ≡ n) xs) (sym before.bytes) sized.0;
-            bytes = sized.1
+            bytes = sized.1;
           } in
           let here = made.cut.solves xs texts_are in
           let eq : (combination system.bytes (coefficients lost_ones found.0) xs ≡ made.right) ↔ (recovery s (filled known xs) found.0 ≡ found.1) =
-              subst (λ n. (combination n (coefficients lost_ones found.0) xs ≡ made.right) ↔ (recovery s (filled known xs) found.0 ≡ found.1)) (sym before.bytes)
-              (equation s found.0 known found.1 made.right xs even are_known sized number right_of) in
+          subst (λ n. (combination n (coefficients lost_ones found.0) xs ≡ made.right) ↔ (recovery s (filled known xs) found.0 ≡ found.1)) (sym before.bytes)
+          (equation s found.0 known found.1 made.right xs even are_known sized number right_of) in
           let more = all_more (λ r. recovery s (filled known xs) r.0 ≡ r.1) (filter (λ r. is_kept lost_ones all r.0) (take i recs)) found in
           subst (λ rs. Solves new xs ↔ AllByRecursion (λ r. recovery s (filled known xs) r.0 ≡ r.1) rs) (sym (filter_more (λ r. is_kept lost_ones all r.0) recs i true h yes_kept))
-          ((λ k. more.1 (old.0 (here.0 k).0, eq.0 (here.0 k).1)), (λ k. here.1 (old.1 (more.0 k).0, eq.1 (more.0 k).1)))
+          ((λ k. more.1 (old.0 (here.0 k).0, eq.0 (here.0 k).1)), (λ k. here.1 (old.1 (more.0 k).0, eq.1 (more.0 k).1)));
     }
 stands_more s known recs i system new texts r Dependent is even are_known same count up h size bytes before columns new_bytes cut told follows still =
     let found = get_or recs i (0, []) in
@@ -172,7 +172,7 @@ stands_more s known recs i system new texts r Dependent is even are_known same c
       bytes = before.bytes;
       solves = λ xs sized number.
           subst (λ rs. Solves system xs ↔ AllByRecursion (λ r. recovery s (filled known xs) r.0 ≡ r.1) rs)
-          (sym (filter_more (λ r. is_kept lost_ones all r.0) recs i false h not_kept ∙ append-none (filter (λ r. is_kept lost_ones all r.0) (take i recs)))) (before.solves xs sized number)
+          (sym (filter_more (λ r. is_kept lost_ones all r.0) recs i false h not_kept ∙ append-none (filter (λ r. is_kept lost_ones all r.0) (take i recs)))) (before.solves xs sized number);
     })
 
 -- ---- the end of the loop
@@ -192,7 +192,7 @@ says_so s known recs i system e stands = record {
   solves = λ xs sized number.
       subst (λ rs. Solves system xs ↔ AllByRecursion (λ r. recovery s (filled known xs) r.0 ≡ r.1) rs)
       (ap (filter (λ r. is_kept (lost_from 0 known) (map (λ r. r.0) recs) r.0)) (whole recs i e) ∙ sym (kept_slices_are (lost_from 0 known) recs))
-      (stands.solves xs sized number)
+      (stands.solves xs sized number);
 }
 
 kill_rows : (lost_ones : List ℕ) (v : List ℕ) (all : List ℕ) → AllByRecursion (λ e. Kills lost_ones e v) all → AllKill (map (coefficients lost_ones) all) v
@@ -270,9 +270,9 @@ stands_step s known recs i system new lost' numbers' e' found' texts' texts r o 
     let own : coefficients numbers' e' ≡ coefficients (known_from 0 known) (get_or recs i (0, [])).0 = ap₂ coefficients en ee in
     stands_more s known recs i system new texts r o is even are same count up h size (λ k. subst (λ xs. get_or xs k 0 < 256) ef (bytes k)) before columns new_bytes
     (λ k. subst (λ x. CutBy system new x (coefficients (known_from 0 known) (get_or recs i (0, [])).0) texts (get_or recs i (0, [])).1) row
-      (subst (λ x. CutBy system new (coefficients lost' e') x texts (get_or recs i (0, [])).1) own
-      (subst (λ x. CutBy system new (coefficients lost' e') (coefficients numbers' e') x (get_or recs i (0, [])).1) et
-      (subst (λ x. CutBy system new (coefficients lost' e') (coefficients numbers' e') texts' x) ef (cut k)))))
+    (subst (λ x. CutBy system new (coefficients lost' e') x texts (get_or recs i (0, [])).1) own
+    (subst (λ x. CutBy system new (coefficients lost' e') (coefficients numbers' e') x (get_or recs i (0, [])).1) et
+    (subst (λ x. CutBy system new (coefficients lost' e') (coefficients numbers' e') texts' x) ef (cut k)))))
     (λ k. subst (TellsApart system) row (told k)) (λ k. subst (Follows system) row (follows k)) still
 
 pub finished_ok : (s : ℕ) (known : List (Option (List ℕ))) (recs : List (ℕ × List ℕ)) (i : ℕ) (system : Equations) (texts : List (List ℕ)) → i ≡ length recs → AreKnown s known → Standing s known recs i system

@@ -1,5 +1,5 @@
 -- What survives of a set's slices.
-use Rattle.std.specs.Prelude.{◌≡◌, ◌≢◌, ◌+◌, ◌*◌, ◌<◌, ◌^◌, ℕ, List, [], ◌∷◌, length, map, slice_index, bit_xor, Option, Some, None, option_map}
+use Rattle.std.specs.Prelude.{◌≡◌, ◌+◌, ◌*◌, ◌<◌, ◌^◌, ℕ, List, [], ◌∷◌, length, map, slice_index, bit_xor, Option, Some, None, option_map}
 use Rattle.std.specs.Borrow.{Bor}
 use Rattle.par2_spec.specs.Field.{mul}
 use Rattle.par2_spec.specs.Slices.{padded, word}

@@ -208,11 +208,7 @@ fn solve(
 
 /// The lost slices in order, with their padding. NotRepairable is answered where the recovery slices don't determine
 /// them: then of `missing` lost slices no more than `rank` exponents are kept.
-pub fn rebuild(
-    alloc: Global,
-    gf: &Gf,
-    survivors: &Survivors,
-) -> Result<Vec<Vec<u8>>, RebuildFault>
+pub fn rebuild(alloc: Global, gf: &Gf, survivors: &Survivors) -> Result<Vec<Vec<u8>>, RebuildFault>
     requires count { length survivors.now.known.items ≤ 32768 }
     requires even { survivors.now.slice % 2 ≡ 0 }
     requires known { AllByRecursion (λ slice. length slice.now ≤ survivors.now.slice) (present survivors.now.known.items) }

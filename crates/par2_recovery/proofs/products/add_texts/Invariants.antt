@@ -1,4 +1,3 @@
-use Rattle.std.proofs.Common.{◌≡◌, ◌/◌, length}
 use Rattle.par2_recovery.specs.Products.{AddsTexts}
 use Rattle.par2_recovery.specs.Views.{texts_of}
 use Rattle.par2_recovery.proofs.products.add_texts.Given as goal

@@ -1,4 +1,4 @@
-use Rattle.std.proofs.Common.{ℕ, ◌<◌, inl, inr, sym, subst, get_or, arith, []}
+use Rattle.std.proofs.Common.{◌<◌, inl, inr, sym, subst, get_or, arith, []}
 use Rattle.std.proofs.lemmas.Bool.{cases_eq, cases_lt}
 use Rattle.std.proofs.lemmas.List.{get_or_past}
 use Rattle.par2_matrix.specs.Echelon.{list_at}
