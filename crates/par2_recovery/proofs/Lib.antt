@@ -6,3 +6,5 @@ pub mod Parts
 pub mod Adding
 pub mod Ranks
 pub mod Combined
+pub mod Rebuilding
+pub mod Standing

@@ -3,9 +3,11 @@
 
 mod exponents;
 mod products;
+mod rebuild_slices;
 mod recovery;
 mod set_record;
 
 pub use exponents::rank;
+pub use rebuild_slices::{RebuildFault, Survivors, rebuild};
 pub use recovery::{recovery_slice, recovery_slices};
 pub use set_record::SetRecord;

@@ -3,7 +3,7 @@
 ghost use Rattle.std.specs.Prelude.{◌≡◌, ℕ, ◌+◌, ◌*◌, ◌^◌, ◌<◌, ◌≤◌, ◌%◌, length, map, slice_index};
 ghost use Rattle.par2_gf16.specs.Steps.{AddsWithin};
 ghost use Rattle.par2_matrix.specs.Echelon.{OneChanged, list_at, lists_of};
-ghost use Rattle.par2_recovery.specs.Products.{AddsSource, Adds};
+ghost use Rattle.par2_recovery.specs.Products.{AddsSource, Adds, AddsTexts};
 ghost use Rattle.par2_recovery.specs.Views.{texts_of};
 
 use par2_gf16::Gf;
@@ -102,7 +102,7 @@ fn add_source(
 }
 
 #[inline(always)]
-fn source_at<'a>(sources: &[&'a [u8]], k: usize) -> &'a [u8]
+pub(crate) fn source_at<'a>(sources: &[&'a [u8]], k: usize) -> &'a [u8]
     requires { k < length sources.now }
     ensures { result.now ≡ list_at (texts_of sources.now) k }
 {
@@ -167,4 +167,26 @@ pub(crate) fn with_products(
     let mut sums = targets;
     add_products(gf, factors, sources, sums.as_mut_slice(), words);
     sums
+}
+
+/// To the words of the target, adds the sum of the sources' words there, each times its factor.
+pub(crate) fn add_texts(gf: &Gf, factors: &[u16], sources: &[&[u8]], target: &mut [u8])
+    requires factors { length sources.now ≡ length factors.now }
+    requires even { length target.old % 2 ≡ 0 }
+    ensures added { AddsTexts factors.now (texts_of sources.now) target.old target.new (length sources.now) }
+    ensures bytes { (k : ℕ) → slice_index target.new k < 2 ^ 8 }
+{
+    let words = target.len() / 2;
+    for k in 0..sources.len() {
+        add_words(gf, factors[k], source_at(sources, k), target, 0, words);
+    }
+    fit_bytes(target);
+}
+
+// What the type says of each byte, for proofs.
+#[inline(always)]
+fn fit_bytes(bytes: &[u8])
+    ensures { (k : ℕ) → slice_index bytes.now k < 2 ^ 8 }
+{
+    let _ = bytes.len();
 }

@@ -1,0 +1,246 @@
+-- What a list of all slices says of the lost ones among them.
+use Rattle.std.proofs.Common.{ℕ, zero, suc, ◌+◌, ◌*◌, ◌%◌, ◌<◌, ◌≤◌, ◌≡◌, ◌↔◌, refl, sym, ap, ap₂, ◌∙◌, subst, arith, List, [], ◌∷◌, length, get_or, map, bit_xor}
+use Rattle.std.specs.Prelude.{Option, Some, None, option_map, is_none, filter}
+use Rattle.std.specs.List.{range_with_len, enumerate_from, AllByRecursion, AllZip}
+use Rattle.std.specs.Option.{ForSome}
+use Rattle.std.specs.Int.Bits.{xor_assoc, xor_self, xor_zero_r}
+use Rattle.std.proofs.lemmas.Nat.{xor_comm, xor_lt}
+use Rattle.par2_spec.specs.Field.{mul, coefficient}
+use Rattle.par2_spec.specs.Slices.{word}
+use Rattle.par2_spec.specs.Recovery.{dot, coefficients, combination, recovery}
+use Rattle.par2_spec.specs.Rank.{IsRebuilt}
+use Rattle.par2_spec.specs.Search.{lost}
+use Rattle.par2_spec.proofs.FieldProducts.{product-lt}
+use Rattle.par2_matrix.specs.Systems.{Equations, Solves, IsTheSolution}
+use Rattle.par2_matrix.proofs.Views.{all_at, combination_words}
+use Rattle.par2_matrix.proofs.Words.{word-lt}
+use Rattle.par2_recovery.specs.Survivors.{filled, lost_from, known_from, present}
+use Rattle.par2_recovery.proofs.Combined.{coefficients-lt}
+
+-- ---- the numbers of the lost slices
+
+lost_same : {A : Type 0} (a : ℕ) (known : List (Option A)) → map (λ z. z.0) (filter (λ z. is_none z.1) (enumerate_from a known)) ≡ lost_from a known
+lost_same a [] = refl
+lost_same a (None ∷ known) = ap (λ ns. a ∷ ns) (lost_same (a + 1) known)
+lost_same a (Some x ∷ known) = lost_same (a + 1) known
+
+pub lost_is : (known : List (Option (List ℕ))) → lost known ≡ lost_from 0 known
+lost_is known = lost_same 0 known
+
+pub lost_of_map : {A B : Type 0} (f : A → B) (a : ℕ) (known : List (Option A)) → lost_from a (map (option_map f) known) ≡ lost_from a known
+lost_of_map f a [] = refl
+lost_of_map f a (None ∷ known) = ap (λ ns. a ∷ ns) (lost_of_map f (a + 1) known)
+lost_of_map f a (Some x ∷ known) = lost_of_map f (a + 1) known
+
+pub known_of_map : {A B : Type 0} (f : A → B) (a : ℕ) (known : List (Option A)) → known_from a (map (option_map f) known) ≡ known_from a known
+known_of_map f a [] = refl
+known_of_map f a (None ∷ known) = known_of_map f (a + 1) known
+known_of_map f a (Some x ∷ known) = ap (λ ns. a ∷ ns) (known_of_map f (a + 1) known)
+
+pub present_of_map : {A B : Type 0} (f : A → B) (known : List (Option A)) → present (map (option_map f) known) ≡ map f (present known)
+present_of_map f [] = refl
+present_of_map f (None ∷ known) = present_of_map f known
+present_of_map f (Some x ∷ known) = ap (λ xs. f x ∷ xs) (present_of_map f known)
+
+pub length-present : {A : Type 0} (a : ℕ) (known : List (Option A)) → length (present known) ≡ length (known_from a known)
+length-present a [] = refl
+length-present a (None ∷ known) = length-present (a + 1) known
+length-present a (Some x ∷ known) = ap suc (length-present (a + 1) known)
+
+numbers-lt : {A : Type 0} (a bound : ℕ) (known : List (Option A)) → a + length known ≤ bound → 0 < bound → (i : ℕ) → get_or (lost_from a known) i 0 < bound
+numbers-lt a bound [] h some i = some
+numbers-lt a bound (None ∷ known) h some zero = omega arith
+numbers-lt a bound (None ∷ known) h some (suc i) = numbers-lt (a + 1) bound known (omega arith) some i
+numbers-lt a bound (Some x ∷ known) h some i = numbers-lt (a + 1) bound known (omega arith) some i
+
+pub lost-lt : {A : Type 0} (known : List (Option A)) → length known ≤ 32768 → (i : ℕ) → get_or (lost_from 0 known) i 0 < 32768
+lost-lt known h i = numbers-lt 0 32768 known (omega arith) (omega arith) i
+
+known_numbers-lt : {A : Type 0} (a bound : ℕ) (known : List (Option A)) → a + length known ≤ bound → 0 < bound → (i : ℕ) → get_or (known_from a known) i 0 < bound
+known_numbers-lt a bound [] h some i = some
+known_numbers-lt a bound (None ∷ known) h some i = known_numbers-lt (a + 1) bound known (omega arith) some i
+known_numbers-lt a bound (Some x ∷ known) h some zero = omega arith
+known_numbers-lt a bound (Some x ∷ known) h some (suc i) = known_numbers-lt (a + 1) bound known (omega arith) some i
+
+pub known-lt : {A : Type 0} (known : List (Option A)) → length known ≤ 32768 → (i : ℕ) → get_or (known_from 0 known) i 0 < 32768
+known-lt known h i = known_numbers-lt 0 32768 known (omega arith) (omega arith) i
+
+-- ---- all slices from the known and the lost ones
+
+pub length-filled : (a : ℕ) (known : List (Option (List ℕ))) (texts : List (List ℕ)) → length (filled known texts) ≡ length known
+length-filled a [] texts = refl
+length-filled a (Some x ∷ known) texts = ap suc (length-filled a known texts)
+length-filled a (None ∷ known) [] = ap suc (length-filled a known [])
+length-filled a (None ∷ known) (t ∷ texts) = ap suc (length-filled a known texts)
+
+-- the sum of a word's products over all slices is that over the known ones and that over the lost ones
+split : (e w a : ℕ) (known : List (Option (List ℕ))) (texts : List (List ℕ)) → length texts ≡ length (lost_from a known)
+    → dot (coefficients (range_with_len a (length known)) e) (map (word w) (filled known texts))
+    ≡ bit_xor (dot (coefficients (known_from a known) e) (map (word w) (present known))) (dot (coefficients (lost_from a known) e) (map (word w) texts))
+unfolding dot
+split e w a [] [] h = refl
+split e w a [] (t ∷ texts) h = absurd (omega arith)
+split e w a (Some x ∷ known) texts h =
+    ap (bit_xor (mul (coefficient e a) (word w x))) (split e w (a + 1) known texts h)
+    ∙ sym (xor_assoc (mul (coefficient e a) (word w x)) (dot (coefficients (known_from (a + 1) known) e) (map (word w) (present known))) (dot (coefficients (lost_from (a + 1) known) e) (map (word w) texts)))
+split e w a (None ∷ known) [] h = absurd (omega arith)
+split e w a (None ∷ known) (t ∷ texts) h =
+    let here = mul (coefficient e a) (word w t) in
+    let ours = dot (coefficients (known_from (a + 1) known) e) (map (word w) (present known)) in
+    let others = dot (coefficients (lost_from (a + 1) known) e) (map (word w) texts) in
+    ap (bit_xor here) (split e w (a + 1) known texts (omega arith))
+    ∙ sym (xor_assoc here ours others) ∙ ap (λ x. bit_xor x others) (xor_comm here ours) ∙ xor_assoc ours here others
+
+-- ---- sizes
+
+-- texts of s bytes
+abbrev pub AreSized : ℕ → List (List ℕ) → Type 0
+AreSized s texts = AllByRecursion (λ text. length text ≡ s) texts × AllByRecursion (λ text. AllByRecursion (λ b. b < 256) text) texts
+
+-- known slices of s bytes
+abbrev pub AreKnown : ℕ → List (Option (List ℕ)) → Type 0
+AreKnown s known = AreSized s (present known)
+
+sized_filled : (s : ℕ) (a : ℕ) (known : List (Option (List ℕ))) (texts : List (List ℕ)) → AreKnown s known → AreSized s texts → length texts ≡ length (lost_from a known) → AreSized s (filled known texts)
+sized_filled s a [] texts k t h = (tt, tt)
+sized_filled s a (Some x ∷ known) texts k t h =
+    let rest = sized_filled s (a + 1) known texts (k.0.1, k.1.1) t h in
+    ((k.0.0, rest.0), (k.1.0, rest.1))
+sized_filled s a (None ∷ known) [] k t h = absurd (omega arith)
+sized_filled s a (None ∷ known) (x ∷ texts) k t h =
+    let rest = sized_filled s (a + 1) known texts k (t.0.1, t.1.1) (omega arith) in
+    ((t.0.0, rest.0), (t.1.0, rest.1))
+
+words_small : (lists : List (List ℕ)) (w : ℕ) → AllByRecursion (λ text. AllByRecursion (λ b. b < 256) text) lists → AllByRecursion (λ x. x < 65536) (map (word w) lists)
+words_small [] w all = tt
+words_small (x ∷ lists) w all = (word-lt x w (all_at (λ b. b < 256) 0 (omega arith) x all.0), words_small lists w all.1)
+
+dot-lt : (numbers : List ℕ) (e : ℕ) (v : List ℕ) → AllByRecursion (λ x. x < 65536) v → dot (coefficients numbers e) v < 65536
+unfolding dot
+dot-lt [] e v h = omega arith
+dot-lt (n ∷ numbers) e [] h = omega arith
+dot-lt (n ∷ numbers) e (x ∷ v) h = xor_lt 16 _ _ (product-lt (coefficient e n) x (coefficients-lt (n ∷ numbers) e 0) h.0) (dot-lt numbers e v h.1)
+
+-- ---- an equation of the lost slices and the recovery slice that it comes from
+
+moved : (a b d : ℕ) → bit_xor a b ≡ d → b ≡ bit_xor d a
+moved a b d e =
+    sym (ap (λ x. bit_xor x a) (sym e) ∙ ap (λ x. bit_xor x a) (xor_comm a b) ∙ xor_assoc b a a ∙ ap (bit_xor b) (xor_self a) ∙ xor_zero_r b)
+
+moved_back : (a b d : ℕ) → b ≡ bit_xor d a → bit_xor a b ≡ d
+moved_back a b d e =
+    ap (bit_xor a) e ∙ xor_comm a (bit_xor d a) ∙ xor_assoc d a a ∙ ap (bit_xor d) (xor_self a) ∙ xor_zero_r d
+
+-- a recovery slice and the right side that is offered for it
+pub record Offered (s : ℕ) (known : List (Option (List ℕ))) (e : ℕ) (found right : List ℕ) : Type 0 where
+  pub found_size : length found ≡ s
+  pub found_bytes : (k : ℕ) → get_or found k 0 < 256
+  pub size : length right ≡ s
+  pub bytes : (k : ℕ) → get_or right k 0 < 256
+  pub words : (w : ℕ) → 2 * w + 1 < s → word w right ≡ bit_xor (word w found) (dot (coefficients (known_from 0 known) e) (map (word w) (present known)))
+
+pub equation : (s e : ℕ) (known : List (Option (List ℕ))) (found right : List ℕ) (texts : List (List ℕ)) → s % 2 ≡ 0 → AreKnown s known → AreSized s texts → length texts ≡ length (lost_from 0 known)
+    → Offered s known e found right → (combination s (coefficients (lost_from 0 known) e) texts ≡ right) ↔ (recovery s (filled known texts) e ≡ found)
+unfolding recovery
+equation s e known found right texts even are_known sized count offered = (
+  λ h. whole ∙ all_words.1 (λ w low. parts w ∙ moved_back (ours w) (others w) (word w found) (lost_words.0 h w low ∙ offered.words w low)),
+  λ h. lost_words.1 (λ w low. moved (ours w) (others w) (word w found) (sym (parts w) ∙ all_words.0 (sym whole ∙ h) w low) ∙ sym (offered.words w low)),
+)
+  where
+    ours : ℕ → ℕ
+    ours w = dot (coefficients (known_from 0 known) e) (map (word w) (present known))
+
+    others : ℕ → ℕ
+    others w = dot (coefficients (lost_from 0 known) e) (map (word w) texts)
+
+    rows : List ℕ
+    rows = coefficients (range_with_len 0 (length known)) e
+
+    whole : recovery s (filled known texts) e ≡ combination s rows (filled known texts)
+    whole = ap (λ n. combination s (coefficients (range_with_len 0 n) e) (filled known texts)) (length-filled 0 known texts)
+
+    parts : (w : ℕ) → dot rows (map (word w) (filled known texts)) ≡ bit_xor (ours w) (others w)
+    parts w = split e w 0 known texts count
+
+    lost_words : (combination s (coefficients (lost_from 0 known) e) texts ≡ right) ↔ ((w : ℕ) → 2 * w + 1 < s → others w ≡ word w right)
+    lost_words = combination_words s (coefficients (lost_from 0 known) e) texts right even (λ w. dot-lt (lost_from 0 known) e (map (word w) texts) (words_small texts w sized.1)) offered.size offered.bytes
+
+    all_words : (combination s rows (filled known texts) ≡ found) ↔ ((w : ℕ) → 2 * w + 1 < s → dot rows (map (word w) (filled known texts)) ≡ word w found)
+    all_words = combination_words s rows (filled known texts) found even
+        (λ w. dot-lt (range_with_len 0 (length known)) e (map (word w) (filled known texts)) (words_small (filled known texts) w (sized_filled s 0 known texts are_known sized count).1))
+        offered.found_size offered.found_bytes
+
+-- ---- the one list that agrees
+
+-- the texts at the places of the lost slices
+picked : List (Option (List ℕ)) → List (List ℕ) → List (List ℕ)
+picked [] texts = []
+picked (k ∷ known) [] = []
+picked (None ∷ known) (t ∷ texts) = t ∷ picked known texts
+picked (Some x ∷ known) (t ∷ texts) = picked known texts
+
+AsKnown : List (Option (List ℕ)) → List (List ℕ) → Type 0
+AsKnown known texts = AllZip (λ slice text. ForSome slice (λ found. text ≡ found)) known texts
+
+filled_known : (a : ℕ) (known : List (Option (List ℕ))) (texts : List (List ℕ)) → length texts ≡ length (lost_from a known) → AsKnown known (filled known texts)
+unfolding AsKnown
+filled_known a [] texts h = tt
+filled_known a (Some x ∷ known) texts h = ((λ y e. (cc)), filled_known (a + 1) known texts h)
+filled_known a (None ∷ known) [] h = absurd (omega arith)
+filled_known a (None ∷ known) (t ∷ texts) h = ((λ y e. (cc)), filled_known (a + 1) known texts (omega arith))
+
+picked_count : (a : ℕ) (known : List (Option (List ℕ))) (texts : List (List ℕ)) → AsKnown known texts → length (picked known texts) ≡ length (lost_from a known)
+unfolding AsKnown picked
+picked_count a [] [] h = refl
+picked_count a [] (t ∷ texts) h = absurd h
+picked_count a (k ∷ known) [] h = absurd h
+picked_count a (None ∷ known) (t ∷ texts) h = ap suc (picked_count (a + 1) known texts h.1)
+picked_count a (Some x ∷ known) (t ∷ texts) h = picked_count (a + 1) known texts h.1
+
+picked_sized : (s : ℕ) (known : List (Option (List ℕ))) (texts : List (List ℕ)) → AreSized s texts → AreSized s (picked known texts)
+unfolding picked
+picked_sized s [] texts h = (tt, tt)
+picked_sized s (k ∷ known) [] h = (tt, tt)
+picked_sized s (None ∷ known) (t ∷ texts) h = let rest = picked_sized s known texts (h.0.1, h.1.1) in ((h.0.0, rest.0), (h.1.0, rest.1))
+picked_sized s (Some x ∷ known) (t ∷ texts) h = picked_sized s known texts (h.0.1, h.1.1)
+
+filled_picked : (known : List (Option (List ℕ))) (texts : List (List ℕ)) → AsKnown known texts → filled known (picked known texts) ≡ texts
+unfolding AsKnown picked
+filled_picked [] [] h = refl
+filled_picked [] (t ∷ texts) h = absurd h
+filled_picked (k ∷ known) [] h = absurd h
+filled_picked (None ∷ known) (t ∷ texts) h = ap (λ ts. t ∷ ts) (filled_picked known texts h.1)
+filled_picked (Some x ∷ known) (t ∷ texts) h = ap₂ (λ a b. a ∷ b) (sym (h.0 x refl)) (filled_picked known texts h.1)
+
+-- what the offered equations say is what their recovery slices say
+pub record SaysSo (s : ℕ) (known : List (Option (List ℕ))) (found : List (ℕ × List ℕ)) (system : Equations) : Type 0 where
+  pub columns : system.columns ≡ length (lost_from 0 known)
+  pub bytes : system.bytes ≡ s
+  pub solves : (texts : List (List ℕ)) → AreSized s texts → length texts ≡ length (lost_from 0 known)
+      → Solves system texts ↔ AllByRecursion (λ r. recovery s (filled known texts) r.0 ≡ r.1) found
+
+pub rebuilt_from : (s : ℕ) (known : List (Option (List ℕ))) (found : List (ℕ × List ℕ)) (system : Equations) (texts : List (List ℕ)) → AreKnown s known → SaysSo s known found system
+    → IsTheSolution system texts → IsRebuilt s known found (filled known texts)
+unfolding AsKnown
+rebuilt_from s known found system texts are_known says solution = record {
+  agrees = record {
+    sizes = (sized_filled s 0 known texts are_known sized count).0;
+    bytes = (sized_filled s 0 known texts are_known sized count).1;
+    as_known = filled_known 0 known texts count;
+    as_recovered = (says.solves texts sized count).0 solution.solves;
+  };
+  only = λ others agrees.
+      let lost_ones = picked known others in
+      let whole : filled known lost_ones ≡ others = filled_picked known others agrees.as_known in
+      let ours : AreSized s lost_ones = picked_sized s known others (agrees.sizes, agrees.bytes) in
+      let number : length lost_ones ≡ length (lost_from 0 known) = picked_count 0 known others agrees.as_known in
+      let solved = (says.solves lost_ones ours number).1 (subst (λ slices. AllByRecursion (λ r. recovery s slices r.0 ≡ r.1) found) (sym whole) agrees.as_recovered) in
+      let same = solution.only lost_ones (record { count = number ∙ sym says.columns; sizes = subst (λ n. AllByRecursion (λ text. length text ≡ n) lost_ones) (sym says.bytes) ours.0; bytes = ours.1 }) solved in
+      sym whole ∙ ap (filled known) same;
+}
+  where
+    sized : AreSized s texts
+    sized = (subst (λ n. AllByRecursion (λ text. length text ≡ n) texts) says.bytes solution.are_texts.sizes, solution.are_texts.bytes)
+
+    count : length texts ≡ length (lost_from 0 known)
+    count = solution.are_texts.count ∙ says.columns

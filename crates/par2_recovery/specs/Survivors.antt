@@ -1,0 +1,66 @@
+-- What survives of a set's slices.
+use Rattle.std.specs.Prelude.{◌≡◌, ◌+◌, ◌*◌, ◌<◌, ◌^◌, ℕ, List, [], ◌∷◌, length, map, slice_index, bit_xor, Option, Some, None, option_map}
+use Rattle.std.specs.Borrow.{Bor}
+use Rattle.par2_spec.specs.Field.{mul}
+use Rattle.par2_spec.specs.Slices.{padded, word}
+use Rattle.par2_spec.specs.Rank as ranks
+use Rattle.par2_matrix.specs.Echelon.{field_sum, list_at}
+use Rattle.par2_matrix.specs.Systems.{Equations, CutDown}
+use Rattle.par2_recovery.specs.declared.rebuild_slices.RebuildFault.{RebuildFault}
+use Rattle.par2_recovery.specs.declared.rebuild_slices.RebuildFault.TheVariants.{NotRepairable, Memory}
+
+-- the known slices, with their padding
+abbrev pub known_of : ℕ → List (Option (Bor (List ℕ))) → List (Option (List ℕ))
+known_of s known = map (option_map (λ slice. padded s slice.now)) known
+
+-- the surviving recovery slices with their exponents
+abbrev pub recovered_of : List (ℕ × Bor (List ℕ)) → List (ℕ × List ℕ)
+recovered_of recovery = map (λ r. (r.0, r.1.now)) recovery
+
+abbrev pub exponents_of : List (ℕ × Bor (List ℕ)) → List ℕ
+exponents_of recovery = map (λ r. r.0) (recovered_of recovery)
+
+-- the slices, of which the lost ones are these texts, in order
+abbrev pub filled : List (Option (List ℕ)) → List (List ℕ) → List (List ℕ)
+filled [] texts = []
+filled (Some slice ∷ known) texts = slice ∷ filled known texts
+filled (None ∷ known) [] = [] ∷ filled known []
+filled (None ∷ known) (text ∷ texts) = text ∷ filled known texts
+
+-- the numbers of the lost slices, the first slice having the number a, and those of the known ones
+abbrev pub lost_from : {A : Type 0} → ℕ → List (Option A) → List ℕ
+lost_from a [] = []
+lost_from a (None ∷ known) = a ∷ lost_from (a + 1) known
+lost_from a (Some slice ∷ known) = lost_from (a + 1) known
+
+abbrev pub known_from : {A : Type 0} → ℕ → List (Option A) → List ℕ
+known_from a [] = []
+known_from a (None ∷ known) = known_from (a + 1) known
+known_from a (Some slice ∷ known) = a ∷ known_from (a + 1) known
+
+-- the known slices alone
+abbrev pub present : {A : Type 0} → List (Option A) → List A
+present [] = []
+present (None ∷ known) = present known
+present (Some slice ∷ known) = slice ∷ present known
+
+-- what a refusal says: of how many lost slices how many exponents are kept, and that they are too few
+abbrev pub IsTrueFault : List ℕ → List ℕ → RebuildFault → Type 0
+IsTrueFault lost exponents (NotRepairable missing rank) = (missing ≡ length lost) × (rank ≡ ranks.rank lost exponents) × (ranks.IsRepairable lost exponents → ⊥)
+IsTrueFault lost exponents Memory = Unit {0}
+
+-- at each word the sum of the texts, each times its factor
+abbrev pub sum_at : List ℕ → List (List ℕ) → ℕ → ℕ
+sum_at row texts w = field_sum (length texts) (λ k. mul (slice_index row k) (word w (list_at texts k)))
+
+-- a recovery slice without what the known slices give to it
+pub record IsRight (s : ℕ) (row : List ℕ) (texts : List (List ℕ)) (found right : List ℕ) : Type 0 where
+  pub size : length right ≡ s
+  pub bytes : (k : ℕ) → slice_index right k < 2 ^ 8
+  pub words : (w : ℕ) → 2 * w + 1 < s → word w right ≡ bit_xor (word w found) (sum_at row texts w)
+
+-- an equation was kept whose right side is such a text
+pub record CutBy (old new : Equations) (lost_row row : List ℕ) (texts : List (List ℕ)) (found : List ℕ) : Type 0 where
+  pub right : List ℕ
+  pub is_right : IsRight old.bytes row texts found right
+  pub cut : CutDown old new lost_row right
