@@ -5,6 +5,7 @@ use Rattle.std.specs.declared.alloc.Global.{Global}
 use Rattle.par2_spec.specs.Field.{mul}
 use Rattle.par2_spec.specs.Slices.{word, words}
 use Rattle.par2_matrix.specs.Systems.{Equations}
+pub use Rattle.par2_matrix.specs.Systems.{lists_of}
 
 -- the sum in the field of the first n values of f
 unfoldable pub field_sum : ℕ → (ℕ → ℕ) → ℕ
@@ -22,10 +23,6 @@ AreElements f = (i : ℕ) → f i < 2 ^ 16
 -- list i of a list of lists, or the empty one
 abbrev pub list_at : List (List ℕ) → ℕ → List ℕ
 list_at lists i = slice_index_or lists i []
-
--- the lists of a vector of vectors
-abbrev pub lists_of : {A : Type 0} → List (Vec A Global) → List (List A)
-lists_of vs = map (λ v. v.items) vs
 
 -- For each column the row and the right side of the equation with this pivot, or two empty lists.
 pub record Echelon : Type 0 where

@@ -1,7 +1,6 @@
 //! A system of equations.
 ghost use Rattle.std.specs.Prelude.{◌≡◌, ◌≢◌, ℕ, ◌%◌, ◌<◌, ◌≤◌, ◌↔◌, length, IsOk, IfOk, IfErr, Ok};
-ghost use Rattle.par2_matrix.specs.Systems.{Equations, rank, no_equations, CutDown, IsIndependent, IsDependent, IsUndetermined, OnlyZeroIsKilled, IsTheSolution};
-ghost use Rattle.par2_matrix.specs.Echelon.{lists_of};
+ghost use Rattle.par2_matrix.specs.Systems.{Equations, lists_of, rank, no_equations, CutDown, IsIndependent, IsDependent, IsUndetermined, OnlyZeroIsKilled, IsTheSolution};
 
 use crate::elimination::{bytes_of_row, empty_lists, prepare, put_in};
 use par2_gf16::Gf;
