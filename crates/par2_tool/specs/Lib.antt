@@ -1,4 +1,3 @@
-pub mod Gathered
 pub mod Performed
 pub mod Refused
 pub mod Asked
