@@ -1,5 +1,5 @@
 -- The records of files, one after the other.
-use Rattle.std.proofs.Common.{ℕ, ◌+◌, ◌<◌, ◌≡◌, refl, sym, ap, ap₂, ◌∙◌, subst, List, [], ◌∷◌, ◌++◌, length, get_or, map}
+use Rattle.std.proofs.Common.{ℕ, ◌+◌, ◌<◌, ◌≡◌, refl, sym, ap, ap₂, ◌∙◌, List, [], ◌∷◌, ◌++◌, length, get_or, map}
 use Rattle.std.specs.Prelude.{take}
 use Rattle.std.proofs.lemmas.List.{take_more, map-append}
 use Rattle.par2_spec.specs.Folders.{Folder, bytes_of}

@@ -1,6 +1,5 @@
-use Rattle.std.proofs.Common.{◌≡◌, ◌++◌, ◌∷◌, ◌+◌, ◌∙◌, [], List, ℕ, ap, sym, subst, map, rules, get_or, length}
+use Rattle.std.proofs.Common.{◌≡◌, ◌++◌, ◌∷◌, ◌+◌, [], sym, subst, map, rules}
 use Rattle.std.specs.Prelude.{take}
-use Rattle.par2_spec.specs.Folders.{bytes_of}
 use Rattle.par2_spec.specs.Volumes.{record_of}
 use Rattle.par2_spec.specs.Commands.{files_of}
 use Rattle.par2_packets.specs.View.{file_record_of}

@@ -1,4 +1,4 @@
-use Rattle.std.proofs.Common.{◌≡◌, ◌∙◌, List, ℕ, ap, sym, subst, map, rules, length, refl}
+use Rattle.std.proofs.Common.{◌≡◌, ◌∙◌, ap, sym, subst, map, rules, length, refl}
 use Rattle.std.specs.Prelude.{IsPermutation}
 use Rattle.std.specs.List.{IsDistinct}
 use Rattle.std.specs.Str.{bytes_eq}
@@ -25,11 +25,11 @@ returns-in-Ok-clause-files c =
 pub returns-in-Ok-clause-distinct : goal.returns-in-Ok-clause-distinct
 returns-in-Ok-clause-distinct c =
     let ids : map (λ (file : FileRecord). file.id) c.as_mut_slice.result.now ≡ map (λ (file : volumes.FileRecord). file.id) (map (record_of c.args.s) (files_of c.args.folder.now.files c.args.names.now)) =
-        ap (map (λ (file : FileRecord). file.id)) c.as_mut_slice.ensures.value ∙ ids_of c.in_ok-files.files.items ∙ ap (map (λ (file : volumes.FileRecord). file.id)) c.in_ok-files.ensures in
+    ap (map (λ (file : FileRecord). file.id)) c.as_mut_slice.ensures.value ∙ ids_of c.in_ok-files.files.items ∙ ap (map (λ (file : volumes.FileRecord). file.id)) c.in_ok-files.ensures in
     λ _. subst (λ xs. IsDistinct bytes_eq xs) ids (c.in-Ok.ensures.distinct.0 refl)
 
 pub returns-in-Err-clause-duplicate : goal.returns-in-Err-clause-duplicate
 returns-in-Err-clause-duplicate c =
     let ids : map (λ (file : FileRecord). file.id) c.as_mut_slice.result.now ≡ map (λ (file : volumes.FileRecord). file.id) (map (record_of c.args.s) (files_of c.args.folder.now.files c.args.names.now)) =
-        ap (map (λ (file : FileRecord). file.id)) c.as_mut_slice.ensures.value ∙ ids_of c.in_ok-files.files.items ∙ ap (map (λ (file : volumes.FileRecord). file.id)) c.in_ok-files.ensures in
+    ap (map (λ (file : FileRecord). file.id)) c.as_mut_slice.ensures.value ∙ ids_of c.in_ok-files.files.items ∙ ap (map (λ (file : volumes.FileRecord). file.id)) c.in_ok-files.ensures in
     λ _ d. false≢true (c.in-Err.ensures.distinct.1 (subst (λ xs. IsDistinct bytes_eq xs) (sym ids) d))
