@@ -8,3 +8,4 @@ pub mod Ranks
 pub mod Combined
 pub mod Rebuilding
 pub mod Standing
+pub mod Records

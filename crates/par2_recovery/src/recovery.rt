@@ -95,7 +95,7 @@ fn fitting(bytes: &[u8]) -> &[u8]
 }
 
 // The bytes of a file, none where it is absent.
-fn bytes_of<'a>(folder: &'a Folder, name: &str) -> &'a [u8]
+pub(crate) fn bytes_of<'a>(folder: &'a Folder, name: &str) -> &'a [u8]
     requires { IsTrue (is_name name.now) }
     ensures { result.now ≡ bytes_of folder.now.files name.now }
 {

@@ -1,6 +1,19 @@
 //! What a set says of its files.
 
-use par2_packets::FileRecord;
+ghost use Rattle.std.specs.Prelude.{◌≡◌, ◌≤◌, ◌<◌, length, map, slice_index_or, [], IfOk, IsOk, IsTrue, IsPermutation, Err};
+ghost use Rattle.std.specs.List.{IsDistinct};
+ghost use Rattle.std.specs.List.Sorted.{IsStrictlyIncreasing};
+ghost use Rattle.std.specs.Str.{bytes_eq};
+ghost use Rattle.par2_spec.specs.Names.{is_name};
+ghost use Rattle.par2_spec.specs.Volumes.{record_of};
+ghost use Rattle.par2_spec.specs.Commands.{files_of};
+ghost use Rattle.par2_packets.specs.View.{file_record_of, id_number};
+
+use crate::recovery::bytes_of;
+use par2_folder::{Folder, Name};
+use par2_packets::{FileRecord, sort_ids};
+use par2_records::file_record;
+use std::alloc::{AllocError, Global};
 
 /// What a set says of its files.
 #[derive(Drop)]
@@ -9,4 +22,75 @@ pub struct SetRecord {
     pub slice: u64,
     /// The files, in the order of their File IDs.
     pub files: Vec<FileRecord>,
+}
+
+/// Why there is no record.
+#[derive(Clone, Copy, PartialEq, Eq, Debug, Drop)]
+pub enum RecordFault {
+    /// Two files have one File ID.
+    DuplicateId,
+    /// There was no memory.
+    Memory,
+}
+
+impl From<AllocError> for RecordFault {
+    ghost use Rattle.std.specs.Prelude.{◌≡◌};
+    ghost use Rattle.par2_recovery.specs.declared.set_record.RecordFault.TheVariants.{Memory};
+
+    ghost from_gives = { λ _ fault. fault ≡ Memory };
+
+    fn from(_error: AllocError) -> Self {
+        RecordFault::Memory
+    }
+}
+
+// The text of name i.
+fn text_at(names: &[Name], i: usize) -> &str
+    requires { i < length names.now }
+    ensures text { result.now ≡ slice_index_or names.now i [] }
+    ensures name { IsTrue (is_name result.now) }
+{
+    names[i].as_str()
+}
+
+// What a set says of the files of these names.
+fn records(
+    alloc: Global,
+    folder: &Folder,
+    names: &[Name],
+    s: u64,
+) -> Result<Vec<FileRecord>, AllocError>
+    requires { 1 ≤ s }
+    ensures { IfOk result (λ records. map file_record_of records.items ≡ map (record_of s) (files_of folder.now.files names.now)) }
+{
+    let mut records = Vec::with_capacity(alloc, names.len())?;
+    for i in 0..names.len() {
+        let name = text_at(names, i);
+        records.push(file_record(alloc, name, bytes_of(folder, name), s)?)?;
+    }
+    Ok(records)
+}
+
+impl SetRecord {
+    /// What a set of slice size `s` says of the files of these names. DuplicateId is answered exactly where two of them
+    /// have one File ID.
+    pub fn of_files(
+        alloc: Global,
+        folder: &Folder,
+        names: &[Name],
+        s: u64,
+    ) -> Result<SetRecord, RecordFault>
+        requires { 1 ≤ s }
+        ensures slice { IfOk result (λ set. set.slice ≡ s) }
+        ensures files { IfOk result (λ set. IsPermutation (map (record_of s) (files_of folder.now.files names.now)) (map file_record_of set.files.items)) }
+        ensures rising { IfOk result (λ set. IsStrictlyIncreasing (map id_number set.files.items)) }
+        ensures distinct { IsOk result → IsDistinct bytes_eq (map (λ file. file.id) (map (record_of s) (files_of folder.now.files names.now))) }
+        ensures duplicate { result ≡ Err RecordFault.DuplicateId → IsDistinct bytes_eq (map (λ file. file.id) (map (record_of s) (files_of folder.now.files names.now))) → ⊥ }
+    {
+        let mut files = records(alloc, folder, names, s)?;
+        match sort_ids(files.as_mut_slice()) {
+            Ok(()) => Ok(SetRecord { slice: s, files }),
+            Err(_) => Err(RecordFault::DuplicateId),
+        }
+    }
 }
