@@ -2,47 +2,25 @@
 #![tactic(auto)]
 
 ghost use Rattle.std.specs.Prelude.{◌≡◌, ◌≤◌, length, map, take, IfOk};
-ghost use Rattle.par2_spec.specs.Checksums.{crc32, pair_of};
-ghost use Rattle.par2_spec.specs.Slices.{padded, slices};
+ghost use Rattle.par2_spec.specs.Checksums as checksums;
+ghost use Rattle.par2_spec.specs.Slices.{slices};
 ghost use Rattle.par2_spec.specs.Volumes.{record_of};
 ghost use Rattle.par2_packets.specs.View.{file_record_of};
 
 use md5::{Digest, Md5};
 use par2_packets::{FileRecord, Pair, file_id};
-use par2_slices::{crc32, padded_md5, slice_bytes, slice_count};
+use par2_slices::{pair_of, slice_bytes, slice_count};
 use std::alloc::{AllocError, Global};
-
-// The CRC-32 of the slice that zeros make of these bytes: only a file's last slice is copied for it.
-fn padded_crc32(alloc: Global, bytes: &[u8], s: u64) -> Result<u32, AllocError>
-    requires { length bytes.now ≤ s }
-    ensures { IfOk result (λ value. value ≡ crc32 (padded s bytes.now)) }
-{
-    if bytes.len() as u64 == s {
-        return Ok(crc32(bytes));
-    }
-    let mut slice = Vec::with_capacity(alloc, s as usize)?;
-    slice.extend_from_slice(bytes)?;
-    slice.resize(s as usize, 0)?;
-    Ok(crc32(&slice))
-}
-
-// The checksums of the slice that zeros make of these bytes.
-fn pair(alloc: Global, bytes: &[u8], s: u64) -> Result<Pair, AllocError>
-    requires { length bytes.now ≤ s }
-    ensures { IfOk result (λ value. value ≡ pair_of (padded s bytes.now)) }
-{
-    Ok((padded_md5(bytes, s), padded_crc32(alloc, bytes, s)?))
-}
 
 // The checksums of the slices of a file.
 fn pairs(alloc: Global, bytes: &[u8], s: u64) -> Result<Vec<Pair>, AllocError>
     requires { 1 ≤ s }
-    ensures { IfOk result (λ pairs. pairs.items ≡ map pair_of (slices s bytes.now)) }
+    ensures { IfOk result (λ pairs. pairs.items ≡ map checksums.pair_of (slices s bytes.now)) }
 {
     let count = slice_count(bytes.len() as u64, s);
     let mut pairs = Vec::with_capacity(alloc, count as usize)?;
     for j in 0..count {
-        pairs.push(pair(alloc, slice_bytes(bytes, s, j), s)?)?;
+        pairs.push(pair_of(slice_bytes(bytes, s, j), s))?;
     }
     Ok(pairs)
 }

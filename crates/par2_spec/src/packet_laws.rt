@@ -35,7 +35,7 @@ pub fn main_is_read()
     ensures { (s : ℕ) (files : List FileRecord) → s < 2 ^ 64 → length files < 2 ^ 32
         → AllByRecursion (λ file. length file.id ≡ 16) files
         → read_main Main (main_bytes s files)
-            ≡ Some (record { slice_size = s; ids = map (λ file. file.id) files }) }
+        ≡ Some (record { slice_size = s; ids = map (λ file. file.id) files }) }
 {}
 
 /// A FileDesc that was written says what was given.
@@ -43,11 +43,12 @@ pub fn desc_is_read()
     ensures { (file : FileRecord) → length file.id ≡ 16 → length file.digest ≡ 16
         → length file.digest_16k ≡ 16 → file.size < 2 ^ 64 → list_any (λ b. b == 0) file.name ≡ false
         → read_desc FileDesc (desc_bytes file) ≡ Some (record {
-            id = file.id;
-            digest = file.digest;
-            digest_16k = file.digest_16k;
-            size = file.size;
-            name = file.name }) }
+          id = file.id;
+          digest = file.digest;
+          digest_16k = file.digest_16k;
+          size = file.size;
+          name = file.name;
+        }) }
 {}
 
 /// An IFSC that was written says what was given.
@@ -103,5 +104,5 @@ pub fn recovery_slices_are_read()
     ensures { (s : ℕ) (id : List ℕ) (slices : List (List ℕ)) (e n : ℕ) (text : List ℕ)
         → length id ≡ 16 → s % 4 ≡ 0 → s < 2 ^ 60
         → accepted (flat_map packet (recovery_packets s id slices e n) ++ text)
-            ≡ recovery_packets s id slices e n ++ accepted text }
+        ≡ recovery_packets s id slices e n ++ accepted text }
 {}
