@@ -160,6 +160,10 @@ fn byte_at(bytes: &[u8], at: usize) -> u8
 
 /// For each pair the least offset at which the window of `s` bytes of the file matches it, zeros standing past
 /// the end of the file; None where there is no such offset.
+///
+/// It costs one slide and one look at a filter for each offset, and one MD5 of `s` bytes for each window whose CRC
+/// is that of a pair without an answer. At worst each window has such a CRC and none the MD5: then it costs an MD5
+/// of `s` bytes for each offset, which only pairs that were made for it lead to.
 pub fn find(
     alloc: Global,
     bytes: &[u8],
