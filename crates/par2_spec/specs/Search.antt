@@ -5,11 +5,11 @@ use Rattle.std.specs.List.{list_all, enumerate_from, AllByRecursion}
 use Rattle.std.specs.Str.{bytes_eq}
 use Rattle.par2_spec.specs.Checksums.{Pair, pair_of}
 use Rattle.par2_spec.specs.Slices.{slices}
-use Rattle.par2_spec.specs.Windows.{windows, is_match, Matches, found}
+use Rattle.par2_spec.specs.Windows.{windows, is_match}
 use Rattle.par2_spec.specs.Names.{is_among, distinct}
 use Rattle.par2_spec.specs.Folders.{Folder, has, bytes_of}
 use Rattle.par2_spec.specs.Sets.{ParSet, Target}
-pub use Rattle.par2_spec.specs.Windows.{window, first_match}
+pub use Rattle.par2_spec.specs.Windows.{window, Matches, found, first_match}
 
 -- the names that are searched: those of the targets that are in the folder, then the extra ones
 abbrev pub candidates : Folder → ParSet → List (List ℕ) → List (List ℕ)
