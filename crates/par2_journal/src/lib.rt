@@ -13,3 +13,6 @@ pub use par2_spec::Action;
 pub use prepared::{Prepared, SessionFault};
 pub use session::Session;
 pub use step::{Step, Steps};
+
+#[cfg(test)]
+mod tests;

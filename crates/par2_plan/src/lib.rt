@@ -9,3 +9,6 @@ mod words;
 pub use changes::Changes;
 pub use create::plan_create;
 pub use par2_spec::{CreateArgs, Fault};
+
+#[cfg(test)]
+mod tests;

@@ -1,0 +1,116 @@
+//! Worked examples of a session, and each refusal that it knows.
+ghost use Rattle.std.specs.Prelude.{IfOk};
+ghost use Rattle.par2_spec.specs.Views.{create_args_of};
+ghost use Rattle.par2_plan.specs.Plain.{IsPlainCreate};
+
+use crate::{Action, CreateArgs, Fault, NothingToRedo, NothingToUndo, Session, SessionFault, Step};
+use par2_folder::{Bytes, Change, Folder, Name};
+use std::alloc::{AllocError, Global};
+use std::process::Abort;
+use std::test::Fail;
+
+// A create of this index over the file `a`.
+fn args_of(alloc: Global, base: &str) -> Result<CreateArgs, AllocError>
+    ensures { IfOk result (λ args. IsPlainCreate (create_args_of args)) }
+{
+    let mut inputs = Vec::new(alloc);
+    inputs.push(String::from_str(alloc, "a")?)?;
+    Ok(CreateArgs {
+        slice: 4,
+        count: 0,
+        first: 0,
+        base: String::from_str(alloc, base)?,
+        inputs,
+        overwrite: false,
+    })
+}
+
+// A session on a folder with the file `a`.
+fn session_of<R: Abort + AllocGlobal>(rt: &R) -> Result<Session, Fail> {
+    let mut folder = Folder::new(rt.alloc());
+    folder.reserve(1)?;
+    let name = Name::new("a").expect(rt, "a name");
+    let mut write = Change::Write(name, Bytes::copy_of(rt.alloc(), b"abcdefgh")?);
+    assert!(rt; folder.apply(&mut write).is_ok());
+    Ok(Session::new(rt.alloc(), folder))
+}
+
+// The length of a file, where there is one.
+fn length_of(session: &Session, text: &str) -> Option<usize> {
+    let Ok(name) = Name::new(text) else {
+        return None;
+    };
+    Some(session.folder().get(&name)?.len())
+}
+
+#[test]
+fn create_then_undo(rt: HostRuntime) -> Result<(), Fail> {
+    let mut session = session_of(&rt)?;
+    let before = session.folder().fingerprint(rt.alloc())?;
+    let args = args_of(rt.alloc(), "t.par2")?;
+    let Ok(steps) = session.create(rt.alloc(), &args) else {
+        panic!(rt; "refused");
+    };
+    assert_eq!(rt; steps.len(), 1);
+    assert!(rt; matches!(steps.as_slice(), [Step::Write(name)] if name.as_str() == "t.par2"));
+    assert_eq!(rt; length_of(&session, "t.par2"), Some(420));
+    assert_eq!(rt; session.undo_depth(), 1);
+    assert_eq!(rt; session.undo(), Ok(()));
+    assert_eq!(rt; session.folder().fingerprint(rt.alloc())?, before);
+    assert_eq!(rt; session.undo(), Err(NothingToUndo));
+    assert_eq!(rt; session.redo_depth(), 1);
+    Ok(())
+}
+
+#[test]
+fn redo_after_undo(rt: HostRuntime) -> Result<(), Fail> {
+    let mut session = session_of(&rt)?;
+    let args = args_of(rt.alloc(), "t.par2")?;
+    assert!(rt; session.create(rt.alloc(), &args).is_ok());
+    assert_eq!(rt; session.undo(), Ok(()));
+    assert_eq!(rt; session.redo(), Ok(()));
+    assert_eq!(rt; length_of(&session, "t.par2"), Some(420));
+    assert_eq!(rt; session.undo(), Ok(()));
+    let other = args_of(rt.alloc(), "u.par2")?;
+    assert!(rt; session.create(rt.alloc(), &other).is_ok());
+    assert_eq!(rt; session.redo(), Err(NothingToRedo));
+    assert_eq!(rt; length_of(&session, "t.par2"), None);
+    assert_eq!(rt; length_of(&session, "u.par2"), Some(420));
+    Ok(())
+}
+
+#[test]
+fn prepared_and_committed(rt: HostRuntime) -> Result<(), Fail> {
+    let mut session = session_of(&rt)?;
+    let action = Action::Create(args_of(rt.alloc(), "t.par2")?);
+    let Ok(prepared) = session.prepare(rt.alloc(), &action) else {
+        panic!(rt; "refused");
+    };
+    assert_eq!(rt; session.changes(&prepared).len(), 1);
+    assert_eq!(rt; prepared.steps().len(), 1);
+    assert_eq!(rt; length_of(&session, "t.par2"), None);
+    assert_eq!(rt; session.commit(prepared).len(), 1);
+    assert_eq!(rt; length_of(&session, "t.par2"), Some(420));
+    match session.prepare(rt.alloc(), &action) {
+        Ok(_) => panic!(rt; "the index is written twice"),
+        Err(fault) => assert_eq!(rt; fault, SessionFault::Plan(Fault::Exists)),
+    }
+    Ok(())
+}
+
+// The second create and the second undo are refused.
+#[test]
+fn plays_on_after_a_refusal(rt: HostRuntime) -> Result<(), Fail> {
+    let mut session = session_of(&rt)?;
+    let actions = [
+        Action::Create(args_of(rt.alloc(), "t.par2")?),
+        Action::Create(args_of(rt.alloc(), "t.par2")?),
+        Action::Undo,
+        Action::Undo,
+        Action::Redo,
+    ];
+    assert_eq!(rt; session.play(rt.alloc(), &actions), 3);
+    assert_eq!(rt; length_of(&session, "t.par2"), Some(420));
+    assert_eq!(rt; session.undo_depth(), 1);
+    Ok(())
+}
