@@ -208,21 +208,23 @@ fn index_is_written(rt: HostRuntime) -> Result<(), Fail> {
 }
 
 #[test]
-fn recovery_slices_are_written(rt: HostRuntime) -> Result<(), Fail> {
+fn volumes_are_written(rt: HostRuntime) -> Result<(), Fail> {
     let alloc = rt.alloc();
     let id = main_id(4, &Vec::from_array(alloc, [record_of_a(alloc)?])?);
-    for (exponent, bytes) in [
-        (0, *b"\x04\x04\x04\x0c"),
-        (1, *b"\x5d\x4d\x51\x79"),
-        (2, *b"\xe5\x9f\xcd\x67"),
-    ] {
-        let mut text = Vec::new(alloc);
-        append_recovery(alloc, &mut text, &id, exponent, &bytes)?;
-        assert_eq!(rt; text, recovery(alloc, exponent)?);
-    }
-    // So the volumes of the set have 492 and 564 bytes.
-    assert_eq!(rt; index(alloc)?.len(), 420);
-    assert_eq!(rt; recovery(alloc, 0)?.len(), 72);
+
+    let mut first = index(alloc)?;
+    append_recovery(alloc, &mut first, &id, 0, b"\x04\x04\x04\x0c")?;
+    assert_eq!(rt; first, volume(alloc)?);
+    assert_eq!(rt; first.len(), 492);
+
+    let mut second = index(alloc)?;
+    append_recovery(alloc, &mut second, &id, 1, b"\x5d\x4d\x51\x79")?;
+    append_recovery(alloc, &mut second, &id, 2, b"\xe5\x9f\xcd\x67")?;
+    let mut expected = index(alloc)?;
+    expected.extend_from_slice(&recovery(alloc, 1)?)?;
+    expected.extend_from_slice(&recovery(alloc, 2)?)?;
+    assert_eq!(rt; second, expected);
+    assert_eq!(rt; second.len(), 564);
     Ok(())
 }
 
