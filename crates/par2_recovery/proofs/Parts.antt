@@ -11,7 +11,7 @@ use Rattle.par2_spec.specs.Slices.{word}
 use Rattle.par2_spec.proofs.FieldOrder.{product-zero}
 use Rattle.par2_gf16.specs.Steps.{AddsWithin}
 use Rattle.par2_gf16.specs.Products.{AddsProducts}
-use Rattle.par2_gf16.proofs.WordLaws.{adds_after}
+use Rattle.par2_recovery.proofs.AddsAfter.{adds_after}
 
 front : (a : ℕ) (xs : List ℕ) → a ≤ length xs → length (take a xs) ≡ a
 front a xs h = omega (arith, length-take {A = ℕ})

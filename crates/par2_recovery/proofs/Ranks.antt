@@ -11,7 +11,7 @@ use Rattle.par2_spec.specs.Recovery.{dot, coefficients}
 use Rattle.par2_spec.specs.Rank.{IsVector, is_independent, smaller, kept}
 use Rattle.par2_spec.proofs.FieldOrder.{product-zero}
 use Rattle.par2_matrix.specs.Systems as systems
-use Rattle.par2_matrix.specs.Systems.{Equations, CutDown, TellsApart, KillsZeroAlone}
+use Rattle.par2_matrix.specs.Systems.{Equations, CutDown, IsIndependent, OnlyZeroIsKilled}
 use Rattle.std.specs.Prelude.{Result, Ok}
 use Rattle.std.specs.declared.alloc.AllocError.{AllocError}
 use Rattle.par2_matrix.specs.declared.system.Offer.{Offer}
@@ -63,7 +63,7 @@ is_kept lost all e = is_independent (length lost) (map (coefficients lost) (smal
 -- the equations of the first i exponents were offered
 pub record Eliminated (lost all : List ℕ) (i : ℕ) (s : Equations) : Type 0 where
   pub columns : s.columns ≡ length lost
-  pub kills : (v : List ℕ) → IsVector (length lost) v → systems.Kills s v ↔ AllKill (map (coefficients lost) (take i all)) v
+  pub kills : (v : List ℕ) → IsVector (length lost) v → systems.IsKilled s v ↔ AllKill (map (coefficients lost) (take i all)) v
   pub rank : systems.rank s ≡ length (filter (is_kept lost all) (take i all))
 
 all_killed_more : (rows : List (List ℕ)) (row v : List ℕ) → AllKill (rows ++ row ∷ []) v ↔ (AllKill rows v × (dot row v ≡ 0))
@@ -99,15 +99,15 @@ append-none : (xs : List ℕ) → xs ++ [] ≡ xs
 append-none [] = refl
 append-none (x ∷ xs) = ap (λ ys. x ∷ ys) (append-none xs)
 
-pub kept_is : (lost all : List ℕ) (i : ℕ) (s : Equations) → IsStrictlyIncreasing all → i < length all → Eliminated lost all i s → TellsApart s (coefficients lost (get_or all i 0))
+pub kept_is : (lost all : List ℕ) (i : ℕ) (s : Equations) → IsStrictlyIncreasing all → i < length all → Eliminated lost all i s → IsIndependent s (coefficients lost (get_or all i 0))
     → is_kept lost all (get_or all i 0) ≡ true
 kept_is lost all i s up h so_far told =
     let vector : IsVector (length lost) told.vector = subst (λ n. IsVector n told.vector) so_far.columns told.is_vector in
     is_kept_at lost all i up h
     ∙ independent (length lost) (map (coefficients lost) (take i all)) (coefficients lost (get_or all i 0))
-    (told.vector, vector, (so_far.kills told.vector vector).0 told.killed, told.told)
+    (told.vector, vector, (so_far.kills told.vector vector).0 told.killed, told.not_killed)
 
-pub dependent_is : (lost all : List ℕ) (i : ℕ) (s : Equations) → IsStrictlyIncreasing all → i < length all → Eliminated lost all i s → systems.Follows s (coefficients lost (get_or all i 0))
+pub dependent_is : (lost all : List ℕ) (i : ℕ) (s : Equations) → IsStrictlyIncreasing all → i < length all → Eliminated lost all i s → systems.IsDependent s (coefficients lost (get_or all i 0))
     → is_kept lost all (get_or all i 0) ≡ false
 dependent_is lost all i s up h so_far follows =
     is_kept_at lost all i up h
@@ -116,27 +116,27 @@ dependent_is lost all i s up h so_far follows =
 
 -- an equation was kept
 pub one_kept : (lost all : List ℕ) (i : ℕ) (s new : Equations) (right : List ℕ) → IsStrictlyIncreasing all → i < length all → Eliminated lost all i s
-    → new.columns ≡ s.columns → CutDown s new (coefficients lost (get_or all i 0)) right → TellsApart s (coefficients lost (get_or all i 0)) → Eliminated lost all (i + 1) new
+    → new.columns ≡ s.columns → CutDown s new (coefficients lost (get_or all i 0)) right → IsIndependent s (coefficients lost (get_or all i 0)) → Eliminated lost all (i + 1) new
 one_kept lost all i s new right up h so_far same cut told = record {
   columns = same ∙ so_far.columns;
   kills = λ v is.
       let old = so_far.kills v is in
       let now = cut.kills v (subst (λ n. IsVector n v) (sym so_far.columns) is) in
       let more = all_killed_more (map (coefficients lost) (take i all)) (coefficients lost (get_or all i 0)) v in
-      subst (λ rows. systems.Kills new v ↔ AllKill rows v) (sym (rows_more lost all i h))
+      subst (λ rows. systems.IsKilled new v ↔ AllKill rows v) (sym (rows_more lost all i h))
       ((λ k. more.1 (old.0 (now.0 k).0, (now.0 k).1)), (λ k. now.1 (old.1 (more.0 k).0, (more.0 k).1)));
   rank = cut.rank ∙ ap (λ n. n + 1) so_far.rank ∙ sym (ap length (kept_more (is_kept lost all) all i true h (kept_is lost all i s up h so_far told)) ∙ length-more (filter (is_kept lost all) (take i all)) (get_or all i 0));
 }
 
 -- an equation was not kept
 pub none_kept : (lost all : List ℕ) (i : ℕ) (s : Equations) → IsStrictlyIncreasing all → i < length all → Eliminated lost all i s
-    → systems.Follows s (coefficients lost (get_or all i 0)) → Eliminated lost all (i + 1) s
+    → systems.IsDependent s (coefficients lost (get_or all i 0)) → Eliminated lost all (i + 1) s
 none_kept lost all i s up h so_far follows = record {
   columns = so_far.columns;
   kills = λ v is.
       let old = so_far.kills v is in
       let more = all_killed_more (map (coefficients lost) (take i all)) (coefficients lost (get_or all i 0)) v in
-      subst (λ rows. systems.Kills s v ↔ AllKill rows v) (sym (rows_more lost all i h))
+      subst (λ rows. systems.IsKilled s v ↔ AllKill rows v) (sym (rows_more lost all i h))
       ((λ k. more.1 (old.0 k, follows v (subst (λ n. IsVector n v) (sym so_far.columns) is) k)), (λ k. old.1 (more.0 k).0));
   rank = so_far.rank ∙ sym (ap length (kept_more (is_kept lost all) all i false h (dependent_is lost all i s up h so_far follows) ∙ append-none (filter (is_kept lost all) (take i all))));
 }
@@ -148,7 +148,7 @@ dot_zeros [] v h = refl
 dot_zeros (c ∷ row) [] h = refl
 dot_zeros (c ∷ row) (x ∷ v) h = ap₂ bit_xor (ap (mul c) h.0 ∙ product-zero c) (dot_zeros row v h.1)
 
-pub full_follows : (s : Equations) (row : List ℕ) → KillsZeroAlone s → systems.Follows s row
+pub full_follows : (s : Equations) (row : List ℕ) → OnlyZeroIsKilled s → systems.IsDependent s row
 full_follows s row alone v is killed = dot_zeros row v (alone v is killed)
 
 pub all_offered : (lost all : List ℕ) (i : ℕ) (s : Equations) → i ≡ length all → Eliminated lost all i s → systems.rank s ≡ length (kept lost all)
@@ -161,8 +161,8 @@ all_offered lost all i s e so_far = so_far.rank ∙ ap (λ xs. length (filter (i
 -- what an offer gives, kept or not
 pub offered : (lost all : List ℕ) (i : ℕ) (s new : Equations) (right : List ℕ) (r : Result Offer AllocError) (o : Offer) → r ≡ Ok o → IsStrictlyIncreasing all → i < length all
     → Eliminated lost all i s → new.columns ≡ s.columns
-    → (r ≡ Ok Kept → CutDown s new (coefficients lost (get_or all i 0)) right) → (r ≡ Ok Kept → TellsApart s (coefficients lost (get_or all i 0)))
-    → (r ≡ Ok Dependent → systems.Follows s (coefficients lost (get_or all i 0))) → (r ≢ Ok Kept → new ≡ s) → Eliminated lost all (i + 1) new
+    → (r ≡ Ok Kept → CutDown s new (coefficients lost (get_or all i 0)) right) → (r ≡ Ok Kept → IsIndependent s (coefficients lost (get_or all i 0)))
+    → (r ≡ Ok Dependent → systems.IsDependent s (coefficients lost (get_or all i 0))) → (r ≢ Ok Kept → new ≡ s) → Eliminated lost all (i + 1) new
 offered lost all i s new right r Kept is up h so_far same cut told follows still = one_kept lost all i s new right up h so_far same (cut is) (told is)
 offered lost all i s new right r Dependent is up h so_far same cut told follows still =
     let other : r ≡ Ok Kept → ⊥ = λ k. (cc) in

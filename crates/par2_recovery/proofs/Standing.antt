@@ -12,7 +12,7 @@ use Rattle.par2_spec.specs.Recovery.{dot, coefficients, combination, recovery}
 use Rattle.par2_spec.specs.Rank.{kept, kept_slices, IsRebuilt}
 use Rattle.par2_spec.specs.Search.{lost}
 use Rattle.par2_matrix.specs.Systems as systems
-use Rattle.par2_matrix.specs.Systems.{Equations, CutDown, TellsApart, Follows, Solves, AreTexts, KillsZeroAlone, IsTheSolution}
+use Rattle.par2_matrix.specs.Systems.{Equations, CutDown, IsIndependent, IsDependent, Solves, AreTexts, OnlyZeroIsKilled, IsTheSolution}
 use Rattle.par2_matrix.specs.declared.system.Offer.{Offer}
 use Rattle.par2_matrix.specs.declared.system.Offer.TheVariants.{Kept, Dependent}
 use Rattle.par2_recovery.specs.Survivors.{filled, known_of, lost_from, known_from, present, IsRight, CutBy}
@@ -123,8 +123,8 @@ pub stands_more : (s : ℕ) (known : List (Option (List ℕ))) (recs : List (ℕ
     → IsStrictlyIncreasing (map (λ r. r.0) recs) → i < length recs → length (get_or recs i (0, [])).1 ≡ s → ((k : ℕ) → get_or (get_or recs i (0, [])).1 k 0 < 256)
     → Standing s known recs i system → new.columns ≡ system.columns → new.bytes ≡ system.bytes
     → (r ≡ Ok Kept → CutBy system new (coefficients (lost_from 0 known) (get_or recs i (0, [])).0) (coefficients (known_from 0 known) (get_or recs i (0, [])).0) texts (get_or recs i (0, [])).1)
-    → (r ≡ Ok Kept → TellsApart system (coefficients (lost_from 0 known) (get_or recs i (0, [])).0))
-    → (r ≡ Ok Dependent → Follows system (coefficients (lost_from 0 known) (get_or recs i (0, [])).0)) → (r ≢ Ok Kept → new ≡ system)
+    → (r ≡ Ok Kept → IsIndependent system (coefficients (lost_from 0 known) (get_or recs i (0, [])).0))
+    → (r ≡ Ok Dependent → IsDependent system (coefficients (lost_from 0 known) (get_or recs i (0, [])).0)) → (r ≢ Ok Kept → new ≡ system)
     → Standing s known recs (i + 1) new
 stands_more s known recs i system new texts r Kept is even are_known same count up h size bytes before columns new_bytes cut told follows still =
     let found = get_or recs i (0, []) in
@@ -133,7 +133,7 @@ stands_more s known recs i system new texts r Kept is even are_known same count 
     let low : i < length all = omega (arith, length-map recs (λ (r : ℕ × List ℕ). r.0)) in
     let e : get_or all i 0 ≡ found.0 = get_or-map (λ (r : ℕ × List ℕ). r.0) recs i (0, []) 0 h in
     let made = cut is in
-    let told_here : TellsApart system (coefficients lost_ones (get_or all i 0)) = subst (λ x. TellsApart system (coefficients lost_ones x)) (sym e) (told is) in
+    let told_here : IsIndependent system (coefficients lost_ones (get_or all i 0)) = subst (λ x. IsIndependent system (coefficients lost_ones x)) (sym e) (told is) in
     let cut_here : CutDown system new (coefficients lost_ones (get_or all i 0)) made.right = subst (λ x. CutDown system new (coefficients lost_ones x) made.right) (sym e) made.cut in
     let yes_kept : is_kept lost_ones all found.0 ≡ true = ap (is_kept lost_ones all) (sym e) ∙ kept_is lost_ones all i system up low before.so_far told_here in
     let fits : length (coefficients (known_from 0 known) found.0) ≤ length texts = omega (arith, length-map (known_from 0 known) (coefficient found.0)) in
@@ -163,7 +163,7 @@ stands_more s known recs i system new texts r Dependent is even are_known same c
     let all = map (λ (r : ℕ × List ℕ). r.0) recs in
     let low : i < length all = omega (arith, length-map recs (λ (r : ℕ × List ℕ). r.0)) in
     let e : get_or all i 0 ≡ found.0 = get_or-map (λ (r : ℕ × List ℕ). r.0) recs i (0, []) 0 h in
-    let follows_here : Follows system (coefficients lost_ones (get_or all i 0)) = subst (λ x. Follows system (coefficients lost_ones x)) (sym e) (follows is) in
+    let follows_here : IsDependent system (coefficients lost_ones (get_or all i 0)) = subst (λ x. IsDependent system (coefficients lost_ones x)) (sym e) (follows is) in
     let not_kept : is_kept lost_ones all found.0 ≡ false = ap (is_kept lost_ones all) (sym e) ∙ dependent_is lost_ones all i system up low before.so_far follows_here in
     let other : r ≡ Ok Kept → ⊥ = λ k. (cc) in
     subst (λ x. Standing s known recs (i + 1) x) (sym (still other))
@@ -203,7 +203,7 @@ rows_kill : (lost_ones : List ℕ) (v : List ℕ) (all : List ℕ) → AllKill (
 rows_kill lost_ones v [] h = tt
 rows_kill lost_ones v (e ∷ all) h = (h.0, rows_kill lost_ones v all h.1)
 
-pub repairable_iff : (lost_ones all : List ℕ) (i : ℕ) (system : Equations) → i ≡ length all → Eliminated lost_ones all i system → KillsZeroAlone system ↔ IsRepairable lost_ones all
+pub repairable_iff : (lost_ones all : List ℕ) (i : ℕ) (system : Equations) → i ≡ length all → Eliminated lost_ones all i system → OnlyZeroIsKilled system ↔ IsRepairable lost_ones all
 repairable_iff lost_ones all i system e so_far = (
   (λ alone v is killed.
       alone v (subst (λ n. IsVector n v) (sym so_far.columns) is)
@@ -262,8 +262,8 @@ pub stands_step : (s : ℕ) (known : List (Option (List ℕ))) (recs : List (ℕ
     → IsStrictlyIncreasing (map (λ r. r.0) recs) → i < length recs → length (get_or recs i (0, [])).1 ≡ s → ((k : ℕ) → get_or found' k 0 < 256)
     → Standing s known recs i system → new.columns ≡ system.columns → new.bytes ≡ system.bytes
     → (r ≡ Ok Kept → CutBy system new (coefficients lost' e') (coefficients numbers' e') texts' found')
-    → (r ≡ Ok Kept → TellsApart system (coefficients lost' e'))
-    → (r ≡ Ok Dependent → Follows system (coefficients lost' e')) → (r ≢ Ok Kept → new ≡ system)
+    → (r ≡ Ok Kept → IsIndependent system (coefficients lost' e'))
+    → (r ≡ Ok Dependent → IsDependent system (coefficients lost' e')) → (r ≢ Ok Kept → new ≡ system)
     → Standing s known recs (i + 1) new
 stands_step s known recs i system new lost' numbers' e' found' texts' texts r o is el en ee ef et even are same count up h size bytes before columns new_bytes cut told follows still =
     let row : coefficients lost' e' ≡ coefficients (lost_from 0 known) (get_or recs i (0, [])).0 = ap₂ coefficients el ee in
@@ -273,10 +273,10 @@ stands_step s known recs i system new lost' numbers' e' found' texts' texts r o 
     (subst (λ x. CutBy system new (coefficients lost' e') x texts (get_or recs i (0, [])).1) own
     (subst (λ x. CutBy system new (coefficients lost' e') (coefficients numbers' e') x (get_or recs i (0, [])).1) et
     (subst (λ x. CutBy system new (coefficients lost' e') (coefficients numbers' e') texts' x) ef (cut k)))))
-    (λ k. subst (TellsApart system) row (told k)) (λ k. subst (Follows system) row (follows k)) still
+    (λ k. subst (IsIndependent system) row (told k)) (λ k. subst (IsDependent system) row (follows k)) still
 
 pub finished_ok : (s : ℕ) (known : List (Option (List ℕ))) (recs : List (ℕ × List ℕ)) (i : ℕ) (system : Equations) (texts : List (List ℕ)) → i ≡ length recs → AreKnown s known → Standing s known recs i system
-    → IsTheSolution system texts → systems.rank system ≡ system.columns → (systems.rank system ≡ system.columns) ↔ KillsZeroAlone system
+    → IsTheSolution system texts → systems.rank system ≡ system.columns → (systems.rank system ≡ system.columns) ↔ OnlyZeroIsKilled system
     → IsRebuilt s known (kept_slices (lost known) (map (λ r. r.0) recs) recs) (filled known texts) × (length texts ≡ length (lost known)) × IsRepairable (lost known) (map (λ r. r.0) recs)
 finished_ok s known recs i system texts e are stands solution rank full =
     subst (λ ns. IsRebuilt s known (kept_slices ns (map (λ r. r.0) recs) recs) (filled known texts) × (length texts ≡ length ns) × IsRepairable ns (map (λ r. r.0) recs)) (sym (lost_is known)) (
@@ -286,7 +286,7 @@ finished_ok s known recs i system texts e are stands solution rank full =
     )
 
 pub finished_err : (s : ℕ) (known : List (Option (List ℕ))) (recs : List (ℕ × List ℕ)) (i : ℕ) (system : Equations) (missing rank : ℕ) → i ≡ length recs → Standing s known recs i system
-    → (systems.rank system ≡ system.columns → ⊥) → (systems.rank system ≡ system.columns) ↔ KillsZeroAlone system → missing ≡ length (lost_from 0 known) → rank ≡ systems.rank system
+    → (systems.rank system ≡ system.columns → ⊥) → (systems.rank system ≡ system.columns) ↔ OnlyZeroIsKilled system → missing ≡ length (lost_from 0 known) → rank ≡ systems.rank system
     → (missing ≡ length (lost known)) × (rank ≡ length (kept (lost known) (map (λ r. r.0) recs))) × (IsRepairable (lost known) (map (λ r. r.0) recs) → ⊥)
 finished_err s known recs i system missing rank e stands low full count is =
     let all = map (λ (r : ℕ × List ℕ). r.0) recs in

@@ -5,7 +5,7 @@ ghost use Rattle.std.specs.List.Sorted.{IsStrictlyIncreasing};
 ghost use Rattle.par2_spec.specs.Field.{coefficient};
 ghost use Rattle.par2_spec.specs.Recovery.{coefficients};
 ghost use Rattle.par2_spec.specs.Rank.{rank};
-ghost use Rattle.par2_matrix.specs.Systems.{CutDown, TellsApart, Follows};
+ghost use Rattle.par2_matrix.specs.Systems.{CutDown, IsIndependent, IsDependent};
 
 use par2_gf16::Gf;
 use par2_matrix::{Offer, System};
@@ -51,8 +51,8 @@ pub(crate) fn offer(
     requires columns { system.old.columns ≡ length lost.now }
     requires right { length right.items ≡ system.old.bytes }
     ensures kept { result ≡ Ok Offer.Kept → CutDown system.old system.new (coefficients lost.now e) right.items }
-    ensures told { result ≡ Ok Offer.Kept → TellsApart system.old (coefficients lost.now e) }
-    ensures dependent { result ≡ Ok Offer.Dependent → Follows system.old (coefficients lost.now e) }
+    ensures told { result ≡ Ok Offer.Kept → IsIndependent system.old (coefficients lost.now e) }
+    ensures dependent { result ≡ Ok Offer.Dependent → IsDependent system.old (coefficients lost.now e) }
     ensures columns { system.new.columns ≡ system.old.columns }
     ensures bytes { system.new.bytes ≡ system.old.bytes }
     ensures unchanged { result ≢ Ok Offer.Kept → system.new ≡ system.old }

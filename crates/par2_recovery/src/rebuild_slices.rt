@@ -7,7 +7,7 @@ ghost use Rattle.par2_spec.specs.Slices.{word};
 ghost use Rattle.par2_spec.specs.Recovery.{coefficients};
 ghost use Rattle.par2_spec.specs.Search.{lost};
 ghost use Rattle.par2_spec.specs.Rank.{IsRepairable, IsRebuilt, kept_slices};
-ghost use Rattle.par2_matrix.specs.Systems.{TellsApart, Follows};
+ghost use Rattle.par2_matrix.specs.Systems.{IsIndependent, IsDependent};
 ghost use Rattle.par2_matrix.specs.Echelon.{lists_of};
 ghost use Rattle.par2_recovery.specs.Products.{AreBytes};
 ghost use Rattle.par2_recovery.specs.Views.{texts_of};
@@ -162,8 +162,8 @@ fn offer_slice(
     requires size { length bytes.now ≡ system.old.bytes }
     requires even { length bytes.now % 2 ≡ 0 }
     ensures kept { result ≡ Ok Offer.Kept → CutBy system.old system.new (coefficients lost.now e) (coefficients numbers.now e) (texts_of slices.now) bytes.now }
-    ensures told { result ≡ Ok Offer.Kept → TellsApart system.old (coefficients lost.now e) }
-    ensures dependent { result ≡ Ok Offer.Dependent → Follows system.old (coefficients lost.now e) }
+    ensures told { result ≡ Ok Offer.Kept → IsIndependent system.old (coefficients lost.now e) }
+    ensures dependent { result ≡ Ok Offer.Dependent → IsDependent system.old (coefficients lost.now e) }
     ensures columns { system.new.columns ≡ system.old.columns }
     ensures bytes { system.new.bytes ≡ system.old.bytes }
     ensures unchanged { result ≢ Ok Offer.Kept → system.new ≡ system.old }

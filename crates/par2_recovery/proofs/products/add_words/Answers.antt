@@ -1,5 +1,5 @@
 use Rattle.std.proofs.Common.{arith, ◌/◌, ◌+◌}
-use Rattle.par2_gf16.proofs.WordLaws.{adds_after}
+use Rattle.par2_recovery.proofs.AddsAfter.{adds_after}
 use Rattle.par2_recovery.proofs.Parts.{nothing_past, up_to_end}
 use Rattle.par2_recovery.proofs.products.add_words.Goals as goal
 

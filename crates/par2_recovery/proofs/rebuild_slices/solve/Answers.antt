@@ -3,7 +3,7 @@ use Rattle.std.proofs.lemmas.Bool.{false≢true}
 use Rattle.par2_spec.specs.Slices.{padded}
 use Rattle.std.proofs.lemmas.List.{length-map}
 use Rattle.std.specs.Borrow.{Bor}
-use Rattle.par2_matrix.specs.Systems.{KillsZeroAlone, rank}
+use Rattle.par2_matrix.specs.Systems.{OnlyZeroIsKilled, rank}
 use Rattle.std.specs.Prelude.{◌↔◌, refl}
 use Rattle.par2_matrix.specs.Echelon.{lists_of}
 use Rattle.par2_matrix.proofs.Words.{length-lists_of}
@@ -86,8 +86,8 @@ returns-in-Ok c =
     let count : length recs ≡ length c.args.survivors.now.recovery.items = length-map {B = ℕ × List ℕ} c.args.survivors.now.recovery.items (λ (r : ℕ × Bor (List ℕ)). (r.0, r.1.now)) in
     let end : c.len-i-end.result ≡ length c.args.survivors.now.recovery.items = search rules in
     let at_end : c.loop-i.i ≡ length recs = omega (arith, count, end) in
-    let full : (rank c.loop-i.system ≡ c.loop-i.system.columns) ↔ KillsZeroAlone c.loop-i.system =
-    subst (λ n. (n ≡ c.loop-i.system.columns) ↔ KillsZeroAlone c.loop-i.system) c.rank-rank.ensures.value c.rank-rank.ensures.full in
+    let full : (rank c.loop-i.system ≡ c.loop-i.system.columns) ↔ OnlyZeroIsKilled c.loop-i.system =
+    subst (λ n. (n ≡ c.loop-i.system.columns) ↔ OnlyZeroIsKilled c.loop-i.system) c.rank-rank.ensures.value c.rank-rank.ensures.full in
     let found = finished_ok s (known_of s raw) recs c.loop-i.i c.loop-i.system (lists_of c.in-Ok.texts.items) at_end (are_known s raw xs c.requires.known (ap texts_of slices_raw) bytes) c.loop-i.invariant c.in-Ok.ensures.ok (c.in-Ok.ensures.when.0 refl) full in
     (found.0, sym (length-lists_of c.in-Ok.texts.items) ∙ found.1, found.2)
 
@@ -100,8 +100,8 @@ returns c =
     let count : length recs ≡ length c.args.survivors.now.recovery.items = length-map {B = ℕ × List ℕ} c.args.survivors.now.recovery.items (λ (r : ℕ × Bor (List ℕ)). (r.0, r.1.now)) in
     let end : c.len-i-end.result ≡ length c.args.survivors.now.recovery.items = search rules in
     let at_end : c.loop-i.i ≡ length recs = omega (arith, count, end) in
-    let full : (rank c.loop-i.system ≡ c.loop-i.system.columns) ↔ KillsZeroAlone c.loop-i.system =
-    subst (λ n. (n ≡ c.loop-i.system.columns) ↔ KillsZeroAlone c.loop-i.system) c.rank-rank.ensures.value c.rank-rank.ensures.full in
+    let full : (rank c.loop-i.system ≡ c.loop-i.system.columns) ↔ OnlyZeroIsKilled c.loop-i.system =
+    subst (λ n. (n ≡ c.loop-i.system.columns) ↔ OnlyZeroIsKilled c.loop-i.system) c.rank-rank.ensures.value c.rank-rank.ensures.full in
     let n : c.len-missing.result ≡ length c.in_ok-lost.lost.items = search rules in
     finished_err s (known_of s raw) recs c.loop-i.i c.loop-i.system c.len-missing.result c.rank-rank.result at_end c.loop-i.invariant (λ e. false≢true (c.in-Err.ensures.when.1 e)) full
     (n ∙ ap length lost_raw ∙ ap length (sym (lost_of_map (λ slice. padded s slice.now) 0 raw))) c.rank-rank.ensures.value

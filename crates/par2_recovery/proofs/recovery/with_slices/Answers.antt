@@ -11,6 +11,6 @@ loop-j-preserved c =
     let is : c.push.new.self.items ≡ c.loop-j.all.items ++ c.fitting.result ∷ [] = search rules in
     record {
       slices = subst (λ xs. map (padded c.args.s) (texts_of xs) ≡ map (padded c.args.s) (texts_of c.args.slices.items) ++ map (slice_at c.args.s c.args.bytes.now) (range_with_len 0 (c.loop-j.j + 1))) (sym is)
-          (slices_push c.args.s c.loop-j.j c.args.bytes.now c.loop-j.all.items c.fitting.result (map (padded c.args.s) (texts_of c.args.slices.items)) c.loop-j.invariant.slices (c.fitting.ensures.same ∙ c.slice_bytes.ensures));
+          (slices_push c.args.s c.loop-j.j c.args.bytes.now c.loop-j.all.items c.fitting.result (map (padded c.args.s) (texts_of c.args.slices.items)) c.loop-j.invariant.slices (c.fitting.ensures.same ∙ c.slice_bytes.ensures.value));
       bytes = subst (λ xs. AreBytes (texts_of xs)) (sym is) (bytes_push c.loop-j.all.items c.fitting.result c.loop-j.invariant.bytes (subst (λ xs. AllByRecursion (λ b. b < 256) xs) (sym c.fitting.ensures.same) c.fitting.ensures.bytes));
     }
