@@ -8,9 +8,11 @@ ghost use Rattle.std.specs.Str.{bytes_eq};
 ghost use Rattle.par2_packets.specs.View.{id_number};
 
 use crate::record::FileRecord;
+use thiserror::Error;
 
 /// Two files have one File ID.
-#[derive(Clone, Copy, PartialEq, Eq, Debug, Drop)]
+#[derive(Debug, Error, Clone, Copy, PartialEq, Eq)]
+#[error("two files have one File ID")]
 pub struct DuplicateId;
 
 fn little_endian(id: &[u8; 16]) -> u128

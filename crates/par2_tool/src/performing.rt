@@ -24,9 +24,9 @@ pub enum PerformFault {
     Store,
 }
 
-/// Performs an action, and answers the steps of its changes: what it wants is made ready in memory, its changes are made in the store, and the session
-/// goes along. After a refusal store and session are as before. After Store some of the changes are made, from the
-/// first on, and the session is to be dropped and opened again.
+/// Performs an action, and answers the steps of its changes: what it wants is made ready in memory, its changes are
+/// made in the store, and the session goes along. After a refusal store and session are as before. After Store some of
+/// the changes are made, from the first on, and the session is to be dropped and opened again.
 pub fn perform<S: FolderStore>(
     alloc: Global,
     store: &mut S,
