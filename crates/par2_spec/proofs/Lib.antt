@@ -34,5 +34,6 @@ pub mod RowsJournals
 pub mod RowsFolders
 pub mod RowsRank
 pub mod UniqueLaws
+pub mod OthersLaws
 pub mod RestoredLaws
 pub mod FilesLaws
