@@ -35,5 +35,7 @@ pub mod RowsFolders
 pub mod RowsRank
 pub mod UniqueLaws
 pub mod OthersLaws
+pub mod OrderLaws
 pub mod RestoredLaws
 pub mod FilesLaws
+pub mod RefusedLaws
