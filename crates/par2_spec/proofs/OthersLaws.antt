@@ -1,5 +1,5 @@
 -- Where the lost slices are not determined, another list agrees too.
-use Rattle.std.proofs.Common.{◌≡◌, ◌≢◌, ℕ, zero, suc, ◌+◌, ◌*◌, ◌/◌, ◌%◌, ◌^◌, ◌<◌, ◌≤◌, List, [], ◌∷◌, length, map, drop, refl, sym, ap, ap₂, ◌∙◌, subst, arith}
+use Rattle.std.proofs.Common.{◌≡◌, ℕ, zero, suc, ◌+◌, ◌*◌, ◌/◌, ◌%◌, ◌^◌, ◌<◌, ◌≤◌, List, [], ◌∷◌, length, map, drop, refl, sym, ap, ap₂, ◌∙◌, subst, arith}
 use Rattle.std.specs.Prelude.{bit_xor, flat_map, slice_index, Option, Some, None, is_some}
 use Rattle.std.specs.Int.{w16, to_le_bytes}
 use Rattle.std.specs.Int.Bits.{xor_assoc, xor_self, xor_zero_r}
@@ -10,7 +10,7 @@ use Rattle.std.proofs.lemmas.List.{length-map}
 use Rattle.std.proofs.lemmas.Slice.Zip.{AllZip-long}
 use Rattle.par2_spec.specs.Slices.{word}
 use Rattle.par2_spec.specs.Recovery.{dot, coefficients, combination, recovery}
-use Rattle.par2_spec.specs.Rank.{IsVector, Kills, IsRepairable, Agrees}
+use Rattle.par2_spec.specs.Rank.{IsVector, Kills, IsRepairable, Agrees, AnotherAgrees}
 use Rattle.par2_spec.specs.Search.{lost}
 use Rattle.par2_spec.proofs.NamesLaws.{false_true}
 use Rattle.par2_spec.proofs.RankLaws.{killed_vector}
@@ -188,8 +188,7 @@ no_change (x ∷ d) (y ∷ u) e h =
     let first : bit_xor x y ≡ y = ap (λ ws. slice_index ws 0) h in
     (sym (xor_assoc x y y ∙ ap (bit_xor x) (xor_self y) ∙ xor_zero_r x) ∙ ap (λ t. bit_xor t y) first ∙ xor_self y, no_change d u (omega (arith, e)) (ap (drop 1) h))
 
-pub another_agrees : (s : ℕ) (known : List (Option (List ℕ))) (rs : List (ℕ × List ℕ)) (slices : List (List ℕ)) → 2 ≤ s → (IsRepairable (lost known) (map (λ r. r.0) rs) → ⊥) → Agrees s known rs slices
-    → (others : List (List ℕ)) × Agrees s known rs others × (others ≢ slices)
+pub another_agrees : (s : ℕ) (known : List (Option (List ℕ))) (rs : List (ℕ × List ℕ)) (slices : List (List ℕ)) → 2 ≤ s → (IsRepairable (lost known) (map (λ r. r.0) rs) → ⊥) → Agrees s known rs slices → AnotherAgrees s known rs slices
 another_agrees s known rs slices some unrepairable agrees = (
   all_marked d slices,
   record {

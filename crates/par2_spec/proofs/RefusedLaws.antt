@@ -1,5 +1,5 @@
 -- Where a repair is refused as not repairable, other slices agree too.
-use Rattle.std.proofs.Common.{◌≡◌, ◌≢◌, ℕ, ◌+◌, ◌%◌, ◌^◌, ◌≤◌, List, [], ◌∷◌, refl, sym, ap, ◌∙◌, subst, true, false, Bool, not, ◌&&◌, arith}
+use Rattle.std.proofs.Common.{◌≡◌, ℕ, ◌+◌, ◌%◌, ◌^◌, ◌≤◌, List, [], ◌∷◌, refl, sym, ap, ◌∙◌, subst, true, false, Bool, not, ◌&&◌, arith}
 use Rattle.std.specs.Prelude.{Option, Some, None, Result, Ok, nat_le, ◌==◌}
 use Rattle.std.specs.List.{AllByRecursion}
 use Rattle.std.specs.FinMap as map_of
@@ -9,7 +9,7 @@ use Rattle.par2_spec.specs.declared.Fault.TheVariants.{NoSuchFile, NameTooLong, 
 use Rattle.par2_spec.specs.Faults.{first_fault, fault_where, then_fault}
 use Rattle.par2_spec.specs.Folders.{Folder, File}
 use Rattle.par2_spec.specs.Volumes.{all_slices}
-use Rattle.par2_spec.specs.Rank.{is_repairable, IsRepairable, Agrees}
+use Rattle.par2_spec.specs.Rank.{is_repairable, IsRepairable, AnotherAgrees}
 use Rattle.par2_spec.specs.Sets.{ParSet, set_of, is_slice_size, MadeFrom}
 use Rattle.par2_spec.specs.Search.{candidates, known, lost, survivors, NoCollision}
 use Rattle.par2_spec.specs.Commands.{Repair}
@@ -78,7 +78,7 @@ size_two s h =
 -- other slices than those of the files agree with all that is found
 pub another_choice : (folder : Folder) (base : List ℕ) (extras : List (List ℕ)) (purge : Bool) (files : List File) (s m r : ℕ) (made : MadeFrom folder base files s) → NoCollision folder (candidates folder made.set extras) s (all_slices s files)
     → AllByRecursion (λ file. AreBytes file.1) files → refusal folder (Repair base extras purge) ≡ Some (NotRepairable m r)
-    → (others : List (List ℕ)) × Agrees s (known folder made.set (candidates folder made.set extras)) (map_of.entries made.set.recovery) others × (others ≢ all_slices s files)
+    → AnotherAgrees s (known folder made.set (candidates folder made.set extras)) (map_of.entries made.set.recovery) (all_slices s files)
 another_choice folder base extras purge files s m r made told bytes refused =
     let searched = candidates folder made.set extras in
     another_agrees s (known folder made.set searched) (map_of.entries made.set.recovery) (all_slices s files)

@@ -1,6 +1,6 @@
 //! Laws of sets that were made from certain files: each is the contract of a function that does nothing.
 
-ghost use Rattle.std.specs.Prelude.{◌≡◌, ◌≢◌, ◌<◌, ◌%◌, ℕ, Bool, List, IsTrue, Some, length, map, take};
+ghost use Rattle.std.specs.Prelude.{◌≡◌, ◌<◌, ◌%◌, ℕ, Bool, List, IsTrue, Some, length, map, take};
 ghost use Rattle.std.specs.List.{AllByRecursion, concat, list_all};
 ghost use Rattle.std.specs.Str.{bytes_eq};
 ghost use Rattle.std.specs.FinMap as map_of;
@@ -8,7 +8,7 @@ ghost use Rattle.md5.specs.Md5.{md5};
 ghost use Rattle.par2_spec.specs.Folders.{Folder, File, has};
 ghost use Rattle.par2_spec.specs.Slices.{slices};
 ghost use Rattle.par2_spec.specs.Volumes.{all_slices};
-ghost use Rattle.par2_spec.specs.Rank.{IsRepairable, Agrees};
+ghost use Rattle.par2_spec.specs.Rank.{IsRepairable, AnotherAgrees};
 ghost use Rattle.par2_spec.specs.Sets.{MadeFrom, target_of_file};
 ghost use Rattle.par2_spec.specs.Search.{candidates, known, lost, survivors, NoCollision};
 ghost use Rattle.par2_spec.specs.Repairs.{rebuilt, files_of_slices, rebuilt_targets, after_repair, after_repair_and_purge};
@@ -41,5 +41,5 @@ pub fn repair_leaves_the_files()
 /// Where what is found is true, a repair is refused as not repairable only where other slices than those of the files,
 /// too, agree with all that is found.
 pub fn refused_repair_has_a_choice()
-    ensures { (folder : Folder) (base : List ℕ) (extras : List (List ℕ)) (purge : Bool) (files : List File) (s missing rank : ℕ) (m : MadeFrom folder base files s) → NoCollision folder (candidates folder m.set extras) s (all_slices s files) → AllByRecursion (λ file. AllByRecursion (λ b. b < 256) file.1) files → refusal folder (Repair base extras purge) ≡ Some (NotRepairable missing rank) → (others : List (List ℕ)) × Agrees s (known folder m.set (candidates folder m.set extras)) (map_of.entries m.set.recovery) others × (others ≢ all_slices s files) }
+    ensures { (folder : Folder) (base : List ℕ) (extras : List (List ℕ)) (purge : Bool) (files : List File) (s missing rank : ℕ) (m : MadeFrom folder base files s) → NoCollision folder (candidates folder m.set extras) s (all_slices s files) → AllByRecursion (λ file. AllByRecursion (λ b. b < 256) file.1) files → refusal folder (Repair base extras purge) ≡ Some (NotRepairable missing rank) → AnotherAgrees s (known folder m.set (candidates folder m.set extras)) (map_of.entries m.set.recovery) (all_slices s files) }
 {}
