@@ -1,12 +1,16 @@
 -- The records of files, one after the other.
-use Rattle.std.proofs.Common.{ℕ, ◌+◌, ◌<◌, ◌≡◌, refl, sym, ap, ap₂, ◌∙◌, List, [], ◌∷◌, ◌++◌, length, get_or, map}
-use Rattle.std.specs.Prelude.{take}
+use Rattle.std.proofs.Common.{ℕ, ◌+◌, ◌<◌, ◌≡◌, refl, sym, ap, ap₂, ◌∙◌, subst, List, [], ◌∷◌, ◌++◌, length, get_or, map}
+use Rattle.std.specs.Prelude.{take, IsPermutation, string_bytes}
+use Rattle.std.specs.Int.{w128, from_le_bytes}
+use Rattle.std.specs.List.Sorted.{IsStrictlyIncreasing}
 use Rattle.std.proofs.lemmas.List.{take_more, map-append}
-use Rattle.par2_spec.specs.Folders.{Folder, bytes_of}
+use Rattle.std.proofs.lemmas.Simd.{map-map}
+use Rattle.par2_spec.specs.Folders.{Folder, File, bytes_of}
 use Rattle.par2_spec.specs.Volumes as volumes
-use Rattle.par2_spec.specs.Volumes.{record_of}
+use Rattle.par2_spec.specs.Volumes.{record_of, in_id_order}
 use Rattle.par2_spec.specs.Commands.{files_of}
-use Rattle.par2_packets.specs.View.{file_record_of}
+use Rattle.par2_spec.proofs.OrderLaws.{rising_records, files_of_ordered}
+use Rattle.par2_packets.specs.View.{file_record_of, id_number}
 use Rattle.par2_packets.specs.declared.record.FileRecord.{FileRecord}
 
 pub record_push : (s : ℕ) (folder : Folder) (names : List (List ℕ)) (i : ℕ) (xs : List FileRecord) (x : FileRecord) (name bytes : List ℕ) → i < length names → name ≡ get_or names i [] → bytes ≡ bytes_of folder name
@@ -23,3 +27,22 @@ record_push s folder names i xs x name bytes low en eb so_far is =
 pub ids_of : (xs : List FileRecord) → map (λ (file : FileRecord). file.id) xs ≡ map (λ (file : volumes.FileRecord). file.id) (map file_record_of xs)
 ids_of [] = refl
 ids_of (x ∷ xs) = ap (λ ids. x.id ∷ ids) (ids_of xs)
+
+-- records of files that rise by their File IDs are those of the files in order
+pub in_order : (s : ℕ) (files : List File) (xs : List FileRecord) → IsPermutation (map (record_of s) files) (map file_record_of xs) → IsStrictlyIncreasing (map id_number xs)
+    → map file_record_of xs ≡ map (record_of s) (in_id_order files)
+in_order s files xs moved rising =
+    rising_records s files (map file_record_of xs) moved
+    (subst IsStrictlyIncreasing (sym (map-map (λ (file : volumes.FileRecord). from_le_bytes w128 file.id) file_record_of xs)) rising)
+
+names_of_records : (s : ℕ) (files : List File) → map (λ (file : volumes.FileRecord). file.name) (map (record_of s) files) ≡ map (λ (file : File). file.0) files
+unfolding record_of
+names_of_records s [] = refl
+names_of_records s (file ∷ files) = ap (λ names. file.0 ∷ names) (names_of_records s files)
+
+-- and the files of the records' names are the files in order
+pub files_of_records : (s : ℕ) (folder : Folder) (names : List (List ℕ)) (xs : List FileRecord) → map file_record_of xs ≡ map (record_of s) (in_id_order (files_of folder names))
+    → files_of folder (map (λ (file : FileRecord). string_bytes file.name) xs) ≡ in_id_order (files_of folder names)
+files_of_records s folder names xs e =
+    ap (files_of folder) (sym (map-map (λ (file : volumes.FileRecord). file.name) file_record_of xs) ∙ ap (map (λ (file : volumes.FileRecord). file.name)) e ∙ names_of_records s (in_id_order (files_of folder names)))
+    ∙ files_of_ordered folder names

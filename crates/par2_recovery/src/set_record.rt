@@ -1,13 +1,14 @@
 //! What a set says of its files.
 
-ghost use Rattle.std.specs.Prelude.{◌≡◌, ◌≤◌, ◌<◌, length, map, slice_index_or, [], IfOk, IsOk, IsTrue, IsPermutation, Err};
+ghost use Rattle.std.specs.Prelude.{◌≡◌, ◌≤◌, ◌<◌, length, map, slice_index_or, [], IfOk, IsOk, IsTrue, Err};
 ghost use Rattle.std.specs.List.{IsDistinct};
 ghost use Rattle.std.specs.List.Sorted.{IsStrictlyIncreasing};
 ghost use Rattle.std.specs.Str.{bytes_eq};
 ghost use Rattle.par2_spec.specs.Names.{is_name};
-ghost use Rattle.par2_spec.specs.Volumes.{record_of};
+ghost use Rattle.par2_spec.specs.Volumes.{record_of, in_id_order};
 ghost use Rattle.par2_spec.specs.Commands.{files_of};
 ghost use Rattle.par2_packets.specs.View.{file_record_of, id_number};
+ghost use Rattle.par2_recovery.specs.Views.{names_of};
 
 use crate::recovery::bytes_of;
 use par2_folder::{Folder, Name};
@@ -72,8 +73,8 @@ fn records(
 }
 
 impl SetRecord {
-    /// What a set of slice size `s` says of the files of these names. DuplicateId is answered exactly where two of them
-    /// have one File ID.
+    /// What a set of slice size `s` says of the files of these names, in the order of their File IDs. DuplicateId is
+    /// answered exactly where two of them have one File ID.
     pub fn of_files(
         alloc: Global,
         folder: &Folder,
@@ -82,7 +83,8 @@ impl SetRecord {
     ) -> Result<SetRecord, RecordFault>
         requires { 1 ≤ s }
         ensures slice { IfOk result (λ set. set.slice ≡ s) }
-        ensures files { IfOk result (λ set. IsPermutation (map (record_of s) (files_of folder.now.files names.now)) (map file_record_of set.files.items)) }
+        ensures files { IfOk result (λ set. map file_record_of set.files.items ≡ map (record_of s) (in_id_order (files_of folder.now.files names.now))) }
+        ensures order { IfOk result (λ set. files_of folder.now.files (names_of set) ≡ in_id_order (files_of folder.now.files names.now)) }
         ensures rising { IfOk result (λ set. IsStrictlyIncreasing (map id_number set.files.items)) }
         ensures distinct { IsOk result → IsDistinct bytes_eq (map (λ file. file.id) (map (record_of s) (files_of folder.now.files names.now))) }
         ensures duplicate { result ≡ Err RecordFault.DuplicateId → IsDistinct bytes_eq (map (λ file. file.id) (map (record_of s) (files_of folder.now.files names.now))) → ⊥ }

@@ -21,7 +21,7 @@ use Rattle.par2_spec.proofs.CreateLaws.{create_applies}
 use Rattle.par2_spec.proofs.ReadLaws.{fits_of, came_out}
 use Rattle.par2_spec.proofs.RepairLaws.{fits_all, repair_applies, repair_leads, repair_and_purge_applies, repair_and_purge_leads, purge_applies}
 
-abbrev missing : Folder → List (List ℕ) → Option ℕ
+abbrev pub missing : Folder → List (List ℕ) → Option ℕ
 missing folder names = position (λ word. not (has folder word)) names
 
 there_from : (folder : Folder) (n : ℕ) (names : List (List ℕ)) → position_from (λ word. not (has folder word)) n names ≡ None → list_all (has folder) names ≡ true
@@ -38,11 +38,11 @@ there_from folder n (name ∷ names) h = step (has folder name) refl h (there_fr
 all_there : (folder : Folder) (names : List (List ℕ)) → missing folder names ≡ None → list_all (has folder) names ≡ true
 all_there folder names h = there_from folder 0 names (sym (position_from-zero (λ word. not (has folder word)) names) ∙ h)
 
-in_full : (folder : Folder) (base : List ℕ) (extras : List (List ℕ)) → missing folder (base ∷ extras) ≡ None → set_in folder base extras ≡ set_of folder base
+pub in_full : (folder : Folder) (base : List ℕ) (extras : List (List ℕ)) → missing folder (base ∷ extras) ≡ None → set_in folder base extras ≡ set_of folder base
 unfolding set_in
 in_full folder base extras e = rw e refl
 
-in_part : (folder : Folder) (base : List ℕ) (extras : List (List ℕ)) (k : ℕ) → missing folder (base ∷ extras) ≡ Some k → set_in folder base extras ≡ Err (NoSuchFile (0 + k))
+pub in_part : (folder : Folder) (base : List ℕ) (extras : List (List ℕ)) (k : ℕ) → missing folder (base ∷ extras) ≡ Some k → set_in folder base extras ≡ Err (NoSuchFile (0 + k))
 unfolding set_in
 in_part folder base extras k e = rw e refl
 

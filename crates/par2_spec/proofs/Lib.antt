@@ -34,5 +34,8 @@ pub mod RowsJournals
 pub mod RowsFolders
 pub mod RowsRank
 pub mod UniqueLaws
+pub mod OthersLaws
+pub mod OrderLaws
 pub mod RestoredLaws
 pub mod FilesLaws
+pub mod RefusedLaws

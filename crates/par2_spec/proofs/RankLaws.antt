@@ -11,7 +11,7 @@ use Rattle.std.proofs.lemmas.Map.Views.{Contains-from_any, list_any-from_Contain
 use Rattle.std.proofs.lemmas.Cmp.{nat_eq_equiv}
 use Rattle.par2_spec.specs.Lists.{all_lists, all_texts, all_below}
 use Rattle.par2_spec.specs.Recovery.{dot, coefficients, recovery}
-use Rattle.par2_spec.specs.Rank.{kills, is_zero, is_independent, is_solvable, is_repairable, kept, smaller, Kills, IsRepairable, IsKept, Agrees, agrees, is_as_known, kept_slices, IsRebuilt}
+use Rattle.par2_spec.specs.Rank.{kills, is_zero, is_independent, is_solvable, is_repairable, kept, smaller, Kills, IsRepairable, IsKept, IsVector, Agrees, agrees, is_as_known, kept_slices, IsRebuilt}
 use Rattle.par2_spec.specs.Sets.{ParSet}
 use Rattle.par2_spec.specs.Search.{lost, survivors}
 use Rattle.par2_spec.specs.Repairs.{rebuilt}
@@ -84,6 +84,21 @@ repairable-iff lost survivors =
           let r = and_parts (not (is_zero found.0)) (list_all (kills found.0) rows) (is_true found.2) in
           false_true (sym (ap not (test_from_zero found.0 (h found.0 found.1 (all_killed lost found.0 survivors r.1)))) ∙ r.0)),
     )
+
+some_from : (b : Bool) → (not b ≡ true → ⊥) → T b
+some_from true h = tt
+some_from false h = absurd (h refl)
+
+-- where the lost slices are not determined, a vector that is not zero is killed by all
+pub killed_vector : (lost survivors : List ℕ) → (IsRepairable lost survivors → ⊥)
+    → (v : List ℕ) × IsVector (length lost) v × AllByRecursion (λ e. Kills lost e v) survivors × (AllByRecursion (λ x. x ≡ 0) v → ⊥)
+unfolding is_solvable
+killed_vector lost survivors unrepairable =
+    let rows = map (coefficients lost) survivors in
+    let test = (λ (v : List ℕ). not (is_zero v) && list_all (kills v) rows) in
+    let found = (some_list (2 ^ 16) (length lost) test).0 (some_from (list_any test (all_lists (all_below (2 ^ 16)) (length lost))) (λ h. unrepairable ((repairable-iff lost survivors).0 h))) in
+    let r = and_parts (not (is_zero found.0)) (list_all (kills found.0) rows) (is_true found.2) in
+    (found.0, found.1, all_killed lost found.0 survivors r.1, λ z. false_true (sym (ap not (test_from_zero found.0 z)) ∙ r.0))
 
 -- ---- kept exponents
 

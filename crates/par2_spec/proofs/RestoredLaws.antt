@@ -1,6 +1,6 @@
 -- The slices of a file give the file back, and those of the files that a set was made from are rebuilt.
 use Rattle.std.proofs.Common.{◌≡◌, ℕ, zero, suc, ◌+◌, ◌-◌, ◌*◌, ◌%◌, ◌<◌, ◌≤◌, List, [], ◌∷◌, ◌++◌, length, map, take, drop, refl, sym, ap, ◌∙◌, subst, cond, true, false, Bool, arith, inl, inr, length-append, length-drop}
-use Rattle.std.specs.Prelude.{flat_map, find, zip, replicate, min, ◌==◌, ◌⊎◌, Some, is_some, unwrap_or}
+use Rattle.std.specs.Prelude.{flat_map, filter, find, zip, replicate, min, ◌==◌, ◌⊎◌, Option, Some, is_some, unwrap_or}
 use Rattle.std.specs.List.{range_with_len, list_any, concat, AllByRecursion, AllZip}
 use Rattle.std.specs.Option.{ForSome}
 use Rattle.std.specs.FinMap as map_of
@@ -197,9 +197,9 @@ turned : (s : ℕ) (xs : List (List ℕ)) (rs : List (ℕ × List ℕ)) → AllB
 turned s xs [] h = tt
 turned s xs (r ∷ rs) h = (sym h.0, turned s xs rs h.1)
 
--- the slices of the files that a set was made from agree
+-- the slices of the files that a set was made from agree with all that is found
 pub true_slices_agree : (folder : Folder) (base : List ℕ) (files : List File) (s : ℕ) (searched : List (List ℕ)) (m : MadeFrom folder base files s) → NoCollision folder searched s (all_slices s files) → AllByRecursion (λ file. AreBytes file.1) files
-    → Agrees s (known folder m.set searched) (kept_slices (lost (known folder m.set searched)) (survivors m.set) (map_of.entries m.set.recovery)) (all_slices s files)
+    → Agrees s (known folder m.set searched) (map_of.entries m.set.recovery) (all_slices s files)
 unfolding known
 true_slices_agree folder base files s searched m told bytes = record {
   sizes = sizes_of_files s files;
@@ -207,7 +207,16 @@ true_slices_agree folder base files s searched m told bytes = record {
   as_known = subst (λ ks. AllZip (λ slice text. ForSome slice (λ found. text ≡ found)) ks (all_slices s files))
       (ap (map (found s (map (bytes_of folder) searched))) (sym (ap (flat_map (λ t. t.pairs)) m.targets ∙ pairs_of_files s files)) ∙ ap (λ n. map (found n (map (bytes_of folder) searched)) (all_pairs m.set)) (sym m.slice_size))
       (known_true folder searched s (all_slices s files) told);
-  as_recovered = all-filter (λ r. recovery s (all_slices s files) r.0 ≡ r.1) (λ r. list_any (λ e. e == r.0) (kept (lost (known folder m.set searched)) (survivors m.set))) (map_of.entries m.set.recovery) (turned s (all_slices s files) (map_of.entries m.set.recovery) m.recovered);
+  as_recovered = turned s (all_slices s files) (map_of.entries m.set.recovery) m.recovered;
+}
+
+-- and so with fewer recovery slices
+fewer_agree : (s : ℕ) (known : List (Option (List ℕ))) (rs : List (ℕ × List ℕ)) (slices : List (List ℕ)) (p : ℕ × List ℕ → Bool) → Agrees s known rs slices → Agrees s known (filter p rs) slices
+fewer_agree s known rs slices p agrees = record {
+  sizes = agrees.sizes;
+  bytes = agrees.bytes;
+  as_known = agrees.as_known;
+  as_recovered = all-filter (λ r. recovery s slices r.0 ≡ r.1) p rs agrees.as_recovered;
 }
 
 -- so they are what is rebuilt
@@ -216,7 +225,8 @@ pub true_slices_rebuilt : (folder : Folder) (base : List ℕ) (files : List File
 true_slices_rebuilt folder base files s searched m even told bytes repairable =
     rebuilt_is_only m.set (known folder m.set searched) (all_slices s files)
     (agreeing_is_rebuilt m.set (known folder m.set searched) (all_slices s files) (ap (λ n. n % 2) m.slice_size ∙ even) repairable
-    (subst (λ n. Agrees n (known folder m.set searched) (kept_slices (lost (known folder m.set searched)) (survivors m.set) (map_of.entries m.set.recovery)) (all_slices s files)) (sym m.slice_size) (true_slices_agree folder base files s searched m told bytes)))
+    (subst (λ n. Agrees n (known folder m.set searched) (kept_slices (lost (known folder m.set searched)) (survivors m.set) (map_of.entries m.set.recovery)) (all_slices s files)) (sym m.slice_size)
+    (fewer_agree s (known folder m.set searched) (map_of.entries m.set.recovery) (all_slices s files) (λ r. list_any (λ e. e == r.0) (kept (lost (known folder m.set searched)) (survivors m.set))) (true_slices_agree folder base files s searched m told bytes))))
 
 -- and the files are cut out of them
 pub true_files : (folder : Folder) (base : List ℕ) (files : List File) (s : ℕ) (m : MadeFrom folder base files s) → 0 < s → files_of_slices m.set (all_slices s files) ≡ map (λ file. (target_of_file s file, file.1)) files

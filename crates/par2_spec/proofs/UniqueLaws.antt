@@ -31,10 +31,10 @@ sums [] v = []
 sums (x ∷ u) [] = []
 sums (x ∷ u) (y ∷ v) = bit_xor x y ∷ sums u v
 
-abbrev AreElements : List ℕ → Type 0
+abbrev pub AreElements : List ℕ → Type 0
 AreElements v = AllByRecursion (λ x. x < 2 ^ 16) v
 
-dot-sums : (row u v : List ℕ) → length u ≡ length v → dot row (sums u v) ≡ bit_xor (dot row u) (dot row v)
+pub dot-sums : (row u v : List ℕ) → length u ≡ length v → dot row (sums u v) ≡ bit_xor (dot row u) (dot row v)
 unfolding dot
 dot-sums [] u v e = refl
 dot-sums (c ∷ row) [] [] e = refl
@@ -72,7 +72,7 @@ word-lt p bytes h =
     let high : slice_index bytes (2 * p + 1) < 256 = byte_at bytes (2 * p + 1) h in
     omega (arith, low, high)
 
-abbrev AreTexts : List (List ℕ) → Type 0
+abbrev pub AreTexts : List (List ℕ) → Type 0
 AreTexts texts = AllByRecursion (λ text. AllByRecursion (λ b. b < 256) text) texts
 
 words_are : (p : ℕ) (texts : List (List ℕ)) → AreTexts texts → AreElements (map (word p) texts)
@@ -112,7 +112,7 @@ same_number : (m n : ℕ) → m < 2 ^ 16 → n < 2 ^ 16 → to_le_bytes w16 m �
 same_number m n small_m small_n e = sym (from_le_bytes-to_le_bytes_2 m small_m) ∙ ap (from_le_bytes w16) e ∙ from_le_bytes-to_le_bytes_2 n small_n
 
 -- the row of a recovery slice over n slices
-abbrev whole_row : ℕ → ℕ → List ℕ
+abbrev pub whole_row : ℕ → ℕ → List ℕ
 whole_row n e = coefficients (range_with_len 0 n) e
 
 same_dots : (s e : ℕ) (a b : List (List ℕ)) → AreTexts a → AreTexts b → length a ≡ length b → recovery s a e ≡ recovery s b e → (p : ℕ) → p < s / 2
@@ -127,11 +127,11 @@ same_dots s e a b ha hb long h p lt =
 
 -- ---- what is not zero is at a lost place
 
-abbrev lost_from : ℕ → List (Option (List ℕ)) → List ℕ
+abbrev pub lost_from : ℕ → List (Option (List ℕ)) → List ℕ
 lost_from i ks = map (λ z. z.0) (filter (λ z. is_none z.1) (enumerate_from i ks))
 
 -- zero at each known place
-abbrev IsZeroAtKnown : List (Option (List ℕ)) → List ℕ → Type 0
+abbrev pub IsZeroAtKnown : List (Option (List ℕ)) → List ℕ → Type 0
 IsZeroAtKnown [] [] = Unit {0}
 IsZeroAtKnown [] (x ∷ d) = ⊥
 IsZeroAtKnown (k ∷ ks) [] = ⊥
@@ -139,7 +139,7 @@ IsZeroAtKnown (None ∷ ks) (x ∷ d) = IsZeroAtKnown ks d
 IsZeroAtKnown (Some y ∷ ks) (x ∷ d) = (x ≡ 0) × IsZeroAtKnown ks d
 
 -- what stands at the lost places
-abbrev at_lost : List (Option (List ℕ)) → List ℕ → List ℕ
+abbrev pub at_lost : List (Option (List ℕ)) → List ℕ → List ℕ
 at_lost [] d = []
 at_lost (k ∷ ks) [] = []
 at_lost (None ∷ ks) (x ∷ d) = x ∷ at_lost ks d
@@ -158,7 +158,7 @@ elements-at_lost (None ∷ ks) (x ∷ d) h = (h.0, elements-at_lost ks d h.1)
 elements-at_lost (Some y ∷ ks) (x ∷ d) h = elements-at_lost ks d h.1
 
 -- the sum over all places is that over the lost ones
-dot-at_lost : (e i : ℕ) (ks : List (Option (List ℕ))) (d : List ℕ) → IsZeroAtKnown ks d → dot (coefficients (range_with_len i (length ks)) e) d ≡ dot (coefficients (lost_from i ks) e) (at_lost ks d)
+pub dot-at_lost : (e i : ℕ) (ks : List (Option (List ℕ))) (d : List ℕ) → IsZeroAtKnown ks d → dot (coefficients (range_with_len i (length ks)) e) d ≡ dot (coefficients (lost_from i ks) e) (at_lost ks d)
 unfolding dot
 dot-at_lost e i [] [] z = refl
 dot-at_lost e i [] (x ∷ d) z = absurd z

@@ -66,6 +66,10 @@ pub record Agrees (s : ℕ) (known : List (Option (List ℕ))) (recovered : List
   pub as_known : AllZip (λ slice text. ForSome slice (λ found. text ≡ found)) known slices
   pub as_recovered : AllByRecursion (λ r. recovery s slices r.0 ≡ r.1) recovered
 
+-- a list other than this one agrees
+abbrev pub AnotherAgrees : ℕ → List (Option (List ℕ)) → List (ℕ × List ℕ) → List (List ℕ) → Type 0
+AnotherAgrees s known recovered slices = (others : List (List ℕ)) × Agrees s known recovered others × (others ≢ slices)
+
 abbrev pub is_as_known : Option (List ℕ) × List ℕ → Bool
 is_as_known z = is_none z.0 || bytes_eq (unwrap_or z.0 []) z.1
 

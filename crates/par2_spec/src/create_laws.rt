@@ -1,13 +1,15 @@
 //! Laws of create: each is the contract of a function that does nothing.
 
-ghost use Rattle.std.specs.Prelude.{◌≡◌, ◌∷◌, ℕ, List, [], IsTrue, map, flat_map};
+ghost use Rattle.std.specs.Prelude.{◌≡◌, ◌∷◌, ℕ, List, [], IsTrue, IsPermutation, map, flat_map};
+ghost use Rattle.std.specs.Int.{w128, from_le_bytes};
 ghost use Rattle.std.specs.List.{IsDistinct};
+ghost use Rattle.std.specs.List.Sorted.{IsStrictlyIncreasing, IsNonDecreasingBy};
 ghost use Rattle.std.specs.Str.{bytes_eq};
 ghost use Rattle.par2_spec.specs.Folders.{Folder, File};
 ghost use Rattle.par2_spec.specs.Changes.{effects, are_applicable};
 ghost use Rattle.par2_spec.specs.Packets.{packet};
-ghost use Rattle.par2_spec.specs.Volumes.{volumes, record_of, in_id_order, index_packets, after_create};
-ghost use Rattle.par2_spec.specs.Commands.{CreateArgs, outputs_of};
+ghost use Rattle.par2_spec.specs.Volumes.{FileRecord, volumes, record_of, id_number, in_id_order, index_packets, after_create};
+ghost use Rattle.par2_spec.specs.Commands.{CreateArgs, files_of, outputs_of};
 ghost use Rattle.par2_spec.specs.Plans.{create_changes};
 
 /// The outputs of a create have names of their own.
@@ -24,4 +26,13 @@ pub fn create_leads_to_its_folder()
 /// Without recovery slices the index is the only output.
 pub fn index_alone()
     ensures { (base : List ℕ) (s f : ℕ) (files : List File) → volumes base s f 0 files ≡ (base, flat_map packet (index_packets s (map (record_of s) (in_id_order files)))) ∷ [] }
+{}
+
+/// The files in the order of their File IDs are the files, no File ID falls, and one list alone of what a set says of
+/// them rises. The files of their names are again they.
+pub fn files_in_order()
+    ensures same { (files : List File) → IsPermutation files (in_id_order files) }
+    ensures order { (files : List File) → IsNonDecreasingBy id_number (in_id_order files) }
+    ensures only { (s : ℕ) (files : List File) (records : List FileRecord) → IsPermutation (map (record_of s) files) records → IsStrictlyIncreasing (map (λ file. from_le_bytes w128 file.id) records) → records ≡ map (record_of s) (in_id_order files) }
+    ensures names { (folder : Folder) (names : List (List ℕ)) → files_of folder (map (λ file. file.0) (in_id_order (files_of folder names))) ≡ in_id_order (files_of folder names) }
 {}

@@ -1,9 +1,9 @@
 //! Laws of rank and of rebuilt slices: each is the contract of a function that does nothing.
 
-ghost use Rattle.std.specs.Prelude.{◌≡◌, ◌<◌, ◌%◌, ◌↔◌, ℕ, List, IsTrue, Option, length, map};
+ghost use Rattle.std.specs.Prelude.{◌≡◌, ◌<◌, ◌≤◌, ◌%◌, ◌↔◌, ℕ, List, IsTrue, Option, length, map};
 ghost use Rattle.std.specs.List.{AllByRecursion, Contains};
 ghost use Rattle.std.specs.FinMap as map_of;
-ghost use Rattle.par2_spec.specs.Rank.{is_repairable, IsRepairable, kept, IsKept, agrees, Agrees, kept_slices, IsRebuilt, IsVector, Kills};
+ghost use Rattle.par2_spec.specs.Rank.{is_repairable, IsRepairable, kept, IsKept, agrees, Agrees, AnotherAgrees, kept_slices, IsRebuilt, IsVector, Kills};
 ghost use Rattle.par2_spec.specs.Sets.{ParSet};
 ghost use Rattle.par2_spec.specs.Search.{lost, survivors};
 ghost use Rattle.par2_spec.specs.Repairs.{rebuilt};
@@ -25,6 +25,11 @@ pub fn rebuilt_slices_agree()
 pub fn one_list_alone_agrees()
     ensures one { (s : ℕ) (known : List (Option (List ℕ))) (recovery : List (ℕ × List ℕ)) (one other : List (List ℕ)) → s % 2 ≡ 0 → IsRepairable (lost known) (map (λ r. r.0) recovery) → Agrees s known (kept_slices (lost known) (map (λ r. r.0) recovery) recovery) one → Agrees s known (kept_slices (lost known) (map (λ r. r.0) recovery) recovery) other → one ≡ other }
     ensures rebuilt { (set : ParSet) (known : List (Option (List ℕ))) (slices : List (List ℕ)) → set.slice_size % 2 ≡ 0 → IsRepairable (lost known) (survivors set) → Agrees set.slice_size known (kept_slices (lost known) (survivors set) (map_of.entries set.recovery)) slices → rebuilt set known ≡ slices }
+{}
+
+/// Where the lost slices are not determined, another list too agrees with all that survives.
+pub fn another_list_agrees()
+    ensures { (s : ℕ) (known : List (Option (List ℕ))) (recovery : List (ℕ × List ℕ)) (slices : List (List ℕ)) → 2 ≤ s → (IsRepairable (lost known) (map (λ r. r.0) recovery) → ⊥) → Agrees s known recovery slices → AnotherAgrees s known recovery slices }
 {}
 
 /// A vector that all kept exponents kill is killed by all survivors.

@@ -1,6 +1,6 @@
 //! Laws of sets that were made from certain files: each is the contract of a function that does nothing.
 
-ghost use Rattle.std.specs.Prelude.{◌≡◌, ◌<◌, ◌%◌, ℕ, List, IsTrue, Some, length, map, take};
+ghost use Rattle.std.specs.Prelude.{◌≡◌, ◌<◌, ◌%◌, ℕ, Bool, List, IsTrue, Some, length, map, take};
 ghost use Rattle.std.specs.List.{AllByRecursion, concat, list_all};
 ghost use Rattle.std.specs.Str.{bytes_eq};
 ghost use Rattle.std.specs.FinMap as map_of;
@@ -8,10 +8,13 @@ ghost use Rattle.md5.specs.Md5.{md5};
 ghost use Rattle.par2_spec.specs.Folders.{Folder, File, has};
 ghost use Rattle.par2_spec.specs.Slices.{slices};
 ghost use Rattle.par2_spec.specs.Volumes.{all_slices};
-ghost use Rattle.par2_spec.specs.Rank.{IsRepairable};
+ghost use Rattle.par2_spec.specs.Rank.{IsRepairable, AnotherAgrees};
 ghost use Rattle.par2_spec.specs.Sets.{MadeFrom, target_of_file};
 ghost use Rattle.par2_spec.specs.Search.{candidates, known, lost, survivors, NoCollision};
 ghost use Rattle.par2_spec.specs.Repairs.{rebuilt, files_of_slices, rebuilt_targets, after_repair, after_repair_and_purge};
+ghost use Rattle.par2_spec.specs.Commands.{Repair};
+ghost use Rattle.par2_spec.specs.Refusals.{refusal};
+ghost use Rattle.par2_spec.specs.declared.Fault.TheVariants.{NotRepairable};
 ghost use Rattle.par2_spec.specs.Rules.{AreFew};
 
 /// The slices of a text, joined and cut to its length, are the text.
@@ -33,4 +36,10 @@ pub fn repair_leaves_the_files()
     ensures repaired { (folder : Folder) (base : List ℕ) (extras : List (List ℕ)) (files : List File) (s : ℕ) (m : MadeFrom folder base files s) → IsTrue (list_all (has folder) extras) → AreFew folder m.set → NoCollision folder (candidates folder m.set extras) s (all_slices s files) → AllByRecursion (λ file. AllByRecursion (λ b. b < 256) file.1) files → IsRepairable (lost (known folder m.set (candidates folder m.set extras))) (survivors m.set) → AllByRecursion (λ file. map_of.get (after_repair folder m.set (candidates folder m.set extras)) file.0 ≡ Some file.1) files }
     ensures purged { (folder : Folder) (base : List ℕ) (extras : List (List ℕ)) (files : List File) (s : ℕ) (m : MadeFrom folder base files s) → IsTrue (list_all (has folder) extras) → AreFew folder m.set → NoCollision folder (candidates folder m.set extras) s (all_slices s files) → AllByRecursion (λ file. AllByRecursion (λ b. b < 256) file.1) files → IsRepairable (lost (known folder m.set (candidates folder m.set extras))) (survivors m.set) → AllByRecursion (λ file. map_of.get (after_repair_and_purge folder m.set (candidates folder m.set extras)) file.0 ≡ Some file.1) files }
     ensures digests { (folder : Folder) (base : List ℕ) (extras : List (List ℕ)) (files : List File) (s : ℕ) (m : MadeFrom folder base files s) → IsTrue (list_all (has folder) extras) → AreFew folder m.set → NoCollision folder (candidates folder m.set extras) s (all_slices s files) → AllByRecursion (λ file. AllByRecursion (λ b. b < 256) file.1) files → IsRepairable (lost (known folder m.set (candidates folder m.set extras))) (survivors m.set) → IsTrue (list_all (λ c. bytes_eq (md5 c.1) c.0.digest) (rebuilt_targets folder m.set (candidates folder m.set extras))) }
+{}
+
+/// Where what is found is true, a repair is refused as not repairable only where other slices than those of the files,
+/// too, agree with all that is found.
+pub fn refused_repair_has_a_choice()
+    ensures { (folder : Folder) (base : List ℕ) (extras : List (List ℕ)) (purge : Bool) (files : List File) (s missing rank : ℕ) (m : MadeFrom folder base files s) → NoCollision folder (candidates folder m.set extras) s (all_slices s files) → AllByRecursion (λ file. AllByRecursion (λ b. b < 256) file.1) files → refusal folder (Repair base extras purge) ≡ Some (NotRepairable missing rank) → AnotherAgrees s (known folder m.set (candidates folder m.set extras)) (map_of.entries m.set.recovery) (all_slices s files) }
 {}

@@ -1,0 +1,87 @@
+-- Where a repair is refused as not repairable, other slices agree too.
+use Rattle.std.proofs.Common.{◌≡◌, ℕ, ◌+◌, ◌%◌, ◌^◌, ◌≤◌, List, [], ◌∷◌, refl, sym, ap, ◌∙◌, subst, true, false, Bool, not, ◌&&◌, arith}
+use Rattle.std.specs.Prelude.{Option, Some, None, Result, Ok, nat_le, ◌==◌}
+use Rattle.std.specs.List.{AllByRecursion}
+use Rattle.std.specs.FinMap as map_of
+use Rattle.std.proofs.lemmas.Bool.{and_parts, leb-true}
+use Rattle.par2_spec.specs.declared.Fault.{Fault}
+use Rattle.par2_spec.specs.declared.Fault.TheVariants.{NoSuchFile, NameTooLong, NotRepairable, RepairFailed}
+use Rattle.par2_spec.specs.Faults.{first_fault, fault_where, then_fault}
+use Rattle.par2_spec.specs.Folders.{Folder, File}
+use Rattle.par2_spec.specs.Volumes.{all_slices}
+use Rattle.par2_spec.specs.Rank.{is_repairable, IsRepairable, AnotherAgrees}
+use Rattle.par2_spec.specs.Sets.{ParSet, set_of, is_slice_size, MadeFrom}
+use Rattle.par2_spec.specs.Search.{candidates, known, lost, survivors, NoCollision}
+use Rattle.par2_spec.specs.Commands.{Repair}
+use Rattle.par2_spec.specs.Refusals.{repair_refusal, refusal}
+use Rattle.par2_spec.proofs.NamesLaws.{false_true}
+use Rattle.par2_spec.proofs.ReadLaws.{sound_of}
+use Rattle.par2_spec.proofs.RankLaws.{repairable-iff}
+use Rattle.par2_spec.proofs.OthersLaws.{another_agrees}
+use Rattle.par2_spec.proofs.RestoredLaws.{AreBytes, true_slices_agree}
+use Rattle.par2_spec.proofs.AcceptedCommands.{missing, in_full, in_part}
+
+is_other : (f : Fault) (m r : ℕ) → (f ≡ NotRepairable m r → ⊥) → ◌≡◌ {A = Option Fault} (Some f) (Some (NotRepairable m r)) → ⊥
+is_other f m r apart e = apart (ap (λ (o : Option Fault). value o) e)
+  where
+    value : Option Fault → Fault
+    value None = f
+    value (Some g) = g
+
+no_such_file : (k m r : ℕ) → NoSuchFile k ≡ NotRepairable m r → ⊥
+no_such_file k m r e = cc
+
+too_long : (m r : ℕ) → NameTooLong ≡ NotRepairable m r → ⊥
+too_long m r e = cc
+
+failed : (m r : ℕ) → RepairFailed ≡ NotRepairable m r → ⊥
+failed m r e = cc
+
+no_fault : (m r : ℕ) → ◌≡◌ {A = Option Fault} None (Some (NotRepairable m r)) → ⊥
+no_fault m r e = cc
+
+-- the first cause alone is answered by this fault
+first_cause : (b c d : Bool) (l n m r : ℕ) → first_fault (fault_where b (NotRepairable l n) ∷ fault_where c NameTooLong ∷ fault_where d RepairFailed ∷ []) ≡ Some (NotRepairable m r) → b ≡ true
+first_cause true c d l n m r e = refl
+first_cause false true d l n m r e = absurd (is_other NameTooLong m r (too_long m r) e)
+first_cause false false true l n m r e = absurd (is_other RepairFailed m r (failed m r) e)
+first_cause false false false l n m r e = absurd (no_fault m r e)
+
+not_both : (b : Bool) → not b ≡ true → b ≡ true → ⊥
+not_both true n t = false_true n
+not_both false n t = false_true t
+
+unrepairable : (folder : Folder) (set : ParSet) (searched : List (List ℕ)) (m r : ℕ) → repair_refusal folder set searched ≡ Some (NotRepairable m r) → IsRepairable (lost (known folder set searched)) (survivors set) → ⊥
+unfolding repair_refusal
+unrepairable folder set searched m r e repairable =
+    not_both (is_repairable (lost (known folder set searched)) (survivors set)) (first_cause (not (is_repairable (lost (known folder set searched)) (survivors set))) _ _ _ _ m r e)
+    ((repairable-iff (lost (known folder set searched)) (survivors set)).1 repairable)
+
+-- the refusal of a repair over a set that is read is the set's, or a file's that is not there
+refused_by_set : (folder : Folder) (base : List ℕ) (extras : List (List ℕ)) (purge : Bool) (set : ParSet) (m r : ℕ) → set_of folder base ≡ Ok set → refusal folder (Repair base extras purge) ≡ Some (NotRepairable m r)
+    → repair_refusal folder set (candidates folder set extras) ≡ Some (NotRepairable m r)
+unfolding refusal
+refused_by_set folder base extras purge set m r reads e = step (missing folder (base ∷ extras)) refl
+  where
+    ask : Result ParSet Fault → Option Fault
+    ask answer = then_fault answer (λ s. repair_refusal folder s (candidates folder s extras))
+
+    step : (o : Option ℕ) → missing folder (base ∷ extras) ≡ o → repair_refusal folder set (candidates folder set extras) ≡ Some (NotRepairable m r)
+    step None there = sym (ap ask (in_full folder base extras there ∙ reads)) ∙ e
+    step (Some k) there = absurd (is_other (NoSuchFile (0 + k)) m r (no_such_file (0 + k) m r) (sym (ap ask (in_part folder base extras k there)) ∙ e))
+
+size_two : (s : ℕ) → is_slice_size s ≡ true → 2 ≤ s
+size_two s h =
+    let four : 4 ≤ s = leb-true 4 s (and_parts (s % 4 == 0) (nat_le 4 s) (and_parts (s % 4 == 0 && nat_le 4 s) (nat_le s (2 ^ 30)) h).0).1 in
+    omega (arith, four)
+
+-- other slices than those of the files agree with all that is found
+pub another_choice : (folder : Folder) (base : List ℕ) (extras : List (List ℕ)) (purge : Bool) (files : List File) (s m r : ℕ) (made : MadeFrom folder base files s) → NoCollision folder (candidates folder made.set extras) s (all_slices s files)
+    → AllByRecursion (λ file. AreBytes file.1) files → refusal folder (Repair base extras purge) ≡ Some (NotRepairable m r)
+    → AnotherAgrees s (known folder made.set (candidates folder made.set extras)) (map_of.entries made.set.recovery) (all_slices s files)
+another_choice folder base extras purge files s m r made told bytes refused =
+    let searched = candidates folder made.set extras in
+    another_agrees s (known folder made.set searched) (map_of.entries made.set.recovery) (all_slices s files)
+    (size_two s (subst (λ n. is_slice_size n ≡ true) made.slice_size (sound_of folder base made.set made.reads).size))
+    (unrepairable folder made.set searched m r (refused_by_set folder base extras purge made.set m r made.reads refused))
+    (true_slices_agree folder base files s searched made told bytes)
