@@ -1,11 +1,16 @@
 //! Uses a store in the folder where it runs, which holds a folder, a link, a journal and what a stopped call left
-//! behind, and prints each answer.
+//! behind, and prints each answer. Then it makes folders of its own, with files that may not be read, may not be
+//! written and may not be listed, and uses a store in each. These show what a user meets whom the modes of files
+//! bind, so not the superuser.
+//!
+//! With the word `show` it only prints what the folder holds.
 #![tactic(auto)]
 
 use par2_folder::{DiskStore, FolderStore, Name};
-use std::fs::Files;
-use std::io;
-use std::os::unix::fs::symlink;
+use std::env::Env;
+use std::fs::{Files, Permissions};
+use std::os::unix::fs::{PermissionsExt, symlink};
+use std::{env, fs, io};
 
 fn name(text: &str) -> io::Result<Name> {
     Name::new(text).map_err(|_| io::Error::from(io::ErrorKind::InvalidInput))
@@ -52,6 +57,11 @@ fn remove<S: FolderStore, R: Print>(rt: &R, store: &mut S, text: &str) -> io::Re
     println!(rt; "remove {text}: {answer:?}")
 }
 
+fn put_journal<S: FolderStore, R: Print>(rt: &R, store: &mut S) -> io::Result<()> {
+    let answer = store.put_journal(b"new");
+    println!(rt; "put journal: {answer:?}")
+}
+
 fn read<S: FolderStore, R: Print + AllocGlobal>(
     rt: &R,
     store: &mut S,
@@ -83,8 +93,7 @@ fn writes<S: FolderStore, R: Print + AllocGlobal>(rt: &R, store: &mut S) -> io::
     remove(rt, store, "c")?;
     remove(rt, store, "c")?;
     read(rt, store, "zz")?;
-    let answer = store.put_journal(b"new");
-    println!(rt; "put journal: {answer:?}")
+    put_journal(rt, store)
 }
 
 // A folder and a link are no files, and none of these calls touches them.
@@ -99,19 +108,94 @@ fn others<S: FolderStore, R: Print + AllocGlobal>(rt: &R, store: &mut S) -> io::
     Ok(())
 }
 
+fn long_name<S: FolderStore, R: Print + AllocGlobal>(rt: &R, store: &mut S) -> io::Result<()> {
+    let long = longest(rt)?;
+    put(rt, store, long.as_str(), b"long")?;
+    show(rt, store)?;
+    read(rt, store, long.as_str())?;
+    rename(rt, store, long.as_str(), "short")?;
+    rename(rt, store, "short", long.as_str())?;
+    remove(rt, store, long.as_str())?;
+    show(rt, store)
+}
+
 fn steps<R: Files + Print + AllocGlobal>(rt: &R) -> io::Result<()> {
     symlink(rt, "a", "link")?;
     let mut store = DiskStore::new(rt);
     show(rt, &mut store)?;
     writes(rt, &mut store)?;
     others(rt, &mut store)?;
-    let long = longest(rt)?;
-    put(rt, &mut store, long.as_str(), b"long")?;
+    long_name(rt, &mut store)
+}
+
+fn set_mode<R: Files>(rt: &R, path: &str, mode: u32) -> io::Result<()> {
+    fs::set_permissions(rt, path, Permissions::from_mode(mode))
+}
+
+// Makes a folder with two files and goes there.
+fn enter<R: Files + Env + Print>(rt: &R, folder: &str) -> io::Result<()> {
+    println!(rt; "{folder}")?;
+    fs::create_dir(rt, folder)?;
+    env::set_current_dir(rt, folder)?;
+    fs::write(rt, "a", "first")?;
+    fs::write(rt, "b", "second")
+}
+
+// A file that may not be read is listed, and can be written over, renamed and removed.
+fn unreadable_file<R: Files + Env + Print + AllocGlobal>(rt: &R) -> io::Result<()> {
+    enter(rt, "unreadable file")?;
+    fs::write(rt, ".par2undo", "journal")?;
+    for path in ["a", "b", ".par2undo"] {
+        set_mode(rt, path, 0o000)?;
+    }
+    let mut store = DiskStore::new(rt);
     show(rt, &mut store)?;
-    remove(rt, &mut store, long.as_str())?;
-    show(rt, &mut store)
+    put(rt, &mut store, "a", b"ab")?;
+    rename(rt, &mut store, "b", "c")?;
+    put_journal(rt, &mut store)?;
+    show(rt, &mut store)?;
+    remove(rt, &mut store, "c")?;
+    show(rt, &mut store)?;
+    env::set_current_dir(rt, "..")
+}
+
+// In a folder that may not be written no writing call does anything.
+fn unwritable_folder<R: Files + Env + Print + AllocGlobal>(rt: &R) -> io::Result<()> {
+    enter(rt, "unwritable folder")?;
+    set_mode(rt, ".", 0o555)?;
+    let mut store = DiskStore::new(rt);
+    show(rt, &mut store)?;
+    put(rt, &mut store, "a", b"ab")?;
+    put(rt, &mut store, "c", b"new file")?;
+    rename(rt, &mut store, "a", "d")?;
+    remove(rt, &mut store, "b")?;
+    put_journal(rt, &mut store)?;
+    show(rt, &mut store)?;
+    set_mode(rt, ".", 0o755)?;
+    env::set_current_dir(rt, "..")
+}
+
+// A folder that may not be listed has no names, and its files can be read.
+fn unlisted_folder<R: Files + Env + Print + AllocGlobal>(rt: &R) -> io::Result<()> {
+    enter(rt, "unlisted folder")?;
+    set_mode(rt, ".", 0o311)?;
+    let mut store = DiskStore::new(rt);
+    show(rt, &mut store)?;
+    read(rt, &mut store, "a")?;
+    set_mode(rt, ".", 0o755)?;
+    show(rt, &mut store)?;
+    env::set_current_dir(rt, "..")
 }
 
 fn main(rt: HostRuntime) -> io::Result<()> {
-    steps(&rt)
+    if env::args(&rt)?
+        .nth(1)
+        .is_some_and(|word| word.as_str() == "show")
+    {
+        return show(&rt, &mut DiskStore::new(&rt));
+    }
+    steps(&rt)?;
+    unreadable_file(&rt)?;
+    unwritable_folder(&rt)?;
+    unlisted_folder(&rt)
 }

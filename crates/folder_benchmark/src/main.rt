@@ -1,6 +1,6 @@
-//! The speed of folders and stores. With the name of a file of the current directory it prints how long a folder of
-//! 1,000 and of 10,000 names takes to be read, looked up and changed, how fast a fingerprint and MD5 are, and how
-//! fast that file is read by the store and plainly; without it, its usage.
+//! The speed of folders and stores. With the word `run` it prints how long a folder of 1,000 and of 10,000 names takes
+//! to be read, looked up and changed, and how fast a fingerprint and MD5 are. With the name of a file of the current
+//! directory it reads that file by the store and prints its length, for others to measure; without a word, its usage.
 #![tactic(auto)]
 
 ghost use Rattle.std.specs.Prelude.{◌≡◌, IfOk, vec_len};
@@ -9,15 +9,10 @@ use anyhow::Result;
 use md5::{Digest, Md5};
 use par2_folder::{Bytes, Change, DiskStore, Folder, FolderStore, MemoryStore, Name, read_folder};
 use std::alloc::{AllocError, Global};
-use std::io::Read;
+use std::env;
 use std::time::{Duration, Instant};
-use std::{env, fs};
 
 const SIZE: usize = 64 << 20;
-
-const BLOCK: usize = 128 << 10;
-
-const MOST_BLOCKS: u64 = 1 << 20;
 
 fn named(alloc: Global, number: usize) -> Result<Name> {
     let text = format!(in alloc; "file {number:05}")?;
@@ -119,54 +114,26 @@ fn fingerprints(rt: &HostRuntime) -> Result<()> {
     Ok(())
 }
 
-// Reads a file to its end and keeps nothing.
-fn read_through(rt: &HostRuntime, path: &str) -> Result<usize> {
-    let mut file = fs::open(rt, path)?;
-    let mut block = vec![in rt.alloc(); 0u8; BLOCK]?;
-    let mut total = 0usize;
-    for _ in 0..MOST_BLOCKS {
-        let read = file.read(&mut block)?;
-        if read == 0 {
-            break;
-        }
-        total = total.saturating_add(read);
-    }
-    Ok(total)
-}
-
-fn reading(rt: &HostRuntime, path: &str) -> Result<()> {
+fn read_file(rt: &HostRuntime, path: &str) -> Result<()> {
     let name = match Name::new(path) {
         Ok(name) => name,
         Err(fault) => return Err(fault.into()),
     };
-    for _ in 0..3 {
-        let start = Instant::now(rt)?;
-        let bytes = read_through(rt, path)?;
-        let rate = megabytes_a_second(bytes, start.elapsed(rt)?);
-        println!(rt; "read and forgotten: {rate} MB/s ({bytes} bytes)")?;
-        let start = Instant::now(rt)?;
-        let bytes = fs::read(rt, path)?.len();
-        let rate = megabytes_a_second(bytes, start.elapsed(rt)?);
-        println!(rt; "fs::read: {rate} MB/s ({bytes} bytes)")?;
-        let mut store = DiskStore::new(rt);
-        let start = Instant::now(rt)?;
-        let bytes = store.read(rt.alloc(), &name)?.len();
-        let rate = megabytes_a_second(bytes, start.elapsed(rt)?);
-        println!(rt; "store: {rate} MB/s ({bytes} bytes)")?;
-    }
+    let bytes = DiskStore::new(rt).read(rt.alloc(), &name)?;
+    println!(rt; "{} bytes", bytes.len())?;
     Ok(())
 }
 
 fn main(rt: HostRuntime) -> Result<()> {
     match env::args(&rt)?.nth(1) {
-        Some(path) => {
+        Some(word) if word.as_str() == "run" => {
             names_of(&rt, 1000)?;
             names_of(&rt, 10000)?;
-            fingerprints(&rt)?;
-            reading(&rt, path.as_str())
+            fingerprints(&rt)
         }
+        Some(path) => read_file(&rt, path.as_str()),
         None => {
-            println!(rt; "usage: folder_benchmark NAME")?;
+            println!(rt; "usage: folder_benchmark run | NAME")?;
             Ok(())
         }
     }

@@ -38,7 +38,7 @@ pub fn write_set<W: Write>(out: &mut W, set_id: &[u8; 16]) -> Result<(), WriteFa
     let mut digits = [0; 32];
     match hex::encode_to_slice(set_id.as_slice(), &mut digits) {
         Ok(()) => write_parts(out, &[b"set ", &digits, b"\n"]),
-        Err(_) => Err(WriteFault),
+        Err(_) => unreachable!(),
     }
 }
 

@@ -1,5 +1,5 @@
 -- What a run of the program does to a store, and what it prints.
-use Rattle.std.specs.Prelude.{◌≡◌, ◌⊎◌, ◌<◌, ℕ, List, [], Option, Some, Ok, Err, map, take, false}
+use Rattle.std.specs.Prelude.{◌≡◌, ◌⊎◌, ◌<◌, ℕ, List, [], Option, Some, Ok, Err, map, length, take, false}
 use Rattle.std.specs.Io.KnownBytes.{Appends}
 use Rattle.clap.specs.Words.{Text}
 use Rattle.par2_spec.specs.Changes.{Change}
@@ -54,11 +54,11 @@ IsTold words old new before after (Failed spoken reason) =
     ((spoken ≡ []) × IsUnread words old new reason)
     ⊎ ((action : Action) × (asked_by words ≡ Some action) × (spoken ≡ words_asked action) × IsFailed action old new before after reason)
 
--- the text was written and the status is its own; or the writer failed, it holds a part of the text, and the
--- status is 6
+-- the text was written and the status is its own; or the writer failed, it holds a part of the text, which
+-- lacks a byte at least, and the status is 6
 abbrev pub Printed : Option (List ℕ) → Option (List ℕ) → List ℕ → ℕ → ℕ → Type 0
 Printed old new text own status =
-    (Appends old new text × (status ≡ own)) ⊎ ((n : ℕ) × Appends old new (take n text) × (status ≡ 6))
+    (Appends old new text × (status ≡ own)) ⊎ ((n : ℕ) × (n < length text) × Appends old new (take n text) × (status ≡ 6))
 
 -- an outcome is printed on the output, a failure on the error writer, and the other writer holds what it held
 abbrev pub Shown : Told → Option (List ℕ) → Option (List ℕ) → Option (List ℕ) → Option (List ℕ) → ℕ → Type 0

@@ -1,0 +1,85 @@
+//! A store that has memory for some reading calls alone.
+ghost use Rattle.std.specs.Prelude.{◌≡◌};
+
+use par2_folder::{FolderStore, MemoryStore, Name, ReadFault, StoreFault};
+use std::alloc::Global;
+
+/// A store in memory whose first reading calls have memory, and whose later ones want it. Nothing is promised of its
+/// contents, since it wants memory for a name that no file has, too.
+#[derive(Debug, Drop)]
+pub struct WantingStore {
+    inner: MemoryStore,
+    left: u64,
+}
+
+impl WantingStore {
+    /// The store passes `k` reading calls on.
+    pub fn new(inner: MemoryStore, k: u64) -> WantingStore {
+        WantingStore { inner, left: k }
+    }
+
+    /// The other store, as it stands.
+    pub fn into_inner(self) -> MemoryStore {
+        self.inner
+    }
+
+    // Whether there is memory for one more reading call.
+    fn has_memory(&mut self) -> bool
+        ensures { self.new.inner ≡ self.old.inner }
+    {
+        if self.left == 0 {
+            return false;
+        }
+        self.left -= 1;
+        true
+    }
+}
+
+impl FolderStore for WantingStore {
+    ghost use Rattle.std.specs.Prelude.{None};
+    ghost use Rattle.std.specs.FinMap.{empty};
+    ghost use Rattle.par2_folder.specs.Memory.{memory_failures};
+
+    ghost honest = { λ _. ⊥ };
+
+    ghost contents = { λ _. record { files = empty; journal = None } };
+
+    ghost failures = { λ store. memory_failures store.inner };
+
+    fn names(&mut self, alloc: Global) -> Result<Vec<Name>, ReadFault> {
+        if self.has_memory() {
+            return self.inner.names(alloc);
+        }
+        Err(ReadFault::Memory)
+    }
+
+    fn read(&mut self, alloc: Global, name: &Name) -> Result<Vec<u8>, ReadFault> {
+        if self.has_memory() {
+            return self.inner.read(alloc, name);
+        }
+        Err(ReadFault::Memory)
+    }
+
+    fn read_journal(&mut self, alloc: Global) -> Result<Option<Vec<u8>>, ReadFault> {
+        if self.has_memory() {
+            return self.inner.read_journal(alloc);
+        }
+        Err(ReadFault::Memory)
+    }
+
+    fn put(&mut self, name: &Name, bytes: &[u8]) -> Result<(), StoreFault> {
+        self.inner.put(name, bytes)
+    }
+
+    fn rename(&mut self, from: &Name, to: &Name) -> Result<(), StoreFault> {
+        self.inner.rename(from, to)
+    }
+
+    fn remove(&mut self, name: &Name) -> Result<(), StoreFault> {
+        self.inner.remove(name)
+    }
+
+    fn put_journal(&mut self, bytes: &[u8]) -> Result<(), StoreFault> {
+        self.inner.put_journal(bytes)
+    }
+}
