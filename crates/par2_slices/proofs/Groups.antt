@@ -1,12 +1,13 @@
 -- Sets of groups of checksums.
-use Rattle.std.proofs.Common.{◌≡◌, ◌≢◌, ℕ, ◌+◌, ◌-◌, ◌*◌, ◌^◌, ◌<◌, ◌≤◌, ◌%◌, ◌/◌, List, length, get_or, set, subst, sym, ap, ◌∙◌, get_or-set_same, get_or-set_other, arith}
-use Rattle.std.specs.Prelude.{bit_and, bit_or}
+use Rattle.std.proofs.Common.{◌≡◌, ◌≢◌, ℕ, ◌+◌, ◌-◌, ◌*◌, ◌^◌, ◌<◌, ◌≤◌, ◌%◌, ◌/◌, List, length, get_or, set, replicate, subst, sym, ap, ◌∙◌, get_or-set_same, get_or-set_other, arith}
+use Rattle.std.specs.Prelude.{◌⊎◌, bit_and, bit_or}
 use Rattle.std.specs.Int.{w64, bit_at, bit_not}
-use Rattle.std.proofs.lemmas.Bool.{cases_eq}
+use Rattle.std.proofs.lemmas.Bool.{cases_eq, cases_lt}
+use Rattle.std.proofs.lemmas.List.{get_or-replicate, get_or_past, length-replicate}
 use Rattle.std.proofs.Common.{inl, inr}
 use Rattle.std.proofs.lemmas.Nat.{shr_below}
-use Rattle.std.proofs.lemmas.Nat.Bits.{bit_at_set_same, bit_at_set_other, bit_at_clear_same, bit_at_clear_other}
-use Rattle.par2_slices.specs.Filters.{Marks}
+use Rattle.std.proofs.lemmas.Nat.Bits.{bit_at-zero, bit_at_set_same, bit_at_set_other, bit_at_clear_same, bit_at_clear_other}
+use Rattle.par2_slices.specs.Filters.{Bits, Marks}
 
 pub within : (crc shift : ℕ) → crc < 2 ^ 32 → shift ≤ 26 → crc / 2 ^ shift / 64 < 2 ^ (26 - shift)
 within crc shift fits low =
@@ -14,6 +15,26 @@ within crc shift fits low =
     let Group : ℕ → Type 0 = λ k. crc / 2 ^ shift < 2 ^ k in
     let split : 32 ≡ 26 - shift + 6 + shift = omega arith in
     shr_below (crc / 2 ^ shift) (26 - shift) 6 (shr_below crc (26 - shift + 6) shift (subst Fits split fits))
+
+zero_is_one : ◌≡◌ {A = ℕ} 0 1 → ⊥
+zero_is_one both = omega (arith, both)
+
+abbrev zeros : ℕ → List ℕ
+zeros n = replicate n 0
+
+zeros_at : (n i : ℕ) → get_or (zeros n) i 0 ≡ 0
+zeros_at n i =
+    elim (cases_lt i n) [
+      | inl inside ↦ get_or-replicate n i 0 0 inside
+      | inr past ↦ get_or_past (zeros n) i 0 (let size : length (zeros n) ≡ n = length-replicate n 0 in omega (arith, past, size))
+    ]
+
+-- words of zeros have no group
+pub none_marked : (bits : Bits) (n crc : ℕ) → ◌≡◌ {A = List ℕ} bits.words (replicate n 0) → Marks bits crc → ⊥
+none_marked bits n crc empty is =
+    let group : ℕ = crc / 2 ^ bits.shift in
+    let word : get_or bits.words (group / 64) 0 ≡ 0 = ap (λ words. get_or words (group / 64) 0) empty ∙ zeros_at n (group / 64) in
+    zero_is_one (sym (ap (λ w. bit_at w (group % 64)) word ∙ bit_at-zero (group % 64)) ∙ is.bit)
 
 -- a word with a bit more
 pub marked : (shift crc : ℕ) (words : List ℕ) → crc / 2 ^ shift / 64 < length words → Marks (record { shift = shift; words = set words (crc / 2 ^ shift / 64) (bit_or (get_or words (crc / 2 ^ shift / 64) 0) (1 * 2 ^ (crc / 2 ^ shift % 64) % 2 ^ 64)) }) crc
@@ -49,6 +70,30 @@ kept_by_insert shift crc words place other is =
       | inr apart ↦ record { bit = ap (λ w. bit_at w (its % 64)) (get_or-set_other words (group / 64) (its / 64) new 0 apart) ∙ is.bit }
     ]
 
+pub only_by_insert : (shift crc : ℕ) (words : List ℕ) → crc / 2 ^ shift / 64 < length words → (other : ℕ) → Marks (record { shift = shift; words = set words (crc / 2 ^ shift / 64) (bit_or (get_or words (crc / 2 ^ shift / 64) 0) (1 * 2 ^ (crc / 2 ^ shift % 64) % 2 ^ 64)) }) other → (other / 2 ^ shift ≡ crc / 2 ^ shift) ⊎ Marks (record { shift = shift; words = words }) other
+only_by_insert shift crc words place other is =
+    let group : ℕ = crc / 2 ^ shift in
+    let its : ℕ = other / 2 ^ shift in
+    let word : ℕ = get_or words (group / 64) 0 in
+    let new : ℕ = bit_or word (1 * 2 ^ (group % 64) % 2 ^ 64) in
+    elim (cases_eq its group) [
+      | inl same ↦ inl same
+      | inr differs ↦ inr (elim (cases_eq (its / 64) (group / 64)) [
+        | inl same ↦ (
+            let apart : its % 64 ≢ group % 64 = λ low. differs (omega (arith, same, low)) in
+            record {
+              bit =
+                  ap (λ i. bit_at (get_or words i 0) (its % 64)) same
+                  ∙ sym (bit_at_set_other w64 word (group % 64) (omega arith) (its % 64) apart)
+                  ∙ ap (λ w. bit_at w (its % 64)) (sym (get_or-set_same words (group / 64) new 0 place))
+                  ∙ ap (λ i. bit_at (get_or (set words (group / 64) new) i 0) (its % 64)) (sym same)
+                  ∙ is.bit;
+            }
+            )
+        | inr apart ↦ record { bit = ap (λ w. bit_at w (its % 64)) (sym (get_or-set_other words (group / 64) (its / 64) new 0 apart)) ∙ is.bit }
+      ])
+    ]
+
 pub gone : (shift crc : ℕ) (words : List ℕ) → crc / 2 ^ shift / 64 < length words → Marks (record { shift = shift; words = set words (crc / 2 ^ shift / 64) (bit_and (get_or words (crc / 2 ^ shift / 64) 0) (bit_not w64 (1 * 2 ^ (crc / 2 ^ shift % 64) % 2 ^ 64))) }) crc → ⊥
 gone shift crc words place is =
     let group : ℕ = crc / 2 ^ shift in
@@ -79,4 +124,24 @@ kept_by_remove shift crc words place other differs is =
           }
           )
       | inr apart ↦ record { bit = ap (λ w. bit_at w (its % 64)) (get_or-set_other words (group / 64) (its / 64) new 0 apart) ∙ is.bit }
+    ]
+
+pub only_by_remove : (shift crc : ℕ) (words : List ℕ) → crc / 2 ^ shift / 64 < length words → (other : ℕ) → Marks (record { shift = shift; words = set words (crc / 2 ^ shift / 64) (bit_and (get_or words (crc / 2 ^ shift / 64) 0) (bit_not w64 (1 * 2 ^ (crc / 2 ^ shift % 64) % 2 ^ 64))) }) other → Marks (record { shift = shift; words = words }) other
+only_by_remove shift crc words place other is =
+    let group : ℕ = crc / 2 ^ shift in
+    let its : ℕ = other / 2 ^ shift in
+    let word : ℕ = get_or words (group / 64) 0 in
+    let new : ℕ = bit_and word (bit_not w64 (1 * 2 ^ (group % 64) % 2 ^ 64)) in
+    elim (cases_eq (its / 64) (group / 64)) [
+      | inl same ↦ (
+          let here : bit_at new (its % 64) ≡ 1 = (
+          ap (λ w. bit_at w (its % 64)) (sym (get_or-set_same words (group / 64) new 0 place))
+          ∙ ap (λ i. bit_at (get_or (set words (group / 64) new) i 0) (its % 64)) (sym same)
+          ∙ is.bit
+          ) in
+          let cleared : bit_at new (group % 64) ≡ 0 = bit_at_clear_same w64 word (group % 64) (omega arith) in
+          let apart : its % 64 ≢ group % 64 = λ low. zero_is_one (sym (ap (bit_at new) low ∙ cleared) ∙ here) in
+          record { bit = ap (λ i. bit_at (get_or words i 0) (its % 64)) same ∙ sym (bit_at_clear_other w64 word (group % 64) (omega arith) (its % 64) (omega arith) apart) ∙ here }
+          )
+      | inr apart ↦ record { bit = ap (λ w. bit_at w (its % 64)) (sym (get_or-set_other words (group / 64) (its / 64) new 0 apart)) ∙ is.bit }
     ]

@@ -42,6 +42,14 @@ pub record HoldsGroup (pairs : List Pair) (shift crc : ℕ) (group : List Place)
   pub each : (k : ℕ) → k < length group → IsPlace pairs (place_at group k)
   pub whole : (i : ℕ) → i < length pairs → (pair_at pairs i).1 / 2 ^ shift ≡ crc / 2 ^ shift → (k : ℕ) × (k < length group) × ((place_at group k).index ≡ i)
 
+-- a pair of the group that has this checksum has no answer
+abbrev pub IsAwaited : List Place → ℕ → List (Option ℕ) → Type 0
+IsAwaited group crc found = (k : ℕ) × (k < length group) × ((place_at group k).crc ≡ crc) × (offset_at found (place_at group k).index ≡ None)
+
+-- a pair of the group has no answer
+abbrev pub IsWaiting : List Place → List (Option ℕ) → Type 0
+IsWaiting group found = (k : ℕ) × (k < length group) × (offset_at found (place_at group k).index ≡ None)
+
 -- an answer after one offset more
 abbrev pub advanced : Bool → ℕ → Option ℕ → Option ℕ
 advanced matches offset answer = option_or answer (cond matches (Some offset) None)

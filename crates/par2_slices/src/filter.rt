@@ -1,6 +1,9 @@
 //! Which checksums may be wanted still, one bit for all those that have the same high bits.
+//!
+//! A filter is exactly the set of groups that were added and not taken away. That a search keeps no group longer than a
+//! pair of it is open, no clause says: a group too many costs time and changes no answer.
 
-ghost use Rattle.std.specs.Prelude.{◌≡◌, ◌≤◌, ◌/◌, ◌^◌, ◌↔◌, ℕ, IsTrue};
+ghost use Rattle.std.specs.Prelude.{◌≡◌, ◌≤◌, ◌/◌, ◌^◌, ◌↔◌, ◌⊎◌, ℕ, IfOk, IsTrue};
 ghost use Rattle.par2_slices.specs.Filters.{Marks};
 
 use std::alloc::{AllocError, Global};
@@ -28,7 +31,9 @@ impl Model for Filter {
 
 impl Filter {
     /// No group, with some 256 groups for each of `count` checksums: few others fall into one of theirs.
-    pub(crate) fn new(alloc: Global, count: usize) -> Result<Filter, AllocError> {
+    pub(crate) fn new(alloc: Global, count: usize) -> Result<Filter, AllocError>
+        ensures { IfOk result (λ filter. (crc : ℕ) → ¬ (Marks filter crc)) }
+    {
         let word_bits = (usize::BITS - count.leading_zeros() + 2).min(MOST_WORD_BITS);
         Ok(Filter {
             shift: 26 - word_bits,
@@ -49,6 +54,7 @@ impl Filter {
         ensures shift { self.new.shift ≡ self.old.shift }
         ensures marked { Marks self.new crc }
         ensures kept { (other : ℕ) → Marks self.old other → Marks self.new other }
+        ensures only { (other : ℕ) → Marks self.new other → (other / 2 ^ self.old.shift ≡ crc / 2 ^ self.old.shift) ⊎ Marks self.old other }
     {
         let group = crc >> self.shift;
         self.words[(group / 64) as usize] |= 1 << (group % 64);
@@ -59,6 +65,7 @@ impl Filter {
         ensures shift { self.new.shift ≡ self.old.shift }
         ensures gone { ¬ (Marks self.new crc) }
         ensures kept { (other : ℕ) → ¬ (other / 2 ^ self.old.shift ≡ crc / 2 ^ self.old.shift) → Marks self.old other → Marks self.new other }
+        ensures only { (other : ℕ) → Marks self.new other → Marks self.old other }
     {
         let group = crc >> self.shift;
         self.words[(group / 64) as usize] &= !(1 << (group % 64));

@@ -1,11 +1,11 @@
 //! The search for slices in a file by their checksums.
 
-ghost use Rattle.std.specs.Prelude.{◌≡◌, ◌≤◌, ◌<◌, ◌+◌, ◌⊎◌, ℕ, IfOk, length, take, drop, map, slice_index, false};
+ghost use Rattle.std.specs.Prelude.{◌≡◌, ◌≤◌, ◌<◌, ◌+◌, ◌⊎◌, ◌↔◌, ℕ, IfOk, IsTrue, length, take, drop, map, slice_index};
 ghost use Rattle.std.specs.List.{count_by};
 ghost use Rattle.std.specs.Option.{is_none};
 ghost use Rattle.par2_spec.specs.Checksums.{crc32};
 ghost use Rattle.par2_spec.specs.Windows.{first_match, window};
-ghost use Rattle.par2_slices.specs.Searches.{advanced, has_checksums, offset_at, pair_at, place_at, HoldsGroup, IsAt, IsPlace};
+ghost use Rattle.par2_slices.specs.Searches.{advanced, has_checksums, offset_at, pair_at, place_at, HoldsGroup, IsAt, IsAwaited, IsPlace, IsWaiting};
 
 use crate::digest::padded_md5;
 use crate::filter::Filter;
@@ -29,7 +29,7 @@ fn window_bytes(bytes: &[u8], s: u64, offset: usize) -> &[u8]
 /// Whether a pair that has this CRC-32 has no answer yet.
 fn is_awaited(group: &[Place], crc: u32, found: &[Option<usize>]) -> bool
     requires { (k : ℕ) → k < length group.now → (place_at group.now k).index < length found.now }
-    ensures { result ≡ false → (k : ℕ) → k < length group.now → (place_at group.now k).crc ≡ crc → ¬ (offset_at found.now (place_at group.now k).index ≡ None) }
+    ensures { IsTrue result ↔ IsAwaited group.now crc found.now }
 {
     for place in group {
         if place.crc == crc && found[place.index].is_none() {
@@ -42,7 +42,7 @@ fn is_awaited(group: &[Place], crc: u32, found: &[Option<usize>]) -> bool
 /// Whether a pair of the group has no answer yet.
 fn is_waiting(group: &[Place], found: &[Option<usize>]) -> bool
     requires { (k : ℕ) → k < length group.now → (place_at group.now k).index < length found.now }
-    ensures { result ≡ false → (k : ℕ) → k < length group.now → ¬ (offset_at found.now (place_at group.now k).index ≡ None) }
+    ensures { IsTrue result ↔ IsWaiting group.now found.now }
 {
     for place in group {
         if found[place.index].is_none() {

@@ -1,4 +1,5 @@
-//! Measures the checksums and the search of `par2_slices`, beside a plain copy in the same run.
+//! Measures the checksums and the search of `par2_slices`, beside a plain copy and MD5 alone in the same run. Each
+//! figure is the best of some rounds, since other programs disturb a round.
 #![tactic(auto)]
 
 use md5::{Digest, Md5};
@@ -10,9 +11,11 @@ use std::{env, io};
 
 const SLICE: u64 = 65536;
 
-const LEN: usize = 64 << 20;
+const LEN: usize = 16 << 20;
 
 const PAIRS: usize = 10_000;
+
+const ROUNDS: u32 = 12;
 
 // Bytes without a pattern.
 fn noise(alloc: Global, len: usize, seed: u64) -> Result<Vec<u8>, AllocError> {
@@ -48,81 +51,141 @@ fn strangers(alloc: Global, count: usize) -> Result<Vec<Pair>, AllocError> {
     Ok(pairs)
 }
 
-fn report(rt: &impl Print, what: &str, seconds: f64, copied: f64) -> io::Result<()> {
-    let speed = LEN as f64 / seconds / 1e9;
-    let ratio = copied / seconds;
-    println!(rt; "{what}: {speed:.3} GB/s, {ratio:.3} of a copy")
+// What a round takes, and something of what it made, so that it isn't left out.
+#[derive(Clone, Copy, Drop)]
+struct Round {
+    seconds: f64,
+    made: usize,
+}
+
+impl Round {
+    fn better(self, other: Round) -> Round {
+        if other.seconds < self.seconds {
+            other
+        } else {
+            self
+        }
+    }
+}
+
+fn copy_round(rt: &impl Clock, bytes: &[u8], copy: &mut Vec<u8>) -> io::Result<Round> {
+    let start = Instant::now(rt)?;
+    copy.clear();
+    copy.extend_from_slice(bytes)?;
+    Ok(Round {
+        seconds: start.elapsed(rt)?.as_secs_f64(),
+        made: copy.len(),
+    })
+}
+
+fn crc32_round(rt: &impl Clock, bytes: &[u8]) -> io::Result<Round> {
+    let start = Instant::now(rt)?;
+    let made = crc32(bytes) as usize;
+    Ok(Round {
+        seconds: start.elapsed(rt)?.as_secs_f64(),
+        made,
+    })
+}
+
+fn md5_round(rt: &impl Clock, bytes: &[u8]) -> io::Result<Round> {
+    let start = Instant::now(rt)?;
+    let made = Md5::digest(bytes)[15] as usize;
+    Ok(Round {
+        seconds: start.elapsed(rt)?.as_secs_f64(),
+        made,
+    })
+}
+
+fn pairs_round(rt: &impl Clock, alloc: Global, bytes: &[u8]) -> io::Result<Round> {
+    let start = Instant::now(rt)?;
+    let made = pairs_of(alloc, bytes)?.len();
+    Ok(Round {
+        seconds: start.elapsed(rt)?.as_secs_f64(),
+        made,
+    })
+}
+
+fn search_round(
+    rt: &impl Clock,
+    alloc: Global,
+    bytes: &[u8],
+    wanted: &Wanted,
+) -> io::Result<Round> {
+    let start = Instant::now(rt)?;
+    let offsets = find(alloc, bytes, SLICE, wanted)?;
+    let seconds = start.elapsed(rt)?.as_secs_f64();
+    let made = offsets.iter().filter(|offset| offset.is_some()).count();
+    Ok(Round { seconds, made })
+}
+
+fn best_search(rt: &impl Clock, alloc: Global, bytes: &[u8], wanted: &Wanted) -> io::Result<Round> {
+    let mut best = search_round(rt, alloc, bytes, wanted)?;
+    for _ in 1..ROUNDS {
+        best = best.better(search_round(rt, alloc, bytes, wanted)?);
+    }
+    Ok(best)
+}
+
+fn report(rt: &impl Print, what: &str, round: &Round, md5: &Round) -> io::Result<()> {
+    let speed = LEN as f64 / round.seconds / 1e9;
+    let times = round.seconds / md5.seconds;
+    let made = round.made;
+    println!(rt; "{what}: {speed:.3} GB/s, {times:.2} times the time of MD5 alone ({made})")
+}
+
+fn measure_kernels(
+    rt: &(impl Clock + Print),
+    alloc: Global,
+    bytes: &[u8],
+    copy: &mut Vec<u8>,
+) -> io::Result<Round> {
+    let mut md5 = md5_round(rt, bytes)?;
+    let mut copied = copy_round(rt, bytes, copy)?;
+    let mut crc = crc32_round(rt, bytes)?;
+    let mut pairs = pairs_round(rt, alloc, bytes)?;
+    for _ in 1..ROUNDS {
+        md5 = md5.better(md5_round(rt, bytes)?);
+        copied = copied.better(copy_round(rt, bytes, copy)?);
+        crc = crc.better(crc32_round(rt, bytes)?);
+        pairs = pairs.better(pairs_round(rt, alloc, bytes)?);
+    }
+    report(rt, "MD5 of the file alone", &md5, &md5)?;
+    report(rt, "a plain copy of the file", &copied, &md5)?;
+    report(rt, "CRC-32 of the file", &crc, &md5)?;
+    report(rt, "MD5 and CRC-32 of each slice", &pairs, &md5)?;
+    Ok(md5)
 }
 
 fn measure(rt: &(impl Clock + Print), alloc: Global) -> io::Result<()> {
     let bytes = noise(alloc, LEN, 1)?;
     let mut copy = noise(alloc, LEN, 2)?;
-    let start = Instant::now(rt)?;
-    copy.clear();
-    copy.extend_from_slice(&bytes)?;
-    let copied = start.elapsed(rt)?.as_secs_f64();
-    report(rt, "copy", copied, copied)?;
-
-    let start = Instant::now(rt)?;
-    let crc = crc32(&copy);
-    report(rt, "crc32", start.elapsed(rt)?.as_secs_f64(), copied)?;
-
-    let start = Instant::now(rt)?;
-    let digest = Md5::digest(&copy);
-    report(rt, "md5", start.elapsed(rt)?.as_secs_f64(), copied)?;
-
-    let start = Instant::now(rt)?;
-    let own = pairs_of(alloc, &bytes)?;
-    report(
-        rt,
-        "pairs of all slices",
-        start.elapsed(rt)?.as_secs_f64(),
-        copied,
-    )?;
+    println!(rt; "a file of {LEN} bytes, slices of {SLICE}; best of {ROUNDS} rounds")?;
+    let md5 = measure_kernels(rt, alloc, &bytes, &mut copy)?;
 
     let wanted = Wanted::new(alloc, &strangers(alloc, PAIRS)?)?;
-    let start = Instant::now(rt)?;
-    let nothing = find(alloc, &bytes, SLICE, &wanted)?;
-    report(
-        rt,
-        "search that finds nothing",
-        start.elapsed(rt)?.as_secs_f64(),
-        copied,
-    )?;
+    let nothing = best_search(rt, alloc, &bytes, &wanted)?;
+    report(rt, "search for 10,000 pairs, none is there", &nothing, &md5)?;
 
+    let own = pairs_of(alloc, &bytes)?;
     let wanted = Wanted::new(alloc, &own)?;
-    let start = Instant::now(rt)?;
-    let everything = find(alloc, &bytes, SLICE, &wanted)?;
+    let everything = best_search(rt, alloc, &bytes, &wanted)?;
     report(
         rt,
-        "search that finds everything",
-        start.elapsed(rt)?.as_secs_f64(),
-        copied,
+        "search of the file for its own slices, all found",
+        &everything,
+        &md5,
     )?;
 
     copy.fill(0);
-    let wanted = Wanted::new(alloc, &[pair_of(b"\0", SLICE), own_or_zero(&own)])?;
-    let start = Instant::now(rt)?;
-    let first = find(alloc, &copy, SLICE, &wanted)?;
+    let stranger = ([7; 16], crc32(b"stranger"));
+    let wanted = Wanted::new(alloc, &[pair_of(b"\0", SLICE), stranger])?;
+    let zeros = best_search(rt, alloc, &copy, &wanted)?;
     report(
         rt,
-        "search in zeros",
-        start.elapsed(rt)?.as_secs_f64(),
-        copied,
-    )?;
-
-    let missed = nothing.iter().filter(|offset| offset.is_none()).count();
-    let met = everything.iter().filter(|offset| offset.is_some()).count();
-    let last = digest[15];
-    println!(rt; "{crc:08x} {last:02x} {missed} {met} {first:?}")
-}
-
-fn own_or_zero(pairs: &[Pair]) -> Pair {
-    if pairs.is_empty() {
-        ([0; 16], 0)
-    } else {
-        pairs[0]
-    }
+        "search of zeros for a slice of zeros and another",
+        &zeros,
+        &md5,
+    )
 }
 
 fn main(rt: HostRuntime) -> io::Result<()> {

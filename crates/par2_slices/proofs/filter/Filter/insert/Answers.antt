@@ -1,7 +1,8 @@
-use Rattle.std.proofs.Common.{◌≡◌, get_or, ◌/◌, ◌^◌, ◌<◌, length, sym, subst, arith}
+use Rattle.std.proofs.Common.{ℕ, ◌≡◌, get_or, ◌*◌, ◌/◌, ◌%◌, ◌^◌, ◌<◌, length, set, sym, subst, arith}
+use Rattle.std.specs.Prelude.{◌⊎◌, bit_or}
 use Rattle.std.proofs.lemmas.List.{get_or_read}
 use Rattle.par2_slices.specs.Filters.{Bits, Marks}
-use Rattle.par2_slices.proofs.Groups.{within, marked, kept_by_insert}
+use Rattle.par2_slices.proofs.Groups.{within, marked, kept_by_insert, only_by_insert}
 use Rattle.par2_slices.proofs.filter.Filter.insert.Goals as goal
 
 pub index_mut-requires : goal.index_mut-requires
@@ -23,3 +24,13 @@ returns-clause-kept c other is =
     let read : c.index_mut.result.now ≡ get_or items place 0 = get_or_read items place c.index_mut.result.now held c.index_mut.ensures.value 0 in
     let Has : Bits → Type 0 = λ bits. Marks bits other in
     rw read (kept_by_insert c.self.inside.shift c.args.crc items held other (subst Has (sym c.self.view_is) is))
+
+pub returns-clause-only : goal.returns-clause-only
+returns-clause-only c other is =
+    let items = c.self.inside.words.items in
+    let place = c.args.crc / 2 ^ c.self.inside.shift / 64 in
+    let held : place < length items = omega (arith, within c.args.crc c.self.inside.shift c.ranges.crc.fits c.self.invariant.low, c.self.invariant.len) in
+    let read : c.index_mut.result.now ≡ get_or items place 0 = get_or_read items place c.index_mut.result.now held c.index_mut.ensures.value 0 in
+    let Only : Bits → Type 0 = λ bits. (other / 2 ^ bits.shift ≡ c.args.crc / 2 ^ bits.shift) ⊎ Marks bits other in
+    let After : ℕ → Type 0 = λ word. Marks (record { shift = c.self.inside.shift; words = set items place (bit_or word (1 * 2 ^ (c.args.crc / 2 ^ c.self.inside.shift % 64) % 2 ^ 64)) }) other in
+    subst Only c.self.view_is (only_by_insert c.self.inside.shift c.args.crc items held other (subst After read is))

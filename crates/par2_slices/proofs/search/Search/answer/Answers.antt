@@ -1,4 +1,4 @@
-use Rattle.std.proofs.Common.{◌≡◌, ◌∙◌, ◌-◌, ◌+◌, ◌++◌, ℕ, List, length, take, drop, ap, sym, subst}
+use Rattle.std.proofs.Common.{◌≡◌, ◌∙◌, ◌-◌, ◌+◌, ◌++◌, ℕ, List, true, false, length, take, drop, ap, sym, subst}
 use Rattle.std.specs.Prelude.{Option}
 use Rattle.std.proofs.lemmas.List.{take_at}
 use Rattle.md5.specs.Md5.{md5}
@@ -41,4 +41,4 @@ pub returns-else-is_awaited-clause-at : goal.returns-else-is_awaited-clause-at
 returns-else-is_awaited-clause-at c =
     unawaited c.args.s c.args.bytes.now c.args.offset c.args.wanted.now c.args.self.now.found.items c.args.self.now.left c.args.self.now.filter c.args.crc c.requires.group.0 c.args.group.now
     c.requires.at c.requires.crc c.requires.group.1
-    (λ k h its none. c.is_awaited.ensures c.if-is_awaited.false k h its (ap (λ found. offset_at found (place_at c.args.group.now k).index) c.deref.ensures.value ∙ none))
+    (λ k h its none. let both : true ≡ false = sym (c.is_awaited.ensures.1 (k, h, its, ap (λ found. offset_at found (place_at c.args.group.now k).index) c.deref.ensures.value ∙ none)) ∙ c.if-is_awaited.false in cc)
