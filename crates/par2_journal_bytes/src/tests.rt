@@ -183,45 +183,52 @@ fn closed(alloc: Global, body: &[u8]) -> Result<Vec<u8>, AllocError> {
     Ok(text)
 }
 
-#[test]
-fn damaged_journals(rt: HostRuntime) -> Result<(), Fail> {
-    for text in [UNDO_ONE, UNDO_TWO, NOTHING_ONE, HALFWAY_ONE, HALFWAY_TWO] {
-        assert!(rt; decode(rt.alloc(), text).is_ok());
-        assert!(rt; are_prefixes_refused(rt.alloc(), text));
-        let mut changed = Vec::from_slice(rt.alloc(), text)?;
-        for n in 0..changed.len() {
-            let byte = changed[n];
-            changed[n] = byte ^ 1;
-            assert!(rt; is_refused(rt.alloc(), &changed), "byte {n}");
-            changed[n] = byte;
+// Whether the bytes are refused with any one byte changed.
+fn are_changes_refused(alloc: Global, text: &[u8]) -> Result<bool, AllocError> {
+    let mut changed = Vec::from_slice(alloc, text)?;
+    for n in 0..changed.len() {
+        let byte = changed[n];
+        changed[n] = byte ^ 1;
+        if !is_refused(alloc, &changed) {
+            return Ok(false);
         }
-        changed.push(0)?;
-        assert!(rt; is_refused(rt.alloc(), &changed));
+        changed[n] = byte;
     }
-    Ok(())
+    Ok(true)
 }
 
-// The digests of these are right.
+// Bodies of no journal, to which their digests are added.
 const FALSE_BODIES: [&[u8]; 8] = [
     // Claims of 2^64 - 1 entries, changes, bytes and fingerprints.
     b"P2UNDO1\n0123456789abcdef\xff\xff\xff\xff\xff\xff\xff\xff\0",
     b"P2UNDO1\n0123456789abcdef\x01\0\0\0\0\0\0\0\xff\xff\xff\xff\xff\xff\xff\xff\x04\x01a\0",
-    b"P2UNDO1\n0123456789abcdef\x01\0\0\0\0\0\0\0\x01\0\0\0\0\0\0\0\x01\x01a\xff\xff\xff\xff\xff\xff\xff\xffabc\0",
-    b"P2UNDO1\n0123456789abcdef\0\0\0\0\0\0\0\0\x01\xff\xff\xff\xff\xff\xff\xff\xffaaaaaaaaaaaaaaaa\x04\x01a",
-    // A cursor of 2 in front of one entry.
+    b"P2UNDO1\n0123456789abcdef\x01\0\0\0\0\0\0\0\x01\0\0\0\0\0\0\0\
+        \x01\x01a\xff\xff\xff\xff\xff\xff\xff\xffabc\0",
+    b"P2UNDO1\n0123456789abcdef\0\0\0\0\0\0\0\0\
+        \x01\xff\xff\xff\xff\xff\xff\xff\xffaaaaaaaaaaaaaaaa\x04\x01a",
+    // A cursor of 2, where there is one entry.
     b"P2UNDO2\n0123456789abcdef\x02\0\0\0\0\0\0\0\x01\0\0\0\0\0\0\0\x01\0\0\0\0\0\0\0\x04\x06t.par2\0",
     // A byte behind the last part.
     b"P2UNDO1\n0123456789abcdef\0\0\0\0\0\0\0\0\0\0",
-    // A way back of no change, and a name that is none.
+    // A way back of no change.
     b"P2UNDO1\n0123456789abcdef\0\0\0\0\0\0\0\0\x01\0\0\0\0\0\0\0\0",
+    // A text that is no name.
     b"P2UNDO1\n0123456789abcdef\x01\0\0\0\0\0\0\0\x01\0\0\0\0\0\0\0\x04\x03a/b\0",
 ];
 
 #[test]
-fn false_journals(rt: HostRuntime) -> Result<(), Fail> {
+fn damaged_journals(rt: HostRuntime) -> Result<(), Fail> {
+    let alloc = rt.alloc();
+    for text in [UNDO_ONE, UNDO_TWO, NOTHING_ONE, HALFWAY_ONE, HALFWAY_TWO] {
+        assert!(rt; decode(alloc, text).is_ok());
+        assert!(rt; are_prefixes_refused(alloc, text));
+        assert!(rt; are_changes_refused(alloc, text)?);
+        let mut longer = Vec::from_slice(alloc, text)?;
+        longer.push(0)?;
+        assert!(rt; is_refused(alloc, &longer));
+    }
     for body in FALSE_BODIES {
-        let text = closed(rt.alloc(), body)?;
-        assert!(rt; is_refused(rt.alloc(), &text));
+        assert!(rt; is_refused(alloc, &closed(alloc, body)?));
     }
     Ok(())
 }
