@@ -1,0 +1,27 @@
+-- What an answer of the reader says of a text.
+use Rattle.std.proofs.Common.{◌≡◌, ℕ, List, Some, Result, Ok, Err, refl, sym, ◌∙◌}
+use Rattle.std.specs.Prelude.{IfOk, MatchResult}
+use Rattle.std.proofs.lemmas.Option.{same_Some, none-some}
+use Rattle.par2_spec.specs.Journals as defined
+use Rattle.par2_spec.specs.Journals.{Spells}
+use Rattle.par2_journal_bytes.specs.declared.journal.Journal.{Journal}
+use Rattle.par2_journal_bytes.specs.declared.fault.DecodeFault.{DecodeFault}
+use Rattle.par2_journal_bytes.specs.declared.fault.DecodeFault.TheVariants.{JournalInvalid, Memory}
+use Rattle.par2_journal_bytes.specs.Views.{journal_of}
+use Rattle.par2_journal_bytes.specs.Reading.{Gives, journal_at}
+use Rattle.par2_journal_bytes.proofs.Fields.{IsBytes}
+use Rattle.par2_journal_bytes.proofs.Whole.{journal_takes, journal_again}
+
+pub is_found : (text : List ℕ) (r : Result Journal DecodeFault) → IsBytes text → Gives journal_of r (journal_at text) → IfOk r (λ j. Spells text (journal_of j))
+is_found text (Ok j) fits given = journal_takes text (journal_of j) fits given
+is_found text (Err fault) fits given = tt
+
+pub is_only : (text : List ℕ) (r : Result Journal DecodeFault) (j : defined.Journal) → Spells text j → Gives journal_of r (journal_at text) → MatchResult r (λ x. journal_of x ≡ j) (λ fault. fault ≡ Memory)
+is_only text (Ok x) j spells given = same_Some (journal_of x) j (sym given ∙ journal_again text j spells)
+is_only text (Err Memory) j spells given = refl
+is_only text (Err JournalInvalid) j spells given = absurd (none-some j (sym given ∙ journal_again text j spells))
+
+pub is_invalid : (text : List ℕ) (r : Result Journal DecodeFault) (j : defined.Journal) → Spells text j → Gives journal_of r (journal_at text) → r ≡ Err JournalInvalid → ⊥
+is_invalid text (Ok x) j spells given e = absurd cc
+is_invalid text (Err Memory) j spells given e = absurd cc
+is_invalid text (Err JournalInvalid) j spells given e = none-some j (sym given ∙ journal_again text j spells)

@@ -1,0 +1,7 @@
+pub mod Many
+pub mod Fields
+pub mod Pieces
+pub mod Whole
+pub mod Decoded
+pub mod Collected
+pub mod NameTests

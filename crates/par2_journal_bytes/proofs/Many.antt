@@ -1,0 +1,57 @@
+-- Reading values one after the other, as a loop does.
+use Rattle.std.proofs.Common.{◌≡◌, ℕ, suc, ◌-◌, ◌+◌, ◌≤◌, ◌<◌, List, [], ◌∷◌, ◌++◌, Option, Some, None, refl, sym, ap, ◌∙◌, append_assoc, arith}
+use Rattle.std.proofs.lemmas.List.{append-nil}
+use Rattle.par2_journal_bytes.specs.declared.fault.DecodeFault.{DecodeFault}
+use Rattle.par2_journal_bytes.specs.declared.fault.DecodeFault.TheVariants.{JournalInvalid, Memory}
+use Rattle.par2_journal_bytes.specs.Reading.{◌>>=◌, Fails, many_at}
+
+abbrev pub Reader : Type 0 → Type 0
+Reader A = List ℕ → Option (A × List ℕ)
+
+-- what stands in front of what is read
+abbrev pub behind : {A : Type 0} → List A → Option (List A × List ℕ) → Option (List A × List ℕ)
+behind front read = read >>= λ x. Some (front ++ x.0, x.1)
+
+-- at entry i of n, the list so far and the rest give what the whole gives
+abbrev pub SoFar : {A : Type 0} → Reader A → ℕ → List ℕ → List A → ℕ → List ℕ → Type 0
+SoFar one n bytes front i rest = behind front (many_at one (n - i) rest) ≡ many_at one n bytes
+
+moved : {A : Type 0} (front : List A) (x : A) (read : Option (List A × List ℕ)) → behind front (read >>= λ y. Some (x ∷ y.0, y.1)) ≡ behind (front ++ x ∷ []) read
+moved front x (Some y) = ap (λ l. Some (l, y.1)) (sym (append_assoc front (x ∷ []) y.0))
+moved front x None = refl
+
+one_more : {A : Type 0} (one : Reader A) (n i : ℕ) (rest : List ℕ) (x : A) (after : List ℕ) → i < n → one rest ≡ Some (x, after)
+    → many_at one (n - i) rest ≡ (many_at one (n - (i + 1)) after >>= λ y. Some (x ∷ y.0, y.1))
+unfolding many_at
+one_more one n i rest x after lt e =
+    let k : n - i ≡ suc (n - (i + 1)) = omega arith in
+    rw (k, e) refl
+
+pub goes_on : {A : Type 0} (one : Reader A) (n : ℕ) (bytes : List ℕ) (front : List A) (i : ℕ) (rest : List ℕ) (x : A) (after : List ℕ)
+    → i < n → one rest ≡ Some (x, after) → SoFar one n bytes front i rest → SoFar one n bytes (front ++ x ∷ []) (i + 1) after
+goes_on one n bytes front i rest x after lt e so_far =
+    sym (ap (behind front) (one_more one n i rest x after lt e) ∙ moved front x (many_at one (n - (i + 1)) after)) ∙ so_far
+
+pub starts : {A : Type 0} (one : Reader A) (n : ℕ) (bytes : List ℕ) → SoFar one n bytes [] 0 bytes
+starts one n bytes = let k : n - 0 ≡ n = omega arith in rw k (same (many_at one n bytes))
+  where
+    same : {B : Type 0} (read : Option (List B × List ℕ)) → behind [] read ≡ read
+    same (Some x) = refl
+    same None = refl
+
+pub stops : {A : Type 0} (one : Reader A) (n : ℕ) (bytes : List ℕ) (front : List A) (i : ℕ) (rest : List ℕ) (e : DecodeFault)
+    → i < n → Fails e (one rest) → SoFar one n bytes front i rest → Fails e (many_at one n bytes)
+unfolding many_at
+stops one n bytes front i rest Memory lt h so_far = tt
+stops one n bytes front i rest JournalInvalid lt h so_far =
+    let k : n - i ≡ suc (n - (i + 1)) = omega arith in
+    let none : behind front (many_at one (n - i) rest) ≡ None = rw (k, h) refl in
+    sym so_far ∙ none
+
+pub ends : {A : Type 0} (one : Reader A) (n : ℕ) (bytes : List ℕ) (front : List A) (i : ℕ) (rest : List ℕ)
+    → n ≤ i → SoFar one n bytes front i rest → many_at one n bytes ≡ Some (front, rest)
+unfolding many_at
+ends one n bytes front i rest le so_far =
+    let k : n - i ≡ 0 = omega arith in
+    let whole : behind front (many_at one (n - i) rest) ≡ Some (front, rest) = rw k (ap (λ l. Some (l, rest)) (append-nil front)) in
+    sym so_far ∙ whole

@@ -1,0 +1,56 @@
+//! The parts of a journal.
+ghost use Rattle.std.specs.Prelude.{◌≡◌};
+ghost use Rattle.par2_spec.specs.Journals as journals;
+
+use par2_folder::Change;
+use par2_spec::Version;
+
+/// A journal that was read.
+#[derive(Debug, Drop)]
+pub struct Journal {
+    pub version: Version,
+    /// The fingerprint of the folder; of a halfway journal, of the folder before the command.
+    pub fingerprint: [u8; 16],
+    /// How many entries an undo applies. The others are those that a redo applies.
+    pub cursor: usize,
+    /// The oldest first.
+    pub entries: Vec<Vec<Change>>,
+    /// There where a command was begun.
+    pub halfway: Option<Halfway>,
+}
+
+/// A command that was begun.
+#[derive(Debug, Drop)]
+pub struct Halfway {
+    /// The fingerprint after each change of the command.
+    pub fingerprints: Vec<[u8; 16]>,
+    /// The changes that take the command back, in order.
+    pub back: Vec<Change>,
+}
+
+/// The parts that a journal is written from, as [`Journal`] has them. Nothing of them is copied.
+#[derive(Clone, Copy, Debug, Drop)]
+pub struct JournalParts<'a> {
+    pub version: Version,
+    pub fingerprint: [u8; 16],
+    pub cursor: usize,
+    pub entries: &'a [&'a [Change]],
+    pub halfway: Option<HalfwayParts<'a>>,
+}
+
+/// The parts of a command that was begun, as [`Halfway`] has them.
+#[derive(Clone, Copy, Debug, Drop)]
+pub struct HalfwayParts<'a> {
+    pub fingerprints: &'a [[u8; 16]],
+    pub back: &'a [Change],
+}
+
+// The bytes with which a journal begins.
+pub(crate) fn heading(version: Version) -> &'static [u8]
+    ensures { result.now ≡ journals.heading version }
+{
+    match version {
+        Version::One => b"P2UNDO1\n".as_slice(),
+        Version::Two => b"P2UNDO2\n".as_slice(),
+    }
+}

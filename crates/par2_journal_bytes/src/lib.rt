@@ -1,0 +1,19 @@
+//! Journals as bytes, in both versions.
+#![tactic(auto)]
+
+mod digest;
+mod fault;
+mod journal;
+mod laws;
+mod reading;
+mod writing;
+
+pub use fault::DecodeFault;
+pub use journal::{Halfway, HalfwayParts, Journal, JournalParts};
+pub use laws::one_reading;
+pub use par2_spec::Version;
+pub use reading::decode;
+pub use writing::encode;
+
+#[cfg(test)]
+mod tests;

@@ -1,0 +1,282 @@
+//! A journal from its bytes. Each reader takes its part from the front, and gives the bytes behind it too.
+ghost use Rattle.std.specs.Prelude.{◌≡◌, ℕ, List, IfOk, IfSome, IsTrue, Some, Err, is_some, MatchResult};
+ghost use Rattle.md5.specs.Md5.{md5};
+ghost use Rattle.par2_spec.specs.Names.{is_name};
+ghost use Rattle.par2_spec.specs.Journals.{Journal as Defined, Spells};
+ghost use Rattle.par2_folder.specs.Views.{change_of};
+ghost use Rattle.par2_journal_bytes.specs.Reading as reads;
+ghost use Rattle.par2_journal_bytes.specs.Reading.{Gives};
+ghost use Rattle.par2_journal_bytes.specs.Views.{changes_of, entries_of, halfway_of, journal_of};
+ghost use Rattle.par2_journal_bytes.specs.declared.fault.DecodeFault.TheVariants.{JournalInvalid, Memory};
+
+use crate::digest::digest_of;
+use crate::journal::heading;
+use crate::{DecodeFault, Halfway, Journal};
+use par2_folder::{Bytes, Change, Name};
+use par2_spec::Version;
+use std::alloc::Global;
+
+// As many bytes. Nothing is asked for before they are known to be there.
+#[tactic(auto, unfolding(crate::specs::Reading::block_at))]
+fn read_block(bytes: &[u8], len: usize) -> Result<(&[u8], &[u8]), DecodeFault>
+    ensures { Gives (λ x. (x.0.now, x.1.now)) result (reads.block_at len bytes.now) }
+{
+    if bytes.len() < len {
+        return Err(DecodeFault::JournalInvalid);
+    }
+    Ok(bytes.split_at(len))
+}
+
+#[tactic(auto, unfolding(crate::specs::Reading::number_at))]
+fn read_number(bytes: &[u8]) -> Result<(u64, &[u8]), DecodeFault>
+    ensures { Gives (λ x. (x.0, x.1.now)) result (reads.number_at bytes.now) }
+{
+    if bytes.len() < 8 {
+        return Err(DecodeFault::JournalInvalid);
+    }
+    let (front, rest) = bytes.split_at(8);
+    let number = u64::from_le_bytes([
+        front[0], front[1], front[2], front[3], front[4], front[5], front[6], front[7],
+    ]);
+    Ok((number, rest))
+}
+
+#[tactic(auto, unfolding(crate::specs::Reading::block_at))]
+fn read_digest(bytes: &[u8]) -> Result<([u8; 16], &[u8]), DecodeFault>
+    ensures { Gives (λ x. (x.0, x.1.now)) result (reads.block_at 16 bytes.now) }
+{
+    if bytes.len() < 16 {
+        return Err(DecodeFault::JournalInvalid);
+    }
+    let (front, rest) = bytes.split_at(16);
+    let mut digest = [0; 16];
+    digest.copy_from_slice(front);
+    Ok((digest, rest))
+}
+
+// The name with these bytes.
+fn name_of(bytes: &[u8]) -> Option<Name>
+    ensures variant { is_some result ≡ is_name bytes.now }
+    ensures some { IfSome result (λ name. name ≡ bytes.now) }
+{
+    let Ok(text) = str::from_utf8(bytes) else {
+        return None;
+    };
+    match Name::new(text) {
+        Ok(name) => Some(name),
+        Err(_) => None,
+    }
+}
+
+#[tactic(auto, unfolding(crate::specs::Reading::name_at))]
+fn read_name(bytes: &[u8]) -> Result<(Name, &[u8]), DecodeFault>
+    ensures { Gives (λ x. (x.0, x.1.now)) result (reads.name_at bytes.now) }
+{
+    let [len, rest @ ..] = bytes else {
+        return Err(DecodeFault::JournalInvalid);
+    };
+    let (text, rest) = read_block(rest, *len as usize)?;
+    match name_of(text) {
+        Some(name) => Ok((name, rest)),
+        None => Err(DecodeFault::JournalInvalid),
+    }
+}
+
+#[tactic(auto, unfolding(crate::specs::Reading::counted_at))]
+fn read_bytes(alloc: Global, bytes: &[u8]) -> Result<(Bytes, &[u8]), DecodeFault>
+    ensures { Gives (λ x. (x.0, x.1.now)) result (reads.counted_at bytes.now) }
+{
+    let (len, rest) = read_number(bytes)?;
+    let (content, rest) = read_block(rest, len as usize)?;
+    Ok((Bytes::copy_of(alloc, content)?, rest))
+}
+
+#[tactic(auto, unfolding(crate::specs::Reading::change_at))]
+fn read_change(alloc: Global, bytes: &[u8]) -> Result<(Change, &[u8]), DecodeFault>
+    ensures { Gives (λ x. (change_of x.0, x.1.now)) result (reads.change_at bytes.now) }
+{
+    match bytes {
+        [1, rest @ ..] => {
+            let (name, rest) = read_name(rest)?;
+            let (content, rest) = read_bytes(alloc, rest)?;
+            Ok((Change::Write(name, content), rest))
+        }
+        [2, rest @ ..] => {
+            let (name, rest) = read_name(rest)?;
+            let (content, rest) = read_bytes(alloc, rest)?;
+            Ok((Change::Replace(name, content), rest))
+        }
+        [3, rest @ ..] => {
+            let (from, rest) = read_name(rest)?;
+            let (to, rest) = read_name(rest)?;
+            Ok((Change::Rename(from, to), rest))
+        }
+        [4, rest @ ..] => {
+            let (name, rest) = read_name(rest)?;
+            Ok((Change::Remove(name), rest))
+        }
+        _ => Err(DecodeFault::JournalInvalid),
+    }
+}
+
+// As many changes. The vector grows by changes that were read, never by the count that is claimed.
+fn read_changes(
+    alloc: Global,
+    count: u64,
+    bytes: &[u8],
+) -> Result<(Vec<Change>, &[u8]), DecodeFault>
+    ensures { Gives (λ x. (changes_of x.0.items, x.1.now)) result (reads.many_at reads.change_at count bytes.now) }
+{
+    let mut changes = Vec::new(alloc);
+    let mut rest = bytes;
+    for _ in 0..count {
+        let (change, behind) = read_change(alloc, rest)?;
+        changes.push(change)?;
+        rest = behind;
+    }
+    Ok((changes, rest))
+}
+
+#[tactic(auto, unfolding(crate::specs::Reading::entry_at))]
+fn read_entry(alloc: Global, bytes: &[u8]) -> Result<(Vec<Change>, &[u8]), DecodeFault>
+    ensures { Gives (λ x. (changes_of x.0.items, x.1.now)) result (reads.entry_at bytes.now) }
+{
+    let (count, rest) = read_number(bytes)?;
+    read_changes(alloc, count, rest)
+}
+
+// As many entries, as `read_changes`.
+fn read_entries(
+    alloc: Global,
+    count: u64,
+    bytes: &[u8],
+) -> Result<(Vec<Vec<Change>>, &[u8]), DecodeFault>
+    ensures { Gives (λ x. (entries_of x.0.items, x.1.now)) result (reads.many_at reads.entry_at count bytes.now) }
+{
+    let mut entries = Vec::new(alloc);
+    let mut rest = bytes;
+    for _ in 0..count {
+        let (entry, behind) = read_entry(alloc, rest)?;
+        entries.push(entry)?;
+        rest = behind;
+    }
+    Ok((entries, rest))
+}
+
+// As many digests, as `read_changes`.
+fn read_digests(
+    alloc: Global,
+    count: u64,
+    bytes: &[u8],
+) -> Result<(Vec<[u8; 16]>, &[u8]), DecodeFault>
+    ensures { Gives (λ x. (x.0.items, x.1.now)) result (reads.many_at (reads.block_at 16) count bytes.now) }
+{
+    let mut digests = Vec::new(alloc);
+    let mut rest = bytes;
+    for _ in 0..count {
+        let (digest, behind) = read_digest(rest)?;
+        digests.push(digest)?;
+        rest = behind;
+    }
+    Ok((digests, rest))
+}
+
+#[tactic(auto, unfolding(crate::specs::Reading::halfway_at))]
+fn read_halfway(alloc: Global, bytes: &[u8]) -> Result<(Option<Halfway>, &[u8]), DecodeFault>
+    ensures { Gives (λ x. (halfway_of x.0, x.1.now)) result (reads.halfway_at bytes.now) }
+{
+    match bytes {
+        [0, rest @ ..] => Ok((None, rest)),
+        [1, rest @ ..] => {
+            let (count, rest) = read_number(rest)?;
+            let (fingerprints, rest) = read_digests(alloc, count, rest)?;
+            let (back, rest) = read_changes(alloc, count, rest)?;
+            if count == 0 {
+                return Err(DecodeFault::JournalInvalid);
+            }
+            Ok((Some(Halfway { fingerprints, back }), rest))
+        }
+        _ => Err(DecodeFault::JournalInvalid),
+    }
+}
+
+#[tactic(auto, unfolding(crate::specs::Reading::heading_at))]
+fn read_heading(bytes: &[u8]) -> Result<(Version, &[u8]), DecodeFault>
+    ensures { Gives (λ x. (x.0, x.1.now)) result (reads.heading_at bytes.now) }
+{
+    let (front, rest) = read_block(bytes, 8)?;
+    if front == heading(Version::One) {
+        Ok((Version::One, rest))
+    } else if front == heading(Version::Two) {
+        Ok((Version::Two, rest))
+    } else {
+        Err(DecodeFault::JournalInvalid)
+    }
+}
+
+#[tactic(auto, unfolding(crate::specs::Reading::cursor_at))]
+fn read_cursor(version: Version, bytes: &[u8]) -> Result<(u64, &[u8]), DecodeFault>
+    ensures { Gives (λ x. (x.0, x.1.now)) result (reads.cursor_at version bytes.now) }
+{
+    match version {
+        Version::One => Ok((0, bytes)),
+        Version::Two => read_number(bytes),
+    }
+}
+
+// The cursor, where `read` is what was read for it and there are as many entries.
+fn cursor_in(version: Version, read: u64, count: u64) -> u64
+    ensures { result ≡ reads.cursor_in version read count }
+{
+    match version {
+        Version::One => count,
+        Version::Two => read,
+    }
+}
+
+#[tactic(auto, unfolding(crate::specs::Reading::parts_at))]
+fn read_parts(alloc: Global, bytes: &[u8]) -> Result<Journal, DecodeFault>
+    ensures { Gives journal_of result (reads.parts_at bytes.now) }
+{
+    let (version, rest) = read_heading(bytes)?;
+    let (fingerprint, rest) = read_digest(rest)?;
+    let (read, rest) = read_cursor(version, rest)?;
+    let (count, rest) = read_number(rest)?;
+    let (entries, rest) = read_entries(alloc, count, rest)?;
+    let (halfway, rest) = read_halfway(alloc, rest)?;
+    let cursor = cursor_in(version, read, count);
+    if cursor > count || !rest.is_empty() {
+        return Err(DecodeFault::JournalInvalid);
+    }
+    Ok(Journal {
+        version,
+        fingerprint,
+        cursor: cursor as usize,
+        entries,
+        halfway,
+    })
+}
+
+// The digest comes first: of a text that nobody wrote so, nothing is read.
+#[tactic(auto, unfolding(crate::specs::Reading::journal_at))]
+fn read_journal(alloc: Global, bytes: &[u8]) -> Result<Journal, DecodeFault>
+    ensures { Gives journal_of result (reads.journal_at bytes.now) }
+{
+    if bytes.len() < 16 {
+        return Err(DecodeFault::JournalInvalid);
+    }
+    let (body, end) = bytes.split_at(bytes.len() - 16);
+    if end != digest_of(body).as_slice() {
+        return Err(DecodeFault::JournalInvalid);
+    }
+    read_parts(alloc, body)
+}
+
+/// The journal that the bytes spell. Where they spell none, nothing is grown by what they claim.
+pub fn decode(alloc: Global, bytes: &[u8]) -> Result<Journal, DecodeFault>
+    ensures found { IfOk result (λ journal. Spells bytes.now (journal_of journal)) }
+    ensures only { (j : Defined) → Spells bytes.now j → MatchResult result (λ journal. journal_of journal ≡ j) (λ fault. fault ≡ Memory) }
+    ensures invalid { result ≡ Err JournalInvalid → (j : Defined) → Spells bytes.now j → ⊥ }
+{
+    read_journal(alloc, bytes)
+}

@@ -1,0 +1,234 @@
+//! The expected texts were made by another program, from the format alone.
+ghost use Rattle.std.specs.Prelude.{◌≡◌, ◌≤◌, length, IfSome};
+ghost use Rattle.par2_spec.specs.Journals.{IsCursor};
+
+use super::*;
+use md5::{Digest, Md5};
+use par2_folder::{Bytes, Change, Name};
+use std::alloc::{AllocError, Global};
+use std::process::Abort;
+use std::test::Fail;
+
+const FINGERPRINT: [u8; 16] = *b"0123456789abcdef";
+
+// One entry, which removes `t.par2`, for an undo.
+const UNDO_ONE: &[u8] =
+    b"P2UNDO1\n0123456789abcdef\x01\0\0\0\0\0\0\0\x01\0\0\0\0\0\0\0\x04\x06t.par2\0\
+    \x40\x01\xf7\xd1\x58\xca\x84\x40\xda\x05\xf0\x32\x1d\xa6\x3c\x04";
+
+const UNDO_TWO: &[u8] =
+    b"P2UNDO2\n0123456789abcdef\x01\0\0\0\0\0\0\0\x01\0\0\0\0\0\0\0\x01\0\0\0\0\0\0\0\x04\x06t.par2\0\
+    \x50\x1c\xe1\x3a\x60\xb5\x9a\x36\xad\x16\x9e\x1a\x6e\xcf\xbd\x6b";
+
+// No entry.
+const NOTHING_ONE: &[u8] = b"P2UNDO1\n0123456789abcdef\0\0\0\0\0\0\0\0\0\
+    \x4b\xac\x78\xb8\x48\x6d\x5d\x01\xc8\xfc\xe0\x26\x55\xa1\x57\xb5";
+
+// The digest of a version 2 journal with one entry, which writes `t.par2` with 420 zero bytes, for a redo.
+const REDO_DIGEST: [u8; 16] = [
+    0x7a, 0xc5, 0xb1, 0xb0, 0x62, 0xe9, 0xf6, 0x00, 0xf7, 0x3d, 0x28, 0x91, 0x39, 0x09, 0x52, 0x41,
+];
+
+// No entry, and a command that was begun. The way back removes `a` and renames `a.1` to `a`.
+const HALFWAY_ONE: &[u8] = b"P2UNDO1\n0123456789abcdef\0\0\0\0\0\0\0\0\x01\x02\0\0\0\0\0\0\0\
+    aaaaaaaaaaaaaaaabbbbbbbbbbbbbbbb\x04\x01a\x03\x03a.1\x01a\
+    \x5d\x80\xe6\x38\x55\x5a\xd5\xed\x06\xca\x71\xf9\x66\xc1\xcd\x63";
+
+const HALFWAY_TWO: &[u8] =
+    b"P2UNDO2\n0123456789abcdef\0\0\0\0\0\0\0\0\0\0\0\0\0\0\0\0\x01\x02\0\0\0\0\0\0\0\
+    aaaaaaaaaaaaaaaabbbbbbbbbbbbbbbb\x04\x01a\x03\x03a.1\x01a\
+    \xa5\xaf\xe3\x10\x8f\x1a\xef\xd1\x57\x29\x08\x40\xd7\xe9\x53\xd0";
+
+fn name(rt: &impl Abort, text: &str) -> Name {
+    Name::new(text).expect(rt, "a name")
+}
+
+fn is_same_change(one: &Change, other: &Change) -> bool {
+    match (one, other) {
+        (Change::Write(name, bytes), Change::Write(same, others)) => {
+            name == same && bytes.as_slice() == others.as_slice()
+        }
+        (Change::Replace(name, bytes), Change::Replace(same, others)) => {
+            name == same && bytes.as_slice() == others.as_slice()
+        }
+        (Change::Rename(from, to), Change::Rename(same, other)) => from == same && to == other,
+        (Change::Remove(name), Change::Remove(same)) => name == same,
+        _ => false,
+    }
+}
+
+fn are_same_changes(ones: &[Change], others: &[Change]) -> bool {
+    ones.len() == others.len()
+        && ones
+            .iter()
+            .zip(others)
+            .all(|(one, other)| is_same_change(one, other))
+}
+
+// The text of these parts, which reads back as they are.
+fn text_of<R: Abort + AllocGlobal>(rt: &R, parts: &JournalParts<'_>) -> Result<Vec<u8>, Fail>
+    requires cursor { IsCursor parts.now.version parts.now.cursor (length parts.now.entries.now) }
+    requires some { IfSome parts.now.halfway (λ h. 1 ≤ length h.back.now) }
+    requires each { IfSome parts.now.halfway (λ h. length h.fingerprints.now ≡ length h.back.now) }
+{
+    let text = encode(rt.alloc(), parts)?;
+    let journal = decode(rt.alloc(), &text)?;
+    assert_eq!(rt; journal.version, parts.version);
+    assert_eq!(rt; journal.fingerprint, parts.fingerprint);
+    assert_eq!(rt; journal.cursor, parts.cursor);
+    assert_eq!(rt; journal.entries.len(), parts.entries.len());
+    for (one, other) in journal.entries.iter().zip(parts.entries) {
+        assert!(rt; are_same_changes(one, other));
+    }
+    match (&journal.halfway, parts.halfway) {
+        (None, None) => {}
+        (Some(one), Some(other)) => {
+            assert_eq!(rt; one.fingerprints.as_slice(), other.fingerprints);
+            assert!(rt; are_same_changes(&one.back, other.back));
+        }
+        _ => assert!(rt; false),
+    }
+    Ok(text)
+}
+
+#[test]
+fn journal_lengths(rt: HostRuntime) -> Result<(), Fail> {
+    let undo = [Change::Remove(name(&rt, "t.par2"))];
+    let undos = [undo.as_slice()];
+    let redo = [Change::Write(name(&rt, "t.par2"), Bytes::copy_of(rt.alloc(), &[0; 420])?)];
+    let redos = [redo.as_slice()];
+    let settled = JournalParts {
+        version: Version::One,
+        fingerprint: FINGERPRINT,
+        cursor: 0,
+        entries: &[],
+        halfway: None,
+    };
+
+    let text = text_of(
+        &rt,
+        &JournalParts {
+            cursor: 1,
+            entries: &undos,
+            ..settled
+        },
+    )?;
+    assert_eq!(rt; text.len(), 65);
+    assert_eq!(rt; text.as_slice(), UNDO_ONE);
+    let text = text_of(
+        &rt,
+        &JournalParts {
+            version: Version::Two,
+            cursor: 1,
+            entries: &undos,
+            ..settled
+        },
+    )?;
+    assert_eq!(rt; text.len(), 73);
+    assert_eq!(rt; text.as_slice(), UNDO_TWO);
+
+    let text = text_of(&rt, &settled)?;
+    assert_eq!(rt; text.len(), 49);
+    assert_eq!(rt; text.as_slice(), NOTHING_ONE);
+    let text = text_of(
+        &rt,
+        &JournalParts {
+            version: Version::Two,
+            entries: &redos,
+            ..settled
+        },
+    )?;
+    assert_eq!(rt; text.len(), 501);
+    assert!(rt; text.ends_with(&REDO_DIGEST));
+
+    let back = [
+        Change::Remove(name(&rt, "a")),
+        Change::Rename(name(&rt, "a.1"), name(&rt, "a")),
+    ];
+    let fingerprints = [*b"aaaaaaaaaaaaaaaa", *b"bbbbbbbbbbbbbbbb"];
+    let halfway = Some(HalfwayParts {
+        fingerprints: &fingerprints,
+        back: &back,
+    });
+    let text = text_of(&rt, &JournalParts { halfway, ..settled })?;
+    assert_eq!(rt; text.len(), 99);
+    assert_eq!(rt; text.as_slice(), HALFWAY_ONE);
+    let text = text_of(
+        &rt,
+        &JournalParts {
+            version: Version::Two,
+            halfway,
+            ..settled
+        },
+    )?;
+    assert_eq!(rt; text.len(), 107);
+    assert_eq!(rt; text.as_slice(), HALFWAY_TWO);
+    Ok(())
+}
+
+// Whether the bytes are refused as no journal.
+fn is_refused(alloc: Global, bytes: &[u8]) -> bool {
+    matches!(decode(alloc, bytes), Err(DecodeFault::JournalInvalid))
+}
+
+// Whether each proper prefix is refused, the empty one too.
+fn are_prefixes_refused(alloc: Global, text: &[u8]) -> bool {
+    (0..text.len()).all(|n| is_refused(alloc, text.split_at(n).0))
+}
+
+// The body behind which its digest stands.
+fn closed(alloc: Global, body: &[u8]) -> Result<Vec<u8>, AllocError> {
+    let mut text = Vec::from_slice(alloc, body)?;
+    text.extend_from_slice(&Md5::digest(body))?;
+    Ok(text)
+}
+
+// Whether the bytes are refused with any one byte changed.
+fn are_changes_refused(alloc: Global, text: &[u8]) -> Result<bool, AllocError> {
+    let mut changed = Vec::from_slice(alloc, text)?;
+    for n in 0..changed.len() {
+        let byte = changed[n];
+        changed[n] = byte ^ 1;
+        if !is_refused(alloc, &changed) {
+            return Ok(false);
+        }
+        changed[n] = byte;
+    }
+    Ok(true)
+}
+
+// Bodies of no journal, to which their digests are added.
+const FALSE_BODIES: [&[u8]; 8] = [
+    // Claims of 2^64 - 1 entries, changes, bytes and fingerprints.
+    b"P2UNDO1\n0123456789abcdef\xff\xff\xff\xff\xff\xff\xff\xff\0",
+    b"P2UNDO1\n0123456789abcdef\x01\0\0\0\0\0\0\0\xff\xff\xff\xff\xff\xff\xff\xff\x04\x01a\0",
+    b"P2UNDO1\n0123456789abcdef\x01\0\0\0\0\0\0\0\x01\0\0\0\0\0\0\0\
+        \x01\x01a\xff\xff\xff\xff\xff\xff\xff\xffabc\0",
+    b"P2UNDO1\n0123456789abcdef\0\0\0\0\0\0\0\0\
+        \x01\xff\xff\xff\xff\xff\xff\xff\xffaaaaaaaaaaaaaaaa\x04\x01a",
+    // A cursor of 2, where there is one entry.
+    b"P2UNDO2\n0123456789abcdef\x02\0\0\0\0\0\0\0\x01\0\0\0\0\0\0\0\x01\0\0\0\0\0\0\0\x04\x06t.par2\0",
+    // A byte behind the last part.
+    b"P2UNDO1\n0123456789abcdef\0\0\0\0\0\0\0\0\0\0",
+    // A way back of no change.
+    b"P2UNDO1\n0123456789abcdef\0\0\0\0\0\0\0\0\x01\0\0\0\0\0\0\0\0",
+    // A text that is no name.
+    b"P2UNDO1\n0123456789abcdef\x01\0\0\0\0\0\0\0\x01\0\0\0\0\0\0\0\x04\x03a/b\0",
+];
+
+#[test]
+fn damaged_journals(rt: HostRuntime) -> Result<(), Fail> {
+    let alloc = rt.alloc();
+    for text in [UNDO_ONE, UNDO_TWO, NOTHING_ONE, HALFWAY_ONE, HALFWAY_TWO] {
+        assert!(rt; decode(alloc, text).is_ok());
+        assert!(rt; are_prefixes_refused(alloc, text));
+        assert!(rt; are_changes_refused(alloc, text)?);
+        let mut longer = Vec::from_slice(alloc, text)?;
+        longer.push(0)?;
+        assert!(rt; is_refused(alloc, &longer));
+    }
+    for body in FALSE_BODIES {
+        assert!(rt; is_refused(alloc, &closed(alloc, body)?));
+    }
+    Ok(())
+}

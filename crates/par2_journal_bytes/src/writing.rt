@@ -1,0 +1,161 @@
+//! The bytes of a journal. Each function adds its part at the end.
+ghost use Rattle.std.specs.Prelude.{◌≡◌, ◌≤◌, ◌++◌, length, flat_map, OnOk, IfOk, IfSome, IsTrue};
+ghost use Rattle.std.specs.Int.{w64, to_le_bytes};
+ghost use Rattle.std.specs.List.{concat, AllByRecursion};
+ghost use Rattle.par2_spec.specs.Names.{is_name};
+ghost use Rattle.par2_spec.specs.Folders.{counted};
+ghost use Rattle.par2_spec.specs.Journals as journals;
+ghost use Rattle.par2_folder.specs.Views.{change_of};
+ghost use Rattle.par2_journal_bytes.specs.Views.{changes_of, lent_entries_of, halfway_from, journal_from};
+
+use crate::digest::digest_of;
+use crate::journal::heading;
+use crate::{HalfwayParts, JournalParts};
+use par2_folder::{Bytes, Change, Name};
+use par2_spec::Version;
+use std::alloc::{AllocError, Global};
+
+fn append_number(out: &mut Vec<u8>, number: u64) -> Result<(), AllocError>
+    ensures { OnOk result (out.new.items ≡ out.old.items ++ to_le_bytes w64 number) }
+{
+    out.extend_from_slice(&number.to_le_bytes())
+}
+
+fn append_name(out: &mut Vec<u8>, name: &Name) -> Result<(), AllocError>
+    ensures bytes { OnOk result (out.new.items ≡ out.old.items ++ journals.name_bytes name.now) }
+    ensures name { IsTrue (is_name name.now) }
+{
+    let text = name.as_str();
+    out.push(text.len() as u8)?;
+    out.extend_from_slice(text.as_bytes())
+}
+
+fn append_bytes(out: &mut Vec<u8>, bytes: &Bytes) -> Result<(), AllocError>
+    ensures bytes { OnOk result (out.new.items ≡ out.old.items ++ counted bytes.now) }
+    ensures fits { journals.IsFileBytes bytes.now }
+{
+    let content = bytes.as_slice();
+    append_number(out, content.len() as u64)?;
+    out.extend_from_slice(content)
+}
+
+fn append_change(out: &mut Vec<u8>, change: &Change) -> Result<(), AllocError>
+    ensures bytes { OnOk result (out.new.items ≡ out.old.items ++ journals.change_bytes (change_of change.now)) }
+    ensures change { OnOk result (journals.IsChange (change_of change.now)) }
+{
+    match change {
+        Change::Write(name, bytes) => {
+            out.push(1)?;
+            append_name(out, name)?;
+            append_bytes(out, bytes)
+        }
+        Change::Replace(name, bytes) => {
+            out.push(2)?;
+            append_name(out, name)?;
+            append_bytes(out, bytes)
+        }
+        Change::Rename(from, to) => {
+            out.push(3)?;
+            append_name(out, from)?;
+            append_name(out, to)
+        }
+        Change::Remove(name) => {
+            out.push(4)?;
+            append_name(out, name)
+        }
+    }
+}
+
+fn append_changes(out: &mut Vec<u8>, changes: &[Change]) -> Result<(), AllocError>
+    ensures bytes { OnOk result (out.new.items ≡ out.old.items ++ flat_map journals.change_bytes (changes_of changes.now)) }
+    ensures changes { OnOk result (journals.IsEntry (changes_of changes.now)) }
+{
+    for change in changes {
+        append_change(out, change)?;
+    }
+    Ok(())
+}
+
+fn append_entry(out: &mut Vec<u8>, entry: &[Change]) -> Result<(), AllocError>
+    ensures bytes { OnOk result (out.new.items ≡ out.old.items ++ journals.entry_bytes (changes_of entry.now)) }
+    ensures entry { OnOk result (journals.IsEntry (changes_of entry.now)) }
+{
+    append_number(out, entry.len() as u64)?;
+    append_changes(out, entry)
+}
+
+fn append_entries(out: &mut Vec<u8>, entries: &[&[Change]]) -> Result<(), AllocError>
+    ensures bytes { OnOk result (out.new.items ≡ out.old.items ++ flat_map journals.entry_bytes (lent_entries_of entries.now)) }
+    ensures entries { OnOk result (AllByRecursion journals.IsEntry (lent_entries_of entries.now)) }
+{
+    for entry in entries {
+        append_entry(out, entry)?;
+    }
+    Ok(())
+}
+
+fn append_digest(out: &mut Vec<u8>, digest: [u8; 16]) -> Result<(), AllocError>
+    ensures bytes { OnOk result (out.new.items ≡ out.old.items ++ digest) }
+    ensures digest { journals.IsDigest digest }
+{
+    out.extend_from_slice(&digest)
+}
+
+fn append_digests(out: &mut Vec<u8>, digests: &[[u8; 16]]) -> Result<(), AllocError>
+    ensures bytes { OnOk result (out.new.items ≡ out.old.items ++ concat digests.now) }
+    ensures digests { OnOk result (AllByRecursion journals.IsDigest digests.now) }
+{
+    for digest in digests {
+        append_digest(out, *digest)?;
+    }
+    Ok(())
+}
+
+fn append_halfway(out: &mut Vec<u8>, halfway: &Option<HalfwayParts<'_>>) -> Result<(), AllocError>
+    requires some { IfSome halfway.now (λ h. 1 ≤ length h.back.now) }
+    requires each { IfSome halfway.now (λ h. length h.fingerprints.now ≡ length h.back.now) }
+    ensures bytes { OnOk result (out.new.items ≡ out.old.items ++ journals.halfway_bytes (halfway_from halfway.now)) }
+    ensures halfway { OnOk result (IfSome (halfway_from halfway.now) journals.IsHalfway) }
+{
+    match halfway {
+        None => {
+            out.push(0)?;
+            Ok(())
+        }
+        Some(halfway) => {
+            out.push(1)?;
+            append_number(out, halfway.back.len() as u64)?;
+            append_digests(out, halfway.fingerprints)?;
+            append_changes(out, halfway.back)
+        }
+    }
+}
+
+fn append_cursor(out: &mut Vec<u8>, version: Version, cursor: usize) -> Result<(), AllocError>
+    ensures { OnOk result (out.new.items ≡ out.old.items ++ journals.cursor_bytes version cursor) }
+{
+    match version {
+        Version::One => Ok(()),
+        Version::Two => append_number(out, cursor as u64),
+    }
+}
+
+/// The bytes of the journal with these parts.
+#[tactic(auto, unfolding(par2_spec::specs::Journals::spelling, par2_spec::specs::Journals::journal_bytes))]
+pub fn encode(alloc: Global, parts: &JournalParts<'_>) -> Result<Vec<u8>, AllocError>
+    requires cursor { journals.IsCursor parts.now.version parts.now.cursor (length parts.now.entries.now) }
+    requires some { IfSome parts.now.halfway (λ h. 1 ≤ length h.back.now) }
+    requires each { IfSome parts.now.halfway (λ h. length h.fingerprints.now ≡ length h.back.now) }
+    ensures { IfOk result (λ bytes. journals.Spells bytes.items (journal_from parts.now)) }
+{
+    let mut out = Vec::new(alloc);
+    out.extend_from_slice(heading(parts.version))?;
+    append_digest(&mut out, parts.fingerprint)?;
+    append_cursor(&mut out, parts.version, parts.cursor)?;
+    append_number(&mut out, parts.entries.len() as u64)?;
+    append_entries(&mut out, parts.entries)?;
+    append_halfway(&mut out, &parts.halfway)?;
+    let digest = digest_of(&out);
+    append_digest(&mut out, digest)?;
+    Ok(out)
+}
