@@ -1,0 +1,23 @@
+// Refuses one growth of memory: the one whose number the variable REFUSED gives, counted from 1. It then writes a byte
+// on descriptor 9, so that who started the program sees that there was such a growth. For LD_PRELOAD.
+typedef unsigned long size;
+extern void *__libc_malloc(size bytes);
+extern void *__libc_realloc(void *place, size bytes);
+extern char *getenv(const char *name);
+extern long atol(const char *text);
+extern long write(int descriptor, const void *bytes, size count);
+
+static long seen = 0;
+
+static int is_refused(void) {
+    const char *text = getenv("REFUSED");
+    if (text == 0 || ++seen != atol(text)) {
+        return 0;
+    }
+    write(9, "!", 1);
+    return 1;
+}
+
+void *malloc(size bytes) { return is_refused() ? 0 : __libc_malloc(bytes); }
+
+void *realloc(void *place, size bytes) { return is_refused() ? 0 : __libc_realloc(place, bytes); }
