@@ -8,5 +8,7 @@ pub mod Adding
 pub mod Ranks
 pub mod Combined
 pub mod Rebuilding
+pub mod Inverting
 pub mod Standing
+pub mod Finishing
 pub mod Records
