@@ -1,5 +1,5 @@
 -- The lost slices by the inverse of the kept equations.
-use Rattle.std.proofs.Common.{inl, inr, ℕ, zero, suc, ◌+◌, ◌*◌, ◌/◌, ◌%◌, ◌<◌, ◌≤◌, ◌≡◌, refl, sym, ap, ap₂, ◌∙◌, subst, arith, List, [], ◌∷◌, length, get_or, map, bit_xor}
+use Rattle.std.proofs.Common.{inl, inr, ℕ, zero, suc, ◌+◌, ◌*◌, ◌/◌, ◌%◌, ◌<◌, ◌≤◌, ◌≡◌, refl, sym, ap, ap₂, ◌∙◌, arith, List, [], ◌∷◌, length, get_or, map, bit_xor}
 use Rattle.std.proofs.lemmas.Bool.{cases_eq}
 use Rattle.std.proofs.lemmas.List.{get_or-map, length-map}
 use Rattle.std.proofs.lemmas.Nat.{xor_comm, xor_lt}
@@ -14,7 +14,7 @@ use Rattle.par2_spec.proofs.FieldBits.{xor_middle}
 use Rattle.par2_spec.proofs.FieldProducts.{product_linear_right}
 use Rattle.par2_matrix.specs.Echelon.{field_sum, list_at}
 use Rattle.par2_matrix.proofs.Sums.{field_sum_same, field_sum_xor, row_sum_unit}
-use Rattle.par2_matrix.proofs.Views.{all_at, combination_words}
+use Rattle.par2_matrix.proofs.Views.{all_at, combination_words, same_texts}
 use Rattle.par2_matrix.proofs.Words.{word-lt}
 use Rattle.par2_recovery.specs.Elements.{AreRows, IsUnit}
 use Rattle.par2_recovery.specs.Inverses.{recovery_at, GivesUnit, AreCoefficients, AreFactors, lack, AreCombined}
@@ -22,7 +22,6 @@ use Rattle.par2_recovery.specs.Products.{AreBytes, Adds, products}
 use Rattle.par2_recovery.specs.Survivors.{recovered_of}
 use Rattle.par2_recovery.specs.Views.{AreBlank}
 use Rattle.par2_recovery.proofs.Dots.{AreElements, dot_sum, product_at, combined}
-use Rattle.par2_recovery.proofs.Texts.{same_words}
 use Rattle.par2_recovery.proofs.Combined.{coefficients-lt, blank_word, blank_bytes, length-blank}
 use Rattle.par2_recovery.proofs.Rebuilding.{AreSized, words_small, dot-lt}
 
@@ -210,6 +209,8 @@ same_texts_by s [] [] even e hx hy none = refl
 same_texts_by s [] (y ∷ ys) even e hx hy none = absurd (omega arith)
 same_texts_by s (x ∷ xs) [] even e hx hy none = absurd (omega arith)
 same_texts_by s (x ∷ xs) (y ∷ ys) even e hx hy none =
-    let first : x ≡ y = same_words x y (hx.0.0 ∙ sym hy.0.0) (ap (λ n. n % 2) hx.0.0 ∙ even) hx.1.0 hy.1.0 (λ w h. same_if_none (word w x) (word w y) (none w (subst (λ n. 2 * w + 1 < n) hx.0.0 h)).0) in
+    let first : x ≡ y =
+    same_texts s x y even hx.0.0 hy.0.0 (all_at (λ b. b < 256) 0 (omega arith) x hx.1.0) (all_at (λ b. b < 256) 0 (omega arith) y hy.1.0)
+    (λ w h. same_if_none (word w x) (word w y) (none w h).0) in
     let rest : xs ≡ ys = same_texts_by s xs ys even (omega arith) (hx.0.1, hx.1.1) (hy.0.1, hy.1.1) (λ w h. (none w h).1) in
     ap₂ (λ a b. a ∷ b) first rest

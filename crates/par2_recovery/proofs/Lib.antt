@@ -1,7 +1,6 @@
 pub mod Vectors
 pub mod RankTests
 pub mod Dots
-pub mod Texts
 pub mod AddsAfter
 pub mod Parts
 pub mod Adding
