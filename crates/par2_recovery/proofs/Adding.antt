@@ -1,12 +1,12 @@
 -- The loops that add products.
-use Rattle.std.proofs.Common.{ℕ, zero, suc, ◌+◌, ◌*◌, ◌/◌, ◌%◌, ◌<◌, ◌≤◌, ◌≡◌, inl, inr, refl, sym, ap, ap₂, ◌∙◌, subst, arith, List, [], ◌∷◌, length, get_or, bit_xor}
+use Rattle.std.proofs.Common.{ℕ, zero, suc, ◌+◌, ◌*◌, ◌<◌, ◌≤◌, ◌≡◌, inl, inr, refl, sym, ap, ◌∙◌, subst, arith, List, [], ◌∷◌, length, get_or, bit_xor}
 use Rattle.std.proofs.lemmas.Bool.{cases_eq, cases_lt}
 use Rattle.std.specs.Int.Bits.{xor_assoc, xor_zero_r}
 use Rattle.par2_spec.specs.Field.{mul}
 use Rattle.par2_spec.specs.Slices.{word}
 use Rattle.par2_gf16.specs.Steps.{AddsWithin}
 use Rattle.par2_matrix.specs.Echelon.{field_sum, list_at, OneChanged}
-use Rattle.par2_recovery.specs.Products.{AddsSource, Adds, AddsTexts, products}
+use Rattle.par2_recovery.specs.Products.{AddsSource, Adds, products}
 
 -- nothing was added to any target yet
 pub no_target : (factor : ℕ → ℕ) (source : List ℕ) (old : List (List ℕ)) (from to : ℕ) → AddsSource factor source old old from to 0
@@ -126,25 +126,3 @@ more_blocks factors sources old mid new from to at next n e f order first second
 pub same_room : (factors sources old mid : List (List ℕ)) (from to n m bound : ℕ) → Adds factors sources old mid from to n
     → ((r : ℕ) → r < m → bound ≤ length (list_at old r)) → (r : ℕ) → r < m → bound ≤ length (list_at mid r)
 same_room factors sources old mid from to n m bound so_far room r low = omega (arith, so_far.sizes r, room r low)
-
--- ---- one target
-
-pub no_text : (factors : List ℕ) (sources : List (List ℕ)) (old : List ℕ) → AddsTexts factors sources old old 0
-unfolding field_sum
-no_text factors sources old = record { same_length = refl; words = λ w h. sym (xor_zero_r (word w old)) }
-
-pub next_text : (factors : List ℕ) (sources : List (List ℕ)) (old mid new source : List ℕ) (n : ℕ) → length old % 2 ≡ 0 → AddsTexts factors sources old mid n
-    → source ≡ list_at sources n → AddsWithin (get_or factors n 0) source mid new 0 (length mid / 2) → AddsTexts factors sources old new (n + 1)
-unfolding field_sum
-next_text factors sources old mid new source n even so_far is added = record {
-  same_length = added.same_length ∙ so_far.same_length;
-  words = λ w h.
-      let size = so_far.same_length in
-      added.inside w (omega arith) (omega (arith, size)) (omega (arith, size))
-      ∙ ap₂ bit_xor (so_far.words w h) (ap (λ xs. mul (get_or factors n 0) (word w xs)) is)
-      ∙ xor_assoc (word w old) (field_sum n (λ k. mul (get_or factors k 0) (word w (list_at sources k)))) (mul (get_or factors n 0) (word w (list_at sources n)))
-      ∙ ap (bit_xor (word w old)) (more n (λ k. mul (get_or factors k 0) (word w (list_at sources k))));
-}
-  where
-    more : (m : ℕ) (f : ℕ → ℕ) → bit_xor (field_sum m f) (f m) ≡ field_sum (m + 1) f
-    more m f = let e : suc m ≡ m + 1 = omega arith in ap (λ x. field_sum x f) e

@@ -91,15 +91,21 @@ blank_push s n xs v so_far is =
       | inr same ↦ ap (λ m. list_at (lists ++ v.items ∷ []) m) same ∙ get_or_at lists v.items [] [] n e ∙ is
     ]
 
-blank_word : (s p : ℕ) → word p (replicate s 0) ≡ 0
+pub blank_word : (s p : ℕ) → word p (replicate s 0) ≡ 0
 blank_word s p = ap₂ (λ x y. x + 256 * y) (zeros_read s (2 * p)) (zeros_read s (2 * p + 1))
 
-length-blank : (s : ℕ) → length {A = ℕ} (replicate s 0) ≡ s
+pub length-blank : (s : ℕ) → length {A = ℕ} (replicate s 0) ≡ s
 length-blank zero = refl
 length-blank (suc s) = ap suc (length-blank s)
 
 pub blank_room : (s n bound : ℕ) (lists : List (List ℕ)) → AreBlank s n lists → bound ≤ s → (r : ℕ) → r < n → bound ≤ length (list_at lists r)
 blank_room s n bound lists blank h r low = subst (λ xs. bound ≤ length xs) (sym (blank.each r low)) (let e = length-blank s in omega (arith, e))
+
+pub blank_bytes : (s n : ℕ) (lists : List (List ℕ)) → AreBlank s n lists → AreBytes lists
+blank_bytes s n lists blank r k = elim (cases_lt r n) [
+  | inl low ↦ subst (λ xs. get_or xs k 0 < 256) (sym (blank.each r low)) (let e = zeros_read s k in omega (arith, e))
+  | inr high ↦ subst (λ xs. get_or xs k 0 < 256) (sym (get_or_past lists r [] (omega (arith, blank.count)))) (omega arith)
+]
 
 -- what was added to zeros by the rows of the exponents are the recovery slices
 pub are_recovery : (s first count : ℕ) (factors lists old new : List (List ℕ)) → s % 2 ≡ 0 → AreBytes lists
@@ -114,12 +120,6 @@ are_recovery s first count factors lists old new even bytes rows blank added =
     let here = get_or-map-range_with_len (recovery s (map (padded s) lists)) first count r (first + r) [] low refl in
     sym (one r low) ∙ sym here)
   where
-    old_bytes : AreBytes old
-    old_bytes r k = elim (cases_lt r count) [
-      | inl low ↦ subst (λ xs. get_or xs k 0 < 256) (sym (blank.each r low)) (let e = zeros_read s k in omega (arith, e))
-      | inr high ↦ subst (λ xs. get_or xs k 0 < 256) (sym (get_or_past old r [] (omega (arith, blank.count)))) (omega arith)
-    ]
-
     size : length (map (padded s) lists) ≡ length lists
     size = length-map lists (padded s)
 
@@ -132,7 +132,7 @@ are_recovery s first count factors lists old new even bytes rows blank added =
         ap (λ n. combination s (coefficients (range_with_len 0 n) (first + r)) (map (padded s) lists)) size
         ∙ (combination_words s row (map (padded s) lists) (list_at new r) even
         (λ w. dot_padded-lt s row lists w (omega (arith, long)) (coefficients-lt (range_with_len 0 (length lists)) (first + r)) bytes)
-        sized (added.bytes old_bytes r)).1
+        sized (added.bytes (blank_bytes s count old blank) r)).1
         (λ w fits.
         dot_padded s row lists w (omega (arith, long))
         ∙ ap (λ (xs : List ℕ). field_sum (length lists) (λ k. mul (get_or xs k 0) (word w (list_at lists k)))) (sym row_is)

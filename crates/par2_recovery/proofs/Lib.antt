@@ -1,12 +1,13 @@
 pub mod Vectors
 pub mod RankTests
 pub mod Dots
-pub mod Texts
 pub mod AddsAfter
 pub mod Parts
 pub mod Adding
 pub mod Ranks
 pub mod Combined
 pub mod Rebuilding
+pub mod Inverting
 pub mod Standing
+pub mod Finishing
 pub mod Records

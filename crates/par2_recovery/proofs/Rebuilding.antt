@@ -11,7 +11,6 @@ use Rattle.par2_spec.specs.Recovery.{dot, coefficients, combination, recovery}
 use Rattle.par2_spec.specs.Rank.{IsRebuilt}
 use Rattle.par2_spec.specs.Search.{lost}
 use Rattle.par2_spec.proofs.FieldProducts.{product-lt}
-use Rattle.par2_matrix.specs.Systems.{Equations, Solves, IsTheSolution}
 use Rattle.par2_matrix.proofs.Views.{all_at, combination_words}
 use Rattle.par2_matrix.proofs.Words.{word-lt}
 use Rattle.par2_recovery.specs.Survivors.{filled, lost_from, known_from, present}
@@ -65,6 +64,18 @@ known_numbers-lt a bound (Some x ∷ known) h some (suc i) = known_numbers-lt (a
 pub known-lt : {A : Type 0} (known : List (Option A)) → length known ≤ 32768 → (i : ℕ) → get_or (known_from 0 known) i 0 < 32768
 known-lt known h i = known_numbers-lt 0 32768 known (omega arith) (omega arith) i
 
+pub length-known_from : {A : Type 0} (a bound : ℕ) (known : List (Option A)) → length known ≤ bound → length (known_from a known) ≤ bound
+length-known_from a bound [] h = omega arith
+length-known_from a bound (None ∷ known) h = length-known_from (a + 1) bound known (omega arith)
+length-known_from a zero (Some x ∷ known) h = absurd (omega arith)
+length-known_from a (suc bound) (Some x ∷ known) h = let rest = length-known_from (a + 1) bound known (omega arith) in omega (arith, rest)
+
+pub length-lost_from : {A : Type 0} (a bound : ℕ) (known : List (Option A)) → length known ≤ bound → length (lost_from a known) ≤ bound
+length-lost_from a bound [] h = omega arith
+length-lost_from a bound (Some x ∷ known) h = length-lost_from (a + 1) bound known (omega arith)
+length-lost_from a zero (None ∷ known) h = absurd (omega arith)
+length-lost_from a (suc bound) (None ∷ known) h = let rest = length-lost_from (a + 1) bound known (omega arith) in omega (arith, rest)
+
 -- ---- all slices from the known and the lost ones
 
 pub length-filled : (a : ℕ) (known : List (Option (List ℕ))) (texts : List (List ℕ)) → length (filled known texts) ≡ length known
@@ -111,11 +122,11 @@ sized_filled s a (None ∷ known) (x ∷ texts) k t h =
     let rest = sized_filled s (a + 1) known texts k (t.0.1, t.1.1) (omega arith) in
     ((t.0.0, rest.0), (t.1.0, rest.1))
 
-words_small : (lists : List (List ℕ)) (w : ℕ) → AllByRecursion (λ text. AllByRecursion (λ b. b < 256) text) lists → AllByRecursion (λ x. x < 65536) (map (word w) lists)
+pub words_small : (lists : List (List ℕ)) (w : ℕ) → AllByRecursion (λ text. AllByRecursion (λ b. b < 256) text) lists → AllByRecursion (λ x. x < 65536) (map (word w) lists)
 words_small [] w all = tt
 words_small (x ∷ lists) w all = (word-lt x w (all_at (λ b. b < 256) 0 (omega arith) x all.0), words_small lists w all.1)
 
-dot-lt : (numbers : List ℕ) (e : ℕ) (v : List ℕ) → AllByRecursion (λ x. x < 65536) v → dot (coefficients numbers e) v < 65536
+pub dot-lt : (numbers : List ℕ) (e : ℕ) (v : List ℕ) → AllByRecursion (λ x. x < 65536) v → dot (coefficients numbers e) v < 65536
 unfolding dot
 dot-lt [] e v h = omega arith
 dot-lt (n ∷ numbers) e [] h = omega arith
@@ -131,20 +142,22 @@ moved_back : (a b d : ℕ) → b ≡ bit_xor d a → bit_xor a b ≡ d
 moved_back a b d e =
     ap (bit_xor a) e ∙ xor_comm a (bit_xor d a) ∙ xor_assoc d a a ∙ ap (bit_xor d) (xor_self a) ∙ xor_zero_r d
 
--- a recovery slice and the right side that is offered for it
-pub record Offered (s : ℕ) (known : List (Option (List ℕ))) (e : ℕ) (found right : List ℕ) : Type 0 where
-  pub found_size : length found ≡ s
-  pub found_bytes : (k : ℕ) → get_or found k 0 < 256
-  pub size : length right ≡ s
-  pub bytes : (k : ℕ) → get_or right k 0 < 256
-  pub words : (w : ℕ) → 2 * w + 1 < s → word w right ≡ bit_xor (word w found) (dot (coefficients (known_from 0 known) e) (map (word w) (present known)))
+-- a recovery slice of s bytes
+pub record IsFound (s : ℕ) (found : List ℕ) : Type 0 where
+  pub size : length found ≡ s
+  pub bytes : (k : ℕ) → get_or found k 0 < 256
 
-pub equation : (s e : ℕ) (known : List (Option (List ℕ))) (found right : List ℕ) (texts : List (List ℕ)) → s % 2 ≡ 0 → AreKnown s known → AreSized s texts → length texts ≡ length (lost_from 0 known)
-    → Offered s known e found right → (combination s (coefficients (lost_from 0 known) e) texts ≡ right) ↔ (recovery s (filled known texts) e ≡ found)
+-- the lost texts give at each word what the recovery slice lacks
+abbrev pub Meets : ℕ → List (Option (List ℕ)) → List (List ℕ) → ℕ × List ℕ → Type 0
+Meets s known texts r = (w : ℕ) → 2 * w + 1 < s → dot (coefficients (lost_from 0 known) r.0) (map (word w) texts)
+    ≡ bit_xor (word w r.1) (dot (coefficients (known_from 0 known) r.0) (map (word w) (present known)))
+
+equation : (s e : ℕ) (known : List (Option (List ℕ))) (found : List ℕ) (texts : List (List ℕ)) → s % 2 ≡ 0 → AreKnown s known → AreSized s texts → length texts ≡ length (lost_from 0 known)
+    → IsFound s found → Meets s known texts (e, found) ↔ (recovery s (filled known texts) e ≡ found)
 unfolding recovery
-equation s e known found right texts even are_known sized count offered = (
-  λ h. whole ∙ all_words.1 (λ w low. parts w ∙ moved_back (ours w) (others w) (word w found) (lost_words.0 h w low ∙ offered.words w low)),
-  λ h. lost_words.1 (λ w low. moved (ours w) (others w) (word w found) (sym (parts w) ∙ all_words.0 (sym whole ∙ h) w low) ∙ sym (offered.words w low)),
+equation s e known found texts even are_known sized count is = (
+  λ h. whole ∙ all_words.1 (λ w low. parts w ∙ moved_back (ours w) (others w) (word w found) (h w low)),
+  λ h. λ w low. moved (ours w) (others w) (word w found) (sym (parts w) ∙ all_words.0 (sym whole ∙ h) w low),
 )
   where
     ours : ℕ → ℕ
@@ -162,13 +175,18 @@ equation s e known found right texts even are_known sized count offered = (
     parts : (w : ℕ) → dot rows (map (word w) (filled known texts)) ≡ bit_xor (ours w) (others w)
     parts w = split e w 0 known texts count
 
-    lost_words : (combination s (coefficients (lost_from 0 known) e) texts ≡ right) ↔ ((w : ℕ) → 2 * w + 1 < s → others w ≡ word w right)
-    lost_words = combination_words s (coefficients (lost_from 0 known) e) texts right even (λ w. dot-lt (lost_from 0 known) e (map (word w) texts) (words_small texts w sized.1)) offered.size offered.bytes
-
     all_words : (combination s rows (filled known texts) ≡ found) ↔ ((w : ℕ) → 2 * w + 1 < s → dot rows (map (word w) (filled known texts)) ≡ word w found)
     all_words = combination_words s rows (filled known texts) found even
         (λ w. dot-lt (range_with_len 0 (length known)) e (map (word w) (filled known texts)) (words_small (filled known texts) w (sized_filled s 0 known texts are_known sized count).1))
-        offered.found_size offered.found_bytes
+        is.size is.bytes
+
+equations : (s : ℕ) (known : List (Option (List ℕ))) (texts : List (List ℕ)) (found : List (ℕ × List ℕ)) → s % 2 ≡ 0 → AreKnown s known → AreSized s texts → length texts ≡ length (lost_from 0 known)
+    → AllByRecursion (λ r. IsFound s r.1) found → AllByRecursion (λ r. Meets s known texts r) found ↔ AllByRecursion (λ r. recovery s (filled known texts) r.0 ≡ r.1) found
+equations s known texts [] even are_known sized count are = ((λ h. tt), (λ h. tt))
+equations s known texts (r ∷ found) even are_known sized count are =
+    let here = equation s r.0 known r.1 texts even are_known sized count are.0 in
+    let rest = equations s known texts found even are_known sized count are.1 in
+    ((λ h. (here.0 h.0, rest.0 h.1)), (λ h. (here.1 h.0, rest.1 h.1)))
 
 -- ---- the one list that agrees
 
@@ -212,35 +230,23 @@ filled_picked (k ∷ known) [] h = absurd h
 filled_picked (None ∷ known) (t ∷ texts) h = ap (λ ts. t ∷ ts) (filled_picked known texts h.1)
 filled_picked (Some x ∷ known) (t ∷ texts) h = ap₂ (λ a b. a ∷ b) (sym (h.0 x refl)) (filled_picked known texts h.1)
 
--- what the offered equations say is what their recovery slices say
-pub record SaysSo (s : ℕ) (known : List (Option (List ℕ))) (found : List (ℕ × List ℕ)) (system : Equations) : Type 0 where
-  pub columns : system.columns ≡ length (lost_from 0 known)
-  pub bytes : system.bytes ≡ s
-  pub solves : (texts : List (List ℕ)) → AreSized s texts → length texts ≡ length (lost_from 0 known)
-      → Solves system texts ↔ AllByRecursion (λ r. recovery s (filled known texts) r.0 ≡ r.1) found
-
-pub rebuilt_from : (s : ℕ) (known : List (Option (List ℕ))) (found : List (ℕ × List ℕ)) (system : Equations) (texts : List (List ℕ)) → AreKnown s known → SaysSo s known found system
-    → IsTheSolution system texts → IsRebuilt s known found (filled known texts)
+pub rebuilt_from : (s : ℕ) (known : List (Option (List ℕ))) (found : List (ℕ × List ℕ)) (texts : List (List ℕ)) → s % 2 ≡ 0 → AreKnown s known → AreSized s texts → length texts ≡ length (lost_from 0 known)
+    → AllByRecursion (λ r. IsFound s r.1) found → AllByRecursion (λ r. Meets s known texts r) found
+    → ((others : List (List ℕ)) → AreSized s others → length others ≡ length (lost_from 0 known) → AllByRecursion (λ r. Meets s known others r) found → others ≡ texts)
+    → IsRebuilt s known found (filled known texts)
 unfolding AsKnown
-rebuilt_from s known found system texts are_known says solution = record {
+rebuilt_from s known found texts even are_known sized count are meets only = record {
   agrees = record {
     sizes = (sized_filled s 0 known texts are_known sized count).0;
     bytes = (sized_filled s 0 known texts are_known sized count).1;
     as_known = filled_known 0 known texts count;
-    as_recovered = (says.solves texts sized count).0 solution.solves;
+    as_recovered = (equations s known texts found even are_known sized count are).0 meets;
   };
   only = λ others agrees.
       let lost_ones = picked known others in
       let whole : filled known lost_ones ≡ others = filled_picked known others agrees.as_known in
       let ours : AreSized s lost_ones = picked_sized s known others (agrees.sizes, agrees.bytes) in
       let number : length lost_ones ≡ length (lost_from 0 known) = picked_count 0 known others agrees.as_known in
-      let solved = (says.solves lost_ones ours number).1 (subst (λ slices. AllByRecursion (λ r. recovery s slices r.0 ≡ r.1) found) (sym whole) agrees.as_recovered) in
-      let same = solution.only lost_ones (record { count = number ∙ sym says.columns; sizes = subst (λ n. AllByRecursion (λ text. length text ≡ n) lost_ones) (sym says.bytes) ours.0; bytes = ours.1 }) solved in
-      sym whole ∙ ap (filled known) same;
+      let met = (equations s known lost_ones found even are_known ours number are).1 (subst (λ slices. AllByRecursion (λ r. recovery s slices r.0 ≡ r.1) found) (sym whole) agrees.as_recovered) in
+      sym whole ∙ ap (filled known) (only lost_ones ours number met);
 }
-  where
-    sized : AreSized s texts
-    sized = (subst (λ n. AllByRecursion (λ text. length text ≡ n) texts) says.bytes solution.are_texts.sizes, solution.are_texts.bytes)
-
-    count : length texts ≡ length (lost_from 0 known)
-    count = solution.are_texts.count ∙ says.columns

@@ -1,30 +1,25 @@
 -- The loop that offers the surviving recovery slices.
-use Rattle.std.proofs.Common.{replicate, length-append, ◌-◌, ℕ, zero, suc, ◌+◌, ◌%◌, ◌<◌, ◌≤◌, ◌≡◌, ◌≢◌, ◌↔◌, refl, sym, ap, ap₂, ◌∙◌, subst, arith, Bool, true, false, cond, eqb, ◌||◌, List, [], ◌∷◌, ◌++◌, length, get_or, map, bit_xor}
-use Rattle.std.specs.Prelude.{Option, Result, Ok, filter, take}
+use Rattle.std.proofs.Common.{inl, inr, replicate, length-append, ◌-◌, ℕ, zero, suc, ◌+◌, ◌*◌, ◌<◌, ◌≤◌, ◌≡◌, ◌↔◌, refl, sym, ap, ap₂, ◌∙◌, subst, arith, Bool, true, false, cond, eqb, ◌||◌, List, [], ◌∷◌, ◌++◌, length, get_or, map}
+use Rattle.std.specs.Prelude.{Option, filter, take}
 use Rattle.std.specs.List.{list_any, AllByRecursion}
 use Rattle.std.specs.List.Sorted.{IsStrictlyIncreasing}
-use Rattle.std.specs.declared.alloc.AllocError.{AllocError}
-use Rattle.std.proofs.lemmas.Bool.{ne_eqb, eq-eqb, false≢true}
-use Rattle.std.proofs.lemmas.List.{take_more, get_or-map, length-map}
+use Rattle.std.proofs.lemmas.Bool.{ne_eqb, eq-eqb, false≢true, cases_lt}
+use Rattle.std.proofs.lemmas.List.{take_more, get_or-map, length-map, map-append, get_or_append_left, get_or_at}
 use Rattle.std.proofs.lemmas.List.Elements.{filter-append}
-use Rattle.par2_spec.specs.Slices.{padded, word}
-use Rattle.par2_spec.specs.Recovery.{dot, coefficients, combination, recovery}
-use Rattle.par2_spec.specs.Rank.{kept, kept_slices, IsRebuilt}
-use Rattle.par2_spec.specs.Search.{lost}
+use Rattle.par2_spec.specs.Slices.{padded}
+use Rattle.par2_spec.specs.Recovery.{dot, coefficients, combination}
+use Rattle.par2_spec.specs.Rank.{IsVector, IsRepairable, Kills, kept, kept_slices}
 use Rattle.par2_matrix.specs.Systems as systems
-use Rattle.par2_matrix.specs.Systems.{Equations, CutDown, IsIndependent, IsDependent, Solves, AreTexts, OnlyZeroIsKilled, IsTheSolution}
-use Rattle.par2_matrix.specs.declared.system.Offer.{Offer}
-use Rattle.par2_matrix.specs.declared.system.Offer.TheVariants.{Kept, Dependent}
-use Rattle.par2_recovery.specs.Survivors.{filled, known_of, lost_from, known_from, present, IsRight, CutBy}
-use Rattle.par2_recovery.proofs.Combined.{dot_padded}
+use Rattle.par2_matrix.specs.Systems.{Equations, CutDown, IsIndependent, IsDependent, IsKilled, Solves, AreTexts, OnlyZeroIsKilled}
+use Rattle.par2_recovery.specs.Survivors.{recovered_of, known_of, present}
+use Rattle.par2_recovery.specs.Elements.{IsUnit}
+use Rattle.par2_recovery.specs.Inverses.{recovery_at, CutByUnit, GivesUnit, IsEliminated}
 use Rattle.par2_recovery.proofs.Ranks.{Eliminated, is_kept, kept_is, dependent_is, one_kept, none_kept, none_offered, all_offered}
-use Rattle.par2_recovery.proofs.Rebuilding.{AreSized, AreKnown, Offered, SaysSo, equation, present_of_map, lost_is, rebuilt_from}
+use Rattle.par2_recovery.proofs.Rebuilding.{AreSized, AreKnown, present_of_map}
 use Rattle.par2_recovery.proofs.RankTests.{AllKill}
 use Rattle.par2_recovery.specs.Products.{AreBytes}
 use Rattle.par2_recovery.specs.Views.{texts_of}
 use Rattle.std.specs.Borrow.{Bor}
-use Rattle.par2_spec.specs.Field.{coefficient}
-use Rattle.par2_spec.specs.Rank.{IsVector, IsRepairable, Kills}
 
 -- ---- the recovery slices of the kept exponents
 
@@ -81,15 +76,28 @@ kept_slices_are lost_ones recs =
 -- ---- the loop
 
 -- the first i recovery slices were offered
-pub record Standing (s : ℕ) (known : List (Option (List ℕ))) (recs : List (ℕ × List ℕ)) (i : ℕ) (system : Equations) : Type 0 where
-  pub so_far : Eliminated (lost_from 0 known) (map (λ r. r.0) recs) i system
-  pub bytes : system.bytes ≡ s
-  pub solves : (texts : List (List ℕ)) → AreSized s texts → length texts ≡ length (lost_from 0 known)
-      → Solves system texts ↔ AllByRecursion (λ r. recovery s (filled known texts) r.0 ≡ r.1) (filter (λ r. is_kept (lost_from 0 known) (map (λ r. r.0) recs) r.0) (take i recs))
+pub record Standing (lost : List ℕ) (recs kept : List (ℕ × List ℕ)) (i : ℕ) (system : Equations) : Type 0 where
+  pub so_far : Eliminated lost (map (λ r. r.0) recs) i system
+  pub bytes : system.bytes ≡ 2 * length lost
+  pub are_kept : kept ≡ filter (λ r. is_kept lost (map (λ r. r.0) recs) r.0) (take i recs)
+  pub count : systems.rank system ≡ length kept
+  pub kills : (v : List ℕ) → IsVector (length lost) v → AllByRecursion (λ r. dot (coefficients lost r.0) v ≡ 0) kept → IsKilled system v
+  pub solves : (texts : List (List ℕ)) → AreTexts system texts → Solves system texts
+      → (j : ℕ) → j < length kept → GivesUnit (length lost) j (coefficients lost (recovery_at kept j).0) texts
 
-pub none_stands : (s n : ℕ) (known : List (Option (List ℕ))) (recs : List (ℕ × List ℕ)) → n ≡ length (lost_from 0 known) → Standing s known recs 0 (systems.no_equations n s)
-none_stands s n known [] e = record { so_far = none_offered (lost_from 0 known) [] n s e; bytes = refl; solves = λ texts sized count. ((λ h. h), (λ h. h)) }
-none_stands s n known (x ∷ recs) e = record { so_far = none_offered (lost_from 0 known) (map (λ r. r.0) (x ∷ recs)) n s e; bytes = refl; solves = λ texts sized count. ((λ h. h), (λ h. h)) }
+none_taken : {A : Type 0} (p : A → Bool) (xs : List A) → [] ≡ filter p (take 0 xs)
+none_taken p [] = refl
+none_taken p (x ∷ xs) = refl
+
+pub none_stands : (lost : List ℕ) (recs : List (ℕ × List ℕ)) (n b : ℕ) → n ≡ length lost → b ≡ 2 * length lost → Standing lost recs [] 0 (systems.no_equations n b)
+none_stands lost recs n b e size = record {
+  so_far = none_offered lost (map (λ r. r.0) recs) n b e;
+  bytes = size;
+  are_kept = none_taken (λ r. is_kept lost (map (λ r. r.0) recs) r.0) recs;
+  count = refl;
+  kills = λ v is all. tt;
+  solves = λ texts are solved j h. absurd (omega arith);
+}
 
 all_more : {A : Type 0} (P : A → Type 0) (xs : List A) (x : A) → AllByRecursion P (xs ++ x ∷ []) ↔ (AllByRecursion P xs × P x)
 all_more P [] x = ((λ h. (tt, h.0)), (λ h. (h.1, tt)))
@@ -106,74 +114,83 @@ append-none : (xs : List (ℕ × List ℕ)) → xs ++ [] ≡ xs
 append-none [] = refl
 append-none (x ∷ xs) = ap (λ ys. x ∷ ys) (append-none xs)
 
--- a right side by the sum over texts is the one that is offered
-pub right_is : (s e : ℕ) (known : List (Option (List ℕ))) (texts : List (List ℕ)) (found right : List ℕ) → map (padded s) texts ≡ present known → length (coefficients (known_from 0 known) e) ≤ length texts
-    → length found ≡ s → ((k : ℕ) → get_or found k 0 < 256) → IsRight s (coefficients (known_from 0 known) e) texts found right → Offered s known e found right
-right_is s e known texts found right same fit size bytes is = record {
-  found_size = size;
-  found_bytes = bytes;
-  size = is.size;
-  bytes = is.bytes;
-  words = λ w low. is.words w low ∙ ap (bit_xor (word w found))
-      (sym (ap (λ xs. dot (coefficients (known_from 0 known) e) (map (word w) xs)) (sym same) ∙ dot_padded s (coefficients (known_from 0 known) e) texts w fit));
-}
-
-pub stands_more : (s : ℕ) (known : List (Option (List ℕ))) (recs : List (ℕ × List ℕ)) (i : ℕ) (system new : Equations) (texts : List (List ℕ)) (r : Result Offer AllocError) (o : Offer) → r ≡ Ok o
-    → s % 2 ≡ 0 → AreKnown s known → map (padded s) texts ≡ present known → length texts ≡ length (known_from 0 known)
-    → IsStrictlyIncreasing (map (λ r. r.0) recs) → i < length recs → length (get_or recs i (0, [])).1 ≡ s → ((k : ℕ) → get_or (get_or recs i (0, [])).1 k 0 < 256)
-    → Standing s known recs i system → new.columns ≡ system.columns → new.bytes ≡ system.bytes
-    → (r ≡ Ok Kept → CutBy system new (coefficients (lost_from 0 known) (get_or recs i (0, [])).0) (coefficients (known_from 0 known) (get_or recs i (0, [])).0) texts (get_or recs i (0, [])).1)
-    → (r ≡ Ok Kept → IsIndependent system (coefficients (lost_from 0 known) (get_or recs i (0, [])).0))
-    → (r ≡ Ok Dependent → IsDependent system (coefficients (lost_from 0 known) (get_or recs i (0, [])).0)) → (r ≢ Ok Kept → new ≡ system)
-    → Standing s known recs (i + 1) new
-stands_more s known recs i system new texts r Kept is even are_known same count up h size bytes before columns new_bytes cut told follows still =
-    let found = get_or recs i (0, []) in
-    let lost_ones = lost_from 0 known in
+-- a recovery slice was kept
+pub stands_more : (lost : List ℕ) (recs kept_ones : List (ℕ × List ℕ)) (i : ℕ) (system new : Equations) → IsStrictlyIncreasing (map (λ r. r.0) recs) → i < length recs
+    → Standing lost recs kept_ones i system → new.columns ≡ system.columns → new.bytes ≡ system.bytes
+    → CutByUnit system new (coefficients lost (recovery_at recs i).0) → IsIndependent system (coefficients lost (recovery_at recs i).0)
+    → Standing lost recs (kept_ones ++ recovery_at recs i ∷ []) (i + 1) new
+stands_more lost recs kept_ones i system new up h before columns new_bytes made told =
+    let found = recovery_at recs i in
     let all = map (λ (r : ℕ × List ℕ). r.0) recs in
     let low : i < length all = omega (arith, length-map recs (λ (r : ℕ × List ℕ). r.0)) in
     let e : get_or all i 0 ≡ found.0 = get_or-map (λ (r : ℕ × List ℕ). r.0) recs i (0, []) 0 h in
-    let made = cut is in
-    let told_here : IsIndependent system (coefficients lost_ones (get_or all i 0)) = subst (λ x. IsIndependent system (coefficients lost_ones x)) (sym e) (told is) in
-    let cut_here : CutDown system new (coefficients lost_ones (get_or all i 0)) made.right = subst (λ x. CutDown system new (coefficients lost_ones x) made.right) (sym e) made.cut in
-    let yes_kept : is_kept lost_ones all found.0 ≡ true = ap (is_kept lost_ones all) (sym e) ∙ kept_is lost_ones all i system up low before.so_far told_here in
-    let fits : length (coefficients (known_from 0 known) found.0) ≤ length texts = omega (arith, length-map (known_from 0 known) (coefficient found.0)) in
-    let right_of : Offered s known found.0 found.1 made.right =
-    right_is s found.0 known texts found.1 made.right same fits size bytes (subst (λ n. IsRight n (coefficients (known_from 0 known) found.0) texts found.1 made.right) before.bytes made.is_right) in
+    let told_here : IsIndependent system (coefficients lost (get_or all i 0)) = subst (λ x. IsIndependent system (coefficients lost x)) (sym e) told in
+    let cut_here : CutDown system new (coefficients lost (get_or all i 0)) made.unit = subst (λ x. CutDown system new (coefficients lost x) made.unit) (sym e) made.cut in
+    let yes_kept : is_kept lost all found.0 ≡ true = ap (is_kept lost all) (sym e) ∙ kept_is lost all i system up low before.so_far told_here in
     record {
-      so_far = one_kept lost_ones all i system new made.right up low before.so_far columns cut_here told_here;
+      so_far = one_kept lost all i system new made.unit up low before.so_far columns cut_here told_here;
       bytes = new_bytes ∙ before.bytes;
-      solves = λ xs sized number.
-          let old = before.solves xs sized number in
-          let texts_are : AreTexts system xs = record {
-            count = number ∙ sym before.so_far.columns;
-            sizes = subst (λ n. AllByRecursion (λ text. length text ≡ n) xs) (sym before.bytes) sized.0;
-            bytes = sized.1;
+      are_kept = ap (λ xs. xs ++ found ∷ []) before.are_kept ∙ sym (filter_more (λ r. is_kept lost all r.0) recs i true h yes_kept);
+      count = made.cut.rank ∙ ap (λ n. n + 1) before.count ∙ sym (length-append kept_ones (found ∷ []));
+      kills = λ v is killed.
+          let both = (all_more (λ r. dot (coefficients lost r.0) v ≡ 0) kept_ones found).0 killed in
+          (made.cut.kills v (subst (λ n. IsVector n v) (sym before.so_far.columns) is)).1 (before.kills v is both.0, both.1);
+      solves = λ texts are solved j hj.
+          let are_old : AreTexts system texts = record {
+            count = are.count ∙ columns;
+            sizes = subst (λ n. AllByRecursion (λ text. length text ≡ n) texts) new_bytes are.sizes;
+            bytes = are.bytes;
           } in
-          let here = made.cut.solves xs texts_are in
-          let eq : (combination system.bytes (coefficients lost_ones found.0) xs ≡ made.right) ↔ (recovery s (filled known xs) found.0 ≡ found.1) =
-          subst (λ n. (combination n (coefficients lost_ones found.0) xs ≡ made.right) ↔ (recovery s (filled known xs) found.0 ≡ found.1)) (sym before.bytes)
-          (equation s found.0 known found.1 made.right xs even are_known sized number right_of) in
-          let more = all_more (λ r. recovery s (filled known xs) r.0 ≡ r.1) (filter (λ r. is_kept lost_ones all r.0) (take i recs)) found in
-          subst (λ rs. Solves new xs ↔ AllByRecursion (λ r. recovery s (filled known xs) r.0 ≡ r.1) rs) (sym (filter_more (λ r. is_kept lost_ones all r.0) recs i true h yes_kept))
-          ((λ k. more.1 (old.0 (here.0 k).0, eq.0 (here.0 k).1)), (λ k. here.1 (old.1 (more.0 k).0, eq.1 (more.0 k).1)));
+          let both = (made.cut.solves texts are_old).0 solved in
+          elim (cases_lt j (length kept_ones)) [
+            | inl early ↦
+                subst (λ (r : ℕ × List ℕ). GivesUnit (length lost) j (coefficients lost r.0) texts) (sym (get_or_append_left kept_ones (found ∷ []) (0, []) j early))
+                (before.solves texts are_old both.0 j early)
+            | inr late ↦
+                let last : j ≡ length kept_ones = (let n = length-append kept_ones (found ∷ []) in omega (arith, n)) in
+                subst (λ m. GivesUnit (length lost) m (coefficients lost (recovery_at (kept_ones ++ found ∷ []) m).0) texts) (sym last)
+                (subst (λ (r : ℕ × List ℕ). GivesUnit (length lost) (length kept_ones) (coefficients lost r.0) texts) (sym (get_or_at kept_ones found [] (0, []) (length kept_ones) refl))
+                (record {
+                  unit = made.unit;
+                  is_unit = subst (λ m. IsUnit m (length kept_ones) made.unit) before.so_far.columns (subst (λ m. IsUnit system.columns m made.unit) before.count made.is_unit);
+                  combined = subst (λ m. combination m (coefficients lost found.0) texts ≡ made.unit) before.bytes both.1;
+                }))
+          ];
     }
-stands_more s known recs i system new texts r Dependent is even are_known same count up h size bytes before columns new_bytes cut told follows still =
-    let found = get_or recs i (0, []) in
-    let lost_ones = lost_from 0 known in
+
+-- a recovery slice was dropped
+pub stands_still : (lost : List ℕ) (recs kept_ones : List (ℕ × List ℕ)) (i : ℕ) (system : Equations) → IsStrictlyIncreasing (map (λ r. r.0) recs) → i < length recs
+    → Standing lost recs kept_ones i system → IsDependent system (coefficients lost (recovery_at recs i).0) → Standing lost recs kept_ones (i + 1) system
+stands_still lost recs kept_ones i system up h before follows =
+    let found = recovery_at recs i in
     let all = map (λ (r : ℕ × List ℕ). r.0) recs in
     let low : i < length all = omega (arith, length-map recs (λ (r : ℕ × List ℕ). r.0)) in
     let e : get_or all i 0 ≡ found.0 = get_or-map (λ (r : ℕ × List ℕ). r.0) recs i (0, []) 0 h in
-    let follows_here : IsDependent system (coefficients lost_ones (get_or all i 0)) = subst (λ x. IsDependent system (coefficients lost_ones x)) (sym e) (follows is) in
-    let not_kept : is_kept lost_ones all found.0 ≡ false = ap (is_kept lost_ones all) (sym e) ∙ dependent_is lost_ones all i system up low before.so_far follows_here in
-    let other : r ≡ Ok Kept → ⊥ = λ k. (cc) in
-    subst (λ x. Standing s known recs (i + 1) x) (sym (still other))
-    (record {
-      so_far = none_kept lost_ones all i system up low before.so_far follows_here;
+    let follows_here : IsDependent system (coefficients lost (get_or all i 0)) = subst (λ x. IsDependent system (coefficients lost x)) (sym e) follows in
+    let not_kept : is_kept lost all found.0 ≡ false = ap (is_kept lost all) (sym e) ∙ dependent_is lost all i system up low before.so_far follows_here in
+    record {
+      so_far = none_kept lost all i system up low before.so_far follows_here;
       bytes = before.bytes;
-      solves = λ xs sized number.
-          subst (λ rs. Solves system xs ↔ AllByRecursion (λ r. recovery s (filled known xs) r.0 ≡ r.1) rs)
-          (sym (filter_more (λ r. is_kept lost_ones all r.0) recs i false h not_kept ∙ append-none (filter (λ r. is_kept lost_ones all r.0) (take i recs)))) (before.solves xs sized number);
-    })
+      are_kept = before.are_kept ∙ sym (filter_more (λ r. is_kept lost all r.0) recs i false h not_kept ∙ append-none (filter (λ r. is_kept lost all r.0) (take i recs)));
+      count = before.count;
+      kills = before.kills;
+      solves = before.solves;
+    }
+
+-- a turn of the loop, where the slice is kept and where it is dropped
+pub kept_turn : (lost : List ℕ) (recs : List (ℕ × List ℕ)) (i : ℕ) (system new : Equations) (xs ys : List (ℕ × Bor (List ℕ))) (v : ℕ × Bor (List ℕ)) → IsStrictlyIncreasing (map (λ r. r.0) recs) → i < length recs
+    → ys ≡ xs ++ v ∷ [] → v.0 ≡ (recovery_at recs i).0 → v.1.now ≡ (recovery_at recs i).1 → Standing lost recs (recovered_of xs) i system → new.columns ≡ system.columns → new.bytes ≡ system.bytes
+    → CutByUnit system new (coefficients lost v.0) → IsIndependent system (coefficients lost v.0) → Standing lost recs (recovered_of ys) (i + 1) new
+kept_turn lost recs i system new xs ys v up h is exponent bytes before columns new_bytes made told =
+    subst (λ rs. Standing lost recs rs (i + 1) new)
+    (sym (ap recovered_of is ∙ map-append (λ (r : ℕ × Bor (List ℕ)). (r.0, r.1.now)) xs (v ∷ []) ∙ ap₂ (λ a b. recovered_of xs ++ (a, b) ∷ []) exponent bytes))
+    (stands_more lost recs (recovered_of xs) i system new up h before columns new_bytes
+    (subst (λ e. CutByUnit system new (coefficients lost e)) exponent made) (subst (λ e. IsIndependent system (coefficients lost e)) exponent told))
+
+pub dropped_turn : (lost : List ℕ) (recs kept_ones : List (ℕ × List ℕ)) (i e : ℕ) (system new : Equations) → IsStrictlyIncreasing (map (λ r. r.0) recs) → i < length recs → e ≡ (recovery_at recs i).0
+    → Standing lost recs kept_ones i system → IsDependent system (coefficients lost e) → new ≡ system → Standing lost recs kept_ones (i + 1) new
+dropped_turn lost recs kept_ones i e system new up h exponent before follows same =
+    subst (λ x. Standing lost recs kept_ones (i + 1) x) (sym same) (stands_still lost recs kept_ones i system up h before (subst (λ x. IsDependent system (coefficients lost x)) exponent follows))
 
 -- ---- the end of the loop
 
@@ -183,17 +200,6 @@ whole_list (y ∷ ys) = ap (λ zs. y ∷ zs) (whole_list ys)
 
 whole : {A : Type 0} (xs : List A) (n : ℕ) → n ≡ length xs → take n xs ≡ xs
 whole xs n e = ap (λ m. take m xs) e ∙ whole_list xs
-
-pub says_so : (s : ℕ) (known : List (Option (List ℕ))) (recs : List (ℕ × List ℕ)) (i : ℕ) (system : Equations) → i ≡ length recs → Standing s known recs i system
-    → SaysSo s known (kept_slices (lost_from 0 known) (map (λ r. r.0) recs) recs) system
-says_so s known recs i system e stands = record {
-  columns = stands.so_far.columns;
-  bytes = stands.bytes;
-  solves = λ xs sized number.
-      subst (λ rs. Solves system xs ↔ AllByRecursion (λ r. recovery s (filled known xs) r.0 ≡ r.1) rs)
-      (ap (filter (λ r. is_kept (lost_from 0 known) (map (λ r. r.0) recs) r.0)) (whole recs i e) ∙ sym (kept_slices_are (lost_from 0 known) recs))
-      (stands.solves xs sized number);
-}
 
 kill_rows : (lost_ones : List ℕ) (v : List ℕ) (all : List ℕ) → AllByRecursion (λ e. Kills lost_ones e v) all → AllKill (map (coefficients lost_ones) all) v
 kill_rows lost_ones v [] h = tt
@@ -212,6 +218,21 @@ repairable_iff lost_ones all i system e so_far = (
       let is_here = subst (λ n. IsVector n v) so_far.columns is in
       repairable v is_here (rows_kill lost_ones v all (subst (λ es. AllKill (map (coefficients lost_ones) es) v) (whole all i e) ((so_far.kills v is_here).0 killed)))),
 )
+
+pub eliminated : (lost : List ℕ) (recs kept_ones : List (ℕ × List ℕ)) (i : ℕ) (system : Equations) → i ≡ length recs → Standing lost recs kept_ones i system → IsEliminated lost recs kept_ones system
+eliminated lost recs kept_ones i system e stands =
+    let all = map (λ (r : ℕ × List ℕ). r.0) recs in
+    let at_end : i ≡ length all = e ∙ sym (length-map recs (λ (r : ℕ × List ℕ). r.0)) in
+    record {
+      columns = stands.so_far.columns;
+      bytes = stands.bytes;
+      are_kept = stands.are_kept ∙ ap (filter (λ r. is_kept lost all r.0)) (whole recs i e) ∙ sym (kept_slices_are lost recs);
+      count = stands.count;
+      rank = all_offered lost all i system at_end stands.so_far;
+      repairable = repairable_iff lost all i system at_end stands.so_far;
+      kills = stands.kills;
+      solves = stands.solves;
+    }
 
 -- ---- known slices
 
@@ -247,52 +268,3 @@ slices_are s known slices same =
     twice : (xs : List (Bor (List ℕ))) → map (padded s) (texts_of xs) ≡ map (λ slice. padded s slice.now) xs
     twice [] = refl
     twice (x ∷ xs) = ap (λ ys. padded s x.now ∷ ys) (twice xs)
-
--- ---- what the loop and its end need
-
-pub in_all : {A : Type 0} (P : A → Type 0) (d : A) (xs : List A) → AllByRecursion P xs → (i : ℕ) → i < length xs → P (get_or xs i d)
-in_all P d [] all i h = absurd (omega arith)
-in_all P d (x ∷ xs) all zero h = all.0
-in_all P d (x ∷ xs) all (suc i) h = in_all P d xs all.1 i (omega arith)
-
--- the same where the call's arguments are known to be these
-pub stands_step : (s : ℕ) (known : List (Option (List ℕ))) (recs : List (ℕ × List ℕ)) (i : ℕ) (system new : Equations) (lost' numbers' : List ℕ) (e' : ℕ) (found' : List ℕ) (texts' texts : List (List ℕ)) (r : Result Offer AllocError) (o : Offer)
-    → r ≡ Ok o → lost' ≡ lost_from 0 known → numbers' ≡ known_from 0 known → e' ≡ (get_or recs i (0, [])).0 → found' ≡ (get_or recs i (0, [])).1 → texts' ≡ texts
-    → s % 2 ≡ 0 → AreKnown s known → map (padded s) texts ≡ present known → length texts ≡ length (known_from 0 known)
-    → IsStrictlyIncreasing (map (λ r. r.0) recs) → i < length recs → length (get_or recs i (0, [])).1 ≡ s → ((k : ℕ) → get_or found' k 0 < 256)
-    → Standing s known recs i system → new.columns ≡ system.columns → new.bytes ≡ system.bytes
-    → (r ≡ Ok Kept → CutBy system new (coefficients lost' e') (coefficients numbers' e') texts' found')
-    → (r ≡ Ok Kept → IsIndependent system (coefficients lost' e'))
-    → (r ≡ Ok Dependent → IsDependent system (coefficients lost' e')) → (r ≢ Ok Kept → new ≡ system)
-    → Standing s known recs (i + 1) new
-stands_step s known recs i system new lost' numbers' e' found' texts' texts r o is el en ee ef et even are same count up h size bytes before columns new_bytes cut told follows still =
-    let row : coefficients lost' e' ≡ coefficients (lost_from 0 known) (get_or recs i (0, [])).0 = ap₂ coefficients el ee in
-    let own : coefficients numbers' e' ≡ coefficients (known_from 0 known) (get_or recs i (0, [])).0 = ap₂ coefficients en ee in
-    stands_more s known recs i system new texts r o is even are same count up h size (λ k. subst (λ xs. get_or xs k 0 < 256) ef (bytes k)) before columns new_bytes
-    (λ k. subst (λ x. CutBy system new x (coefficients (known_from 0 known) (get_or recs i (0, [])).0) texts (get_or recs i (0, [])).1) row
-    (subst (λ x. CutBy system new (coefficients lost' e') x texts (get_or recs i (0, [])).1) own
-    (subst (λ x. CutBy system new (coefficients lost' e') (coefficients numbers' e') x (get_or recs i (0, [])).1) et
-    (subst (λ x. CutBy system new (coefficients lost' e') (coefficients numbers' e') texts' x) ef (cut k)))))
-    (λ k. subst (IsIndependent system) row (told k)) (λ k. subst (IsDependent system) row (follows k)) still
-
-pub finished_ok : (s : ℕ) (known : List (Option (List ℕ))) (recs : List (ℕ × List ℕ)) (i : ℕ) (system : Equations) (texts : List (List ℕ)) → i ≡ length recs → AreKnown s known → Standing s known recs i system
-    → IsTheSolution system texts → systems.rank system ≡ system.columns → (systems.rank system ≡ system.columns) ↔ OnlyZeroIsKilled system
-    → IsRebuilt s known (kept_slices (lost known) (map (λ r. r.0) recs) recs) (filled known texts) × (length texts ≡ length (lost known)) × IsRepairable (lost known) (map (λ r. r.0) recs)
-finished_ok s known recs i system texts e are stands solution rank full =
-    subst (λ ns. IsRebuilt s known (kept_slices ns (map (λ r. r.0) recs) recs) (filled known texts) × (length texts ≡ length ns) × IsRepairable ns (map (λ r. r.0) recs)) (sym (lost_is known)) (
-      rebuilt_from s known (kept_slices (lost_from 0 known) (map (λ r. r.0) recs) recs) system texts are (says_so s known recs i system e stands) solution,
-      solution.are_texts.count ∙ stands.so_far.columns,
-      (repairable_iff (lost_from 0 known) (map (λ r. r.0) recs) i system (e ∙ sym (length-map recs (λ (r : ℕ × List ℕ). r.0))) stands.so_far).0 (full.0 rank),
-    )
-
-pub finished_err : (s : ℕ) (known : List (Option (List ℕ))) (recs : List (ℕ × List ℕ)) (i : ℕ) (system : Equations) (missing rank : ℕ) → i ≡ length recs → Standing s known recs i system
-    → (systems.rank system ≡ system.columns → ⊥) → (systems.rank system ≡ system.columns) ↔ OnlyZeroIsKilled system → missing ≡ length (lost_from 0 known) → rank ≡ systems.rank system
-    → (missing ≡ length (lost known)) × (rank ≡ length (kept (lost known) (map (λ r. r.0) recs))) × (IsRepairable (lost known) (map (λ r. r.0) recs) → ⊥)
-finished_err s known recs i system missing rank e stands low full count is =
-    let all = map (λ (r : ℕ × List ℕ). r.0) recs in
-    let at_end : i ≡ length all = e ∙ sym (length-map recs (λ (r : ℕ × List ℕ). r.0)) in
-    subst (λ ns. (missing ≡ length ns) × (rank ≡ length (kept ns all)) × (IsRepairable ns all → ⊥)) (sym (lost_is known)) (
-      count,
-      is ∙ all_offered (lost_from 0 known) all i system at_end stands.so_far,
-      (λ repairable. low (full.1 ((repairable_iff (lost_from 0 known) all i system at_end stands.so_far).1 repairable))),
-    )

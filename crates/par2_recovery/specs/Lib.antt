@@ -1,3 +1,5 @@
 pub mod Views
 pub mod Products
+pub mod Elements
 pub mod Survivors
+pub mod Inverses

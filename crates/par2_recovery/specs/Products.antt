@@ -29,9 +29,3 @@ pub record Adds (factors sources old new : List (List ℕ)) (from to n : ℕ) : 
   pub below : (r p : ℕ) → p < from → word p (list_at new r) ≡ word p (list_at old r)
   pub above : (r p : ℕ) → to ≤ p → word p (list_at new r) ≡ word p (list_at old r)
   pub bytes : AreBytes old → AreBytes new
-
--- the first n sources, each times its factor, were added to the target
-pub record AddsTexts (factors : List ℕ) (sources : List (List ℕ)) (old new : List ℕ) (n : ℕ) : Type 0 where
-  pub same_length : length new ≡ length old
-  pub words : (w : ℕ) → 2 * w + 1 < length old
-      → word w new ≡ bit_xor (word w old) (field_sum n (λ k. mul (slice_index factors k) (word w (list_at sources k))))

@@ -1,11 +1,10 @@
 -- What survives of a set's slices.
-use Rattle.std.specs.Prelude.{◌≡◌, ◌+◌, ◌*◌, ◌<◌, ◌^◌, ℕ, List, [], ◌∷◌, length, map, slice_index, bit_xor, Option, Some, None, option_map}
+use Rattle.std.specs.Prelude.{◌≡◌, ◌+◌, ℕ, List, [], ◌∷◌, length, map, slice_index, Option, Some, None, option_map}
 use Rattle.std.specs.Borrow.{Bor}
 use Rattle.par2_spec.specs.Field.{mul}
 use Rattle.par2_spec.specs.Slices.{padded, word}
 use Rattle.par2_spec.specs.Rank as ranks
 use Rattle.par2_matrix.specs.Echelon.{field_sum, list_at}
-use Rattle.par2_matrix.specs.Systems.{Equations, CutDown}
 use Rattle.par2_recovery.specs.declared.rebuild_slices.RebuildFault.{RebuildFault}
 use Rattle.par2_recovery.specs.declared.rebuild_slices.RebuildFault.TheVariants.{NotRepairable, Memory}
 
@@ -52,15 +51,3 @@ IsTrueFault lost exponents Memory = Unit {0}
 -- at each word the sum of the texts, each times its factor
 abbrev pub sum_at : List ℕ → List (List ℕ) → ℕ → ℕ
 sum_at row texts w = field_sum (length texts) (λ k. mul (slice_index row k) (word w (list_at texts k)))
-
--- a recovery slice without what the known slices give to it
-pub record IsRight (s : ℕ) (row : List ℕ) (texts : List (List ℕ)) (found right : List ℕ) : Type 0 where
-  pub size : length right ≡ s
-  pub bytes : (k : ℕ) → slice_index right k < 2 ^ 8
-  pub words : (w : ℕ) → 2 * w + 1 < s → word w right ≡ bit_xor (word w found) (sum_at row texts w)
-
--- an equation was kept whose right side is such a text
-pub record CutBy (old new : Equations) (lost_row row : List ℕ) (texts : List (List ℕ)) (found : List ℕ) : Type 0 where
-  pub right : List ℕ
-  pub is_right : IsRight old.bytes row texts found right
-  pub cut : CutDown old new lost_row right

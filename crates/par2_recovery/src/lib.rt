@@ -1,7 +1,9 @@
 //! Recovery slices are made of the slices of files, and lost slices are rebuilt from them.
 #![tactic(auto)]
 
+mod elements;
 mod exponents;
+mod inverse;
 mod products;
 mod rebuild_slices;
 mod recovery;

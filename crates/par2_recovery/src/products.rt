@@ -1,9 +1,9 @@
 //! Sums of products of factors and texts.
 
-ghost use Rattle.std.specs.Prelude.{◌≡◌, ℕ, ◌+◌, ◌*◌, ◌^◌, ◌<◌, ◌≤◌, ◌%◌, length, map, slice_index};
+ghost use Rattle.std.specs.Prelude.{◌≡◌, ℕ, ◌+◌, ◌*◌, ◌^◌, ◌<◌, ◌≤◌, length, map, slice_index};
 ghost use Rattle.par2_gf16.specs.Steps.{AddsWithin};
 ghost use Rattle.par2_matrix.specs.Echelon.{OneChanged, list_at, lists_of};
-ghost use Rattle.par2_recovery.specs.Products.{AddsSource, Adds, AddsTexts};
+ghost use Rattle.par2_recovery.specs.Products.{AddsSource, Adds, AreBytes};
 ghost use Rattle.par2_recovery.specs.Views.{texts_of};
 
 use par2_gf16::Gf;
@@ -169,18 +169,13 @@ pub(crate) fn with_products(
     sums
 }
 
-/// To the words of the target, adds the sum of the sources' words there, each times its factor.
-pub(crate) fn add_texts(gf: &Gf, factors: &[u16], sources: &[&[u8]], target: &mut [u8])
-    requires factors { length sources.now ≡ length factors.now }
-    requires even { length target.old % 2 ≡ 0 }
-    ensures added { AddsTexts factors.now (texts_of sources.now) target.old target.new (length sources.now) }
-    ensures bytes { (k : ℕ) → slice_index target.new k < 2 ^ 8 }
+/// What the type says of each byte of each text, for proofs.
+pub(crate) fn fit_texts(texts: &[&[u8]])
+    ensures { AreBytes (texts_of texts.now) }
 {
-    let words = target.len() / 2;
-    for k in 0..sources.len() {
-        add_words(gf, factors[k], source_at(sources, k), target, 0, words);
+    for i in 0..texts.len() {
+        fit_bytes(source_at(texts, i));
     }
-    fit_bytes(target);
 }
 
 // What the type says of each byte, for proofs.

@@ -4,7 +4,7 @@ use Rattle.std.proofs.lemmas.List.{get_or_past}
 use Rattle.par2_matrix.specs.Echelon.{list_at}
 use Rattle.par2_recovery.specs.Views.{texts_of}
 use Rattle.par2_recovery.proofs.Combined.{length-texts_of}
-use Rattle.par2_recovery.proofs.rebuild_slices.fit_texts.Goals as goal
+use Rattle.par2_recovery.proofs.products.fit_texts.Goals as goal
 
 pub loop-i-preserved : goal.loop-i-preserved
 loop-i-preserved c = λ r k h. elim (cases_eq r c.loop-i.i) [

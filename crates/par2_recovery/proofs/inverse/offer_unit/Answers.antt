@@ -1,8 +1,8 @@
 use Rattle.std.proofs.Common.{sym, ◌∙◌}
 use Rattle.par2_spec.specs.Recovery.{coefficients}
 use Rattle.par2_recovery.proofs.Ranks.{full_follows}
-use Rattle.par2_recovery.proofs.rebuild_slices.offer_slice.Goals as goal
+use Rattle.par2_recovery.proofs.inverse.offer_unit.Goals as goal
 
 pub returns-then-rank-lost-clause-dependent : goal.returns-then-rank-lost-clause-dependent
 returns-then-rank-lost-clause-dependent c =
-    λ _. full_follows c.args.system.now (coefficients c.args.lost.now c.args.e) (c.rank.ensures.full.0 (c.if-rank-lost.true ∙ sym c.requires.columns))
+    λ _. full_follows c.args.system.now (coefficients c.args.lost.now c.args.e) (c.rank-rank.ensures.full.0 (c.if-rank-lost.true ∙ sym c.requires.columns))

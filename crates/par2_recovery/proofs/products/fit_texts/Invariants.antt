@@ -1,7 +1,7 @@
 use Rattle.std.proofs.Common.{ℕ, ◌<◌, get_or}
 use Rattle.par2_matrix.specs.Echelon.{list_at}
 use Rattle.par2_recovery.specs.Views.{texts_of}
-use Rattle.par2_recovery.proofs.rebuild_slices.fit_texts.Given as goal
+use Rattle.par2_recovery.proofs.products.fit_texts.Given as goal
 
 abbrev pub invariant-loop-i : goal.invariant-loop-i
 invariant-loop-i l = (r k : ℕ) → r < l.i → get_or (list_at (texts_of l.texts) r) k 0 < 256

@@ -1,0 +1,6 @@
+use Rattle.par2_matrix.specs.Echelon.{lists_of}
+use Rattle.par2_recovery.specs.Elements.{AreRows}
+use Rattle.par2_recovery.proofs.elements.rows_of.Given as goal
+
+abbrev pub invariant-loop-r : goal.invariant-loop-r
+invariant-loop-r l = AreRows (lists_of l.rows.items) (lists_of l.texts) l.r
