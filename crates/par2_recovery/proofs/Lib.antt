@@ -10,3 +10,4 @@ pub mod Combined
 pub mod Rebuilding
 pub mod Standing
 pub mod Records
+pub mod Tested
