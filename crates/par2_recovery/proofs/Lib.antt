@@ -11,3 +11,4 @@ pub mod Inverting
 pub mod Standing
 pub mod Finishing
 pub mod Records
+pub mod Tested

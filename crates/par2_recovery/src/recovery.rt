@@ -135,7 +135,7 @@ fn name_at(record: &SetRecord, i: usize) -> &str
 }
 
 // The slices of the record's files, one file behind the other.
-fn slices_of<'a>(
+pub(crate) fn slices_of<'a>(
     alloc: Global,
     record: &SetRecord,
     folder: &'a Folder,

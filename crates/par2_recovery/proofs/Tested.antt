@@ -1,0 +1,34 @@
+-- What tests of each element say of the lists that contracts name.
+use Rattle.std.proofs.Common.{ℕ, suc, ◌<◌, ◌≤◌, ◌≡◌, refl, ap, subst, arith, List, [], ◌∷◌, length, map}
+use Rattle.std.specs.Prelude.{All, IfSome, IsTrue, Option, Some, None, string_bytes}
+use Rattle.std.specs.Borrow.{Bor}
+use Rattle.std.specs.List.{AllByRecursion, AllAdjacentBelow}
+use Rattle.std.specs.List.Sorted.{IsStrictlyIncreasing}
+use Rattle.par2_spec.specs.Names.{is_name}
+use Rattle.par2_packets.proofs.Ids.{increasing}
+use Rattle.par2_packets.specs.declared.record.FileRecord.{FileRecord}
+use Rattle.par2_recovery.specs.Survivors.{present, recovered_of, exponents_of}
+use Rattle.par2_recovery.specs.Views.{names_of}
+use Rattle.par2_recovery.specs.declared.set_record.SetRecord.{SetRecord}
+
+each_mapped : {A B : Type 0} (f : A → B) (P : B → Type 0) (xs : List A) → All (λ x. P (f x)) xs → AllByRecursion P (map f xs)
+each_mapped f P [] h = tt
+each_mapped f P (x ∷ xs) h = (h 0 x (omega arith), each_mapped f P xs (λ k d low. h (suc k) d (omega arith)))
+
+pub are_names : (set : SetRecord) → All (λ file. IsTrue (is_name (string_bytes file.name))) set.files.items → AllByRecursion (λ name. IsTrue (is_name name)) (names_of set)
+are_names set h = each_mapped (λ (file : FileRecord). string_bytes file.name) (λ name. IsTrue (is_name name)) set.files.items h
+
+pub known_fits : (s : ℕ) (known : List (Option (Bor (List ℕ)))) → All (λ slice. IfSome slice (λ bytes. length bytes.now ≤ s)) known → AllByRecursion (λ slice. length slice.now ≤ s) (present known)
+known_fits s [] h = tt
+known_fits s (None ∷ known) h = known_fits s known (λ k d low. h (suc k) d (omega arith))
+known_fits s (Some bytes ∷ known) h = (h 0 (Some bytes) (omega arith), known_fits s known (λ k d low. h (suc k) d (omega arith)))
+
+pub recovery_fits : (s : ℕ) (recovery : List (ℕ × Bor (List ℕ))) → All (λ r. length r.1.now ≡ s) recovery → AllByRecursion (λ r. length r.1 ≡ s) (recovered_of recovery)
+recovery_fits s recovery h = each_mapped (λ (r : ℕ × Bor (List ℕ)). (r.0, r.1.now)) (λ r. length r.1 ≡ s) recovery h
+
+exponents_are : (recovery : List (ℕ × Bor (List ℕ))) → map (λ (r : ℕ × Bor (List ℕ)). r.0) recovery ≡ exponents_of recovery
+exponents_are [] = refl
+exponents_are (r ∷ recovery) = ap (λ es. r.0 ∷ es) (exponents_are recovery)
+
+pub exponents_rise : (recovery : List (ℕ × Bor (List ℕ))) → AllAdjacentBelow (λ a b. a.0 < b.0) recovery (length recovery) → IsStrictlyIncreasing (exponents_of recovery)
+exponents_rise recovery h = subst IsStrictlyIncreasing (exponents_are recovery) (increasing (λ (r : ℕ × Bor (List ℕ)). r.0) recovery h)

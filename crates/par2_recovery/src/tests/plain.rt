@@ -1,0 +1,89 @@
+//! Products bit by bit, and an elimination over words, which share nothing with what they are compared with.
+
+ghost use Rattle.std.specs.Prelude.{◌≡◌, ◌<◌};
+
+use std::alloc::{AllocError, Global};
+
+/// What an equation multiplies each of four slices by, and the two words of its right side.
+pub(super) type Equation = [u16; 6];
+
+// The product of two polynomials over bits, reduced.
+pub(super) fn product(a: u16, b: u16) -> u16 {
+    let mut sum = 0;
+    let mut shifted = a;
+    for bit in 0..16u32 {
+        if (b >> bit) & 1 == 1 {
+            sum ^= shifted;
+        }
+        shifted = if shifted < 0x8000 {
+            shifted << 1
+        } else {
+            (shifted << 1) ^ 0x100b
+        };
+    }
+    sum
+}
+
+pub(super) fn power(a: u16, e: u32) -> u16 {
+    let mut outcome = 1;
+    let mut square = a;
+    for bit in 0..32u32 {
+        if (e >> bit) & 1 == 1 {
+            outcome = product(outcome, square);
+        }
+        square = product(square, square);
+    }
+    outcome
+}
+
+fn scaled(equation: &Equation, factor: u16) -> Equation {
+    let mut scaled = *equation;
+    for number in scaled.iter_mut() {
+        *number = product(*number, factor);
+    }
+    scaled
+}
+
+fn sum(a: &Equation, b: &Equation) -> Equation {
+    let mut sum = *a;
+    for (number, other) in sum.iter_mut().zip(b.iter()) {
+        *number ^= *other;
+    }
+    sum
+}
+
+// Takes an equation out whose entry in this column isn't 0, times what makes it 1.
+fn take_pivot(equations: &mut Vec<Equation>, column: usize) -> Option<Equation>
+    requires { column < 6 }
+{
+    let at = equations.iter().position(|equation| equation[column] != 0)?;
+    let equation = equations.swap_remove(at);
+    Some(scaled(&equation, power(equation[column], 65534)))
+}
+
+// Makes this column 0 by means of an equation that has 1 there.
+fn clear(equations: &mut [Equation], pivot: &Equation, column: usize)
+    requires { column < 6 }
+{
+    for equation in equations.iter_mut() {
+        let multiple = scaled(pivot, equation[column]);
+        *equation = sum(equation, &multiple);
+    }
+}
+
+/// As many equations as there are independent ones. Where there are four, equation k says slice k.
+pub(super) fn eliminated(
+    alloc: Global,
+    equations: Vec<Equation>,
+) -> Result<Vec<Equation>, AllocError> {
+    let mut rest = equations;
+    let mut reduced = Vec::new(alloc);
+    for column in 0..4 {
+        if let Some(pivot) = take_pivot(&mut rest, column) {
+            clear(rest.as_mut_slice(), &pivot, column);
+            clear(reduced.as_mut_slice(), &pivot, column);
+            reduced.push(pivot)?;
+        }
+    }
+    Ok(reduced)
+}
