@@ -7,7 +7,7 @@ ghost use Rattle.par2_slices.specs.Rolls.{after_slide, leaving};
 ghost use Rattle.par2_slices.specs.Steps.{steps};
 
 use crate::checksum::{after_byte, after_four, crc32};
-use crate::zeros::{after_zeros, padded_crc32};
+use crate::zeros::{multiply, padded_crc32, power};
 use std::alloc::{AllocError, Global};
 use std::marker::Model;
 
@@ -34,9 +34,10 @@ fn leaving_table(s: u64) -> [u32; 256]
     ensures { (byte : ℕ) → byte < 256 → slice_index result byte ≡ leaving s byte }
 {
     let none = crc32(&[0]);
+    let zeros = power(s);
     let mut table = [0; 256];
     for byte in 0..256usize {
-        table[byte] = after_zeros(crc32(&[byte as u8]), s) ^ none;
+        table[byte] = multiply(crc32(&[byte as u8]), zeros) ^ none;
     }
     table
 }
