@@ -1,6 +1,6 @@
 -- What a rolling checksum holds.
-use Rattle.std.specs.Prelude.{◌≡◌, ℕ, ◌*◌, ◌<◌, List, [], ◌∷◌, bit_xor, slice_index}
-use Rattle.par2_spec.specs.Checksums.{crc32}
+use Rattle.std.specs.Prelude.{◌≡◌, ℕ, ◌*◌, ◌<◌, List, [], ◌∷◌, bit_xor, slice_index, slice_index_or}
+use Rattle.par2_spec.specs.Checksums.{crc_byte, crc32}
 use Rattle.par2_slices.specs.Steps.{steps}
 
 -- the size of its windows and a checksum
@@ -12,6 +12,10 @@ pub record Roll : Type 0 where
 unfoldable pub leaving : ℕ → ℕ → ℕ
 leaving s byte = bit_xor (steps (8 * s) (crc32 (byte ∷ []))) (crc32 (0 ∷ []))
 
--- the table has this for each byte
-pub record IsLeaving (s : ℕ) (table : List ℕ) : Type 0 where
-  pub entry : (byte : ℕ) → byte < 256 → slice_index table byte ≡ leaving s byte
+-- table k has for each byte what this becomes when k bytes more have come in
+pub record IsLeaving (s : ℕ) (tables : List (List ℕ)) : Type 0 where
+  pub entry : (none : List ℕ) (k byte : ℕ) → k < 4 → byte < 256 → slice_index (slice_index_or tables k none) byte ≡ steps (8 * k) (leaving s byte)
+
+-- a checksum of a window of s bytes, after `out` has left it and `next` has come in
+unfoldable pub after_slide : ℕ → ℕ → ℕ → ℕ → ℕ
+after_slide s value out next = bit_xor (crc_byte value next) (leaving s out)

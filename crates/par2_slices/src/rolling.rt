@@ -1,12 +1,13 @@
 //! The CRC-32 of a window that moves along a file.
 
-ghost use Rattle.std.specs.Prelude.{◌≡◌, ◌≤◌, ◌<◌, ◌+◌, ◌++◌, ◌∷◌, [], List, ℕ, IfOk, length, slice_index};
+ghost use Rattle.std.specs.Prelude.{◌≡◌, ◌≤◌, ◌<◌, ◌+◌, ◌*◌, ◌++◌, ◌∷◌, [], List, ℕ, IfOk, length, slice_index};
 ghost use Rattle.par2_spec.specs.Checksums as spec;
 ghost use Rattle.par2_spec.specs.Slices.{padded};
-ghost use Rattle.par2_slices.specs.Rolls.{leaving};
+ghost use Rattle.par2_slices.specs.Rolls.{after_slide, leaving};
+ghost use Rattle.par2_slices.specs.Steps.{steps};
 
-use crate::checksum::{after_byte, crc32};
-use crate::zeros::{after_zeros, padded_crc32};
+use crate::checksum::{after_byte, after_four, crc32};
+use crate::zeros::{multiply, padded_crc32, power};
 use std::alloc::{AllocError, Global};
 use std::marker::Model;
 
@@ -14,7 +15,7 @@ use std::marker::Model;
 #[derive(Drop)]
 pub struct Rolling {
     size: u64,
-    leaving: Box<[u32; 256]>,
+    leaving: Box<[[u32; 256]; 4]>,
     value: u32,
 }
 
@@ -33,11 +34,23 @@ fn leaving_table(s: u64) -> [u32; 256]
     ensures { (byte : ℕ) → byte < 256 → slice_index result byte ≡ leaving s byte }
 {
     let none = crc32(&[0]);
+    let zeros = power(s);
     let mut table = [0; 256];
     for byte in 0..256usize {
-        table[byte] = after_zeros(crc32(&[byte as u8]), s) ^ none;
+        table[byte] = multiply(crc32(&[byte as u8]), zeros) ^ none;
     }
     table
+}
+
+/// The table of what those entries become when a byte more comes in.
+fn behind(table: &[u32; 256]) -> [u32; 256]
+    ensures { (byte : ℕ) → byte < 256 → slice_index result byte ≡ steps 8 (slice_index table.now byte) }
+{
+    let mut later = [0; 256];
+    for byte in 0..256usize {
+        later[byte] = after_byte(table[byte], 0);
+    }
+    later
 }
 
 impl Rolling {
@@ -46,9 +59,13 @@ impl Rolling {
         requires { 1 ≤ s }
         ensures { IfOk result (λ rolling. rolling.size ≡ s) }
     {
+        let first = leaving_table(s);
+        let second = behind(&first);
+        let third = behind(&second);
+        let fourth = behind(&third);
         Ok(Rolling {
             size: s,
-            leaving: Box::new(alloc, leaving_table(s))?,
+            leaving: Box::new(alloc, [first, second, third, fourth])?,
             value: 0,
         })
     }
@@ -68,7 +85,44 @@ impl Rolling {
         ensures size { self.new.size ≡ self.old.size }
         ensures value { (rest : List ℕ) → length rest + 1 ≡ self.old.size → self.old.value ≡ spec.crc32 (out ∷ rest) → self.new.value ≡ spec.crc32 (rest ++ next ∷ []) }
     {
-        self.value = after_byte(self.value, next) ^ self.leaving[out as usize];
+        self.value = self.slid(self.value, out, next);
+    }
+
+    /// What the byte that left adds when `later` bytes more have come in.
+    fn leaves(&self, later: usize, byte: u8) -> u32
+        requires { later < 4 }
+        ensures { result ≡ steps (8 * later) (leaving self.now.size byte) }
+    {
+        self.leaving[later][byte as usize]
+    }
+
+    /// The value after one slide.
+    fn slid(&self, value: u32, out: u8, next: u8) -> u32
+        ensures { result ≡ after_slide self.now.size value out next }
+    {
+        after_byte(value, next) ^ self.leaves(0, out)
+    }
+
+    /// Moves the window on by four bytes, and gives the value before each of the four slides.
+    ///
+    /// The value after them hangs on the one before by one look at the tables, and not by four.
+    pub(crate) fn slide_four(&mut self, out: &[u8; 4], next: &[u8; 4]) -> [u32; 4]
+        ensures size { self.new.size ≡ self.old.size }
+        ensures first { slice_index result 0 ≡ self.old.value }
+        ensures others { (k : ℕ) → k < 3 → slice_index result (k + 1) ≡ after_slide self.old.size (slice_index result k) (slice_index out.now k) (slice_index next.now k) }
+        ensures value { self.new.value ≡ after_slide self.old.size (slice_index result 3) (slice_index out.now 3) (slice_index next.now 3) }
+    {
+        let adds = self.leaves(3, out[0])
+            ^ self.leaves(2, out[1])
+            ^ self.leaves(1, out[2])
+            ^ self.leaves(0, out[3]);
+        let first = self.value;
+        let last = adds ^ after_four(first, next);
+        let second = self.slid(first, out[0], next[0]);
+        let third = self.slid(second, out[1], next[1]);
+        let fourth = self.slid(third, out[2], next[2]);
+        self.value = last;
+        [first, second, third, fourth]
     }
 
     /// The CRC-32 of the window.

@@ -102,6 +102,13 @@ impl Search {
         })
     }
 
+    /// Whether each pair has an answer.
+    fn is_finished(&self) -> bool
+        ensures { IsTrue result ↔ self.now.left ≡ 0 }
+    {
+        self.left == 0
+    }
+
     /// Gives the pairs of the group that the window at `offset` matches their answer.
     fn answer(
         &mut self,
@@ -126,6 +133,9 @@ impl Search {
     }
 
     /// Looks at the window at `offset`, whose CRC-32 `crc` is marked.
+    // Few are, and the loop over all offsets is faster without these lines in it.
+    #[cold]
+    #[inline(never)]
     fn look(&mut self, wanted: &Wanted, bytes: &[u8], s: u64, offset: usize, crc: u32)
         requires at { IsAt s bytes.now offset wanted.now self.old.found.items self.old.left self.old.filter }
         requires within { offset < length bytes.now }
@@ -136,6 +146,81 @@ impl Search {
         self.answer(wanted, group, bytes, s, offset, crc);
         if !is_waiting(group, &self.found) {
             self.filter.remove(crc);
+        }
+    }
+
+    /// Looks at the window at `offset`, whose CRC-32 is `crc`.
+    fn test(&mut self, wanted: &Wanted, bytes: &[u8], s: u64, offset: usize, crc: u32)
+        requires at { IsAt s bytes.now offset wanted.now self.old.found.items self.old.left self.old.filter }
+        requires within { offset < length bytes.now }
+        requires crc { crc ≡ crc32 (window s bytes.now offset) }
+        ensures { IsAt s bytes.now (offset + 1) wanted.now self.new.found.items self.new.left self.new.filter }
+    {
+        if self.filter.contains(crc) {
+            self.look(wanted, bytes, s, offset, crc);
+        }
+    }
+
+    /// Looks at four windows, the first of them at `offset`.
+    fn test_four(&mut self, wanted: &Wanted, bytes: &[u8], s: u64, offset: usize, crcs: &[u32; 4])
+        requires at { IsAt s bytes.now offset wanted.now self.old.found.items self.old.left self.old.filter }
+        requires within { offset + 4 ≤ length bytes.now }
+        requires crcs { (k : ℕ) → k < 4 → slice_index crcs.now k ≡ crc32 (window s bytes.now (offset + k)) }
+        ensures { IsAt s bytes.now (offset + 4) wanted.now self.new.found.items self.new.left self.new.filter }
+    {
+        for (k, &crc) in crcs.iter().enumerate() {
+            self.test(wanted, bytes, s, offset + k, crc);
+        }
+    }
+
+    /// Looks at windows by fours, from the start of the file on, while four bytes more come in. Gives the offset after.
+    fn by_fours(&mut self, wanted: &Wanted, bytes: &[u8], s: u64, rolling: &mut Rolling) -> usize
+        requires some { 1 ≤ s }
+        requires at { IsAt s bytes.now 0 wanted.now self.old.found.items self.old.left self.old.filter }
+        requires size { rolling.old.size ≡ s }
+        requires value { rolling.old.value ≡ crc32 (window s bytes.now 0) }
+        ensures within { result ≤ length bytes.now }
+        ensures at { IsAt s bytes.now result wanted.now self.new.found.items self.new.left self.new.filter }
+        ensures size { rolling.new.size ≡ s }
+        ensures value { rolling.new.value ≡ crc32 (window s bytes.now result) }
+    {
+        let outs = bytes.as_chunks::<4>().0;
+        let nexts = bytes_from(bytes, s).as_chunks::<4>().0;
+        let mut offset = 0;
+        for (group, next) in nexts.iter().enumerate() {
+            if self.is_finished() {
+                break;
+            }
+            let crcs = rolling.slide_four(&outs[group], next);
+            self.test_four(wanted, bytes, s, offset, &crcs);
+            offset += 4;
+        }
+        offset
+    }
+
+    /// Looks at the windows from `start` on, one by one.
+    fn one_by_one(
+        &mut self,
+        wanted: &Wanted,
+        bytes: &[u8],
+        s: u64,
+        start: usize,
+        rolling: &mut Rolling,
+    )
+        requires some { 1 ≤ s }
+        requires within { start ≤ length bytes.now }
+        requires at { IsAt s bytes.now start wanted.now self.old.found.items self.old.left self.old.filter }
+        requires size { rolling.old.size ≡ s }
+        requires value { rolling.old.value ≡ crc32 (window s bytes.now start) }
+        ensures { self.new.found.items ≡ map (first_match s bytes.now) wanted.now }
+    {
+        let incoming = bytes_from(bytes, s);
+        for offset in start..bytes.len() {
+            if self.is_finished() {
+                break;
+            }
+            self.test(wanted, bytes, s, offset, rolling.value());
+            rolling.slide(bytes[offset], byte_at(incoming, offset));
         }
     }
 }
@@ -176,16 +261,7 @@ pub fn find(
     let mut search = Search::new(alloc, wanted, s, bytes)?;
     let mut rolling = Rolling::new(alloc, s)?;
     rolling.start(window_bytes(bytes, s, 0));
-    let incoming = bytes_from(bytes, s);
-    for (offset, &out) in bytes.iter().enumerate() {
-        if search.left == 0 {
-            break;
-        }
-        let crc = rolling.value();
-        if search.filter.contains(crc) {
-            search.look(wanted, bytes, s, offset, crc);
-        }
-        rolling.slide(out, byte_at(incoming, offset));
-    }
+    let start = search.by_fours(wanted, bytes, s, &mut rolling);
+    search.one_by_one(wanted, bytes, s, start, &mut rolling);
     Ok(search.found)
 }

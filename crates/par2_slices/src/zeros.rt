@@ -20,7 +20,7 @@ fn step(remainder: u32) -> u32
 }
 
 /// The product of two remainders: where `b` is what zero bits make of 1, it is what they make of `a`.
-fn multiply(a: u32, b: u32) -> u32
+pub(crate) fn multiply(a: u32, b: u32) -> u32
     ensures { (n : ℕ) → b ≡ steps n ONE → result ≡ steps n a }
 {
     let mut product = 0;
@@ -31,7 +31,7 @@ fn multiply(a: u32, b: u32) -> u32
 }
 
 /// What `count` zero bytes make of 1.
-fn power(count: u64) -> u32
+pub(crate) fn power(count: u64) -> u32
     ensures { result ≡ steps (8 * count) ONE }
 {
     let mut power = ONE;
@@ -45,7 +45,7 @@ fn power(count: u64) -> u32
 }
 
 /// The remainder after `count` zero bytes more.
-pub(crate) fn after_zeros(remainder: u32, count: u64) -> u32
+fn after_zeros(remainder: u32, count: u64) -> u32
     ensures { result ≡ steps (8 * count) remainder }
 {
     multiply(remainder, power(count))

@@ -1,0 +1,18 @@
+use Rattle.std.proofs.Common.{rules, ℕ, ◌≡◌, ◌<◌, ◌∙◌, get_or, length, sym, ap}
+use Rattle.std.specs.Prelude.{bit_xor}
+use Rattle.std.proofs.lemmas.Nat.{shr_below, xor_comm, xor_lt}
+use Rattle.par2_slices.specs.Steps.{steps}
+use Rattle.par2_slices.proofs.Bytes.{by_four_tables, four_bytes}
+use Rattle.par2_slices.proofs.checksum.after_four.Goals as goal
+
+pub entry-requires-4-clause-byte : goal.entry-requires-4-clause-byte
+entry-requires-4-clause-byte c = shr_below (bit_xor c.from_le_bytes.result c.args.remainder) 8 24 (xor_lt 32 c.from_le_bytes.result c.args.remainder (search rules) (search rules))
+
+pub returns : goal.returns
+returns c =
+    let size : length c.args.bytes.now ≡ 4 = search rules in
+    let small : (i : ℕ) → get_or c.args.bytes.now i 0 < 256 = search rules in
+    let word : ℕ = bit_xor c.from_le_bytes.result c.args.remainder in
+    let whole : bit_xor (bit_xor (bit_xor c.entry.result c.entry-2.result) c.entry-3.result) c.entry-4.result ≡ steps 32 word = cc (by_four_tables word) in
+    whole ∙ ap (steps 32) (xor_comm c.from_le_bytes.result c.args.remainder ∙ ap (bit_xor c.args.remainder) c.from_le_bytes.ensures)
+    ∙ sym (four_bytes c.args.remainder c.args.bytes.now size small)

@@ -1,0 +1,14 @@
+use Rattle.std.proofs.Common.{◌≡◌, ◌*◌, ◌≤◌, length}
+use Rattle.par2_spec.specs.Checksums.{crc32}
+use Rattle.par2_spec.specs.Windows.{window}
+use Rattle.par2_slices.specs.Searches.{IsAt}
+use Rattle.par2_slices.proofs.search.Search.by_fours.Given as goal
+
+abbrev pub invariant-loop-group : goal.invariant-loop-group
+invariant-loop-group l = record {
+  place : l.offset ≡ l.group * 4;
+  within : l.offset ≤ length l.bytes;
+  at : IsAt l.s l.bytes l.offset l.wanted l.self.found.items l.self.left l.self.filter;
+  size : l.rolling.size ≡ l.s;
+  value : l.rolling.value ≡ crc32 (window l.s l.bytes l.offset);
+}

@@ -1,0 +1,32 @@
+use Rattle.std.proofs.Common.{◌≡◌, ◌∙◌, ◌+◌, ℕ, List, drop, get_or, refl, sym, ap, inl, inr, arith}
+use Rattle.std.proofs.lemmas.List.{get_or-drop}
+use Rattle.par2_spec.specs.Checksums.{crc32}
+use Rattle.par2_spec.specs.Windows.{window}
+use Rattle.par2_slices.proofs.Searching.{finished}
+use Rattle.par2_slices.proofs.Windowed.{first_byte, next_window, rest_len}
+use Rattle.par2_slices.proofs.search.Search.one_by_one.Goals as goal
+
+pub loop-offset-preserved : goal.loop-offset-preserved
+loop-offset-preserved c =
+    let s : ℕ = c.args.s in
+    let text : List ℕ = c.args.bytes.now in
+    let o : ℕ = c.loop-offset.offset in
+    let next_is : c.byte_at.result ≡ get_or text (s + o) 0 = c.byte_at.ensures ∙ ap (λ t. get_or t o 0) c.bytes_from-incoming.ensures ∙ get_or-drop s text o 0 in
+    record {
+      at = c.test.ensures;
+      size = c.slide.ensures.size ∙ c.loop-offset.invariant.size;
+      value =
+          c.slide.ensures.value (drop 1 (window s text o)) (rest_len s text o c.requires.some ∙ sym c.loop-offset.invariant.size)
+          (c.loop-offset.invariant.value ∙ ap crc32 (first_byte s text o (get_or text o 0) c.requires.some refl))
+          ∙ ap crc32 (next_window s text o c.byte_at.result c.requires.some next_is);
+    }
+
+pub returns-then-is_finished : goal.returns-then-is_finished
+returns-then-is_finished c =
+    finished c.args.s c.args.bytes.now c.loop-offset.offset c.args.wanted.now c.loop-offset.self.found.items c.loop-offset.self.left c.loop-offset.self.filter c.loop-offset.invariant.at
+    (omega (arith, c.loop-offset-test.true)) (inr (c.is_finished.ensures.0 c.if-is_finished.true))
+
+pub returns-after-loop-offset : goal.returns-after-loop-offset
+returns-after-loop-offset c =
+    finished c.args.s c.args.bytes.now c.loop-offset.offset c.args.wanted.now c.loop-offset.self.found.items c.loop-offset.self.left c.loop-offset.self.filter c.loop-offset.invariant.at
+    (omega arith) (inl (omega arith))
