@@ -1,10 +1,10 @@
 -- The bytes of an index, packet by packet.
-use Rattle.std.proofs.Common.{◌≡◌, ℕ, List, [], ◌∷◌, ◌++◌, map, ap, refl, sym, ◌∙◌}
+use Rattle.std.proofs.Common.{◌≡◌, ℕ, List, [], ◌∷◌, ◌++◌, map, ap, ◌∙◌}
 use Rattle.std.specs.Prelude.{flat_map}
 use Rattle.std.proofs.lemmas.Grind.{flat_map-append}
 use Rattle.std.proofs.lemmas.List.Folds.{flat_map-map}
 use Rattle.std.proofs.Common.{append-nil}
-use Rattle.par2_spec.specs.Packets.{Packet, packet}
+use Rattle.par2_spec.specs.Packets.{packet}
 use Rattle.par2_spec.specs.Volumes.{packet_of, index_packets, main_id, main_bytes, desc_bytes, ifsc_bytes, creator_bytes}
 use Rattle.par2_spec.specs.Volumes as volumes
 use Rattle.par2_spec.specs.declared.Kind.TheVariants.{Main, FileDesc, Ifsc, Creator}

@@ -1,2 +1,10 @@
-mod Plain
+mod Ids
 mod IndexBytes
+mod Listed
+mod Numbered
+mod Ordered
+mod Passed
+mod Places
+mod Refused
+mod VolumeNames
+mod Written

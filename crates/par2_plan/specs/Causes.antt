@@ -1,45 +1,70 @@
--- The causes by which a create of one input without recovery slices is refused, in order.
-use Rattle.std.specs.Prelude.{ℕ, ◌==◌, ◌&&◌, nat_lt, false, not, List, [], ◌∷◌, length, map, flat_map, Option}
-use Rattle.par2_spec.specs.Faults.{first_fault, fault_where}
-use Rattle.par2_spec.specs.Names.{is_name, is_par_name}
+-- The causes by which a create is refused, in groups and in order.
+use Rattle.std.specs.Prelude.{ℕ, ◌==◌, ◌&&◌, nat_lt, Bool, not, List, [], ◌∷◌, length, take, map, sum_by, Option}
+use Rattle.std.specs.List.{list_any, enumerate_from}
+use Rattle.par2_spec.specs.Faults.{first_fault, fault_where, fault_at}
+use Rattle.par2_spec.specs.Names.{is_name, is_par_name, is_among, distinct}
 use Rattle.par2_spec.specs.Slices.{slice_count}
-use Rattle.par2_spec.specs.Folders.{Folder, File, has, bytes_of}
-use Rattle.par2_spec.specs.Packets.{packet}
-use Rattle.par2_spec.specs.Volumes.{index_packets, record_of, in_id_order}
-use Rattle.par2_spec.specs.Changes.{Change, Write}
+use Rattle.par2_spec.specs.Folders.{Folder, has}
+use Rattle.par2_spec.specs.Volumes.{id_of}
 use Rattle.par2_spec.specs.Sets.{is_slice_size}
-use Rattle.par2_spec.specs.Commands.{CreateArgs}
-use Rattle.par2_spec.specs.Refusals.{is_input_name}
+use Rattle.par2_spec.specs.Commands.{CreateArgs, files_of}
+use Rattle.par2_spec.specs.Refusals.{are_counts, is_input_name}
+use Rattle.par2_plan.specs.Outputs.{output_names}
 use Rattle.par2_spec.specs.declared.Fault.{Fault}
-use Rattle.par2_spec.specs.declared.Fault.TheVariants.{BadSliceSize, BadBase, BadName, NoSuchFile, EmptyFile, TooManySlices, Exists}
+use Rattle.par2_spec.specs.declared.Fault.TheVariants.{BadSliceSize, BadCount, BadBase, NoInput, BadName, DuplicateInput, NoSuchFile, EmptyFile, TooManySlices, DuplicateId, NameTooLong, Exists}
 
--- those of the words alone
-unfoldable pub words_fault : ℕ → List ℕ → List ℕ → Option Fault
-words_fault size base input = first_fault (
-    fault_where (not (is_slice_size size)) BadSliceSize
-    ∷ fault_where (not (is_name base && is_par_name base)) BadBase
-    ∷ fault_where (not (is_input_name input)) (BadName 1)
+-- those of the numbers, of the base, and of the count of inputs
+unfoldable pub head_fault : CreateArgs → Option Fault
+head_fault a = first_fault (
+    fault_where (not (is_slice_size a.slice_size)) BadSliceSize
+    ∷ fault_where (not (are_counts a.first a.count)) BadCount
+    ∷ fault_where (not (is_name a.base && is_par_name a.base)) BadBase
+    ∷ fault_where (length a.inputs == 0) NoInput
     ∷ [])
 
--- those of the folder
-unfoldable pub folder_fault : Folder → ℕ → List ℕ → List ℕ → Option Fault
-folder_fault folder size base input = first_fault (
-    fault_where (not (has folder input)) (NoSuchFile 1)
-    ∷ fault_where (length (bytes_of folder input) == 0) (EmptyFile 1)
-    ∷ fault_where (nat_lt 32768 (slice_count size (length (bytes_of folder input)))) TooManySlices
-    ∷ fault_where (has folder base) Exists
+-- the inputs that can't be names of inputs
+abbrev pub bad_name : List (List ℕ) → Option Fault
+bad_name inputs = fault_at 1 BadName (λ word. not (is_input_name word)) inputs
+
+-- the inputs that were given before
+abbrev pub duplicate_input : List (List ℕ) → Option Fault
+duplicate_input inputs = fault_at 1 DuplicateInput (λ z. is_among (take z.0 inputs) z.1) (enumerate_from 0 inputs)
+
+-- those of the files that the inputs name
+unfoldable pub files_fault : Folder → ℕ → List (List ℕ) → Option Fault
+files_fault folder size inputs =
+    let files = files_of folder inputs in
+    first_fault (
+    fault_at 1 NoSuchFile (λ word. not (has folder word)) inputs
+    ∷ fault_at 1 EmptyFile (λ file. length file.1 == 0) files
+    ∷ fault_where (nat_lt 32768 (sum_by (λ file. slice_count size (length file.1)) files)) TooManySlices
     ∷ [])
+
+-- that of their File IDs
+unfoldable pub ids_fault : Folder → List (List ℕ) → Option Fault
+ids_fault folder inputs =
+    let files = files_of folder inputs in
+    fault_where (not (length (distinct (map id_of files)) == length files)) DuplicateId
+
+-- all those of the inputs
+unfoldable pub inputs_fault : Folder → ℕ → List (List ℕ) → Option Fault
+unfolding files_fault ids_fault
+inputs_fault folder size inputs = first_fault (bad_name inputs ∷ duplicate_input inputs ∷ files_fault folder size inputs ∷ ids_fault folder inputs ∷ [])
+
+-- a name that is too long
+abbrev pub long_name : List (List ℕ) → Option Fault
+long_name names = fault_where (list_any (λ name. nat_lt 255 (length name)) names) NameTooLong
+
+-- a file that would be replaced and may not be
+abbrev pub there_already : Folder → Bool → List (List ℕ) → Option Fault
+there_already folder overwrite names = fault_where (not overwrite && list_any (has folder) names) Exists
 
 -- all of them
-abbrev pub plain_fault : Folder → ℕ → List ℕ → List ℕ → Option Fault
-plain_fault folder size base input = first_fault (words_fault size base input ∷ folder_fault folder size base input ∷ [])
-
--- the words of such a create
-abbrev pub plain_args : ℕ → List ℕ → List ℕ → CreateArgs
-plain_args size base input = record { base = base; slice_size = size; count = 0; first = 0; overwrite = false; inputs = input ∷ [] }
-
--- the one change of such a create: the index is written
-abbrev pub index_written : Folder → ℕ → List ℕ → List ℕ → List Change
-index_written folder size base input =
-    let file : File = (input, bytes_of folder input) in
-    Write base (flat_map packet (index_packets size (map (record_of size) (in_id_order (file ∷ []))))) ∷ []
+unfoldable pub create_fault : Folder → CreateArgs → Option Fault
+unfolding head_fault inputs_fault
+create_fault folder a = first_fault (
+    head_fault a
+    ∷ inputs_fault folder a.slice_size a.inputs
+    ∷ long_name (output_names a)
+    ∷ there_already folder a.overwrite (output_names a)
+    ∷ [])

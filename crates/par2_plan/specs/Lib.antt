@@ -1,2 +1,3 @@
 pub mod Plain
 pub mod Causes
+pub mod Outputs

@@ -1,4 +1,4 @@
--- The creates that are built so far: one input, no recovery slices, nothing replaced.
+-- The creates that a session performs so far: one input, no recovery slices, nothing replaced.
 use Rattle.std.specs.Prelude.{◌≡◌, false, length}
 use Rattle.par2_spec.specs.Commands.{CreateArgs}
 

@@ -4,6 +4,9 @@
 mod changes;
 mod create;
 mod index;
+mod inputs;
+mod names;
+mod outputs;
 mod words;
 
 pub use changes::Changes;

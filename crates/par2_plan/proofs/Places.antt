@@ -1,0 +1,88 @@
+-- The first place whose item passes a test.
+use Rattle.std.proofs.Common.{◌≡◌, ℕ, ◌+◌, ◌<◌, List, [], ◌∷◌, length, map, get_or, take, refl, sym, ap, ap₂, ◌∙◌, Bool, true, false, not, cond, Option, Some, None, nat_lt, arith}
+use Rattle.std.specs.Prelude.{position, option_map, sum_by, ◌==◌}
+use Rattle.std.specs.List.{position_or_len, enumerate_from}
+use Rattle.std.proofs.lemmas.Bool.{lt-ltb, le-ltb}
+use Rattle.std.proofs.lemmas.List.{length-map}
+use Rattle.std.proofs.lemmas.List.Sums.{position_or_len_is}
+use Rattle.std.proofs.lemmas.List.FromFn.{get_or-enumerate_from, length-enumerate_from}
+use Rattle.par2_spec.specs.Faults.{first_fault, fault_where}
+use Rattle.par2_spec.specs.Names.{is_among}
+use Rattle.par2_spec.specs.Slices.{slice_count}
+use Rattle.par2_spec.specs.Folders.{Folder, File, has, bytes_of}
+use Rattle.par2_spec.specs.Commands.{files_of}
+use Rattle.par2_spec.specs.declared.Fault.TheVariants.{NoSuchFile, EmptyFile, TooManySlices}
+use Rattle.par2_plan.specs.Causes.{files_fault}
+
+pub found_at : {X : Type 0} (p : X → Bool) (xs : List X) (i : ℕ) (d : X) → i < length xs → ((k : ℕ) → k < i → p (get_or xs k d) ≡ false) → p (get_or xs i d) ≡ true → position p xs ≡ Some i
+found_at p xs i d low none here =
+    let e : position_or_len p xs ≡ i = position_or_len_is p xs i d (omega arith) none (λ _. here) in
+    ap (λ n. cond (nat_lt n (length xs)) (Some n) None) e ∙ ap (λ b. cond b (Some i) None) (lt-ltb i (length xs) low)
+
+pub found_nowhere : {X : Type 0} (p : X → Bool) (xs : List X) (d : X) → ((k : ℕ) → k < length xs → p (get_or xs k d) ≡ false) → position p xs ≡ None
+found_nowhere p xs d none =
+    let e : position_or_len p xs ≡ length xs = position_or_len_is p xs (length xs) d (omega arith) none (λ h. absurd (omega (arith, h))) in
+    ap (λ n. cond (nat_lt n (length xs)) (Some n) None) e ∙ ap (λ b. cond b (Some (length xs)) None) (le-ltb (length xs) (length xs) (omega arith))
+
+len-map : {X Y : Type 0} (p : Y → Bool) (g : X → Y) (xs : List X) → position_or_len p (map g xs) ≡ position_or_len (λ x. p (g x)) xs
+len-map p g [] = refl
+len-map p g (x ∷ xs) = ap (λ n. cond (not (p (g x))) (1 + n) 0) (len-map p g xs)
+
+pub position-map : {X Y : Type 0} (p : Y → Bool) (g : X → Y) (xs : List X) → position p (map g xs) ≡ position (λ x. p (g x)) xs
+position-map p g xs = ap₂ (λ a b. cond (nat_lt a b) (Some a) None) (len-map p g xs) (length-map xs g)
+
+-- ---- the first name that was there before
+
+-- whether name k is among those before it
+abbrev pub comes_again : List (List ℕ) → ℕ → Bool
+comes_again names k = is_among (take k names) (get_or names k [])
+
+again_at : (names : List (List ℕ)) (k : ℕ) → k < length names → (λ (z : ℕ × List ℕ). is_among (take z.0 names) z.1) (get_or (enumerate_from 0 names) k (0, [])) ≡ comes_again names k
+again_at names k low = ap (λ (z : ℕ × List ℕ). is_among (take z.0 names) z.1) (get_or-enumerate_from 0 names k (0, []) low) ∙ ap (λ n. is_among (take n names) (get_or names k [])) (let e : 0 + k ≡ k = omega arith in e)
+
+pub again_found : (names : List (List ℕ)) (i : ℕ) → i < length names → ((k : ℕ) → k < i → comes_again names k ≡ false) → comes_again names i ≡ true
+    → position (λ (z : ℕ × List ℕ). is_among (take z.0 names) z.1) (enumerate_from 0 names) ≡ Some i
+again_found names i low none here =
+    let size : length (enumerate_from 0 names) ≡ length names = length-enumerate_from 0 names in
+    found_at _ (enumerate_from 0 names) i (0, []) (omega (arith, size, low)) (λ k h. again_at names k (omega (arith, h, low)) ∙ none k h) (again_at names i low ∙ here)
+
+pub again_nowhere : (names : List (List ℕ)) → ((k : ℕ) → k < length names → comes_again names k ≡ false)
+    → position (λ (z : ℕ × List ℕ). is_among (take z.0 names) z.1) (enumerate_from 0 names) ≡ None
+again_nowhere names none =
+    let size : length (enumerate_from 0 names) ≡ length names = length-enumerate_from 0 names in
+    found_nowhere _ (enumerate_from 0 names) (0, []) (λ k h. let low : k < length names = omega (arith, size, h) in again_at names k low ∙ none k low)
+
+-- ---- what is wrong with files, by the first places
+
+module _ (folder : Folder) (size : ℕ) (names : List (List ℕ)) where
+  abbrev no_such : Option ℕ
+  no_such = position (λ name. not (has folder name)) names
+
+  abbrev no_bytes : Option ℕ
+  no_bytes = position (λ name. length (bytes_of folder name) == 0) names
+
+  abbrev too_many : Bool
+  too_many = nat_lt 32768 (sum_by (λ (file : File). slice_count size (length file.1)) (files_of folder names))
+
+  by_places : files_fault folder size names ≡ first_fault (option_map (λ k. NoSuchFile (1 + k)) no_such ∷ option_map (λ k. EmptyFile (1 + k)) no_bytes ∷ fault_where too_many TooManySlices ∷ [])
+  unfolding files_fault
+  by_places =
+      ap (λ o. first_fault (option_map (λ k. NoSuchFile (1 + k)) no_such ∷ option_map (λ k. EmptyFile (1 + k)) o ∷ fault_where too_many TooManySlices ∷ []))
+      (position-map (λ (file : File). length file.1 == 0) (λ name. (name, bytes_of folder name)) names)
+
+  pub empty_found : (k : ℕ) → None ≡ no_such → Some k ≡ no_bytes → Some (EmptyFile (k + 1)) ≡ files_fault folder size names
+  empty_found k there empty =
+      ap (λ n. Some (EmptyFile n)) (let e : k + 1 ≡ 1 + k = omega arith in e)
+      ∙ ap₂ (λ x y. first_fault (option_map (λ k. NoSuchFile (1 + k)) x ∷ option_map (λ k. EmptyFile (1 + k)) y ∷ fault_where too_many TooManySlices ∷ [])) there empty
+      ∙ sym by_places
+
+  pub slices_tested : (b : Bool) → None ≡ no_such → None ≡ no_bytes → b ≡ too_many → fault_where b TooManySlices ≡ files_fault folder size names
+  slices_tested b there filled many =
+      last b
+      ∙ ap₂ (λ x y. first_fault (option_map (λ k. NoSuchFile (1 + k)) x ∷ option_map (λ k. EmptyFile (1 + k)) y ∷ fault_where b TooManySlices ∷ [])) there filled
+      ∙ ap (λ t. first_fault (option_map (λ k. NoSuchFile (1 + k)) no_such ∷ option_map (λ k. EmptyFile (1 + k)) no_bytes ∷ fault_where t TooManySlices ∷ [])) many
+      ∙ sym by_places
+    where
+      last : (t : Bool) → fault_where t TooManySlices ≡ first_fault (None ∷ None ∷ fault_where t TooManySlices ∷ [])
+      last true = refl
+      last false = refl

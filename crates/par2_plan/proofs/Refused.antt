@@ -1,0 +1,118 @@
+-- The refusal of a create, by its groups of causes.
+use Rattle.std.proofs.Common.{◌≡◌, ℕ, List, [], ◌∷◌, ◌++◌, length, map, refl, sym, ap, ◌∙◌, Bool, true, not, ◌&&◌, Option, Some, None, nat_lt}
+use Rattle.std.specs.Prelude.{◌==◌, sum_by}
+use Rattle.std.specs.List.{list_any}
+use Rattle.std.proofs.lemmas.Simd.{map-map}
+use Rattle.par2_spec.specs.Faults.{first_fault, fault_where, fault_at}
+use Rattle.par2_spec.specs.Names.{is_name, is_par_name}
+use Rattle.par2_spec.specs.Slices.{slice_count}
+use Rattle.par2_spec.specs.Folders.{Folder, File, has}
+use Rattle.par2_spec.specs.Sets.{is_slice_size}
+use Rattle.par2_spec.specs.Volumes.{volume_numbers}
+use Rattle.par2_spec.specs.Commands.{CreateArgs, Create, files_of, outputs_of}
+use Rattle.par2_spec.specs.Refusals.{create_refusal, are_counts, refusal, after}
+use Rattle.par2_spec.specs.Changes.{Change, effects, are_applicable}
+use Rattle.par2_spec.specs.Plans.{changes_of, create_changes}
+use Rattle.par2_spec.proofs.ListsLaws.{any-map}
+use Rattle.par2_spec.proofs.CreateLaws.{names_of_outputs, create_applies}
+use Rattle.par2_spec.proofs.CommandLaws.{create_leads}
+use Rattle.par2_spec.specs.declared.Fault.{Fault}
+use Rattle.par2_spec.specs.declared.Fault.TheVariants.{BadSliceSize, BadCount, BadBase, NoInput, NoSuchFile, EmptyFile, TooManySlices}
+use Rattle.par2_plan.specs.Causes.{head_fault, bad_name, duplicate_input, files_fault, ids_fault, inputs_fault, long_name, there_already, create_fault}
+use Rattle.par2_plan.specs.Outputs.{volume_at, volumes_of, names_of, output_names}
+use Rattle.par2_plan.proofs.Numbered.{long_without_base}
+use Rattle.par2_plan.proofs.Passed.{head_passed}
+
+-- the first of all is the first of the first ones, or else of the rest
+pub first-append : {F : Type 0} (xs ys : List (Option F)) → first_fault (xs ++ ys) ≡ first_fault (first_fault xs ∷ ys)
+first-append [] ys = refl
+first-append (None ∷ xs) ys = first-append xs ys
+first-append (Some fault ∷ xs) ys = refl
+
+pub behind : {F : Type 0} (x : Option F) (xs ys : List (Option F)) → first_fault xs ≡ first_fault ys → first_fault (x ∷ xs) ≡ first_fault (x ∷ ys)
+behind None xs ys e = e
+behind (Some fault) xs ys e = refl
+
+-- the names of the outputs
+pub names_are : (folder : Folder) (a : CreateArgs) → map (λ file. file.0) (outputs_of folder a) ≡ output_names a
+names_are folder a =
+    names_of_outputs a.base a.slice_size a.first a.count (files_of folder a.inputs)
+    ∙ ap (λ names. a.base ∷ names) (sym (map-map _ (volume_at a.base a.first a.count) (volume_numbers a.count)))
+
+any_output : (folder : Folder) (a : CreateArgs) (test : List ℕ → Bool) → list_any (λ file. test file.0) (outputs_of folder a) ≡ list_any test (output_names a)
+any_output folder a test = sym (any-map test (λ (file : File). file.0) (outputs_of folder a)) ∙ ap (list_any test) (names_are folder a)
+
+-- tests in three groups, the second of which has a group of its own
+grouped : {F : Type 0} (heads files : List (Option F)) (bad again ids long there : Option F)
+    → first_fault (heads ++ (bad ∷ again ∷ (files ++ (ids ∷ long ∷ there ∷ []))))
+    ≡ first_fault (first_fault heads ∷ first_fault (bad ∷ again ∷ first_fault files ∷ ids ∷ []) ∷ long ∷ there ∷ [])
+grouped heads files bad again ids long there =
+    first-append heads (bad ∷ again ∷ (files ++ (ids ∷ long ∷ there ∷ [])))
+    ∙ behind (first_fault heads) _ _ (
+    behind bad _ _ (behind again _ _ (first-append files (ids ∷ long ∷ there ∷ [])))
+    ∙ first-append (bad ∷ again ∷ first_fault files ∷ ids ∷ []) (long ∷ there ∷ []))
+
+pub create_causes : (folder : Folder) (a : CreateArgs) → create_refusal folder a ≡ create_fault folder a
+unfolding create_refusal head_fault inputs_fault files_fault ids_fault create_fault
+create_causes folder a =
+    let files = files_of folder a.inputs in
+    rw (any_output folder a (λ name. nat_lt 255 (length name)), any_output folder a (has folder))
+    (grouped
+    (fault_where (not (is_slice_size a.slice_size)) BadSliceSize
+    ∷ fault_where (not (are_counts a.first a.count)) BadCount
+    ∷ fault_where (not (is_name a.base && is_par_name a.base)) BadBase
+    ∷ fault_where (length a.inputs == 0) NoInput
+    ∷ [])
+    (fault_at 1 NoSuchFile (λ word. not (has folder word)) a.inputs
+    ∷ fault_at 1 EmptyFile (λ (file : File). length file.1 == 0) files
+    ∷ fault_where (nat_lt 32768 (sum_by (λ (file : File). slice_count a.slice_size (length file.1)) files)) TooManySlices
+    ∷ [])
+    (bad_name a.inputs) (duplicate_input a.inputs) (ids_fault folder a.inputs) (long_name (output_names a)) (there_already folder a.overwrite (output_names a)))
+
+-- ---- by groups
+
+module _ (folder : Folder) (a : CreateArgs) where
+  by_causes : refusal folder (Create a) ≡ create_fault folder a
+  unfolding refusal
+  by_causes = create_causes folder a
+
+  pub refused_by_head : (fault : Fault) → head_fault a ≡ Some fault → refusal folder (Create a) ≡ Some fault
+  unfolding create_fault
+  refused_by_head fault h = by_causes ∙ ap (λ f. first_fault (f ∷ inputs_fault folder a.slice_size a.inputs ∷ long_name (output_names a) ∷ there_already folder a.overwrite (output_names a) ∷ [])) h
+
+  module _ (head : head_fault a ≡ None) where
+    past_head : refusal folder (Create a) ≡ first_fault (inputs_fault folder a.slice_size a.inputs ∷ long_name (output_names a) ∷ there_already folder a.overwrite (output_names a) ∷ [])
+    unfolding create_fault
+    past_head = by_causes ∙ ap (λ f. first_fault (f ∷ inputs_fault folder a.slice_size a.inputs ∷ long_name (output_names a) ∷ there_already folder a.overwrite (output_names a) ∷ [])) head
+
+    pub refused_by_inputs : (fault : Fault) → inputs_fault folder a.slice_size a.inputs ≡ Some fault → refusal folder (Create a) ≡ Some fault
+    refused_by_inputs fault h = past_head ∙ ap (λ f. first_fault (f ∷ long_name (output_names a) ∷ there_already folder a.overwrite (output_names a) ∷ [])) h
+
+    module _ (inputs : inputs_fault folder a.slice_size a.inputs ≡ None) where
+      past_inputs : refusal folder (Create a) ≡ first_fault (long_name (names_of (volumes_of a.base a.first a.count)) ∷ there_already folder a.overwrite (output_names a) ∷ [])
+      past_inputs =
+          past_head ∙ ap (λ f. first_fault (f ∷ long_name (output_names a) ∷ there_already folder a.overwrite (output_names a) ∷ [])) inputs
+          ∙ ap (λ f. first_fault (f ∷ there_already folder a.overwrite (output_names a) ∷ [])) (long_without_base a.base (names_of (volumes_of a.base a.first a.count)) (head_passed a head).name)
+
+      pub refused_by_length : (fault : Fault) → long_name (names_of (volumes_of a.base a.first a.count)) ≡ Some fault → refusal folder (Create a) ≡ Some fault
+      refused_by_length fault h = past_inputs ∙ ap (λ f. first_fault (f ∷ there_already folder a.overwrite (output_names a) ∷ [])) h
+
+      pub refused_by_there : (fault : Fault) → long_name (names_of (volumes_of a.base a.first a.count)) ≡ None → there_already folder a.overwrite (output_names a) ≡ Some fault → refusal folder (Create a) ≡ Some fault
+      refused_by_there fault short h = past_inputs ∙ ap (λ f. first_fault (f ∷ there_already folder a.overwrite (output_names a) ∷ [])) short ∙ ap (λ f. first_fault (f ∷ [])) h
+
+      pub not_refused : long_name (names_of (volumes_of a.base a.first a.count)) ≡ None → there_already folder a.overwrite (output_names a) ≡ None → refusal folder (Create a) ≡ None
+      not_refused short h = past_inputs ∙ ap (λ f. first_fault (f ∷ there_already folder a.overwrite (output_names a) ∷ [])) short ∙ ap (λ f. first_fault (f ∷ [])) h
+
+  -- ---- and its changes
+
+  module _ (changes : List Change) (are : changes ≡ create_changes folder a) where
+    pub are_planned : changes ≡ changes_of folder (Create a)
+    unfolding changes_of
+    are_planned = are
+
+    pub apply_in_order : are_applicable folder changes ≡ true
+    apply_in_order = ap (are_applicable folder) are ∙ create_applies folder a
+
+    pub lead_to_folder : effects folder changes ≡ after folder (Create a)
+    unfolding after
+    lead_to_folder = ap (effects folder) are ∙ create_leads folder a

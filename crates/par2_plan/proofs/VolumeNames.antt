@@ -1,0 +1,112 @@
+-- The name of a volume is a name, where it has at most 255 bytes.
+use Rattle.std.proofs.Common.{◌≡◌, ℕ, ◌+◌, ◌-◌, ◌/◌, ◌%◌, ◌^◌, ◌<◌, ◌≤◌, List, [], ◌∷◌, ◌++◌, length, take, drop, refl, sym, ap, ◌∙◌, subst, Bool, true, false, not, eqb, arith, length-append}
+use Rattle.std.specs.Prelude.{codes, nat_eq, ◌==◌}
+use Rattle.std.specs.List.{list_any, starts_with}
+use Rattle.std.specs.Str.{bytes_eq, is_utf8}
+use Rattle.std.proofs.lemmas.Bool.{and_parts, and_from, or_from, or_parts, false_from_ne_true, not_from_false, ne_eqb, le-leb}
+use Rattle.std.proofs.lemmas.List.{append_assoc, take-append-drop}
+use Rattle.std.proofs.lemmas.List.Folds.{list_any-append}
+use Rattle.par2_spec.specs.Names.{is_name}
+use Rattle.par2_spec.specs.Volumes.{five_digits, stem, volume_name}
+use Rattle.par2_spec.proofs.NamesLaws.{clash, other_name, false_from_not}
+use Rattle.par2_spec.proofs.AsideLaws.{is_dotless}
+
+-- what follows the stem
+abbrev rest_of : ℕ → ℕ → List ℕ
+rest_of x n = codes ".vol" ++ (five_digits x ++ (codes "+" ++ (five_digits n ++ codes ".par2")))
+
+name_is : (base : List ℕ) (x n : ℕ) → volume_name base x n ≡ stem base ++ rest_of x n
+name_is base x n =
+    append_assoc (stem base ++ codes ".vol" ++ five_digits x ++ codes "+") (five_digits n) (codes ".par2")
+    ∙ append_assoc (stem base ++ codes ".vol" ++ five_digits x) (codes "+") (five_digits n ++ codes ".par2")
+    ∙ append_assoc (stem base ++ codes ".vol") (five_digits x) (codes "+" ++ (five_digits n ++ codes ".par2"))
+    ∙ append_assoc (stem base) (codes ".vol") (five_digits x ++ (codes "+" ++ (five_digits n ++ codes ".par2")))
+
+-- a byte below the digits is none of them
+no_digit : (low d : ℕ) → low < 48 → ((48 + d) == low) ≡ false
+no_digit low d h = ne_eqb (48 + d) low (λ e. absurd (omega (arith, e, h)))
+
+no_digits : (low n : ℕ) → low < 48 → list_any (λ b. b == low) (five_digits n) ≡ false
+no_digits low n h =
+    or_from _ _ (no_digit low (n / 10 ^ 4 % 10) h)
+    (or_from _ _ (no_digit low (n / 10 ^ 3 % 10) h)
+    (or_from _ _ (no_digit low (n / 10 ^ 2 % 10) h)
+    (or_from _ _ (no_digit low (n / 10 ^ 1 % 10) h)
+    (or_from _ _ (no_digit low (n / 10 ^ 0 % 10) h) refl))))
+
+not_in_rest : (low x n : ℕ) → low < 48 → list_any (λ b. b == low) (codes ".vol") ≡ false → list_any (λ b. b == low) (codes "+") ≡ false → list_any (λ b. b == low) (codes ".par2") ≡ false
+    → list_any (λ b. b == low) (rest_of x n) ≡ false
+not_in_rest low x n h vol plus par =
+    let test = λ (b : ℕ). b == low in
+    list_any-append test (codes ".vol") (five_digits x ++ (codes "+" ++ (five_digits n ++ codes ".par2"))) ∙ or_from _ _ vol
+    (list_any-append test (five_digits x) (codes "+" ++ (five_digits n ++ codes ".par2")) ∙ or_from _ _ (no_digits low x h)
+    (list_any-append test (codes "+") (five_digits n ++ codes ".par2") ∙ or_from _ _ plus
+    (list_any-append test (five_digits n) (codes ".par2") ∙ or_from _ _ (no_digits low n h) par)))
+
+not_in_front : (test : ℕ → Bool) (k : ℕ) (xs : List ℕ) → list_any test xs ≡ false → list_any test (take k xs) ≡ false
+not_in_front test k xs h =
+    (or_parts (list_any test (take k xs)) (list_any test (drop k xs)) (sym (list_any-append test (take k xs) (drop k xs)) ∙ ap (list_any test) (take-append-drop k xs) ∙ h)).0
+
+not_in_name : (low : ℕ) (base : List ℕ) (x n : ℕ) → list_any (λ b. b == low) base ≡ false → list_any (λ b. b == low) (rest_of x n) ≡ false → list_any (λ b. b == low) (volume_name base x n) ≡ false
+not_in_name low base x n h k =
+    ap (list_any (λ b. b == low)) (name_is base x n) ∙ list_any-append (λ b. b == low) (stem base) (rest_of x n)
+    ∙ or_from _ _ (not_in_front (λ b. b == low) (length base - 5) base h) k
+
+-- what is dotless and stands at the front of a text with a dot behind it stands at the front of the text
+front_before_dot : (front text rest : List ℕ) → is_dotless front ≡ true → starts_with nat_eq (text ++ 46 ∷ rest) front ≡ true → starts_with nat_eq text front ≡ true
+front_before_dot [] text rest h k = refl
+front_before_dot (b ∷ front) [] rest h k =
+    absurd (clash (and_parts (eqb b 46) _ k).0 (false_from_not (b == 46) (and_parts (not (b == 46)) _ h).0))
+front_before_dot (b ∷ front) (c ∷ text) rest h k =
+    let r = and_parts (eqb b c) (starts_with nat_eq (text ++ 46 ∷ rest) front) k in
+    and_from _ _ r.0 (front_before_dot front text rest (and_parts (not (b == 46)) _ h).1 r.1)
+
+-- what stands at the front of a text stands at the front of a longer one
+front_of_longer : (front text more : List ℕ) → starts_with nat_eq text front ≡ true → starts_with nat_eq (text ++ more) front ≡ true
+front_of_longer [] text more k = refl
+front_of_longer (b ∷ front) [] more k = absurd (clash k refl)
+front_of_longer (b ∷ front) (c ∷ text) more k =
+    let r = and_parts (eqb b c) (starts_with nat_eq text front) k in
+    and_from _ _ r.0 (front_of_longer front text more r.1)
+
+-- the stem of a volume that began as the files of the history do would begin so itself
+stem_begins : (st rest : List ℕ) → starts_with nat_eq (st ++ (codes ".vol" ++ rest)) (codes ".par2undo") ≡ true → starts_with nat_eq st (codes ".par2undo") ≡ true
+stem_begins [] rest k = absurd (clash k refl)
+stem_begins (c ∷ st) rest k =
+    let r = and_parts (eqb 46 c) (starts_with nat_eq (st ++ (codes ".vol" ++ rest)) (codes "par2undo")) k in
+    and_from _ _ r.0 (front_before_dot (codes "par2undo") st (codes "vol" ++ rest) refl r.1)
+
+not_undo : (base : List ℕ) (x n : ℕ) → starts_with nat_eq base (codes ".par2undo") ≡ false → starts_with nat_eq (volume_name base x n) (codes ".par2undo") ≡ false
+not_undo base x n h = false_from_ne_true _ (λ k.
+    let front : starts_with nat_eq (stem base) (codes ".par2undo") ≡ true = stem_begins (stem base) (five_digits x ++ (codes "+" ++ (five_digits n ++ codes ".par2")))
+    (subst (λ text. starts_with nat_eq text (codes ".par2undo") ≡ true) (name_is base x n) k) in
+    let whole : starts_with nat_eq (stem base ++ drop (length base - 5) base) (codes ".par2undo") ≡ true = front_of_longer (codes ".par2undo") (stem base) (drop (length base - 5) base) front in
+    clash (subst (λ text. starts_with nat_eq text (codes ".par2undo") ≡ true) (take-append-drop (length base - 5) base) whole) h)
+
+longer : (name other : List ℕ) → length other < length name → bytes_eq name other ≡ false
+longer name other h = other_name name other (λ e. let same : length name ≡ length other = ap length e in absurd (omega (arith, same, h)))
+
+long_enough : (base : List ℕ) (x n : ℕ) → 20 ≤ length (volume_name base x n)
+long_enough base x n =
+    let size : length (volume_name base x n) ≡ length (stem base) + 20 = ap length (name_is base x n) ∙ length-append (stem base) (rest_of x n) in
+    omega (arith, size)
+
+pub volume_is_name : (base : List ℕ) (x n : ℕ) → is_name base ≡ true → is_utf8 (volume_name base x n) ≡ true → length (volume_name base x n) ≤ 255 → is_name (volume_name base x n) ≡ true
+unfolding is_name
+volume_is_name base x n h text short =
+    let a = and_parts _ (not (starts_with nat_eq base (codes ".par2undo"))) h in
+    let b = and_parts _ (not (bytes_eq base (codes ".."))) a.0 in
+    let c = and_parts _ (not (bytes_eq base (codes "."))) b.0 in
+    let d = and_parts _ (not (list_any (λ z. z == 0) base)) c.0 in
+    let e = and_parts _ (not (list_any (λ z. z == 0x2F) base)) d.0 in
+    let name = volume_name base x n in
+    let long : 20 ≤ length name = long_enough base x n in
+    and_from _ _ (and_from _ _ (and_from _ _ (and_from _ _ (and_from _ _ (and_from _ _ (and_from _ _
+    (le-leb 1 (length name) (omega (arith, long)))
+    (le-leb (length name) 255 short))
+    text)
+    (not_from_false _ (not_in_name 0x2F base x n (false_from_not _ e.1) (not_in_rest 0x2F x n (omega arith) refl refl refl))))
+    (not_from_false _ (not_in_name 0 base x n (false_from_not _ d.1) (not_in_rest 0 x n (omega arith) refl refl refl))))
+    (not_from_false _ (longer name (codes ".") (omega (arith, long)))))
+    (not_from_false _ (longer name (codes "..") (omega (arith, long)))))
+    (not_from_false _ (not_undo base x n (false_from_not _ a.1)))

@@ -1,0 +1,7 @@
+use Rattle.std.proofs.Common.{◌≡◌, ◌+◌, length, take, sum_by}
+use Rattle.par2_spec.specs.Slices.{slice_count}
+use Rattle.par2_spec.specs.Commands.{files_of}
+use Rattle.par2_plan.proofs.inputs.are_too_many.Given as goal
+
+abbrev pub invariant-loop-i : goal.invariant-loop-i
+invariant-loop-i l = l.left + sum_by (λ file. slice_count l.size (length file.1)) (files_of l.folder.files (take l.i l.names)) ≡ 32768

@@ -1,0 +1,10 @@
+use Rattle.std.proofs.Common.{◌≡◌, None}
+use Rattle.par2_plan.specs.Causes.{long_name}
+use Rattle.par2_plan.specs.Outputs.{names_of}
+use Rattle.par2_plan.proofs.Numbered.{volumes_below}
+use Rattle.par2_plan.proofs.names.volumes.Given as goal
+
+abbrev pub invariant-loop-i : goal.invariant-loop-i
+invariant-loop-i l =
+    (l.volumes.items ≡ volumes_below l.base l.first l.count l.i)
+    × (long_name (names_of (volumes_below l.base l.first l.count l.i)) ≡ None)

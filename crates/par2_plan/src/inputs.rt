@@ -1,0 +1,127 @@
+//! The files that the inputs name, and why they can't be taken.
+ghost use Rattle.std.specs.Prelude.{◌≡◌, ◌≤◌, ◌==◌, ◌⊎◌, nat_lt, not, length, map, take, sum_by, position, IsTrue, IfOk, IfErr, IfSome, Some, None, ◌<◌};
+ghost use Rattle.std.specs.List.{enumerate_from};
+ghost use Rattle.par2_spec.specs.Names.{is_among};
+ghost use Rattle.par2_spec.specs.Slices as spec;
+ghost use Rattle.par2_spec.specs.Folders.{has, bytes_of};
+ghost use Rattle.par2_spec.specs.Volumes.{record_of, in_id_order};
+ghost use Rattle.par2_spec.specs.Commands.{files_of};
+ghost use Rattle.par2_packets.specs.View.{file_record_of};
+ghost use Rattle.par2_recovery.specs.Views.{names_of};
+ghost use Rattle.par2_plan.specs.Causes.{duplicate_input, files_fault, ids_fault};
+
+use par2_folder::{Folder, Name};
+use par2_recovery::{RecordFault, SetRecord};
+use par2_slices::slice_count;
+use par2_spec::Fault;
+use std::alloc::Global;
+
+// How many input slices a set may have.
+const MOST_SLICES: u64 = 32768;
+
+// Whether the name is among these.
+fn is_among(names: &[Name], name: &Name) -> bool
+    ensures { result ≡ is_among names.now name.now }
+{
+    names.iter().any(|other| name == other)
+}
+
+// The first of the names that was there before.
+fn first_repeated(names: &[Name]) -> Option<usize>
+    ensures place { result ≡ position (λ z. is_among (take z.0 names.now) z.1) (enumerate_from 0 names.now) }
+    ensures fits { IfSome result (λ place. place < usize.MAX) }
+{
+    for i in 0..names.len() {
+        if is_among(&names[..i], &names[i]) {
+            return Some(i);
+        }
+    }
+    None
+}
+
+/// Which input was given before, if one was.
+pub fn duplicate_input(names: &[Name]) -> Option<Fault>
+    ensures { result ≡ duplicate_input names.now }
+{
+    let place = first_repeated(names)?;
+    Some(Fault::DuplicateInput(place + 1))
+}
+
+// The bytes of a file, none where it is absent.
+fn bytes_of<'a>(folder: &'a Folder, name: &Name) -> &'a [u8]
+    ensures { result.now ≡ bytes_of folder.now.files name.now }
+{
+    match folder.get(name) {
+        Some(bytes) => bytes,
+        None => &[],
+    }
+}
+
+// The first of the names that no file has.
+fn first_absent(folder: &Folder, names: &[Name]) -> Option<usize>
+    ensures place { result ≡ position (λ name. not (has folder.now.files name)) names.now }
+    ensures fits { IfSome result (λ place. place < usize.MAX) }
+{
+    names.iter().position(|name| folder.get(name).is_none())
+}
+
+// The first of the names whose file has no bytes.
+fn first_empty(folder: &Folder, names: &[Name]) -> Option<usize>
+    ensures place { result ≡ position (λ name. length (bytes_of folder.now.files name) == 0) names.now }
+    ensures fits { IfSome result (λ place. place < usize.MAX) }
+{
+    names
+        .iter()
+        .position(|name| bytes_of(folder, name).is_empty())
+}
+
+// Whether the files have more slices than a set may have.
+fn are_too_many(folder: &Folder, names: &[Name], size: u64) -> bool
+    requires { 1 ≤ size }
+    ensures { result ≡ nat_lt 32768 (sum_by (λ file. spec.slice_count size (length file.1)) (files_of folder.now.files names.now)) }
+{
+    let mut left = MOST_SLICES;
+    for i in 0..names.len() {
+        let count = slice_count(bytes_of(folder, &names[i]).len() as u64, size);
+        if count > left {
+            return true;
+        }
+        left -= count;
+    }
+    false
+}
+
+/// What is wrong with the files of these names.
+#[tactic(auto, unfolding(crate::specs::Causes::files_fault))]
+pub fn files_fault(folder: &Folder, names: &[Name], size: u64) -> Option<Fault>
+    requires { 1 ≤ size }
+    ensures { result ≡ files_fault folder.now.files size names.now }
+{
+    if let Some(place) = first_absent(folder, names) {
+        return Some(Fault::NoSuchFile(place + 1));
+    }
+    if let Some(place) = first_empty(folder, names) {
+        return Some(Fault::EmptyFile(place + 1));
+    }
+    if are_too_many(folder, names, size) {
+        return Some(Fault::TooManySlices);
+    }
+    None
+}
+
+/// What a set of this slice size says of the files of these names.
+#[tactic(auto, unfolding(crate::specs::Causes::ids_fault))]
+pub fn set_of(alloc: Global, folder: &Folder, names: &[Name], size: u64) -> Result<SetRecord, Fault>
+    requires { 1 ≤ size }
+    ensures refused { IfErr result (λ fault. (fault ≡ Fault.Memory) ⊎ (ids_fault folder.now.files names.now ≡ Some fault)) }
+    ensures accepted { IfOk result (λ _. ids_fault folder.now.files names.now ≡ None) }
+    ensures slice { IfOk result (λ set. set.slice ≡ size) }
+    ensures files { IfOk result (λ set. map file_record_of set.files.items ≡ map (record_of size) (in_id_order (files_of folder.now.files names.now))) }
+    ensures order { IfOk result (λ set. files_of folder.now.files (names_of set) ≡ in_id_order (files_of folder.now.files names.now)) }
+{
+    match SetRecord::of_files(alloc, folder, names, size) {
+        Ok(set) => Ok(set),
+        Err(RecordFault::DuplicateId) => Err(Fault::DuplicateId),
+        Err(RecordFault::Memory) => Err(Fault::Memory),
+    }
+}

@@ -1,0 +1,187 @@
+//! The names of the outputs of a create, and why they can't be taken.
+ghost use Rattle.std.specs.Prelude.{◌≡◌, ◌≤◌, ◌<◌, ◌+◌, ◌-◌, ◌++◌, ◌∷◌, ◌⊎◌, ◌&&◌, ◌||◌, [], length, map, string_bytes, IsTrue, IfOk, IfErr, OnOk, Some, None};
+ghost use Rattle.std.specs.List.{list_any};
+ghost use Rattle.par2_spec.specs.Names.{is_name, is_par_name};
+ghost use Rattle.par2_spec.specs.Folders.{has};
+ghost use Rattle.par2_spec.specs.Volumes as spec;
+ghost use Rattle.par2_plan.specs.Causes.{long_name, there_already};
+ghost use Rattle.par2_plan.specs.Outputs.{volume_at, volume_if, volumes_of, names_of};
+
+use par2_folder::{Folder, Name};
+use par2_spec::Fault;
+use std::alloc::{AllocError, Global};
+
+// How many volumes there are at most: the first 17 would hold 131,071 recovery slices.
+const MOST_VOLUMES: u32 = 17;
+
+/// A volume: its name, and the exponents of its recovery slices.
+#[derive(Debug, Drop)]
+pub struct Volume {
+    pub name: Name,
+    pub first: u32,
+    pub count: u32,
+}
+
+// How many recovery slices stand in the volumes before volume i.
+fn volumes_before(i: u32) -> u32
+    requires { i ≤ 17 }
+    ensures { result ≡ spec.volumes_before i }
+{
+    (1 << i) - 1
+}
+
+// How many of this many recovery slices volume i has.
+fn volume_size(count: u32, i: u32) -> u32
+    requires number { i ≤ 17 }
+    requires some { spec.volumes_before i ≤ count }
+    ensures { result ≡ spec.volume_size count i }
+{
+    (1u32 << i).min(count - volumes_before(i))
+}
+
+// Adds a number as five digits.
+fn push_five_digits(text: &mut String, n: u32) -> Result<(), AllocError>
+    ensures { OnOk result (string_bytes text.new ≡ string_bytes text.old ++ spec.five_digits n) }
+{
+    for power in [10000, 1000, 100, 10, 1] {
+        text.push(char::from(b'0' + (n / power % 10) as u8))?;
+    }
+    Ok(())
+}
+
+// The base without `.par2`.
+fn stem(base: &str) -> &str
+    requires { IsTrue (is_par_name base.now) }
+    ensures { result.now ≡ spec.stem base.now }
+{
+    &base[..base.len() - 5]
+}
+
+// The text of a volume's name.
+fn volume_text(alloc: Global, base: &str, first: u32, count: u32) -> Result<String, AllocError>
+    requires { IsTrue (is_par_name base.now) }
+    ensures { IfOk result (λ text. string_bytes text ≡ spec.volume_name base.now first count) }
+{
+    let mut text = String::from_str(alloc, stem(base))?;
+    text.push_str(".vol")?;
+    push_five_digits(&mut text, first)?;
+    text.push_str("+")?;
+    push_five_digits(&mut text, count)?;
+    text.push_str(".par2")?;
+    Ok(text)
+}
+
+// The name of a volume.
+fn volume_name(alloc: Global, base: &Name, first: u32, count: u32) -> Result<Name, Fault>
+    requires { IsTrue (is_par_name base.now) }
+    ensures refused { IfErr result (λ fault. (fault ≡ Fault.Memory) ⊎ ((fault ≡ Fault.NameTooLong) × (255 < length (spec.volume_name base.now first count)))) }
+    ensures accepted { IfOk result (λ _. length (spec.volume_name base.now first count) ≤ 255) }
+    ensures name { IfOk result (λ name. name ≡ spec.volume_name base.now first count) }
+{
+    let text = match volume_text(alloc, base.as_str(), first, count) {
+        Ok(text) => text,
+        Err(_) => return Err(Fault::Memory),
+    };
+    match Name::new(&text) {
+        Ok(name) => Ok(name),
+        Err(_) => Err(Fault::NameTooLong),
+    }
+}
+
+// Volume i of `count` recovery slices from exponent `first` on.
+fn volume_at(alloc: Global, base: &Name, first: u32, count: u32, i: u32) -> Result<Volume, Fault>
+    requires base { IsTrue (is_par_name base.now) }
+    requires exponents { first + count ≤ 65536 }
+    requires number { i ≤ 17 }
+    requires some { spec.volumes_before i < count }
+    ensures refused { IfErr result (λ fault. (fault ≡ Fault.Memory) ⊎ ((fault ≡ Fault.NameTooLong) × (255 < length (volume_at base.now first count i).name))) }
+    ensures accepted { IfOk result (λ volume. length volume.name ≤ 255) }
+    ensures volume { IfOk result (λ volume. volume ≡ volume_at base.now first count i) }
+{
+    let first = first + volumes_before(i);
+    let count = volume_size(count, i);
+    match volume_name(alloc, base, first, count) {
+        Ok(name) => Ok(Volume { name, first, count }),
+        Err(fault) => Err(fault),
+    }
+}
+
+// Adds volume i, where there is one.
+fn add_volume(
+    alloc: Global,
+    volumes: &mut Vec<Volume>,
+    base: &Name,
+    first: u32,
+    count: u32,
+    i: u32,
+) -> Result<(), Fault>
+    requires base { IsTrue (is_par_name base.now) }
+    requires exponents { first + count ≤ 65536 }
+    requires number { i ≤ 17 }
+    ensures refused { IfErr result (λ fault. (fault ≡ Fault.Memory) ⊎ (long_name (names_of (volume_if base.now first count i)) ≡ Some fault)) }
+    ensures accepted { OnOk result (long_name (names_of (volume_if base.now first count i)) ≡ None) }
+    ensures volumes { OnOk result (volumes.new.items ≡ volumes.old.items ++ volume_if base.now first count i) }
+{
+    if volumes_before(i) >= count {
+        return Ok(());
+    }
+    let volume = match volume_at(alloc, base, first, count, i) {
+        Ok(volume) => volume,
+        Err(fault) => return Err(fault),
+    };
+    match volumes.push(volume) {
+        Ok(()) => Ok(()),
+        Err(_) => Err(Fault::Memory),
+    }
+}
+
+/// The volumes of `count` recovery slices from exponent `first` on, in order.
+pub fn volumes(alloc: Global, base: &Name, first: u32, count: u32) -> Result<Vec<Volume>, Fault>
+    requires base { IsTrue (is_par_name base.now) }
+    requires exponents { first + count ≤ 65536 }
+    ensures refused { IfErr result (λ fault. (fault ≡ Fault.Memory) ⊎ (long_name (names_of (volumes_of base.now first count)) ≡ Some fault)) }
+    ensures accepted { IfOk result (λ _. long_name (names_of (volumes_of base.now first count)) ≡ None) }
+    ensures volumes { IfOk result (λ volumes. volumes.items ≡ volumes_of base.now first count) }
+{
+    let mut volumes = Vec::new(alloc);
+    for i in 0..MOST_VOLUMES {
+        match add_volume(alloc, &mut volumes, base, first, count, i) {
+            Ok(()) => {}
+            Err(fault) => return Err(fault),
+        }
+    }
+    Ok(volumes)
+}
+
+// Whether a volume is there already.
+fn is_volume_there(folder: &Folder, volumes: &[Volume]) -> bool
+    ensures { result ≡ list_any (λ volume. has folder.now.files volume.name) volumes.now }
+{
+    volumes
+        .iter()
+        .any(|volume| folder.get(&volume.name).is_some())
+}
+
+// Whether the index or a volume is there already.
+#[tactic(auto, using(crate::proofs::Numbered::any_named))]
+fn is_there(folder: &Folder, base: &Name, volumes: &[Volume]) -> bool
+    ensures { result ≡ list_any (has folder.now.files) (base.now ∷ names_of volumes.now) }
+{
+    folder.get(base).is_some() || is_volume_there(folder, volumes)
+}
+
+/// What is wrong where an output is there already: nothing, if it may be replaced.
+pub fn there_already(
+    folder: &Folder,
+    overwrite: bool,
+    base: &Name,
+    volumes: &[Volume],
+) -> Option<Fault>
+    ensures { result ≡ there_already folder.now.files overwrite (base.now ∷ names_of volumes.now) }
+{
+    if !overwrite && is_there(folder, base, volumes) {
+        Some(Fault::Exists)
+    } else {
+        None
+    }
+}
