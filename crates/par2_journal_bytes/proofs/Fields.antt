@@ -19,7 +19,7 @@ pub bytes-from_each : (bytes : List ℕ) → ((i : ℕ) → get_or bytes i 0 < 2
 bytes-from_each [] h = tt
 bytes-from_each (b ∷ bytes) h = (h 0, bytes-from_each bytes (λ i. h (suc i)))
 
-pub each_byte : (bytes : List ℕ) → IsBytes bytes → (i : ℕ) → get_or bytes i 0 < 256
+each_byte : (bytes : List ℕ) → IsBytes bytes → (i : ℕ) → get_or bytes i 0 < 256
 each_byte [] h i = omega arith
 each_byte (b ∷ bytes) h zero = h.0
 each_byte (b ∷ bytes) h (suc i) = each_byte bytes h.1 i

@@ -3,5 +3,4 @@ pub mod Fields
 pub mod Pieces
 pub mod Whole
 pub mod Decoded
-pub mod Collected
 pub mod NameTests

@@ -32,13 +32,6 @@ pub goes_on : {A : Type 0} (one : Reader A) (n : ℕ) (bytes : List ℕ) (front 
 goes_on one n bytes front i rest x after lt e so_far =
     sym (ap (behind front) (one_more one n i rest x after lt e) ∙ moved front x (many_at one (n - (i + 1)) after)) ∙ so_far
 
-pub starts : {A : Type 0} (one : Reader A) (n : ℕ) (bytes : List ℕ) → SoFar one n bytes [] 0 bytes
-starts one n bytes = let k : n - 0 ≡ n = omega arith in rw k (same (many_at one n bytes))
-  where
-    same : {B : Type 0} (read : Option (List B × List ℕ)) → behind [] read ≡ read
-    same (Some x) = refl
-    same None = refl
-
 pub stops : {A : Type 0} (one : Reader A) (n : ℕ) (bytes : List ℕ) (front : List A) (i : ℕ) (rest : List ℕ) (e : DecodeFault)
     → i < n → Fails e (one rest) → SoFar one n bytes front i rest → Fails e (many_at one n bytes)
 unfolding many_at

@@ -4,7 +4,7 @@ use Rattle.std.specs.Prelude.{flat_map, IsTrue, IfSome}
 use Rattle.std.specs.Int.{w64, to_le_bytes}
 use Rattle.std.specs.List.{concat}
 use Rattle.std.proofs.lemmas.Bool.{leb-true, le-leb}
-use Rattle.std.proofs.lemmas.Option.{same_Some, cond_some, none-some}
+use Rattle.std.proofs.lemmas.Option.{same_Some, cond_some}
 use Rattle.std.proofs.lemmas.List.Concat.{concat_is}
 use Rattle.par2_spec.specs.Names.{is_name}
 use Rattle.par2_spec.specs.Folders.{counted}
@@ -32,7 +32,7 @@ name_again : (name rest : List ℕ) → IsName name → name_at (name_bytes name
 unfolding name_at
 name_again name rest h = rw (block_again (length name) name rest refl, h) refl
 
-pub name_read : IsRead name_at name_bytes IsName
+name_read : IsRead name_at name_bytes IsName
 name_read = record { takes = name_takes; again = name_again }
 
 -- ---- bytes behind their number
@@ -54,7 +54,7 @@ counted_again text rest h =
     ∙ ap (λ (o : Option (ℕ × List ℕ)). o >>= λ n. block_at n.0 n.1) (number_again (length text) (text ++ rest) h)
     ∙ block_again (length text) text rest refl
 
-pub counted_read : IsRead counted_at counted IsFileBytes
+counted_read : IsRead counted_at counted IsFileBytes
 counted_read = record { takes = counted_takes; again = counted_again }
 
 -- ---- two values that follow each other
@@ -107,7 +107,7 @@ change_again (Replace name bytes) rest h = two_again name_at counted_at name_byt
 change_again (Rename from to) rest h = two_again name_at name_at name_bytes name_bytes IsName IsName name_read name_read Rename from to rest h.0 h.1
 change_again (Remove name) rest h = ap (λ (o : Option (List ℕ × List ℕ)). o >>= λ name. Some (Remove name.0, name.1)) (name_again name rest h)
 
-pub change_read : IsRead change_at change_bytes IsChange
+change_read : IsRead change_at change_bytes IsChange
 change_read = record { takes = change_takes; again = change_again }
 
 -- ---- entries

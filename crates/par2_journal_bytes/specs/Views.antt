@@ -1,5 +1,5 @@
 -- What the types of this crate say, without where they lie in memory.
-use Rattle.std.specs.Prelude.{ℕ, List, map, Vec, Option, Some, None}
+use Rattle.std.specs.Prelude.{List, map, Vec, Option, Some, None}
 use Rattle.std.specs.Borrow.{Bor}
 use Rattle.std.specs.declared.alloc.Global.{Global}
 use Rattle.par2_spec.specs.Changes as defined

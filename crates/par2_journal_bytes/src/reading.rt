@@ -257,7 +257,7 @@ fn read_parts(alloc: Global, bytes: &[u8]) -> Result<Journal, DecodeFault>
     })
 }
 
-// The digest comes first: of a text that nobody wrote so, nothing is read.
+// The digest is tested first, so of a text that nobody wrote nothing is read.
 #[tactic(auto, unfolding(crate::specs::Reading::journal_at))]
 fn read_journal(alloc: Global, bytes: &[u8]) -> Result<Journal, DecodeFault>
     ensures { Gives journal_of result (reads.journal_at bytes.now) }
@@ -272,7 +272,8 @@ fn read_journal(alloc: Global, bytes: &[u8]) -> Result<Journal, DecodeFault>
     read_parts(alloc, body)
 }
 
-/// The journal that the bytes spell. Where they spell none, nothing is grown by what they claim.
+/// The journal that the bytes spell. Nothing is read where the digest at their end is false, and memory is asked for
+/// only once the bytes that it is for were found.
 pub fn decode(alloc: Global, bytes: &[u8]) -> Result<Journal, DecodeFault>
     ensures found { IfOk result (λ journal. Spells bytes.now (journal_of journal)) }
     ensures only { (j : Defined) → Spells bytes.now j → MatchResult result (λ journal. journal_of journal ≡ j) (λ fault. fault ≡ Memory) }

@@ -1,4 +1,4 @@
-use Rattle.std.proofs.Common.{◌≡◌, ◌≤◌, length, arith}
+use Rattle.std.proofs.Common.{◌≤◌, length, arith}
 use Rattle.par2_journal_bytes.proofs.NameTests.{at_most_255}
 use Rattle.par2_journal_bytes.proofs.writing.append_name.Goals as goal
 
