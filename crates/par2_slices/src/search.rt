@@ -1,6 +1,6 @@
 //! The search for slices in a file by their checksums.
 
-ghost use Rattle.std.specs.Prelude.{◌≡◌, ◌≤◌, ◌<◌, ◌+◌, ◌⊎◌, ◌↔◌, ℕ, IfOk, IsTrue, length, take, drop, map, slice_index};
+ghost use Rattle.std.specs.Prelude.{◌≡◌, ◌≤◌, ◌<◌, ◌+◌, ◌⊎◌, ◌↔◌, ℕ, List, IfOk, IsTrue, length, take, drop, map, slice_index};
 ghost use Rattle.std.specs.List.{count_by};
 ghost use Rattle.std.specs.Option.{is_none};
 ghost use Rattle.par2_spec.specs.Checksums.{crc32};
@@ -87,8 +87,8 @@ struct Search {
 
 impl Search {
     /// Before the first offset.
-    fn new(alloc: Global, wanted: &Wanted, s: u64, bytes: &[u8]) -> Result<Search, AllocError>
-        ensures { IfOk result (λ search. IsAt s bytes.now 0 wanted.now search.found.items search.left search.filter) }
+    fn new(alloc: Global, wanted: &Wanted) -> Result<Search, AllocError>
+        ensures { IfOk result (λ search. (s : ℕ) (text : List ℕ) → IsAt s text 0 wanted.now search.found.items search.left search.filter) }
     {
         let pairs = wanted.pairs();
         let mut filter = Filter::new(alloc, pairs.len())?;
@@ -258,7 +258,7 @@ pub fn find(
     requires { 1 ≤ s }
     ensures { IfOk result (λ offsets. offsets.items ≡ map (first_match s bytes.now) wanted.now) }
 {
-    let mut search = Search::new(alloc, wanted, s, bytes)?;
+    let mut search = Search::new(alloc, wanted)?;
     let mut rolling = Rolling::new(alloc, s)?;
     rolling.start(window_bytes(bytes, s, 0));
     let start = search.by_fours(wanted, bytes, s, &mut rolling);
