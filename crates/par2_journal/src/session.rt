@@ -42,7 +42,6 @@ impl Session {
     ghost use Rattle.par2_folder.specs.Views.{change_of};
     ghost use Rattle.par2_journal.specs.Ready.{Fits, IsReady, changes_of, committed, next_of};
     ghost use Rattle.par2_journal.specs.Faulted.{MayRefuse};
-    ghost use Rattle.par2_plan.specs.Plain.{IsPlainCreate};
     ghost use Rattle.par2_spec.specs.Commands.{Do, Undo, Redo, Create};
     ghost use Rattle.par2_journal.specs.Plain.{IsPlain};
 
@@ -157,7 +156,6 @@ impl Session {
     }
 
     fn prepare_create(&mut self, alloc: Global, args: &CreateArgs) -> Result<Prepared, SessionFault>
-        requires { IsPlainCreate (create_args_of args.now) }
         ensures kept { OnlyGrew self.old self.new }
         ensures ready { IfOk result (λ prepared. IsReady (Do (Create (create_args_of args.now))) self.old prepared self.new) }
         ensures refused { IfErr result (MayRefuse (Do (Create (create_args_of args.now))) self.old) }
@@ -260,7 +258,6 @@ impl Session {
 
     /// Creates, and answers the steps. After a refusal names, bytes and history are as before.
     pub fn create(&mut self, alloc: Global, args: &CreateArgs) -> Result<Steps, SessionFault>
-        requires { IsPlainCreate (create_args_of args.now) }
         ensures done { OnOk result (session_after (session_of_kept self.old) (Do (Create (create_args_of args.now))) ≡ Ok (session_of_kept self.new)) }
         ensures steps { IfOk result (λ steps. IfOk (changes_asked (session_of_kept self.old) (Do (Create (create_args_of args.now)))) (λ changes. steps ≡ map step_of changes)) }
         ensures unchanged { OnErr result (OnlyGrew self.old self.new) }

@@ -1,8 +1,4 @@
 //! Worked examples of a session, and each refusal that it knows.
-ghost use Rattle.std.specs.Prelude.{IfOk};
-ghost use Rattle.par2_spec.specs.Views.{create_args_of};
-ghost use Rattle.par2_plan.specs.Plain.{IsPlainCreate};
-
 use crate::{Action, CreateArgs, Fault, NothingToRedo, NothingToUndo, Session, SessionFault, Step};
 use par2_folder::{Bytes, Change, Folder, Name};
 use std::alloc::{AllocError, Global};
@@ -11,7 +7,6 @@ use std::test::Fail;
 
 // A create of this index over the file `a`.
 fn args_of(alloc: Global, base: &str) -> Result<CreateArgs, AllocError>
-    ensures { IfOk result (λ args. IsPlainCreate (create_args_of args)) }
 {
     let mut inputs = Vec::new(alloc);
     inputs.push(String::from_str(alloc, "a")?)?;

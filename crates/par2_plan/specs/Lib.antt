@@ -1,3 +1,2 @@
-pub mod Plain
 pub mod Causes
 pub mod Outputs

@@ -4,22 +4,12 @@ ghost use Rattle.par2_spec.specs.Views.{action_of, command_of};
 ghost use Rattle.par2_spec.specs.declared.Failure.TheVariants as failure;
 ghost use Rattle.par2_spec.specs.declared.Fault.TheVariants as fault;
 ghost use Rattle.par2_words.specs.Meanings.{asked_by};
-ghost use Rattle.par2_plan.specs.Plain.{IsPlainCreate};
-ghost use Rattle.par2_spec.specs.Views.{create_args_of};
 ghost use Rattle.par2_journal.specs.Plain.{IsPlain};
 ghost use Rattle.par2_tool.specs.Asked.{IsAvailable};
 
-use par2_spec::{Action, Command, CreateArgs, Failure, Fault};
+use par2_spec::{Action, Command, Failure, Fault};
 use par2_words::{WordsFault, read_words};
 use std::alloc::Global;
-
-// Whether a create is one of those that are built: one input, no recovery slices, nothing replaced.
-fn is_plain_create(args: &CreateArgs) -> bool
-    ensures plain { IsTrue result → IsPlainCreate (create_args_of args.now) }
-    ensures all { IsPlainCreate (create_args_of args.now) → IsTrue result }
-{
-    args.inputs.len() == 1 && args.count == 0 && args.first == 0 && !args.overwrite
-}
 
 // Whether an action is one of those that are built.
 fn is_plain(action: &Action) -> bool
@@ -27,8 +17,7 @@ fn is_plain(action: &Action) -> bool
     ensures all { IsPlain (action_of action.now) → IsTrue result }
 {
     match action {
-        Action::Create(args) => is_plain_create(args),
-        Action::Undo | Action::Redo => true,
+        Action::Create(_) | Action::Undo | Action::Redo => true,
         Action::Repair { .. } | Action::Purge { .. } => false,
     }
 }
