@@ -2,3 +2,8 @@ mod Entries
 mod Turned
 mod Asked
 mod Acting
+mod Spelled
+mod Each
+mod Ways
+mod Tried
+mod Prints

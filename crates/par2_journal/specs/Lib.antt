@@ -4,3 +4,5 @@ pub mod Kinds
 pub mod Kept
 pub mod Plain
 pub mod Faulted
+pub mod Walked
+pub mod Written

@@ -3,15 +3,19 @@
 #![tactic(auto)]
 
 mod history;
+mod passing;
 mod prepared;
 mod session;
+mod spelling;
 mod step;
+mod trying;
 
 pub use history::{NothingToRedo, NothingToUndo};
 pub use par2_plan::{Changes, CreateArgs, Fault};
 pub use par2_spec::Action;
 pub use prepared::{Prepared, SessionFault};
 pub use session::Session;
+pub use spelling::Journals;
 pub use step::{Step, Steps};
 
 #[cfg(test)]

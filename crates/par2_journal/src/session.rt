@@ -1,7 +1,12 @@
 //! One folder, the changes that lead back, and those that lead forward again.
+use crate::passing::copies_of;
 use crate::prepared::Task;
-use crate::{Changes, CreateArgs, NothingToRedo, NothingToUndo, Prepared, SessionFault, Steps};
+use crate::spelling::{lent, spell_action};
+use crate::{
+    Changes, CreateArgs, Journals, NothingToRedo, NothingToUndo, Prepared, SessionFault, Steps,
+};
 use par2_folder::{Change, Folder};
+use par2_journal_bytes::{JournalParts, Version, encode};
 use par2_plan::{Fault, plan_create};
 use par2_spec::Action;
 use std::alloc::{AllocError, Global};
@@ -44,6 +49,12 @@ impl Session {
     ghost use Rattle.par2_journal.specs.Faulted.{MayRefuse};
     ghost use Rattle.par2_spec.specs.Commands.{Do, Undo, Redo, Create};
     ghost use Rattle.par2_journal.specs.Plain.{IsPlain};
+    ghost use Rattle.par2_spec.specs.Journals.{Spells};
+    ghost use Rattle.par2_spec.specs.Opening.{settled_journal, journals_of};
+    ghost use Rattle.par2_spec.specs.Commands.{Action as Asked};
+    ghost use Rattle.par2_spec.specs.Sessions.{KeptSession};
+    ghost use Rattle.par2_journal.specs.Written.{AreSpelled};
+    ghost use Rattle.par2_spec.specs.declared.Version.TheVariants.{Two};
 
     /// The session on this folder, without a history.
     pub fn new(alloc: Global, folder: Folder) -> Session
@@ -110,6 +121,25 @@ impl Session {
         entry.turn(&mut self.folder);
         self.cursor = at + 1;
         Ok(())
+    }
+
+    /// The bytes of the session's journal. Nothing but the result is made of the bytes of its changes.
+    pub fn encode(&self, alloc: Global) -> Result<Vec<u8>, AllocError>
+        ensures { IfOk result (λ bytes. Spells bytes.items (settled_journal Two (session_of_kept self.now))) }
+    {
+        let fingerprint = self.folder.fingerprint(alloc)?;
+        let stored = self.entries.as_slice();
+        let entries = lent(alloc, &stored)?;
+        encode(
+            alloc,
+            &JournalParts {
+                version: Version::Two,
+                fingerprint,
+                cursor: self.cursor,
+                entries: &entries,
+                halfway: None,
+            },
+        )
     }
 
     // Room for as many files and one more entry.
@@ -233,6 +263,24 @@ impl Session {
             Task::Undo => self.next_undo(),
             Task::Redo => self.next_redo(),
         }
+    }
+
+    /// The journals of what was prepared for an action. The folder makes the changes and is turned back, also where
+    /// memory runs out.
+    pub fn journals(&mut self, alloc: Global, prepared: &Prepared) -> Result<Journals, AllocError>
+        requires { Fits prepared.now self.old }
+        ensures unchanged { self.new ≡ self.old }
+        ensures journals { IfOk result (λ journals. (action : Asked) (before : KeptSession) → OnlyGrew before self.old → IsReady action before prepared.now self.old → AreSpelled journals (journals_of Two (session_of_kept self.old) action (changes_of prepared.now.kind self.old))) }
+    {
+        let mut changes = copies_of(alloc, self.changes(prepared))?;
+        spell_action(
+            alloc,
+            &prepared.task,
+            &self.entries,
+            self.cursor,
+            &mut self.folder,
+            &mut changes,
+        )
     }
 
     /// Does what was prepared, and answers its steps. It takes no memory.

@@ -1,0 +1,171 @@
+-- A session's journals, by the session's fields.
+use Rattle.std.proofs.Common.{◌≡◌, ◌≢◌, ℕ, zero, suc, ◌+◌, ◌-◌, ◌<◌, ◌≤◌, List, [], ◌∷◌, ◌++◌, length, map, take, drop, get_or, set, Option, Some, None, Result, Ok, Err, Vec, true, refl, sym, ap, subst, ◌∙◌, append-nil, length-set, length-append, arith}
+use Rattle.std.specs.Prelude.{reverse, IfOk}
+use Rattle.std.specs.declared.alloc.Global.{Global}
+use Rattle.std.proofs.lemmas.List.{reverse-reverse, take-append-drop, length-reverse, length-take-le, reverse-append, get_or_default, drop_all, map-append, map-set, take-map}
+use Rattle.par2_spec.specs.Folders.{Folder, fingerprint}
+use Rattle.par2_spec.specs.Changes.{Change, FolderState, effect, folders_after, state_after_all, takes_all, way_back}
+use Rattle.par2_spec.specs.Commands.{Action}
+use Rattle.par2_spec.specs.Sessions.{Session, KeptSession, OnlyGrew, CanWalk, walks, session_of_kept, session_after, session_with, changes_asked, applied, kept_done, kept_undone, kept_redone}
+use Rattle.par2_spec.specs.Journals.{Journal, Spells}
+use Rattle.par2_spec.specs.Opening.{settled_journal, halfway_journal, halfway_where, journals_of}
+use Rattle.par2_spec.specs.declared.Version.TheVariants.{Two}
+use Rattle.par2_journal.specs.Ready.{Kind, Changing, Undoing, Redoing, Ready, IsReady, CanBe, next_of, changes_of, committed}
+use Rattle.par2_journal.specs.Written.{SpellsWhere, AreSpelled, HasNext, entries_with, halfway_with, settled_with}
+use Rattle.par2_journal.specs.declared.spelling.Journals.{Journals}
+use Rattle.par2_spec.proofs.SessionLaws.{next_taken}
+use Rattle.par2_journal.proofs.Acting.{same_session}
+use Rattle.par2_journal.proofs.Turned.{at, undone_to, redone_to, next_undo_is, next_redo_is}
+use Rattle.par2_journal.proofs.Ways.{back_length}
+
+module _ (xs : List (List Change)) (n : ℕ) (within : n ≤ length xs) where
+  pub all_entries : reverse (reverse (take n xs)) ++ drop n xs ≡ xs
+  all_entries = ap (λ l. l ++ drop n xs) (reverse-reverse (take n xs)) ∙ take-append-drop n xs
+
+  pub undo_count : length (reverse (take n xs)) ≡ n
+  undo_count = length-reverse (take n xs) ∙ length-take-le n xs within
+
+  pub settled_at : (folder : FolderState) (room : ℕ) → settled_with (fingerprint folder.files) (xs, n) ≡ settled_journal Two (session_of_kept (at folder xs n room))
+  unfolding settled_journal
+  settled_at folder room = λ i. record { version = Two; fingerprint = fingerprint folder.files; cursor = sym undo_count i; entries = sym all_entries i; halfway = None }
+
+  -- while changes are made
+  pub halfway_at : (folder : FolderState) (room : ℕ) (text : Option (Vec ℕ Global)) (cs back : List Change) → back ≡ way_back folder.files cs
+      → SpellsWhere text (halfway_with (fingerprint folder.files) n xs (map fingerprint (folders_after folder.files cs)) back)
+      → SpellsWhere text (halfway_where Two (session_of_kept (at folder xs n room)) cs)
+  unfolding halfway_journal settled_journal way_back
+  halfway_at folder room text [] [] e h = h
+  halfway_at folder room text [] (b ∷ back) e h = cc
+  halfway_at folder room text (c ∷ cs) [] e h =
+      let none : length (way_back folder.files (c ∷ cs)) ≡ 0 = ap length (sym e) in
+      let some : length (way_back folder.files (c ∷ cs)) ≡ length (c ∷ cs) = back_length folder (c ∷ cs) in
+      absurd (omega (arith, none, some))
+  halfway_at folder room text (c ∷ cs) (b ∷ back) e h =
+      subst (SpellsWhere text)
+      (λ i. Some (record {
+        version = Two;
+        fingerprint = fingerprint folder.files;
+        cursor = sym undo_count i;
+        entries = sym all_entries i;
+        halfway = Some (record { fingerprints = map fingerprint (folders_after folder.files (c ∷ cs)); back = e i });
+      }))
+      h
+
+pub folders_count : (f : Folder) (cs : List Change) → length (map fingerprint (folders_after f cs)) ≡ length cs
+unfolding folders_after
+folders_count f [] = refl
+folders_count f (c ∷ cs) = omega (arith, folders_count (effect f c) cs)
+
+-- ---- afterwards
+
+module _ (xs : List (List Change)) (i : ℕ) (lt : i < length xs) (folder : FolderState) (room : ℕ) (entry : List Change) (is : entry ≡ get_or xs i entry) where
+  undone_after : settled_with (fingerprint (state_after_all folder entry).files) (set xs i (way_back folder.files entry), i) ≡ settled_journal Two (session_of_kept (kept_undone (at folder xs (i + 1) room) entry))
+  undone_after =
+      settled_at (set xs i (way_back folder.files entry)) i (omega (arith, lt, length-set xs i (way_back folder.files entry))) (state_after_all folder entry) room
+      ∙ ap (λ s. settled_journal Two (session_of_kept s)) (undone_to xs i lt entry is folder (state_after_all folder entry) room (way_back folder.files entry) refl refl (i + 1) refl)
+
+  redone_after : settled_with (fingerprint (state_after_all folder entry).files) (set xs i (way_back folder.files entry), i + 1) ≡ settled_journal Two (session_of_kept (kept_redone (at folder xs i room) entry))
+  redone_after =
+      settled_at (set xs i (way_back folder.files entry)) (i + 1) (omega (arith, lt, length-set xs i (way_back folder.files entry))) (state_after_all folder entry) room
+      ∙ ap (λ s. settled_journal Two (session_of_kept s)) (redone_to xs i lt entry is folder (state_after_all folder entry) room (way_back folder.files entry) refl refl)
+
+done_after : (xs : List (List Change)) (n : ℕ) → n ≤ length xs → (folder : FolderState) (room : ℕ) (cs : List Change)
+    → settled_with (fingerprint (state_after_all folder cs).files) (take n xs ++ way_back folder.files cs ∷ [], n + 1) ≡ settled_journal Two (session_of_kept (kept_done (at folder xs n room) cs))
+unfolding settled_journal kept_done
+done_after xs n within folder room cs =
+    let count : n + 1 ≡ length (way_back folder.files cs ∷ reverse (take n xs)) = omega (arith, undo_count xs n within) in
+    let entries : take n xs ++ way_back folder.files cs ∷ [] ≡ reverse (way_back folder.files cs ∷ reverse (take n xs)) ++ [] =
+    sym (append-nil (reverse (way_back folder.files cs ∷ reverse (take n xs))) ∙ reverse-append (way_back folder.files cs ∷ []) (reverse (take n xs)) ∙ ap (λ l. l ++ way_back folder.files cs ∷ []) (reverse-reverse (take n xs))) in
+    λ i. record { version = Two; fingerprint = fingerprint (state_after_all folder cs).files; cursor = count i; entries = entries i; halfway = None }
+
+pub after_at : (xs : List (List Change)) (n : ℕ) (folder : FolderState) (room : ℕ) (kind : Kind) → HasNext kind n (length xs)
+    → settled_with (fingerprint (state_after_all folder (changes_of kind (at folder xs n room))).files) (entries_with kind n xs (way_back folder.files (changes_of kind (at folder xs n room))))
+    ≡ settled_journal Two (session_of_kept (committed kind (at folder xs n room)))
+after_at xs n folder room (Changing cs) next = done_after xs n next folder room cs
+after_at xs n folder room Undoing next =
+    let i = n - 1 in
+    let one : i + 1 ≡ n = omega (arith, next.0) in
+    let lt : i < length xs = omega (arith, next.0, next.1) in
+    let entry = get_or xs i [] in
+    let is : entry ≡ get_or xs i entry = get_or_default xs i [] entry lt in
+    let same : entry ≡ next_of (reverse (take n xs)) = sym (next_undo_is xs i lt entry is n one) in
+    subst (λ e. settled_with (fingerprint (state_after_all folder e).files) (set xs i (way_back folder.files e), i) ≡ settled_journal Two (session_of_kept (kept_undone (at folder xs n room) e))) same
+    (undone_after xs i lt folder room entry is ∙ ap (λ m. settled_journal Two (session_of_kept (kept_undone (at folder xs m room) entry))) one)
+after_at xs n folder room Redoing next =
+    let entry = get_or xs n [] in
+    let is : entry ≡ get_or xs n entry = get_or_default xs n [] entry next in
+    let same : entry ≡ next_of (drop n xs) = sym (next_redo_is xs n next entry is) in
+    subst (λ e. settled_with (fingerprint (state_after_all folder e).files) (set xs n (way_back folder.files e), n + 1) ≡ settled_journal Two (session_of_kept (kept_redone (at folder xs n room) e))) same
+    (redone_after xs n next folder room entry is)
+
+-- what fits has an entry at its cursor
+pub has_next : (xs : List (List Change)) (n : ℕ) (folder : FolderState) (room : ℕ) (kind : Kind) → n ≤ length xs → CanBe kind (at folder xs n room) → HasNext kind n (length xs)
+has_next xs n folder room (Changing cs) within can = within
+has_next xs zero folder room Undoing within can = absurd (can refl)
+has_next xs (suc n) folder room Undoing within can = (omega arith, within)
+has_next xs n folder room Redoing within can = below xs n (λ over. can (drop_all n xs over))
+  where
+    below : (xs : List (List Change)) (n : ℕ) → (length xs ≤ n → ⊥) → n < length xs
+    below [] n h = absurd (h (omega arith))
+    below (x ∷ xs) zero h = omega arith
+    below (x ∷ xs) (suc n) h = let lt : n < length xs = below xs n (λ le. h (omega (arith, le))) in omega (arith, lt)
+
+-- ---- of what was prepared for an action
+
+ok_same : {F : Type 0} (x : Result Session F) (a b : Session) → x ≡ Ok a → x ≡ Ok b → a ≡ b
+ok_same x a b e h = cc
+
+same_changes : (kind : Kind) (before s : KeptSession) → OnlyGrew before s → changes_of kind s ≡ changes_of kind before
+same_changes (Changing cs) before s grew = refl
+same_changes Undoing before s grew = ap next_of grew.undos
+same_changes Redoing before s grew = ap next_of grew.redos
+
+pub asked_session : (action : Action) (before s : KeptSession) (ready : Ready) → OnlyGrew before s → IsReady action before ready s
+    → session_of_kept (committed ready.kind s) ≡ session_with (session_of_kept s) action (changes_of ready.kind s)
+unfolding session_after
+asked_session action before s ready grew is =
+    let same = ok_same (session_after (session_of_kept before) action) (session_with (session_of_kept before) action (changes_of ready.kind before)) (session_of_kept (committed ready.kind s)) (ap (applied (session_of_kept before) action) is.asked) is.leads in
+    sym same ∙ (λ i. session_with (sym (same_session before s grew) i) action (sym (same_changes ready.kind before s grew) i))
+
+pub both_spelled : (journals : Journals) (action : Action) (s : KeptSession) (ready : Ready) (before : KeptSession) → OnlyGrew before s → IsReady action before ready s
+    → SpellsWhere journals.halfway (halfway_where Two (session_of_kept s) (changes_of ready.kind s))
+    → Spells journals.after.items (settled_journal Two (session_of_kept (committed ready.kind s)))
+    → AreSpelled journals (journals_of Two (session_of_kept s) action (changes_of ready.kind s))
+unfolding journals_of
+both_spelled journals action s ready before grew is halfway after =
+    (halfway, subst (λ t. Spells journals.after.items (settled_journal Two t)) (asked_session action before s ready grew is) after)
+
+-- ---- of lent entries, seen by v
+
+pub taken_and_one : {A X : Type 0} (v : A → X) (list front new : List A) (xs : List X) (n : ℕ) (b : A) → map v list ≡ xs → front ≡ take n list → new ≡ front ++ b ∷ [] → map v new ≡ take n xs ++ v b ∷ []
+taken_and_one v list front new xs n b seen cut more =
+    ap (map v) (more ∙ ap (λ l. l ++ b ∷ []) cut) ∙ map-append v (take n list) (b ∷ []) ∙ ap (λ l. l ++ v b ∷ []) (sym (take-map v n list) ∙ ap (take n) seen)
+
+pub one_set : {A X : Type 0} (v : A → X) (list : List A) (xs : List X) (i : ℕ) (b : A) → map v list ≡ xs → map v (set list i b) ≡ set xs i (v b)
+one_set v list xs i b seen = map-set v list i b ∙ ap (λ l. set l i (v b)) seen
+
+-- what is ready can be applied
+next_entry : (folder : FolderState) (entries : List (List Change)) → walks folder entries ≡ true → entries ≢ [] → takes_all folder (next_of entries) ≡ true
+next_entry folder [] h some = absurd (some refl)
+next_entry folder (entry ∷ entries) h some = (next_taken folder (entry ∷ entries) entry entries h refl).0
+
+pub kind_taken : (kind : Kind) (s : KeptSession) → CanWalk s → CanBe kind s → takes_all s.folder (changes_of kind s) ≡ true
+kind_taken (Changing cs) s h can = can.0
+kind_taken Undoing s h can = next_entry s.folder s.undos h.back can
+kind_taken Redoing s h can = next_entry s.folder s.redos h.forth can
+
+pub action_spelled : {E : Type 0} (r : Result Journals E) (xs entries : List (List Change)) (n : ℕ) → n ≤ length xs → (folder : FolderState) (room : ℕ) (kind : Kind) (ready : Ready) (cs : List Change)
+    → kind ≡ ready.kind → entries ≡ xs → cs ≡ changes_of ready.kind (at folder xs n room) → CanBe ready.kind (at folder xs n room)
+    → IfOk r (λ j. SpellsWhere j.halfway (halfway_with (fingerprint folder.files) n entries (map fingerprint (folders_after folder.files cs)) (way_back folder.files cs)))
+    → IfOk r (λ j. Spells j.after.items (settled_with (fingerprint (state_after_all folder cs).files) (entries_with kind n entries (way_back folder.files cs))))
+    → IfOk r (λ j. (action : Action) (before : KeptSession) → OnlyGrew before (at folder xs n room) → IsReady action before ready (at folder xs n room) → AreSpelled j (journals_of Two (session_of_kept (at folder xs n room)) action (changes_of ready.kind (at folder xs n room))))
+action_spelled (Err e) xs entries n within folder room kind ready cs ke ee ce can half after = tt
+action_spelled (Ok j) xs entries n within folder room kind ready cs ke ee ce can half after = λ action before grew is.
+    both_spelled j action (at folder xs n room) ready before grew is
+    (halfway_at xs n within folder room j.halfway (changes_of ready.kind (at folder xs n room)) (way_back folder.files (changes_of ready.kind (at folder xs n room))) refl
+    (subst (λ d. SpellsWhere j.halfway (halfway_with (fingerprint folder.files) n xs (map fingerprint (folders_after folder.files d)) (way_back folder.files d))) ce
+    (subst (λ es. SpellsWhere j.halfway (halfway_with (fingerprint folder.files) n es (map fingerprint (folders_after folder.files cs)) (way_back folder.files cs))) ee half)))
+    (subst (λ (t : Journal). Spells j.after.items t)
+    ((λ i. settled_with (fingerprint (state_after_all folder (ce i)).files) (entries_with (ke i) n (ee i) (way_back folder.files (ce i))))
+    ∙ after_at xs n folder room ready.kind (has_next xs n folder room ready.kind within can))
+    after)

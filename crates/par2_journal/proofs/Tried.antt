@@ -1,0 +1,121 @@
+-- Changes and entries that were tried.
+use Rattle.std.proofs.Common.{◌≡◌, ℕ, ◌+◌, ◌<◌, ◌≤◌, Bool, true, false, List, ◌∷◌, [], ◌++◌, length, map, take, drop, get_or, set, Option, Some, None, refl, sym, ap, ◌∙◌, arith}
+use Rattle.std.specs.Prelude.{is_none, reverse}
+use Rattle.par2_spec.specs.Changes.{Change, FolderState, change_refusal, inverse, state_after, takes_all, state_after_all, way_back}
+use Rattle.par2_spec.specs.Sessions.{walks}
+use Rattle.par2_spec.specs.declared.ChangeFault.{ChangeFault}
+use Rattle.par2_spec.proofs.FolderLaws.{changes_back}
+use Rattle.std.proofs.lemmas.List.{length-take-le, length-map, map-append, take_all, drop_all, take-append-drop}
+use Rattle.par2_journal.specs.Walked.{state_along, ways_back}
+use Rattle.par2_journal.proofs.Each.{IsTurned, all_reversed, front_reversed, rest_seen, reached}
+use Rattle.par2_journal.proofs.Each as each
+use Rattle.par2_journal.proofs.Ways.{takes_none, takes_next, takes_more, after_none, after_more, back_none, back_more, back_length, walks_none, walks_next, walks_more, along_none, along_one, ways_none, ways_more, ways_length, ways_walk, ways_lead, ways_twice}
+
+abbrev pub AreTurned : FolderState → FolderState → List Change → List Change → ℕ → Type 0
+AreTurned start state given now i = IsTurned takes_all state_after_all (λ (s : FolderState). way_back s.files) start state given now i
+
+abbrev pub AreWalked : FolderState → FolderState → List (List Change) → List (List Change) → ℕ → Type 0
+AreWalked start state given now i = IsTurned walks state_along ways_back start state given now i
+
+pub changes_set_out : (start : FolderState) (given : List Change) → AreTurned start start given given 0
+changes_set_out = each.sets_out takes_all state_after_all (λ (s : FolderState). way_back s.files) (λ s c. is_none (change_refusal s c)) state_after (λ (s : FolderState). inverse s.files)
+    takes_none after_none back_none takes_next takes_more after_more back_more back_length
+
+pub entries_set_out : (start : FolderState) (given : List (List Change)) → AreWalked start start given given 0
+entries_set_out = each.sets_out walks state_along ways_back takes_all state_after_all (λ (s : FolderState). way_back s.files)
+    walks_none along_none ways_none walks_next walks_more along_one ways_more ways_length
+
+module _ {A : Type 0} (v : A → Change) (start state : FolderState) (given now : List A) (i : ℕ) (so_far : AreTurned start state (map v given) (map v now) i) (lt : i < length given) (a : A) (is : a ≡ get_or now i a) where
+  pub change_turned : (new : FolderState) (b : A) → change_refusal state (v a) ≡ None → new ≡ state_after state (v a) → v b ≡ inverse state.files (v a) → AreTurned start new (map v given) (map v (set now i b)) (i + 1)
+  change_turned new b taken =
+      each.turned_one takes_all state_after_all (λ (s : FolderState). way_back s.files) (λ s c. is_none (change_refusal s c)) state_after (λ (s : FolderState). inverse s.files)
+      takes_none after_none back_none takes_next takes_more after_more back_more back_length v start state given now i so_far lt a is new b (ap is_none taken)
+
+  pub change_refused : (fault : ChangeFault) → change_refusal state (v a) ≡ Some fault → takes_all start (map v given) ≡ false
+  change_refused fault refused =
+      each.refused_one takes_all state_after_all (λ (s : FolderState). way_back s.files) (λ s c. is_none (change_refusal s c)) state_after (λ (s : FolderState). inverse s.files)
+      takes_none after_none back_none takes_next takes_more after_more back_more back_length v start state given now i so_far lt a is (ap is_none refused)
+
+module _ {A : Type 0} (v : A → List Change) (start state : FolderState) (given now : List A) (i : ℕ) (so_far : AreWalked start state (map v given) (map v now) i) (lt : i < length given) (a : A) (is : a ≡ get_or now i a) where
+  pub entry_turned : (new : FolderState) (b : A) → takes_all state (v a) ≡ true → new ≡ state_after_all state (v a) → v b ≡ way_back state.files (v a) → AreWalked start new (map v given) (map v (set now i b)) (i + 1)
+  entry_turned =
+      each.turned_one walks state_along ways_back takes_all state_after_all (λ (s : FolderState). way_back s.files)
+      walks_none along_none ways_none walks_next walks_more along_one ways_more ways_length v start state given now i so_far lt a is
+
+  pub entry_refused : takes_all state (v a) ≡ false → walks start (map v given) ≡ false
+  entry_refused =
+      each.refused_one walks state_along ways_back takes_all state_after_all (λ (s : FolderState). way_back s.files)
+      walks_none along_none ways_none walks_next walks_more along_one ways_more ways_length v start state given now i so_far lt a is
+
+-- ---- turned back
+
+-- the changes that were applied before one was refused, turned back
+module _ {A : Type 0} (v : A → Change) (f g : FolderState) (given now : List A) (r : ℕ) (within : r ≤ length given)
+    (taken : takes_all f (take r (map v given)) ≡ true) (moved : g ≡ state_after_all f (take r (map v given)))
+    (seen : map v now ≡ reverse (way_back f.files (take r (map v given))) ++ drop r (map v given)) where
+  front : List Change
+  front = take r (map v given)
+
+  back_count : length (way_back f.files front) ≡ r
+  unfolding front
+  back_count = back_length f front ∙ length-take-le r (map v given) (omega (arith, within, length-map given v))
+
+  pub turned_front : map v (reverse (take r now)) ≡ way_back f.files (take r (map v given))
+  unfolding front
+  turned_front = front_reversed v now (way_back f.files front) (drop r (map v given)) seen r back_count
+
+  pub whole_turned : length given ≤ r → map v (reverse now) ≡ way_back f.files (map v given)
+  unfolding front
+  whole_turned all =
+      let over : length (map v given) ≤ r = omega (arith, all, length-map given v) in
+      all_reversed v now (way_back f.files front) (drop r (map v given)) seen (drop_all r (map v given) over) ∙ ap (way_back f.files) (take_all r (map v given) over)
+
+  pub all_back : (turned : List Change) (last : List A) → turned ≡ way_back f.files (take r (map v given)) → map v last ≡ way_back g.files turned → map v (last ++ drop r now) ≡ map v given
+  unfolding front
+  all_back turned last is lasts =
+      map-append v last (drop r now)
+      ∙ ap (λ l. l ++ map v (drop r now)) (lasts ∙ ap (way_back g.files) is ∙ ap (λ (s : FolderState). way_back s.files (way_back f.files front)) moved ∙ changes_back f front taken)
+      ∙ ap (λ l. front ++ l) (rest_seen v now (way_back f.files front) (drop r (map v given)) seen r back_count)
+      ∙ take-append-drop r (map v given)
+
+-- the entries that were applied, walked back
+module _ {A : Type 0} (v : A → List Change) (f g : FolderState) (given now : List A) (r : ℕ) (within : r ≤ length given)
+    (taken : walks f (take r (map v given)) ≡ true) (moved : g ≡ state_along f (take r (map v given)))
+    (seen : map v now ≡ reverse (ways_back f (take r (map v given))) ++ drop r (map v given)) where
+  front_entries : List (List Change)
+  front_entries = take r (map v given)
+
+  ways_count : length (ways_back f front_entries) ≡ r
+  unfolding front_entries
+  ways_count = ways_length f front_entries ∙ length-take-le r (map v given) (omega (arith, within, length-map given v))
+
+  walked_front : map v (reverse (take r now)) ≡ ways_back f front_entries
+  unfolding front_entries
+  walked_front = front_reversed v now (ways_back f front_entries) (drop r (map v given)) seen r ways_count
+
+  module _ (turned : List A) (is : turned ≡ reverse (take r now)) (h : FolderState) (last : List A) (k : ℕ) (stops : k < length turned → walks g (map v turned) ≡ false)
+      (moved_back : h ≡ state_along g (take k (map v turned))) (seen_back : map v last ≡ reverse (ways_back g (take k (map v turned))) ++ drop k (map v turned)) where
+    turned_is : map v turned ≡ ways_back f front_entries
+    turned_is = ap (map v) is ∙ walked_front
+
+    all_walk : walks g (map v turned) ≡ true
+    unfolding front_entries
+    all_walk = ap (walks g) turned_is ∙ ap (λ s. walks s (ways_back f front_entries)) moved ∙ ways_walk f front_entries taken
+
+    over : length (map v turned) ≤ k
+    over = omega (arith, length-map turned v, reached k (length turned) (walks g (map v turned)) all_walk stops)
+
+    pub walked_home : h ≡ f
+    unfolding front_entries
+    walked_home =
+        moved_back ∙ ap (state_along g) (take_all k (map v turned) over ∙ turned_is) ∙ ap (λ s. state_along s (ways_back f front_entries)) moved ∙ ways_lead f front_entries taken
+
+    pub entries_home : map v (reverse last ++ drop r now) ≡ map v given
+    unfolding front_entries
+    entries_home =
+        map-append v (reverse last) (drop r now)
+        ∙ ap (λ l. l ++ map v (drop r now))
+        (all_reversed v last (ways_back g (take k (map v turned))) (drop k (map v turned)) seen_back (drop_all k (map v turned) over)
+        ∙ ap (ways_back g) (take_all k (map v turned) over ∙ turned_is) ∙ ap (λ s. ways_back s (ways_back f front_entries)) moved ∙ ways_twice f front_entries taken)
+        ∙ ap (λ l. front_entries ++ l) (rest_seen v now (ways_back f front_entries) (drop r (map v given)) seen r ways_count)
+        ∙ take-append-drop r (map v given)

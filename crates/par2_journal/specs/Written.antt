@@ -1,0 +1,42 @@
+-- The journals of a session, as its fields spell them.
+use Rattle.std.specs.Prelude.{◌≡◌, ◌+◌, ◌-◌, ◌<◌, ◌≤◌, ℕ, List, [], ◌∷◌, ◌++◌, length, take, set, Option, Some, None, Vec}
+use Rattle.std.specs.declared.alloc.Global.{Global}
+use Rattle.par2_spec.specs.Changes.{Change}
+use Rattle.par2_spec.specs.Journals.{Journal, Spells}
+use Rattle.par2_spec.specs.Opening.{JournalPair}
+use Rattle.par2_spec.specs.declared.Version.TheVariants.{Two}
+use Rattle.par2_journal.specs.Ready.{Kind, Changing, Undoing, Redoing}
+use Rattle.par2_journal.specs.declared.spelling.Journals.{Journals}
+
+-- a text that spells the journal, or neither
+abbrev pub SpellsWhere : Option (Vec ℕ Global) → Option Journal → Type 0
+SpellsWhere None None = Unit {0}
+SpellsWhere None (Some j) = ⊥
+SpellsWhere (Some text) None = ⊥
+SpellsWhere (Some text) (Some j) = Spells text.items j
+
+-- the texts spell the two journals
+abbrev pub AreSpelled : Journals → JournalPair → Type 0
+AreSpelled journals pair = SpellsWhere journals.halfway pair.before × Spells journals.after.items pair.after
+
+-- the cursor of a session with n entries has an entry for what is to be done
+abbrev pub HasNext : Kind → ℕ → ℕ → Type 0
+HasNext (Changing changes) cursor n = cursor ≤ n
+HasNext Undoing cursor n = (0 < cursor) × (cursor ≤ n)
+HasNext Redoing cursor n = cursor < n
+
+-- the entries and the cursor afterwards
+abbrev pub entries_with : Kind → ℕ → List (List Change) → List Change → List (List Change) × ℕ
+entries_with (Changing changes) cursor entries back = (take cursor entries ++ back ∷ [], cursor + 1)
+entries_with Undoing cursor entries back = (set entries (cursor - 1) back, cursor - 1)
+entries_with Redoing cursor entries back = (set entries cursor back, cursor + 1)
+
+-- the journal of entries while changes are made, of which there is at least one
+abbrev pub halfway_with : List ℕ → ℕ → List (List Change) → List (List ℕ) → List Change → Option Journal
+halfway_with print cursor entries prints [] = None
+halfway_with print cursor entries prints (change ∷ back) =
+    Some (record { version = Two; fingerprint = print; cursor = cursor; entries = entries; halfway = Some (record { fingerprints = prints; back = change ∷ back }) })
+
+-- the settled journal of these entries and this cursor
+abbrev pub settled_with : List ℕ → List (List Change) × ℕ → Journal
+settled_with print p = record { version = Two; fingerprint = print; cursor = p.1; entries = p.0; halfway = None }

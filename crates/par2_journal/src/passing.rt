@@ -1,0 +1,72 @@
+//! The fingerprints of the folders that changes pass through.
+ghost use Rattle.std.specs.Prelude.{◌≡◌, ◌++◌, ◌∷◌, [], map, IsTrue, IfOk, IsOkAnd};
+ghost use Rattle.par2_spec.specs.Folders.{fingerprint};
+ghost use Rattle.par2_spec.specs.Changes.{takes_all, state_after_all, way_back, folders_after};
+ghost use Rattle.par2_folder.specs.Views.{change_of};
+ghost use Rattle.par2_journal_bytes.specs.Views.{changes_of};
+
+use par2_folder::{Bytes, Change, Folder};
+use std::alloc::{AllocError, Global};
+
+// The fingerprints and that of the folder, unless memory ran out before or now.
+fn with_fingerprint(
+    alloc: Global,
+    folder: &Folder,
+    fingerprints: Result<Vec<[u8; 16]>, AllocError>,
+) -> Result<Vec<[u8; 16]>, AllocError>
+    ensures { IfOk result (λ more. IsOkAnd fingerprints (λ list. more.items ≡ list.items ++ fingerprint folder.now.files ∷ [])) }
+{
+    let mut list = fingerprints?;
+    list.push(folder.fingerprint(alloc)?)?;
+    Ok(list)
+}
+
+// Applies the changes in order, so that they become the way back, and answers the fingerprint after each. Where
+// memory runs out for these, the changes are applied all the same.
+pub(crate) fn pass_through(
+    alloc: Global,
+    folder: &mut Folder,
+    changes: &mut [Change],
+) -> Result<Vec<[u8; 16]>, AllocError>
+    requires { IsTrue (takes_all folder.old (changes_of changes.old)) }
+    ensures folder { folder.new ≡ state_after_all folder.old (changes_of changes.old) }
+    ensures way_back { changes_of changes.new ≡ way_back folder.old.files (changes_of changes.old) }
+    ensures fingerprints { IfOk result (λ list. list.items ≡ map fingerprint (folders_after folder.old.files (changes_of changes.old))) }
+{
+    let mut fingerprints = Ok(Vec::new(alloc));
+    for change in changes.iter_mut() {
+        match folder.apply(change) {
+            Ok(()) => fingerprints = with_fingerprint(alloc, folder, fingerprints),
+            Err(_) => unreachable!(),
+        }
+    }
+    changes.reverse();
+    fingerprints
+}
+
+fn copy_of(alloc: Global, change: &Change) -> Result<Change, AllocError>
+    ensures { IfOk result (λ copy. change_of copy ≡ change_of change.now) }
+{
+    match change {
+        Change::Write(name, bytes) => Ok(Change::Write(
+            name.copied(),
+            Bytes::copy_of(alloc, bytes.as_slice())?,
+        )),
+        Change::Replace(name, bytes) => Ok(Change::Replace(
+            name.copied(),
+            Bytes::copy_of(alloc, bytes.as_slice())?,
+        )),
+        Change::Rename(from, to) => Ok(Change::Rename(from.copied(), to.copied())),
+        Change::Remove(name) => Ok(Change::Remove(name.copied())),
+    }
+}
+
+pub(crate) fn copies_of(alloc: Global, changes: &[Change]) -> Result<Vec<Change>, AllocError>
+    ensures { IfOk result (λ copies. changes_of copies.items ≡ changes_of changes.now) }
+{
+    let mut copies = Vec::new(alloc);
+    for change in changes {
+        copies.push(copy_of(alloc, change)?)?;
+    }
+    Ok(copies)
+}

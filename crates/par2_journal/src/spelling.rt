@@ -1,0 +1,172 @@
+//! The journals of a session.
+ghost use Rattle.std.specs.Prelude.{◌≡◌, ◌≤◌, IfOk, IsTrue, length, map};
+ghost use Rattle.par2_spec.specs.Changes.{folders_after, state_after_all, takes_all, way_back};
+ghost use Rattle.par2_spec.specs.Folders.{fingerprint};
+ghost use Rattle.par2_spec.specs.Journals.{Spells};
+ghost use Rattle.par2_journal_bytes.specs.Views.{changes_of, lent_entries_of};
+ghost use Rattle.par2_journal.specs.Kinds.{kind_of};
+ghost use Rattle.par2_journal.specs.Written.{SpellsWhere, HasNext, entries_with, halfway_with, settled_with};
+
+use crate::Changes;
+use crate::passing::pass_through;
+use crate::prepared::Task;
+use par2_folder::{Change, Folder};
+use par2_journal_bytes::{HalfwayParts, JournalParts, Version, encode};
+use std::alloc::{AllocError, Global};
+
+// The entries, lent: no bytes are copied. They are lent for as long as the reference to them, since the parts of a
+// journal have one lifetime.
+pub(crate) fn lent<'a>(
+    alloc: Global,
+    entries: &'a &[Changes],
+) -> Result<Vec<&'a [Change]>, AllocError>
+    ensures { IfOk result (λ list. lent_entries_of list.items ≡ entries.now.now) }
+{
+    let mut list = Vec::new(alloc);
+    for entry in entries.iter() {
+        list.push(entry.as_slice())?;
+    }
+    Ok(list)
+}
+
+/// The journals of an action, as bytes.
+#[derive(Debug, Drop)]
+pub struct Journals {
+    /// The one that stands while the action's changes are made, where there are any.
+    pub halfway: Option<Vec<u8>>,
+    /// That of the session afterwards.
+    pub after: Vec<u8>,
+}
+
+// An action whose changes were applied to the folder, while the entries are as before: what its journals are made of.
+#[derive(Clone, Copy, Debug, Drop)]
+struct Passed<'a> {
+    task: &'a Task,
+    folder: &'a Folder,
+    entries: &'a [Changes],
+    cursor: usize,
+    // The fingerprint before the changes, and those after each.
+    before: [u8; 16],
+    fingerprints: &'a [[u8; 16]],
+    back: &'a [Change],
+}
+
+impl<'a> Passed<'a> {
+    fn halfway(self, alloc: Global) -> Result<Option<Vec<u8>>, AllocError>
+        requires cursor { self.cursor ≤ length self.entries.now }
+        requires each { length self.fingerprints.now ≡ length self.back.now }
+        ensures { IfOk result (λ text. SpellsWhere text (halfway_with self.entry.before self.entry.cursor self.entry.entries.now self.entry.fingerprints.now (changes_of self.entry.back.now))) }
+    {
+        if self.back.is_empty() {
+            return Ok(None);
+        }
+        let entries = lent(alloc, &self.entries)?;
+        let text = encode(
+            alloc,
+            &JournalParts {
+                version: Version::Two,
+                fingerprint: self.before,
+                cursor: self.cursor,
+                entries: &entries,
+                halfway: Some(HalfwayParts {
+                    fingerprints: self.fingerprints,
+                    back: self.back,
+                }),
+            },
+        )?;
+        Ok(Some(text))
+    }
+
+    // The entries and the cursor afterwards.
+    fn turned(&self, alloc: Global) -> Result<(Vec<&[Change]>, usize), AllocError>
+        requires { HasNext (kind_of self.now.task.now) self.now.cursor (length self.now.entries.now) }
+        ensures turned { IfOk result (λ p. (lent_entries_of p.0.items, p.1) ≡ entries_with (kind_of self.now.task.now) self.now.cursor self.now.entries.now (changes_of self.now.back.now)) }
+        ensures cursor { IfOk result (λ p. p.1 ≤ length p.0.items) }
+    {
+        let mut list = lent(alloc, &self.entries)?;
+        match self.task {
+            Task::Change(_) => {
+                list.truncate(self.cursor);
+                list.push(self.back)?;
+                Ok((list, self.cursor + 1))
+            }
+            Task::Undo => {
+                let at = self.cursor - 1;
+                list[at] = self.back;
+                Ok((list, at))
+            }
+            Task::Redo => {
+                let at = self.cursor;
+                list[at] = self.back;
+                Ok((list, at + 1))
+            }
+        }
+    }
+
+    fn after(self, alloc: Global) -> Result<Vec<u8>, AllocError>
+        requires { HasNext (kind_of self.task.now) self.cursor (length self.entries.now) }
+        ensures { IfOk result (λ text. Spells text.items (settled_with (fingerprint self.entry.folder.now.files) (entries_with (kind_of self.entry.task.now) self.entry.cursor self.entry.entries.now (changes_of self.entry.back.now)))) }
+    {
+        let fingerprint = self.folder.fingerprint(alloc)?;
+        let (entries, cursor) = self.turned(alloc)?;
+        encode(
+            alloc,
+            &JournalParts {
+                version: Version::Two,
+                fingerprint,
+                cursor,
+                entries: &entries,
+                halfway: None,
+            },
+        )
+    }
+
+    // Both journals.
+    fn spell(self, alloc: Global) -> Result<Journals, AllocError>
+        requires next { HasNext (kind_of self.task.now) self.cursor (length self.entries.now) }
+        requires each { length self.fingerprints.now ≡ length self.back.now }
+        ensures halfway { IfOk result (λ journals. SpellsWhere journals.halfway (halfway_with self.entry.before self.entry.cursor self.entry.entries.now self.entry.fingerprints.now (changes_of self.entry.back.now))) }
+        ensures after { IfOk result (λ journals. Spells journals.after.items (settled_with (fingerprint self.entry.folder.now.files) (entries_with (kind_of self.entry.task.now) self.entry.cursor self.entry.entries.now (changes_of self.entry.back.now)))) }
+    {
+        let halfway = self.halfway(alloc)?;
+        let after = self.after(alloc)?;
+        Ok(Journals { halfway, after })
+    }
+}
+
+// The journals of an action with these changes, which are applied to the folder and turned back.
+pub(crate) fn spell_action(
+    alloc: Global,
+    task: &Task,
+    entries: &[Changes],
+    cursor: usize,
+    folder: &mut Folder,
+    changes: &mut [Change],
+) -> Result<Journals, AllocError>
+    requires applies { IsTrue (takes_all folder.old (changes_of changes.old)) }
+    requires next { HasNext (kind_of task.now) cursor (length entries.now) }
+    ensures folder { folder.new ≡ folder.old }
+    ensures halfway { IfOk result (λ journals. SpellsWhere journals.halfway (halfway_with (fingerprint folder.old.files) cursor entries.now (map fingerprint (folders_after folder.old.files (changes_of changes.old))) (way_back folder.old.files (changes_of changes.old)))) }
+    ensures after { IfOk result (λ journals. Spells journals.after.items (settled_with (fingerprint (state_after_all folder.old (changes_of changes.old)).files) (entries_with (kind_of task.now) cursor entries.now (way_back folder.old.files (changes_of changes.old))))) }
+{
+    let before = folder.fingerprint(alloc)?;
+    let fingerprints = match pass_through(alloc, folder, changes) {
+        Ok(fingerprints) => fingerprints,
+        Err(fault) => {
+            folder.apply_all(changes);
+            return Err(fault);
+        }
+    };
+    let passed = Passed {
+        task,
+        folder: &*folder,
+        entries,
+        cursor,
+        before,
+        fingerprints: &fingerprints,
+        back: &*changes,
+    };
+    let answer = passed.spell(alloc);
+    folder.apply_all(changes);
+    answer
+}
