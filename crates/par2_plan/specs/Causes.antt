@@ -22,11 +22,11 @@ head_fault a = first_fault (
     ∷ fault_where (length a.inputs == 0) NoInput
     ∷ [])
 
--- the inputs that can't be names of inputs
+-- a word that can't be the name of an input
 abbrev pub bad_name : List (List ℕ) → Option Fault
 bad_name inputs = fault_at 1 BadName (λ word. not (is_input_name word)) inputs
 
--- the inputs that were given before
+-- an input that was given before
 abbrev pub duplicate_input : List (List ℕ) → Option Fault
 duplicate_input inputs = fault_at 1 DuplicateInput (λ z. is_among (take z.0 inputs) z.1) (enumerate_from 0 inputs)
 

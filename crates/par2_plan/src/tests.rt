@@ -1,4 +1,4 @@
-//! Each fault of a create, and outputs beside bytes that another program wrote and a third one accepts.
+//! Each fault of a create, and outputs beside bytes that another program made and par2cmdline verifies and repairs by.
 use crate::{Changes, CreateArgs, Fault, plan_create};
 use par2_folder::{Bytes, Change, Folder, Name};
 use par2_slices::crc32;
