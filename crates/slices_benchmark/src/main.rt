@@ -126,11 +126,21 @@ fn best_search(rt: &impl Clock, alloc: Global, bytes: &[u8], wanted: &Wanted) ->
     Ok(best)
 }
 
-fn report(rt: &impl Print, what: &str, round: &Round, md5: &Round) -> io::Result<()> {
+// What a plain copy of the file and its MD5 take in the same run.
+#[derive(Clone, Copy, Drop)]
+struct Yardstick {
+    copy: Round,
+    md5: Round,
+}
+
+fn report(rt: &impl Print, what: &str, round: &Round, beside: &Yardstick) -> io::Result<()> {
     let speed = LEN as f64 / round.seconds / 1e9;
-    let times = round.seconds / md5.seconds;
+    let copy = beside.copy.seconds / round.seconds;
+    let md5 = round.seconds / beside.md5.seconds;
     let made = round.made;
-    println!(rt; "{what}: {speed:.3} GB/s, {times:.2} times the time of MD5 alone ({made})")
+    println!(rt;
+        "{what}: {speed:.3} GB/s, {copy:.3} of a copy's speed, {md5:.2} times the time of MD5 alone ({made})"
+    )
 }
 
 fn measure_kernels(
@@ -138,7 +148,7 @@ fn measure_kernels(
     alloc: Global,
     bytes: &[u8],
     copy: &mut Vec<u8>,
-) -> io::Result<Round> {
+) -> io::Result<Yardstick> {
     let mut md5 = md5_round(rt, bytes)?;
     let mut copied = copy_round(rt, bytes, copy)?;
     let mut crc = crc32_round(rt, bytes)?;
@@ -149,22 +159,23 @@ fn measure_kernels(
         crc = crc.better(crc32_round(rt, bytes)?);
         pairs = pairs.better(pairs_round(rt, alloc, bytes)?);
     }
-    report(rt, "MD5 of the file alone", &md5, &md5)?;
-    report(rt, "a plain copy of the file", &copied, &md5)?;
-    report(rt, "CRC-32 of the file", &crc, &md5)?;
-    report(rt, "MD5 and CRC-32 of each slice", &pairs, &md5)?;
-    Ok(md5)
+    let beside = Yardstick { copy: copied, md5 };
+    report(rt, "a plain copy of the file", &copied, &beside)?;
+    report(rt, "MD5 of the file alone", &md5, &beside)?;
+    report(rt, "CRC-32 of the file", &crc, &beside)?;
+    report(rt, "MD5 and CRC-32 of each slice", &pairs, &beside)?;
+    Ok(beside)
 }
 
 fn measure(rt: &(impl Clock + Print), alloc: Global) -> io::Result<()> {
     let bytes = noise(alloc, LEN, 1)?;
     let mut copy = noise(alloc, LEN, 2)?;
     println!(rt; "a file of {LEN} bytes, slices of {SLICE}; best of {ROUNDS} rounds")?;
-    let md5 = measure_kernels(rt, alloc, &bytes, &mut copy)?;
+    let beside = measure_kernels(rt, alloc, &bytes, &mut copy)?;
 
     let wanted = Wanted::new(alloc, &strangers(alloc, PAIRS)?)?;
     let nothing = best_search(rt, alloc, &bytes, &wanted)?;
-    report(rt, "search for 10,000 pairs, none is there", &nothing, &md5)?;
+    report(rt, "search for 10,000 pairs, none is there", &nothing, &beside)?;
 
     let own = pairs_of(alloc, &bytes)?;
     let wanted = Wanted::new(alloc, &own)?;
@@ -173,7 +184,7 @@ fn measure(rt: &(impl Clock + Print), alloc: Global) -> io::Result<()> {
         rt,
         "search of the file for its own slices, all found",
         &everything,
-        &md5,
+        &beside,
     )?;
 
     copy.fill(0);
@@ -184,7 +195,7 @@ fn measure(rt: &(impl Clock + Print), alloc: Global) -> io::Result<()> {
         rt,
         "search of zeros for a slice of zeros and another",
         &zeros,
-        &md5,
+        &beside,
     )
 }
 
