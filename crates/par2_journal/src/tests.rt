@@ -6,8 +6,7 @@ use std::process::Abort;
 use std::test::Fail;
 
 // A create of this index over the file `a`.
-fn args_of(alloc: Global, base: &str) -> Result<CreateArgs, AllocError>
-{
+fn args_of(alloc: Global, base: &str) -> Result<CreateArgs, AllocError> {
     let mut inputs = Vec::new(alloc);
     inputs.push(String::from_str(alloc, "a")?)?;
     Ok(CreateArgs {

@@ -175,7 +175,12 @@ fn measure(rt: &(impl Clock + Print), alloc: Global) -> io::Result<()> {
 
     let wanted = Wanted::new(alloc, &strangers(alloc, PAIRS)?)?;
     let nothing = best_search(rt, alloc, &bytes, &wanted)?;
-    report(rt, "search for 10,000 pairs, none is there", &nothing, &beside)?;
+    report(
+        rt,
+        "search for 10,000 pairs, none is there",
+        &nothing,
+        &beside,
+    )?;
 
     let own = pairs_of(alloc, &bytes)?;
     let wanted = Wanted::new(alloc, &own)?;
