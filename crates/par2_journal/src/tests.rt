@@ -1,6 +1,7 @@
 //! Worked examples of a session, and each refusal that it knows.
 use crate::{Action, CreateArgs, Fault, NothingToRedo, NothingToUndo, Session, SessionFault, Step};
 use par2_folder::{Bytes, Change, Folder, Name};
+use par2_journal_bytes::decode;
 use std::alloc::{AllocError, Global};
 use std::process::Abort;
 use std::test::Fail;
@@ -106,5 +107,74 @@ fn plays_on_after_a_refusal(rt: HostRuntime) -> Result<(), Fail> {
     assert_eq!(rt; session.play(rt.alloc(), &actions), 3);
     assert_eq!(rt; length_of(&session, "t.par2"), Some(420));
     assert_eq!(rt; session.undo_depth(), 1);
+    Ok(())
+}
+
+// The version and the fingerprint, where the folder has the file `a` alone.
+const FRONT: &[u8] = b"P2UNDO2\n\xd3\x68\x83\xb6\x33\x05\xc2\x0b\x65\xe4\x20\x6a\x90\x61\x28\xc1";
+
+// The journal of a new session on the folder with the file `a`, made by another program from the format alone.
+const NEW_JOURNAL: &[u8] = b"P2UNDO2\n\
+    \xd3\x68\x83\xb6\x33\x05\xc2\x0b\x65\xe4\x20\x6a\x90\x61\x28\xc1\
+    \0\0\0\0\0\0\0\0\0\0\0\0\0\0\0\0\0\
+    \x7b\xb9\x8c\xe5\xe8\xbd\xf9\x9b\x57\x22\xce\xe5\xcd\x5c\x96\xcd";
+
+#[test]
+fn journal_of_a_session(rt: HostRuntime) -> Result<(), Fail> {
+    let mut session = session_of(&rt)?;
+    assert_eq!(rt; session.encode(rt.alloc())?.as_slice(), NEW_JOURNAL);
+    let args = args_of(rt.alloc(), "t.par2")?;
+    assert!(rt; session.create(rt.alloc(), &args).is_ok());
+    let text = session.encode(rt.alloc())?;
+    assert_eq!(rt; text.len(), 73);
+    let Ok(journal) = decode(rt.alloc(), &text) else {
+        panic!(rt; "no journal");
+    };
+    assert_eq!(rt; journal.cursor, 1);
+    assert_eq!(rt; journal.entries.len(), 1);
+    assert!(rt;
+        matches!(journal.entries[0].as_slice(), [Change::Remove(name)] if name.as_str() == "t.par2")
+    );
+    assert_eq!(rt; session.undo(), Ok(()));
+    let text = session.encode(rt.alloc())?;
+    assert_eq!(rt; text.len(), 501);
+    assert!(rt; text.starts_with(FRONT));
+    Ok(())
+}
+
+#[test]
+fn journals_of_a_create(rt: HostRuntime) -> Result<(), Fail> {
+    let mut session = session_of(&rt)?;
+    let action = Action::Create(args_of(rt.alloc(), "t.par2")?);
+    let Ok(prepared) = session.prepare(rt.alloc(), &action) else {
+        panic!(rt; "refused");
+    };
+    let journals = session.journals(rt.alloc(), &prepared)?;
+    assert_eq!(rt; length_of(&session, "t.par2"), None);
+    let Some(text) = &journals.halfway else {
+        panic!(rt; "no halfway journal");
+    };
+    assert_eq!(rt; text.len(), 89);
+    let Ok(journal) = decode(rt.alloc(), text) else {
+        panic!(rt; "no journal");
+    };
+    let Some(halfway) = &journal.halfway else {
+        panic!(rt; "a settled journal");
+    };
+    assert!(rt;
+        matches!(halfway.back.as_slice(), [Change::Remove(name)] if name.as_str() == "t.par2")
+    );
+    let _steps = session.commit(prepared);
+    assert_eq!(rt;
+        halfway.fingerprints.as_slice(),
+        [session.folder().fingerprint(rt.alloc())?].as_slice()
+    );
+    assert_eq!(rt; session.encode(rt.alloc())?, journals.after);
+    let Ok(prepared) = session.prepare(rt.alloc(), &Action::Undo) else {
+        panic!(rt; "nothing to undo");
+    };
+    let journals = session.journals(rt.alloc(), &prepared)?;
+    let _steps = session.commit(prepared);
+    assert_eq!(rt; session.encode(rt.alloc())?, journals.after);
     Ok(())
 }

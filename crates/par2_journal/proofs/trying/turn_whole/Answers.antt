@@ -1,6 +1,5 @@
-use Rattle.std.proofs.Common.{◌≡◌, ◌≤◌, ◌++◌, length, map, take, drop, sym, ap, ◌∙◌, arith}
+use Rattle.std.proofs.Common.{◌≤◌, ◌++◌, length, ap, ◌∙◌, arith}
 use Rattle.std.specs.Prelude.{reverse}
-use Rattle.par2_spec.specs.Changes.{way_back}
 use Rattle.par2_folder.specs.Views.{change_of}
 use Rattle.par2_journal_bytes.specs.Views.{changes_of}
 use Rattle.par2_journal.proofs.Ways.{back_taken, back_leads}

@@ -1,4 +1,4 @@
-use Rattle.std.proofs.Common.{◌-◌, sym, ap, subst, ◌∙◌, None, vec_len, vec_capacity}
+use Rattle.std.proofs.Common.{◌-◌, ap, subst, ◌∙◌, None, vec_len, vec_capacity}
 use Rattle.std.specs.Prelude.{IfOk}
 use Rattle.par2_spec.specs.Journals.{Journal, Spells}
 use Rattle.par2_spec.specs.Sessions.{session_of_kept}

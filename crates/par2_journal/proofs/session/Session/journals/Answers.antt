@@ -1,4 +1,4 @@
-use Rattle.std.proofs.Common.{◌≡◌, ◌-◌, length, sym, ap, subst, ◌∙◌, vec_len, vec_capacity}
+use Rattle.std.proofs.Common.{◌-◌, length, sym, ap, subst, ◌∙◌, vec_len, vec_capacity}
 use Rattle.std.specs.Prelude.{IfOk}
 use Rattle.par2_spec.specs.Changes.{FolderState, takes_all}
 use Rattle.par2_spec.specs.Commands.{Action}
