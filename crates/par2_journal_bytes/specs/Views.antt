@@ -1,15 +1,15 @@
 -- What the types of this crate say, without where they lie in memory.
-use Rattle.std.specs.Prelude.{ℕ, List, map, Vec, Option, Some, None}
+use Rattle.std.specs.Prelude.{List, map, Vec, Option, Some, None}
 use Rattle.std.specs.Borrow.{Bor}
 use Rattle.std.specs.declared.alloc.Global.{Global}
 use Rattle.par2_spec.specs.Changes as defined
 use Rattle.par2_spec.specs.Journals as journals
-use Rattle.par2_spec.specs.declared.Version.{Version}
 use Rattle.par2_folder.specs.declared.change.Change.{Change}
 use Rattle.par2_folder.specs.Views.{change_of}
 use Rattle.par2_journal_bytes.specs.declared.journal.Halfway.{Halfway}
 use Rattle.par2_journal_bytes.specs.declared.journal.Journal.{Journal}
 use Rattle.par2_journal_bytes.specs.declared.journal.HalfwayParts.{HalfwayParts}
+use Rattle.par2_journal_bytes.specs.declared.journal.JournalParts.{JournalParts}
 
 abbrev pub changes_of : List Change → List defined.Change
 changes_of changes = map change_of changes
@@ -39,11 +39,11 @@ abbrev pub halfway_from : Option HalfwayParts → Option journals.Halfway
 halfway_from None = None
 halfway_from (Some h) = Some (record { fingerprints = h.fingerprints.now; back = changes_of h.back.now })
 
-abbrev pub journal_from : Version → List ℕ → ℕ → List (Bor (List Change)) → Option HalfwayParts → journals.Journal
-journal_from version fingerprint cursor entries halfway = record {
-  version = version;
-  fingerprint = fingerprint;
-  cursor = cursor;
-  entries = lent_entries_of entries;
-  halfway = halfway_from halfway;
+abbrev pub journal_from : JournalParts → journals.Journal
+journal_from parts = record {
+  version = parts.version;
+  fingerprint = parts.fingerprint;
+  cursor = parts.cursor;
+  entries = lent_entries_of parts.entries.now;
+  halfway = halfway_from parts.halfway;
 }

@@ -28,6 +28,16 @@ pub struct Halfway {
     pub back: Vec<Change>,
 }
 
+/// The parts that a journal is written from, as [`Journal`] has them. Nothing of them is copied.
+#[derive(Clone, Copy, Debug, Drop)]
+pub struct JournalParts<'a> {
+    pub version: Version,
+    pub fingerprint: [u8; 16],
+    pub cursor: usize,
+    pub entries: &'a [&'a [Change]],
+    pub halfway: Option<HalfwayParts<'a>>,
+}
+
 /// The parts of a command that was begun, as [`Halfway`] has them.
 #[derive(Clone, Copy, Debug, Drop)]
 pub struct HalfwayParts<'a> {

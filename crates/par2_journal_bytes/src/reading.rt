@@ -1,5 +1,6 @@
 //! A journal from its bytes. Each reader takes its part from the front, and gives the bytes behind it too.
-ghost use Rattle.std.specs.Prelude.{◌≡◌, IfOk, IfSome, Some, Err, is_some, MatchResult};
+ghost use Rattle.std.specs.Prelude.{◌≡◌, ℕ, List, IfOk, IfSome, IsTrue, Some, Err, is_some, MatchResult};
+ghost use Rattle.md5.specs.Md5.{md5};
 ghost use Rattle.par2_spec.specs.Names.{is_name};
 ghost use Rattle.par2_spec.specs.Journals.{Journal as Defined, Spells};
 ghost use Rattle.par2_folder.specs.Views.{change_of};

@@ -65,28 +65,22 @@ fn are_same_changes(ones: &[Change], others: &[Change]) -> bool {
             .all(|(one, other)| is_same_change(one, other))
 }
 
-// The text of a journal, which reads back as its parts are.
-fn text_of<R: Abort + AllocGlobal>(
-    rt: &R,
-    version: Version,
-    cursor: usize,
-    entries: &[&[Change]],
-    halfway: &Option<HalfwayParts<'_>>,
-) -> Result<Vec<u8>, Fail>
-    requires cursor { IsCursor version cursor (length entries.now) }
-    requires some { IfSome halfway.now (λ h. 1 ≤ length h.back.now) }
-    requires each { IfSome halfway.now (λ h. length h.fingerprints.now ≡ length h.back.now) }
+// The text of these parts, which reads back as they are.
+fn text_of<R: Abort + AllocGlobal>(rt: &R, parts: &JournalParts<'_>) -> Result<Vec<u8>, Fail>
+    requires cursor { IsCursor parts.now.version parts.now.cursor (length parts.now.entries.now) }
+    requires some { IfSome parts.now.halfway (λ h. 1 ≤ length h.back.now) }
+    requires each { IfSome parts.now.halfway (λ h. length h.fingerprints.now ≡ length h.back.now) }
 {
-    let text = encode(rt.alloc(), version, FINGERPRINT, cursor, entries, halfway)?;
+    let text = encode(rt.alloc(), parts)?;
     let journal = decode(rt.alloc(), &text)?;
-    assert_eq!(rt; journal.version, version);
-    assert_eq!(rt; journal.fingerprint, FINGERPRINT);
-    assert_eq!(rt; journal.cursor, cursor);
-    assert_eq!(rt; journal.entries.len(), entries.len());
-    for (one, other) in journal.entries.iter().zip(entries) {
+    assert_eq!(rt; journal.version, parts.version);
+    assert_eq!(rt; journal.fingerprint, parts.fingerprint);
+    assert_eq!(rt; journal.cursor, parts.cursor);
+    assert_eq!(rt; journal.entries.len(), parts.entries.len());
+    for (one, other) in journal.entries.iter().zip(parts.entries) {
         assert!(rt; are_same_changes(one, other));
     }
-    match (&journal.halfway, halfway) {
+    match (&journal.halfway, parts.halfway) {
         (None, None) => {}
         (Some(one), Some(other)) => {
             assert_eq!(rt; one.fingerprints.as_slice(), other.fingerprints);
@@ -97,64 +91,78 @@ fn text_of<R: Abort + AllocGlobal>(
     Ok(text)
 }
 
-// The text of the settled version 2 journal that was read from the text.
-fn text_again<R: Abort + AllocGlobal>(rt: &R, text: &[u8]) -> Result<Vec<u8>, Fail> {
-    let journal = decode(rt.alloc(), text)?;
-    let mut entries = Vec::new(rt.alloc());
-    for entry in &journal.entries {
-        entries.push(entry.as_slice())?;
-    }
-    assert!(rt; journal.cursor <= entries.len());
-    Ok(encode(
-        rt.alloc(),
-        Version::Two,
-        journal.fingerprint,
-        journal.cursor,
-        &entries,
-        &None,
-    )?)
-}
-
 #[test]
 fn journal_lengths(rt: HostRuntime) -> Result<(), Fail> {
     let undo = [Change::Remove(name(&rt, "t.par2"))];
-    let one = text_of(&rt, Version::One, 1, &[&undo], &None)?;
-    assert_eq!(rt; one.len(), 65);
-    assert_eq!(rt; one.as_slice(), UNDO_ONE);
-    let two = text_of(&rt, Version::Two, 1, &[&undo], &None)?;
-    assert_eq!(rt; two.len(), 73);
-    assert_eq!(rt; two.as_slice(), UNDO_TWO);
-    assert_eq!(rt; text_again(&rt, UNDO_TWO)?.as_slice(), UNDO_TWO);
+    let undos = [undo.as_slice()];
+    let redo = [Change::Write(name(&rt, "t.par2"), Bytes::copy_of(rt.alloc(), &[0; 420])?)];
+    let redos = [redo.as_slice()];
+    let settled = JournalParts {
+        version: Version::One,
+        fingerprint: FINGERPRINT,
+        cursor: 0,
+        entries: &[],
+        halfway: None,
+    };
 
-    // Version 1 has no place for an entry of a redo.
-    let bytes = Bytes::copy_of(rt.alloc(), &[0; 420])?;
-    let redo = [Change::Write(name(&rt, "t.par2"), bytes)];
-    let one = text_of(&rt, Version::One, 0, &[], &None)?;
-    assert_eq!(rt; one.len(), 49);
-    assert_eq!(rt; one.as_slice(), NOTHING_ONE);
-    let two = text_of(&rt, Version::Two, 0, &[&redo], &None)?;
-    assert_eq!(rt; two.len(), 501);
-    assert!(rt; two.ends_with(&REDO_DIGEST));
-    Ok(())
-}
+    let text = text_of(
+        &rt,
+        &JournalParts {
+            cursor: 1,
+            entries: &undos,
+            ..settled
+        },
+    )?;
+    assert_eq!(rt; text.len(), 65);
+    assert_eq!(rt; text.as_slice(), UNDO_ONE);
+    let text = text_of(
+        &rt,
+        &JournalParts {
+            version: Version::Two,
+            cursor: 1,
+            entries: &undos,
+            ..settled
+        },
+    )?;
+    assert_eq!(rt; text.len(), 73);
+    assert_eq!(rt; text.as_slice(), UNDO_TWO);
 
-#[test]
-fn halfway_journal_lengths(rt: HostRuntime) -> Result<(), Fail> {
-    let fingerprints = [*b"aaaaaaaaaaaaaaaa", *b"bbbbbbbbbbbbbbbb"];
+    let text = text_of(&rt, &settled)?;
+    assert_eq!(rt; text.len(), 49);
+    assert_eq!(rt; text.as_slice(), NOTHING_ONE);
+    let text = text_of(
+        &rt,
+        &JournalParts {
+            version: Version::Two,
+            entries: &redos,
+            ..settled
+        },
+    )?;
+    assert_eq!(rt; text.len(), 501);
+    assert!(rt; text.ends_with(&REDO_DIGEST));
+
     let back = [
         Change::Remove(name(&rt, "a")),
         Change::Rename(name(&rt, "a.1"), name(&rt, "a")),
     ];
+    let fingerprints = [*b"aaaaaaaaaaaaaaaa", *b"bbbbbbbbbbbbbbbb"];
     let halfway = Some(HalfwayParts {
         fingerprints: &fingerprints,
         back: &back,
     });
-    let one = text_of(&rt, Version::One, 0, &[], &halfway)?;
-    assert_eq!(rt; one.len(), 99);
-    assert_eq!(rt; one.as_slice(), HALFWAY_ONE);
-    let two = text_of(&rt, Version::Two, 0, &[], &halfway)?;
-    assert_eq!(rt; two.len(), 107);
-    assert_eq!(rt; two.as_slice(), HALFWAY_TWO);
+    let text = text_of(&rt, &JournalParts { halfway, ..settled })?;
+    assert_eq!(rt; text.len(), 99);
+    assert_eq!(rt; text.as_slice(), HALFWAY_ONE);
+    let text = text_of(
+        &rt,
+        &JournalParts {
+            version: Version::Two,
+            halfway,
+            ..settled
+        },
+    )?;
+    assert_eq!(rt; text.len(), 107);
+    assert_eq!(rt; text.as_slice(), HALFWAY_TWO);
     Ok(())
 }
 

@@ -8,9 +8,9 @@ ghost use Rattle.par2_spec.specs.Journals as journals;
 ghost use Rattle.par2_folder.specs.Views.{change_of};
 ghost use Rattle.par2_journal_bytes.specs.Views.{changes_of, lent_entries_of, halfway_from, journal_from};
 
-use crate::HalfwayParts;
 use crate::digest::digest_of;
 use crate::journal::heading;
+use crate::{HalfwayParts, JournalParts};
 use par2_folder::{Bytes, Change, Name};
 use par2_spec::Version;
 use std::alloc::{AllocError, Global};
@@ -140,28 +140,21 @@ fn append_cursor(out: &mut Vec<u8>, version: Version, cursor: usize) -> Result<(
     }
 }
 
-/// The bytes of the journal with these parts, as [`Journal`](crate::Journal) has them.
+/// The bytes of the journal with these parts.
 #[tactic(auto, unfolding(par2_spec::specs::Journals::spelling, par2_spec::specs::Journals::journal_bytes))]
-pub fn encode(
-    alloc: Global,
-    version: Version,
-    fingerprint: [u8; 16],
-    cursor: usize,
-    entries: &[&[Change]],
-    halfway: &Option<HalfwayParts<'_>>,
-) -> Result<Vec<u8>, AllocError>
-    requires cursor { journals.IsCursor version cursor (length entries.now) }
-    requires some { IfSome halfway.now (λ h. 1 ≤ length h.back.now) }
-    requires each { IfSome halfway.now (λ h. length h.fingerprints.now ≡ length h.back.now) }
-    ensures { IfOk result (λ bytes. journals.Spells bytes.items (journal_from version fingerprint cursor entries.now halfway.now)) }
+pub fn encode(alloc: Global, parts: &JournalParts<'_>) -> Result<Vec<u8>, AllocError>
+    requires cursor { journals.IsCursor parts.now.version parts.now.cursor (length parts.now.entries.now) }
+    requires some { IfSome parts.now.halfway (λ h. 1 ≤ length h.back.now) }
+    requires each { IfSome parts.now.halfway (λ h. length h.fingerprints.now ≡ length h.back.now) }
+    ensures { IfOk result (λ bytes. journals.Spells bytes.items (journal_from parts.now)) }
 {
     let mut out = Vec::new(alloc);
-    out.extend_from_slice(heading(version))?;
-    append_digest(&mut out, fingerprint)?;
-    append_cursor(&mut out, version, cursor)?;
-    append_number(&mut out, entries.len() as u64)?;
-    append_entries(&mut out, entries)?;
-    append_halfway(&mut out, halfway)?;
+    out.extend_from_slice(heading(parts.version))?;
+    append_digest(&mut out, parts.fingerprint)?;
+    append_cursor(&mut out, parts.version, parts.cursor)?;
+    append_number(&mut out, parts.entries.len() as u64)?;
+    append_entries(&mut out, parts.entries)?;
+    append_halfway(&mut out, &parts.halfway)?;
     let digest = digest_of(&out);
     append_digest(&mut out, digest)?;
     Ok(out)
