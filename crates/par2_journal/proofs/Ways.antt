@@ -138,3 +138,6 @@ back_taken f g cs ds taken moved is = ap (takes_all g) is ∙ ap (λ s. takes_al
 
 pub back_leads : (f g : FolderState) (cs ds : List Change) → takes_all f cs ≡ true → g ≡ state_after_all f cs → ds ≡ way_back f.files cs → state_after_all g ds ≡ f
 back_leads f g cs ds taken moved is = ap (state_after_all g) is ∙ ap (λ s. state_after_all s (way_back f.files cs)) moved ∙ state_all_back f cs taken
+
+pub back_again : (f g : FolderState) (cs ds : List Change) → takes_all f cs ≡ true → g ≡ state_after_all f cs → ds ≡ way_back f.files cs → way_back g.files ds ≡ cs
+back_again f g cs ds taken moved is = ap (way_back g.files) is ∙ ap (λ (s : FolderState). way_back s.files (way_back f.files cs)) moved ∙ changes_back f cs taken
