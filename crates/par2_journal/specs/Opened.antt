@@ -1,5 +1,5 @@
 -- What a session opens as.
-use Rattle.std.specs.Prelude.{ℕ, List, ◌∷◌, Bool, not, take, drop, reverse, position, Result, Ok, Err, None, if◌then◌else◌, false}
+use Rattle.std.specs.Prelude.{ℕ, List, ◌∷◌, take, drop, reverse, position, Result, None}
 use Rattle.std.specs.Str.{bytes_eq}
 use Rattle.par2_spec.specs.Folders.{Folder, fingerprint}
 use Rattle.par2_spec.specs.Changes.{Change}

@@ -1,5 +1,5 @@
-use Rattle.std.proofs.Common.{Some, sym, ap, ◌∙◌}
-use Rattle.par2_journal_bytes.specs.Views.{changes_of, entries_of, halfway_of, journal_of}
+use Rattle.std.proofs.Common.{sym, ap, ◌∙◌}
+use Rattle.par2_journal_bytes.specs.Views.{changes_of, halfway_of, journal_of}
 use Rattle.par2_journal.specs.Opened.{begun_as}
 use Rattle.par2_journal.proofs.Reopened.{one_or, opened_settled, opened_begun}
 use Rattle.par2_journal.proofs.opening.open_journal.Goals as goal

@@ -1,6 +1,6 @@
-use Rattle.std.proofs.Common.{◌≡◌, ◌≤◌, true, false, Ok, length, sym, ap, subst, ◌∙◌, arith}
+use Rattle.std.proofs.Common.{◌≡◌, ◌≤◌, true, false, Ok, length, ap, subst, ◌∙◌, arith}
 use Rattle.std.proofs.lemmas.List.{length-map}
-use Rattle.par2_spec.specs.Changes.{FolderState, effects, places_taken, takes_all}
+use Rattle.par2_spec.specs.Changes.{FolderState, effects, places_taken}
 use Rattle.par2_spec.specs.Opening.{is_valid, leads_through}
 use Rattle.par2_spec.proofs.FolderLaws.{state_files}
 use Rattle.par2_folder.specs.Views.{change_of}

@@ -1,5 +1,4 @@
-use Rattle.std.proofs.Common.{◌≡◌, ◌&&◌, ◌++◌, Vec, take, drop, sym, ap, ◌∙◌}
-use Rattle.std.specs.Prelude.{reverse}
+use Rattle.std.proofs.Common.{◌&&◌, Vec, drop, sym, ap, ◌∙◌}
 use Rattle.std.specs.declared.alloc.Global.{Global}
 use Rattle.par2_spec.specs.Sessions.{walks}
 use Rattle.par2_folder.specs.declared.change.Change.{Change}

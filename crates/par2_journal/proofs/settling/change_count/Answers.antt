@@ -1,4 +1,4 @@
-use Rattle.std.proofs.Common.{◌≡◌, ◌≤◌, length, get_or, sym, ap, ◌∙◌, arith, Vec}
+use Rattle.std.proofs.Common.{◌≡◌, ◌≤◌, length, get_or, sym, ap, arith, Vec}
 use Rattle.std.specs.declared.alloc.Global.{Global}
 use Rattle.std.proofs.lemmas.List.{length-map}
 use Rattle.par2_spec.specs.Changes.{places_taken}

@@ -1,4 +1,4 @@
-use Rattle.std.proofs.Common.{◌≡◌, ◌≤◌, ◌&&◌, take, drop, sym, ap, ◌∙◌, arith}
+use Rattle.std.proofs.Common.{◌≤◌, ◌&&◌, take, drop, ap, ◌∙◌, arith}
 use Rattle.std.specs.Prelude.{reverse, sum_by}
 use Rattle.par2_spec.specs.Changes.{places_taken}
 use Rattle.par2_spec.specs.Opening.{leads}

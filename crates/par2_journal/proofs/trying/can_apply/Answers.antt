@@ -1,5 +1,4 @@
 use Rattle.std.proofs.Common.{◌≡◌, true, sym, ◌∙◌, arith}
-use Rattle.par2_spec.specs.Changes.{takes_all}
 use Rattle.par2_journal_bytes.specs.Views.{changes_of}
 use Rattle.par2_journal.proofs.Ways.{back_taken, back_leads, back_again}
 use Rattle.par2_journal.proofs.trying.can_apply.Goals as goal
