@@ -23,7 +23,7 @@ refused_plan s command fault (inl memory) = inl (ap Plan memory)
 refused_plan s command fault (inr cause) = inr (ap (λ r. planned r (plans.changes_of s.folder.files command)) cause)
 
 -- each write takes one place
-places_within : (changes : List Change) → places_taken changes ≤ length changes
+pub places_within : (changes : List Change) → places_taken changes ≤ length changes
 places_within [] = omega arith
 places_within (Write name bytes ∷ changes) = omega (arith, places_within changes)
 places_within (Replace name bytes ∷ changes) = omega (arith, places_within changes)

@@ -2,7 +2,7 @@
 use Rattle.std.proofs.Common.{◌≡◌, ℕ, zero, suc, ◌+◌, ◌<◌, ◌≤◌, Bool, true, false, ◌&&◌, List, [], ◌∷◌, ◌++◌, length, map, take, drop, get_or, set, refl, sym, ap, subst, ◌∙◌, append_assoc, append-nil, add-one, drop-cons, arith, length-append, length-drop}
 use Rattle.std.specs.Prelude.{reverse}
 use Rattle.std.proofs.Math.Seq.{drop-append_seam, take-append_seam}
-use Rattle.std.proofs.lemmas.List.{take_more, take_all, take-append-drop, length-take-le, length-reverse, reverse-append, reverse-reverse, get_or-map, map-set, length-map, map-append, take-map, drop-map}
+use Rattle.std.proofs.lemmas.List.{take_more, take-append-drop, length-take-le, length-reverse, reverse-append, reverse-reverse, get_or-map, map-set, length-map, map-append, take-map, drop-map}
 
 pub set_seam : {X : Type 0} (front : List X) (x y : X) (rest : List X) → set (front ++ x ∷ rest) (length front) y ≡ front ++ y ∷ rest
 set_seam [] x y rest = refl

@@ -7,3 +7,5 @@ mod Each
 mod Ways
 mod Tried
 mod Prints
+mod Settled
+mod Reopened

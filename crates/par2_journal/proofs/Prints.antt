@@ -1,11 +1,10 @@
 -- The fingerprints after each of some changes.
-use Rattle.std.proofs.Common.{◌≡◌, ℕ, ◌+◌, ◌<◌, ◌≤◌, List, [], ◌∷◌, ◌++◌, length, map, take, get_or, Result, Ok, Err, true, refl, sym, ap, ◌∙◌, arith}
+use Rattle.std.proofs.Common.{◌≡◌, ℕ, ◌+◌, ◌<◌, ◌≤◌, List, [], ◌∷◌, ◌++◌, length, map, take, get_or, Result, Ok, Err, refl, sym, ap, ◌∙◌, arith}
 use Rattle.std.specs.Prelude.{reverse, IfOk, IsOkAnd}
 use Rattle.std.proofs.lemmas.List.{take_more, take_all, map-append, length-map}
 use Rattle.par2_spec.specs.Folders.{Folder, fingerprint}
 use Rattle.par2_spec.specs.Changes.{Change, Remove, FolderState, effect, effects, folders_after, state_after_all, way_back}
 use Rattle.par2_spec.proofs.FolderLaws.{state_files, effects-append}
-use Rattle.par2_journal.proofs.Each.{IsTurned}
 use Rattle.par2_journal.proofs.Tried.{AreTurned, whole_turned}
 
 folders_more : (f : Folder) (cs : List Change) (c : Change) → folders_after f (cs ++ c ∷ []) ≡ folders_after f cs ++ effect (effects f cs) c ∷ []

@@ -1,12 +1,12 @@
 -- A session's journals, by the session's fields.
-use Rattle.std.proofs.Common.{◌≡◌, ◌≢◌, ℕ, zero, suc, ◌+◌, ◌-◌, ◌<◌, ◌≤◌, List, [], ◌∷◌, ◌++◌, length, map, take, drop, get_or, set, Option, Some, None, Result, Ok, Err, Vec, true, refl, sym, ap, subst, ◌∙◌, append-nil, length-set, length-append, arith}
+use Rattle.std.proofs.Common.{◌≡◌, ◌≢◌, ℕ, zero, suc, ◌+◌, ◌-◌, ◌<◌, ◌≤◌, List, [], ◌∷◌, ◌++◌, length, map, take, drop, get_or, set, Option, Some, None, Result, Ok, Err, Vec, true, refl, sym, ap, subst, ◌∙◌, append-nil, length-set, arith}
 use Rattle.std.specs.Prelude.{reverse, IfOk}
 use Rattle.std.specs.declared.alloc.Global.{Global}
 use Rattle.std.proofs.lemmas.List.{reverse-reverse, take-append-drop, length-reverse, length-take-le, reverse-append, get_or_default, drop_all, map-append, map-set, take-map}
 use Rattle.par2_spec.specs.Folders.{Folder, fingerprint}
 use Rattle.par2_spec.specs.Changes.{Change, FolderState, effect, folders_after, state_after_all, takes_all, way_back}
 use Rattle.par2_spec.specs.Commands.{Action}
-use Rattle.par2_spec.specs.Sessions.{Session, KeptSession, OnlyGrew, CanWalk, walks, session_of_kept, session_after, session_with, changes_asked, applied, kept_done, kept_undone, kept_redone}
+use Rattle.par2_spec.specs.Sessions.{Session, KeptSession, OnlyGrew, CanWalk, walks, session_of_kept, session_after, session_with, applied, kept_done, kept_undone, kept_redone}
 use Rattle.par2_spec.specs.Journals.{Journal, Spells}
 use Rattle.par2_spec.specs.Opening.{settled_journal, halfway_journal, halfway_where, journals_of}
 use Rattle.par2_spec.specs.declared.Version.TheVariants.{Two}

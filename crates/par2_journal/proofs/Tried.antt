@@ -1,5 +1,5 @@
 -- Changes and entries that were tried.
-use Rattle.std.proofs.Common.{◌≡◌, ℕ, ◌+◌, ◌<◌, ◌≤◌, Bool, true, false, List, ◌∷◌, [], ◌++◌, length, map, take, drop, get_or, set, Option, Some, None, refl, sym, ap, ◌∙◌, arith}
+use Rattle.std.proofs.Common.{◌≡◌, ℕ, ◌+◌, ◌<◌, ◌≤◌, true, false, List, ◌++◌, length, map, take, drop, get_or, set, Some, None, ap, ◌∙◌, arith}
 use Rattle.std.specs.Prelude.{is_none, reverse}
 use Rattle.par2_spec.specs.Changes.{Change, FolderState, change_refusal, inverse, state_after, takes_all, state_after_all, way_back}
 use Rattle.par2_spec.specs.Sessions.{walks}

@@ -1,7 +1,7 @@
 -- Changes and entries that a kept folder takes in turn, and their ways back.
-use Rattle.std.proofs.Common.{◌≡◌, ℕ, ◌+◌, Bool, true, false, ◌&&◌, List, [], ◌∷◌, ◌++◌, length, refl, sym, ap, subst, ◌∙◌, append_assoc, append-nil, length-append, arith}
+use Rattle.std.proofs.Common.{◌≡◌, true, ◌&&◌, List, [], ◌∷◌, ◌++◌, length, refl, sym, ap, ◌∙◌, append_assoc, append-nil, length-append, arith}
 use Rattle.std.specs.Prelude.{is_none}
-use Rattle.par2_spec.specs.Changes.{Change, FolderState, change_refusal, effect, effects, inverse, state_after, takes_all, state_after_all, way_back}
+use Rattle.par2_spec.specs.Changes.{Change, FolderState, change_refusal, effect, inverse, state_after, takes_all, state_after_all, way_back}
 use Rattle.par2_spec.specs.Sessions.{walks}
 use Rattle.par2_spec.proofs.FolderLaws.{both_first, both_second, both_true, state_files, state_all_back, way_back_taken, changes_back, way_back-append, state_after_all-append}
 use Rattle.par2_journal.specs.Walked.{state_along, ways_back}
@@ -138,3 +138,6 @@ back_taken f g cs ds taken moved is = ap (takes_all g) is ∙ ap (λ s. takes_al
 
 pub back_leads : (f g : FolderState) (cs ds : List Change) → takes_all f cs ≡ true → g ≡ state_after_all f cs → ds ≡ way_back f.files cs → state_after_all g ds ≡ f
 back_leads f g cs ds taken moved is = ap (state_after_all g) is ∙ ap (λ s. state_after_all s (way_back f.files cs)) moved ∙ state_all_back f cs taken
+
+pub back_again : (f g : FolderState) (cs ds : List Change) → takes_all f cs ≡ true → g ≡ state_after_all f cs → ds ≡ way_back f.files cs → way_back g.files ds ≡ cs
+back_again f g cs ds taken moved is = ap (way_back g.files) is ∙ ap (λ (s : FolderState). way_back s.files (way_back f.files cs)) moved ∙ changes_back f cs taken

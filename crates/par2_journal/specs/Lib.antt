@@ -6,3 +6,4 @@ pub mod Plain
 pub mod Faulted
 pub mod Walked
 pub mod Written
+pub mod Opened

@@ -3,14 +3,17 @@
 #![tactic(auto)]
 
 mod history;
+mod opening;
 mod passing;
 mod prepared;
 mod session;
+mod settling;
 mod spelling;
 mod step;
 mod trying;
 
 pub use history::{NothingToRedo, NothingToUndo};
+pub use opening::{Halfway, Opened};
 pub use par2_plan::{Changes, CreateArgs, Fault};
 pub use par2_spec::Action;
 pub use prepared::{Prepared, SessionFault};

@@ -37,7 +37,7 @@ impl Model for Session {
 }
 
 impl Session {
-    ghost use Rattle.std.specs.Prelude.{◌≡◌, ◌↔◌, ◌<◌, ◌≤◌, ◌≢◌, [], Ok, map, length, drop, IsErr, IfOk, IfErr, OnOk, OnErr, IsTrue};
+    ghost use Rattle.std.specs.Prelude.{◌≡◌, ◌↔◌, ◌<◌, ◌≤◌, ◌≢◌, [], Ok, map, length, take, drop, reverse, IsErr, IfOk, IfErr, OnOk, OnErr, IsTrue};
     ghost use Rattle.std.specs.List.{AllByRecursion};
     ghost use Rattle.par2_spec.specs.Changes.{takes_all};
     ghost use Rattle.par2_spec.specs.Sessions.{CanWalk, OnlyGrew, session_of_kept, session_after, changes_asked, history_of, kept_done, kept_undone, kept_redone};
@@ -52,7 +52,8 @@ impl Session {
     ghost use Rattle.par2_spec.specs.Journals.{Spells};
     ghost use Rattle.par2_spec.specs.Opening.{settled_journal, journals_of};
     ghost use Rattle.par2_spec.specs.Commands.{Action as Asked};
-    ghost use Rattle.par2_spec.specs.Sessions.{KeptSession};
+    ghost use Rattle.par2_spec.specs.Sessions.{KeptSession, walks};
+    ghost use Rattle.par2_journal.specs.Opened.{session_at};
     ghost use Rattle.par2_journal.specs.Written.{AreSpelled};
     ghost use Rattle.par2_spec.specs.declared.Version.TheVariants.{Two};
 
@@ -66,6 +67,20 @@ impl Session {
             folder,
             entries: Vec::new(alloc),
             cursor: 0,
+        }
+    }
+
+    // The session of these entries.
+    pub(crate) fn from_entries(folder: Folder, entries: Vec<Changes>, cursor: usize) -> Session
+        requires within { cursor ≤ length entries.items }
+        requires back { IsTrue (walks folder (reverse (take cursor entries.items))) }
+        requires forth { IsTrue (walks folder (drop cursor entries.items)) }
+        ensures { session_of_kept result ≡ session_at folder.files cursor entries.items }
+    {
+        Session {
+            folder,
+            entries,
+            cursor,
         }
     }
 

@@ -1,7 +1,10 @@
 //! Worked examples of a session, and each refusal that it knows.
-use crate::{Action, CreateArgs, Fault, NothingToRedo, NothingToUndo, Session, SessionFault, Step};
+use crate::{
+    Action, CreateArgs, Fault, NothingToRedo, NothingToUndo, Opened, Session, SessionFault, Step,
+};
 use par2_folder::{Bytes, Change, Folder, Name};
 use par2_journal_bytes::decode;
+use par2_spec::JournalFault;
 use std::alloc::{AllocError, Global};
 use std::process::Abort;
 use std::test::Fail;
@@ -20,13 +23,19 @@ fn args_of(alloc: Global, base: &str) -> Result<CreateArgs, AllocError> {
     })
 }
 
-// A session on a folder with the file `a`.
-fn session_of<R: Abort + AllocGlobal>(rt: &R) -> Result<Session, Fail> {
+// A folder with a file of this name.
+fn folder_of<R: Abort + AllocGlobal>(rt: &R, text: &str) -> Result<Folder, Fail> {
     let mut folder = Folder::new(rt.alloc());
     folder.reserve(1)?;
-    let name = Name::new("a").expect(rt, "a name");
+    let name = Name::new(text).expect(rt, "a name");
     let mut write = Change::Write(name, Bytes::copy_of(rt.alloc(), b"abcdefgh")?);
     assert!(rt; folder.apply(&mut write).is_ok());
+    Ok(folder)
+}
+
+// A session on a folder with the file `a`.
+fn session_of<R: Abort + AllocGlobal>(rt: &R) -> Result<Session, Fail> {
+    let folder = folder_of(rt, "a")?;
     Ok(Session::new(rt.alloc(), folder))
 }
 
@@ -176,5 +185,77 @@ fn journals_of_a_create(rt: HostRuntime) -> Result<(), Fail> {
     let journals = session.journals(rt.alloc(), &prepared)?;
     let _steps = session.commit(prepared);
     assert_eq!(rt; session.encode(rt.alloc())?, journals.after);
+    Ok(())
+}
+
+#[test]
+fn opens_its_journal(rt: HostRuntime) -> Result<(), Fail> {
+    let mut session = session_of(&rt)?;
+    let args = args_of(rt.alloc(), "t.par2")?;
+    assert!(rt; session.create(rt.alloc(), &args).is_ok());
+    assert_eq!(rt; session.undo(), Ok(()));
+    let text = session.encode(rt.alloc())?;
+    let folder = folder_of(&rt, "a")?;
+    let Ok(Opened::Settled(mut again)) = Session::open(rt.alloc(), folder, &text) else {
+        panic!(rt; "not opened");
+    };
+    assert_eq!(rt; again.undo_depth(), 0);
+    assert_eq!(rt; again.redo(), Ok(()));
+    assert_eq!(rt; length_of(&again, "t.par2"), Some(420));
+    let other = folder_of(&rt, "b")?;
+    let print = other.fingerprint(rt.alloc())?;
+    match Session::open(rt.alloc(), other, &text) {
+        Ok(_) => panic!(rt; "a foreign journal is opened"),
+        Err((fault, folder)) => {
+            assert_eq!(rt; fault, JournalFault::FolderChanged { halfway: false });
+            assert_eq!(rt; folder.fingerprint(rt.alloc())?, print);
+        }
+    }
+    let third = folder_of(&rt, "a")?;
+    match Session::open(rt.alloc(), third, b"no journal") {
+        Ok(_) => panic!(rt; "no journal is opened"),
+        Err((fault, _)) => assert_eq!(rt; fault, JournalFault::JournalInvalid),
+    }
+    Ok(())
+}
+
+// The journal of a create whose change was not made yet, and of one whose change was made.
+#[test]
+fn opens_a_begun_command(rt: HostRuntime) -> Result<(), Fail> {
+    let mut session = session_of(&rt)?;
+    let settled = session.encode(rt.alloc())?;
+    let action = Action::Create(args_of(rt.alloc(), "t.par2")?);
+    let Ok(prepared) = session.prepare(rt.alloc(), &action) else {
+        panic!(rt; "refused");
+    };
+    let journals = session.journals(rt.alloc(), &prepared)?;
+    let Some(text) = &journals.halfway else {
+        panic!(rt; "no halfway journal");
+    };
+    let before = folder_of(&rt, "a")?;
+    let Ok(Opened::Begun(begun)) = Session::open(rt.alloc(), before, text) else {
+        panic!(rt; "not opened");
+    };
+    assert_eq!(rt; begun.changes().len(), 0);
+
+    let mut after = folder_of(&rt, "a")?;
+    after.reserve(1)?;
+    let [Change::Write(name, bytes)] = session.changes(&prepared) else {
+        panic!(rt; "another change");
+    };
+    let mut write = Change::Write(name.copied(), Bytes::copy_of(rt.alloc(), bytes.as_slice())?);
+    assert!(rt; after.apply(&mut write).is_ok());
+    let Ok(Opened::Begun(begun)) = Session::open(rt.alloc(), after, text) else {
+        panic!(rt; "not opened");
+    };
+    assert!(rt; matches!(begun.changes(), [Change::Remove(name)] if name.as_str() == "t.par2"));
+    assert_eq!(rt; begun.settled(rt.alloc())?, settled);
+    assert_eq!(rt; length_of(&begun.finish(), "t.par2"), None);
+
+    let other = folder_of(&rt, "b")?;
+    match Session::open(rt.alloc(), other, text) {
+        Ok(_) => panic!(rt; "a foreign journal is opened"),
+        Err((fault, _)) => assert_eq!(rt; fault, JournalFault::FolderChanged { halfway: true }),
+    }
     Ok(())
 }

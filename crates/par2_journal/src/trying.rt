@@ -44,6 +44,19 @@ pub(crate) fn turn_whole(folder: &mut Folder, changes: &mut [Change]) -> bool
     false
 }
 
+// Whether all of the changes can be applied in order. Folder and changes are as before.
+pub(crate) fn can_apply(folder: &mut Folder, changes: &mut [Change]) -> bool
+    ensures result { result ≡ takes_all folder.old (changes_of changes.old) }
+    ensures folder { folder.new ≡ folder.old }
+    ensures changes { changes_of changes.new ≡ changes_of changes.old }
+{
+    if !turn_whole(folder, changes) {
+        return false;
+    }
+    folder.apply_all(changes);
+    true
+}
+
 // Applies the entries in order up to the first that is refused, and answers how many were applied. Each of these has
 // become its way back.
 fn walk_first(folder: &mut Folder, entries: &mut [Vec<Change>]) -> usize

@@ -1,0 +1,113 @@
+-- What a journal opens as.
+use Rattle.std.proofs.Common.{◌≡◌, ◌⊎◌, inl, inr, ℕ, ◌+◌, ◌-◌, ◌≤◌, Bool, true, false, ◌&&◌, List, [], ◌∷◌, length, map, take, drop, Some, None, Result, Ok, Err, refl, sym, ap, subst, ◌∙◌, arith}
+use Rattle.std.specs.Prelude.{reverse, position, IfOk, IfErr, if◌then◌else◌}
+use Rattle.std.specs.Cmp.Lexicographic.{pointwise}
+use Rattle.std.specs.Str.{bytes_eq}
+use Rattle.par2_spec.specs.Folders.{Folder, fingerprint}
+use Rattle.par2_spec.specs.Changes.{Change, FolderState, effect, effects, is_applicable, are_applicable, places_taken, takes_all, state_after_all, folders_after}
+use Rattle.par2_spec.specs.Sessions.{Session}
+use Rattle.par2_spec.specs.Journals.{Journal, Halfway, Spells}
+use Rattle.par2_spec.specs.Opening as defined
+use Rattle.par2_spec.specs.Opening.{leads_through, is_valid}
+use Rattle.par2_spec.specs.declared.JournalFault.{JournalFault}
+use Rattle.par2_spec.specs.declared.JournalFault.TheVariants.{JournalInvalid, Memory}
+use Rattle.par2_journal.specs.Opened.{session_at, journal_with, begun_as}
+use Rattle.par2_spec.proofs.FolderLaws.{takes_applicable, taken_are_applicable, both_first, both_second, more_room_all, state_files}
+use Rattle.par2_spec.proofs.StopLaws.{through_applies}
+
+false_unless : (a b : Bool) → (a ≡ true → b ≡ true) → b ≡ false → a ≡ false
+false_unless true b f h = let yes : b ≡ true = f refl in cc
+false_unless false b f h = refl
+
+-- changes that apply lead through these fingerprints where they leave them
+pub through_is : (f : Folder) (cs : List Change) (ps : List (List ℕ)) → length ps ≡ length cs → are_applicable f cs ≡ true → leads_through f cs ps ≡ pointwise bytes_eq (map fingerprint (folders_after f cs)) ps
+unfolding leads_through are_applicable folders_after
+through_is f [] [] same h = refl
+through_is f [] (p ∷ ps) same h = absurd (omega (arith, same))
+through_is f (c ∷ cs) [] same h = absurd (omega (arith, same))
+through_is f (c ∷ cs) (p ∷ ps) same h =
+    let here = both_first (is_applicable f c) (are_applicable (effect f c) cs) h in
+    let rest = both_second (is_applicable f c) (are_applicable (effect f c) cs) h in
+    let fewer : length ps ≡ length cs = omega (arith, same) in
+    ap (λ b. b && bytes_eq (fingerprint (effect f c)) p && leads_through (effect f c) cs ps) here
+    ∙ ap (λ b. bytes_eq (fingerprint (effect f c)) p && b) (through_is (effect f c) cs ps fewer rest)
+
+pub goes_not : (f : FolderState) (cs : List Change) (ps : List (List ℕ)) → places_taken cs ≤ f.vacant → takes_all f cs ≡ false → false ≡ leads_through f.files cs ps
+goes_not f cs ps room h =
+    sym (false_unless (leads_through f.files cs ps) (takes_all f cs) (λ through. takes_applicable f cs (through_applies f.files cs ps through) room) h)
+
+pub goes : (f : FolderState) (cs : List Change) (ps prints : List (List ℕ)) → length ps ≡ length cs → takes_all f cs ≡ true → prints ≡ map fingerprint (folders_after f.files cs) → pointwise bytes_eq prints ps ≡ leads_through f.files cs ps
+goes f cs ps prints same h is = ap (λ l. pointwise bytes_eq l ps) is ∙ sym (through_is f.files cs ps same (taken_are_applicable f cs h))
+
+-- ---- of sums
+
+pub one_or : {A B C : Type 0} → (B → C) → A ⊎ B → A ⊎ C
+one_or f (inl a) = inl a
+one_or f (inr b) = inr (f b)
+
+pub and_false : (a b : Bool) → b ≡ false → (a && b) ≡ false
+and_false true b h = h
+and_false false b h = refl
+
+-- ---- with more room
+
+pub takes_roomier : (g h : FolderState) (cs : List Change) → takes_all g cs ≡ true → h.files ≡ g.files → g.vacant ≤ h.vacant → takes_all h cs ≡ true
+takes_roomier g h cs taken files vacant =
+    let more : g.vacant + (h.vacant - g.vacant) ≡ h.vacant = omega (arith, vacant) in
+    subst (λ (s : FolderState). takes_all s cs ≡ true) (λ i. record { files = sym files i; vacant = more i }) (more_room_all g (h.vacant - g.vacant) cs taken).0
+
+pub same_files_after : (g h : FolderState) (cs : List Change) → h.files ≡ g.files → (state_after_all h cs).files ≡ (state_after_all g cs).files
+same_files_after g h cs files = state_files h cs ∙ ap (λ f. effects f cs) files ∙ sym (state_files g cs)
+
+-- ---- what a begun command opens as
+
+module _ (f : Folder) (print : List ℕ) (n : ℕ) (entries : List (List Change)) (prints : List (List ℕ)) (back cs : List Change) (wanted : List (List ℕ))
+    (place : position (bytes_eq (fingerprint f)) (print ∷ prints) ≡ Some (length wanted)) (list : wanted ≡ reverse (take (length wanted) (print ∷ prints))) (cut : cs ≡ drop (length back - length wanted) back) where
+  answer : List Change → List (List ℕ) → Result defined.Opened JournalFault
+  answer d w = if leads_through f d w && is_valid (session_at (effects f d) n entries) then Ok (defined.ToTakeBack (session_at (effects f d) n entries) d) else Err JournalInvalid
+
+  begun_is : begun_as f print n entries prints back ≡ answer cs wanted
+  unfolding answer defined.taken_back
+  begun_is =
+      ap (defined.opened_at f (journal_with print n entries) (record { fingerprints = prints; back = back })) place
+      ∙ (λ i. answer (sym cut i) (sym list i))
+
+  pub begun_ok : (s : Session) → leads_through f cs wanted ≡ true → is_valid (session_at (effects f cs) n entries) ≡ true → s ≡ session_at (effects f cs) n entries → begun_as f print n entries prints back ≡ Ok (defined.ToTakeBack s cs)
+  unfolding answer
+  begun_ok s leads valid is =
+      let t = session_at (effects f cs) n entries in
+      begun_is
+      ∙ ap (λ b. if b && is_valid t then Ok (defined.ToTakeBack t cs) else Err JournalInvalid) leads
+      ∙ ap (λ b. if b then Ok (defined.ToTakeBack t cs) else Err JournalInvalid) valid
+      ∙ ap (λ x. Ok (defined.ToTakeBack x cs)) (sym is)
+
+  pub begun_refused : (leads_through f cs wanted && is_valid (session_at (effects f cs) n entries)) ≡ false → begun_as f print n entries prints back ≡ Err JournalInvalid
+  unfolding answer
+  begun_refused h =
+      let t = session_at (effects f cs) n entries in
+      begun_is ∙ ap (λ b. if b then Ok (defined.ToTakeBack t cs) else Err JournalInvalid) h
+
+-- ---- of a whole journal
+
+pub opened_settled : (f : Folder) (j : Journal) → j.halfway ≡ None → defined.opened f j ≡ defined.opened_by f (journal_with j.fingerprint j.cursor j.entries) None
+unfolding defined.opened
+opened_settled f j h = ap (defined.opened_by f j) h
+
+pub opened_begun : (f : Folder) (j : Journal) (h : Halfway) → j.halfway ≡ Some h → defined.opened f j ≡ begun_as f j.fingerprint j.cursor j.entries h.fingerprints h.back
+unfolding defined.opened defined.taken_back
+opened_begun f j h is = ap (defined.opened_by f j) is
+
+pub all_opened : {V F : Type 0} (r : Result V F) (view : V → defined.Opened) (f : Folder) (text : List ℕ) (j : Journal) → Spells text j → IfOk r (λ v. defined.opened f j ≡ Ok (view v)) → IfOk r (λ v. defined.Opens f text (Ok (view v)))
+unfolding defined.Opens
+all_opened (Err e) view f text j spells h = tt
+all_opened (Ok v) view f text j spells h = inl (j, spells, sym h)
+
+pub all_refused : {V F : Type 0} (r : Result V F) (view : F → JournalFault) (f : Folder) (text : List ℕ) (j : Journal) → Spells text j
+    → IfErr r (λ e. (view e ≡ Memory) ⊎ (defined.opened f j ≡ Err (view e))) → IfErr r (λ e. (view e ≡ Memory) ⊎ defined.Opens f text (Err (view e)))
+unfolding defined.Opens
+all_refused (Ok v) view f text j spells h = tt
+all_refused (Err e) view f text j spells h = one_or (λ same. inl (j, spells, sym same)) h
+
+pub no_journal : (f : Folder) (text : List ℕ) → ((j : Journal) → Spells text j → ⊥) → defined.Opens f text (Err JournalInvalid)
+unfolding defined.Opens
+no_journal f text none = inr (none, refl)

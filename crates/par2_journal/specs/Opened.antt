@@ -1,0 +1,39 @@
+-- What a session opens as.
+use Rattle.std.specs.Prelude.{ℕ, List, ◌∷◌, take, drop, reverse, position, Result, None}
+use Rattle.std.specs.Str.{bytes_eq}
+use Rattle.par2_spec.specs.Folders.{Folder, fingerprint}
+use Rattle.par2_spec.specs.Changes.{Change}
+use Rattle.par2_spec.specs.Sessions.{Session, KeptSession, session_of_kept}
+use Rattle.par2_spec.specs.Journals as journals
+use Rattle.par2_spec.specs.Opening as defined
+use Rattle.par2_spec.specs.declared.JournalFault.{JournalFault}
+use Rattle.par2_spec.specs.declared.Version.TheVariants.{Two}
+use Rattle.par2_journal_bytes.specs.Views.{changes_of}
+use Rattle.par2_journal.specs.declared.opening.Opened.{Opened}
+use Rattle.par2_journal.specs.declared.opening.Opened.TheVariants.{Settled, Begun}
+use Rattle.par2_journal.specs.declared.opening.Halfway.{Halfway}
+
+-- the session of these entries, n of which an undo applies
+abbrev pub session_at : Folder → ℕ → List (List Change) → Session
+session_at folder n entries = record { folder = folder; undos = reverse (take n entries); redos = drop n entries }
+
+-- the parts of a journal that are looked at
+abbrev pub journal_with : List ℕ → ℕ → List (List Change) → journals.Journal
+journal_with print n entries = record { version = Two; fingerprint = print; cursor = n; entries = entries; halfway = None }
+
+-- the session that finishing gives
+abbrev pub session_before : Halfway → KeptSession
+session_before halfway = halfway.session
+
+-- the changes that lead to it
+abbrev pub way_left : Halfway → List Change
+way_left halfway = changes_of halfway.back.items
+
+abbrev pub opened_of : Opened → defined.Opened
+opened_of (Settled session) = defined.Settled (session_of_kept session)
+opened_of (Begun halfway) = defined.ToTakeBack (session_of_kept (session_before halfway)) (way_left halfway)
+
+-- what a begun command opens as, prints being the fingerprints after each of its changes
+abbrev pub begun_as : Folder → List ℕ → ℕ → List (List Change) → List (List ℕ) → List Change → Result defined.Opened JournalFault
+begun_as folder print n entries prints back =
+    defined.opened_at folder (journal_with print n entries) (record { fingerprints = prints; back = back }) (position (bytes_eq (fingerprint folder)) (print ∷ prints))
