@@ -1,4 +1,3 @@
-pub mod Vectors
 pub mod RankTests
 pub mod Dots
 pub mod AddsAfter

@@ -4,7 +4,7 @@ use Rattle.std.specs.Prelude.{◌↔◌}
 use Rattle.std.specs.List.{list_all, AllByRecursion}
 use Rattle.par2_spec.specs.Recovery.{dot}
 use Rattle.par2_spec.specs.Rank.{IsVector, kills, is_zero, is_independent, is_solvable}
-use Rattle.par2_recovery.proofs.Vectors.{some_list}
+use Rattle.par2_spec.proofs.ListsLaws.{some_list}
 
 negated : (b : Bool) → T (not b) → T b → ⊥
 negated true h k = h
