@@ -1,4 +1,5 @@
-//! Every few lost slices of four against every few of twenty exponents, beside a plain elimination.
+//! Every few lost slices of four against every choice of at most three exponents from 0 to 20 and ten more, beside a
+//! plain elimination.
 
 ghost use Rattle.std.specs.Prelude.{◌≡◌, ◌<◌, ◌≤◌};
 
@@ -20,8 +21,9 @@ const SLICES: [[u8; 4]; 4] = [
 const CONSTANTS: [u16; 4] = [2, 4, 16, 128];
 
 // Some of them depend on others, since a constant's power of 65,535 is 1, and 65,535 has the divisors 3, 5, 17 and 257.
-const EXPONENTS: [u32; 20] = [
-    0, 1, 2, 3, 4, 5, 6, 7, 8, 9, 255, 3855, 13107, 21844, 21845, 21846, 43690, 65280, 65534, 65535,
+const EXPONENTS: [u32; 31] = [
+    0, 1, 2, 3, 4, 5, 6, 7, 8, 9, 10, 11, 12, 13, 14, 15, 16, 17, 18, 19, 20, 255, 3855, 13107,
+    21844, 21845, 21846, 43690, 65280, 65534, 65535,
 ];
 
 // Some more words than are taken at a time, and an odd number of them.
@@ -220,8 +222,8 @@ fn as_a_plain_elimination(rt: HostRuntime) -> Result<(), Fail> {
         }
     }
     // Another program counted these.
-    assert_eq!(rt; repairable, 17702);
-    assert_eq!(rt; others, 1212);
+    assert_eq!(rt; repairable, 67345);
+    assert_eq!(rt; others, 2543);
     Ok(())
 }
 
