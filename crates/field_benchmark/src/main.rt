@@ -3,7 +3,7 @@
 
 ghost use Rattle.std.specs.Prelude.{◌≡◌, ◌%◌, length};
 
-use par2_gf16::Gf;
+use par2_gf16::{Factor, Gf};
 use std::time::Instant;
 use std::{env, io};
 
@@ -28,14 +28,30 @@ fn weight(bytes: &[u8]) -> u32 {
     weight
 }
 
-fn add_often(gf: &Gf, rounds: u32, src: &[u8], dst: &mut [u8])
+fn next_factor(factor: u16) -> u16 {
+    factor.wrapping_mul(5).wrapping_add(7)
+}
+
+fn add_in_steps(gf: &Gf, rounds: u32, src: &[u8], dst: &mut [u8])
     requires same { length src.now ≡ length dst.old }
     requires even { length dst.old % 2 ≡ 0 }
 {
     let mut factor = 3u16;
     for _ in 0..rounds {
         gf.mul_add(factor, src, dst);
-        factor = factor.wrapping_mul(5).wrapping_add(7);
+        factor = next_factor(factor);
+    }
+}
+
+// each round makes a factor
+fn add_by_factors(gf: &Gf, rounds: u32, src: &[u8], dst: &mut [u8])
+    requires same { length src.now ≡ length dst.old }
+    requires even { length dst.old % 2 ≡ 0 }
+{
+    let mut factor = 3u16;
+    for _ in 0..rounds {
+        gf.mul_add_by(&Factor::new(factor), src, dst);
+        factor = next_factor(factor);
     }
 }
 
@@ -56,6 +72,14 @@ fn rate(rounds: u32, nanos: u128) -> u128 {
     u128::from(rounds) * BYTES as u128 * 1000 / nanos.max(1)
 }
 
+fn report(rt: &HostRuntime, what: &str, rounds: u32, nanos: u128, copies: u128) -> io::Result<()> {
+    println!(rt;
+        "{what}: {} MB/s, {} times as long as a plain copy",
+        rate(rounds, nanos),
+        nanos / copies.max(1)
+    )
+}
+
 fn measure(rt: &HostRuntime, rounds: u32) -> io::Result<()> {
     let start = Instant::now(rt)?;
     let gf = Gf::new(rt.alloc())?;
@@ -64,20 +88,20 @@ fn measure(rt: &HostRuntime, rounds: u32) -> io::Result<()> {
     let mut dst = vec![in rt.alloc(); 0u8; BYTES]?;
     fill(&mut src);
     let start = Instant::now(rt)?;
-    add_often(&gf, rounds, &src, &mut dst);
-    let sums = start.elapsed(rt)?.as_nanos();
-    let mut total = weight(&dst);
-    let start = Instant::now(rt)?;
     copy_often(rounds, &mut src, &mut dst);
     let copies = start.elapsed(rt)?.as_nanos();
+    let start = Instant::now(rt)?;
+    add_in_steps(&gf, rounds, &src, &mut dst);
+    let in_steps = start.elapsed(rt)?.as_nanos();
+    let mut total = weight(&dst);
+    let start = Instant::now(rt)?;
+    add_by_factors(&gf, rounds, &src, &mut dst);
+    let by_factors = start.elapsed(rt)?.as_nanos();
     total ^= weight(&dst);
     println!(rt; "tables: {} microseconds", tables / 1000)?;
-    println!(rt; "sums: {} MB/s", rate(rounds, sums))?;
-    println!(rt;
-        "copies: {} MB/s, {} times the sums",
-        rate(rounds, copies),
-        sums / copies.max(1)
-    )?;
+    println!(rt; "plain copies: {} MB/s", rate(rounds, copies))?;
+    report(rt, "products in 16 steps", rounds, in_steps, copies)?;
+    report(rt, "products by a factor", rounds, by_factors, copies)?;
     println!(rt; "weight: {total}")
 }
 

@@ -1,9 +1,9 @@
--- A block of thirty-two words, in bytes and in lanes.
+-- A block of words, in bytes and in lanes.
 use Rattle.std.proofs.Common.{ℕ, zero, suc, ◌+◌, ◌-◌, ◌*◌, ◌/◌, ◌%◌, ◌^◌, ◌<◌, ◌≤◌, ◌≡◌, refl, sym, ap, ap₂, ◌∙◌, subst, arith, List, [], ◌∷◌, ◌++◌, map, flat_map, length, get_or, eqb, ◌&&◌, inl, inr, true, w8, Fits, bit_and, replicate}
 use Rattle.std.proofs.lemmas.Bool.{cases_lt, eqb-true, and_parts}
 use Rattle.std.proofs.lemmas.Nat.{and_mask}
-use Rattle.std.proofs.lemmas.List.{get_or-map, length-map, get_or_append_left, get_or-append_right, ext_get_or}
-use Rattle.std.proofs.lemmas.Simd.{Each1-get_or, below_from_Fits, length-chunk, get_or_wider, chunk-fits, zip2_splat, get_or-chunk, get_or-put_chunk_below, get_or-put_chunk_at, get_or-put_chunk_above, length-put_chunk, get_or-zip2, length-zip2, get_or-swz_l_below, length-swz_l, swz_l, SwzOk, SwzOk-from_below}
+use Rattle.std.proofs.lemmas.List.{get_or-map, length-map, length-append, get_or_append_left, get_or-append_right, ext_get_or}
+use Rattle.std.proofs.lemmas.Simd.{Each1-get_or, Each1-from_get_or, below_from_Fits, length-chunk, get_or_wider, get_or_narrower, chunk-fits, zip2_splat, get_or-chunk, get_or-put_chunk_below, get_or-put_chunk_at, get_or-put_chunk_above, length-put_chunk, get_or-zip2, length-zip2, get_or-swz_l_below, length-swz_l, swz_l, SwzOk, SwzOk-from_below}
 use Rattle.std.specs.List.{range_with_len}
 use Rattle.std.specs.Prelude.{bit_xor}
 use lib.Lanes.{number_l, digits_l, zip2, Each1, chunk, put_chunk, pick_l}
@@ -28,11 +28,11 @@ two_digits (x ∷ y ∷ []) e = omega arith
 two_digits (x ∷ y ∷ z ∷ zs) e = absurd (omega arith)
 
 -- a word of a block, the lower byte first
-block_word : (block : List ℕ) (j : ℕ) → length block ≡ 64 → Each1 (λ x. x < 256) block → j < 32
-    → get_or (digits_l 65536 32 (number_l 256 block)) j 0 ≡ get_or block (2 * j) 0 + 256 * get_or block (2 * j + 1) 0
-block_word block j long small h =
+block_word : (n : ℕ) (block : List ℕ) (j : ℕ) → length block ≡ 2 * n → Each1 (λ x. x < 256) block → j < n
+    → get_or (digits_l 65536 n (number_l 256 block)) j 0 ≡ get_or block (2 * j) 0 + 256 * get_or block (2 * j + 1) 0
+block_word n block j long small h =
     let pair : length (chunk (2 * j) 2 block) ≡ 2 = length-chunk (2 * j) 2 block (omega arith) in
-    get_or_wider 256 2 65536 32 block j refl small h
+    get_or_wider 256 2 65536 n block j refl small h
     ∙ two_digits (chunk (2 * j) 2 block) pair
     ∙ ap₂ (λ x y. x + 256 * y)
     (get_or-chunk (2 * j) 2 block 0 0 (omega arith) ∙ ap (λ i. get_or block i 0) (let e : 2 * j + 0 ≡ 2 * j = omega arith in e))
@@ -54,11 +54,11 @@ words_split bytes at low high room fits el eh =
       lows = λ j h.
           let byte : get_or block (2 * j) 0 < 256 = Each1-get_or (λ x. x < 256) block (2 * j) 0 (omega arith) small in
           sym (ap (λ xs. get_or xs j 0) el ∙ get_or-map (λ x. x % 256) words j 0 0 (omega arith)
-          ∙ ap (λ x. x % 256) (block_word block j long small h) ∙ omega arith);
+          ∙ ap (λ x. x % 256) (block_word 32 block j long small h) ∙ omega arith);
       highs = λ j h.
           let byte : get_or block (2 * j) 0 < 256 = Each1-get_or (λ x. x < 256) block (2 * j) 0 (omega arith) small in
           sym (ap (λ xs. get_or xs j 0) eh ∙ get_or-map (λ x. x / 256) words j 0 0 (omega arith)
-          ∙ ap (λ x. x / 256) (block_word block j long small h) ∙ omega arith);
+          ∙ ap (λ x. x / 256) (block_word 32 block j long small h) ∙ omega arith);
     }
 
 abbrev pub woven : List ℕ
@@ -137,7 +137,7 @@ zip2_same f g same (x ∷ xs) (y ∷ ys) a b = ap₂ (λ z zs. z ∷ zs) (same x
 -- ---- sums in place
 
 pub vector_added : (old v : List ℕ) (at : ℕ) → at + 32 ≤ length old → length v ≡ 32 → ((i : ℕ) → get_or old i 0 < 256)
-    → AddsLanes old (put_chunk at old (zip2 bit_xor (chunk at 32 old) v)) at v
+    → AddsLanes old (put_chunk at old (zip2 bit_xor (chunk at 32 old) v)) at 32 v
 vector_added old v at room long fit =
     let part = chunk at 32 old in
     let part_count : length part ≡ 32 = length-chunk at 32 old room in
@@ -157,60 +157,127 @@ vector_added old v at room long fit =
     }
 
 -- two vectors, one behind the other
-both_added : (old mid new first second : List ℕ) (at k : ℕ) → AddsLanes old mid at first → AddsLanes mid new (at + 32) second → k < 64
-    → (get_or new (at + k) 0 ≡ bit_xor (get_or old (at + k) 0) (get_or (first ++ second) k 0)) × (get_or old (at + k) 0 < 256)
-both_added old mid new first second at k one two h = elim (cases_lt k 32) [
-  | inl l ↦ (
-    two.others.below (at + k) (omega arith) ∙ one.each k l ∙ ap (bit_xor (get_or old (at + k) 0)) (sym (get_or_append_left first second 0 k (omega (arith, one.count)))),
-    one.fit k l,
-  )
-  | inr g ↦
-      let place : at + 32 + (k - 32) ≡ at + k = omega arith in
-      let same : get_or mid (at + k) 0 ≡ get_or old (at + k) 0 = one.others.above (at + k) (omega arith) in (
-        ap (λ i. get_or new i 0) (sym place) ∙ two.each (k - 32) (omega arith)
-            ∙ ap₂ bit_xor (ap (λ i. get_or mid i 0) place ∙ same) (sym (get_or-append_right first second 32 k 0 one.count g)),
-        (let low : get_or mid (at + 32 + (k - 32)) 0 < 256 = two.fit (k - 32) (omega arith) in
-            subst (λ x. x < 256) (ap (λ i. get_or mid i 0) place ∙ same) low),
-      )
-]
-
-pub block_added : (c : ℕ) (src old mid new low high lows highs first second : List ℕ) (n : ℕ) → c < 65536 → ((i : ℕ) → get_or src i 0 < 256)
-    → IsInterleaving low high (chunk (2 * n) 64 src)
-    → lows ≡ zip2 (λ l h. mul c (l + 256 * h) % 256) low high → highs ≡ zip2 (λ l h. mul c (l + 256 * h) / 256) low high
-    → IsInterleaving lows highs (first ++ second) → AddsLanes old mid (2 * n) first → AddsLanes mid new (2 * n + 32) second
-    → AddsWithin c src old new n (n + 32)
-block_added c src old mid new low high lows highs first second n hc fit from el eh to one two = record {
-  same_length = two.others.same_length ∙ one.others.same_length;
-  inside = λ i g l room.
-      let j = i - n in
-      let hj : j < 32 = omega arith in
-      let even : 2 * i ≡ 2 * n + 2 * j = omega arith in
-      let odd : 2 * i + 1 ≡ 2 * n + (2 * j + 1) = omega arith in
-      let at : (bytes : List ℕ) → word i bytes ≡ get_or bytes (2 * n + 2 * j) 0 + 256 * get_or bytes (2 * n + (2 * j + 1)) 0 = λ bytes.
-      ap₂ (λ x y. get_or bytes x 0 + 256 * get_or bytes y 0) even odd in
-      let p = mul c (get_or low j 0 + 256 * get_or high j 0) in
-      let low_is : get_or low j 0 ≡ get_or src (2 * n + 2 * j) 0 = sym (from.lows j hj) ∙ get_or-chunk (2 * n) 64 src (2 * j) 0 (omega arith) in
-      let high_is : get_or high j 0 ≡ get_or src (2 * n + (2 * j + 1)) 0 = sym (from.highs j hj) ∙ get_or-chunk (2 * n) 64 src (2 * j + 1) 0 (omega arith) in
-      let p_is : p ≡ mul c (word i src) = ap (mul c) (ap₂ (λ x y. x + 256 * y) low_is high_is ∙ sym (at src)) in
-      let small : p < 65536 = product-lt c (get_or low j 0 + 256 * get_or high j 0) hc (omega (arith, low_is, high_is, fit (2 * n + 2 * j), fit (2 * n + (2 * j + 1)))) in
-      let even_sum = both_added old mid new first second (2 * n) (2 * j) one two (omega arith) in
-      let odd_sum = both_added old mid new first second (2 * n) (2 * j + 1) one two (omega arith) in
-      let lows_is : get_or (first ++ second) (2 * j) 0 ≡ p % 256 = to.lows j hj ∙ ap (λ xs. get_or xs j 0) el
-      ∙ get_or-zip2 (λ l h. mul c (l + 256 * h) % 256) low high j 0 0 0 (omega (arith, from.low_count)) (omega (arith, from.high_count)) in
-      let highs_is : get_or (first ++ second) (2 * j + 1) 0 ≡ p / 256 = to.highs j hj ∙ ap (λ xs. get_or xs j 0) eh
-      ∙ get_or-zip2 (λ l h. mul c (l + 256 * h) / 256) low high j 0 0 0 (omega (arith, from.low_count)) (omega (arith, from.high_count)) in
-      at new
-      ∙ ap₂ (λ x y. x + 256 * y)
-      (even_sum.0 ∙ ap (bit_xor (get_or old (2 * n + 2 * j) 0)) lows_is)
-      (odd_sum.0 ∙ ap (bit_xor (get_or old (2 * n + (2 * j + 1)) 0)) highs_is)
-      ∙ word_xor (get_or old (2 * n + 2 * j) 0) (get_or old (2 * n + (2 * j + 1)) 0) p even_sum.1 odd_sum.1 small
-      ∙ ap₂ bit_xor (sym (at old)) p_is;
-  below = λ i h. ap₂ (λ x y. x + 256 * y) (before (2 * i) (omega arith)) (before (2 * i + 1) (omega arith));
-  above = λ i h. ap₂ (λ x y. x + 256 * y) (behind (2 * i) (omega arith)) (behind (2 * i + 1) (omega arith));
+pub both_added : (old mid new first second : List ℕ) (at : ℕ) → AddsLanes old mid at 32 first → AddsLanes mid new (at + 32) 32 second → AddsLanes old new at 64 (first ++ second)
+both_added old mid new first second at one two = record {
+  count = length-append first second ∙ ap₂ (λ a b. a + b) one.count two.count;
+  others = record {
+    same_length = two.others.same_length ∙ one.others.same_length;
+    below = λ k h. two.others.below k (omega arith) ∙ one.others.below k h;
+    above = λ k h. two.others.above k (omega arith) ∙ one.others.above k (omega arith);
+  };
+  fit = λ k h. (go k h).1;
+  each = λ k h. (go k h).0;
 }
   where
-    before : (k : ℕ) → k < 2 * n → get_or new k 0 ≡ get_or old k 0
-    before k h = two.others.below k (omega arith) ∙ one.others.below k h
+    go : (k : ℕ) → k < 64 → (get_or new (at + k) 0 ≡ bit_xor (get_or old (at + k) 0) (get_or (first ++ second) k 0)) × (get_or old (at + k) 0 < 256)
+    go k h = elim (cases_lt k 32) [
+      | inl l ↦ (
+        two.others.below (at + k) (omega arith) ∙ one.each k l ∙ ap (bit_xor (get_or old (at + k) 0)) (sym (get_or_append_left first second 0 k (omega (arith, one.count)))),
+        one.fit k l,
+      )
+      | inr g ↦
+          let place : at + 32 + (k - 32) ≡ at + k = omega arith in
+          let same : get_or mid (at + k) 0 ≡ get_or old (at + k) 0 = one.others.above (at + k) (omega arith) in (
+            ap (λ i. get_or new i 0) (sym place) ∙ two.each (k - 32) (omega arith)
+                ∙ ap₂ bit_xor (ap (λ i. get_or mid i 0) place ∙ same) (sym (get_or-append_right first second 32 k 0 one.count g)),
+            (let low : get_or mid (at + 32 + (k - 32)) 0 < 256 = two.fit (k - 32) (omega arith) in
+                subst (λ x. x < 256) (ap (λ i. get_or mid i 0) place ∙ same) low),
+          )
+    ]
 
-    behind : (k : ℕ) → 2 * n + 64 ≤ k → get_or new k 0 ≡ get_or old k 0
-    behind k h = two.others.above k (omega arith) ∙ one.others.above k (omega arith)
+-- ---- a block's products
+
+-- the bytes are those of the products of c and the m words from word n on
+pub record AreProducts (c : ℕ) (src : List ℕ) (n m : ℕ) (bytes : List ℕ) : Type 0 where
+  pub fit : (j : ℕ) → j < m → mul c (word (n + j) src) < 65536
+  pub low : (j : ℕ) → j < m → get_or bytes (2 * j) 0 ≡ mul c (word (n + j) src) % 256
+  pub high : (j : ℕ) → j < m → get_or bytes (2 * j + 1) 0 ≡ mul c (word (n + j) src) / 256
+
+word_in : (bytes : List ℕ) (n j : ℕ) → word (n + j) bytes ≡ get_or bytes (2 * n + 2 * j) 0 + 256 * get_or bytes (2 * n + (2 * j + 1)) 0
+word_in bytes n j =
+    let even : 2 * (n + j) ≡ 2 * n + 2 * j = omega arith in
+    let odd : 2 * (n + j) + 1 ≡ 2 * n + (2 * j + 1) = omega arith in
+    ap₂ (λ x y. get_or bytes x 0 + 256 * get_or bytes y 0) even odd
+
+product_fits : (c : ℕ) (src : List ℕ) (i : ℕ) → c < 65536 → ((k : ℕ) → get_or src k 0 < 256) → mul c (word i src) < 65536
+product_fits c src i hc fit = product-lt c (word i src) hc (omega (arith, fit (2 * i), fit (2 * i + 1)))
+
+pub block_added : (c m : ℕ) (src old new bytes : List ℕ) (n : ℕ) → AreProducts c src n m bytes → AddsLanes old new (2 * n) (2 * m) bytes → AddsWithin c src old new n (n + m)
+block_added c m src old new bytes n products added = record {
+  same_length = added.others.same_length;
+  inside = λ i g l room. subst (λ k. word k new ≡ bit_xor (word k old) (mul c (word k src))) (let e : n + (i - n) ≡ i = omega arith in e) (go (i - n) (omega arith));
+  below = λ i h. ap₂ (λ x y. x + 256 * y) (added.others.below (2 * i) (omega arith)) (added.others.below (2 * i + 1) (omega arith));
+  above = λ i h. ap₂ (λ x y. x + 256 * y) (added.others.above (2 * i) (omega arith)) (added.others.above (2 * i + 1) (omega arith));
+}
+  where
+    go : (j : ℕ) → j < m → word (n + j) new ≡ bit_xor (word (n + j) old) (mul c (word (n + j) src))
+    go j h =
+        let low = get_or old (2 * n + 2 * j) 0 in
+        let high = get_or old (2 * n + (2 * j + 1)) 0 in
+        word_in new n j
+        ∙ ap₂ (λ x y. x + 256 * y)
+        (added.each (2 * j) (omega arith) ∙ ap (bit_xor low) (products.low j h))
+        (added.each (2 * j + 1) (omega arith) ∙ ap (bit_xor high) (products.high j h))
+        ∙ word_xor low high (mul c (word (n + j) src)) (added.fit (2 * j) (omega arith)) (added.fit (2 * j + 1) (omega arith)) (products.fit j h)
+        ∙ ap (λ x. bit_xor x (mul c (word (n + j) src))) (sym (word_in old n j))
+
+-- products in lanes of sixteen bits
+pub products_in_lanes : (c : ℕ) (src : List ℕ) (n : ℕ) (products : List ℕ) → 2 * n + 32 ≤ length src → c < 65536 → ((i : ℕ) → Fits w8 (get_or src i 0))
+    → products ≡ map (mul c) (digits_l 65536 16 (number_l 256 (chunk (2 * n) 32 src)))
+    → AreProducts c src n 16 (digits_l 256 32 (number_l 65536 products))
+products_in_lanes c src n products room hc fits e = record {
+  fit = λ j h. product_fits c src (n + j) hc (λ k. (fits k).fits);
+  low = λ j h.
+      ap (λ i. get_or (digits_l 256 32 (number_l 65536 products)) i 0) (let k : 2 * j ≡ 2 * j + 0 = omega arith in k)
+      ∙ get_or_narrower 65536 2 256 32 products j 0 refl small (omega arith) (omega arith)
+      ∙ (let k : get_or products j 0 / 1 % 256 ≡ get_or products j 0 % 256 = omega arith in k) ∙ ap (λ x. x % 256) (each j h);
+  high = λ j h.
+      let below : get_or products j 0 < 65536 = lane_small j h in
+      get_or_narrower 65536 2 256 32 products j 1 refl small (omega arith) (omega arith)
+      ∙ (let k : get_or products j 0 / 256 % 256 ≡ get_or products j 0 / 256 = omega arith in k) ∙ ap (λ x. x / 256) (each j h);
+}
+  where
+    block : List ℕ
+    block = chunk (2 * n) 32 src
+
+    lanes : List ℕ
+    lanes = digits_l 65536 16 (number_l 256 block)
+
+    count : length lanes ≡ 16
+    count = length-digits_l 65536 16 (number_l 256 block)
+
+    each : (j : ℕ) → j < 16 → get_or products j 0 ≡ mul c (word (n + j) src)
+    each j h =
+        ap (λ xs. get_or xs j 0) e ∙ get_or-map (mul c) lanes j 0 0 (omega (arith, count))
+        ∙ ap (mul c)
+        (block_word 16 block j (length-chunk (2 * n) 32 src room) (below_from_Fits w8 block (chunk-fits w8 (2 * n) 32 src fits)) h
+        ∙ ap₂ (λ x y. x + 256 * y) (get_or-chunk (2 * n) 32 src (2 * j) 0 (omega arith)) (get_or-chunk (2 * n) 32 src (2 * j + 1) 0 (omega arith))
+        ∙ sym (word_in src n j))
+
+    lane_small : (j : ℕ) → j < 16 → get_or products j 0 < 65536
+    lane_small j h = subst (λ x. x < 65536) (sym (each j h)) (product_fits c src (n + j) hc (λ k. (fits k).fits))
+
+    small : Each1 (λ x. x < 65536) products
+    small = Each1-from_get_or (λ x. x < 65536) products 0 (λ j h. lane_small j (omega (arith, ap length e, length-map lanes (mul c), count)))
+
+-- products whose bytes were looked up
+pub products_in_bytes : (c : ℕ) (src low high lows highs bytes : List ℕ) (n : ℕ) → c < 65536 → ((i : ℕ) → Fits w8 (get_or src i 0))
+    → IsInterleaving low high (chunk (2 * n) 64 src)
+    → lows ≡ zip2 (λ l h. mul c (l + 256 * h) % 256) low high → highs ≡ zip2 (λ l h. mul c (l + 256 * h) / 256) low high
+    → IsInterleaving lows highs bytes → AreProducts c src n 32 bytes
+products_in_bytes c src low high lows highs bytes n hc fits from el eh to = record {
+  fit = λ j h. product_fits c src (n + j) hc (λ k. (fits k).fits);
+  low = λ j h. to.lows j h ∙ ap (λ xs. get_or xs j 0) el
+      ∙ get_or-zip2 (λ l h. mul c (l + 256 * h) % 256) low high j 0 0 0 (omega (arith, from.low_count)) (omega (arith, from.high_count))
+      ∙ ap (λ x. mul c x % 256) (word_is j h);
+  high = λ j h. to.highs j h ∙ ap (λ xs. get_or xs j 0) eh
+      ∙ get_or-zip2 (λ l h. mul c (l + 256 * h) / 256) low high j 0 0 0 (omega (arith, from.low_count)) (omega (arith, from.high_count))
+      ∙ ap (λ x. mul c x / 256) (word_is j h);
+}
+  where
+    word_is : (j : ℕ) → j < 32 → get_or low j 0 + 256 * get_or high j 0 ≡ word (n + j) src
+    word_is j h =
+        ap₂ (λ x y. x + 256 * y)
+        (sym (from.lows j h) ∙ get_or-chunk (2 * n) 64 src (2 * j) 0 (omega arith))
+        (sym (from.highs j h) ∙ get_or-chunk (2 * n) 64 src (2 * j + 1) 0 (omega arith))
+        ∙ sym (word_in src n j)

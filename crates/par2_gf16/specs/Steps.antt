@@ -1,6 +1,5 @@
 -- What the loops over words keep.
-use Rattle.std.specs.Prelude.{ℕ, ◌+◌, ◌*◌, ◌^◌, ◌<◌, ◌≤◌, ◌≡◌, ◌/◌, ◌%◌, List, length, map, slice_index, bit_xor, ◌++◌}
-use Rattle.std.specs.List.{range_with_len}
+use Rattle.std.specs.Prelude.{ℕ, ◌+◌, ◌*◌, ◌^◌, ◌<◌, ◌≤◌, ◌≡◌, ◌/◌, ◌%◌, List, length, map, slice_index, bit_xor}
 use Rattle.par2_spec.specs.Field.{mul, pow}
 use Rattle.par2_spec.specs.Slices.{word}
 
@@ -23,10 +22,6 @@ pub record SameOutside (old new : List ℕ) (from to : ℕ) : Type 0 where
   pub below : (k : ℕ) → k < from → slice_index new k ≡ slice_index old k
   pub above : (k : ℕ) → to ≤ k → slice_index new k ≡ slice_index old k
 
--- each nibble, twice over
-abbrev pub nibbles : List ℕ
-nibbles = range_with_len 0 16 ++ range_with_len 0 16
-
 -- a table of f at each nibble, twice over
 pub record IsTable (f : ℕ → ℕ) (table : List ℕ) : Type 0 where
   pub count : length table ≡ 32
@@ -39,9 +34,9 @@ pub record IsInterleaving (low high bytes : List ℕ) : Type 0 where
   pub lows : (j : ℕ) → j < 32 → slice_index bytes (2 * j) ≡ slice_index low j
   pub highs : (j : ℕ) → j < 32 → slice_index bytes (2 * j + 1) ≡ slice_index high j
 
--- to the bytes from `at` on, those of v are added
-pub record AddsLanes (old new : List ℕ) (at : ℕ) (v : List ℕ) : Type 0 where
-  pub count : length v ≡ 32
-  pub others : SameOutside old new at (at + 32)
-  pub fit : (j : ℕ) → j < 32 → slice_index old (at + j) < 256
-  pub each : (j : ℕ) → j < 32 → slice_index new (at + j) ≡ bit_xor (slice_index old (at + j)) (slice_index v j)
+-- to the n bytes from `at` on, those of v are added
+pub record AddsLanes (old new : List ℕ) (at n : ℕ) (v : List ℕ) : Type 0 where
+  pub count : length v ≡ n
+  pub others : SameOutside old new at (at + n)
+  pub fit : (j : ℕ) → j < n → slice_index old (at + j) < 256
+  pub each : (j : ℕ) → j < n → slice_index new (at + j) ≡ bit_xor (slice_index old (at + j)) (slice_index v j)

@@ -4,17 +4,14 @@
 ghost use Rattle.std.specs.Prelude.{◌≡◌, ℕ, ◌+◌, ◌*◌, ◌/◌, ◌%◌, ◌^◌, ◌<◌, ◌≤◌, length, map, bit_xor};
 ghost use Rattle.std.specs.Simd.Lanes.{zip2};
 ghost use Rattle.par2_spec.specs.Field.{mul};
-ghost use Rattle.par2_gf16.specs.Steps.{AddsWithin, IsTable, nibbles};
+ghost use Rattle.par2_gf16.specs.Steps.{AddsWithin, IsTable};
 
 use crate::doubling::doubled;
 use crate::lanes;
+use std::marker::Model;
 use std::simd::prelude::*;
 
-/// Each nibble, twice over, since a look-up sees sixteen lanes of a table at a time.
-const NIBBLES: [u16; 32] = [
-    0, 1, 2, 3, 4, 5, 6, 7, 8, 9, 10, 11, 12, 13, 14, 15, 0, 1, 2, 3, 4, 5, 6, 7, 8, 9, 10, 11, 12,
-    13, 14, 15,
-];
+const NIBBLES: [u16; 16] = [0, 1, 2, 3, 4, 5, 6, 7, 8, 9, 10, 11, 12, 13, 14, 15];
 
 /// The products of one element and each nibble: their lower and their higher bytes.
 #[derive(Drop)]
@@ -32,29 +29,38 @@ impl NibbleProducts {
     fn new(element: u16) -> NibbleProducts
         ensures { result.element ≡ element }
     {
-        let products = nibble_products(element);
+        let products = lanes::product_lanes(element, u16x16::from_array(NIBBLES), 4);
+        // a look-up sees sixteen lanes of a table at a time
+        let products = lanes::twice(products);
         let low = lanes::lower_bytes(products);
         let high = lanes::higher_bytes(products);
         NibbleProducts { element, low, high }
     }
 }
 
-/// The products of one element and the nibbles at each of the four places of a word.
+/// An element that goes over many bytes, with its products with the nibbles at each of the four places of a word: for
+/// `Gf::mul_add_by`.
 #[derive(Drop)]
-pub(crate) struct Factor {
+pub struct Factor {
     first: NibbleProducts,
     second: NibbleProducts,
     third: NibbleProducts,
     fourth: NibbleProducts,
-    ghost second_is: { second.element ≡ mul first.element 16 },
-    ghost third_is: { third.element ≡ mul first.element 256 },
-    ghost fourth_is: { fourth.element ≡ mul first.element 4096 },
+}
+
+impl Model for Factor {
+    ghost Value = { ℕ };
+
+    ghost view = { λ f. f.first.element };
+
+    ghost invariant = { λ f. (f.second.element ≡ mul f.first.element 16) × (f.third.element ≡ mul f.first.element 256) × (f.fourth.element ≡ mul f.first.element 4096) };
 }
 
 impl Factor {
+    /// Computes the products with the nibbles.
     #[inline(always)]
-    pub(crate) fn new(element: u16) -> Factor
-        ensures { result.first.element ≡ element }
+    pub fn new(element: u16) -> Factor
+        ensures { result ≡ element }
     {
         let second = sixteen_times(element);
         let third = sixteen_times(second);
@@ -67,10 +73,18 @@ impl Factor {
         }
     }
 
+    #[inline(always)]
+    pub(crate) fn element(&self) -> u16
+        ensures { result ≡ self.now }
+    {
+        self.first.element
+    }
+
     // the lower bytes of the products of words
     #[inline(always)]
     fn lower_bytes(&self, low: u8x32, high: u8x32) -> u8x32
-        ensures { result ≡ zip2 (λ l h. mul self.now.first.element (l + 256 * h) % 256) low high }
+        ensures value { result ≡ zip2 (λ l h. mul self.now (l + 256 * h) % 256) low high }
+        ensures fits { self.now < 2 ^ 16 }
     {
         four_looked_up(
             self.first.low,
@@ -85,7 +99,7 @@ impl Factor {
     // the higher bytes of the products of words
     #[inline(always)]
     fn higher_bytes(&self, low: u8x32, high: u8x32) -> u8x32
-        ensures { result ≡ zip2 (λ l h. mul self.now.first.element (l + 256 * h) / 256) low high }
+        ensures { result ≡ zip2 (λ l h. mul self.now (l + 256 * h) / 256) low high }
     {
         four_looked_up(
             self.first.high,
@@ -102,7 +116,7 @@ impl Factor {
     pub(crate) fn add_block(&self, src: &[u8], dst: &mut [u8], n: usize)
         requires fits { 2 * n + 64 ≤ length dst.old }
         requires same { length src.now ≡ length dst.old }
-        ensures { AddsWithin self.now.first.element src.now dst.old dst.new n (n + 32) }
+        ensures { AddsWithin self.now src.now dst.old dst.new n (n + 32) }
     {
         let (low, high) = lanes::words_at(src, 2 * n);
         let lows = self.lower_bytes(low, high);
@@ -113,40 +127,11 @@ impl Factor {
     }
 }
 
-// adds the products for the words of the first blocks of sixty-four bytes
-pub(crate) fn add_blocks(c: u16, src: &[u8], dst: &mut [u8], blocks: usize)
-    requires fits { 64 * blocks ≤ length dst.old }
-    requires same { length src.now ≡ length dst.old }
-    ensures { AddsWithin c src.now dst.old dst.new 0 (32 * blocks) }
-{
-    let factor = Factor::new(c);
-    for block in 0..blocks {
-        factor.add_block(src, dst, 32 * block);
-    }
-}
-
 #[inline(always)]
 fn sixteen_times(x: u16) -> u16
     ensures { result ≡ mul x 16 }
 {
     doubled(doubled(doubled(doubled(x))))
-}
-
-// the sum of the copies of k, each doubled as often as its bit of the nibble calls for
-#[inline(always)]
-fn nibble_products(element: u16) -> u16x32
-    ensures { result ≡ map (mul element) nibbles }
-{
-    let all = u16x32::from_array(NIBBLES);
-    let mut sum = lanes::zeros(all);
-    let mut rest = all;
-    let mut k = element;
-    for j in 0..4u32 {
-        sum = lanes::select_add(sum, rest, k);
-        rest = lanes::halved(rest);
-        k = doubled(k);
-    }
-    sum
 }
 
 // the sum of what stands in four tables at the nibbles of words

@@ -1,33 +1,64 @@
 //! Operations on vectors, lane by lane.
 
-ghost use Rattle.std.specs.Prelude.{◌≡◌, ℕ, ◌+◌, ◌*◌, ◌/◌, ◌%◌, ◌++◌, ◌<◌, ◌≤◌, length, slice_index, map, take, drop, bit_xor};
-ghost use Rattle.std.specs.Simd.Lanes.{zip2};
+ghost use Rattle.std.specs.Prelude.{◌≡◌, ℕ, ◌+◌, ◌*◌, ◌/◌, ◌%◌, ◌^◌, ◌++◌, ◌<◌, ◌≤◌, length, slice_index, map, take, drop, bit_xor};
+ghost use Rattle.std.specs.Simd.Lanes.{zip2, Each1};
+ghost use Rattle.par2_spec.specs.Field.{mul};
 ghost use Rattle.par2_gf16.specs.Steps.{IsTable, IsInterleaving, AddsLanes};
 
+use crate::doubling::doubled;
 use std::simd::prelude::*;
 
 // k is added to the sum where the lowest bit of the lane is set
 #[inline(always)]
-pub(crate) fn select_add(sum: u16x32, v: u16x32, k: u16) -> u16x32
+fn select_add(sum: u16x16, v: u16x16, k: u16) -> u16x16
     ensures { result ≡ zip2 (λ s x. bit_xor s (x % 2 * k)) sum v }
 {
-    let one = u16x32::splat(1);
+    let one = u16x16::splat(1);
     let odd = (v & one).simd_eq(one);
-    sum ^ odd.select(u16x32::splat(k), u16x32::splat(0))
+    sum ^ odd.select(u16x16::splat(k), u16x16::splat(0))
 }
 
 #[inline(always)]
-pub(crate) fn halved(v: u16x32) -> u16x32
+fn halved(v: u16x16) -> u16x16
     ensures { result ≡ map (λ x. x / 2) v }
 {
-    v >> u16x32::splat(1)
+    v >> u16x16::splat(1)
 }
 
 #[inline(always)]
-pub(crate) fn zeros(v: u16x32) -> u16x32
+fn zeros(v: u16x16) -> u16x16
     ensures { result ≡ map (λ _. 0) v }
 {
-    u16x32::splat(0)
+    u16x16::splat(0)
+}
+
+// The sum of the copies of c, each doubled as often as its bit of the lane calls for: as many steps as the lanes have
+// bits.
+#[inline(always)]
+pub(crate) fn product_lanes(c: u16, v: u16x16, bits: u32) -> u16x16
+    requires few { bits ≤ 16 }
+    requires lanes { Each1 (λ x. x < 2 ^ bits) v }
+    ensures { result ≡ map (mul c) v }
+{
+    let mut sum = zeros(v);
+    let mut rest = v;
+    let mut k = c;
+    for j in 0..bits {
+        sum = select_add(sum, rest, k);
+        rest = halved(rest);
+        k = doubled(k);
+    }
+    sum
+}
+
+#[inline(always)]
+pub(crate) fn twice(v: u16x16) -> u16x32
+    ensures { result ≡ v ++ v }
+{
+    v.swizzle([
+        0, 1, 2, 3, 4, 5, 6, 7, 8, 9, 10, 11, 12, 13, 14, 15, 0, 1, 2, 3, 4, 5, 6, 7, 8, 9, 10, 11,
+        12, 13, 14, 15,
+    ])
 }
 
 #[inline(always)]
@@ -68,7 +99,7 @@ pub(crate) fn sum(a: u8x32, b: u8x32) -> u8x32
 }
 
 #[inline(always)]
-fn vector_at(bytes: &[u8], at: usize) -> u8x32
+pub(crate) fn vector_at(bytes: &[u8], at: usize) -> u8x32
     requires { at + 32 ≤ length bytes.now }
     ensures value { result ≡ take 32 (drop at bytes.now) }
     ensures fit { (i : ℕ) → slice_index bytes.now i < 256 }
@@ -97,7 +128,7 @@ pub(crate) fn interleaved(low: u8x32, high: u8x32) -> (u8x32, u8x32)
 #[inline(always)]
 pub(crate) fn add_vector(dst: &mut [u8], at: usize, v: u8x32)
     requires { at + 32 ≤ length dst.old }
-    ensures { AddsLanes dst.old dst.new at v }
+    ensures { AddsLanes dst.old dst.new at 32 v }
 {
     let old = vector_at(dst, at);
     sum(old, v).copy_to_slice(&mut dst[at..]);

@@ -5,9 +5,11 @@
 mod doubling;
 mod factor;
 mod lanes;
+mod steps;
 mod tables;
 mod words;
 
+pub use factor::Factor;
 pub use tables::Gf;
 
 #[cfg(test)]

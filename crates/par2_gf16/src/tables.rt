@@ -1,13 +1,14 @@
 //! The field by tables of logarithms and powers.
 
-ghost use Rattle.std.specs.Prelude.{◌≡◌, ◌<◌, ◌≤◌, ◌↔◌, ◌+◌, ◌*◌, ◌%◌, length, slice_index, IfOk, IfSome, IsNone};
+ghost use Rattle.std.specs.Prelude.{◌≡◌, ◌<◌, ◌≤◌, ◌↔◌, ◌+◌, ◌*◌, ◌/◌, ◌%◌, length, slice_index, IfOk, IfSome, IsNone};
 ghost use Rattle.par2_spec.specs.Field.{mul, pow, constant, is_spared};
 ghost use Rattle.par2_gf16.specs.Products.{IsInverse, AddsProducts};
 ghost use Rattle.par2_gf16.specs.Steps.{AddsWithin};
 ghost use Rattle.par2_gf16.specs.Tables.{AreTables};
 
 use crate::doubling::doubled;
-use crate::factor::add_blocks;
+use crate::factor::Factor;
+use crate::steps::add_block;
 use crate::words::{add_at, word_at};
 use std::alloc::{AllocError, Global};
 
@@ -123,15 +124,42 @@ impl Gf {
         }
     }
 
-    /// To each word of `dst`, the lower byte first, adds the product of `c` and the word of `src`.
+    /// To each word of `dst`, the lower byte first, adds the product of `c` and the word of `src`. Nothing is prepared,
+    /// so this is for few bytes, or for a factor that is used once.
     pub fn mul_add(&self, c: u16, src: &[u8], dst: &mut [u8])
         requires same { length src.now ≡ length dst.old }
         requires even { length dst.old % 2 ≡ 0 }
         ensures { AddsProducts c src.now dst.old dst.new }
     {
+        let blocks = dst.len() / 32;
+        for block in 0..blocks {
+            add_block(c, src, dst, 16 * block);
+        }
+        self.add_words_from(c, src, dst, 16 * blocks);
+    }
+
+    /// To each word of `dst`, the lower byte first, adds the product of the factor and the word of `src`. This is for
+    /// one factor that goes over many bytes: the `Factor` takes some tens of nanoseconds to make, and the products are
+    /// then three to four times as fast as those of `mul_add`.
+    pub fn mul_add_by(&self, factor: &Factor, src: &[u8], dst: &mut [u8])
+        requires same { length src.now ≡ length dst.old }
+        requires even { length dst.old % 2 ≡ 0 }
+        ensures { AddsProducts factor.now src.now dst.old dst.new }
+    {
         let blocks = dst.len() / 64;
-        add_blocks(c, src, dst, blocks);
-        for i in 32 * blocks..dst.len() / 2 {
+        for block in 0..blocks {
+            factor.add_block(src, dst, 32 * block);
+        }
+        self.add_words_from(factor.element(), src, dst, 32 * blocks);
+    }
+
+    // adds the products for the words from word `from` on
+    fn add_words_from(&self, c: u16, src: &[u8], dst: &mut [u8], from: usize)
+        requires fits { 2 * from ≤ length dst.old }
+        requires same { length src.now ≡ length dst.old }
+        ensures { AddsWithin c src.now dst.old dst.new from (length dst.old / 2) }
+    {
+        for i in from..dst.len() / 2 {
             self.add_word(c, src, dst, i);
         }
     }

@@ -1,6 +1,6 @@
 ghost use Rattle.std.specs.Prelude.{◌≡◌, length};
 
-use crate::Gf;
+use crate::{Factor, Gf};
 use std::alloc::{AllocError, Global};
 
 // the product of two elements, bit by bit
@@ -106,12 +106,15 @@ fn every_length_as_word_by_word(rt: HostRuntime) -> Result<(), AllocError> {
         let src = mixed_bytes(rt.alloc(), 2 * half, 1)?;
         let old = mixed_bytes(rt.alloc(), 2 * half, 2)?;
         for c in [0, 1, 2, 3, 0x100B, 0x8000, 0x8805, 0xFFFF] {
-            let mut dst = old.clone()?;
+            let mut by_steps = old.clone()?;
+            let mut by_factor = old.clone()?;
             let mut wanted = old.clone()?;
-            assert!(rt; src.len() == dst.len() && src.len() == wanted.len() && src.len() % 2 == 0);
-            gf.mul_add(c, &src, &mut dst);
+            assert!(rt; src.len() == old.len() && src.len() % 2 == 0);
+            gf.mul_add(c, &src, &mut by_steps);
+            gf.mul_add_by(&Factor::new(c), &src, &mut by_factor);
             plain_mul_add(c, &src, &mut wanted);
-            assert_eq!(rt; dst, wanted, "{half} words by {c}");
+            assert_eq!(rt; by_steps, wanted, "{half} words by {c}");
+            assert_eq!(rt; by_factor, wanted, "{half} words by the factor {c}");
         }
     }
     Ok(())

@@ -6,4 +6,4 @@ abbrev down : ℕ → ℕ → ℕ
 down a b = a / 2 ^ b
 
 pub returns : goal.returns
-returns c = zip2_splat down c.args.v 32 1 c.fits-v.0
+returns c = zip2_splat down c.args.v 16 1 c.fits-v.0

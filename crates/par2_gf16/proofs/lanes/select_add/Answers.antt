@@ -2,4 +2,4 @@ use Rattle.par2_gf16.proofs.LaneLaws.{select_lanes}
 use Rattle.par2_gf16.proofs.lanes.select_add.Goals as goal
 
 pub returns : goal.returns
-returns c = select_lanes 32 c.args.k c.args.sum c.args.v c.fits-sum.0 c.fits-v.0
+returns c = select_lanes 16 c.args.k c.args.sum c.args.v c.fits-sum.0 c.fits-v.0

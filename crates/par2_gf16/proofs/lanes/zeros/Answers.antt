@@ -2,4 +2,4 @@ use Rattle.std.proofs.lemmas.Simd.{splat_is_map}
 use Rattle.par2_gf16.proofs.lanes.zeros.Goals as goal
 
 pub returns : goal.returns
-returns c = splat_is_map c.args.v 32 0 c.fits-v.0
+returns c = splat_is_map c.args.v 16 0 c.fits-v.0

@@ -7,4 +7,4 @@ invariant_of-result c =
     let second = c.sixteen_times-second.ensures in
     let third = twice_sixteen x c.sixteen_times-second.result c.sixteen_times-third.result c.ranges.element.fits second c.sixteen_times-third.ensures in
     let fourth = thrice_sixteen x c.sixteen_times-third.result c.sixteen_times-fourth.result c.ranges.element.fits third c.sixteen_times-fourth.ensures in
-    rw (c.new.ensures, c.new-2.ensures, c.new-3.ensures, c.new-4.ensures) (record { second_is = second; third_is = third; fourth_is = fourth })
+    rw (c.new.ensures, c.new-2.ensures, c.new-3.ensures, c.new-4.ensures) (second, third, fourth)

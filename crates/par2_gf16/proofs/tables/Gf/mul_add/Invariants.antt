@@ -1,5 +1,6 @@
+use Rattle.std.proofs.Common.{◌*◌}
 use Rattle.par2_gf16.specs.Steps.{AddsWithin}
 use Rattle.par2_gf16.proofs.tables.Gf.mul_add.Given as goal
 
-abbrev pub invariant-loop-i : goal.invariant-loop-i
-invariant-loop-i l = AddsWithin l.c l.src l.fn.dst l.dst 0 l.i
+abbrev pub invariant-loop-block : goal.invariant-loop-block
+invariant-loop-block l = AddsWithin l.c l.src l.initial.dst l.dst 0 (16 * l.block)
