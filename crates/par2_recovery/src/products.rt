@@ -6,37 +6,48 @@ ghost use Rattle.par2_matrix.specs.Echelon.{OneChanged, list_at, lists_of};
 ghost use Rattle.par2_recovery.specs.Products.{AddsSource, Adds, AreBytes};
 ghost use Rattle.par2_recovery.specs.Views.{texts_of};
 
-use par2_gf16::Gf;
+use par2_gf16::{Factor, Gf};
 
 /// How many words of every text are taken at a time, so that what is written stays in the cache.
 const BLOCK: usize = 4096;
 
-// Adds c times the words of the source to those of the target, both from word `from` on.
-fn add_whole_words(gf: &Gf, c: u16, source: &[u8], target: &mut [u8], from: usize, to: usize)
+// Adds the factor times the words of the source to those of the target, both from word `from` on.
+fn add_whole_words(
+    gf: &Gf,
+    factor: &Factor,
+    source: &[u8],
+    target: &mut [u8],
+    from: usize,
+    to: usize,
+)
     requires order { from ≤ to }
     requires source { 2 * to ≤ length source.now }
     requires target { 2 * to ≤ length target.old }
-    ensures { AddsWithin c source.now target.old target.new from to }
+    ensures { AddsWithin factor.now source.now target.old target.new from to }
 {
-    gf.mul_add(c, &source[2 * from..2 * to], &mut target[2 * from..2 * to]);
+    gf.mul_add_by(
+        factor,
+        &source[2 * from..2 * to],
+        &mut target[2 * from..2 * to],
+    );
 }
 
-// Adds c times the last byte of the source, where it is half a word.
-fn add_last_byte(gf: &Gf, c: u16, source: &[u8], target: &mut [u8], at: usize)
+// Adds the factor times the last byte of the source, where it is half a word.
+fn add_last_byte(gf: &Gf, factor: &Factor, source: &[u8], target: &mut [u8], at: usize)
     requires source { length source.now ≡ 2 * at + 1 }
     requires target { 2 * at + 1 < length target.old }
-    ensures { AddsWithin c source.now target.old target.new at (at + 1) }
+    ensures { AddsWithin factor.now source.now target.old target.new at (at + 1) }
 {
     let last = [source[2 * at], 0];
-    gf.mul_add(c, &last, &mut target[2 * at..2 * (at + 1)]);
+    gf.mul_add_by(factor, &last, &mut target[2 * at..2 * (at + 1)]);
 }
 
-// Adds c times the words of the source from `from` up to `to` to those of the target. Zeros follow a source that
-// ends sooner.
-fn add_words(gf: &Gf, c: u16, source: &[u8], target: &mut [u8], from: usize, to: usize)
+// Adds the factor times the words of the source from `from` up to `to` to those of the target. Zeros follow a source
+// that ends sooner.
+fn add_words(gf: &Gf, factor: &Factor, source: &[u8], target: &mut [u8], from: usize, to: usize)
     requires order { from ≤ to }
     requires target { 2 * to ≤ length target.old }
-    ensures added { AddsWithin c source.now target.old target.new from to }
+    ensures added { AddsWithin factor.now source.now target.old target.new from to }
     ensures bytes { (k : ℕ) → slice_index target.new k < 2 ^ 8 }
 {
     let end = source.len().min(2 * to);
@@ -44,22 +55,30 @@ fn add_words(gf: &Gf, c: u16, source: &[u8], target: &mut [u8], from: usize, to:
     if whole < from {
         return;
     }
-    add_whole_words(gf, c, source, target, from, whole);
+    add_whole_words(gf, factor, source, target, from, whole);
     if end % 2 == 1 {
-        add_last_byte(gf, c, source, target, whole);
+        add_last_byte(gf, factor, source, target, whole);
     }
 }
 
 // Adds to list r.
-fn add_to(gf: &Gf, lists: &mut [Vec<u8>], r: usize, c: u16, source: &[u8], from: usize, to: usize)
+fn add_to(
+    gf: &Gf,
+    lists: &mut [Vec<u8>],
+    r: usize,
+    factor: &Factor,
+    source: &[u8],
+    from: usize,
+    to: usize,
+)
     requires place { r < length lists.old }
     requires order { from ≤ to }
     requires room { 2 * to ≤ length (list_at (lists_of lists.old) r) }
     ensures changed { OneChanged (lists_of lists.old) (lists_of lists.new) r }
-    ensures added { AddsWithin c source.now (list_at (lists_of lists.old) r) (list_at (lists_of lists.new) r) from to }
+    ensures added { AddsWithin factor.now source.now (list_at (lists_of lists.old) r) (list_at (lists_of lists.new) r) from to }
     ensures bytes { (k : ℕ) → slice_index (list_at (lists_of lists.new) r) k < 2 ^ 8 }
 {
-    add_words(gf, c, source, lists[r].as_mut_slice(), from, to);
+    add_words(gf, factor, source, lists[r].as_mut_slice(), from, to);
 }
 
 #[inline(always)]
@@ -96,8 +115,8 @@ fn add_source(
     ensures { AddsSource (λ r. slice_index (list_at (lists_of factors.now) r) k) source.now (lists_of targets.old) (lists_of targets.new) from to (length targets.old) }
 {
     for r in 0..targets.len() {
-        let factor = factor_at(factors, r, k);
-        add_to(gf, targets, r, factor, source, from, to);
+        let factor = Factor::new(factor_at(factors, r, k));
+        add_to(gf, targets, r, &factor, source, from, to);
     }
 }
 

@@ -7,7 +7,7 @@ ghost use Rattle.std.specs.List.{AllAdjacentBelow};
 
 use anyhow::Result;
 use par2_folder::{Bytes, Change, Folder, Name};
-use par2_gf16::Gf;
+use par2_gf16::{Factor, Gf};
 use par2_recovery::{RebuildFault, SetRecord, Survivors, rebuild, recovery_slices};
 use par2_slices::slice_count;
 use std::alloc::{AllocError, Global};
@@ -52,7 +52,7 @@ fn sums(rt: &HostRuntime, gf: &Gf, count: u64, size: usize) -> Result<Duration>
     let mut factor = 3u16;
     let start = Instant::now(rt)?;
     for _ in 0..count {
-        gf.mul_add(factor, &source, &mut target);
+        gf.mul_add_by(&Factor::new(factor), &source, &mut target);
         factor = factor.wrapping_mul(5).wrapping_add(7);
     }
     let took = start.elapsed(rt)?;

@@ -1,4 +1,4 @@
-use Rattle.std.proofs.Common.{get_or}
+use Rattle.std.proofs.Common.{get_or, ◌∙◌}
 use Rattle.par2_matrix.specs.Echelon.{list_at, lists_of}
 use Rattle.par2_recovery.proofs.Adding.{no_target, next_target}
 use Rattle.par2_recovery.proofs.products.add_source.Goals as goal
@@ -8,5 +8,5 @@ loop-r-init c = no_target _ c.args.source.now (lists_of c.args.targets.now) c.ar
 
 pub loop-r-preserved : goal.loop-r-preserved
 loop-r-preserved c =
-    next_target (λ x. get_or (list_at (lists_of c.args.factors.now) x) c.args.k 0) c.args.source.now (lists_of c.args.targets.now) (lists_of c.loop-r.targets) (lists_of c.add_to.new.lists) c.args.from c.args.to c.loop-r.r c.factor_at-factor.result
-    c.loop-r.invariant c.factor_at-factor.ensures c.add_to.ensures.changed c.add_to.ensures.added c.add_to.ensures.bytes
+    next_target (λ x. get_or (list_at (lists_of c.args.factors.now) x) c.args.k 0) c.args.source.now (lists_of c.args.targets.now) (lists_of c.loop-r.targets) (lists_of c.add_to.new.lists) c.args.from c.args.to c.loop-r.r c.new-factor.result
+    c.loop-r.invariant (c.new-factor.ensures ∙ c.factor_at.ensures) c.add_to.ensures.changed c.add_to.ensures.added c.add_to.ensures.bytes
