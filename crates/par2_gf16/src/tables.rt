@@ -140,7 +140,7 @@ impl Gf {
 
     /// To each word of `dst`, the lower byte first, adds the product of the factor and the word of `src`. This is for
     /// one factor that goes over many bytes: the `Factor` takes some tens of nanoseconds to make, and the products are
-    /// then three to four times as fast as those of `mul_add`.
+    /// then about four times as fast as those of `mul_add`.
     pub fn mul_add_by(&self, factor: &Factor, src: &[u8], dst: &mut [u8])
         requires same { length src.now ≡ length dst.old }
         requires even { length dst.old % 2 ≡ 0 }
