@@ -6,6 +6,7 @@ use Rattle.std.proofs.lemmas.List.{append_assoc, drop-append-le, drop-replicate,
 use Rattle.std.proofs.lemmas.Slice.{take-put_mid, take-put_mid_below}
 use Rattle.std.proofs.Math.Seq.{take-append-add}
 use Rattle.md5.specs.Md5.{padding}
+use Rattle.par2_digests.specs.Tails.{tail_len}
 use Rattle.par2_digests.proofs.BlockLaws.{same_parts}
 use borrow.Rule.Slice.PartMut.{put_mid}
 
@@ -30,9 +31,9 @@ marked rest h =
     ∙ set_at rest 0 (replicate (127 - length rest) 0) 0x80 (length rest) refl
 
 -- the tail as it is written: the rest, the byte behind it, and the length in bits before `end`
-pub tail_is : (rest first last : List ℕ) (end j len : ℕ) → length rest ≡ len % 64 → end ≡ len % 64 + length (padding len) → end ≤ 128
+pub tail_is : (rest first last : List ℕ) (end j len : ℕ) → length rest ≡ len % 64 → end ≡ tail_len len → end ≤ 128
     → first ≡ rest → last ≡ to_le_bytes w64 (len * 8 % 2 ^ 64)
-    → take (len % 64 + length (padding len)) (put_mid (end - 8) j (slice_set (first ++ drop (length rest) (replicate 128 0)) (length rest) 0x80) last)
+    → take (tail_len len) (put_mid (end - 8) j (slice_set (first ++ drop (length rest) (replicate 128 0)) (length rest) 0x80) last)
     ≡ rest ++ padding len
 unfolding zeros
 tail_is rest first last end j len size ends fits first_is last_is =
@@ -49,8 +50,8 @@ tail_is rest first last end j len size ends fits first_is last_is =
     ∙ ap (λ (n : ℕ). take n (rest ++ 0x80 ∷ behind)) before
     ∙ take-append-add rest (0x80 ∷ behind) (suc (zeros len))
     ∙ ap (λ (xs : List ℕ). rest ++ 0x80 ∷ xs) (take-replicate (zeros len) (127 - length rest) 0 (omega (arith, padding_len len))) in
-    let count : len % 64 + length (padding len) ≡ end - 8 + length last = omega (arith, ap length last_is, padding_len len) in
-    take-put_mid (end - 8) j bytes last (len % 64 + length (padding len)) count room
+    let count : tail_len len ≡ end - 8 + length last = omega (arith, ap length last_is, padding_len len) in
+    take-put_mid (end - 8) j bytes last (tail_len len) count room
     ∙ ap (λ (xs : List ℕ). xs ++ last) front
     ∙ append_assoc rest (0x80 ∷ zero_bytes) last
     ∙ ap (λ (xs : List ℕ). rest ++ 0x80 ∷ (zero_bytes ++ xs)) last_is
@@ -106,6 +107,6 @@ pub all_blocks : (m pad p : List ℕ) (len count : ℕ) → p ≡ m ++ pad → l
     → 0 + len / 64 + count ≡ length p / 64
 all_blocks m pad p len count p_is size whole = omega (arith, ap length p_is, length-append m pad)
 
-pub tail_fits : (len : ℕ) → len % 64 + length (padding len) ≤ 128
+pub tail_fits : (len : ℕ) → tail_len len ≤ 128
 unfolding zeros
 tail_fits len = omega (arith, padding_len len)

@@ -99,7 +99,7 @@ fn stepped(state: State, f: u32x8, word: u32x8, t: usize) -> State
     requires { t < 64 }
     ensures { (k : ℕ) → k < 8 → lane k result ≡ round (lane k state) (slice_index f k) (slice_index step_constants t) (slice_index word k) (slice_index step_shifts t) }
 {
-    // `f` is known last.
+    // `f` comes last, since it hangs on the step before.
     let sum = plus(plus(plus(state.a, word), splat(CONSTANTS[t])), f);
     State {
         a: state.d,

@@ -1,6 +1,7 @@
-use Rattle.std.proofs.Common.{◌≡◌, ◌+◌, ◌-◌, ◌*◌, ◌%◌, ◌++◌, ◌≤◌, ◌∙◌, ℕ, ap, drop, length, length-drop, take, below_more, arith}
+use Rattle.std.proofs.Common.{◌≡◌, ◌+◌, ◌-◌, ◌*◌, ◌++◌, ◌≤◌, ◌∙◌, ℕ, ap, drop, length, length-drop, take, below_more, arith}
 use Rattle.std.proofs.lemmas.List.{length-take-le}
 use Rattle.md5.specs.Md5.{padding}
+use Rattle.par2_digests.specs.Tails.{tail_len}
 use Rattle.par2_digests.proofs.TailLaws.{tail_at, tail_before, tail_fits, tails_len}
 use Rattle.par2_digests.proofs.padding.tails_of_windows.Goals as goal
 
@@ -10,7 +11,7 @@ loop-k-preserved c =
     let at : ℕ = 128 * k in
     let tails = c.loop-k.tails in
     let tail = c.copy_from_slice.new.self in
-    let n : ℕ = c.args.len % 64 + length (padding c.args.len) in
+    let n = tail_len c.args.len in
     let room : at + 128 ≤ length tails = omega (arith, c.loop-k.invariant.count, c.loop-k-test.true) in
     let lent : at + 128 - at ≡ 128 = omega arith in
     let size : length tail ≡ 128 =
