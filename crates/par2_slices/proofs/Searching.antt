@@ -1,5 +1,5 @@
 -- A search under way.
-use Rattle.std.proofs.Common.{◌≡◌, ℕ, zero, suc, ◌+◌, ◌-◌, ◌*◌, ◌/◌, ◌^◌, ◌<◌, ◌≤◌, Bool, true, false, cond, List, [], ◌∷◌, ◌++◌, length, map, drop, get_or, set, replicate, refl, sym, ap, subst, ◌∙◌, get_or-set_same, get_or-set_other, inl, inr, arith}
+use Rattle.std.proofs.Common.{◌≡◌, ℕ, zero, suc, ◌+◌, ◌-◌, ◌*◌, ◌/◌, ◌%◌, ◌^◌, ◌<◌, ◌≤◌, Bool, true, false, cond, List, [], ◌∷◌, ◌++◌, length, map, drop, get_or, set, replicate, refl, sym, ap, subst, ◌∙◌, get_or-set_same, get_or-set_other, inl, inr, arith}
 use Rattle.std.specs.Prelude.{◌⊎◌, ◌==◌, ◌&&◌, Option, Some, None, find}
 use Rattle.std.specs.List.{count_by, list_all, range_with_len}
 use Rattle.std.specs.Option.{is_none, option_or}
@@ -177,14 +177,18 @@ emptied s text o pairs old new left after filter marks candidates rest at tally 
 }
 
 -- a group without an open pair may be taken away
-pub unmark : (s : ℕ) (text : List ℕ) (o : ℕ) (pairs : List Pair) (found : List (Option ℕ)) (left : ℕ) (filter after : Bits) (candidates : List Candidate) (crc shift : ℕ) (group : List Place) → IsAt s text o pairs found left filter candidates → HoldsGroup pairs shift crc group → ((k : ℕ) → k < length group → offset_at found (place_at group k).index ≡ None → ⊥) → ((other : ℕ) → (other / 2 ^ shift ≡ crc / 2 ^ shift → ⊥) → Marks filter other → Marks after other) → IsAt s text o pairs found left after candidates
+pub unmark : (s : ℕ) (text : List ℕ) (o : ℕ) (pairs : List Pair) (found : List (Option ℕ)) (left : ℕ) (filter after : Bits) (candidates : List Candidate) (crc shift : ℕ) (group : List Place) → IsAt s text o pairs found left filter candidates → HoldsGroup pairs shift crc group → ((k : ℕ) → k < length group → (place_at group k).crc % 64 ≡ crc % 64 → offset_at found (place_at group k).index ≡ None → ⊥) → ((other : ℕ) → ((other / 2 ^ shift ≡ crc / 2 ^ shift) × (other % 64 ≡ crc % 64) → ⊥) → Marks filter other → Marks after other) → IsAt s text o pairs found left after candidates
 unmark s text o pairs found left filter after candidates crc shift group at holds closed keeps = record {
   tally = record {
     len = at.tally.len;
     count = at.tally.count;
     marked = λ i h none.
         keeps (pair_at pairs i).1
-        (λ same. let place = holds.whole i h same in closed place.0 place.1 (ap (offset_at found) place.2 ∙ none))
+        (λ same.
+        let place = holds.whole i h same.0 in
+        closed place.0 place.1
+        (ap (λ c. c % 64) (sym (holds.each place.0 place.1).crc ∙ ap (λ j. (pair_at pairs j).1) place.2) ∙ same.1)
+        (ap (offset_at found) place.2 ∙ none))
         (at.tally.marked i h none);
   };
   answers = at.answers;

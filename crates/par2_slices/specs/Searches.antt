@@ -1,5 +1,5 @@
 -- A search for slices by their checksums, under way.
-use Rattle.std.specs.Prelude.{◌≡◌, [], ℕ, ◌/◌, ◌^◌, ◌<◌, ◌==◌, ◌&&◌, ◌+◌, ◌≤◌, Bool, cond, Option, Some, None, List, length, find, fold, slice_index_or}
+use Rattle.std.specs.Prelude.{◌≡◌, [], ℕ, ◌/◌, ◌%◌, ◌^◌, ◌<◌, ◌==◌, ◌&&◌, ◌+◌, ◌≤◌, Bool, cond, Option, Some, None, List, length, find, fold, slice_index_or}
 use Rattle.std.specs.List.{count_by, range_with_len}
 use Rattle.std.specs.List.Sorted.{IsNonDecreasingBy}
 use Rattle.std.specs.Option.{is_none, option_or}
@@ -53,9 +53,9 @@ pub record HoldsGroup (pairs : List Pair) (shift crc : ℕ) (group : List Place)
 abbrev pub is_awaited : ℕ → List (Option ℕ) → Place → Bool
 is_awaited crc found place = place.crc == crc && is_none (offset_at found place.index)
 
--- a pair of the group has no answer
-abbrev pub IsWaiting : List Place → List (Option ℕ) → Type 0
-IsWaiting group found = (k : ℕ) × (k < length group) × (offset_at found (place_at group k).index ≡ None)
+-- a pair of the group whose checksum has the same low six bits has no answer
+abbrev pub IsWaiting : List Place → ℕ → List (Option ℕ) → Type 0
+IsWaiting group crc found = (k : ℕ) × (k < length group) × ((place_at group k).crc % 64 ≡ crc % 64) × (offset_at found (place_at group k).index ≡ None)
 
 -- an answer after one offset more
 abbrev pub advanced : Bool → ℕ → Option ℕ → Option ℕ

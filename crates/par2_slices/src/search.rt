@@ -31,13 +31,13 @@ fn awaited(group: &[Place], crc: u32, found: &[Option<usize>]) -> usize
     count
 }
 
-/// Whether a pair of the group has no answer yet.
-fn is_waiting(group: &[Place], found: &[Option<usize>]) -> bool
+/// Whether a pair of the group, whose CRC-32 has the same low six bits, has no answer yet.
+fn is_waiting(group: &[Place], crc: u32, found: &[Option<usize>]) -> bool
     requires { (k : ℕ) → k < length group.now → (place_at group.now k).index < length found.now }
-    ensures { IsTrue result ↔ IsWaiting group.now found.now }
+    ensures { IsTrue result ↔ IsWaiting group.now crc found.now }
 {
     for place in group {
-        if found[place.index].is_none() {
+        if place.crc % 64 == crc % 64 && found[place.index].is_none() {
             return true;
         }
     }
@@ -206,7 +206,7 @@ impl Search {
         if pairs > 0 {
             self.put(wanted, bytes, s, Candidate { offset, crc }, pairs);
         }
-        if !is_waiting(group, &self.found) {
+        if !is_waiting(group, crc, &self.found) {
             self.filter.remove(crc);
         }
     }

@@ -1,4 +1,4 @@
-use Rattle.std.proofs.Common.{◌≡◌, ◌∙◌, ◌+◌, ◌/◌, ◌^◌, ℕ, List, true, false, ap, sym, subst, arith}
+use Rattle.std.proofs.Common.{◌≡◌, ◌∙◌, ◌+◌, ◌/◌, ◌%◌, ◌^◌, ℕ, List, true, false, ap, sym, subst, arith}
 use Rattle.std.specs.Prelude.{Option}
 use Rattle.std.specs.List.{count_by}
 use Rattle.par2_spec.specs.Checksums.{Pair}
@@ -36,9 +36,9 @@ returns-then-not-is_waiting c =
     ]
     in
     let shift_is : c.if-pairs-gt0.self.filter.shift ≡ c.shift.result = ap (λ (bits : Bits). bits.shift) filter_is ∙ sym c.shift.ensures.value in
-    let Other : ℕ → ℕ → Type 0 = λ other shift. other / 2 ^ shift ≡ crc / 2 ^ shift → ⊥ in
+    let Other : ℕ → ℕ → Type 0 = λ other shift. (other / 2 ^ shift ≡ crc / 2 ^ shift) × (other % 64 ≡ crc % 64) → ⊥ in
     unmark s text (o + 1) wanted c.if-pairs-gt0.self.found.items c.if-pairs-gt0.self.left c.if-pairs-gt0.self.filter c.remove.new.self c.if-pairs-gt0.self.batch.items crc c.shift.result group after c.group-group.ensures
-    (λ k h none. let both : true ≡ false = sym (c.is_waiting.ensures.1 (k, h, ap (λ found. offset_at found (place_at group k).index) c.deref-2.ensures.value ∙ none)) ∙ c.if-not-is_waiting.true in cc)
+    (λ k h low none. let both : true ≡ false = sym (c.is_waiting.ensures.1 (k, h, low, ap (λ found. offset_at found (place_at group k).index) c.deref-2.ensures.value ∙ none)) ∙ c.if-not-is_waiting.true in cc)
     (λ other differs is. let Its : ℕ → Type 0 = Other other in c.remove.ensures.kept other (subst Its (sym shift_is) differs) is)
 
 pub returns-else-not-is_waiting : goal.returns-else-not-is_waiting
