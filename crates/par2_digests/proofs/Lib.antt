@@ -1,0 +1,4 @@
+pub mod LaneLaws
+pub mod RoundLaws
+pub mod BlockLaws
+pub mod TailLaws

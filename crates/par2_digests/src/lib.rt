@@ -1,20 +1,70 @@
 //! The MD5 digests of eight windows of one text, side by side.
 #![tactic(auto)]
 
-ghost use Rattle.std.specs.Prelude.{◌≡◌, ◌≤◌, ◌<◌, ◌+◌, ℕ, length, take, drop, slice_index};
-ghost use Rattle.md5.specs.Md5.{md5};
+ghost use Rattle.std.specs.Prelude.{◌≡◌, ◌≤◌, ◌<◌, ◌+◌, ◌/◌, ℕ, length, take, drop, slice_index};
+ghost use Rattle.std.specs.Int.{w32, to_le_bytes};
+ghost use Rattle.md5.specs.Md5.{digest_bytes, hash_after, initial_hash, md5, padded_message};
 ghost use Rattle.par2_digests.specs.Digests.{digest_at};
+ghost use Rattle.par2_digests.specs.Lanes.{lane};
 
-use md5::{Digest, Md5};
+mod blocks;
+mod lanes;
+mod padding;
+mod steps;
+#[cfg(test)]
+mod tests;
+
+use blocks::absorbed;
+use lanes::splat;
+use padding::{tail_blocks, tails_of_windows};
+use std::simd::prelude::*;
+use steps::State;
 
 /// How many windows are digested side by side.
 pub const LANES: usize = 8;
 
-fn window_digest(bytes: &[u8], start: usize, len: usize) -> [u8; 16]
-    requires within { start + len ≤ length bytes.now }
-    ensures { result ≡ md5 (take len (drop start bytes.now)) }
+// The initial hash value (RFC 1321, 3.3).
+fn initial_state() -> State
+    ensures { (k : ℕ) → k < 8 → lane k result ≡ initial_hash }
 {
-    Md5::digest(&bytes[start..start + len])
+    State {
+        a: splat(0x6745_2301),
+        b: splat(0xefcd_ab89),
+        c: splat(0x98ba_dcfe),
+        d: splat(0x1032_5476),
+    }
+}
+
+/// The hash values of the windows, after all blocks of each and its padding.
+fn hash_values(bytes: &[u8], starts: &[usize; LANES], len: usize) -> State
+    requires within { (k : ℕ) → k < 8 → slice_index starts.now k + len ≤ length bytes.now }
+    ensures { (k : ℕ) → k < 8 → let p = padded_message (take len (drop (slice_index starts.now k) bytes.now)) in lane k result ≡ hash_after p (length p / 64) }
+{
+    let tails = tails_of_windows(bytes, starts, len);
+    let tail_starts = [0, 128, 256, 384, 512, 640, 768, 896];
+    let state = absorbed(initial_state(), bytes, starts, len / 64);
+    absorbed(state, &tails, &tail_starts, tail_blocks(len))
+}
+
+fn bytes_of_lane(v: u32x8, k: usize) -> [u8; 4]
+    requires { k < 8 }
+    ensures { result ≡ to_le_bytes w32 (slice_index v k) }
+{
+    v[k].to_le_bytes()
+}
+
+/// The digest in a lane, low byte first.
+fn digest_of_lane(state: &State, k: usize) -> [u8; 16]
+    requires { k < 8 }
+    ensures { result ≡ digest_bytes (lane k state.now) 4 }
+{
+    let [a0, a1, a2, a3] = bytes_of_lane(state.a, k);
+    let [b0, b1, b2, b3] = bytes_of_lane(state.b, k);
+    let [c0, c1, c2, c3] = bytes_of_lane(state.c, k);
+    let [d0, d1, d2, d3] = bytes_of_lane(state.d, k);
+    [
+        a0, a1, a2, a3, b0, b1, b2, b3, c0, c1, c2, c3, d0, d1, d2, d3,
+    ]
 }
 
 /// The MD5 digests of the windows of `len` bytes that begin at `starts`, in the order of the starts. The windows may
@@ -23,9 +73,10 @@ pub fn window_digests(bytes: &[u8], starts: &[usize; LANES], len: usize) -> [[u8
     requires within { (k : ℕ) → k < 8 → slice_index starts.now k + len ≤ length bytes.now }
     ensures { (k : ℕ) → k < 8 → digest_at result k ≡ md5 (take len (drop (slice_index starts.now k) bytes.now)) }
 {
+    let state = hash_values(bytes, starts, len);
     let mut digests = [[0; 16]; LANES];
-    for lane in 0..LANES {
-        digests[lane] = window_digest(bytes, starts[lane], len);
+    for k in 0..LANES {
+        digests[k] = digest_of_lane(&state, k);
     }
     digests
 }

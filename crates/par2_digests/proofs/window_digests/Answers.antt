@@ -1,15 +1,22 @@
-use Rattle.std.proofs.Common.{◌≢◌, ◌<◌, ◌∙◌, [], length, below_more, get_or-set_other, get_or-set_same, length-set, arith}
+use Rattle.std.proofs.Common.{◌≢◌, ◌<◌, ◌∙◌, [], ap, length, below_more, get_or-set_other, get_or-set_same, length-set, arith}
+use Rattle.md5.specs.Md5.{digest_bytes, md5}
 use Rattle.par2_digests.proofs.window_digests.Goals as goal
 
-pub loop-lane-preserved : goal.loop-lane-preserved
-loop-lane-preserved c =
-    let lane = c.loop-lane.lane in
-    let digest = c.window_digest.result in
-    let within : lane < length c.loop-lane.digests = omega (arith, c.loop-lane.invariant.count) in
+pub loop-k-preserved : goal.loop-k-preserved
+loop-k-preserved c =
+    let k = c.loop-k.k in
+    let digests = c.loop-k.digests in
+    let digest = c.digest_of_lane.result in
+    let within : k < length digests = omega (arith, c.loop-k.invariant.count) in
     record {
-      count = length-set c.loop-lane.digests lane digest ∙ c.loop-lane.invariant.count;
+      count = length-set digests k digest ∙ c.loop-k.invariant.count;
       done =
           below_more _ _
-          (λ k h. let other : k ≢ lane = omega arith in rw get_or-set_other (c.loop-lane.invariant.done k h))
-          (get_or-set_same c.loop-lane.digests lane digest [] within ∙ c.window_digest.ensures);
+          (λ j h. let other : j ≢ k = omega arith in rw get_or-set_other (c.loop-k.invariant.done j h))
+          (get_or-set_same digests k digest [] within ∙ c.digest_of_lane.ensures);
     }
+
+pub returns : goal.returns
+unfolding md5
+returns c = λ k low.
+    c.loop-k.invariant.done k (omega arith) ∙ ap (λ h. digest_bytes h 4) (c.hash_values-state.ensures k low)

@@ -1,10 +1,11 @@
-use Rattle.std.proofs.Common.{◌≡◌, ◌<◌, ℕ, length, take, drop, get_or}
-use Rattle.md5.specs.Md5.{md5}
+use Rattle.std.proofs.Common.{◌≡◌, ◌<◌, ℕ, length}
+use Rattle.md5.specs.Md5.{digest_bytes}
 use Rattle.par2_digests.specs.Digests.{digest_at}
+use Rattle.par2_digests.specs.Lanes.{lane}
 use Rattle.par2_digests.proofs.window_digests.Given as goal
 
-abbrev pub invariant-loop-lane : goal.invariant-loop-lane
-invariant-loop-lane l = record {
+abbrev pub invariant-loop-k : goal.invariant-loop-k
+invariant-loop-k l = record {
   count : length l.digests ≡ 8;
-  done : (k : ℕ) → k < l.lane → digest_at l.digests k ≡ md5 (take l.len (drop (get_or l.starts k 0) l.bytes));
+  done : (j : ℕ) → j < l.k → digest_at l.digests j ≡ digest_bytes (lane j l.state) 4;
 }

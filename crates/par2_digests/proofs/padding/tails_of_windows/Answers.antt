@@ -1,0 +1,30 @@
+use Rattle.std.proofs.Common.{◌≡◌, ◌+◌, ◌-◌, ◌*◌, ◌++◌, ◌≤◌, ◌∙◌, ℕ, ap, drop, length, length-drop, take, below_more, arith}
+use Rattle.std.proofs.lemmas.List.{length-take-le}
+use Rattle.md5.specs.Md5.{padding}
+use Rattle.par2_digests.specs.Tails.{tail_len}
+use Rattle.par2_digests.proofs.TailLaws.{tail_at, tail_before, tail_fits, tails_len}
+use Rattle.par2_digests.proofs.padding.tails_of_windows.Goals as goal
+
+pub loop-k-preserved : goal.loop-k-preserved
+loop-k-preserved c =
+    let k = c.loop-k.k in
+    let at : ℕ = 128 * k in
+    let tails = c.loop-k.tails in
+    let tail = c.copy_from_slice.new.self in
+    let n = tail_len c.args.len in
+    let room : at + 128 ≤ length tails = omega (arith, c.loop-k.invariant.count, c.loop-k-test.true) in
+    let lent : at + 128 - at ≡ 128 = omega arith in
+    let size : length tail ≡ 128 =
+    c.copy_from_slice.ensures.len ∙ length-take-le (at + 128 - at) (drop at tails) (omega (arith, length-drop at tails)) ∙ lent in
+    record {
+      count = tails_len tails tail at _ room size lent ∙ c.loop-k.invariant.count;
+      done =
+          below_more _ _
+          (λ j h.
+          let before : 128 * j + n ≤ at = omega (arith, tail_fits c.args.len) in
+          tail_before tails tail at _ (128 * j) n (omega arith) before ∙ c.loop-k.invariant.done j h)
+          (tail_at tails tail at _ n room size (tail_fits c.args.len)
+          ∙ ap (take n) c.copy_from_slice.ensures.after
+          ∙ c.tail_of_message-tail.ensures
+          ∙ ap (λ rest. rest ++ padding c.args.len) c.rest_of_window.ensures.value);
+    }

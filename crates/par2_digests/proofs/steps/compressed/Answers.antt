@@ -1,0 +1,13 @@
+use Rattle.std.proofs.Common.{ap, refl}
+use Rattle.md5.specs.Md5.{add_state, rounds}
+use Rattle.par2_digests.specs.Lanes.{lane}
+use Rattle.par2_digests.proofs.steps.compressed.Goals as goal
+
+pub returns : goal.returns
+unfolding rounds
+returns c = λ k low.
+    let h = lane k c.args.state in
+    let after =
+    c.fourth_round-after.ensures k h low
+    (c.third_round-after.ensures k h low (c.second_round-after.ensures k h low (c.first_round-after.ensures k h low refl))) in
+    rw (c.plus.ensures k low, c.plus-2.ensures k low, c.plus-3.ensures k low, c.plus-4.ensures k low) (ap (add_state h) after)

@@ -1,0 +1,260 @@
+//! The 64 steps of a block (RFC 1321, 3.4) on eight messages at once.
+
+ghost use Rattle.std.specs.Prelude.{◌≡◌, ◌≤◌, ◌<◌, ◌+◌, ℕ, List, slice_index};
+ghost use Rattle.md5.specs.Md5.{add_state, round, rounds, step_constants, step_shifts};
+ghost use Rattle.par2_digests.specs.Lanes.{lane, lane_words};
+
+use crate::lanes::{f_lanes, g_lanes, h_lanes, i_lanes, plus, rotated, splat};
+use std::simd::prelude::*;
+
+// T, the constants of the steps.
+const CONSTANTS: [u32; 64] = [
+    0xd76a_a478,
+    0xe8c7_b756,
+    0x2420_70db,
+    0xc1bd_ceee,
+    0xf57c_0faf,
+    0x4787_c62a,
+    0xa830_4613,
+    0xfd46_9501,
+    0x6980_98d8,
+    0x8b44_f7af,
+    0xffff_5bb1,
+    0x895c_d7be,
+    0x6b90_1122,
+    0xfd98_7193,
+    0xa679_438e,
+    0x49b4_0821,
+    0xf61e_2562,
+    0xc040_b340,
+    0x265e_5a51,
+    0xe9b6_c7aa,
+    0xd62f_105d,
+    0x0244_1453,
+    0xd8a1_e681,
+    0xe7d3_fbc8,
+    0x21e1_cde6,
+    0xc337_07d6,
+    0xf4d5_0d87,
+    0x455a_14ed,
+    0xa9e3_e905,
+    0xfcef_a3f8,
+    0x676f_02d9,
+    0x8d2a_4c8a,
+    0xfffa_3942,
+    0x8771_f681,
+    0x6d9d_6122,
+    0xfde5_380c,
+    0xa4be_ea44,
+    0x4bde_cfa9,
+    0xf6bb_4b60,
+    0xbebf_bc70,
+    0x289b_7ec6,
+    0xeaa1_27fa,
+    0xd4ef_3085,
+    0x0488_1d05,
+    0xd9d4_d039,
+    0xe6db_99e5,
+    0x1fa2_7cf8,
+    0xc4ac_5665,
+    0xf429_2244,
+    0x432a_ff97,
+    0xab94_23a7,
+    0xfc93_a039,
+    0x655b_59c3,
+    0x8f0c_cc92,
+    0xffef_f47d,
+    0x8584_5dd1,
+    0x6fa8_7e4f,
+    0xfe2c_e6e0,
+    0xa301_4314,
+    0x4e08_11a1,
+    0xf753_7e82,
+    0xbd3a_f235,
+    0x2ad7_d2bb,
+    0xeb86_d391,
+];
+
+// The shift of each step.
+const SHIFTS: [u32; 64] = [
+    7, 12, 17, 22, 7, 12, 17, 22, 7, 12, 17, 22, 7, 12, 17, 22, 5, 9, 14, 20, 5, 9, 14, 20, 5, 9,
+    14, 20, 5, 9, 14, 20, 4, 11, 16, 23, 4, 11, 16, 23, 4, 11, 16, 23, 4, 11, 16, 23, 6, 10, 15,
+    21, 6, 10, 15, 21, 6, 10, 15, 21, 6, 10, 15, 21,
+];
+
+/// The four variables of eight messages: each a vector that has a lane for each message.
+#[derive(Clone, Copy)]
+pub(crate) struct State {
+    pub(crate) a: u32x8,
+    pub(crate) b: u32x8,
+    pub(crate) c: u32x8,
+    pub(crate) d: u32x8,
+}
+
+/// The sixteen words of a block of each message.
+pub(crate) type Words = [u32x8; 16];
+
+#[inline(always)]
+fn stepped(state: State, f: u32x8, word: u32x8, t: usize) -> State
+    requires { t < 64 }
+    ensures { (k : ℕ) → k < 8 → lane k result ≡ round (lane k state) (slice_index f k) (slice_index step_constants t) (slice_index word k) (slice_index step_shifts t) }
+{
+    // `f` comes last, since it hangs on the step before.
+    let sum = plus(plus(plus(state.a, word), splat(CONSTANTS[t])), f);
+    State {
+        a: state.d,
+        b: plus(state.b, rotated(sum, SHIFTS[t])),
+        c: state.b,
+        d: state.c,
+    }
+}
+
+#[inline(always)]
+fn f_step(state: State, words: &Words, t: usize) -> State
+    requires { t < 16 }
+    ensures { (k : ℕ) (h : List ℕ) → k < 8 → lane k state ≡ rounds h (lane_words k words.now) t → lane k result ≡ rounds h (lane_words k words.now) (t + 1) }
+{
+    stepped(state, f_lanes(state.b, state.c, state.d), words[t], t)
+}
+
+#[inline(always)]
+fn g_step(state: State, words: &Words, t: usize) -> State
+    requires from { 16 ≤ t }
+    requires to { t < 32 }
+    ensures { (k : ℕ) (h : List ℕ) → k < 8 → lane k state ≡ rounds h (lane_words k words.now) t → lane k result ≡ rounds h (lane_words k words.now) (t + 1) }
+{
+    stepped(
+        state,
+        g_lanes(state.b, state.c, state.d),
+        words[(5 * t + 1) % 16],
+        t,
+    )
+}
+
+#[inline(always)]
+fn h_step(state: State, words: &Words, t: usize) -> State
+    requires from { 32 ≤ t }
+    requires to { t < 48 }
+    ensures { (k : ℕ) (h : List ℕ) → k < 8 → lane k state ≡ rounds h (lane_words k words.now) t → lane k result ≡ rounds h (lane_words k words.now) (t + 1) }
+{
+    stepped(
+        state,
+        h_lanes(state.b, state.c, state.d),
+        words[(3 * t + 5) % 16],
+        t,
+    )
+}
+
+#[inline(always)]
+fn i_step(state: State, words: &Words, t: usize) -> State
+    requires from { 48 ≤ t }
+    requires to { t < 64 }
+    ensures { (k : ℕ) (h : List ℕ) → k < 8 → lane k state ≡ rounds h (lane_words k words.now) t → lane k result ≡ rounds h (lane_words k words.now) (t + 1) }
+{
+    stepped(
+        state,
+        i_lanes(state.b, state.c, state.d),
+        words[7 * t % 16],
+        t,
+    )
+}
+
+fn first_round(state: State, words: &Words) -> State
+    ensures { (k : ℕ) (h : List ℕ) → k < 8 → lane k state ≡ rounds h (lane_words k words.now) 0 → lane k result ≡ rounds h (lane_words k words.now) 16 }
+{
+    let state = f_step(state, words, 0);
+    let state = f_step(state, words, 1);
+    let state = f_step(state, words, 2);
+    let state = f_step(state, words, 3);
+    let state = f_step(state, words, 4);
+    let state = f_step(state, words, 5);
+    let state = f_step(state, words, 6);
+    let state = f_step(state, words, 7);
+    let state = f_step(state, words, 8);
+    let state = f_step(state, words, 9);
+    let state = f_step(state, words, 10);
+    let state = f_step(state, words, 11);
+    let state = f_step(state, words, 12);
+    let state = f_step(state, words, 13);
+    let state = f_step(state, words, 14);
+    f_step(state, words, 15)
+}
+
+fn second_round(state: State, words: &Words) -> State
+    ensures { (k : ℕ) (h : List ℕ) → k < 8 → lane k state ≡ rounds h (lane_words k words.now) 16 → lane k result ≡ rounds h (lane_words k words.now) 32 }
+{
+    let state = g_step(state, words, 16);
+    let state = g_step(state, words, 17);
+    let state = g_step(state, words, 18);
+    let state = g_step(state, words, 19);
+    let state = g_step(state, words, 20);
+    let state = g_step(state, words, 21);
+    let state = g_step(state, words, 22);
+    let state = g_step(state, words, 23);
+    let state = g_step(state, words, 24);
+    let state = g_step(state, words, 25);
+    let state = g_step(state, words, 26);
+    let state = g_step(state, words, 27);
+    let state = g_step(state, words, 28);
+    let state = g_step(state, words, 29);
+    let state = g_step(state, words, 30);
+    g_step(state, words, 31)
+}
+
+fn third_round(state: State, words: &Words) -> State
+    ensures { (k : ℕ) (h : List ℕ) → k < 8 → lane k state ≡ rounds h (lane_words k words.now) 32 → lane k result ≡ rounds h (lane_words k words.now) 48 }
+{
+    let state = h_step(state, words, 32);
+    let state = h_step(state, words, 33);
+    let state = h_step(state, words, 34);
+    let state = h_step(state, words, 35);
+    let state = h_step(state, words, 36);
+    let state = h_step(state, words, 37);
+    let state = h_step(state, words, 38);
+    let state = h_step(state, words, 39);
+    let state = h_step(state, words, 40);
+    let state = h_step(state, words, 41);
+    let state = h_step(state, words, 42);
+    let state = h_step(state, words, 43);
+    let state = h_step(state, words, 44);
+    let state = h_step(state, words, 45);
+    let state = h_step(state, words, 46);
+    h_step(state, words, 47)
+}
+
+fn fourth_round(state: State, words: &Words) -> State
+    ensures { (k : ℕ) (h : List ℕ) → k < 8 → lane k state ≡ rounds h (lane_words k words.now) 48 → lane k result ≡ rounds h (lane_words k words.now) 64 }
+{
+    let state = i_step(state, words, 48);
+    let state = i_step(state, words, 49);
+    let state = i_step(state, words, 50);
+    let state = i_step(state, words, 51);
+    let state = i_step(state, words, 52);
+    let state = i_step(state, words, 53);
+    let state = i_step(state, words, 54);
+    let state = i_step(state, words, 55);
+    let state = i_step(state, words, 56);
+    let state = i_step(state, words, 57);
+    let state = i_step(state, words, 58);
+    let state = i_step(state, words, 59);
+    let state = i_step(state, words, 60);
+    let state = i_step(state, words, 61);
+    let state = i_step(state, words, 62);
+    i_step(state, words, 63)
+}
+
+/// The hash values after a block more.
+pub(crate) fn compressed(state: State, words: &Words) -> State
+    ensures { (k : ℕ) → k < 8 → lane k result ≡ add_state (lane k state) (rounds (lane k state) (lane_words k words.now) 64) }
+{
+    let after = first_round(state, words);
+    let after = second_round(after, words);
+    let after = third_round(after, words);
+    let after = fourth_round(after, words);
+    State {
+        a: plus(state.a, after.a),
+        b: plus(state.b, after.b),
+        c: plus(state.c, after.c),
+        d: plus(state.d, after.d),
+    }
+}
