@@ -39,7 +39,7 @@ pub(crate) fn digests(bytes: &[u8], s: u64, batch: &[Candidate]) -> [[u8; 16]; L
     ensures { (k : ℕ) → k < length batch.now → digest_at result k ≡ md5 (window s bytes.now (candidate_at batch.now k).offset) }
 {
     if let [only] = batch {
-        // One alone takes less time by itself than eight side by side.
+        // Eight side by side take about the time of two, so one alone is faster by itself.
         return [padded_md5(window_bytes(bytes, s, only.offset), s); LANES];
     }
     window_digests(bytes, &starts(batch), s as usize)

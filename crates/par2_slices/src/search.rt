@@ -69,8 +69,9 @@ fn settle(
     count
 }
 
-/// A search under way: the answers so far, how many are open, which checksums these have, and the windows that are
-/// still to be compared with them, `awaited` being how many open pairs have the checksums of these.
+/// A search under way: the answers so far, how many are open, which checksums these have, and a batch of windows that
+/// are still to be compared. `awaited` is how many open pairs have the checksums of these: it decides when the batch is
+/// settled, which changes no answer, and so no clause speaks of it.
 #[derive(Drop)]
 struct Search {
     found: Vec<Option<usize>>,
@@ -119,7 +120,7 @@ impl Search {
         self.left -= settle(group, wanted.pairs(), md5, crc, offset, &mut self.found);
     }
 
-    /// Compares the candidates, in the order of their offsets.
+    /// Compares the candidates of the batch, in the order of their offsets, and empties it.
     fn settle_batch(&mut self, wanted: &Wanted, bytes: &[u8], s: u64)
         requires tally { IsTally wanted.now self.old.found.items self.old.left self.old.filter }
         requires candidates { (k : ℕ) → k < length self.old.batch.items → IsCandidate s bytes.now (candidate_at self.old.batch.items k) }
@@ -140,7 +141,7 @@ impl Search {
         }
     }
 
-    /// Whether the batch has room for a candidate of this CRC-32, and none that has the same.
+    /// Whether the batch has room for a candidate, and none of this CRC-32.
     fn has_room_for(&self, crc: u32) -> bool
         ensures { IsTrue result ↔ (length self.now.batch.items < 8) × ((k : ℕ) → k < length self.now.batch.items → ¬ ((candidate_at self.now.batch.items k).crc ≡ crc)) }
     {
@@ -152,7 +153,9 @@ impl Search {
                 .all(|candidate| candidate.crc != crc)
     }
 
-    /// Compares the candidates where one of this CRC-32 can't be put to them.
+    /// Settles a full batch, one that has a candidate of this CRC-32, and each one before a window that reaches past the
+    /// end of the file.
+    // Of windows of one CRC-32 the first mostly answers each pair that waits for it: then the others need no MD5.
     fn make_room(&mut self, wanted: &Wanted, bytes: &[u8], s: u64, offset: usize, crc: u32)
         requires at { IsAt s bytes.now offset wanted.now self.old.found.items self.old.left self.old.filter self.old.batch.items }
         requires within { offset < length bytes.now }
@@ -166,8 +169,8 @@ impl Search {
         }
     }
 
-    /// Puts a candidate that `pairs` open pairs wait for to the others. The last window of a file, where it is short, is
-    /// compared at once.
+    /// Puts a candidate, for which `pairs` open pairs wait, into the batch. A window that reaches past the end of the file
+    /// is compared at once, since the batch has whole windows only.
     fn put(&mut self, wanted: &Wanted, bytes: &[u8], s: u64, candidate: Candidate, pairs: usize)
         requires at { IsAt s bytes.now candidate.offset wanted.now self.old.found.items self.old.left self.old.filter self.old.batch.items }
         requires within { candidate.offset < length bytes.now }
@@ -308,9 +311,11 @@ fn byte_at(bytes: &[u8], at: usize) -> u8
 /// For each pair the least offset at which the window of `s` bytes of the file matches it, zeros standing past
 /// the end of the file; None where there is no such offset.
 ///
-/// It costs one slide and one look at a filter for each offset, and one MD5 of `s` bytes for each window whose CRC
-/// is that of a pair without an answer. At worst each window has such a CRC and none the MD5: then it costs an MD5
-/// of `s` bytes for each offset, which only pairs that were made for it lead to.
+/// It costs one slide and one look at a filter for each offset, and an MD5 of `s` bytes for each window whose CRC
+/// is that of a pair without an answer. Up to eight of these MD5s are computed side by side, which takes about a fourth
+/// of the time; where fewer such windows follow each other, an MD5 costs at most what it does alone. At worst each window
+/// has such a CRC and none the MD5: then it costs an MD5 of `s` bytes for each offset, which only pairs that were made
+/// for it lead to.
 pub fn find(
     alloc: Global,
     bytes: &[u8],
