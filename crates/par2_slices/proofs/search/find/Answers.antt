@@ -1,4 +1,4 @@
-use Rattle.std.proofs.Common.{◌≡◌, [], length, refl}
+use Rattle.std.proofs.Common.{[], length, refl}
 use Rattle.par2_slices.proofs.Searching.{emptied, finished}
 use Rattle.par2_slices.proofs.search.find.Goals as goal
 

@@ -1,4 +1,4 @@
-use Rattle.std.proofs.Common.{◌≡◌, ◌∙◌, ◌+◌, ◌<◌, ◌≤◌, ◌++◌, ◌∷◌, [], ℕ, List, length, take, drop, ap, sym, subst, length-take, length-drop, arith}
+use Rattle.std.proofs.Common.{◌≡◌, ◌∙◌, ◌+◌, ◌<◌, ℕ, List, length, take, drop, ap, sym, subst, length-take, length-drop, arith}
 use Rattle.md5.specs.Md5.{md5}
 use Rattle.par2_spec.specs.Slices.{padded}
 use Rattle.par2_slices.specs.declared.batch.Candidate.{Candidate}

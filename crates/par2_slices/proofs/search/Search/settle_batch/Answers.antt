@@ -1,12 +1,9 @@
 use Rattle.std.proofs.Common.{◌≡◌, ◌∙◌, ◌+◌, ◌-◌, ℕ, ◌<◌, List, length, drop, ap, sym, subst, length-drop, arith}
 use Rattle.std.specs.Prelude.{Option}
 use Rattle.std.proofs.lemmas.Bool.{eqb-true}
-use Rattle.md5.specs.Md5.{md5}
-use Rattle.par2_digests.specs.Digests.{digest_at}
 use Rattle.par2_spec.specs.Checksums.{Pair}
-use Rattle.par2_spec.specs.Windows.{window}
 use Rattle.par2_slices.specs.declared.batch.Candidate.{Candidate}
-use Rattle.par2_slices.specs.Searches.{advanced, candidate_at, has_checksums, offset_at, pair_at, settled, IsCandidate}
+use Rattle.par2_slices.specs.Searches.{advanced, candidate_at, offset_at, pair_at, settled, IsCandidate}
 use Rattle.par2_slices.proofs.Searching.{matches, none_settled, settled_from}
 use Rattle.par2_slices.proofs.search.Search.settle_batch.Goals as goal
 

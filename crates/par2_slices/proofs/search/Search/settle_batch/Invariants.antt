@@ -1,4 +1,4 @@
-use Rattle.std.proofs.Common.{◌≡◌, ◌+◌, ℕ, ◌<◌, [], length, drop}
+use Rattle.std.proofs.Common.{◌≡◌, ℕ, ◌<◌, [], length, drop}
 use Rattle.par2_slices.specs.Searches.{offset_at, pair_at, settled, IsTally}
 use Rattle.par2_slices.proofs.search.Search.settle_batch.Given as goal
 
