@@ -1,5 +1,5 @@
 -- Sets of groups of checksums.
-use Rattle.std.proofs.Common.{◌≡◌, ◌≢◌, ℕ, ◌+◌, ◌-◌, ◌*◌, ◌^◌, ◌<◌, ◌≤◌, ◌%◌, ◌/◌, List, length, get_or, set, replicate, subst, sym, ap, ◌∙◌, get_or-set_same, get_or-set_other, arith}
+use Rattle.std.proofs.Common.{◌≡◌, ◌≢◌, ℕ, ◌+◌, ◌-◌, ◌*◌, ◌^◌, ◌<◌, ◌%◌, ◌/◌, List, length, get_or, set, replicate, subst, sym, ap, ◌∙◌, get_or-set_same, get_or-set_other, arith}
 use Rattle.std.specs.Prelude.{◌⊎◌, bit_and, bit_or}
 use Rattle.std.specs.Int.{w64, bit_at, bit_not}
 use Rattle.std.proofs.lemmas.Bool.{cases_eq, cases_lt}
@@ -9,12 +9,11 @@ use Rattle.std.proofs.lemmas.Nat.{shr_below}
 use Rattle.std.proofs.lemmas.Nat.Bits.{bit_at-zero, bit_at_set_same, bit_at_set_other, bit_at_clear_same, bit_at_clear_other}
 use Rattle.par2_slices.specs.Filters.{Bits, Marks}
 
-pub within : (crc shift : ℕ) → crc < 2 ^ 32 → shift ≤ 26 → crc / 2 ^ shift / 64 < 2 ^ (26 - shift)
+pub within : (crc shift : ℕ) → crc < 2 ^ 32 → shift < 32 → crc / 2 ^ shift < 2 ^ (32 - shift)
 within crc shift fits low =
     let Fits : ℕ → Type 0 = λ k. crc < 2 ^ k in
-    let Group : ℕ → Type 0 = λ k. crc / 2 ^ shift < 2 ^ k in
-    let split : 32 ≡ 26 - shift + 6 + shift = omega arith in
-    shr_below (crc / 2 ^ shift) (26 - shift) 6 (shr_below crc (26 - shift + 6) shift (subst Fits split fits))
+    let split : 32 ≡ 32 - shift + shift = omega (arith, low) in
+    shr_below crc (32 - shift) shift (subst Fits split fits)
 
 zero_is_one : ◌≡◌ {A = ℕ} 0 1 → ⊥
 zero_is_one both = omega (arith, both)
@@ -33,17 +32,17 @@ zeros_at n i =
 pub none_marked : (bits : Bits) (n crc : ℕ) → ◌≡◌ {A = List ℕ} bits.words (replicate n 0) → Marks bits crc → ⊥
 none_marked bits n crc empty is =
     let group : ℕ = crc / 2 ^ bits.shift in
-    let word : get_or bits.words (group / 64) 0 ≡ 0 = ap (λ words. get_or words (group / 64) 0) empty ∙ zeros_at n (group / 64) in
-    zero_is_one (sym (ap (λ w. bit_at w (group % 64)) word ∙ bit_at-zero (group % 64)) ∙ is.bit)
+    let word : get_or bits.words group 0 ≡ 0 = ap (λ words. get_or words group 0) empty ∙ zeros_at n (group) in
+    zero_is_one (sym (ap (λ w. bit_at w (crc % 64)) word ∙ bit_at-zero (crc % 64)) ∙ is.bit)
 
 -- a word with a bit more
-pub marked : (shift crc : ℕ) (words : List ℕ) → crc / 2 ^ shift / 64 < length words → Marks (record { shift = shift; words = set words (crc / 2 ^ shift / 64) (bit_or (get_or words (crc / 2 ^ shift / 64) 0) (1 * 2 ^ (crc / 2 ^ shift % 64) % 2 ^ 64)) }) crc
+pub marked : (shift crc : ℕ) (words : List ℕ) → crc / 2 ^ shift < length words → Marks (record { shift = shift; words = set words (crc / 2 ^ shift) (bit_or (get_or words (crc / 2 ^ shift) 0) (1 * 2 ^ (crc % 64) % 2 ^ 64)) }) crc
 marked shift crc words place =
     let group : ℕ = crc / 2 ^ shift in
     record {
       bit =
-          ap (λ word. bit_at word (group % 64)) (get_or-set_same words (group / 64) (bit_or (get_or words (group / 64) 0) (1 * 2 ^ (group % 64) % 2 ^ 64)) 0 place)
-          ∙ bit_at_set_same w64 (get_or words (group / 64) 0) (group % 64) (omega arith);
+          ap (λ word. bit_at word (crc % 64)) (get_or-set_same words group (bit_or (get_or words group 0) (1 * 2 ^ (crc % 64) % 2 ^ 64)) 0 place)
+          ∙ bit_at_set_same w64 (get_or words group 0) (crc % 64) (omega arith);
     }
 
 -- a bit of a word stays where another is set
@@ -54,94 +53,91 @@ stays word k j low is =
       | inr other ↦ bit_at_set_other w64 word k low j other ∙ is
     ]
 
-pub kept_by_insert : (shift crc : ℕ) (words : List ℕ) → crc / 2 ^ shift / 64 < length words → (other : ℕ) → Marks (record { shift = shift; words = words }) other → Marks (record { shift = shift; words = set words (crc / 2 ^ shift / 64) (bit_or (get_or words (crc / 2 ^ shift / 64) 0) (1 * 2 ^ (crc / 2 ^ shift % 64) % 2 ^ 64)) }) other
+pub kept_by_insert : (shift crc : ℕ) (words : List ℕ) → crc / 2 ^ shift < length words → (other : ℕ) → Marks (record { shift = shift; words = words }) other → Marks (record { shift = shift; words = set words (crc / 2 ^ shift) (bit_or (get_or words (crc / 2 ^ shift) 0) (1 * 2 ^ (crc % 64) % 2 ^ 64)) }) other
 kept_by_insert shift crc words place other is =
     let group : ℕ = crc / 2 ^ shift in
     let its : ℕ = other / 2 ^ shift in
-    let word : ℕ = get_or words (group / 64) 0 in
-    let new : ℕ = bit_or word (1 * 2 ^ (group % 64) % 2 ^ 64) in
-    elim (cases_eq (its / 64) (group / 64)) [
+    let word : ℕ = get_or words group 0 in
+    let new : ℕ = bit_or word (1 * 2 ^ (crc % 64) % 2 ^ 64) in
+    elim (cases_eq its group) [
       | inl same ↦ record {
         bit =
-            ap (λ i. bit_at (get_or (set words (group / 64) new) i 0) (its % 64)) same
-            ∙ ap (λ w. bit_at w (its % 64)) (get_or-set_same words (group / 64) new 0 place)
-            ∙ stays word (group % 64) (its % 64) (omega arith) (ap (λ i. bit_at (get_or words i 0) (its % 64)) (sym same) ∙ is.bit);
+            ap (λ i. bit_at (get_or (set words group new) i 0) (other % 64)) same
+            ∙ ap (λ w. bit_at w (other % 64)) (get_or-set_same words group new 0 place)
+            ∙ stays word (crc % 64) (other % 64) (omega arith) (ap (λ i. bit_at (get_or words i 0) (other % 64)) (sym same) ∙ is.bit);
       }
-      | inr apart ↦ record { bit = ap (λ w. bit_at w (its % 64)) (get_or-set_other words (group / 64) (its / 64) new 0 apart) ∙ is.bit }
+      | inr apart ↦ record { bit = ap (λ w. bit_at w (other % 64)) (get_or-set_other words group (its) new 0 apart) ∙ is.bit }
     ]
 
-pub only_by_insert : (shift crc : ℕ) (words : List ℕ) → crc / 2 ^ shift / 64 < length words → (other : ℕ) → Marks (record { shift = shift; words = set words (crc / 2 ^ shift / 64) (bit_or (get_or words (crc / 2 ^ shift / 64) 0) (1 * 2 ^ (crc / 2 ^ shift % 64) % 2 ^ 64)) }) other → (other / 2 ^ shift ≡ crc / 2 ^ shift) ⊎ Marks (record { shift = shift; words = words }) other
+pub only_by_insert : (shift crc : ℕ) (words : List ℕ) → crc / 2 ^ shift < length words → (other : ℕ) → Marks (record { shift = shift; words = set words (crc / 2 ^ shift) (bit_or (get_or words (crc / 2 ^ shift) 0) (1 * 2 ^ (crc % 64) % 2 ^ 64)) }) other → (other / 2 ^ shift ≡ crc / 2 ^ shift) × (other % 64 ≡ crc % 64) ⊎ Marks (record { shift = shift; words = words }) other
 only_by_insert shift crc words place other is =
     let group : ℕ = crc / 2 ^ shift in
     let its : ℕ = other / 2 ^ shift in
-    let word : ℕ = get_or words (group / 64) 0 in
-    let new : ℕ = bit_or word (1 * 2 ^ (group % 64) % 2 ^ 64) in
+    let word : ℕ = get_or words group 0 in
+    let new : ℕ = bit_or word (1 * 2 ^ (crc % 64) % 2 ^ 64) in
     elim (cases_eq its group) [
-      | inl same ↦ inl same
-      | inr differs ↦ inr (elim (cases_eq (its / 64) (group / 64)) [
-        | inl same ↦ (
-            let apart : its % 64 ≢ group % 64 = λ low. differs (omega (arith, same, low)) in
-            record {
-              bit =
-                  ap (λ i. bit_at (get_or words i 0) (its % 64)) same
-                  ∙ sym (bit_at_set_other w64 word (group % 64) (omega arith) (its % 64) apart)
-                  ∙ ap (λ w. bit_at w (its % 64)) (sym (get_or-set_same words (group / 64) new 0 place))
-                  ∙ ap (λ i. bit_at (get_or (set words (group / 64) new) i 0) (its % 64)) (sym same)
-                  ∙ is.bit;
-            }
-            )
-        | inr apart ↦ record { bit = ap (λ w. bit_at w (its % 64)) (sym (get_or-set_other words (group / 64) (its / 64) new 0 apart)) ∙ is.bit }
-      ])
+      | inl same ↦ elim (cases_eq (other % 64) (crc % 64)) [
+        | inl low ↦ inl (same, low)
+        | inr apart ↦ inr (record {
+          bit =
+              ap (λ i. bit_at (get_or words i 0) (other % 64)) same
+              ∙ sym (bit_at_set_other w64 word (crc % 64) (omega arith) (other % 64) apart)
+              ∙ ap (λ w. bit_at w (other % 64)) (sym (get_or-set_same words group new 0 place))
+              ∙ ap (λ i. bit_at (get_or (set words group new) i 0) (other % 64)) (sym same)
+              ∙ is.bit;
+        })
+      ]
+      | inr apart ↦ inr (record { bit = ap (λ w. bit_at w (other % 64)) (sym (get_or-set_other words group its new 0 apart)) ∙ is.bit })
     ]
 
-pub gone : (shift crc : ℕ) (words : List ℕ) → crc / 2 ^ shift / 64 < length words → Marks (record { shift = shift; words = set words (crc / 2 ^ shift / 64) (bit_and (get_or words (crc / 2 ^ shift / 64) 0) (bit_not w64 (1 * 2 ^ (crc / 2 ^ shift % 64) % 2 ^ 64))) }) crc → ⊥
+pub gone : (shift crc : ℕ) (words : List ℕ) → crc / 2 ^ shift < length words → Marks (record { shift = shift; words = set words (crc / 2 ^ shift) (bit_and (get_or words (crc / 2 ^ shift) 0) (bit_not w64 (1 * 2 ^ (crc % 64) % 2 ^ 64))) }) crc → ⊥
 gone shift crc words place is =
     let group : ℕ = crc / 2 ^ shift in
-    let word : ℕ = get_or words (group / 64) 0 in
-    let new : ℕ = bit_and word (bit_not w64 (1 * 2 ^ (group % 64) % 2 ^ 64)) in
-    let zero : bit_at (get_or (set words (group / 64) new) (group / 64) 0) (group % 64) ≡ 0 = (
-    ap (λ w. bit_at w (group % 64)) (get_or-set_same words (group / 64) new 0 place) ∙ bit_at_clear_same w64 word (group % 64) (omega arith)
+    let word : ℕ = get_or words group 0 in
+    let new : ℕ = bit_and word (bit_not w64 (1 * 2 ^ (crc % 64) % 2 ^ 64)) in
+    let zero : bit_at (get_or (set words group new) (group) 0) (crc % 64) ≡ 0 = (
+    ap (λ w. bit_at w (crc % 64)) (get_or-set_same words group new 0 place) ∙ bit_at_clear_same w64 word (crc % 64) (omega arith)
     ) in
     let both : 0 ≡ 1 = sym zero ∙ is.bit in
     omega (arith, both)
 
-pub kept_by_remove : (shift crc : ℕ) (words : List ℕ) → crc / 2 ^ shift / 64 < length words → (other : ℕ) → (other / 2 ^ shift ≡ crc / 2 ^ shift → ⊥) → Marks (record { shift = shift; words = words }) other → Marks (record { shift = shift; words = set words (crc / 2 ^ shift / 64) (bit_and (get_or words (crc / 2 ^ shift / 64) 0) (bit_not w64 (1 * 2 ^ (crc / 2 ^ shift % 64) % 2 ^ 64))) }) other
+pub kept_by_remove : (shift crc : ℕ) (words : List ℕ) → crc / 2 ^ shift < length words → (other : ℕ) → ((other / 2 ^ shift ≡ crc / 2 ^ shift) × (other % 64 ≡ crc % 64) → ⊥) → Marks (record { shift = shift; words = words }) other → Marks (record { shift = shift; words = set words (crc / 2 ^ shift) (bit_and (get_or words (crc / 2 ^ shift) 0) (bit_not w64 (1 * 2 ^ (crc % 64) % 2 ^ 64))) }) other
 kept_by_remove shift crc words place other differs is =
     let group : ℕ = crc / 2 ^ shift in
     let its : ℕ = other / 2 ^ shift in
-    let word : ℕ = get_or words (group / 64) 0 in
-    let new : ℕ = bit_and word (bit_not w64 (1 * 2 ^ (group % 64) % 2 ^ 64)) in
-    elim (cases_eq (its / 64) (group / 64)) [
+    let word : ℕ = get_or words group 0 in
+    let new : ℕ = bit_and word (bit_not w64 (1 * 2 ^ (crc % 64) % 2 ^ 64)) in
+    elim (cases_eq its group) [
       | inl same ↦ (
-          let apart : its % 64 ≢ group % 64 = λ low. differs (omega (arith, same, low)) in
+          let apart : other % 64 ≢ crc % 64 = λ low. differs (same, low) in
           record {
             bit =
-                ap (λ i. bit_at (get_or (set words (group / 64) new) i 0) (its % 64)) same
-                ∙ ap (λ w. bit_at w (its % 64)) (get_or-set_same words (group / 64) new 0 place)
-                ∙ bit_at_clear_other w64 word (group % 64) (omega arith) (its % 64) (omega arith) apart
-                ∙ ap (λ i. bit_at (get_or words i 0) (its % 64)) (sym same)
+                ap (λ i. bit_at (get_or (set words group new) i 0) (other % 64)) same
+                ∙ ap (λ w. bit_at w (other % 64)) (get_or-set_same words group new 0 place)
+                ∙ bit_at_clear_other w64 word (crc % 64) (omega arith) (other % 64) (omega arith) apart
+                ∙ ap (λ i. bit_at (get_or words i 0) (other % 64)) (sym same)
                 ∙ is.bit;
           }
           )
-      | inr apart ↦ record { bit = ap (λ w. bit_at w (its % 64)) (get_or-set_other words (group / 64) (its / 64) new 0 apart) ∙ is.bit }
+      | inr apart ↦ record { bit = ap (λ w. bit_at w (other % 64)) (get_or-set_other words group (its) new 0 apart) ∙ is.bit }
     ]
 
-pub only_by_remove : (shift crc : ℕ) (words : List ℕ) → crc / 2 ^ shift / 64 < length words → (other : ℕ) → Marks (record { shift = shift; words = set words (crc / 2 ^ shift / 64) (bit_and (get_or words (crc / 2 ^ shift / 64) 0) (bit_not w64 (1 * 2 ^ (crc / 2 ^ shift % 64) % 2 ^ 64))) }) other → Marks (record { shift = shift; words = words }) other
+pub only_by_remove : (shift crc : ℕ) (words : List ℕ) → crc / 2 ^ shift < length words → (other : ℕ) → Marks (record { shift = shift; words = set words (crc / 2 ^ shift) (bit_and (get_or words (crc / 2 ^ shift) 0) (bit_not w64 (1 * 2 ^ (crc % 64) % 2 ^ 64))) }) other → Marks (record { shift = shift; words = words }) other
 only_by_remove shift crc words place other is =
     let group : ℕ = crc / 2 ^ shift in
     let its : ℕ = other / 2 ^ shift in
-    let word : ℕ = get_or words (group / 64) 0 in
-    let new : ℕ = bit_and word (bit_not w64 (1 * 2 ^ (group % 64) % 2 ^ 64)) in
-    elim (cases_eq (its / 64) (group / 64)) [
+    let word : ℕ = get_or words group 0 in
+    let new : ℕ = bit_and word (bit_not w64 (1 * 2 ^ (crc % 64) % 2 ^ 64)) in
+    elim (cases_eq its group) [
       | inl same ↦ (
-          let here : bit_at new (its % 64) ≡ 1 = (
-          ap (λ w. bit_at w (its % 64)) (sym (get_or-set_same words (group / 64) new 0 place))
-          ∙ ap (λ i. bit_at (get_or (set words (group / 64) new) i 0) (its % 64)) (sym same)
+          let here : bit_at new (other % 64) ≡ 1 = (
+          ap (λ w. bit_at w (other % 64)) (sym (get_or-set_same words group new 0 place))
+          ∙ ap (λ i. bit_at (get_or (set words group new) i 0) (other % 64)) (sym same)
           ∙ is.bit
           ) in
-          let cleared : bit_at new (group % 64) ≡ 0 = bit_at_clear_same w64 word (group % 64) (omega arith) in
-          let apart : its % 64 ≢ group % 64 = λ low. zero_is_one (sym (ap (bit_at new) low ∙ cleared) ∙ here) in
-          record { bit = ap (λ i. bit_at (get_or words i 0) (its % 64)) same ∙ sym (bit_at_clear_other w64 word (group % 64) (omega arith) (its % 64) (omega arith) apart) ∙ here }
+          let cleared : bit_at new (crc % 64) ≡ 0 = bit_at_clear_same w64 word (crc % 64) (omega arith) in
+          let apart : other % 64 ≢ crc % 64 = λ low. zero_is_one (sym (ap (bit_at new) low ∙ cleared) ∙ here) in
+          record { bit = ap (λ i. bit_at (get_or words i 0) (other % 64)) same ∙ sym (bit_at_clear_other w64 word (crc % 64) (omega arith) (other % 64) (omega arith) apart) ∙ here }
           )
-      | inr apart ↦ record { bit = ap (λ w. bit_at w (its % 64)) (sym (get_or-set_other words (group / 64) (its / 64) new 0 apart)) ∙ is.bit }
+      | inr apart ↦ record { bit = ap (λ w. bit_at w (other % 64)) (sym (get_or-set_other words group (its) new 0 apart)) ∙ is.bit }
     ]

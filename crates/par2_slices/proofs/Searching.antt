@@ -1,17 +1,19 @@
 -- A search under way.
-use Rattle.std.proofs.Common.{◌≡◌, ℕ, zero, suc, ◌+◌, ◌-◌, ◌*◌, ◌/◌, ◌^◌, ◌<◌, ◌≤◌, Bool, true, false, cond, List, ◌∷◌, ◌++◌, length, map, set, replicate, refl, sym, ap, subst, ◌∙◌, get_or-set_same, get_or-set_other, inl, inr, arith}
+use Rattle.std.proofs.Common.{◌≡◌, ℕ, zero, suc, ◌+◌, ◌*◌, ◌/◌, ◌%◌, ◌^◌, ◌<◌, Bool, true, false, cond, List, [], ◌∷◌, ◌++◌, length, map, drop, get_or, set, replicate, refl, sym, ap, subst, ◌∙◌, get_or-set_same, get_or-set_other, inl, inr, arith}
 use Rattle.std.specs.Prelude.{◌⊎◌, ◌==◌, ◌&&◌, Option, Some, None, find}
 use Rattle.std.specs.List.{count_by, list_all, range_with_len}
 use Rattle.std.specs.Option.{is_none, option_or}
 use Rattle.std.specs.Str.{bytes_eq}
 use Rattle.std.proofs.lemmas.Bool.{cases_eq, cases_lt, eqb-true, eq-eqb}
-use Rattle.std.proofs.lemmas.List.{length-set, length-replicate, get_or-replicate, length-map, get_or-map, ext_get_or}
+use Rattle.std.proofs.lemmas.List.{length-set, length-replicate, get_or-replicate, length-map, get_or-map, ext_get_or, get_or_append_left, get_or_at, length_push, drop_more}
 use Rattle.std.proofs.lemmas.List.Folds.{find-append, sum_by-zero, sum_by-replicate, list_all_at}
-use Rattle.std.proofs.lemmas.List.Sums.{sum_by-set}
+use Rattle.std.proofs.lemmas.List.Sums.{sum_by-set, fold-append}
+use Rattle.md5.specs.Md5.{md5}
 use Rattle.par2_spec.specs.Checksums.{Pair, crc32}
 use Rattle.par2_spec.specs.Windows.{is_match, window, first_match}
 use Rattle.par2_slices.specs.Filters.{Bits, Marks}
-use Rattle.par2_slices.specs.Searches.{no_pair, pair_at, place_at, offset_at, HoldsGroup, advanced, has_checksums, first_below, IsAt}
+use Rattle.par2_slices.specs.Searches.{no_pair, no_place, no_candidate, pair_at, place_at, candidate_at, offset_at, HoldsGroup, is_awaited, advanced, has_checksums, settled, first_below, IsCandidate, IsTally, IsAt}
+use Rattle.par2_slices.specs.declared.batch.Candidate.{Candidate}
 use Rattle.par2_slices.specs.declared.wanted.Place.{Place}
 
 range_split : (a m n : ℕ) → range_with_len a (m + n) ≡ range_with_len a m ++ range_with_len (a + m) n
@@ -29,17 +31,35 @@ first_below-more s text o pair =
     ∙ find-append test (range_with_len 0 o) (range_with_len (0 + o) 1)
     ∙ ap (λ k. option_or (find test (range_with_len 0 o)) (cond (test k) (Some k) None)) (let e : 0 + o ≡ o = omega arith in e)
 
-settled_prefix : (s : ℕ) (text : List ℕ) (o n x : ℕ) (pair : Pair) → first_below s text o pair ≡ Some x → first_below s text (o + n) pair ≡ Some x
-unfolding first_below
-settled_prefix s text o n x pair is =
-    let test : ℕ → Bool = λ k. is_match pair (window s text k) in
-    ap (find test) (range_split 0 o n)
-    ∙ find-append test (range_with_len 0 o) (range_with_len (0 + o) n)
-    ∙ ap (λ found. option_or found (find test (range_with_len (0 + o) n))) is
+-- an answer that is there stands
+settled_some : (s : ℕ) (text : List ℕ) (pair : Pair) (candidates : List Candidate) (x : ℕ) → settled s text pair candidates (Some x) ≡ Some x
+unfolding settled
+settled_some s text pair [] x = refl
+settled_some s text pair (candidate ∷ rest) x = settled_some s text pair rest x
 
-whole : (s : ℕ) (text : List ℕ) (pair : Pair) → first_below s text (length text) pair ≡ first_match s text pair
-unfolding first_below
-whole s text pair = refl
+settled_open : (s : ℕ) (text : List ℕ) (pair : Pair) (candidates : List Candidate) (answer : Option ℕ) → settled s text pair candidates answer ≡ None → answer ≡ None
+settled_open s text pair candidates None is = refl
+settled_open s text pair candidates (Some x) is = sym (settled_some s text pair candidates x) ∙ is
+
+-- no candidate more
+settled_none : (s : ℕ) (text : List ℕ) (pair : Pair) (answer : Option ℕ) → settled s text pair [] answer ≡ answer
+unfolding settled
+settled_none s text pair answer = refl
+
+pub none_settled : (s : ℕ) (text : List ℕ) (pair : Pair) (candidates : List Candidate) (answer : Option ℕ) → length candidates ≡ 0 → settled s text pair candidates answer ≡ answer
+none_settled s text pair [] answer none = settled_none s text pair answer
+none_settled s text pair (candidate ∷ rest) answer none = absurd (omega (arith, none))
+
+-- a candidate behind the others
+settled_more : (s : ℕ) (text : List ℕ) (pair : Pair) (candidates : List Candidate) (candidate : Candidate) (answer : Option ℕ) → settled s text pair (candidates ++ candidate ∷ []) answer ≡ advanced (is_match pair (window s text candidate.offset)) candidate.offset (settled s text pair candidates answer)
+unfolding settled
+settled_more s text pair candidates candidate answer = fold-append (λ (so_far : Option ℕ) (c : Candidate). advanced (is_match pair (window s text c.offset)) c.offset so_far) answer candidates (candidate ∷ [])
+
+-- candidate k in front of those behind it
+pub settled_from : (s : ℕ) (text : List ℕ) (pair : Pair) (candidates : List Candidate) (k : ℕ) (answer : Option ℕ) → k < length candidates →
+    settled s text pair (drop k candidates) answer ≡ settled s text pair (drop (k + 1) candidates) (advanced (is_match pair (window s text (candidate_at candidates k).offset)) (candidate_at candidates k).offset answer)
+unfolding settled
+settled_from s text pair candidates k answer inside = ap (λ cs. settled s text pair cs answer) (drop_more candidates k no_candidate inside)
 
 -- where an answer stands, or nothing matches, it stays
 stays : (m : Bool) (offset : ℕ) (old : Option ℕ) → (old ≡ None → m ≡ false) → old ≡ advanced m offset old
@@ -56,16 +76,16 @@ was_open m offset None now either none = refl
 was_open m offset (Some x) now (inl same) none = sym same ∙ none
 was_open m offset (Some x) now (inr done) none = sym done ∙ none
 
-pub no_more : (s : ℕ) (text : List ℕ) (o : ℕ) (pairs : List Pair) (found : List (Option ℕ)) (left : ℕ) (filter : Bits) → IsAt s text o pairs found left filter → ((i : ℕ) → i < length pairs → offset_at found i ≡ None → is_match (pair_at pairs i) (window s text o) ≡ false) → IsAt s text (o + 1) pairs found left filter
-no_more s text o pairs found left filter at none = record {
-  len = at.len;
+pub no_more : (s : ℕ) (text : List ℕ) (o : ℕ) (pairs : List Pair) (found : List (Option ℕ)) (left : ℕ) (filter : Bits) (candidates : List Candidate) → IsAt s text o pairs found left filter candidates → ((i : ℕ) → i < length pairs → offset_at found i ≡ None → is_match (pair_at pairs i) (window s text o) ≡ false) → IsAt s text (o + 1) pairs found left filter candidates
+no_more s text o pairs found left filter candidates at none = record {
+  tally = at.tally;
   answers = λ i h.
       let pair : Pair = pair_at pairs i in
-      stays (is_match pair (window s text o)) o (offset_at found i) (none i h)
-      ∙ ap (advanced (is_match pair (window s text o)) o) (at.answers i h)
+      let m : Bool = is_match pair (window s text o) in
+      stays m o (settled s text pair candidates (offset_at found i)) (λ none_yet. none i h (settled_open s text pair candidates (offset_at found i) none_yet))
+      ∙ ap (advanced m o) (at.answers i h)
       ∙ sym (first_below-more s text o pair);
-  count = at.count;
-  marked = at.marked;
+  candidates = at.candidates;
 }
 
 pub no_crc : (pair : Pair) (md5 : List ℕ) (crc : ℕ) → (pair.1 ≡ crc → ⊥) → has_checksums md5 crc pair ≡ false
@@ -76,106 +96,147 @@ no_crc pair md5 crc other =
     ] refl
 
 -- the checksum of the window is of no group that is marked
-pub unmarked : (s : ℕ) (text : List ℕ) (o : ℕ) (pairs : List Pair) (found : List (Option ℕ)) (left : ℕ) (filter : Bits) (crc : ℕ) → IsAt s text o pairs found left filter → crc ≡ crc32 (window s text o) → (Marks filter crc → ⊥) → IsAt s text (o + 1) pairs found left filter
-unmarked s text o pairs found left filter crc at is not_marked =
-    no_more s text o pairs found left filter at (λ i h none.
+pub unmarked : (s : ℕ) (text : List ℕ) (o : ℕ) (pairs : List Pair) (found : List (Option ℕ)) (left : ℕ) (filter : Bits) (candidates : List Candidate) (crc : ℕ) → IsAt s text o pairs found left filter candidates → crc ≡ crc32 (window s text o) → (Marks filter crc → ⊥) → IsAt s text (o + 1) pairs found left filter candidates
+unmarked s text o pairs found left filter candidates crc at is not_marked =
+    no_more s text o pairs found left filter candidates at (λ i h none.
     let Has : ℕ → Type 0 = λ c. Marks filter c in
-    no_crc (pair_at pairs i) _ (crc32 (window s text o)) (λ same. not_marked (subst Has (same ∙ sym is) (at.marked i h none))))
+    no_crc (pair_at pairs i) _ (crc32 (window s text o)) (λ same. not_marked (subst Has (same ∙ sym is) (at.tally.marked i h none))))
 
--- no pair that has this checksum is open
-pub unawaited : (s : ℕ) (text : List ℕ) (o : ℕ) (pairs : List Pair) (found : List (Option ℕ)) (left : ℕ) (filter : Bits) (crc shift : ℕ) (group : List Place) → IsAt s text o pairs found left filter → crc ≡ crc32 (window s text o) → HoldsGroup pairs shift crc group → ((k : ℕ) → k < length group → (place_at group k).crc ≡ crc → offset_at found (place_at group k).index ≡ None → ⊥) → IsAt s text (o + 1) pairs found left filter
-unawaited s text o pairs found left filter crc shift group at is holds closed =
-    no_more s text o pairs found left filter at (λ i h none.
-    no_crc (pair_at pairs i) _ (crc32 (window s text o)) (λ same.
-    let its : (pair_at pairs i).1 ≡ crc = same ∙ sym is in
-    let place = holds.whole i h (ap (λ c. c / 2 ^ shift) its) in
-    closed place.0 place.1
-    (sym (holds.each place.0 place.1).crc ∙ ap (λ j. (pair_at pairs j).1) place.2 ∙ its)
-    (ap (offset_at found) place.2 ∙ none)))
-
--- the pairs of the group have their answers
-pub answered : (s : ℕ) (text : List ℕ) (o : ℕ) (pairs : List Pair) (old new : List (Option ℕ)) (left settled : ℕ) (filter : Bits) (md5 : List ℕ) (crc shift : ℕ) (group : List Place) → IsAt s text o pairs old left filter → crc ≡ crc32 (window s text o) → ((pair : Pair) → has_checksums md5 crc pair ≡ is_match pair (window s text o)) → HoldsGroup pairs shift crc group → length new ≡ length old →
-    ((i : ℕ) → i < length pairs → (offset_at new i ≡ offset_at old i) ⊎ (offset_at new i ≡ advanced (has_checksums md5 crc (pair_at pairs i)) o (offset_at old i))) →
-    ((k : ℕ) → k < length group → offset_at new (place_at group k).index ≡ advanced (has_checksums md5 crc (pair_at pairs (place_at group k).index)) o (offset_at old (place_at group k).index)) →
-    settled + count_by is_none new ≡ count_by is_none old →
-    IsAt s text (o + 1) pairs new (left - settled) filter
-answered s text o pairs old new left settled filter md5 crc shift group at is matches holds size each done count =
-    let all : (i : ℕ) → i < length pairs → offset_at new i ≡ advanced (has_checksums md5 crc (pair_at pairs i)) o (offset_at old i) = λ i h.
-    elim (cases_eq (pair_at pairs i).1 crc) [
-      | inl same ↦ (
-          let place = holds.whole i h (ap (λ c. c / 2 ^ shift) same) in
-          let Done : ℕ → Type 0 = λ j. offset_at new j ≡ advanced (has_checksums md5 crc (pair_at pairs j)) o (offset_at old j) in
-          subst Done place.2 (done place.0 place.1)
-          )
-      | inr other ↦ kept (has_checksums md5 crc (pair_at pairs i)) o (offset_at old i) (offset_at new i) (each i h) (λ none. no_crc (pair_at pairs i) md5 crc other)
-    ]
-    in record {
-      len = size ∙ at.len;
-      answers = λ i h.
-          all i h
-          ∙ ap (λ m. advanced m o (offset_at old i)) (matches (pair_at pairs i))
-          ∙ ap (advanced (is_match (pair_at pairs i) (window s text o)) o) (at.answers i h)
-          ∙ sym (first_below-more s text o (pair_at pairs i));
-      count = omega (arith, at.count, count);
-      marked = λ i h none. at.marked i h (was_open (has_checksums md5 crc (pair_at pairs i)) o (offset_at old i) (offset_at new i) (inr (all i h)) none);
-    }
-
--- a group without an open pair may be taken away
-pub unmark : (s : ℕ) (text : List ℕ) (o : ℕ) (pairs : List Pair) (found : List (Option ℕ)) (left : ℕ) (filter after : Bits) (crc shift : ℕ) (group : List Place) → IsAt s text o pairs found left filter → HoldsGroup pairs shift crc group → ((k : ℕ) → k < length group → offset_at found (place_at group k).index ≡ None → ⊥) → ((other : ℕ) → (other / 2 ^ shift ≡ crc / 2 ^ shift → ⊥) → Marks filter other → Marks after other) → IsAt s text o pairs found left after
-unmark s text o pairs found left filter after crc shift group at holds closed keeps = record {
-  len = at.len;
-  answers = at.answers;
-  count = at.count;
-  marked = λ i h none.
-      keeps (pair_at pairs i).1
-      (λ same. let place = holds.whole i h same in closed place.0 place.1 (ap (offset_at found) place.2 ∙ none))
-      (at.marked i h none);
-}
-
--- before the first offset
-pub at_start : (s : ℕ) (text : List ℕ) (pairs : List Pair) (found : List (Option ℕ)) (left : ℕ) (filter : Bits) → found ≡ replicate (length pairs) None → left ≡ length pairs → ((i : ℕ) → i < length pairs → Marks filter (pair_at pairs i).1) → IsAt s text 0 pairs found left filter
-unfolding first_below
-at_start s text pairs found left filter found_is left_is marked = record {
-  len = ap length found_is ∙ length-replicate (length pairs) None;
-  answers = λ i h. ap (λ f. offset_at f i) found_is ∙ get_or-replicate (length pairs) i None None h;
-  count =
-      left_is
-      ∙ (let e : length pairs ≡ length pairs * 1 = omega arith in e)
-      ∙ sym (sum_by-replicate (λ (x : Option ℕ). cond (is_none x) 1 0) (length pairs) None)
-      ∙ ap (count_by is_none) (sym found_is);
-  marked = λ i h none. marked i h;
-}
-
-none_open : (found : List (Option ℕ)) (i : ℕ) → count_by is_none found ≡ 0 → i < length found → offset_at found i ≡ None → ⊥
-none_open found i all_closed h none =
-    let weight : Option ℕ → ℕ = λ x. cond (is_none x) 1 0 in
-    let some : list_all (λ x. weight x == 0) found ≡ false = list_all_at (λ x. weight x == 0) found i None h (ap (λ x. weight x == 0) none) in
-    let all : true ≡ list_all (λ x. weight x == 0) found = sym (eq-eqb (count_by is_none found) 0 all_closed) ∙ sum_by-zero weight found in
+none_counted : (X : Type 0) (p : X → Bool) (xs : List X) (i : ℕ) (d : X) → count_by p xs ≡ 0 → i < length xs → p (get_or xs i d) ≡ true → ⊥
+none_counted X p xs i d none h holds =
+    let weight : X → ℕ = λ x. cond (p x) 1 0 in
+    let some : list_all (λ x. weight x == 0) xs ≡ false = list_all_at (λ x. weight x == 0) xs i d h (ap (λ b. cond b 1 0 == 0) holds) in
+    let all : true ≡ list_all (λ x. weight x == 0) xs = sym (eq-eqb (count_by p xs) 0 none) ∙ sum_by-zero weight xs in
     let both : true ≡ false = all ∙ some in
     cc
 
-closed : (s : ℕ) (text : List ℕ) (o : ℕ) (pair : Pair) (answer : Option ℕ) → o ≤ length text → answer ≡ first_below s text o pair → (answer ≡ None → ⊥) → answer ≡ first_match s text pair
-closed s text o pair None within is some = absurd (some refl)
-closed s text o pair (Some x) within is some =
-    sym (settled_prefix s text o (length text - o) x pair (sym is))
-    ∙ ap (λ n. first_below s text n pair) (let e : o + (length text - o) ≡ length text = omega (arith, within) in e)
-    ∙ whole s text pair
+-- no pair that has this checksum is open
+pub unawaited : (s : ℕ) (text : List ℕ) (o : ℕ) (pairs : List Pair) (found : List (Option ℕ)) (left : ℕ) (filter : Bits) (candidates : List Candidate) (crc shift : ℕ) (group : List Place) → IsAt s text o pairs found left filter candidates → crc ≡ crc32 (window s text o) → HoldsGroup pairs shift crc group → count_by (is_awaited crc found) group ≡ 0 → IsAt s text (o + 1) pairs found left filter candidates
+unawaited s text o pairs found left filter candidates crc shift group at is holds closed =
+    no_more s text o pairs found left filter candidates at (λ i h none.
+    no_crc (pair_at pairs i) _ (crc32 (window s text o)) (λ same.
+    let its : (pair_at pairs i).1 ≡ crc = same ∙ sym is in
+    let place = holds.whole i h (ap (λ c. c / 2 ^ shift) its) in
+    let crc_is : (place_at group place.0).crc ≡ crc = sym (holds.each place.0 place.1).crc ∙ ap (λ j. (pair_at pairs j).1) place.2 ∙ its in
+    let unanswered : offset_at found (place_at group place.0).index ≡ None = ap (offset_at found) place.2 ∙ none in
+    none_counted Place (is_awaited crc found) group place.0 no_place closed place.1
+    (ap (λ b. b && is_none (offset_at found (place_at group place.0).index)) (eq-eqb (place_at group place.0).crc crc crc_is) ∙ ap is_none unanswered)))
 
--- at the end, or where no pair is open
-pub finished : (s : ℕ) (text : List ℕ) (o : ℕ) (pairs : List Pair) (found : List (Option ℕ)) (left : ℕ) (filter : Bits) → IsAt s text o pairs found left filter → o ≤ length text → (o ≡ length text) ⊎ (left ≡ 0) → found ≡ map (first_match s text) pairs
-finished s text o pairs found left filter at within (inl end) =
+-- checksums are those of a window
+pub matches : (s : ℕ) (text : List ℕ) (o : ℕ) (digest : List ℕ) (crc : ℕ) (pair : Pair) → digest ≡ md5 (window s text o) → crc ≡ crc32 (window s text o) → has_checksums digest crc pair ≡ is_match pair (window s text o)
+matches s text o digest crc pair digest_is crc_is =
+    ap (λ m. has_checksums m crc pair) digest_is ∙ ap (λ k. has_checksums (md5 (window s text o)) k pair) crc_is
+
+-- the window at the offset has been compared, and no candidate waits
+pub compared : (s : ℕ) (text : List ℕ) (o : ℕ) (pairs : List Pair) (old new : List (Option ℕ)) (left after : ℕ) (filter marks : Bits) (candidates : List Candidate) (digest : List ℕ) (crc : ℕ) → IsAt s text o pairs old left filter candidates → candidates ≡ [] → digest ≡ md5 (window s text o) → crc ≡ crc32 (window s text o) → IsTally pairs new after marks →
+    ((i : ℕ) → i < length pairs → offset_at new i ≡ advanced (has_checksums digest crc (pair_at pairs i)) o (offset_at old i)) →
+    IsAt s text (o + 1) pairs new after marks candidates
+compared s text o pairs old new left after filter marks candidates digest crc at empty digest_is crc_is tally all = record {
+  tally = tally;
+  answers = λ i h.
+      let pair : Pair = pair_at pairs i in
+      let m : Bool = is_match pair (window s text o) in
+      let none : (answer : Option ℕ) → settled s text pair candidates answer ≡ answer = λ answer. ap (λ cs. settled s text pair cs answer) empty ∙ settled_none s text pair answer in
+      none (offset_at new i)
+      ∙ all i h
+      ∙ ap (λ b. advanced b o (offset_at old i)) (matches s text o digest crc pair digest_is crc_is)
+      ∙ ap (advanced m o) (sym (none (offset_at old i)) ∙ at.answers i h)
+      ∙ sym (first_below-more s text o pair);
+  candidates = at.candidates;
+}
+
+-- the window at the offset is a candidate more
+pub pushed : (s : ℕ) (text : List ℕ) (pairs : List Pair) (found : List (Option ℕ)) (left : ℕ) (filter : Bits) (candidates : List Candidate) (candidate : Candidate) → IsAt s text candidate.offset pairs found left filter candidates → IsCandidate s text candidate → IsAt s text (candidate.offset + 1) pairs found left filter (candidates ++ candidate ∷ [])
+pushed s text pairs found left filter candidates candidate at its = record {
+  tally = at.tally;
+  answers = λ i h.
+      let pair : Pair = pair_at pairs i in
+      settled_more s text pair candidates candidate (offset_at found i)
+      ∙ ap (advanced (is_match pair (window s text candidate.offset)) candidate.offset) (at.answers i h)
+      ∙ sym (first_below-more s text candidate.offset pair);
+  candidates = λ k h.
+      let Is : Candidate → Type 0 = λ c. IsCandidate s text c in
+      elim (cases_lt k (length candidates)) [
+        | inl early ↦ subst Is (sym (get_or_append_left candidates (candidate ∷ []) no_candidate k early)) (at.candidates k early)
+        | inr late ↦ subst Is (sym (get_or_at candidates candidate [] no_candidate k (let e : length candidates ≡ k = omega (arith, late, h, length_push candidates candidate) in e))) its
+      ];
+}
+
+-- the candidates have been compared
+pub emptied : (s : ℕ) (text : List ℕ) (o : ℕ) (pairs : List Pair) (old new : List (Option ℕ)) (left after : ℕ) (filter marks : Bits) (candidates rest : List Candidate) → IsAt s text o pairs old left filter candidates → IsTally pairs new after marks → rest ≡ [] →
+    ((i : ℕ) → i < length pairs → offset_at new i ≡ settled s text (pair_at pairs i) candidates (offset_at old i)) →
+    IsAt s text o pairs new after marks rest
+emptied s text o pairs old new left after filter marks candidates rest at tally empty all = record {
+  tally = tally;
+  answers = λ i h.
+      ap (λ cs. settled s text (pair_at pairs i) cs (offset_at new i)) empty
+      ∙ settled_none s text (pair_at pairs i) (offset_at new i)
+      ∙ all i h
+      ∙ at.answers i h;
+  candidates = λ k h. absurd (omega (arith, h, ap length empty));
+}
+
+-- a group without an open pair may be taken away
+pub unmark : (s : ℕ) (text : List ℕ) (o : ℕ) (pairs : List Pair) (found : List (Option ℕ)) (left : ℕ) (filter after : Bits) (candidates : List Candidate) (crc shift : ℕ) (group : List Place) → IsAt s text o pairs found left filter candidates → HoldsGroup pairs shift crc group → ((k : ℕ) → k < length group → (place_at group k).crc % 64 ≡ crc % 64 → offset_at found (place_at group k).index ≡ None → ⊥) → ((other : ℕ) → ((other / 2 ^ shift ≡ crc / 2 ^ shift) × (other % 64 ≡ crc % 64) → ⊥) → Marks filter other → Marks after other) → IsAt s text o pairs found left after candidates
+unmark s text o pairs found left filter after candidates crc shift group at holds closed keeps = record {
+  tally = record {
+    len = at.tally.len;
+    count = at.tally.count;
+    marked = λ i h none.
+        keeps (pair_at pairs i).1
+        (λ same.
+        let place = holds.whole i h same.0 in
+        closed place.0 place.1
+        (ap (λ c. c % 64) (sym (holds.each place.0 place.1).crc ∙ ap (λ j. (pair_at pairs j).1) place.2) ∙ same.1)
+        (ap (offset_at found) place.2 ∙ none))
+        (at.tally.marked i h none);
+  };
+  answers = at.answers;
+  candidates = at.candidates;
+}
+
+-- before the first offset
+pub at_start : (s : ℕ) (text : List ℕ) (pairs : List Pair) (found : List (Option ℕ)) (left : ℕ) (filter : Bits) (candidates : List Candidate) → found ≡ replicate (length pairs) None → left ≡ length pairs → ((i : ℕ) → i < length pairs → Marks filter (pair_at pairs i).1) → candidates ≡ [] → IsAt s text 0 pairs found left filter candidates
+unfolding first_below
+at_start s text pairs found left filter candidates found_is left_is marked empty = record {
+  tally = record {
+    len = ap length found_is ∙ length-replicate (length pairs) None;
+    count =
+        left_is
+        ∙ (let e : length pairs ≡ length pairs * 1 = omega arith in e)
+        ∙ sym (sum_by-replicate (λ (x : Option ℕ). cond (is_none x) 1 0) (length pairs) None)
+        ∙ ap (count_by is_none) (sym found_is);
+    marked = λ i h none. marked i h;
+  };
+  answers = λ i h.
+      ap (λ cs. settled s text (pair_at pairs i) cs (offset_at found i)) empty
+      ∙ settled_none s text (pair_at pairs i) (offset_at found i)
+      ∙ ap (λ f. offset_at f i) found_is
+      ∙ get_or-replicate (length pairs) i None None h;
+  candidates = λ k h. absurd (omega (arith, h, ap length empty));
+}
+
+-- where no pair is open, no offset more changes an answer
+pub none_left : (s : ℕ) (text : List ℕ) (o n : ℕ) (pairs : List Pair) (found : List (Option ℕ)) (left : ℕ) (filter : Bits) (candidates : List Candidate) → IsAt s text o pairs found left filter candidates → left ≡ 0 → IsAt s text (o + n) pairs found left filter candidates
+none_left s text o zero pairs found left filter candidates at none =
+    let At : ℕ → Type 0 = λ k. IsAt s text k pairs found left filter candidates in
+    subst At (let e : o ≡ o + 0 = omega arith in e) at
+none_left s text o (suc n) pairs found left filter candidates at none =
+    let At : ℕ → Type 0 = λ k. IsAt s text k pairs found left filter candidates in
+    subst At (let e : o + n + 1 ≡ o + suc n = omega arith in e)
+    (no_more s text (o + n) pairs found left filter candidates (none_left s text o n pairs found left filter candidates at none)
+    (λ i h none_yet. absurd (none_counted (Option ℕ) is_none found i None (sym at.tally.count ∙ none) (omega (arith, h, at.tally.len)) (ap is_none none_yet))))
+
+-- at the end, when no candidate waits
+pub finished : (s : ℕ) (text : List ℕ) (pairs : List Pair) (found : List (Option ℕ)) (left : ℕ) (filter : Bits) → IsAt s text (length text) pairs found left filter [] → found ≡ map (first_match s text) pairs
+unfolding first_below
+finished s text pairs found left filter at =
     ext_get_or None found (map (first_match s text) pairs)
-    (at.len ∙ sym (length-map pairs (first_match s text)))
+    (at.tally.len ∙ sym (length-map pairs (first_match s text)))
     (λ i h.
-    let inside : i < length pairs = omega (arith, h, at.len) in
-    at.answers i inside ∙ ap (λ n. first_below s text n (pair_at pairs i)) end ∙ whole s text (pair_at pairs i)
-    ∙ sym (get_or-map (first_match s text) pairs i no_pair None inside))
-finished s text o pairs found left filter at within (inr none) =
-    ext_get_or None found (map (first_match s text) pairs)
-    (at.len ∙ sym (length-map pairs (first_match s text)))
-    (λ i h.
-    let inside : i < length pairs = omega (arith, h, at.len) in
-    closed s text o (pair_at pairs i) (offset_at found i) within (at.answers i inside) (none_open found i (sym at.count ∙ none) h)
+    let inside : i < length pairs = omega (arith, h, at.tally.len) in
+    sym (settled_none s text (pair_at pairs i) (offset_at found i))
+    ∙ at.answers i inside
     ∙ sym (get_or-map (first_match s text) pairs i no_pair None inside))
 
 -- what a walk over the first n places of a group has settled

@@ -1,17 +1,18 @@
 -- Sets of groups of checksums, as bits.
-use Rattle.std.specs.Prelude.{◌≡◌, ℕ, ◌-◌, ◌/◌, ◌%◌, ◌^◌, ◌≤◌, List, length, slice_index}
+use Rattle.std.specs.Prelude.{◌≡◌, ℕ, ◌-◌, ◌/◌, ◌%◌, ◌^◌, ◌<◌, List, length, slice_index}
 use Rattle.std.specs.Int.{bit_at}
 
--- checksums that have the same bits from `shift` on are of one group, and each group has a bit
+-- checksums that have the same bits from `shift` on share a word; those that have the same low six bits too are of
+-- one group, which has a bit there
 pub record Bits : Type 0 where
   pub shift : ℕ
   pub words : List ℕ
 
 -- the group of a checksum is in the set
 pub record Marks (bits : Bits) (crc : ℕ) : Type 0 where
-  pub bit : bit_at (slice_index bits.words (crc / 2 ^ bits.shift / 64)) (crc / 2 ^ bits.shift % 64) ≡ 1
+  pub bit : bit_at (slice_index bits.words (crc / 2 ^ bits.shift)) (crc % 64) ≡ 1
 
--- there is a word for each 64 groups
+-- there is a word for each value of the high bits
 pub record IsSized (shift : ℕ) (words : List ℕ) : Type 0 where
-  pub low : shift ≤ 26
-  pub len : length words ≡ 2 ^ (26 - shift)
+  pub low : shift < 32
+  pub len : length words ≡ 2 ^ (32 - shift)

@@ -18,7 +18,15 @@ pub fn slice_bytes(bytes: &[u8], s: u64, j: u64) -> &[u8]
     ensures value { result.now ≡ take s (drop (j * s) bytes.now) }
     ensures short { length result.now ≤ s }
 {
-    let rest = &bytes[(j * s) as usize..];
+    window_bytes(bytes, s, (j * s) as usize)
+}
+
+/// The bytes of the file in its window at `offset`: fewer than `s` at the end of the file.
+pub(crate) fn window_bytes(bytes: &[u8], s: u64, offset: usize) -> &[u8]
+    requires { offset ≤ length bytes.now }
+    ensures { result.now ≡ take s (drop offset bytes.now) }
+{
+    let rest = &bytes[offset..];
     if s < rest.len() as u64 {
         &rest[..s as usize]
     } else {

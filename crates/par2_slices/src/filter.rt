@@ -1,9 +1,12 @@
-//! Which checksums may be wanted still, one bit for all those that have the same high bits.
+//! Which checksums may be wanted still, one bit for all those that have the same high bits and the same low six bits.
+//!
+//! The high bits give the word, and the low ones the bit in it, which takes fewer steps than to cut both from one number:
+//! each offset of a search looks here.
 //!
 //! A filter is exactly the set of groups that were added and not taken away. That a search keeps no group longer than a
 //! pair of it is open, no clause says: a group too many costs time and changes no answer.
 
-ghost use Rattle.std.specs.Prelude.{◌≡◌, ◌≤◌, ◌/◌, ◌^◌, ◌↔◌, ◌⊎◌, ℕ, IfOk, IsTrue};
+ghost use Rattle.std.specs.Prelude.{◌≡◌, ◌<◌, ◌/◌, ◌%◌, ◌^◌, ◌↔◌, ◌⊎◌, ℕ, IfOk, IsTrue};
 ghost use Rattle.par2_slices.specs.Filters.{Marks};
 
 use std::alloc::{AllocError, Global};
@@ -12,7 +15,7 @@ use std::marker::Model;
 // At most 2^20 words of 64 bits.
 const MOST_WORD_BITS: u32 = 20;
 
-/// A set of groups of checksums; a group is those that have the same bits from `shift` on.
+/// A set of groups of checksums; a group is those that have the same bits from `shift` on and the same low six bits.
 #[derive(Drop)]
 pub(crate) struct Filter {
     shift: u32,
@@ -36,15 +39,15 @@ impl Filter {
     {
         let word_bits = (usize::BITS - count.leading_zeros() + 2).min(MOST_WORD_BITS);
         Ok(Filter {
-            shift: 26 - word_bits,
+            shift: 32 - word_bits,
             words: vec![in alloc; 0u64; 1 << word_bits]?,
         })
     }
 
-    /// The number of low bits in which the checksums of a group differ.
+    /// The number of low bits in which the checksums of a word differ.
     pub(crate) fn shift(&self) -> u32
         ensures value { result ≡ self.now.shift }
-        ensures small { result ≤ 26 }
+        ensures small { result < 32 }
     {
         self.shift
     }
@@ -54,28 +57,25 @@ impl Filter {
         ensures shift { self.new.shift ≡ self.old.shift }
         ensures marked { Marks self.new crc }
         ensures kept { (other : ℕ) → Marks self.old other → Marks self.new other }
-        ensures only { (other : ℕ) → Marks self.new other → (other / 2 ^ self.old.shift ≡ crc / 2 ^ self.old.shift) ⊎ Marks self.old other }
+        ensures only { (other : ℕ) → Marks self.new other → (other / 2 ^ self.old.shift ≡ crc / 2 ^ self.old.shift) × (other % 64 ≡ crc % 64) ⊎ Marks self.old other }
     {
-        let group = crc >> self.shift;
-        self.words[(group / 64) as usize] |= 1 << (group % 64);
+        self.words[(crc >> self.shift) as usize] |= 1 << (crc % 64);
     }
 
     /// Takes the group of `crc` away.
     pub(crate) fn remove(&mut self, crc: u32)
         ensures shift { self.new.shift ≡ self.old.shift }
         ensures gone { ¬ (Marks self.new crc) }
-        ensures kept { (other : ℕ) → ¬ (other / 2 ^ self.old.shift ≡ crc / 2 ^ self.old.shift) → Marks self.old other → Marks self.new other }
+        ensures kept { (other : ℕ) → ¬ ((other / 2 ^ self.old.shift ≡ crc / 2 ^ self.old.shift) × (other % 64 ≡ crc % 64)) → Marks self.old other → Marks self.new other }
         ensures only { (other : ℕ) → Marks self.new other → Marks self.old other }
     {
-        let group = crc >> self.shift;
-        self.words[(group / 64) as usize] &= !(1 << (group % 64));
+        self.words[(crc >> self.shift) as usize] &= !(1 << (crc % 64));
     }
 
     /// Whether the group of `crc` is in the set.
     pub(crate) fn contains(&self, crc: u32) -> bool
         ensures { IsTrue result ↔ Marks self.now crc }
     {
-        let group = crc >> self.shift;
-        (self.words[(group / 64) as usize] >> (group % 64)) % 2 == 1
+        (self.words[(crc >> self.shift) as usize] >> (crc % 64)) % 2 == 1
     }
 }

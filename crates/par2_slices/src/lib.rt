@@ -1,6 +1,7 @@
 //! Cutting a file into slices, the checksums of a slice, and the search for slices by their checksums.
 #![tactic(auto)]
 
+mod batch;
 mod checksum;
 mod cutting;
 mod digest;

@@ -1,51 +1,43 @@
 //! The search for slices in a file by their checksums.
 
-ghost use Rattle.std.specs.Prelude.{◌≡◌, ◌≤◌, ◌<◌, ◌+◌, ◌⊎◌, ◌↔◌, ℕ, List, IfOk, IsTrue, length, take, drop, map, slice_index};
+ghost use Rattle.std.specs.Prelude.{◌≡◌, ◌≤◌, ◌<◌, ◌+◌, ◌⊎◌, ◌↔◌, [], ℕ, List, IfOk, IsTrue, length, map, drop, slice_index};
 ghost use Rattle.std.specs.List.{count_by};
 ghost use Rattle.std.specs.Option.{is_none};
 ghost use Rattle.par2_spec.specs.Checksums.{crc32};
 ghost use Rattle.par2_spec.specs.Windows.{first_match, window};
-ghost use Rattle.par2_slices.specs.Searches.{advanced, has_checksums, offset_at, pair_at, place_at, HoldsGroup, IsAt, IsAwaited, IsPlace, IsWaiting};
+ghost use Rattle.par2_slices.specs.Searches.{advanced, candidate_at, has_checksums, is_awaited, offset_at, pair_at, place_at, settled, IsAt, IsCandidate, IsPlace, IsTally, IsWaiting};
 
+use crate::batch::{Candidate, digests};
+use crate::cutting::window_bytes;
 use crate::digest::padded_md5;
 use crate::filter::Filter;
 use crate::rolling::Rolling;
 use crate::wanted::{Pair, Place, Wanted};
+use arrayvec::ArrayVec;
+use par2_digests::LANES;
 use std::alloc::{AllocError, Global};
 
-/// The bytes of the file in its window at `offset`: fewer than `s` at the end of the file.
-fn window_bytes(bytes: &[u8], s: u64, offset: usize) -> &[u8]
-    requires { offset ≤ length bytes.now }
-    ensures { result.now ≡ take s (drop offset bytes.now) }
-{
-    let rest = &bytes[offset..];
-    if s < rest.len() as u64 {
-        &rest[..s as usize]
-    } else {
-        rest
-    }
-}
-
-/// Whether a pair that has this CRC-32 has no answer yet.
-fn is_awaited(group: &[Place], crc: u32, found: &[Option<usize>]) -> bool
+/// How many pairs of the group have this CRC-32 and no answer yet.
+fn awaited(group: &[Place], crc: u32, found: &[Option<usize>]) -> usize
     requires { (k : ℕ) → k < length group.now → (place_at group.now k).index < length found.now }
-    ensures { IsTrue result ↔ IsAwaited group.now crc found.now }
+    ensures { result ≡ count_by (is_awaited crc found.now) group.now }
 {
+    let mut count = 0;
     for place in group {
         if place.crc == crc && found[place.index].is_none() {
-            return true;
+            count += 1;
         }
     }
-    false
+    count
 }
 
-/// Whether a pair of the group has no answer yet.
-fn is_waiting(group: &[Place], found: &[Option<usize>]) -> bool
+/// Whether a pair of the group, whose CRC-32 has the same low six bits, has no answer yet.
+fn is_waiting(group: &[Place], crc: u32, found: &[Option<usize>]) -> bool
     requires { (k : ℕ) → k < length group.now → (place_at group.now k).index < length found.now }
-    ensures { IsTrue result ↔ IsWaiting group.now found.now }
+    ensures { IsTrue result ↔ IsWaiting group.now crc found.now }
 {
     for place in group {
-        if found[place.index].is_none() {
+        if place.crc % 64 == crc % 64 && found[place.index].is_none() {
             return true;
         }
     }
@@ -77,18 +69,22 @@ fn settle(
     count
 }
 
-/// A search under way: the answers so far, how many are open, and which checksums these have.
+/// A search under way: the answers so far, how many are open, which checksums these have, and a batch of windows that
+/// are still to be compared. `awaited` is how many open pairs have the checksums of these: it decides when the batch is
+/// settled, which changes no answer, and so no clause speaks of it.
 #[derive(Drop)]
 struct Search {
     found: Vec<Option<usize>>,
     left: usize,
     filter: Filter,
+    batch: ArrayVec<Candidate, LANES>,
+    awaited: usize,
 }
 
 impl Search {
     /// Before the first offset.
     fn new(alloc: Global, wanted: &Wanted) -> Result<Search, AllocError>
-        ensures { IfOk result (λ search. (s : ℕ) (text : List ℕ) → IsAt s text 0 wanted.now search.found.items search.left search.filter) }
+        ensures { IfOk result (λ search. (s : ℕ) (text : List ℕ) → IsAt s text 0 wanted.now search.found.items search.left search.filter search.batch.items) }
     {
         let pairs = wanted.pairs();
         let mut filter = Filter::new(alloc, pairs.len())?;
@@ -99,6 +95,8 @@ impl Search {
             found: vec![in alloc; None; pairs.len()]?,
             left: pairs.len(),
             filter,
+            batch: ArrayVec::new(),
+            awaited: 0,
         })
     }
 
@@ -109,26 +107,89 @@ impl Search {
         self.left == 0
     }
 
-    /// Gives the pairs of the group that the window at `offset` matches their answer.
-    fn answer(
-        &mut self,
-        wanted: &Wanted,
-        group: &[Place],
-        bytes: &[u8],
-        s: u64,
-        offset: usize,
-        crc: u32,
-    )
-        requires at { IsAt s bytes.now offset wanted.now self.old.found.items self.old.left self.old.filter }
-        requires group { (shift : ℕ) × HoldsGroup wanted.now shift crc group.now }
-        requires within { offset < length bytes.now }
-        requires crc { crc ≡ crc32 (window s bytes.now offset) }
-        ensures at { IsAt s bytes.now (offset + 1) wanted.now self.new.found.items self.new.left self.new.filter }
+    /// Gives the pairs that have these checksums and no answer yet the candidate's offset.
+    fn answer(&mut self, wanted: &Wanted, candidate: Candidate, md5: &[u8; 16])
+        requires { IsTally wanted.now self.old.found.items self.old.left self.old.filter }
+        ensures tally { IsTally wanted.now self.new.found.items self.new.left self.new.filter }
+        ensures each { (i : ℕ) → i < length wanted.now → offset_at self.new.found.items i ≡ advanced (has_checksums md5.now candidate.crc (pair_at wanted.now i)) candidate.offset (offset_at self.old.found.items i) }
+        ensures batch { self.new.batch.items ≡ self.old.batch.items }
         ensures filter { self.new.filter ≡ self.old.filter }
     {
-        if is_awaited(group, crc, &self.found) {
-            let md5 = padded_md5(window_bytes(bytes, s, offset), s);
-            self.left -= settle(group, wanted.pairs(), &md5, crc, offset, &mut self.found);
+        let group = wanted.group(candidate.crc, 0);
+        let Candidate { offset, crc } = candidate;
+        self.left -= settle(group, wanted.pairs(), md5, crc, offset, &mut self.found);
+    }
+
+    /// Compares the candidates of the batch, in the order of their offsets, and empties it.
+    fn settle_batch(&mut self, wanted: &Wanted, bytes: &[u8], s: u64)
+        requires tally { IsTally wanted.now self.old.found.items self.old.left self.old.filter }
+        requires candidates { (k : ℕ) → k < length self.old.batch.items → IsCandidate s bytes.now (candidate_at self.old.batch.items k) }
+        ensures tally { IsTally wanted.now self.new.found.items self.new.left self.new.filter }
+        ensures each { (i : ℕ) → i < length wanted.now → offset_at self.new.found.items i ≡ settled s bytes.now (pair_at wanted.now i) self.old.batch.items (offset_at self.old.found.items i) }
+        ensures batch { self.new.batch.items ≡ [] }
+        ensures filter { self.new.filter ≡ self.old.filter }
+    {
+        let batch = self.batch.take();
+        self.awaited = 0;
+        let candidates = batch.as_slice();
+        if candidates.is_empty() {
+            return;
+        }
+        let digests = digests(bytes, s, candidates);
+        for (k, &candidate) in candidates.iter().enumerate() {
+            self.answer(wanted, candidate, &digests[k]);
+        }
+    }
+
+    /// Whether the batch has room for a candidate, and none of this CRC-32.
+    fn has_room_for(&self, crc: u32) -> bool
+        ensures { IsTrue result ↔ (length self.now.batch.items < 8) × ((k : ℕ) → k < length self.now.batch.items → ¬ ((candidate_at self.now.batch.items k).crc ≡ crc)) }
+    {
+        !self.batch.is_full()
+            && self
+                .batch
+                .as_slice()
+                .iter()
+                .all(|candidate| candidate.crc != crc)
+    }
+
+    /// Settles a full batch, one that has a candidate of this CRC-32, and each one before a window that reaches past the
+    /// end of the file.
+    // Of windows of one CRC-32 the first mostly answers each pair that waits for it: then the others need no MD5.
+    fn make_room(&mut self, wanted: &Wanted, bytes: &[u8], s: u64, offset: usize, crc: u32)
+        requires at { IsAt s bytes.now offset wanted.now self.old.found.items self.old.left self.old.filter self.old.batch.items }
+        requires within { offset < length bytes.now }
+        ensures at { IsAt s bytes.now offset wanted.now self.new.found.items self.new.left self.new.filter self.new.batch.items }
+        ensures room { length self.new.batch.items < 8 }
+        ensures short { length bytes.now < offset + s → self.new.batch.items ≡ [] }
+    {
+        let is_whole = window_bytes(bytes, s, offset).len() as u64 == s;
+        if !is_whole || !self.has_room_for(crc) {
+            self.settle_batch(wanted, bytes, s);
+        }
+    }
+
+    /// Puts a candidate, for which `pairs` open pairs wait, into the batch. A window that reaches past the end of the file
+    /// is compared at once, since the batch has whole windows only.
+    fn put(&mut self, wanted: &Wanted, bytes: &[u8], s: u64, candidate: Candidate, pairs: usize)
+        requires at { IsAt s bytes.now candidate.offset wanted.now self.old.found.items self.old.left self.old.filter self.old.batch.items }
+        requires within { candidate.offset < length bytes.now }
+        requires crc { candidate.crc ≡ crc32 (window s bytes.now candidate.offset) }
+        requires room { length self.old.batch.items < 8 }
+        requires short { length bytes.now < candidate.offset + s → self.old.batch.items ≡ [] }
+        ensures at { IsAt s bytes.now (candidate.offset + 1) wanted.now self.new.found.items self.new.left self.new.filter self.new.batch.items }
+        ensures filter { self.new.filter ≡ self.old.filter }
+    {
+        let window = window_bytes(bytes, s, candidate.offset);
+        if (window.len() as u64) < s {
+            self.answer(wanted, candidate, &padded_md5(window, s));
+            return;
+        }
+        self.batch.push(candidate);
+        self.awaited = self.awaited.saturating_add(pairs);
+        if self.awaited >= self.left {
+            // Each open pair may get its answer now, and then the search need not go on to fill the batch.
+            self.settle_batch(wanted, bytes, s);
         }
     }
 
@@ -137,24 +198,28 @@ impl Search {
     #[cold]
     #[inline(never)]
     fn look(&mut self, wanted: &Wanted, bytes: &[u8], s: u64, offset: usize, crc: u32)
-        requires at { IsAt s bytes.now offset wanted.now self.old.found.items self.old.left self.old.filter }
+        requires at { IsAt s bytes.now offset wanted.now self.old.found.items self.old.left self.old.filter self.old.batch.items }
         requires within { offset < length bytes.now }
         requires crc { crc ≡ crc32 (window s bytes.now offset) }
-        ensures { IsAt s bytes.now (offset + 1) wanted.now self.new.found.items self.new.left self.new.filter }
+        ensures { IsAt s bytes.now (offset + 1) wanted.now self.new.found.items self.new.left self.new.filter self.new.batch.items }
     {
+        self.make_room(wanted, bytes, s, offset, crc);
         let group = wanted.group(crc, self.filter.shift());
-        self.answer(wanted, group, bytes, s, offset, crc);
-        if !is_waiting(group, &self.found) {
+        let pairs = awaited(group, crc, &self.found);
+        if pairs > 0 {
+            self.put(wanted, bytes, s, Candidate { offset, crc }, pairs);
+        }
+        if !is_waiting(group, crc, &self.found) {
             self.filter.remove(crc);
         }
     }
 
     /// Looks at the window at `offset`, whose CRC-32 is `crc`.
     fn test(&mut self, wanted: &Wanted, bytes: &[u8], s: u64, offset: usize, crc: u32)
-        requires at { IsAt s bytes.now offset wanted.now self.old.found.items self.old.left self.old.filter }
+        requires at { IsAt s bytes.now offset wanted.now self.old.found.items self.old.left self.old.filter self.old.batch.items }
         requires within { offset < length bytes.now }
         requires crc { crc ≡ crc32 (window s bytes.now offset) }
-        ensures { IsAt s bytes.now (offset + 1) wanted.now self.new.found.items self.new.left self.new.filter }
+        ensures { IsAt s bytes.now (offset + 1) wanted.now self.new.found.items self.new.left self.new.filter self.new.batch.items }
     {
         if self.filter.contains(crc) {
             self.look(wanted, bytes, s, offset, crc);
@@ -163,10 +228,10 @@ impl Search {
 
     /// Looks at four windows, the first of them at `offset`.
     fn test_four(&mut self, wanted: &Wanted, bytes: &[u8], s: u64, offset: usize, crcs: &[u32; 4])
-        requires at { IsAt s bytes.now offset wanted.now self.old.found.items self.old.left self.old.filter }
+        requires at { IsAt s bytes.now offset wanted.now self.old.found.items self.old.left self.old.filter self.old.batch.items }
         requires within { offset + 4 ≤ length bytes.now }
         requires crcs { (k : ℕ) → k < 4 → slice_index crcs.now k ≡ crc32 (window s bytes.now (offset + k)) }
-        ensures { IsAt s bytes.now (offset + 4) wanted.now self.new.found.items self.new.left self.new.filter }
+        ensures { IsAt s bytes.now (offset + 4) wanted.now self.new.found.items self.new.left self.new.filter self.new.batch.items }
     {
         for (k, &crc) in crcs.iter().enumerate() {
             self.test(wanted, bytes, s, offset + k, crc);
@@ -176,11 +241,11 @@ impl Search {
     /// Looks at windows by fours, from the start of the file on, while four bytes more come in. Gives the offset after.
     fn by_fours(&mut self, wanted: &Wanted, bytes: &[u8], s: u64, rolling: &mut Rolling) -> usize
         requires some { 1 ≤ s }
-        requires at { IsAt s bytes.now 0 wanted.now self.old.found.items self.old.left self.old.filter }
+        requires at { IsAt s bytes.now 0 wanted.now self.old.found.items self.old.left self.old.filter self.old.batch.items }
         requires size { rolling.old.size ≡ s }
         requires value { rolling.old.value ≡ crc32 (window s bytes.now 0) }
         ensures within { result ≤ length bytes.now }
-        ensures at { IsAt s bytes.now result wanted.now self.new.found.items self.new.left self.new.filter }
+        ensures at { IsAt s bytes.now result wanted.now self.new.found.items self.new.left self.new.filter self.new.batch.items }
         ensures size { rolling.new.size ≡ s }
         ensures value { rolling.new.value ≡ crc32 (window s bytes.now result) }
     {
@@ -209,10 +274,10 @@ impl Search {
     )
         requires some { 1 ≤ s }
         requires within { start ≤ length bytes.now }
-        requires at { IsAt s bytes.now start wanted.now self.old.found.items self.old.left self.old.filter }
+        requires at { IsAt s bytes.now start wanted.now self.old.found.items self.old.left self.old.filter self.old.batch.items }
         requires size { rolling.old.size ≡ s }
         requires value { rolling.old.value ≡ crc32 (window s bytes.now start) }
-        ensures { self.new.found.items ≡ map (first_match s bytes.now) wanted.now }
+        ensures { IsAt s bytes.now (length bytes.now) wanted.now self.new.found.items self.new.left self.new.filter self.new.batch.items }
     {
         let incoming = bytes_from(bytes, s);
         for offset in start..bytes.len() {
@@ -246,9 +311,11 @@ fn byte_at(bytes: &[u8], at: usize) -> u8
 /// For each pair the least offset at which the window of `s` bytes of the file matches it, zeros standing past
 /// the end of the file; None where there is no such offset.
 ///
-/// It costs one slide and one look at a filter for each offset, and one MD5 of `s` bytes for each window whose CRC
-/// is that of a pair without an answer. At worst each window has such a CRC and none the MD5: then it costs an MD5
-/// of `s` bytes for each offset, which only pairs that were made for it lead to.
+/// It costs one slide and one look at a filter for each offset, and an MD5 of `s` bytes for each window whose CRC
+/// is that of a pair without an answer. Up to eight of these MD5s are computed side by side, which takes about a fourth
+/// of the time; where fewer such windows follow each other, an MD5 costs at most what it does alone. At worst each window
+/// has such a CRC and none the MD5: then it costs an MD5 of `s` bytes for each offset, which only pairs that were made
+/// for it lead to.
 pub fn find(
     alloc: Global,
     bytes: &[u8],
@@ -263,5 +330,6 @@ pub fn find(
     rolling.start(window_bytes(bytes, s, 0));
     let start = search.by_fours(wanted, bytes, s, &mut rolling);
     search.one_by_one(wanted, bytes, s, start, &mut rolling);
+    search.settle_batch(wanted, bytes, s);
     Ok(search.found)
 }

@@ -100,18 +100,25 @@ fn same_crc_with_another_md5(rt: HostRuntime) {
     assert!(rt; found.as_slice() == [None, Some(1), None].as_slice());
 }
 
+// The bytes of a window.
+fn window_at(bytes: &[u8], s: u64, offset: usize) -> &[u8]
+    requires { offset ≤ length bytes.now }
+    ensures { length result.now ≤ s }
+{
+    let rest = &bytes[offset..];
+    if s < rest.len() as u64 {
+        &rest[..s as usize]
+    } else {
+        rest
+    }
+}
+
 // The same answers by looking at each window anew.
 fn plain_offset(bytes: &[u8], s: u64, pair: &Pair) -> Option<usize>
     requires { 1 ≤ s }
 {
     for offset in 0..bytes.len() {
-        let rest = &bytes[offset..];
-        let window = if s < rest.len() as u64 {
-            &rest[..s as usize]
-        } else {
-            rest
-        };
-        let (md5, crc) = pair_of(window, s);
+        let (md5, crc) = pair_of(window_at(bytes, s, offset), s);
         if md5 == pair.0 && crc == pair.1 {
             return Some(offset);
         }
@@ -119,18 +126,36 @@ fn plain_offset(bytes: &[u8], s: u64, pair: &Pair) -> Option<usize>
     None
 }
 
+// Whether `find` gives each pair what the plain search gives it.
+fn is_as_plain(alloc: Global, text: &[u8], s: u64, pairs: &[Pair]) -> Result<bool, AllocError>
+    requires { 1 ≤ s }
+{
+    let found = find(alloc, text, s, &Wanted::new(alloc, pairs)?)?;
+    for (k, pair) in pairs.iter().enumerate() {
+        if found.get(k).copied() != Some(plain_offset(text, s, pair)) {
+            return Ok(false);
+        }
+    }
+    Ok(found.len() == pairs.len())
+}
+
+// The last ones have more windows than are compared side by side.
+const TEXTS: [&[u8]; 9] = [
+    b"",
+    b"a",
+    b"\0\0\0\0\0",
+    b"abababab",
+    b"aabaabaaab\0\0b",
+    b"mississippi",
+    b"\0\0\0\0\0\0\0\0\0\0\0\0\0\0\0\0\0\0\0\0",
+    b"abcdefghijklmnopqrstuvwxyz",
+    b"abcdefghiabcdefghiabcdefghi",
+];
+
 #[test]
 fn same_as_a_plain_search(rt: HostRuntime) {
-    let texts: [&[u8]; 6] = [
-        b"",
-        b"a",
-        b"\0\0\0\0\0",
-        b"abababab",
-        b"aabaabaaab\0\0b",
-        b"mississippi",
-    ];
-    for text in texts {
-        for other in texts {
+    for text in TEXTS {
+        for other in TEXTS {
             for s in 1..10u64 {
                 let mut pairs = Vec::new(rt.alloc());
                 for j in 0..slice_count(other.len() as u64, s) {
@@ -138,10 +163,46 @@ fn same_as_a_plain_search(rt: HostRuntime) {
                         .push(pair_of(slice_bytes(other, s, j), s))
                         .expect(&rt, "memory");
                 }
-                let wanted = Wanted::new(rt.alloc(), &pairs).expect(&rt, "memory");
-                let found = find(rt.alloc(), text, s, &wanted).expect(&rt, "memory");
-                for (k, pair) in pairs.iter().enumerate() {
-                    assert!(rt; found.get(k).copied() == Some(plain_offset(text, s, pair)));
+                assert!(rt; is_as_plain(rt.alloc(), text, s, &pairs).expect(&rt, "memory"));
+            }
+        }
+    }
+}
+
+// The pairs of every `step`th window, and before each, with `strangers`, one that has its CRC-32 and is nowhere.
+fn window_pairs(
+    alloc: Global,
+    text: &[u8],
+    s: u64,
+    step: usize,
+    strangers: bool,
+) -> Result<Vec<Pair>, AllocError>
+    requires { 1 ≤ step }
+{
+    let mut pairs = Vec::new(alloc);
+    for offset in 0..text.len() {
+        if offset % step == 0 {
+            let (md5, crc) = pair_of(window_at(text, s, offset), s);
+            if strangers {
+                pairs.push(([7; 16], crc))?;
+            }
+            pairs.push((md5, crc))?;
+        }
+    }
+    Ok(pairs)
+}
+
+// The windows overlap, and are wanted by more pairs than are compared side by side, down to the end of the file.
+#[test]
+fn windows_that_follow_each_other(rt: HostRuntime) {
+    for text in TEXTS {
+        for s in 1..10u64 {
+            for step in 1..4usize {
+                for strangers in [false, true] {
+                    let pairs = window_pairs(rt.alloc(), text, s, step, strangers).expect(
+                        &rt, "memory",
+                    );
+                    assert!(rt; is_as_plain(rt.alloc(), text, s, &pairs).expect(&rt, "memory"));
                 }
             }
         }

@@ -13,9 +13,9 @@ pub returns : goal.returns
 returns c =
     let Has : Bits → Type 0 = λ bits. Marks bits c.args.crc in
     let items = c.self.inside.words.items in
-    let word = c.args.crc / 2 ^ c.self.inside.shift / 64 in
+    let word = c.args.crc / 2 ^ c.self.inside.shift in
     let read : c.index.result.now ≡ get_or items word 0 = get_or_read items word c.index.result.now (omega (arith, within c.args.crc c.self.inside.shift c.ranges.crc.fits c.self.invariant.low, c.self.invariant.len)) c.index.ensures 0 in
-    let place = c.args.crc / 2 ^ c.self.inside.shift % 64 in (
+    let place = c.args.crc % 64 in (
       λ yes. subst Has c.self.view_is (record { bit = ap (λ word. bit_at word place) (sym read) ∙ eqb-true _ _ yes }),
       λ is. eq-eqb _ _ (ap (λ word. bit_at word place) read ∙ (subst Has (sym c.self.view_is) is).bit),
     )

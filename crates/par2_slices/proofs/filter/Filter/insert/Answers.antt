@@ -11,7 +11,7 @@ index_mut-requires c = omega (arith, within c.args.crc c.self.inside.shift c.ran
 pub returns-clause-marked : goal.returns-clause-marked
 returns-clause-marked c =
     let items = c.self.inside.words.items in
-    let place = c.args.crc / 2 ^ c.self.inside.shift / 64 in
+    let place = c.args.crc / 2 ^ c.self.inside.shift in
     let held : place < length items = omega (arith, within c.args.crc c.self.inside.shift c.ranges.crc.fits c.self.invariant.low, c.self.invariant.len) in
     let read : c.index_mut.result.now ≡ get_or items place 0 = get_or_read items place c.index_mut.result.now held c.index_mut.ensures.value 0 in
     rw read (marked c.self.inside.shift c.args.crc items held)
@@ -19,7 +19,7 @@ returns-clause-marked c =
 pub returns-clause-kept : goal.returns-clause-kept
 returns-clause-kept c other is =
     let items = c.self.inside.words.items in
-    let place = c.args.crc / 2 ^ c.self.inside.shift / 64 in
+    let place = c.args.crc / 2 ^ c.self.inside.shift in
     let held : place < length items = omega (arith, within c.args.crc c.self.inside.shift c.ranges.crc.fits c.self.invariant.low, c.self.invariant.len) in
     let read : c.index_mut.result.now ≡ get_or items place 0 = get_or_read items place c.index_mut.result.now held c.index_mut.ensures.value 0 in
     let Has : Bits → Type 0 = λ bits. Marks bits other in
@@ -28,9 +28,9 @@ returns-clause-kept c other is =
 pub returns-clause-only : goal.returns-clause-only
 returns-clause-only c other is =
     let items = c.self.inside.words.items in
-    let place = c.args.crc / 2 ^ c.self.inside.shift / 64 in
+    let place = c.args.crc / 2 ^ c.self.inside.shift in
     let held : place < length items = omega (arith, within c.args.crc c.self.inside.shift c.ranges.crc.fits c.self.invariant.low, c.self.invariant.len) in
     let read : c.index_mut.result.now ≡ get_or items place 0 = get_or_read items place c.index_mut.result.now held c.index_mut.ensures.value 0 in
-    let Only : Bits → Type 0 = λ bits. (other / 2 ^ bits.shift ≡ c.args.crc / 2 ^ bits.shift) ⊎ Marks bits other in
-    let After : ℕ → Type 0 = λ word. Marks (record { shift = c.self.inside.shift; words = set items place (bit_or word (1 * 2 ^ (c.args.crc / 2 ^ c.self.inside.shift % 64) % 2 ^ 64)) }) other in
+    let Only : Bits → Type 0 = λ bits. (other / 2 ^ bits.shift ≡ c.args.crc / 2 ^ bits.shift) × (other % 64 ≡ c.args.crc % 64) ⊎ Marks bits other in
+    let After : ℕ → Type 0 = λ word. Marks (record { shift = c.self.inside.shift; words = set items place (bit_or word (1 * 2 ^ (c.args.crc % 64) % 2 ^ 64)) }) other in
     subst Only c.self.view_is (only_by_insert c.self.inside.shift c.args.crc items held other (subst After read is))

@@ -12,7 +12,7 @@ index_mut-requires c = omega (arith, within c.args.crc c.self.inside.shift c.ran
 pub returns-clause-gone : goal.returns-clause-gone
 returns-clause-gone c =
     let items = c.self.inside.words.items in
-    let place = c.args.crc / 2 ^ c.self.inside.shift / 64 in
+    let place = c.args.crc / 2 ^ c.self.inside.shift in
     let held : place < length items = omega (arith, within c.args.crc c.self.inside.shift c.ranges.crc.fits c.self.invariant.low, c.self.invariant.len) in
     let read : c.index_mut.result.now ≡ get_or items place 0 = get_or_read items place c.index_mut.result.now held c.index_mut.ensures.value 0 in
     rw read (gone c.self.inside.shift c.args.crc items held)
@@ -20,19 +20,19 @@ returns-clause-gone c =
 pub returns-clause-kept : goal.returns-clause-kept
 returns-clause-kept c other differs is =
     let items = c.self.inside.words.items in
-    let place = c.args.crc / 2 ^ c.self.inside.shift / 64 in
+    let place = c.args.crc / 2 ^ c.self.inside.shift in
     let held : place < length items = omega (arith, within c.args.crc c.self.inside.shift c.ranges.crc.fits c.self.invariant.low, c.self.invariant.len) in
     let read : c.index_mut.result.now ≡ get_or items place 0 = get_or_read items place c.index_mut.result.now held c.index_mut.ensures.value 0 in
     let Has : Bits → Type 0 = λ bits. Marks bits other in
-    let apart : other / 2 ^ c.self.inside.shift ≡ c.args.crc / 2 ^ c.self.inside.shift → ⊥ = λ same. differs (ap (λ (bits : Bits). other / 2 ^ bits.shift) (sym c.self.view_is) ∙ same ∙ ap (λ (bits : Bits). c.args.crc / 2 ^ bits.shift) c.self.view_is) in
+    let apart : (other / 2 ^ c.self.inside.shift ≡ c.args.crc / 2 ^ c.self.inside.shift) × (other % 64 ≡ c.args.crc % 64) → ⊥ = λ both. differs (ap (λ (bits : Bits). other / 2 ^ bits.shift) (sym c.self.view_is) ∙ both.0 ∙ ap (λ (bits : Bits). c.args.crc / 2 ^ bits.shift) c.self.view_is, both.1) in
     rw read (kept_by_remove c.self.inside.shift c.args.crc items held other apart (subst Has (sym c.self.view_is) is))
 
 pub returns-clause-only : goal.returns-clause-only
 returns-clause-only c other is =
     let items = c.self.inside.words.items in
-    let place = c.args.crc / 2 ^ c.self.inside.shift / 64 in
+    let place = c.args.crc / 2 ^ c.self.inside.shift in
     let held : place < length items = omega (arith, within c.args.crc c.self.inside.shift c.ranges.crc.fits c.self.invariant.low, c.self.invariant.len) in
     let read : c.index_mut.result.now ≡ get_or items place 0 = get_or_read items place c.index_mut.result.now held c.index_mut.ensures.value 0 in
     let Has : Bits → Type 0 = λ bits. Marks bits other in
-    let After : ℕ → Type 0 = λ word. Marks (record { shift = c.self.inside.shift; words = set items place (bit_and word (bit_not w64 (1 * 2 ^ (c.args.crc / 2 ^ c.self.inside.shift % 64) % 2 ^ 64))) }) other in
+    let After : ℕ → Type 0 = λ word. Marks (record { shift = c.self.inside.shift; words = set items place (bit_and word (bit_not w64 (1 * 2 ^ (c.args.crc % 64) % 2 ^ 64))) }) other in
     subst Has c.self.view_is (only_by_remove c.self.inside.shift c.args.crc items held other (subst After read is))

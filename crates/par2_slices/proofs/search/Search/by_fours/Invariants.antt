@@ -8,7 +8,7 @@ abbrev pub invariant-loop-group : goal.invariant-loop-group
 invariant-loop-group l = record {
   place : l.offset ≡ l.group * 4;
   within : l.offset ≤ length l.bytes;
-  at : IsAt l.s l.bytes l.offset l.wanted l.self.found.items l.self.left l.self.filter;
+  at : IsAt l.s l.bytes l.offset l.wanted l.self.found.items l.self.left l.self.filter l.self.batch.items;
   size : l.rolling.size ≡ l.s;
   value : l.rolling.value ≡ crc32 (window l.s l.bytes l.offset);
 }

@@ -1,14 +1,64 @@
-use Rattle.std.proofs.Common.{◌≡◌, ◌∙◌, ◌+◌, ◌/◌, ◌^◌, ℕ, true, false, ap, sym, subst}
+use Rattle.std.proofs.Common.{◌≡◌, ◌∙◌, ◌+◌, ◌/◌, ◌%◌, ◌^◌, ℕ, List, true, false, ap, sym, subst, arith}
+use Rattle.std.specs.Prelude.{Option}
+use Rattle.std.specs.List.{count_by}
+use Rattle.par2_spec.specs.Checksums.{Pair}
+use Rattle.par2_slices.specs.declared.search.Search.{Search}
+use Rattle.par2_slices.specs.declared.wanted.Place.{Place}
 use Rattle.par2_slices.specs.Filters.{Bits}
-use Rattle.par2_slices.specs.Searches.{offset_at, place_at}
-use Rattle.par2_slices.proofs.Searching.{unmark}
+use Rattle.par2_slices.specs.Searches.{is_awaited, offset_at, place_at, IsAt}
+use Rattle.par2_slices.proofs.Searching.{unawaited, unmark}
 use Rattle.par2_slices.proofs.search.Search.look.Goals as goal
+use Rattle.par2_slices.proofs.search.Search.look.Goals.{then-pairs-gt0, else-pairs-gt0}
 
 pub returns-then-not-is_waiting : goal.returns-then-not-is_waiting
 returns-then-not-is_waiting c =
-    let shift_is : c.answer.new.self.filter.shift ≡ c.shift.result = ap (λ (bits : Bits). bits.shift) c.answer.ensures.filter ∙ sym c.shift.ensures.value in
-    let Other : ℕ → ℕ → Type 0 = λ other shift. other / 2 ^ shift ≡ c.args.crc / 2 ^ shift → ⊥ in
-    unmark c.args.s c.args.bytes.now (c.args.offset + 1) c.args.wanted.now c.answer.new.self.found.items c.answer.new.self.left c.answer.new.self.filter c.remove.new.self c.args.crc c.shift.result c.group-group.result.now
-    c.answer.ensures.at c.group-group.ensures
-    (λ k h none. let both : true ≡ false = sym (c.is_waiting.ensures.1 (k, h, ap (λ found. offset_at found (place_at c.group-group.result.now k).index) c.deref.ensures.value ∙ none)) ∙ c.if-not-is_waiting.true in cc)
+    let s : ℕ = c.args.s in
+    let text : List ℕ = c.args.bytes.now in
+    let o : ℕ = c.args.offset in
+    let crc : ℕ = c.args.crc in
+    let wanted : List Pair = c.args.wanted.now in
+    let group : List Place = c.group-group.result.now in
+    let room : Search = c.make_room.new.self in
+    let At : Search → Type 0 = λ search. IsAt s text (o + 1) wanted search.found.items search.left search.filter search.batch.items in
+    let after : At c.if-pairs-gt0.self = elim c.if-pairs-gt0.branch [
+      | then-pairs-gt0 w ↦ subst At (sym w.self-is) w.put.ensures.at
+      | else-pairs-gt0 w ↦ (
+          let Counted : List (Option ℕ) → Type 0 = λ found. count_by (is_awaited crc found) group ≡ 0 in
+          let none : c.awaited-pairs.result ≡ 0 = omega (arith, w.if-pairs-gt0.false) in
+          subst At (sym w.self-is) (unawaited s text o wanted room.found.items room.left room.filter room.batch.items crc c.shift.result group c.make_room.ensures.at c.requires.crc c.group-group.ensures
+          (subst Counted c.deref.ensures.value (sym c.awaited-pairs.ensures ∙ none)))
+          )
+    ]
+    in
+    let filter_is : c.if-pairs-gt0.self.filter ≡ room.filter = elim c.if-pairs-gt0.branch [
+      | then-pairs-gt0 w ↦ ap (λ (search : Search). search.filter) w.self-is ∙ w.put.ensures.filter
+      | else-pairs-gt0 w ↦ ap (λ (search : Search). search.filter) w.self-is
+    ]
+    in
+    let shift_is : c.if-pairs-gt0.self.filter.shift ≡ c.shift.result = ap (λ (bits : Bits). bits.shift) filter_is ∙ sym c.shift.ensures.value in
+    let Other : ℕ → ℕ → Type 0 = λ other shift. (other / 2 ^ shift ≡ crc / 2 ^ shift) × (other % 64 ≡ crc % 64) → ⊥ in
+    unmark s text (o + 1) wanted c.if-pairs-gt0.self.found.items c.if-pairs-gt0.self.left c.if-pairs-gt0.self.filter c.remove.new.self c.if-pairs-gt0.self.batch.items crc c.shift.result group after c.group-group.ensures
+    (λ k h low none. let both : true ≡ false = sym (c.is_waiting.ensures.1 (k, h, low, ap (λ found. offset_at found (place_at group k).index) c.deref-2.ensures.value ∙ none)) ∙ c.if-not-is_waiting.true in cc)
     (λ other differs is. let Its : ℕ → Type 0 = Other other in c.remove.ensures.kept other (subst Its (sym shift_is) differs) is)
+
+pub returns-else-not-is_waiting : goal.returns-else-not-is_waiting
+returns-else-not-is_waiting c =
+    let s : ℕ = c.args.s in
+    let text : List ℕ = c.args.bytes.now in
+    let o : ℕ = c.args.offset in
+    let crc : ℕ = c.args.crc in
+    let wanted : List Pair = c.args.wanted.now in
+    let group : List Place = c.group-group.result.now in
+    let room : Search = c.make_room.new.self in
+    let At : Search → Type 0 = λ search. IsAt s text (o + 1) wanted search.found.items search.left search.filter search.batch.items in
+    let after : At c.if-pairs-gt0.self = elim c.if-pairs-gt0.branch [
+      | then-pairs-gt0 w ↦ subst At (sym w.self-is) w.put.ensures.at
+      | else-pairs-gt0 w ↦ (
+          let Counted : List (Option ℕ) → Type 0 = λ found. count_by (is_awaited crc found) group ≡ 0 in
+          let none : c.awaited-pairs.result ≡ 0 = omega (arith, w.if-pairs-gt0.false) in
+          subst At (sym w.self-is) (unawaited s text o wanted room.found.items room.left room.filter room.batch.items crc c.shift.result group c.make_room.ensures.at c.requires.crc c.group-group.ensures
+          (subst Counted c.deref.ensures.value (sym c.awaited-pairs.ensures ∙ none)))
+          )
+    ]
+    in
+    after

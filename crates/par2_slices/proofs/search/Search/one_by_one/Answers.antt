@@ -1,8 +1,9 @@
-use Rattle.std.proofs.Common.{◌≡◌, ◌∙◌, ◌+◌, ℕ, List, drop, get_or, refl, sym, ap, inl, inr, arith}
+use Rattle.std.proofs.Common.{◌≡◌, ◌∙◌, ◌+◌, ◌-◌, ℕ, List, length, drop, get_or, refl, sym, ap, subst, arith}
 use Rattle.std.proofs.lemmas.List.{get_or-drop}
 use Rattle.par2_spec.specs.Checksums.{crc32}
 use Rattle.par2_spec.specs.Windows.{window}
-use Rattle.par2_slices.proofs.Searching.{finished}
+use Rattle.par2_slices.specs.Searches.{IsAt}
+use Rattle.par2_slices.proofs.Searching.{none_left}
 use Rattle.par2_slices.proofs.Windowed.{first_byte, next_window, rest_len}
 use Rattle.par2_slices.proofs.search.Search.one_by_one.Goals as goal
 
@@ -23,10 +24,14 @@ loop-offset-preserved c =
 
 pub returns-then-is_finished : goal.returns-then-is_finished
 returns-then-is_finished c =
-    finished c.args.s c.args.bytes.now c.loop-offset.offset c.args.wanted.now c.loop-offset.self.found.items c.loop-offset.self.left c.loop-offset.self.filter c.loop-offset.invariant.at
-    (omega (arith, c.loop-offset-test.true)) (inr (c.is_finished.ensures.0 c.if-is_finished.true))
+    let At : ℕ → Type 0 = λ o. IsAt c.args.s c.args.bytes.now o c.args.wanted.now c.loop-offset.self.found.items c.loop-offset.self.left c.loop-offset.self.filter c.loop-offset.self.batch.items in
+    let o : ℕ = c.loop-offset.offset in
+    let end : ℕ = length c.args.bytes.now in
+    subst At (let e : o + (end - o) ≡ end = omega (arith, c.loop-offset-test.true) in e)
+    (none_left c.args.s c.args.bytes.now o (end - o) c.args.wanted.now c.loop-offset.self.found.items c.loop-offset.self.left c.loop-offset.self.filter c.loop-offset.self.batch.items c.loop-offset.invariant.at
+    (c.is_finished.ensures.0 c.if-is_finished.true))
 
 pub returns-after-loop-offset : goal.returns-after-loop-offset
 returns-after-loop-offset c =
-    finished c.args.s c.args.bytes.now c.loop-offset.offset c.args.wanted.now c.loop-offset.self.found.items c.loop-offset.self.left c.loop-offset.self.filter c.loop-offset.invariant.at
-    (omega arith) (inl (omega arith))
+    let At : ℕ → Type 0 = λ o. IsAt c.args.s c.args.bytes.now o c.args.wanted.now c.loop-offset.self.found.items c.loop-offset.self.left c.loop-offset.self.filter c.loop-offset.self.batch.items in
+    subst At (let e : c.loop-offset.offset ≡ length c.args.bytes.now = omega arith in e) c.loop-offset.invariant.at

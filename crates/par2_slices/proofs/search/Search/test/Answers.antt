@@ -4,5 +4,5 @@ use Rattle.par2_slices.proofs.search.Search.test.Goals as goal
 
 pub returns-else-contains : goal.returns-else-contains
 returns-else-contains c =
-    unmarked c.args.s c.args.bytes.now c.args.offset c.args.wanted.now c.args.self.now.found.items c.args.self.now.left c.args.self.now.filter c.args.crc c.requires.at c.requires.crc
+    unmarked c.args.s c.args.bytes.now c.args.offset c.args.wanted.now c.args.self.now.found.items c.args.self.now.left c.args.self.now.filter c.args.self.now.batch.items c.args.crc c.requires.at c.requires.crc
     (λ is. let both : true ≡ false = sym (c.contains.ensures.1 is) ∙ c.if-contains.false in cc)

@@ -1,0 +1,49 @@
+use Rattle.std.proofs.Common.{◌≡◌, ◌∙◌, ◌+◌, ◌<◌, ℕ, List, length, take, drop, ap, sym, subst, length-take, length-drop, arith}
+use Rattle.md5.specs.Md5.{md5}
+use Rattle.par2_spec.specs.Slices.{padded}
+use Rattle.par2_slices.specs.declared.batch.Candidate.{Candidate}
+use Rattle.par2_slices.specs.Searches.{IsAt, IsCandidate}
+use Rattle.par2_slices.proofs.Searching.{compared, emptied, pushed}
+use Rattle.par2_slices.proofs.search.Search.put.Goals as goal
+
+pub returns-then-window-s-clause-at : goal.returns-then-window-s-clause-at
+returns-then-window-s-clause-at c =
+    let s : ℕ = c.args.s in
+    let text : List ℕ = c.args.bytes.now in
+    let o : ℕ = c.args.candidate.offset in
+    let At : List Candidate → Type 0 = λ batch. IsAt s text (o + 1) c.args.wanted.now c.answer.new.self.found.items c.answer.new.self.left c.answer.new.self.filter batch in
+    let size : length c.window_bytes-window.result.now ≡ length (take s (drop o text)) = ap length c.window_bytes-window.ensures in
+    let short : length text < o + s = omega (arith, c.if-window-s.true, size, length-take s (drop o text), length-drop o text) in
+    subst At (sym c.answer.ensures.batch)
+    (compared s text o c.args.wanted.now c.args.self.now.found.items c.answer.new.self.found.items c.args.self.now.left c.answer.new.self.left c.args.self.now.filter c.answer.new.self.filter c.args.self.now.batch.items c.padded_md5.result c.args.candidate.crc
+    c.requires.at (c.requires.short short) (c.padded_md5.ensures ∙ ap (λ bytes. md5 (padded s bytes)) c.window_bytes-window.ensures) c.requires.crc c.answer.ensures.tally c.answer.ensures.each)
+
+pub returns-then-self-clause-at : goal.returns-then-self-clause-at
+returns-then-self-clause-at c =
+    let s : ℕ = c.args.s in
+    let text : List ℕ = c.args.bytes.now in
+    let o : ℕ = c.args.candidate.offset in
+    let At : List Candidate → Type 0 = λ batch. IsAt s text (o + 1) c.args.wanted.now c.args.self.now.found.items c.args.self.now.left c.args.self.now.filter batch in
+    let size : length c.window_bytes-window.result.now ≡ length (take s (drop o text)) = ap length c.window_bytes-window.ensures in
+    let its : IsCandidate s text c.args.candidate = record {
+      within = omega (arith, c.if-window-s.false, size, length-take s (drop o text), length-drop o text, c.requires.within);
+      crc = c.requires.crc;
+    }
+    in
+    emptied s text (o + 1) c.args.wanted.now c.args.self.now.found.items c.settle_batch.new.self.found.items c.args.self.now.left c.settle_batch.new.self.left c.args.self.now.filter c.settle_batch.new.self.filter c.push.new.self.items c.settle_batch.new.self.batch.items
+    (subst At (sym c.push.ensures.items) (pushed s text c.args.wanted.now c.args.self.now.found.items c.args.self.now.left c.args.self.now.filter c.args.self.now.batch.items c.args.candidate c.requires.at its))
+    c.settle_batch.ensures.tally c.settle_batch.ensures.batch c.settle_batch.ensures.each
+
+pub returns-else-self-clause-at : goal.returns-else-self-clause-at
+returns-else-self-clause-at c =
+    let s : ℕ = c.args.s in
+    let text : List ℕ = c.args.bytes.now in
+    let o : ℕ = c.args.candidate.offset in
+    let At : List Candidate → Type 0 = λ batch. IsAt s text (o + 1) c.args.wanted.now c.args.self.now.found.items c.args.self.now.left c.args.self.now.filter batch in
+    let size : length c.window_bytes-window.result.now ≡ length (take s (drop o text)) = ap length c.window_bytes-window.ensures in
+    let its : IsCandidate s text c.args.candidate = record {
+      within = omega (arith, c.if-window-s.false, size, length-take s (drop o text), length-drop o text, c.requires.within);
+      crc = c.requires.crc;
+    }
+    in
+    subst At (sym c.push.ensures.items) (pushed s text c.args.wanted.now c.args.self.now.found.items c.args.self.now.left c.args.self.now.filter c.args.self.now.batch.items c.args.candidate c.requires.at its)

@@ -1,0 +1,7 @@
+use Rattle.std.proofs.Common.{◌≡◌, take}
+use Rattle.std.specs.List.{count_by}
+use Rattle.par2_slices.specs.Searches.{is_awaited}
+use Rattle.par2_slices.proofs.search.awaited.Given as goal
+
+abbrev pub invariant-loop-place : goal.invariant-loop-place
+invariant-loop-place l = l.count ≡ count_by (is_awaited l.crc l.found) (take l.place-index l.group)

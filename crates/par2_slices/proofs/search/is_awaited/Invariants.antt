@@ -1,7 +1,0 @@
-use Rattle.std.proofs.Common.{◌≡◌, ℕ, ◌<◌}
-use Rattle.std.specs.Prelude.{None}
-use Rattle.par2_slices.specs.Searches.{place_at, offset_at}
-use Rattle.par2_slices.proofs.search.is_awaited.Given as goal
-
-abbrev pub invariant-loop-place : goal.invariant-loop-place
-invariant-loop-place l = (k : ℕ) → k < l.place-index → (place_at l.group k).crc ≡ l.crc → offset_at l.found (place_at l.group k).index ≡ None → ⊥

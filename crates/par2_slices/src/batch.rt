@@ -1,0 +1,46 @@
+//! Windows whose MD5s are computed side by side.
+
+ghost use Rattle.std.specs.Prelude.{◌≡◌, ◌≤◌, ◌<◌, ◌+◌, ℕ, length, slice_index};
+ghost use Rattle.md5.specs.Md5.{md5};
+ghost use Rattle.par2_digests.specs.Digests.{digest_at};
+ghost use Rattle.par2_spec.specs.Windows.{window};
+ghost use Rattle.par2_slices.specs.Searches.{candidate_at};
+
+use crate::cutting::window_bytes;
+use crate::digest::padded_md5;
+use par2_digests::{LANES, window_digests};
+
+/// A window that a search has still to compare, since a pair without an answer has its CRC-32.
+#[derive(Clone, Copy, Default, Drop)]
+pub(crate) struct Candidate {
+    pub(crate) offset: usize,
+    pub(crate) crc: u32,
+}
+
+/// The offsets of the candidates; the first of them again in the lanes that are left.
+fn starts(batch: &[Candidate]) -> [usize; LANES]
+    requires some { 1 ≤ length batch.now }
+    requires fit { length batch.now ≤ 8 }
+    ensures each { (k : ℕ) → k < length batch.now → slice_index result k ≡ (candidate_at batch.now k).offset }
+    ensures among { (k : ℕ) → k < 8 → (j : ℕ) × (j < length batch.now) × (slice_index result k ≡ (candidate_at batch.now j).offset) }
+{
+    let mut starts = [batch[0].offset; LANES];
+    for (lane, candidate) in batch.iter().enumerate() {
+        starts[lane] = candidate.offset;
+    }
+    starts
+}
+
+/// The MD5s of the candidates' windows, which are whole.
+pub(crate) fn digests(bytes: &[u8], s: u64, batch: &[Candidate]) -> [[u8; 16]; LANES]
+    requires some { 1 ≤ length batch.now }
+    requires fit { length batch.now ≤ 8 }
+    requires whole { (k : ℕ) → k < length batch.now → (candidate_at batch.now k).offset + s ≤ length bytes.now }
+    ensures { (k : ℕ) → k < length batch.now → digest_at result k ≡ md5 (window s bytes.now (candidate_at batch.now k).offset) }
+{
+    if let [only] = batch {
+        // Eight side by side take about the time of two, so one alone is faster by itself.
+        return [padded_md5(window_bytes(bytes, s, only.offset), s); LANES];
+    }
+    window_digests(bytes, &starts(batch), s as usize)
+}
