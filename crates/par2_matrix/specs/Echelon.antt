@@ -1,6 +1,6 @@
 -- How a system keeps its equations: in reduced row echelon form, each at the column of its pivot. A row is kept
 -- as the bytes of its words, so that rows and texts are added by the same kernel.
-use Rattle.std.specs.Prelude.{ℕ, zero, suc, ◌+◌, ◌*◌, ◌^◌, ◌%◌, ◌<◌, ◌≤◌, ◌≡◌, ◌≢◌, bit_xor, List, [], ◌∷◌, length, slice_index, slice_index_or, map, Vec, if◌then◌else◌, ◌==◌}
+use Rattle.std.specs.Prelude.{ℕ, zero, suc, ◌+◌, ◌*◌, ◌^◌, ◌%◌, ◌<◌, ◌≤◌, ◌≡◌, ◌≢◌, bit_xor, List, [], ◌∷◌, length, slice_index, slice_index_or, Vec, if◌then◌else◌, ◌==◌}
 use Rattle.std.specs.declared.alloc.Global.{Global}
 use Rattle.par2_spec.specs.Field.{mul}
 use Rattle.par2_spec.specs.Slices.{word, words}

@@ -5,7 +5,7 @@ ghost use Rattle.par2_spec.specs.Slices.{word};
 ghost use Rattle.par2_gf16.specs.Products.{AddsProducts};
 ghost use Rattle.par2_matrix.specs.Echelon.{WordPut, Spells, Scaled, ReducedBelow, IsReduced, IsImplied, IsMultiple, IsPrepared, OneChanged, ClearedBelow, PutAt, AllEmpty, echelon_of, lists_of, list_at};
 
-use par2_gf16::Gf;
+use par2_gf16::{Factor, Gf};
 use std::alloc::{AllocError, Global};
 
 // What the type says of each byte, for proofs.
@@ -94,8 +94,8 @@ fn reduce(gf: &Gf, rows: &[Vec<u8>], rights: &[Vec<u8>], row: &mut [u8], right: 
         let factor = element(row, p);
         let source = list_at(rows, p);
         if factor != 0 && !source.is_empty() {
-            gf.mul_add(factor, source, row);
-            gf.mul_add(factor, list_at(rights, p), right);
+            add_products(gf, factor, source, row);
+            add_products(gf, factor, list_at(rights, p), right);
         }
     }
     fit_bytes(row);
@@ -175,7 +175,7 @@ fn add_products(gf: &Gf, factor: u16, src: &[u8], dst: &mut [u8])
     ensures added { AddsProducts factor src.now dst.old dst.new }
     ensures bytes { (k : ℕ) → slice_index dst.new k < 2 ^ 8 }
 {
-    gf.mul_add(factor, src, dst);
+    gf.mul_add_by(&Factor::new(factor), src, dst);
 }
 
 // Clears the place q of each equation.
