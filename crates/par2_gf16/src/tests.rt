@@ -105,7 +105,10 @@ fn every_length_as_word_by_word(rt: HostRuntime) -> Result<(), AllocError> {
     for half in 0..=65usize {
         let src = mixed_bytes(rt.alloc(), 2 * half, 1)?;
         let old = mixed_bytes(rt.alloc(), 2 * half, 2)?;
-        for c in [0, 1, 2, 3, 0x100B, 0x8000, 0x8805, 0xFFFF] {
+        // The last four are random.
+        for c in [
+            0, 1, 2, 3, 0x100B, 0x8000, 0x8805, 0xFFFF, 0x5A3C, 0xC6E9, 0x1D47, 0x93B2,
+        ] {
             let mut by_steps = old.clone()?;
             let mut by_factor = old.clone()?;
             let mut wanted = old.clone()?;
