@@ -7,7 +7,10 @@ use Rattle.par2_spec.specs.declared.Failure.{Failure}
 use Rattle.par2_spec.specs.declared.Failure.TheVariants as failure
 use Rattle.par2_journal.specs.declared.prepared.SessionFault.TheVariants.{Plan, NothingToUndo, NothingToRedo}
 use Rattle.par2_tool.specs.declared.performing.PerformFault.{PerformFault}
+use Rattle.par2_spec.specs.declared.Fault.TheVariants.{Memory}
 use Rattle.par2_tool.specs.declared.performing.PerformFault.TheVariants.{Session, Store}
+use Rattle.par2_tool.specs.declared.opening.OpenFault.{OpenFault}
+use Rattle.par2_tool.specs.declared.opening.OpenFault.TheVariants as open
 
 -- the session refuses for the cause that the definitions name or for want of memory, and stays as it was; or the
 -- store failed
@@ -25,3 +28,10 @@ failed (Session (Plan fault)) = failure.Refused fault
 failed (Session NothingToUndo) = failure.NothingToUndo
 failed (Session NothingToRedo) = failure.NothingToRedo
 failed Store = failure.Store
+
+-- what is told of a store that can't be opened
+abbrev pub unopened_as : OpenFault → Failure
+unopened_as open.Store = failure.Store
+unopened_as open.Memory = failure.Refused Memory
+unopened_as open.JournalInvalid = failure.JournalInvalid
+unopened_as open.FolderChanged = failure.FolderChanged

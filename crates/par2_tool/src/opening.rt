@@ -1,8 +1,14 @@
 //! A store is opened as a session.
-ghost use Rattle.std.specs.Prelude.{◌≡◌, ◌<◌, ◌≤◌, [], false, IfOk, IsErrOf};
+ghost use Rattle.std.specs.Prelude.{◌≡◌, ◌<◌, ◌≤◌, IfOk, IfErr, OnErr, IsErrOf, OnOk, Ok};
+ghost use Rattle.par2_journal.specs.Opened.{session_before, way_left};
+ghost use Rattle.par2_spec.specs.Sessions.{session_of_kept};
+ghost use Rattle.par2_tool.specs.Held.{IsOpening, Holds, OpensAsBefore, TellsApartBack};
+ghost use Rattle.par2_tool.specs.Opened.{started_of, unread_as, IsRead, IsUnopened, IsTakenBack, IsStillBegun};
 
-use par2_folder::{FolderStore, ReadFault, read_folder};
-use par2_journal::Session;
+use crate::writing::write_down;
+use par2_folder::{Folder, FolderStore, ReadFault, read_folder};
+use par2_journal::{Halfway, Journals, Opened, Session};
+use par2_spec::JournalFault;
 use std::alloc::Global;
 use thiserror::Error;
 
@@ -21,25 +27,110 @@ pub enum OpenFault {
     Store,
     #[error("out of memory")]
     Memory,
+    #[error("the journal is not valid")]
+    JournalInvalid,
+    /// A command was begun in another folder than this one, so that it can't be taken back.
+    #[error("the folder is not as the journal left it")]
+    FolderChanged,
 }
 
-/// Reads the names and files of a store, and begins a session on them. The store keeps what it holds.
-pub fn open_store<S: FolderStore>(alloc: Global, store: &mut S) -> Result<Started, OpenFault>
+// Why a store can't be read.
+fn unread(fault: ReadFault) -> OpenFault
+    ensures { result ≡ unread_as fault }
+{
+    match fault {
+        ReadFault::Store => OpenFault::Store,
+        ReadFault::Memory => OpenFault::Memory,
+    }
+}
+
+// Takes a begun command back in the store, and settles its journal.
+fn take_back<S: FolderStore>(
+    alloc: Global,
+    store: &mut S,
+    halfway: Halfway,
+) -> Result<Session, OpenFault>
     ensures honest { S.honest store.old → S.honest store.new }
-    ensures same { S.honest store.old → S.contents store.new ≡ S.contents store.old }
-    ensures files { S.honest store.old → IfOk result (λ started. started.session.folder.files ≡ (S.contents store.old).files) }
-    ensures undos { IfOk result (λ started. started.session.undos ≡ []) }
-    ensures redos { IfOk result (λ started. started.session.redos ≡ []) }
-    ensures dropped { IfOk result (λ started. started.dropped ≡ false) }
+    ensures session { IfOk result (λ session. session ≡ session_before halfway) }
+    ensures done { S.honest store.old → OnOk result (IsTakenBack (session_of_kept (session_before halfway)) (way_left halfway) (S.contents store.old) (S.contents store.new)) }
+    ensures stopped { S.honest store.old → OnErr result (IsStillBegun (session_of_kept (session_before halfway)) (way_left halfway) (S.contents store.old) (S.contents store.new)) }
+    ensures memory { IsErrOf result OpenFault.Memory → S.honest store.old → S.contents store.new ≡ S.contents store.old }
+    ensures no_journal { (IsErrOf result OpenFault.JournalInvalid → ⊥) × (IsErrOf result OpenFault.FolderChanged → ⊥) }
     ensures later { S.failures store.old ≤ S.failures store.new }
     ensures cause { IsErrOf result OpenFault.Store → S.failures store.old < S.failures store.new }
 {
-    match read_folder(alloc, store) {
-        Ok(folder) => Ok(Started {
+    let after = match halfway.settled(alloc) {
+        Ok(after) => after,
+        Err(_) => return Err(OpenFault::Memory),
+    };
+    let journals = Journals {
+        halfway: None,
+        after,
+    };
+    match write_down(store, &journals, halfway.changes()) {
+        Ok(()) => Ok(halfway.finish()),
+        Err(_) => Err(OpenFault::Store),
+    }
+}
+
+// Opens a store with this folder and this journal.
+fn open_with<S: FolderStore>(
+    alloc: Global,
+    store: &mut S,
+    folder: Folder,
+    text: &[u8],
+) -> Result<Started, OpenFault>
+    ensures honest { S.honest store.old → S.honest store.new }
+    ensures opened { S.honest store.old → IsRead (S.contents store.old) folder.files text.now → IfOk result (λ started. IsOpening (S.contents store.old) (Ok (started_of started))) }
+    ensures holds { S.honest store.old → IsRead (S.contents store.old) folder.files text.now → IfOk result (λ started. Holds (S.contents store.new) (started_of started)) }
+    ensures refused { S.honest store.old → IsRead (S.contents store.old) folder.files text.now → IfErr result (IsUnopened (S.contents store.old) (S.contents store.new)) }
+    ensures stopped { S.honest store.old → IsRead (S.contents store.old) folder.files text.now → TellsApartBack (S.contents store.old) → OnErr result (OpensAsBefore (S.contents store.old) (S.contents store.new)) }
+    ensures later { S.failures store.old ≤ S.failures store.new }
+    ensures cause { IsErrOf result OpenFault.Store → S.failures store.old < S.failures store.new }
+{
+    let session = match Session::open(alloc, folder, text) {
+        Ok(Opened::Settled(session)) => session,
+        Ok(Opened::Begun(halfway)) => take_back(alloc, store, halfway)?,
+        Err((JournalFault::FolderChanged { halfway: false }, folder)) => {
+            return Ok(Started {
+                session: Session::new(alloc, folder),
+                dropped: true,
+            });
+        }
+        Err((JournalFault::FolderChanged { halfway: true }, _)) => {
+            return Err(OpenFault::FolderChanged);
+        }
+        Err((JournalFault::JournalInvalid, _)) => return Err(OpenFault::JournalInvalid),
+        Err((JournalFault::Memory, _)) => return Err(OpenFault::Memory),
+    };
+    Ok(Started {
+        session,
+        dropped: false,
+    })
+}
+
+/// Opens a store as a session: its names, files and journal are read, and a command that was begun is taken back.
+/// Where the folder isn't as the journal of a finished command left it, the session is a new one. After Store and
+/// Memory the store opens as it did.
+pub fn open_store<S: FolderStore>(alloc: Global, store: &mut S) -> Result<Started, OpenFault>
+    ensures honest { S.honest store.old → S.honest store.new }
+    ensures opened { S.honest store.old → IfOk result (λ started. IsOpening (S.contents store.old) (Ok (started_of started))) }
+    ensures holds { S.honest store.old → IfOk result (λ started. Holds (S.contents store.new) (started_of started)) }
+    ensures refused { S.honest store.old → IfErr result (IsUnopened (S.contents store.old) (S.contents store.new)) }
+    ensures stopped { S.honest store.old → TellsApartBack (S.contents store.old) → OnErr result (OpensAsBefore (S.contents store.old) (S.contents store.new)) }
+    ensures later { S.failures store.old ≤ S.failures store.new }
+    ensures cause { IsErrOf result OpenFault.Store → S.failures store.old < S.failures store.new }
+{
+    let folder = match read_folder(alloc, store) {
+        Ok(folder) => folder,
+        Err(fault) => return Err(unread(fault)),
+    };
+    match store.read_journal(alloc) {
+        Ok(Some(text)) => open_with(alloc, store, folder, &text),
+        Ok(None) => Ok(Started {
             session: Session::new(alloc, folder),
             dropped: false,
         }),
-        Err(ReadFault::Store) => Err(OpenFault::Store),
-        Err(ReadFault::Memory) => Err(OpenFault::Memory),
+        Err(fault) => Err(unread(fault)),
     }
 }

@@ -1,17 +1,17 @@
 //! A command is performed on a store and its session.
-ghost use Rattle.std.specs.Prelude.{◌≡◌, ◌<◌, ◌≤◌, ℕ, List, Ok, map, take, IfOk, IfErr, OnOk};
-ghost use Rattle.par2_spec.specs.Changes.{Change};
+ghost use Rattle.std.specs.Prelude.{◌≡◌, ◌<◌, ◌≤◌, ℕ, List, Ok, map, take, IfOk, IfErr, OnOk, OnErr};
+ghost use Rattle.par2_spec.specs.Changes.{Change, effects};
 ghost use Rattle.par2_spec.specs.Sessions.{session_of_kept, session_after, changes_asked};
 ghost use Rattle.par2_spec.specs.Texts.{step_of};
 ghost use Rattle.par2_spec.specs.Views.{action_of};
 ghost use Rattle.par2_journal.specs.Plain.{IsPlain};
-ghost use Rattle.par2_tool.specs.Performed.{all_changed};
+ghost use Rattle.par2_tool.specs.Held.{Holds, kept, TellsApartAlong, OpensAsBeforeOrAfter};
 ghost use Rattle.par2_tool.specs.Refused.{IsRefused, IsSession};
 
-use crate::writing::write_changes;
+use crate::writing::write_down;
 use par2_folder::FolderStore;
 use par2_journal::{Session, SessionFault, Steps};
-use par2_spec::Action;
+use par2_spec::{Action, Fault};
 use std::alloc::Global;
 use thiserror::Error;
 
@@ -25,8 +25,9 @@ pub enum PerformFault {
 }
 
 /// Performs an action, and answers the steps of its changes: what it wants is made ready in memory, its changes are
-/// made in the store, and the session goes along. After a refusal store and session are as before. After Store some of
-/// the changes are made, from the first on, and the session is to be dropped and opened again.
+/// made in the store between two journals, and the session goes along. After a refusal store and session are as
+/// before. After Store the session is to be dropped and the store opened again: it opens as the session from before
+/// the action or as the one from afterwards.
 pub fn perform<S: FolderStore>(
     alloc: Global,
     store: &mut S,
@@ -36,17 +37,24 @@ pub fn perform<S: FolderStore>(
     requires { IsPlain (action_of action.now) }
     ensures honest { S.honest store.old → S.honest store.new }
     ensures session { OnOk result (session_after (session_of_kept session.old) (action_of action.now) ≡ Ok (session_of_kept session.new)) }
-    ensures done { IfOk result (λ steps. (changes : List Change) × (changes_asked (session_of_kept session.old) (action_of action.now) ≡ Ok changes) × (steps ≡ map step_of changes) × (S.honest store.old → S.contents store.new ≡ all_changed (S.contents store.old) changes)) }
+    ensures steps { IfOk result (λ steps. (changes : List Change) × (changes_asked (session_of_kept session.old) (action_of action.now) ≡ Ok changes) × (steps ≡ map step_of changes)) }
+    ensures holds { S.honest store.old → (S.contents store.old).files ≡ session.old.folder.files → OnOk result (Holds (S.contents store.new) (kept (session_of_kept session.new))) }
     ensures refused { IfErr result (IsRefused (action_of action.now) session.old session.new (S.failures store.old) (S.failures store.new)) }
-    ensures kept { S.honest store.old → IfErr result (λ fault. IsSession fault → S.contents store.new ≡ S.contents store.old) }
-    ensures stopped { S.honest store.old → IfErr result (λ _. IfOk (changes_asked (session_of_kept session.old) (action_of action.now)) (λ changes. (n : ℕ) × (S.contents store.new ≡ all_changed (S.contents store.old) (take n changes)))) }
+    ensures unchanged { S.honest store.old → IfErr result (λ fault. IsSession fault → S.contents store.new ≡ S.contents store.old) }
+    ensures stopped { S.honest store.old → (S.contents store.old).files ≡ session.old.folder.files → TellsApartAlong (session_of_kept session.old) (action_of action.now) → OnErr result (OpensAsBeforeOrAfter (session_of_kept session.old) (action_of action.now) (S.contents store.old) (S.contents store.new)) }
+    ensures in_order { S.honest store.old → OnErr result (IfOk (changes_asked (session_of_kept session.old) (action_of action.now)) (λ changes. (n : ℕ) × ((S.contents store.new).files ≡ effects (S.contents store.old).files (take n changes)))) }
     ensures later { S.failures store.old ≤ S.failures store.new }
 {
+    let _folder = session.folder();
     let prepared = match session.prepare(alloc, action) {
         Ok(prepared) => prepared,
         Err(fault) => return Err(PerformFault::Session(fault)),
     };
-    match write_changes(store, session.changes(&prepared)) {
+    let journals = match session.journals(alloc, &prepared) {
+        Ok(journals) => journals,
+        Err(_) => return Err(PerformFault::Session(SessionFault::Plan(Fault::Memory))),
+    };
+    match write_down(store, &journals, session.changes(&prepared)) {
         Ok(()) => Ok(session.commit(prepared)),
         Err(_) => Err(PerformFault::Store),
     }

@@ -1,6 +1,6 @@
 //! What comes of a run is printed.
-ghost use Rattle.std.specs.Prelude.{◌≡◌, map, flat_map, false};
-ghost use Rattle.par2_spec.specs.Texts.{Done, done_text, step_line, output_of, error_of, status_of};
+ghost use Rattle.std.specs.Prelude.{◌≡◌, ◌++◌, map, flat_map};
+ghost use Rattle.par2_spec.specs.Texts.{Done, done_text, note_text, step_line, output_of, error_of, status_of};
 ghost use Rattle.par2_spec.specs.Texts as texts;
 ghost use Rattle.par2_journal.specs.Stepped.{stepped};
 ghost use Rattle.par2_printing.specs.Printed.{step_shown, words_given};
@@ -8,7 +8,7 @@ ghost use Rattle.par2_printing.specs.Wrote.{Wrote};
 ghost use Rattle.par2_tool.specs.Told.{Printed};
 
 use par2_journal::{Step, Steps};
-use par2_printing::{PrintedStep, WriteFault, write_done, write_failure, write_step};
+use par2_printing::{PrintedStep, WriteFault, write_done, write_failure, write_note, write_step};
 use par2_spec::{Command, Failure, Fault};
 use std::io::Write;
 
@@ -45,12 +45,23 @@ fn write_all_done<W: Write>(out: &mut W, steps: &[Step]) -> Result<(), WriteFaul
     }
 }
 
-/// Prints the steps of an accepted command on the output, and answers the status.
-#[tactic(auto, unfolding(par2_spec::specs::Texts::status_of, par2_spec::specs::Texts::output_of))]
-pub fn tell<W: Write>(out: &mut W, steps: &Steps) -> u8
-    ensures { Printed (W.contents out.old) (W.contents out.new) (output_of false (Done steps.now)) (status_of (Done steps.now)) result }
+#[tactic(auto, using(par2_printing::proofs::WroteLaws::wrote_then, par2_printing::proofs::WroteLaws::wrote_less))]
+fn write_accepted<W: Write>(out: &mut W, steps: &[Step], dropped: bool) -> Result<(), WriteFault>
+    ensures { Wrote (W.contents out.old) (W.contents out.new) (note_text dropped ++ done_text (map stepped steps.now)) result }
 {
-    match write_all_done(out, steps.as_slice()) {
+    match write_note(out, dropped) {
+        Ok(()) => write_all_done(out, steps),
+        Err(fault) => Err(fault),
+    }
+}
+
+/// Prints the steps of an accepted command on the output, below a note where the history was dropped, and answers the
+/// status.
+#[tactic(auto, unfolding(par2_spec::specs::Texts::status_of, par2_spec::specs::Texts::output_of))]
+pub fn tell<W: Write>(out: &mut W, steps: &Steps, dropped: bool) -> u8
+    ensures { Printed (W.contents out.old) (W.contents out.new) (output_of dropped (Done steps.now)) (status_of (Done steps.now)) result }
+{
+    match write_accepted(out, steps.as_slice(), dropped) {
         Ok(()) => 0,
         Err(_) => WRITER_FAILED,
     }

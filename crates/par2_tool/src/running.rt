@@ -1,10 +1,10 @@
 //! A run of the program.
-ghost use Rattle.std.specs.Prelude.{◌≡◌, ◌≤◌, IfOk, IfErr, map, string_bytes};
+ghost use Rattle.std.specs.Prelude.{◌≡◌, ◌≤◌, IfOk, IfErr, IsTrue, map, string_bytes};
 ghost use Rattle.par2_spec.specs.Views.{action_of};
 ghost use Rattle.par2_spec.specs.Texts.{Done};
 ghost use Rattle.par2_journal.specs.Plain.{IsPlain};
-ghost use Rattle.par2_tool.specs.Refused.{failed};
-ghost use Rattle.par2_tool.specs.Told.{Told, IsDone, IsFailed, IsTold, Shown};
+ghost use Rattle.par2_tool.specs.Refused.{failed, unopened_as};
+ghost use Rattle.par2_tool.specs.Told.{Told, IsBack, IsDone, IsFailed, IsTold, Shown};
 
 use crate::asking::asked_command;
 use crate::opening::{OpenFault, Started, open_store};
@@ -15,6 +15,13 @@ use par2_journal::{SessionFault, Steps};
 use par2_spec::{Action, Command, Failure, Fault};
 use std::alloc::Global;
 use std::io::Write;
+
+/// What is told of an accepted action.
+#[derive(Debug, Drop)]
+struct Accepted {
+    steps: Steps,
+    dropped: bool,
+}
 
 // Why an action failed.
 fn failure_of(fault: PerformFault) -> Failure
@@ -28,25 +35,49 @@ fn failure_of(fault: PerformFault) -> Failure
     }
 }
 
-// Opens a store and performs an action on it.
+// Why a store isn't opened.
+fn unopened(fault: OpenFault) -> Failure
+    ensures { result ≡ unopened_as fault }
+{
+    match fault {
+        OpenFault::Store => Failure::Store,
+        OpenFault::Memory => Failure::Refused(Fault::Memory),
+        OpenFault::JournalInvalid => Failure::JournalInvalid,
+        OpenFault::FolderChanged => Failure::FolderChanged,
+    }
+}
+
+// Whether an action undoes or does again.
+fn is_back(action: &Action) -> bool
+    ensures back { IsTrue result → IsBack (action_of action.now) }
+{
+    matches!(action, Action::Undo | Action::Redo)
+}
+
+// Opens a store and performs an action on it. There is nothing to go back to where the history was dropped.
 fn carry_out<S: FolderStore>(
     alloc: Global,
     store: &mut S,
     action: &Action,
-) -> Result<Steps, Failure>
+) -> Result<Accepted, Failure>
     requires { IsPlain (action_of action.now) }
     ensures honest { S.honest store.old → S.honest store.new }
-    ensures done { S.honest store.old → IfOk result (λ steps. IsDone (action_of action.now) (S.contents store.old) (S.contents store.new) (Done steps)) }
+    ensures done { S.honest store.old → IfOk result (λ accepted. IsDone (action_of action.now) (S.contents store.old) (S.contents store.new) accepted.dropped (Done accepted.steps)) }
     ensures failed { S.honest store.old → IfErr result (IsFailed (action_of action.now) (S.contents store.old) (S.contents store.new) (S.failures store.old) (S.failures store.new)) }
     ensures later { S.failures store.old ≤ S.failures store.new }
 {
-    let mut session = match open_store(alloc, store) {
-        Ok(Started { session, .. }) => session,
-        Err(OpenFault::Store) => return Err(Failure::Store),
-        Err(OpenFault::Memory) => return Err(Failure::Refused(Fault::Memory)),
+    let Started {
+        mut session,
+        dropped,
+    } = match open_store(alloc, store) {
+        Ok(started) => started,
+        Err(fault) => return Err(unopened(fault)),
     };
+    if dropped && is_back(action) {
+        return Err(Failure::FolderChanged);
+    }
     match perform(alloc, store, &mut session, action) {
-        Ok(steps) => Ok(steps),
+        Ok(steps) => Ok(Accepted { steps, dropped }),
         Err(fault) => Err(failure_of(fault)),
     }
 }
@@ -72,7 +103,7 @@ pub fn run<S: FolderStore, O: Write, E: Write>(
         unreachable!()
     };
     match carry_out(alloc, store, action) {
-        Ok(steps) => tell(out, &steps),
+        Ok(accepted) => tell(out, &accepted.steps, accepted.dropped),
         Err(failure) => fail(err, Some(&command), failure),
     }
 }

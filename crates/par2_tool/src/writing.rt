@@ -1,10 +1,11 @@
-//! Changes are written down in a store.
-ghost use Rattle.std.specs.Prelude.{◌≡◌, ◌⊎◌, ◌<◌, ◌≤◌, ℕ, map, take, OnOk, OnErr};
+//! Changes are written down in a store, between two journals.
+ghost use Rattle.std.specs.Prelude.{◌≡◌, ◌⊎◌, ◌<◌, ◌≤◌, ℕ, map, length, take, OnOk, OnErr};
 ghost use Rattle.par2_spec.specs.Stores.{changed};
 ghost use Rattle.par2_folder.specs.Views.{change_of};
-ghost use Rattle.par2_tool.specs.Performed.{all_changed};
+ghost use Rattle.par2_tool.specs.Performed.{all_changed, begun, written_down, IsStoppedAt};
 
 use par2_folder::{Change, FolderStore, StoreFault};
+use par2_journal::Journals;
 
 // Makes one change in a store, by one writing call.
 #[tactic(auto, unfolding(par2_spec::specs::Changes::effect))]
@@ -23,11 +24,11 @@ fn write_change<S: FolderStore>(store: &mut S, change: &Change) -> Result<(), St
     }
 }
 
-/// Makes changes in a store, in order. Where it fails, some of them are made, from the first on.
-pub fn write_changes<S: FolderStore>(store: &mut S, changes: &[Change]) -> Result<(), StoreFault>
+// Makes changes in a store, in order. Where it fails, some of them are made, from the first on.
+fn write_changes<S: FolderStore>(store: &mut S, changes: &[Change]) -> Result<(), StoreFault>
     ensures honest { S.honest store.old → S.honest store.new }
     ensures done { S.honest store.old → OnOk result (S.contents store.new ≡ all_changed (S.contents store.old) (map change_of changes.now)) }
-    ensures stopped { S.honest store.old → OnErr result ((n : ℕ) × (S.contents store.new ≡ all_changed (S.contents store.old) (take n (map change_of changes.now)))) }
+    ensures stopped { S.honest store.old → OnErr result ((n : ℕ) × (n ≤ length changes.now) × (S.contents store.new ≡ all_changed (S.contents store.old) (take n (map change_of changes.now)))) }
     ensures later { S.failures store.old ≤ S.failures store.new }
     ensures cause { OnErr result (S.failures store.old < S.failures store.new) }
 {
@@ -38,4 +39,36 @@ pub fn write_changes<S: FolderStore>(store: &mut S, changes: &[Change]) -> Resul
         }
     }
     Ok(())
+}
+
+// Puts the journal of what is begun, where there is one.
+fn begin<S: FolderStore>(store: &mut S, halfway: &Option<Vec<u8>>) -> Result<(), StoreFault>
+    ensures honest { S.honest store.old → S.honest store.new }
+    ensures done { S.honest store.old → OnOk result (S.contents store.new ≡ begun (S.contents store.old) halfway.now) }
+    ensures stopped { S.honest store.old → OnErr result ((S.contents store.new ≡ S.contents store.old) ⊎ (S.contents store.new ≡ begun (S.contents store.old) halfway.now)) }
+    ensures later { S.failures store.old ≤ S.failures store.new }
+    ensures cause { OnErr result (S.failures store.old < S.failures store.new) }
+{
+    match halfway {
+        Some(text) => store.put_journal(text),
+        None => Ok(()),
+    }
+}
+
+/// Makes changes in a store, in order, between two journals: the halfway one, if there is one, and the one that stands
+/// afterwards.
+pub fn write_down<S: FolderStore>(
+    store: &mut S,
+    journals: &Journals,
+    changes: &[Change],
+) -> Result<(), StoreFault>
+    ensures honest { S.honest store.old → S.honest store.new }
+    ensures done { S.honest store.old → OnOk result (S.contents store.new ≡ written_down (S.contents store.old) journals.now (map change_of changes.now)) }
+    ensures stopped { S.honest store.old → OnErr result (IsStoppedAt (S.contents store.old) journals.now (map change_of changes.now) (S.contents store.new)) }
+    ensures later { S.failures store.old ≤ S.failures store.new }
+    ensures cause { OnErr result (S.failures store.old < S.failures store.new) }
+{
+    begin(store, &journals.halfway)?;
+    write_changes(store, changes)?;
+    store.put_journal(&journals.after)
 }

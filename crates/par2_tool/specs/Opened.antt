@@ -1,0 +1,47 @@
+-- What a store is opened as, or why it isn't.
+use Rattle.std.specs.Prelude.{◌≡◌, ◌⊎◌, ◌≤◌, ℕ, List, length, take, Some, Err, true}
+use Rattle.par2_spec.specs.Changes.{Change}
+use Rattle.par2_spec.specs.Folders.{Folder}
+use Rattle.par2_spec.specs.Journals.{Spells}
+use Rattle.par2_spec.specs.Opening as defined
+use Rattle.par2_spec.specs.Opening.{settled_journal}
+use Rattle.par2_spec.specs.Sessions.{Session, session_of_kept}
+use Rattle.par2_spec.specs.Stores.{Contents, journaled}
+use Rattle.par2_spec.specs.declared.JournalFault.TheVariants as journal
+use Rattle.par2_spec.specs.declared.Version.TheVariants.{Two}
+use Rattle.par2_folder.specs.declared.store.ReadFault.{ReadFault}
+use Rattle.par2_folder.specs.declared.store.ReadFault.TheVariants as read
+use Rattle.par2_tool.specs.Held.{IsOpening}
+use Rattle.par2_tool.specs.Performed.{all_changed}
+use Rattle.par2_tool.specs.declared.opening.OpenFault.{OpenFault}
+use Rattle.par2_tool.specs.declared.opening.OpenFault.TheVariants.{Store, Memory, JournalInvalid, FolderChanged}
+use Rattle.par2_tool.specs.declared.opening.Started.{Started}
+
+abbrev pub started_of : Started → defined.Started
+started_of started = record { session = session_of_kept started.session; dropped = started.dropped }
+
+-- why a store isn't opened, and what it holds then: a journal that is none, a command that was begun in another
+-- folder, want of memory, or a failure of the store
+abbrev pub IsUnopened : Contents → Contents → OpenFault → Type 0
+IsUnopened old new JournalInvalid = IsOpening old (Err journal.JournalInvalid) × (new ≡ old)
+IsUnopened old new FolderChanged = IsOpening old (Err (journal.FolderChanged true)) × (new ≡ old)
+IsUnopened old new Memory = new ≡ old
+IsUnopened old new Store = Unit {0}
+
+abbrev pub unread_as : ReadFault → OpenFault
+unread_as read.Store = Store
+unread_as read.Memory = Memory
+
+-- the contents are those that were read
+abbrev pub IsRead : Contents → Folder → List ℕ → Type 0
+IsRead contents files text = contents ≡ record { files = files; journal = Some text }
+
+-- the changes of the way back are made, and the journal is that of the session
+abbrev pub IsTakenBack : Session → List Change → Contents → Contents → Type 0
+IsTakenBack session back old new =
+    (text : List ℕ) × Spells text (settled_journal Two session) × (new ≡ journaled (all_changed old back) text)
+
+-- some of them are made, from the first on, or all is done
+abbrev pub IsStillBegun : Session → List Change → Contents → Contents → Type 0
+IsStillBegun session back old new =
+    ((n : ℕ) × (n ≤ length back) × (new ≡ all_changed old (take n back))) ⊎ IsTakenBack session back old new
