@@ -1,1 +1,4 @@
 mod Made
+mod Stopping
+mod History
+mod Carried

@@ -4,3 +4,4 @@ pub mod Opened
 pub mod Refused
 pub mod Asked
 pub mod Told
+pub mod Runs

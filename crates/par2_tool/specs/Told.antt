@@ -44,6 +44,11 @@ abbrev pub IsRefusedFor : Action → Contents → Contents → history.Refusal �
 IsRefusedFor action old new refusal =
     (started : Started) × IsOpening old (Ok started) × (changes_asked started.session action ≡ Err refusal) × Holds new started
 
+-- there is nothing to go back to, and no history was dropped
+abbrev pub IsAtTheEnd : Action → Contents → Contents → history.Refusal → Type 0
+IsAtTheEnd action old new refusal =
+    (session : Session) × IsOpening old (Ok (kept session)) × (changes_asked session action ≡ Err refusal) × Holds new (kept session)
+
 abbrev pub IsBack : Action → Type 0
 IsBack (Do command) = ⊥
 IsBack Undo = Unit {0}
@@ -73,8 +78,8 @@ IsStopped action old new =
 abbrev pub IsFailed : Action → Contents → Contents → ℕ → ℕ → Failure → Type 0
 IsFailed action old new before after (failure.Refused reason) =
     ((reason ≡ fault.Memory) × IsLeft old new) ⊎ IsRefusedFor action old new (history.Refused reason)
-IsFailed action old new before after failure.NothingToUndo = IsRefusedFor action old new history.NothingToUndo
-IsFailed action old new before after failure.NothingToRedo = IsRefusedFor action old new history.NothingToRedo
+IsFailed action old new before after failure.NothingToUndo = IsAtTheEnd action old new history.NothingToUndo
+IsFailed action old new before after failure.NothingToRedo = IsAtTheEnd action old new history.NothingToRedo
 IsFailed action old new before after failure.Store = (before < after) × IsStopped action old new
 IsFailed action old new before after failure.Arguments = ⊥
 IsFailed action old new before after failure.JournalInvalid = IsOpening old (Err journal.JournalInvalid) × (new ≡ old)

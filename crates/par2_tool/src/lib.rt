@@ -3,12 +3,14 @@
 #![tactic(auto)]
 
 mod asking;
+mod laws;
 mod opening;
 mod performing;
 mod printing;
 mod running;
 mod writing;
 
+pub use laws::runs_keep_one_history;
 pub use opening::{OpenFault, Started, open_store};
 pub use par2_journal::{Session, SessionFault, Step, Steps};
 pub use par2_spec::{Action, Command, CreateArgs, Failure, Fault};

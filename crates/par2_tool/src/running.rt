@@ -50,6 +50,7 @@ fn unopened(fault: OpenFault) -> Failure
 // Whether an action undoes or does again.
 fn is_back(action: &Action) -> bool
     ensures back { IsTrue result → IsBack (action_of action.now) }
+    ensures all { IsBack (action_of action.now) → IsTrue result }
 {
     matches!(action, Action::Undo | Action::Redo)
 }

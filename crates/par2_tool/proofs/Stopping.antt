@@ -1,0 +1,112 @@
+-- A command that is stopped anywhere leaves a store that opens as before it or after it.
+use Rattle.std.proofs.Common.{◌≡◌, ◌≢◌, ◌⊎◌, inl, inr, ℕ, ◌≤◌, List, [], ◌∷◌, length, take, Option, Some, None, Ok, Vec, true, false, refl, sym, ap, subst, ◌∙◌, arith}
+use Rattle.std.specs.declared.alloc.Global.{Global}
+use Rattle.std.proofs.lemmas.List.{take_all}
+use Rattle.par2_spec.specs.Changes.{Change, effects, takes_all, are_applicable}
+use Rattle.par2_spec.specs.Commands.{Action}
+use Rattle.par2_spec.specs.Folders.{Folder}
+use Rattle.par2_spec.specs.Journals.{Spells}
+use Rattle.par2_spec.specs.Opening.{JournalPair, OpensAs, TellsApart, Started, halfway_where, journals_of, settled_journal}
+use Rattle.par2_spec.specs.Sessions.{Session, KeptSession, CanWalk, OnlyGrew, session_of_kept, session_after, session_with, changes_asked, kept_done, kept_undone, kept_redone}
+use Rattle.par2_spec.specs.Stores.{Contents, journaled}
+use Rattle.par2_spec.specs.declared.Version.TheVariants.{Two}
+use Rattle.par2_spec.proofs.FolderLaws.{state_files, taken_are_applicable}
+use Rattle.par2_spec.proofs.SessionLaws.{done_can_walk, undone_can_walk, redone_can_walk, grown_can_walk, walked_is_valid}
+use Rattle.par2_spec.proofs.StopLaws.{settled_stored, halfway_stored}
+use Rattle.par2_journal.specs.Ready.{Kind, Changing, Undoing, Redoing, Ready, CanBe, IsReady, changes_of, committed, next_of}
+use Rattle.par2_journal.specs.Written.{SpellsWhere, AreSpelled}
+use Rattle.par2_journal.specs.declared.spelling.Journals.{Journals}
+use Rattle.par2_journal.proofs.Acting.{same_session}
+use Rattle.par2_journal.proofs.Spelled.{asked_session, kind_taken}
+use Rattle.par2_tool.specs.Performed.{all_changed, begun, written_down, IsStoppedAt}
+use Rattle.par2_tool.specs.Held.{IsOpening, Holds, kept, OpensAsBeforeOrAfter}
+use Rattle.par2_tool.proofs.Made.{all_changed_is, same_changes}
+
+-- ---- the session afterwards
+
+undone_walks : (s : KeptSession) (entries : List (List Change)) → s.undos ≡ entries → entries ≢ [] → CanWalk s → CanWalk (kept_undone s (next_of entries))
+undone_walks s [] e some walks = absurd (some refl)
+undone_walks s (cs ∷ rest) e some walks = undone_can_walk s cs rest walks e
+
+redone_walks : (s : KeptSession) (entries : List (List Change)) → s.redos ≡ entries → entries ≢ [] → CanWalk s → CanWalk (kept_redone s (next_of entries))
+redone_walks s [] e some walks = absurd (some refl)
+redone_walks s (cs ∷ rest) e some walks = redone_can_walk s cs rest walks e
+
+committed_walks : (kind : Kind) (s : KeptSession) → CanWalk s → CanBe kind s → CanWalk (committed kind s)
+committed_walks (Changing cs) s walks can = done_can_walk s cs walks can.0
+committed_walks Undoing s walks can = undone_walks s s.undos refl can walks
+committed_walks Redoing s walks can = redone_walks s s.redos refl can walks
+
+committed_files : (kind : Kind) (s : KeptSession) → (committed kind s).folder.files ≡ effects s.folder.files (changes_of kind s)
+unfolding kept_done kept_undone kept_redone
+committed_files (Changing cs) s = state_files s.folder cs
+committed_files Undoing s = state_files s.folder (next_of s.undos)
+committed_files Redoing s = state_files s.folder (next_of s.redos)
+
+-- ---- the contents
+
+begun_files : (k : Contents) (halfway : Option (Vec ℕ Global)) → (begun k halfway).files ≡ k.files
+begun_files k None = refl
+begun_files k (Some text) = refl
+
+changed_files : (k : Contents) (halfway : Option (Vec ℕ Global)) (cs : List Change) → (all_changed (begun k halfway) cs).files ≡ effects k.files cs
+changed_files k halfway cs = ap (λ (x : Contents). x.files) (all_changed_is (begun k halfway) cs) ∙ ap (λ f. effects f cs) (begun_files k halfway)
+
+-- however far it came, some of the changes are made
+pub in_order : (k : Contents) (journals : Journals) (cs : List Change) (new : Contents) → IsStoppedAt k journals cs new → (n : ℕ) × (new.files ≡ effects k.files (take n cs))
+unfolding effects
+in_order k journals cs new (inl e) = (0, ap (λ (x : Contents). x.files) e)
+in_order k journals cs new (inr (inl s)) = (s.0, ap (λ (x : Contents). x.files) s.2 ∙ changed_files k journals.halfway (take s.0 cs))
+in_order k journals cs new (inr (inr e)) =
+    (length cs, ap (λ (x : Contents). x.files) e ∙ changed_files k journals.halfway cs ∙ ap (effects k.files) (sym (take_all (length cs) cs (omega arith))))
+
+-- the session's journal opens its folder as the session
+pub settled_holds : (k : Contents) (s : KeptSession) (text : List ℕ) → CanWalk s → Spells text (settled_journal Two (session_of_kept s)) → k.files ≡ s.folder.files → Holds (journaled k text) (kept (session_of_kept s))
+settled_holds k s text walks spells files =
+    record {
+      files = files;
+      opens = subst (λ (f : Folder). OpensAs f (Some text) (Ok (kept (session_of_kept s)))) (sym files) (settled_stored Two (session_of_kept s) text (walked_is_valid s walks) spells);
+    }
+
+module _ (old mid : KeptSession) (action : Action) (ready : Ready) (grew : OnlyGrew old mid) (is : IsReady action old ready mid) (walks : CanWalk old) (journals : Journals)
+    (spelled : AreSpelled journals (journals_of Two (session_of_kept mid) action (changes_of ready.kind mid))) (k : Contents) (files : k.files ≡ old.folder.files) where
+  cs : List Change
+  cs = changes_of ready.kind mid
+
+  mid_walks : CanWalk mid
+  mid_walks = grown_can_walk old mid walks grew
+
+  after_spelled : Spells journals.after.items (settled_journal Two (session_of_kept (committed ready.kind mid)))
+  unfolding journals_of
+  after_spelled = subst (λ (s : Session). Spells journals.after.items (settled_journal Two s)) (sym (asked_session action old mid ready grew is)) spelled.1
+
+  halfway_spelled : SpellsWhere journals.halfway (halfway_where Two (session_of_kept mid) (changes_of ready.kind mid))
+  unfolding journals_of
+  halfway_spelled = spelled.0
+
+  pub written_holds : Holds (written_down k journals (changes_of ready.kind mid)) (kept (session_of_kept (committed ready.kind mid)))
+  written_holds =
+      settled_holds (all_changed (begun k journals.halfway) (changes_of ready.kind mid)) (committed ready.kind mid) journals.after.items (committed_walks ready.kind mid mid_walks is.fits.can) after_spelled
+      (changed_files k journals.halfway (changes_of ready.kind mid) ∙ ap (λ f. effects f (changes_of ready.kind mid)) (files ∙ sym grew.files) ∙ sym (committed_files ready.kind mid))
+
+  -- behind some of the changes
+  passed_opens : (halfway : Option (Vec ℕ Global)) (changes : List Change) (n : ℕ) → SpellsWhere halfway (halfway_where Two (session_of_kept mid) changes) → takes_all mid.folder changes ≡ true → TellsApart mid.folder.files changes → n ≤ length changes
+      → (all_changed (begun k halfway) (take n changes) ≡ k) ⊎ IsOpening (all_changed (begun k halfway) (take n changes)) (Ok (kept (session_of_kept mid)))
+  passed_opens None [] n spells taken apart le = inl (ap (all_changed k) (take_all n [] (omega arith)))
+  passed_opens None (c ∷ rest) n spells taken apart le = absurd spells
+  passed_opens (Some text) [] n spells taken apart le = absurd spells
+  passed_opens (Some text) (c ∷ rest) n spells taken apart le =
+      let s = session_of_kept mid in
+      let opens = halfway_stored Two s (c ∷ rest) n text.items (walked_is_valid mid mid_walks) (taken_are_applicable mid.folder (c ∷ rest) taken) apart le spells in
+      let is_there = all_changed_is (journaled k text.items) (take n (c ∷ rest)) ∙ ap (λ f. record { files = effects f (take n (c ∷ rest)); journal = Some text.items }) (files ∙ sym grew.files) in
+      inr (subst (λ (x : Contents). IsOpening x (Ok (kept s))) (sym is_there) opens)
+
+  pub stopped_opens : (new : Contents) → IsStoppedAt k journals (changes_of ready.kind mid) new → TellsApart mid.folder.files (changes_of ready.kind mid) → OpensAsBeforeOrAfter (session_of_kept old) action k new
+  stopped_opens new (inl e) apart = inl e
+  stopped_opens new (inr (inl s)) apart =
+      elim (passed_opens journals.halfway (changes_of ready.kind mid) s.0 halfway_spelled (kind_taken ready.kind mid mid_walks is.fits.can) apart s.1) as (λ _. OpensAsBeforeOrAfter (session_of_kept old) action k new) [
+        | inl none ↦ inl (s.2 ∙ none)
+        | inr opens ↦ inr (inl (subst (λ (t : Session). IsOpening new (Ok (kept t))) (same_session old mid grew) (subst (λ (x : Contents). IsOpening x (Ok (kept (session_of_kept mid)))) (sym s.2) opens)))
+      ]
+  stopped_opens new (inr (inr e)) apart =
+      inr (inr (session_of_kept (committed ready.kind mid), is.leads, subst (λ (x : Contents). Holds x (kept (session_of_kept (committed ready.kind mid)))) (sym e) written_holds))
