@@ -30,6 +30,12 @@ same_changes old mid (Changing changes) grew = refl
 same_changes old mid Undoing grew = ap next_of (sym grew.undos)
 same_changes old mid Redoing grew = ap next_of (sym grew.redos)
 
+-- changes that are made one after the other are made in the folder alone
+pub all_changed_is : (k : Contents) (cs : List defined.Change) → all_changed k cs ≡ record { files = defined.effects k.files cs; journal = k.journal }
+unfolding defined.effects
+all_changed_is k [] = refl
+all_changed_is k (c ∷ cs) = all_changed_is (changed k c) cs
+
 -- a session that was opened
 pub is_new : (s : KeptSession) (f : Folder) → s.folder.files ≡ f → s.undos ≡ [] → s.redos ≡ [] → session_of_kept s ≡ new_session f
 is_new s f files undos redos = λ i. record { folder = files i; undos = undos i; redos = redos i }
