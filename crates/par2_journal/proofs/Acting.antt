@@ -71,7 +71,7 @@ pub redo_refused : (s : KeptSession) → s.redos ≡ [] → MayBeRefused (histor
 redo_refused s none = subst (λ (r : Result History Refusal). IsErr r) (sym (refused_alike (session_of_kept s) Redo NothingToRedo (no_redo s none))) refl
 
 -- the history goes along
-leads_asked : (s : Session) (action : Action) → IsPlain action → (t : Session) → is_valid s ≡ true → session_after s action ≡ Ok t → history_after (history_of s) action ≡ Ok (history_of t)
+pub leads_asked : (s : Session) (action : Action) → IsPlain action → (t : Session) → is_valid s ≡ true → session_after s action ≡ Ok t → history_after (history_of s) action ≡ Ok (history_of t)
 leads_asked s (Do (Create a)) plain t valid h = (accepted_next s t (Do (Create a)) valid (λ _. command_leads s.folder (Create a) tt) h).0
 leads_asked s (Do (Verify base extras)) plain t valid h = absurd plain
 leads_asked s (Do (Repair base extras purge)) plain t valid h = absurd plain

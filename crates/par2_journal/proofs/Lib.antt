@@ -1,8 +1,8 @@
 mod Entries
 mod Turned
 mod Asked
-mod Acting
-mod Spelled
+pub mod Acting
+pub mod Spelled
 mod Each
 mod Ways
 mod Tried

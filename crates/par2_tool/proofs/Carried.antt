@@ -18,7 +18,7 @@ use Rattle.par2_tool.specs.Opened.{IsUnopened}
 use Rattle.par2_tool.specs.Refused.{IsRefused, IsSession, failed, unopened_as}
 use Rattle.par2_tool.specs.Told.{IsBack, IsFailed, IsAtTheEnd, IsStopped, OpensAsBeforeOrAfterRun}
 use Rattle.par2_tool.specs.declared.opening.OpenFault.{OpenFault}
-use Rattle.par2_tool.specs.declared.opening.OpenFault.TheVariants as open
+use Rattle.par2_tool.specs.declared.opening.OpenFault.TheVariants as unopened
 use Rattle.par2_tool.specs.declared.performing.PerformFault.{PerformFault}
 use Rattle.par2_tool.specs.declared.performing.PerformFault.TheVariants.{Session as Refusing, Store}
 
@@ -92,12 +92,12 @@ module _ (action : Action) (old mid new : Contents) (before middle after : ℕ) 
       all_stops (inl e) = inr (record { session = session_of_kept s; dropped = dropped }, opening, inl (unchanged e).opens)
       all_stops (inr stop) = inr (record { session = session_of_kept s; dropped = dropped }, opening, inr stop)
 
-pub opening_failed : (action : Action) (old new : Contents) (before after : ℕ) (fault : OpenFault) → IsUnopened old new fault → (fault ≡ open.Store → before < after)
+pub opening_failed : (action : Action) (old new : Contents) (before after : ℕ) (fault : OpenFault) → IsUnopened old new fault → (fault ≡ unopened.Store → before < after)
     → (TellsApartBack old → OpensAsBefore old new) → IsFailed action old new before after (unopened_as fault)
-opening_failed action old new before after open.JournalInvalid is rose stopped = is
-opening_failed action old new before after open.FolderChanged is rose stopped = inl is
-opening_failed action old new before after open.Memory is rose stopped = inl (refl, inl is)
-opening_failed action old new before after open.Store is rose stopped = (rose refl, λ back _. all_stops (stopped back))
+opening_failed action old new before after unopened.JournalInvalid is rose stopped = is
+opening_failed action old new before after unopened.FolderChanged is rose stopped = inl is
+opening_failed action old new before after unopened.Memory is rose stopped = inl (refl, inl is)
+opening_failed action old new before after unopened.Store is rose stopped = (rose refl, λ back _. all_stops (stopped back))
   where
     all_stops : OpensAsBefore old new → OpensAsBeforeOrAfterRun action old new
     all_stops (inl e) = inl e

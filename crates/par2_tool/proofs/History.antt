@@ -15,14 +15,15 @@ use Rattle.par2_spec.specs.Stores.{Contents}
 use Rattle.par2_spec.specs.declared.JournalFault.{JournalFault}
 use Rattle.par2_spec.specs.declared.JournalFault.TheVariants.{JournalInvalid, FolderChanged, Memory}
 use Rattle.par2_spec.proofs.NamesLaws.{false_true}
-use Rattle.par2_spec.proofs.AcceptedCommands.{command_leads}
-use Rattle.par2_spec.proofs.SessionLaws.{accepted_next, refused_alike}
+use Rattle.par2_spec.proofs.SessionLaws.{refused_alike}
 use Rattle.par2_spec.proofs.StopLaws.{taken_back_leads}
 use Rattle.par2_journal.specs.Plain.{IsPlain}
+use Rattle.par2_journal.proofs.Acting.{leads_asked}
 use Rattle.par2_journal_bytes.proofs.Whole.{one_reading}
 use Rattle.par2_tool.specs.Held.{IsOpening, Holds, kept}
 use Rattle.par2_tool.specs.Told.{IsDone, IsRefusedFor}
 use Rattle.par2_tool.specs.Runs.{Runs, Ended, Accepted, Passed}
+use Rattle.par2_tool.proofs.Reopened.{settled_on, begun_by}
 
 -- ---- a store opens in one way
 
@@ -47,67 +48,13 @@ one_start folder (Some text) a b p q =
 
 -- ---- and as a session whose entries lead
 
-is_settled : Result Opened JournalFault → Bool
-is_settled (Ok (Settled s)) = true
-is_settled (Ok (ToTakeBack s back)) = false
-is_settled (Err fault) = false
-
-settled_session : Session → Result Opened JournalFault → Session
-settled_session d (Ok (Settled s)) = s
-settled_session d (Ok (ToTakeBack s back)) = s
-settled_session d (Err fault) = d
-
-not_settled : (x : Result Opened JournalFault) (s : Session) → is_settled x ≡ false → x ≡ Ok (Settled s) → ⊥
-unfolding is_settled
-not_settled x s no e = false_true (sym no ∙ ap is_settled e)
-
-settled_if : (valid : Bool) (t s : Session) → valid ≡ is_valid t → (if valid then Ok (Settled t) else Err JournalInvalid) ≡ Ok (Settled s) → (s ≡ t) × (is_valid t ≡ true)
-unfolding is_settled settled_session
-settled_if false t s is e = absurd (not_settled (Err JournalInvalid) s refl e)
-settled_if true t s is e = (ap (settled_session t) (sym e), sym is)
-
-settled_where : (same : Bool) (t s : Session) → (if not same then Err (FolderChanged false) else if is_valid t then Ok (Settled t) else Err JournalInvalid) ≡ Ok (Settled s) → (s ≡ t) × (is_valid t ≡ true)
-unfolding is_settled
-settled_where false t s e = absurd (not_settled (Err (FolderChanged false)) s refl e)
-settled_where true t s e = settled_if (is_valid t) t s refl e
-
-begun_if : (b : Bool) (t : Session) (back : List Change) (s : Session) → (if b then Ok (ToTakeBack t back) else Err JournalInvalid) ≡ Ok (Settled s) → ⊥
-unfolding is_settled
-begun_if false t back s e = not_settled (Err JournalInvalid) s refl e
-begun_if true t back s e = not_settled (Ok (ToTakeBack t back)) s refl e
-
-begun_at : (folder : Folder) (j : Journal) (h : Halfway) (place : Option ℕ) (s : Session) → opened_at folder j h place ≡ Ok (Settled s) → ⊥
-unfolding is_settled taken_back
-begun_at folder j h None s e = not_settled (Err (FolderChanged true)) s refl e
-begun_at folder j h (Some k) s e =
-    let back = drop (length h.back - k) h.back in
-    let t = session_of (effects folder back) j in
-    begun_if (leads_through folder back (reverse (take k (j.fingerprint ∷ h.fingerprints))) && is_valid t) t back s e
-
-settled_by : (folder : Folder) (j : Journal) (h : Option Halfway) (s : Session) → opened_by folder j h ≡ Ok (Settled s) → (s.folder ≡ folder) × (is_valid s ≡ true)
-settled_by folder j None s e =
-    let r = settled_where (bytes_eq (fingerprint folder) j.fingerprint) (session_of folder j) s e in
-    (ap (λ (t : Session). t.folder) r.0, ap is_valid r.0 ∙ r.1)
-settled_by folder j (Some h) s e = absurd (begun_at folder j h (position (bytes_eq (fingerprint folder)) (j.fingerprint ∷ h.fingerprints)) s e)
-
--- a folder that opens as settled is the session's, and its entries lead
-pub settled_leads : (folder : Folder) (text : List ℕ) (s : Session) → Opens folder text (Ok (Settled s)) → (s.folder ≡ folder) × (is_valid s ≡ true)
-unfolding Opens opened
-settled_leads folder text s (inl p) = settled_by folder p.0 p.0.halfway s (sym p.2)
-settled_leads folder text s (inr p) = absurd (ok_no_err (Settled s) JournalInvalid p.1)
-
-begun_leads : (folder : Folder) (text : List ℕ) (s : Session) (back : List Change) → Opens folder text (Ok (ToTakeBack s back)) → is_valid s ≡ true
-unfolding Opens
-begun_leads folder text s back (inl p) = (taken_back_leads p.0 folder s back (sym p.2)).2
-begun_leads folder text s back (inr p) = absurd (ok_no_err (ToTakeBack s back) JournalInvalid p.1)
-
 new_leads : (folder : Folder) → is_valid (new_session folder) ≡ true
 unfolding leads
 new_leads folder = refl
 
 started_leads : (folder : Folder) (text : List ℕ) (o : Result Opened JournalFault) (a : Started) → Opens folder text o → Ok a ≡ started folder o → is_valid a.session ≡ true
-started_leads folder text (Ok (Settled s)) a opens e = ap (λ (x : Started). is_valid x.session) (same_ok a _ e) ∙ (settled_leads folder text s opens).1
-started_leads folder text (Ok (ToTakeBack s back)) a opens e = ap (λ (x : Started). is_valid x.session) (same_ok a _ e) ∙ begun_leads folder text s back opens
+started_leads folder text (Ok (Settled s)) a opens e = ap (λ (x : Started). is_valid x.session) (same_ok a _ e) ∙ (settled_on folder text s opens).1
+started_leads folder text (Ok (ToTakeBack s back)) a opens e = ap (λ (x : Started). is_valid x.session) (same_ok a _ e) ∙ (let by = begun_by folder text s back opens in (taken_back_leads by.0 folder s back by.2).2)
 started_leads folder text (Err (FolderChanged false)) a opens e = ap (λ (x : Started). is_valid x.session) (same_ok a _ e) ∙ new_leads folder
 started_leads folder text (Err (FolderChanged true)) a opens e = absurd (ok_no_err a (FolderChanged true) e)
 started_leads folder text (Err JournalInvalid) a opens e = absurd (ok_no_err a JournalInvalid e)
@@ -119,14 +66,6 @@ start_leads folder None a e = ap (λ (x : Started). is_valid x.session) (same_ok
 start_leads folder (Some text) a p = started_leads folder text p.0 a p.1 p.2
 
 -- ---- one action
-
-accepted_leads : (s t : Session) (action : Action) → IsPlain action → is_valid s ≡ true → session_after s action ≡ Ok t → history_after (history_of s) action ≡ Ok (history_of t)
-accepted_leads s t (Do (Create a)) plain valid h = (accepted_next s t (Do (Create a)) valid (λ _. command_leads s.folder (Create a) tt) h).0
-accepted_leads s t (Do (Verify base extras)) plain valid h = absurd plain
-accepted_leads s t (Do (Repair base extras purge)) plain valid h = absurd plain
-accepted_leads s t (Do (Purge base)) plain valid h = absurd plain
-accepted_leads s t Undo plain valid h = (accepted_next s t Undo valid tt h).0
-accepted_leads s t Redo plain valid h = (accepted_next s t Redo valid tt h).0
 
 refused_after : (s : Session) (action : Action) (reason : Refusal) → changes_asked s action ≡ Err reason → history_after (history_of s) action ≡ Err reason
 unfolding session_after
@@ -144,7 +83,7 @@ pub runs_go : (old new : Contents) (started : Started) (actions : List Action) (
 runs_go old new started [] n holds plain Ended = (started, history.Ended, holds)
 runs_go old new started (action ∷ actions) n holds plain (Accepted done rest) =
     let same : started.session ≡ done.session = ap (λ (x : Started). x.session) (one_start old.files old.journal started _ holds.opens done.opened) in
-    let leads = accepted_leads done.session done.after action plain.0 (start_leads old.files old.journal _ done.opened) done.leads in
+    let leads = leads_asked done.session action plain.0 done.after (start_leads old.files old.journal _ done.opened) done.leads in
     let later = runs_go _ new (kept done.after) actions _ done.holds plain.1 rest in
     (later.0, history.Accepted (ap (λ s. history_after (history_of s) action) same ∙ leads) later.1, later.2)
 runs_go old new started (action ∷ actions) n holds plain (Passed refused rest) =

@@ -1,4 +1,5 @@
 mod Made
+mod Reopened
 mod Stopping
-mod History
 mod Carried
+mod History

@@ -6,7 +6,9 @@ use Rattle.par2_spec.specs.Changes as defined
 use Rattle.par2_spec.specs.Stores.{Contents, changed}
 use Rattle.par2_folder.specs.declared.change.Change.{Change}
 use Rattle.par2_folder.specs.Views.{change_of}
-use Rattle.par2_spec.specs.Sessions.{KeptSession, OnlyGrew}
+use Rattle.par2_spec.specs.Folders.{Folder}
+use Rattle.par2_spec.specs.Sessions.{KeptSession, OnlyGrew, session_of_kept}
+use Rattle.par2_spec.specs.Opening.{new_session}
 use Rattle.par2_journal.specs.Ready.{Kind, Changing, Undoing, Redoing, changes_of, next_of}
 use Rattle.par2_tool.specs.Performed.{all_changed}
 
@@ -14,6 +16,7 @@ changed_more : (k : Contents) (cs : List defined.Change) (c : defined.Change) �
 changed_more k [] c = refl
 changed_more k (d ∷ cs) c = changed_more (changed k d) cs c
 
+-- changes that are made one after the other are made in the folder alone
 pub all_changed_is : (k : Contents) (cs : List defined.Change) → all_changed k cs ≡ record { files = defined.effects k.files cs; journal = k.journal }
 unfolding defined.effects
 all_changed_is k [] = refl
@@ -32,3 +35,7 @@ pub same_changes : (old mid : KeptSession) (kind : Kind) → OnlyGrew old mid �
 same_changes old mid (Changing changes) grew = refl
 same_changes old mid Undoing grew = ap next_of (sym grew.undos)
 same_changes old mid Redoing grew = ap next_of (sym grew.redos)
+
+-- a session that was opened
+pub is_new : (s : KeptSession) (f : Folder) → s.folder.files ≡ f → s.undos ≡ [] → s.redos ≡ [] → session_of_kept s ≡ new_session f
+is_new s f files undos redos = λ i. record { folder = files i; undos = undos i; redos = redos i }

@@ -10,7 +10,7 @@ use Rattle.par2_tool.specs.declared.performing.PerformFault.{PerformFault}
 use Rattle.par2_spec.specs.declared.Fault.TheVariants.{Memory}
 use Rattle.par2_tool.specs.declared.performing.PerformFault.TheVariants.{Session, Store}
 use Rattle.par2_tool.specs.declared.opening.OpenFault.{OpenFault}
-use Rattle.par2_tool.specs.declared.opening.OpenFault.TheVariants as open
+use Rattle.par2_tool.specs.declared.opening.OpenFault.TheVariants as unopened
 
 -- the session refuses for the cause that the definitions name or for want of memory, and stays as it was; or the
 -- store failed
@@ -31,7 +31,7 @@ failed Store = failure.Store
 
 -- what is told of a store that can't be opened
 abbrev pub unopened_as : OpenFault → Failure
-unopened_as open.Store = failure.Store
-unopened_as open.Memory = failure.Refused Memory
-unopened_as open.JournalInvalid = failure.JournalInvalid
-unopened_as open.FolderChanged = failure.FolderChanged
+unopened_as unopened.Store = failure.Store
+unopened_as unopened.Memory = failure.Refused Memory
+unopened_as unopened.JournalInvalid = failure.JournalInvalid
+unopened_as unopened.FolderChanged = failure.FolderChanged

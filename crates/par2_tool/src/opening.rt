@@ -88,25 +88,26 @@ fn open_with<S: FolderStore>(
     ensures later { S.failures store.old ≤ S.failures store.new }
     ensures cause { IsErrOf result OpenFault.Store → S.failures store.old < S.failures store.new }
 {
-    let session = match Session::open(alloc, folder, text) {
-        Ok(Opened::Settled(session)) => session,
-        Ok(Opened::Begun(halfway)) => take_back(alloc, store, halfway)?,
-        Err((JournalFault::FolderChanged { halfway: false }, folder)) => {
-            return Ok(Started {
-                session: Session::new(alloc, folder),
-                dropped: true,
-            });
+    match Session::open(alloc, folder, text) {
+        Ok(Opened::Settled(session)) => Ok(Started {
+            session,
+            dropped: false,
+        }),
+        Ok(Opened::Begun(halfway)) => {
+            let session = take_back(alloc, store, halfway)?;
+            Ok(Started {
+                session,
+                dropped: false,
+            })
         }
-        Err((JournalFault::FolderChanged { halfway: true }, _)) => {
-            return Err(OpenFault::FolderChanged);
-        }
-        Err((JournalFault::JournalInvalid, _)) => return Err(OpenFault::JournalInvalid),
-        Err((JournalFault::Memory, _)) => return Err(OpenFault::Memory),
-    };
-    Ok(Started {
-        session,
-        dropped: false,
-    })
+        Err((JournalFault::FolderChanged { halfway: false }, folder)) => Ok(Started {
+            session: Session::new(alloc, folder),
+            dropped: true,
+        }),
+        Err((JournalFault::FolderChanged { halfway: true }, _)) => Err(OpenFault::FolderChanged),
+        Err((JournalFault::JournalInvalid, _)) => Err(OpenFault::JournalInvalid),
+        Err((JournalFault::Memory, _)) => Err(OpenFault::Memory),
+    }
 }
 
 /// Opens a store as a session: its names, files and journal are read, and a command that was begun is taken back.

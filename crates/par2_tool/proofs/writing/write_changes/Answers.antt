@@ -1,4 +1,4 @@
-use Rattle.std.proofs.Common.{◌≡◌, inl, inr, ◌+◌, ℕ, map, take, sym, ap, ◌∙◌, arith}
+use Rattle.std.proofs.Common.{◌≡◌, inl, inr, ◌+◌, ◌≤◌, ℕ, map, length, take, sym, ap, ◌∙◌, arith}
 use Rattle.std.proofs.lemmas.List.{take-map}
 use Rattle.par2_spec.specs.Stores.{Contents, changed}
 use Rattle.par2_folder.specs.Views.{change_of}
@@ -15,10 +15,11 @@ returns-in-Err-clause-stopped g c honest =
     let start = g.S.FolderStore.contents c.args.store.now in
     let now = g.S.FolderStore.contents c.write_change.new.store in
     let made = held.made honest in
-    elim (c.in-Err.ensures.stopped (held.honest honest)) as (λ _. (n : ℕ) × (now ≡ all_changed start (take n (map change_of changes)))) [
-      | inl none ↦ (i, none ∙ made ∙ ap (all_changed start) (sym (take-map change_of i changes)))
+    elim (c.in-Err.ensures.stopped (held.honest honest)) as (λ _. (n : ℕ) × (n ≤ length changes) × (now ≡ all_changed start (take n (map change_of changes)))) [
+      | inl none ↦ (i, omega (arith, c.loop-change-test.true), none ∙ made ∙ ap (all_changed start) (sym (take-map change_of i changes)))
       | inr one ↦ (
         i + 1,
+        omega (arith, c.loop-change-test.true),
         one
             ∙ ap (λ (k : Contents). changed k (change_of item)) made
             ∙ made_next start changes i item c.loop-change-test.true c.change-item.is
