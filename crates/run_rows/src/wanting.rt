@@ -1,25 +1,32 @@
-//! A store that has memory for some reading calls alone.
+//! Runs on a store that has memory for some reading calls alone.
 ghost use Rattle.std.specs.Prelude.{◌≡◌};
 
+use crate::rows::{CREATE, show, told, two_files};
+use anyhow::Result;
 use par2_folder::{FolderStore, MemoryStore, Name, ReadFault, StoreFault};
 use std::alloc::Global;
 
-/// A store in memory whose first reading calls have memory, and whose later ones want it. Nothing is promised of its
-/// contents, since it wants memory for a name that no file has, too.
+// More reading calls than a run below makes of its store.
+const MANY_CALLS: u64 = 20;
+
+const OUT_OF_MEMORY: u8 = 8;
+
+// A store in memory whose first reading calls have memory, and whose later ones want it. Nothing is promised of its
+// contents, since it wants memory for a name that no file has, too.
 #[derive(Debug, Drop)]
-pub struct WantingStore {
+struct WantingStore {
     inner: MemoryStore,
     left: u64,
 }
 
 impl WantingStore {
-    /// The store passes `k` reading calls on.
-    pub fn new(inner: MemoryStore, k: u64) -> WantingStore {
+    // The store passes `k` reading calls on.
+    fn new(inner: MemoryStore, k: u64) -> WantingStore {
         WantingStore { inner, left: k }
     }
 
-    /// The other store, as it stands.
-    pub fn into_inner(self) -> MemoryStore {
+    // The other store, as it stands.
+    fn into_inner(self) -> MemoryStore {
         self.inner
     }
 
@@ -82,4 +89,24 @@ impl FolderStore for WantingStore {
     fn put_journal(&mut self, bytes: &[u8]) -> Result<(), StoreFault> {
         self.inner.put_journal(bytes)
     }
+}
+
+// The store wants memory from each of its reading calls on in turn.
+fn wanting(rt: &HostRuntime, line: &str) -> Result<()> {
+    for passed in 0..MANY_CALLS {
+        println!(rt; "{passed} reading calls, then want of memory")?;
+        let mut store = WantingStore::new(two_files(rt.alloc())?, passed);
+        let status = told(rt, &mut store, line)?;
+        show(rt, &mut store.into_inner())?;
+        if status != OUT_OF_MEMORY {
+            break;
+        }
+    }
+    Ok(())
+}
+
+/// A create and a redo that want memory.
+pub fn wanting_stores(rt: &HostRuntime) -> Result<()> {
+    wanting(rt, CREATE)?;
+    wanting(rt, "redo")
 }

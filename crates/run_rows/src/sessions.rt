@@ -1,0 +1,73 @@
+//! Actions that are performed on one session.
+ghost use Rattle.par2_spec.specs.Views.{action_of};
+ghost use Rattle.par2_journal.specs.Plain.{IsPlain};
+
+use crate::rows::{one_file, row, show};
+use anyhow::Result;
+use par2_folder::{FolderStore, FuseStore};
+use par2_tool::{Action, CreateArgs, Session, open_store, perform};
+
+// The calls of an opening over one file, of a create, of showing what the store holds then, and of the undo's first
+// journal.
+const CALLS_BEFORE_REMOVAL: u64 = 11;
+
+// Performs an action, and prints what comes of it.
+fn step<S: FolderStore>(
+    rt: &HostRuntime,
+    store: &mut S,
+    session: &mut Session,
+    action: &Action,
+) -> Result<()>
+    requires { IsPlain (action_of action.now) }
+{
+    match perform(rt.alloc(), store, session, action) {
+        Ok(steps) => println!(rt; "performed: {}", steps.len())?,
+        Err(fault) => println!(rt; "refused: {fault:?}")?,
+    }
+    println!(rt;
+        "  undos {}, redos {}",
+        session.undo_depth(),
+        session.redo_depth()
+    )?;
+    show(rt, store)
+}
+
+// Opens a store, and performs a create and two undos.
+fn create_then_undo<S: FolderStore>(rt: &HostRuntime, store: &mut S) -> Result<()> {
+    let alloc = rt.alloc();
+    let started = open_store(alloc, store)?;
+    println!(rt; "history dropped: {}", started.dropped)?;
+    let mut session = started.session;
+    let create = Action::Create(CreateArgs {
+        slice: 4,
+        count: 0,
+        first: 0,
+        base: String::from_str(alloc, "t.par2")?,
+        inputs: vec![in alloc; String::from_str(alloc, "a")?]?,
+        overwrite: false,
+    });
+    step(rt, store, &mut session, &create)?;
+    step(rt, store, &mut session, &Action::Undo)?;
+    step(rt, store, &mut session, &Action::Undo)
+}
+
+/// A create and two undos, the second of which has nothing to undo.
+pub fn session_on_a_store(rt: &HostRuntime) -> Result<()> {
+    println!(rt; "one session")?;
+    create_then_undo(rt, &mut one_file(rt.alloc())?)
+}
+
+/// The store fails at the call by which the first undo takes the index away, and the session stays as it was. The next
+/// run takes back what was begun, and undoes.
+pub fn undo_that_fails(rt: &HostRuntime) -> Result<()> {
+    for works in [false, true] {
+        println!(rt; "a failure at an undo, work done first: {works}")?;
+        let mut store = FuseStore::new(one_file(rt.alloc())?, CALLS_BEFORE_REMOVAL, works);
+        create_then_undo(rt, &mut store)?;
+        println!(rt; "afterwards")?;
+        let mut left = store.into_inner();
+        show(rt, &mut left)?;
+        let _status = row(rt, &mut left, "undo")?;
+    }
+    Ok(())
+}
