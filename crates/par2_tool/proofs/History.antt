@@ -9,7 +9,7 @@ use Rattle.par2_spec.specs.Folders.{Folder, fingerprint}
 use Rattle.par2_spec.specs.History.{History, Refusal, MayBeRefused, Run, history_after}
 use Rattle.par2_spec.specs.History as history
 use Rattle.par2_spec.specs.Journals.{Journal, Halfway, Spells}
-use Rattle.par2_spec.specs.Opening.{Opened, Settled, ToTakeBack, Started, OpensAs, Opens, opened, opened_by, opened_at, taken_back, session_of, new_session, is_valid, leads, leads_through, started}
+use Rattle.par2_spec.specs.Opening.{Opened, Settled, ToTakeBack, Started, OpensAs, Opens, opened, new_session, is_valid, leads, started}
 use Rattle.par2_spec.specs.Sessions.{Session, history_of, session_after, changes_asked, applied}
 use Rattle.par2_spec.specs.Stores.{Contents}
 use Rattle.par2_spec.specs.declared.JournalFault.{JournalFault}

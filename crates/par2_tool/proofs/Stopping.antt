@@ -1,5 +1,6 @@
 -- A command that is stopped anywhere leaves a store that opens as before it or after it.
-use Rattle.std.proofs.Common.{◌≡◌, ◌≢◌, ◌⊎◌, inl, inr, ℕ, ◌≤◌, List, [], ◌∷◌, length, take, Option, Some, None, Ok, Vec, true, false, refl, sym, ap, subst, ◌∙◌, arith}
+use Rattle.std.proofs.Common.{◌≡◌, ◌≢◌, ◌⊎◌, inl, inr, ℕ, ◌≤◌, List, [], ◌∷◌, length, take, Option, Some, None, Result, Ok, Err, Vec, true, refl, sym, ap, subst, ◌∙◌, arith}
+use Rattle.std.specs.Prelude.{IfOk}
 use Rattle.std.specs.declared.alloc.Global.{Global}
 use Rattle.std.proofs.lemmas.List.{take_all}
 use Rattle.par2_spec.specs.Changes.{Change, effects, takes_all, are_applicable}
@@ -19,7 +20,7 @@ use Rattle.par2_journal.specs.declared.spelling.Journals.{Journals}
 use Rattle.par2_journal.proofs.Acting.{same_session}
 use Rattle.par2_journal.proofs.Spelled.{asked_session, kind_taken}
 use Rattle.par2_tool.specs.Performed.{all_changed, begun, written_down, IsStoppedAt}
-use Rattle.par2_tool.specs.Held.{IsOpening, Holds, kept, OpensAsBeforeOrAfter}
+use Rattle.par2_tool.specs.Held.{IsOpening, Holds, kept, TellsApartAlong, OpensAsBeforeOrAfter}
 use Rattle.par2_tool.proofs.Made.{all_changed_is, same_changes}
 
 -- ---- the session afterwards
@@ -53,12 +54,17 @@ changed_files : (k : Contents) (halfway : Option (Vec ℕ Global)) (cs : List Ch
 changed_files k halfway cs = ap (λ (x : Contents). x.files) (all_changed_is (begun k halfway) cs) ∙ ap (λ f. effects f cs) (begun_files k halfway)
 
 -- however far it came, some of the changes are made
-pub in_order : (k : Contents) (journals : Journals) (cs : List Change) (new : Contents) → IsStoppedAt k journals cs new → (n : ℕ) × (new.files ≡ effects k.files (take n cs))
+in_order : (k : Contents) (journals : Journals) (cs : List Change) (new : Contents) → IsStoppedAt k journals cs new → (n : ℕ) × (new.files ≡ effects k.files (take n cs))
 unfolding effects
 in_order k journals cs new (inl e) = (0, ap (λ (x : Contents). x.files) e)
 in_order k journals cs new (inr (inl s)) = (s.0, ap (λ (x : Contents). x.files) s.2 ∙ changed_files k journals.halfway (take s.0 cs))
 in_order k journals cs new (inr (inr e)) =
     (length cs, ap (λ (x : Contents). x.files) e ∙ changed_files k journals.halfway cs ∙ ap (effects k.files) (sym (take_all (length cs) cs (omega arith))))
+
+pub none_made : {F : Type 0} (folder : Folder) (asked : Result (List Change) F) → IfOk asked (λ changes. (n : ℕ) × (folder ≡ effects folder (take n changes)))
+unfolding effects
+none_made folder (Ok cs) = (0, refl)
+none_made folder (Err fault) = tt
 
 -- the session's journal opens its folder as the session
 pub settled_holds : (k : Contents) (s : KeptSession) (text : List ℕ) → CanWalk s → Spells text (settled_journal Two (session_of_kept s)) → k.files ≡ s.folder.files → Holds (journaled k text) (kept (session_of_kept s))
@@ -67,6 +73,15 @@ settled_holds k s text walks spells files =
       files = files;
       opens = subst (λ (f : Folder). OpensAs f (Some text) (Ok (kept (session_of_kept s)))) (sym files) (settled_stored Two (session_of_kept s) text (walked_is_valid s walks) spells);
     }
+
+-- what was made ready applies the changes that the action asks for
+asked_of_mid : (old mid : KeptSession) (action : Action) (ready : Ready) → OnlyGrew old mid → IsReady action old ready mid → changes_asked (session_of_kept old) action ≡ Ok (changes_of ready.kind mid)
+asked_of_mid old mid action ready grew is = is.asked ∙ ap Ok (same_changes old mid ready.kind grew)
+
+pub asked_in_order : (old mid : KeptSession) (action : Action) (ready : Ready) → OnlyGrew old mid → IsReady action old ready mid → (k : Contents) (journals : Journals) (new : Contents) → IsStoppedAt k journals (changes_of ready.kind mid) new
+    → IfOk (changes_asked (session_of_kept old) action) (λ changes. (n : ℕ) × (new.files ≡ effects k.files (take n changes)))
+asked_in_order old mid action ready grew is k journals new stop =
+    subst (λ r. IfOk r (λ changes. (n : ℕ) × (new.files ≡ effects k.files (take n changes)))) (sym (asked_of_mid old mid action ready grew is)) (in_order k journals (changes_of ready.kind mid) new stop)
 
 module _ (old mid : KeptSession) (action : Action) (ready : Ready) (grew : OnlyGrew old mid) (is : IsReady action old ready mid) (walks : CanWalk old) (journals : Journals)
     (spelled : AreSpelled journals (journals_of Two (session_of_kept mid) action (changes_of ready.kind mid))) (k : Contents) (files : k.files ≡ old.folder.files) where
@@ -101,10 +116,14 @@ module _ (old mid : KeptSession) (action : Action) (ready : Ready) (grew : OnlyG
       let is_there = all_changed_is (journaled k text.items) (take n (c ∷ rest)) ∙ ap (λ f. record { files = effects f (take n (c ∷ rest)); journal = Some text.items }) (files ∙ sym grew.files) in
       inr (subst (λ (x : Contents). IsOpening x (Ok (kept s))) (sym is_there) opens)
 
-  pub stopped_opens : (new : Contents) → IsStoppedAt k journals (changes_of ready.kind mid) new → TellsApart mid.folder.files (changes_of ready.kind mid) → OpensAsBeforeOrAfter (session_of_kept old) action k new
+  apart_from_mid : TellsApartAlong (session_of_kept old) action → TellsApart mid.folder.files (changes_of ready.kind mid)
+  apart_from_mid apart =
+      subst (λ (f : Folder). TellsApart f (changes_of ready.kind mid)) (sym grew.files) (subst (λ r. IfOk r (TellsApart old.folder.files)) (asked_of_mid old mid action ready grew is) apart)
+
+  pub stopped_opens : (new : Contents) → IsStoppedAt k journals (changes_of ready.kind mid) new → TellsApartAlong (session_of_kept old) action → OpensAsBeforeOrAfter (session_of_kept old) action k new
   stopped_opens new (inl e) apart = inl e
   stopped_opens new (inr (inl s)) apart =
-      elim (passed_opens journals.halfway (changes_of ready.kind mid) s.0 halfway_spelled (kind_taken ready.kind mid mid_walks is.fits.can) apart s.1) as (λ _. OpensAsBeforeOrAfter (session_of_kept old) action k new) [
+      elim (passed_opens journals.halfway (changes_of ready.kind mid) s.0 halfway_spelled (kind_taken ready.kind mid mid_walks is.fits.can) (apart_from_mid apart) s.1) as (λ _. OpensAsBeforeOrAfter (session_of_kept old) action k new) [
         | inl none ↦ inl (s.2 ∙ none)
         | inr opens ↦ inr (inl (subst (λ (t : Session). IsOpening new (Ok (kept t))) (same_session old mid grew) (subst (λ (x : Contents). IsOpening x (Ok (kept (session_of_kept mid)))) (sym s.2) opens)))
       ]

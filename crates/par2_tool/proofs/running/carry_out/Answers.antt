@@ -1,18 +1,58 @@
-use Rattle.std.proofs.Common.{sym, ap, ◌∙◌}
-use Rattle.par2_spec.specs.Sessions.{Session, changes_asked}
-use Rattle.par2_spec.specs.Stores.{Contents}
+use Rattle.std.proofs.Common.{◌≡◌, inl, inr, Err, false, sym, ap, subst, ◌∙◌}
+use Rattle.par2_spec.specs.Sessions.{session_of_kept}
 use Rattle.par2_spec.specs.Texts.{Done}
 use Rattle.par2_spec.specs.Views.{action_of}
-use Rattle.par2_tool.specs.Performed.{all_changed}
-use Rattle.par2_tool.proofs.Made.{is_new}
+use Rattle.par2_spec.specs.declared.Failure.{Failure}
+use Rattle.par2_spec.proofs.NamesLaws.{false_true}
+use Rattle.par2_tool.specs.Opened.{started_of}
+use Rattle.par2_tool.specs.Told.{IsBack, IsFailed}
+use Rattle.par2_tool.proofs.Carried.{opening_failed, perform_failed}
 use Rattle.par2_tool.proofs.running.carry_out.Goals as goal
+use Rattle.par2_tool.proofs.running.carry_out.Goals.{else-dropped-via-then-dropped+else-is_back, else-dropped-via-else-dropped}
+
+pub returns-in-Err-clause-failed : goal.returns-in-Err-clause-failed
+returns-in-Err-clause-failed g c honest =
+    let action = action_of c.args.action.now in
+    let old = g.S.FolderStore.contents c.args.store.now in
+    let new = g.S.FolderStore.contents c.open_store.new.store in
+    let before = g.S.FolderStore.failures c.args.store.now in
+    let after = g.S.FolderStore.failures c.open_store.new.store in
+    subst (λ (failure : Failure). IsFailed action old new before after failure) (sym c.unopened.ensures)
+    (opening_failed action old new before after c.in-Err.fault (c.in-Err.ensures.refused honest) (λ store. c.open_store.ensures.cause (c.in-Err.is ∙ ap Err store)) (c.in-Err.ensures.stopped honest))
+
+pub returns-then-is_back-clause-failed : goal.returns-then-is_back-clause-failed
+returns-then-is_back-clause-failed g c honest =
+    inr (c.is_back.ensures.back c.if-is_back.true, started_of c.in-Ok.started, c.in-Ok.ensures.opened honest, c.if-dropped.true, c.in-Ok.ensures.holds honest)
 
 pub returns-in-Ok-perform-clause-done : goal.returns-in-Ok-perform-clause-done
 returns-in-Ok-perform-clause-done g c honest =
-    let done = c.in-Ok-perform.ensures.done in
-    let opened = is_new c.in-Ok.field-0.session (g.S.FolderStore.contents c.args.store.now).files (c.in-Ok.ensures.files honest) c.in-Ok.ensures.undos c.in-Ok.ensures.redos in (
-      done.0,
-      ap (λ (s : Session). changes_asked s (action_of c.args.action.now)) (sym opened) ∙ done.1,
-      ap Done done.2,
-      done.3 (c.open_store.ensures.honest honest) ∙ ap (λ (k : Contents). all_changed k done.0) (c.open_store.ensures.same honest),
-    )
+    let steps = c.in-Ok-perform.ensures.steps in
+    record {
+      session = session_of_kept c.in-Ok.started.session;
+      opened = c.in-Ok.ensures.opened honest;
+      changes = steps.0;
+      asked = steps.1;
+      told = ap Done steps.2;
+      after = session_of_kept c.perform.new.session;
+      leads = c.in-Ok-perform.ensures.session;
+      holds = c.in-Ok-perform.ensures.holds (c.open_store.ensures.honest honest) (c.in-Ok.ensures.holds honest).files;
+    }
+
+pub returns-clause-failed : goal.returns-clause-failed
+returns-clause-failed g c honest =
+    let action = action_of c.args.action.now in
+    let old = g.S.FolderStore.contents c.args.store.now in
+    let mid = g.S.FolderStore.contents c.open_store.new.store in
+    let new = g.S.FolderStore.contents c.perform.new.store in
+    let before = g.S.FolderStore.failures c.args.store.now in
+    let middle = g.S.FolderStore.failures c.open_store.new.store in
+    let after = g.S.FolderStore.failures c.perform.new.store in
+    let kept_honest = c.open_store.ensures.honest honest in
+    let holds = c.in-Ok.ensures.holds honest in
+    let back : IsBack action → c.in-Ok.started.dropped ≡ false = (λ is. elim c.else-dropped.branch as (λ _. c.in-Ok.started.dropped ≡ false) [
+      | else-dropped-via-then-dropped+else-is_back w ↦ absurd (false_true (sym w.if-is_back.false ∙ w.is_back.ensures.all is))
+      | else-dropped-via-else-dropped w ↦ w.if-dropped.false
+    ]) in
+    subst (λ (failure : Failure). IsFailed action old new before after failure) (sym c.failure_of.ensures)
+    (perform_failed action old mid new before middle after c.in-Ok.started.session c.perform.new.session c.in-Ok.started.dropped (c.in-Ok.ensures.opened honest) holds back c.open_store.ensures.later
+    c.in-Err-perform.fault c.in-Err-perform.ensures.refused (c.in-Err-perform.ensures.unchanged kept_honest) (c.in-Err-perform.ensures.stopped kept_honest holds.files))

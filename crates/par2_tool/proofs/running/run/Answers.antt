@@ -25,7 +25,7 @@ pub returns-in-Ok-carry_out-clause-told : goal.returns-in-Ok-carry_out-clause-to
 returns-in-Ok-carry_out-clause-told g c honest =
     let action = action_of c.in-Act.action in
     let asked = c.in-Ok.ensures.asked ∙ ap (λ (x : Command). Some (command_of x)) c.in-Act.is in (
-      Answered (Done c.in-Ok-carry_out.steps),
+      Answered c.in-Ok-carry_out.accepted.dropped (Done c.in-Ok-carry_out.accepted.steps),
       (action, asked, c.in-Ok-carry_out.ensures.done honest),
       (c.tell.ensures, refl),
     )
