@@ -66,7 +66,7 @@ abbrev pub OpensAsBeforeOrAfterRun : Action → Contents → Contents → Type 0
 OpensAsBeforeOrAfterRun action old new =
     (new ≡ old)
     ⊎ ((started : Started) × IsOpening old (Ok started)
-        × (IsOpening new (Ok started) ⊎ (IsOpening new (Ok (kept started.session)) ⊎ ((after : Session) × (session_after started.session action ≡ Ok after) × Holds new (kept after)))))
+    × (IsOpening new (Ok started) ⊎ (IsOpening new (Ok (kept started.session)) ⊎ ((after : Session) × (session_after started.session action ≡ Ok after) × Holds new (kept after)))))
 
 -- the same where fingerprints tell apart the folders that are passed through
 abbrev pub IsStopped : Action → Contents → Contents → Type 0
