@@ -45,6 +45,7 @@ pub fn perform<S: FolderStore>(
     ensures in_order { S.honest store.old → OnErr result (IfOk (changes_asked (session_of_kept session.old) (action_of action.now)) (λ changes. (n : ℕ) × ((S.contents store.new).files ≡ effects (S.contents store.old).files (take n changes)))) }
     ensures later { S.failures store.old ≤ S.failures store.new }
 {
+    // What a stop leaves opens only where the session's entries can be walked: the call's contract says so.
     let _folder = session.folder();
     let prepared = match session.prepare(alloc, action) {
         Ok(prepared) => prepared,
