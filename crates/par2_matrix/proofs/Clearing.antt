@@ -26,27 +26,27 @@ added_below old mid new src k p changed added was below i w hi hw = elim (cases_
   | inr other ↦ ap (λ xs. word w xs) (changed.others i other) ∙ below i w (omega arith) hw
 ]
 
-pub clear_turn : (q p k : ℕ) (row right target : List ℕ) (R D R1 D1 R2 D2 : List (List ℕ)) → ClearedBelow q row right R D R1 D1 p
-    → target ≡ list_at R1 p → k ≡ word q target
-    → OneChanged R1 R2 p → AddsProducts k row (list_at R1 p) (list_at R2 p)
-    → OneChanged D1 D2 p → AddsProducts k right (list_at D1 p) (list_at D2 p) → ((i : ℕ) → get_or (list_at D2 p) i 0 < 256)
-    → ClearedBelow q row right R D R2 D2 (p + 1)
-clear_turn q p k row right target R D R1 D1 R2 D2 so_far et ek rows row_added rights right_added bytes =
-    let at_row : list_at R1 p ≡ list_at R p = so_far.rows_above p (omega arith) in
-    let at_right : list_at D1 p ≡ list_at D p = so_far.rights_above p (omega arith) in
-    let factor : ℕ → ℕ = λ i. word q (list_at R i) in
+pub clear_turn : (q p k : ℕ) (row right target : List ℕ) (old_rows old_rights mid_rows mid_rights new_rows new_rights : List (List ℕ)) → ClearedBelow q row right old_rows old_rights mid_rows mid_rights p
+    → target ≡ list_at mid_rows p → k ≡ word q target
+    → OneChanged mid_rows new_rows p → AddsProducts k row (list_at mid_rows p) (list_at new_rows p)
+    → OneChanged mid_rights new_rights p → AddsProducts k right (list_at mid_rights p) (list_at new_rights p) → ((i : ℕ) → get_or (list_at new_rights p) i 0 < 256)
+    → ClearedBelow q row right old_rows old_rights new_rows new_rights (p + 1)
+clear_turn q p k row right target old_rows old_rights mid_rows mid_rights new_rows new_rights so_far et ek rows row_added rights right_added bytes =
+    let at_row : list_at mid_rows p ≡ list_at old_rows p = so_far.rows_above p (omega arith) in
+    let at_right : list_at mid_rights p ≡ list_at old_rights p = so_far.rights_above p (omega arith) in
+    let factor : ℕ → ℕ = λ i. word q (list_at old_rows i) in
     let is : k ≡ factor p = ek ∙ ap (λ xs. word q xs) (et ∙ at_row) in
-    let row_adds : AddsProducts (factor p) row (list_at R1 p) (list_at R2 p) = subst (λ x. AddsProducts x row (list_at R1 p) (list_at R2 p)) is row_added in
-    let right_adds : AddsProducts (factor p) right (list_at D1 p) (list_at D2 p) = subst (λ x. AddsProducts x right (list_at D1 p) (list_at D2 p)) is right_added in
+    let row_adds : AddsProducts (factor p) row (list_at mid_rows p) (list_at new_rows p) = subst (λ x. AddsProducts x row (list_at mid_rows p) (list_at new_rows p)) is row_added in
+    let right_adds : AddsProducts (factor p) right (list_at mid_rights p) (list_at new_rights p) = subst (λ x. AddsProducts x right (list_at mid_rights p) (list_at new_rights p)) is right_added in
     record {
       row_count = rows.count ∙ so_far.row_count;
       right_count = rights.count ∙ so_far.right_count;
-      row_sizes = same_sizes R R1 R2 p rows row_added.same_length so_far.row_sizes;
-      right_sizes = same_sizes D D1 D2 p rights right_added.same_length so_far.right_sizes;
-      entries = added_below R R1 R2 row factor p rows row_adds at_row so_far.entries;
-      texts = added_below D D1 D2 right factor p rights right_adds at_right so_far.texts;
+      row_sizes = same_sizes old_rows mid_rows new_rows p rows row_added.same_length so_far.row_sizes;
+      right_sizes = same_sizes old_rights mid_rights new_rights p rights right_added.same_length so_far.right_sizes;
+      entries = added_below old_rows mid_rows new_rows row factor p rows row_adds at_row so_far.entries;
+      texts = added_below old_rights mid_rights new_rights right factor p rights right_adds at_right so_far.texts;
       are_bytes = λ i b. elim (cases_eq i p) [
-        | inl same ↦ subst (λ x. get_or (list_at D2 x) b 0 < 256) (sym same) (bytes b)
+        | inl same ↦ subst (λ x. get_or (list_at new_rights x) b 0 < 256) (sym same) (bytes b)
         | inr other ↦ subst (λ xs. get_or xs b 0 < 256) (sym (rights.others i other)) (so_far.are_bytes i b)
       ];
       rows_above = λ i l. rows.others i (λ e. omega arith) ∙ so_far.rows_above i (omega arith);
@@ -54,22 +54,22 @@ clear_turn q p k row right target R D R1 D1 R2 D2 so_far et ek rows row_added ri
     }
 
 -- where there is no equation, nothing is added
-pub clear_pass : (q p : ℕ) (row right target : List ℕ) (R D R1 D1 : List (List ℕ)) → ClearedBelow q row right R D R1 D1 p
-    → target ≡ list_at R1 p → length target ≡ 0 → (length (list_at R p) ≡ 0 → length (list_at D p) ≡ 0) → ClearedBelow q row right R D R1 D1 (p + 1)
-clear_pass q p row right target R D R1 D1 so_far et none absent =
-    let row_none : length (list_at R p) ≡ 0 = ap length (sym (et ∙ so_far.rows_above p (omega arith))) ∙ none in
-    let right_none : length (list_at D p) ≡ 0 = absent row_none in
+pub clear_pass : (q p : ℕ) (row right target : List ℕ) (old_rows old_rights mid_rows mid_rights : List (List ℕ)) → ClearedBelow q row right old_rows old_rights mid_rows mid_rights p
+    → target ≡ list_at mid_rows p → length target ≡ 0 → (length (list_at old_rows p) ≡ 0 → length (list_at old_rights p) ≡ 0) → ClearedBelow q row right old_rows old_rights mid_rows mid_rights (p + 1)
+clear_pass q p row right target old_rows old_rights mid_rows mid_rights so_far et none absent =
+    let row_none : length (list_at old_rows p) ≡ 0 = ap length (sym (et ∙ so_far.rows_above p (omega arith))) ∙ none in
+    let right_none : length (list_at old_rights p) ≡ 0 = absent row_none in
     record {
       row_count = so_far.row_count;
       right_count = so_far.right_count;
       row_sizes = so_far.row_sizes;
       right_sizes = so_far.right_sizes;
       entries = λ i w hi hw. elim (cases_eq i p) [
-        | inl same ↦ absurd (let z : length (list_at R i) ≡ 0 = ap (λ x. length (list_at R x)) same ∙ row_none in omega arith)
+        | inl same ↦ absurd (let z : length (list_at old_rows i) ≡ 0 = ap (λ x. length (list_at old_rows x)) same ∙ row_none in omega arith)
         | inr other ↦ so_far.entries i w (omega arith) hw
       ];
       texts = λ i w hi hw. elim (cases_eq i p) [
-        | inl same ↦ absurd (let z : length (list_at D i) ≡ 0 = ap (λ x. length (list_at D x)) same ∙ right_none in omega arith)
+        | inl same ↦ absurd (let z : length (list_at old_rights i) ≡ 0 = ap (λ x. length (list_at old_rights x)) same ∙ right_none in omega arith)
         | inr other ↦ so_far.texts i w (omega arith) hw
       ];
       are_bytes = so_far.are_bytes;
@@ -77,13 +77,13 @@ clear_pass q p row right target R D R1 D1 so_far et none absent =
       rights_above = λ i l. so_far.rights_above i (omega arith);
     }
 
-pub put_at : (q n : ℕ) (row right : List ℕ) (R D : List (List ℕ)) (rs ds : List (Vec ℕ Global)) (v w : Vec ℕ Global) → q < length rs → q < length ds → v.items ≡ row → w.items ≡ right
+pub put_at : (q n : ℕ) (row right : List ℕ) (old_rows old_rights : List (List ℕ)) (rs ds : List (Vec ℕ Global)) (v w : Vec ℕ Global) → q < length rs → q < length ds → v.items ≡ row → w.items ≡ right
     → ((k : ℕ) → get_or row k 0 < 256) → ((k : ℕ) → get_or right k 0 < 256)
-    → n ≡ length R → ClearedBelow q row right R D (lists_of rs) (lists_of ds) n → PutAt q row right R D (lists_of (set rs q v)) (lists_of (set ds q w))
-put_at q n row right R D rs ds v w hr hd ev ew row_bytes right_bytes en cleared = record {
+    → n ≡ length old_rows → ClearedBelow q row right old_rows old_rights (lists_of rs) (lists_of ds) n → PutAt q row right old_rows old_rights (lists_of (set rs q v)) (lists_of (set ds q w))
+put_at q n row right old_rows old_rights rs ds v w hr hd ev ew row_bytes right_bytes en cleared = record {
   cleared_rows = lists_of rs;
   cleared_rights = lists_of ds;
-  cleared = subst (λ x. ClearedBelow q row right R D (lists_of rs) (lists_of ds) x) en cleared;
+  cleared = subst (λ x. ClearedBelow q row right old_rows old_rights (lists_of rs) (lists_of ds) x) en cleared;
   at_row = written_here rs q v hr ∙ ev;
   at_right = written_here ds q w hd ∙ ew;
   row_bytes = row_bytes;
