@@ -17,6 +17,7 @@ use Rattle.par2_spec.specs.Sets.{ParSet, Target}
 use Rattle.par2_spec.specs.Search.{is_intact, is_needing, needing, intact_names, matches, known, lost}
 use Rattle.par2_spec.specs.Repairs.{names_without_match}
 use Rattle.par2_spec.specs.Rules.{slices_by_target, lost_of_unmatched}
+use Rattle.par2_spec.specs.Reports.{IsFound}
 use Rattle.par2_spec.proofs.NamesLaws.{true_from_not, same_name, itself, clash, false_true, among-filter}
 use Rattle.par2_spec.proofs.ListsLaws.{any-map, any-flat_map, in_range_some}
 use Rattle.par2_spec.proofs.SearchLaws.{found_passes, pairs_with}
@@ -74,11 +75,7 @@ any_at test (x ∷ names) name h k = elim (or_cases (bytes_eq name x) (is_among 
   | inr there ↦ or_right _ _ (any_at test names name there k)
 ]
 
--- the slices of a target are found
-abbrev pub IsFound : Folder → ℕ → List (List ℕ) → Target → Type 0
-IsFound folder s names t = AllByRecursion (λ pair. is_some (found s (map (bytes_of folder) names) pair) ≡ true) t.pairs
-
-windowed_found : (folder : Folder) (s : ℕ) (names : List (List ℕ)) (name : List ℕ) (pairs : List Pair) → is_among names name ≡ true → Windowed s (bytes_of folder name) pairs → AllByRecursion (λ pair. is_some (found s (map (bytes_of folder) names) pair) ≡ true) pairs
+pub windowed_found : (folder : Folder) (s : ℕ) (names : List (List ℕ)) (name : List ℕ) (pairs : List Pair) → is_among names name ≡ true → Windowed s (bytes_of folder name) pairs → AllByRecursion (λ pair. is_some (found s (map (bytes_of folder) names) pair) ≡ true) pairs
 windowed_found folder s names name [] h w = tt
 windowed_found folder s names name (pair ∷ pairs) h w = (
   is_some-find (is_match pair) (flat_map (windows s) (map (bytes_of folder) names))
@@ -138,7 +135,7 @@ all_by_test {A = A} P p (x ∷ xs) out h = (step (p x) refl (filter p xs) h, all
     rest true ys k = k.1
     rest false ys k = k
 
-intact_found : (folder : Folder) (set : ParSet) (names : List (List ℕ)) (ts : List Target) → 0 < set.slice_size → AreSized set.slice_size ts
+pub intact_found : (folder : Folder) (set : ParSet) (names : List (List ℕ)) (ts : List Target) → 0 < set.slice_size → AreSized set.slice_size ts
     → ((q : List ℕ) → is_among (map (λ t. t.name) ts) q ≡ true → has folder q ≡ true → is_among names q ≡ true)
     → AllByRecursion (λ t. is_needing folder set t ≡ false → IsFound folder set.slice_size names t) ts
 intact_found folder set names [] positive sized searched = tt

@@ -16,6 +16,7 @@ pub mod AsideNames
 pub mod FoundLaws
 pub mod ReadLaws
 pub mod RepairLaws
+pub mod ReportLaws
 pub mod ListsLaws
 pub mod ChecksumLaws
 pub mod RankLaws

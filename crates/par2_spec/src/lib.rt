@@ -9,6 +9,7 @@ pub mod folder_laws;
 pub mod packet_laws;
 pub mod rank_laws;
 pub mod repair_laws;
+pub mod report_laws;
 pub mod restored_laws;
 pub mod search_laws;
 pub mod session_laws;

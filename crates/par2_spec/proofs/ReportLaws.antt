@@ -1,0 +1,208 @@
+-- What a report says, target by target.
+use Rattle.std.proofs.Common.{arith, ◌≡◌, ◌<◌, ℕ, suc, not, List, [], ◌∷◌, ◌++◌, length, map, take, drop, refl, sym, ap, ◌∙◌, subst, cond, true, false, Bool}
+use Rattle.std.specs.Prelude.{filter, flat_map, find, zip, slice_index_or, Option, Some, None, Result, Ok, Err, is_some, option_to_list, option_and_then}
+use Rattle.std.specs.List.{AllByRecursion}
+use Rattle.std.specs.Str.{bytes_eq}
+use Rattle.std.proofs.lemmas.List.{map-append, length-map}
+use Rattle.std.proofs.lemmas.Simd.{map-map}
+use Rattle.std.proofs.lemmas.Bool.{and_parts, or_parts}
+use Rattle.std.proofs.Math.Seq.{drop-append_seam, take-append_seam}
+use Rattle.par2_spec.specs.Checksums.{Pair}
+use Rattle.par2_spec.specs.Windows.{found}
+use Rattle.par2_spec.specs.Names.{is_among}
+use Rattle.par2_spec.specs.declared.Fault.{Fault}
+use Rattle.par2_spec.specs.Folders.{Folder, has, bytes_of}
+use Rattle.par2_spec.specs.Sets.{ParSet, Target, set_of, ◌>>=◌}
+use Rattle.par2_spec.specs.Search.{is_intact, is_needing, needing, intact_names, matched, matches, match_of, candidates, known}
+use Rattle.par2_spec.specs.Repairs.{cut_into}
+use Rattle.par2_spec.specs.Refusals.{set_in}
+use Rattle.par2_spec.specs.Rules.{IsSound}
+use Rattle.par2_spec.specs.Reports.{State, Complete, Report, needing_state, state_of, report_of_target, report_of, report_in, found_of, states_by, IsByTarget, StatesFollow, IsFound, IntactAreFound, MatchedAreFound, HasIntactFile, IsFoundWhole}
+use Rattle.par2_spec.proofs.NamesLaws.{itself, false_true, AreDistinct, distinct_from_std, among-filter}
+use Rattle.par2_spec.proofs.AcceptedCommands.{set_in_reads}
+use Rattle.par2_spec.proofs.SearchLaws.{pairs_with, found_passes}
+use Rattle.par2_spec.proofs.FoundLaws.{AreSized, intact_found, windowed_found, intact_windowed, all-filter}
+use Rattle.par2_spec.proofs.ReadLaws.{came_out, sound_of, size_positive, sized_from_counted, present_searched}
+
+-- ---- target by target
+
+abbrev with_slices : Target → List (Option (List ℕ)) → Target × List (Option (List ℕ))
+with_slices t slices = (t, slices)
+
+-- the slices of all targets, cut into those of each
+cut_pairs : (f : Pair → Option (List ℕ)) (ts : List Target)
+    → zip ts (cut_into (map (λ t. length t.pairs) ts) (map f (flat_map (λ t. t.pairs) ts))) ≡ map (λ t. with_slices t (map f t.pairs)) ts
+cut_pairs f [] = refl
+cut_pairs f (t ∷ ts) =
+    let counts = map (λ u. length u.pairs) ts in
+    let mine = map f t.pairs in
+    let rest = map f (flat_map (λ u. u.pairs) ts) in
+    ap (λ xs. with_slices t (take (length t.pairs) xs) ∷ zip ts (cut_into counts (drop (length t.pairs) xs))) (map-append f t.pairs (flat_map (λ u. u.pairs) ts))
+    ∙ ap (λ n. with_slices t (take n (mine ++ rest)) ∷ zip ts (cut_into counts (drop n (mine ++ rest)))) (sym (length-map t.pairs f))
+    ∙ ap (λ xs. with_slices t xs ∷ zip ts (cut_into counts (drop (length mine) (mine ++ rest)))) (take-append_seam mine rest)
+    ∙ ap (λ xs. with_slices t mine ∷ zip ts (cut_into counts xs)) (drop-append_seam mine rest)
+    ∙ ap (λ zs. with_slices t mine ∷ zs) (cut_pairs f ts)
+
+pub by_target : (folder : Folder) (set : ParSet) (searched : List (List ℕ)) → IsByTarget folder set searched
+unfolding report_of known
+by_target folder set searched =
+    let f = found set.slice_size (map (bytes_of folder) searched) in
+    ap (map (report_of_target folder set searched)) (cut_pairs f set.targets)
+    ∙ map-map (report_of_target folder set searched) (λ t. with_slices t (map f t.pairs)) set.targets
+
+-- ---- states by the matches in order
+
+-- the state of a target by these matches
+abbrev state_by : (Target → Bool) → (Target → Bool) → List (Target × Option (List ℕ)) → Target → State
+state_by needing there ms t = cond (needing t) (needing_state (there t) (match_of ms t.name)) Complete
+
+-- a match of another target says nothing of these
+other_match : (p h : Target → Bool) (t : Target) (o : Option (List ℕ)) (ms : List (Target × Option (List ℕ))) (ts : List Target) → is_among (map (λ u. u.name) ts) t.name ≡ false
+    → map (state_by p h ((t, o) ∷ ms)) ts ≡ map (state_by p h ms) ts
+other_match p h t o ms [] out = refl
+other_match p h t o ms (u ∷ ts) out =
+    let r = or_parts (bytes_eq t.name u.name) (is_among (map (λ v. v.name) ts) t.name) out in
+    ap (λ m. cond (p u) (needing_state (h u) (option_and_then (λ k. k.1) m)) Complete ∷ map (state_by p h ((t, o) ∷ ms)) ts)
+    (ap (λ b. cond b (Some (t, o)) (find (λ m. bytes_eq m.0.name u.name) ms)) r.0)
+    ∙ ap (λ states. state_by p h ms u ∷ states) (other_match p h t o ms ts r.1)
+
+states_in_order : (p h : Target → Bool) (ts : List Target) (given : List (Option (List ℕ))) → AreDistinct (map (λ t. t.name) ts) → length given ≡ length (filter p ts)
+    → map (state_by p h (zip (filter p ts) given)) ts ≡ states_by p h ts given
+states_in_order p h [] given d e = refl
+states_in_order p h (t ∷ ts) given d e = step (p t) given e (λ rest l. states_in_order p h ts rest d.1 l)
+  where
+    -- the list of needing targets, where it is known whether this one is
+    list : Bool → List Target
+    list b = cond b (t ∷ filter p ts) (filter p ts)
+
+    step : (b : Bool) (given : List (Option (List ℕ))) → length given ≡ length (list b)
+        → ((rest : List (Option (List ℕ))) → length rest ≡ length (filter p ts) → map (state_by p h (zip (filter p ts) rest)) ts ≡ states_by p h ts rest)
+        → cond b (needing_state (h t) (match_of (zip (list b) given) t.name)) Complete ∷ map (state_by p h (zip (list b) given)) ts
+        ≡ cond b (needing_state (h t) (slice_index_or given 0 None) ∷ states_by p h ts (drop 1 given)) (Complete ∷ states_by p h ts given)
+    step true [] e later = absurd (omega (arith, e))
+    step true (o ∷ rest) e later =
+        ap (λ m. needing_state (h t) (option_and_then (λ k. k.1) m) ∷ map (state_by p h ((t, o) ∷ zip (filter p ts) rest)) ts)
+        (ap (λ b. cond b (Some (t, o)) (find (λ m. bytes_eq m.0.name t.name) (zip (filter p ts) rest))) (itself t.name))
+        ∙ ap (λ states. needing_state (h t) o ∷ states) (other_match p h t o (zip (filter p ts) rest) ts d.0 ∙ later rest (omega (arith, e)))
+    step false given e later = ap (λ states. Complete ∷ states) (later given e)
+
+-- as many answers as targets
+matched_count : (folder : Folder) (s : ℕ) (free : List (List ℕ)) (ts : List Target) → length (matched folder s free ts) ≡ length ts
+matched_count folder s free [] = refl
+matched_count folder s free (t ∷ ts) =
+    ap suc (matched_count folder s (filter (λ name. not (is_among (option_to_list (find (λ name. is_intact s t (bytes_of folder name)) free)) name)) free) ts)
+
+-- the answers of the pairs
+second_of_pairs : (ts : List Target) (given : List (Option (List ℕ))) → length given ≡ length ts → map (λ m. m.1) (zip ts given) ≡ given
+second_of_pairs [] [] e = refl
+second_of_pairs [] (o ∷ given) e = absurd (omega (arith, e))
+second_of_pairs (t ∷ ts) [] e = absurd (omega (arith, e))
+second_of_pairs (t ∷ ts) (o ∷ given) e = ap (λ os. o ∷ os) (second_of_pairs ts given (omega (arith, e)))
+
+pub states_follow : (folder : Folder) (set : ParSet) (searched : List (List ℕ)) → IsSound set → StatesFollow folder set searched
+unfolding state_of matches
+states_follow folder set searched sound =
+    let free = filter (λ name. not (is_among (intact_names folder set) name)) searched in
+    let given = matched folder set.slice_size free (needing folder set) in
+    let count : length given ≡ length (needing folder set) = matched_count folder set.slice_size free (needing folder set) in
+    states_in_order (is_needing folder set) (λ t. has folder t.name) set.targets given (distinct_from_std _ sound.names_once) count
+    ∙ ap (states_by (is_needing folder set) (λ t. has folder t.name) set.targets) (sym (second_of_pairs (needing folder set) given count))
+
+-- ---- what is found whole
+
+pub intact_are_found : (folder : Folder) (base : List ℕ) (set : ParSet) (extras : List (List ℕ)) → set_of folder base ≡ Ok set → IntactAreFound folder set (candidates folder set extras)
+intact_are_found folder base set extras h =
+    let sound = sound_of folder base set h in
+    intact_found folder set (candidates folder set extras) set.targets (size_positive set.slice_size sound.size) (sized_from_counted set.slice_size set.targets sound.pairs) (present_searched folder set extras)
+
+-- of targets those are found that have a match
+matches_found : (folder : Folder) (s : ℕ) (names free : List (List ℕ)) (ts : List Target) → 0 < s → AreSized s ts → ((q : List ℕ) → is_among free q ≡ true → is_among names q ≡ true)
+    → AllByRecursion (λ m. is_some m.1 ≡ true → IsFound folder s names m.0) (pairs_with folder s free ts)
+matches_found folder s names free [] positive sized within = tt
+matches_found folder s names free (t ∷ ts) positive sized within =
+    let p = (λ (name : List ℕ). is_intact s t (bytes_of folder name)) in
+    let later = filter (λ name. not (is_among (option_to_list (find p free)) name)) free in (
+      head (find p free) (found_passes p free),
+      matches_found folder s names later ts positive sized.1
+          (λ q h. within q (and_parts _ _ (sym (among-filter (λ name. not (is_among (option_to_list (find p free)) name)) free q) ∙ h)).0),
+    )
+  where
+    head : (o : Option (List ℕ)) → ((x : List ℕ) → o ≡ Some x → (is_among free x ≡ true) × (is_intact s t (bytes_of folder x) ≡ true)) → is_some o ≡ true → IsFound folder s names t
+    head None k i = absurd (false_true i)
+    head (Some x) k i = let r = k x refl in windowed_found folder s names x t.pairs (within x r.0) (intact_windowed s t (bytes_of folder x) positive sized.0 r.1)
+
+pub matched_are_found : (folder : Folder) (base : List ℕ) (set : ParSet) (extras : List (List ℕ)) → set_of folder base ≡ Ok set → MatchedAreFound folder set (candidates folder set extras)
+unfolding matches
+matched_are_found folder base set extras h =
+    let sound = sound_of folder base set h in
+    let names = candidates folder set extras in
+    matches_found folder set.slice_size names (filter (λ name. not (is_among (intact_names folder set) name)) names) (needing folder set) (size_positive set.slice_size sound.size)
+    (all-filter _ (is_needing folder set) set.targets (sized_from_counted set.slice_size set.targets sound.pairs))
+    (λ q h. (and_parts _ _ (sym (among-filter (λ name. not (is_among (intact_names folder set) name)) names q) ∙ h)).0)
+
+-- ---- what a verify finds whole
+
+-- what holds of intact targets and of those with a match holds of each whose state says so
+settled_hold : (F : Target → Type 0) (p h : Target → Bool) (ts : List Target) (given : List (Option (List ℕ))) → length given ≡ length (filter p ts)
+    → AllByRecursion (λ t. p t ≡ false → F t) ts → AllByRecursion (λ m. is_some m.1 ≡ true → F m.0) (zip (filter p ts) given)
+    → AllByRecursion (λ z. HasIntactFile z.1 → F z.0) (zip ts (states_by p h ts given))
+settled_hold F p h [] given e intact matched = tt
+settled_hold F p h (t ∷ ts) given e intact matched = step (p t) refl given e matched (λ rest l all. settled_hold F p h ts rest l intact.1 all)
+  where
+    list : Bool → List Target
+    list b = cond b (t ∷ filter p ts) (filter p ts)
+
+    with_match : (b : Bool) (o : Option (List ℕ)) → HasIntactFile (needing_state b o) → is_some o ≡ true
+    with_match b (Some name) i = refl
+    with_match true None i = absurd i
+    with_match false None i = absurd i
+
+    step : (b : Bool) → p t ≡ b → (given : List (Option (List ℕ))) → length given ≡ length (list b) → AllByRecursion (λ m. is_some m.1 ≡ true → F m.0) (zip (list b) given)
+        → ((rest : List (Option (List ℕ))) → length rest ≡ length (filter p ts) → AllByRecursion (λ m. is_some m.1 ≡ true → F m.0) (zip (filter p ts) rest) → AllByRecursion (λ z. HasIntactFile z.1 → F z.0) (zip ts (states_by p h ts rest)))
+        → AllByRecursion (λ z. HasIntactFile z.1 → F z.0) (zip (t ∷ ts) (cond b (needing_state (h t) (slice_index_or given 0 None) ∷ states_by p h ts (drop 1 given)) (Complete ∷ states_by p h ts given)))
+    step true i [] e all later = absurd (omega (arith, e))
+    step true i (o ∷ rest) e all later = (λ settled. all.0 (with_match (h t) o settled), later rest (omega (arith, e)) all.1)
+    step false i given e all later = (λ settled. intact.0 i, later given e all)
+
+-- each answer found is each pair
+found_whole : (f : Pair → Option (List ℕ)) (pairs : List Pair) → AllByRecursion (λ pair. is_some (f pair) ≡ true) pairs → length (filter (λ slice. is_some slice) (map f pairs)) ≡ length (map f pairs)
+found_whole f [] h = refl
+found_whole f (pair ∷ pairs) h =
+    ap (λ b. length (cond b (f pair ∷ filter (λ slice. is_some slice) (map f pairs)) (filter (λ slice. is_some slice) (map f pairs)))) h.0 ∙ ap suc (found_whole f pairs h.1)
+
+whole_by_state : (folder : Folder) (set : ParSet) (searched : List (List ℕ)) (ts : List Target)
+    → AllByRecursion (λ z. HasIntactFile z.1 → IsFound folder set.slice_size searched z.0) (zip ts (map (state_of folder set searched) ts))
+    → AllByRecursion IsFoundWhole (map (λ t. report_of_target folder set searched (t, found_of folder set searched t)) ts)
+unfolding report_of_target
+whole_by_state folder set searched [] h = tt
+whole_by_state folder set searched (t ∷ ts) h =
+    (λ settled. found_whole (found set.slice_size (map (bytes_of folder) searched)) t.pairs (h.0 settled), whole_by_state folder set searched ts h.1)
+
+whole_of_set : (folder : Folder) (base : List ℕ) (set : ParSet) (extras : List (List ℕ)) → set_of folder base ≡ Ok set
+    → AllByRecursion IsFoundWhole (report_of folder set (candidates folder set extras)).targets
+unfolding matches
+whole_of_set folder base set extras h =
+    let searched = candidates folder set extras in
+    let free = filter (λ name. not (is_among (intact_names folder set) name)) searched in
+    let given = matched folder set.slice_size free (needing folder set) in
+    let count : length given ≡ length (needing folder set) = matched_count folder set.slice_size free (needing folder set) in
+    let there = (λ (t : Target). has folder t.name) in
+    let states : map (state_of folder set searched) set.targets ≡ states_by (is_needing folder set) there set.targets given =
+    states_follow folder set searched (sound_of folder base set h) ∙ ap (states_by (is_needing folder set) there set.targets) (second_of_pairs (needing folder set) given count) in
+    subst (AllByRecursion IsFoundWhole) (sym (by_target folder set searched))
+    (whole_by_state folder set searched set.targets
+    (subst (λ states. AllByRecursion (λ z. HasIntactFile z.1 → IsFound folder set.slice_size searched z.0) (zip set.targets states)) (sym states)
+    (settled_hold (IsFound folder set.slice_size searched) (is_needing folder set) there set.targets given count (intact_are_found folder base set extras h) (matched_are_found folder base set extras h))))
+
+pub found_whole_in : (folder : Folder) (base : List ℕ) (extras : List (List ℕ)) (report : Report) → report_in folder base extras ≡ Ok report → AllByRecursion IsFoundWhole report.targets
+unfolding report_in
+found_whole_in folder base extras report h = step (set_in folder base extras) refl h
+  where
+    value : Result Report Fault → Report
+    value (Ok x) = x
+    value (Err fault) = report
+
+    step : (r : Result ParSet Fault) → set_in folder base extras ≡ r → (r >>= (λ set. Ok (report_of folder set (candidates folder set extras)))) ≡ Ok report → AllByRecursion IsFoundWhole report.targets
+    step (Ok set) e k =
+        subst (λ (r : Report). AllByRecursion IsFoundWhole r.targets) (ap value k) (whole_of_set folder base set extras (set_in_reads folder base extras set e).0)
+    step (Err fault) e k = absurd (false_true (ap came_out k))
