@@ -1,10 +1,10 @@
 //! Which lost slices the surviving recovery slices determine.
 
-ghost use Rattle.std.specs.Prelude.{◌≡◌, ◌≢◌, ◌<◌, ℕ, length, slice_index, map, IfOk, Ok};
+ghost use Rattle.std.specs.Prelude.{◌≡◌, ◌≢◌, ◌↔◌, ◌<◌, ◌≤◌, ℕ, length, slice_index, map, IfOk, Ok};
 ghost use Rattle.std.specs.List.Sorted.{IsStrictlyIncreasing};
 ghost use Rattle.par2_spec.specs.Field.{coefficient};
 ghost use Rattle.par2_spec.specs.Recovery.{coefficients};
-ghost use Rattle.par2_spec.specs.Rank.{rank};
+ghost use Rattle.par2_spec.specs.Rank.{rank, IsRepairable};
 ghost use Rattle.par2_matrix.specs.Systems.{CutDown, IsIndependent, IsDependent};
 
 use par2_gf16::Gf;
@@ -64,11 +64,14 @@ pub(crate) fn offer(
     system.offer(alloc, gf, &row, right)
 }
 
-/// How many of the exponents are kept, for these lost slices.
+/// How many of the exponents are kept, for these lost slices: as many as are lost exactly where the recovery slices of
+/// the exponents determine them.
 pub fn rank(alloc: Global, gf: &Gf, lost: &[u32], exponents: &[u32]) -> Result<usize, AllocError>
     requires lost { (i : ℕ) → slice_index lost.now i < 32768 }
     requires exponents { IsStrictlyIncreasing exponents.now }
-    ensures { IfOk result (λ n. n ≡ rank lost.now exponents.now) }
+    ensures rank { IfOk result (λ n. n ≡ rank lost.now exponents.now) }
+    ensures most { IfOk result (λ n. n ≤ length lost.now) }
+    ensures full { IfOk result (λ n. (n ≡ length lost.now) ↔ IsRepairable lost.now exponents.now) }
 {
     let mut system = System::new(alloc, lost.len(), 0)?;
     for i in 0..exponents.len() {

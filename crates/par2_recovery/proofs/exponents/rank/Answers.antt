@@ -1,5 +1,6 @@
-use Rattle.std.proofs.Common.{◌∙◌, arith}
+use Rattle.std.proofs.Common.{◌≡◌, ◌∙◌, sym, arith, length}
 use Rattle.par2_recovery.proofs.Ranks.{offered}
+use Rattle.par2_recovery.proofs.Standing.{repairable_iff}
 use Rattle.par2_recovery.proofs.exponents.rank.Goals as goal
 
 pub loop-i-preserved : goal.loop-i-preserved
@@ -8,3 +9,11 @@ loop-i-preserved c = record {
       c.loop-i.invariant.so_far c.offer.ensures.columns c.offer.ensures.kept c.offer.ensures.told c.offer.ensures.dependent c.offer.ensures.unchanged;
   bytes = c.offer.ensures.bytes ∙ c.loop-i.invariant.bytes;
 }
+
+pub returns-clause-full : goal.returns-clause-full
+returns-clause-full c =
+    let at_end : c.loop-i.i ≡ length c.args.exponents.now = omega (arith, c.loop-i-test.false, c.loop-i.auto.i-end) in
+    let columns = c.loop-i.invariant.so_far.columns in
+    let iff = repairable_iff c.args.lost.now c.args.exponents.now c.loop-i.i c.loop-i.system at_end c.loop-i.invariant.so_far in
+    let full = c.rank.ensures.full in
+    ((λ e. iff.0 (full.0 (e ∙ sym columns))), (λ repairable. full.1 (iff.1 repairable) ∙ columns))
