@@ -5,6 +5,7 @@ ghost use Rattle.par2_spec.specs.Packets.{packet};
 ghost use Rattle.par2_spec.specs.Volumes.{packet_of, main_id, main_bytes, desc_bytes, ifsc_bytes, creator_bytes, recovery_bytes, padded_4};
 ghost use Rattle.par2_packets.specs.View.{file_record_of};
 
+use crate::bytes::{u32_bytes, u64_bytes};
 use crate::kind::type_of;
 use crate::record::FileRecord;
 use md5::{Digest, Md5};
@@ -34,7 +35,7 @@ fn append_packet(
     let len = 64 + head.len() + tail.len();
     out.reserve(len)?;
     out.extend_from_slice(b"PAR2\0PKT")?;
-    out.extend_from_slice(&(len as u64).to_le_bytes())?;
+    out.extend_from_slice(&u64_bytes(len as u64))?;
     out.extend_from_slice(&digest)?;
     out.extend_from_slice(set_id)?;
     out.extend_from_slice(&type_bytes)?;
@@ -61,8 +62,8 @@ fn main_body(alloc: Global, s: u64, files: &[FileRecord]) -> Result<Vec<u8>, All
     requires { length files.now ≤ 32768 }
     ensures { IfOk result (λ body. body.items ≡ main_bytes s (map file_record_of files.now)) }
 {
-    let mut body = Vec::from_slice(alloc, &s.to_le_bytes())?;
-    body.extend_from_slice(&(files.len() as u32).to_le_bytes())?;
+    let mut body = Vec::from_slice(alloc, &u64_bytes(s))?;
+    body.extend_from_slice(&u32_bytes(files.len() as u32))?;
     for file in files {
         body.extend_from_slice(&file.id)?;
     }
@@ -75,7 +76,7 @@ fn desc_body(alloc: Global, file: &FileRecord) -> Result<Vec<u8>, AllocError>
     let mut body = Vec::from_slice(alloc, &file.id)?;
     body.extend_from_slice(&file.md5)?;
     body.extend_from_slice(&file.md5_16k)?;
-    body.extend_from_slice(&file.length.to_le_bytes())?;
+    body.extend_from_slice(&u64_bytes(file.length))?;
     append_padded(&mut body, file.name.as_bytes())?;
     Ok(body)
 }
@@ -86,7 +87,7 @@ fn ifsc_body(alloc: Global, file: &FileRecord) -> Result<Vec<u8>, AllocError>
     let mut body = Vec::from_slice(alloc, &file.id)?;
     for (md5, crc) in &file.pairs {
         body.extend_from_slice(md5)?;
-        body.extend_from_slice(&crc.to_le_bytes())?;
+        body.extend_from_slice(&u32_bytes(*crc))?;
     }
     Ok(body)
 }
@@ -164,5 +165,5 @@ pub fn append_recovery(
         OnOk result (out.new.items ≡ out.old.items ++ packet added) }
     ensures err { OnErr result (out.new.items ≡ out.old.items) }
 {
-    append_packet(out, set_id, Kind::Recovery, &e.to_le_bytes(), bytes)
+    append_packet(out, set_id, Kind::Recovery, &u32_bytes(e), bytes)
 }

@@ -1,7 +1,10 @@
 //! Parts of a text at given places.
 
 ghost use Rattle.std.specs.Prelude.{◌≡◌, ◌+◌, ◌≤◌, length};
+ghost use Rattle.std.specs.Int.{w32, w64, to_le_bytes};
 ghost use Rattle.par2_spec.specs.Packets as packets;
+
+use byteorder::{ByteOrder, LittleEndian};
 
 /// Sixteen bytes.
 pub fn block(text: &[u8], at: usize) -> [u8; 16]
@@ -19,9 +22,7 @@ pub fn u64_at(text: &[u8], at: usize) -> u64
     requires { at + 8 ≤ length text.now }
     ensures { result ≡ packets.u64_at at text.now }
 {
-    let mut bytes = [0; 8];
-    bytes.copy_from_slice(&text[at..at + 8]);
-    u64::from_le_bytes(bytes)
+    LittleEndian::read_u64(&text[at..at + 8])
 }
 
 /// The number that four bytes spell, the lowest first.
@@ -30,7 +31,23 @@ pub fn u32_at(text: &[u8], at: usize) -> u32
     requires { at + 4 ≤ length text.now }
     ensures { result ≡ packets.u32_at at text.now }
 {
+    LittleEndian::read_u32(&text[at..at + 4])
+}
+
+/// The bytes of a number, the lowest first.
+pub fn u64_bytes(n: u64) -> [u8; 8]
+    ensures { result ≡ to_le_bytes w64 n }
+{
+    let mut bytes = [0; 8];
+    LittleEndian::write_u64(&mut bytes, n);
+    bytes
+}
+
+/// The bytes of a number, the lowest first.
+pub fn u32_bytes(n: u32) -> [u8; 4]
+    ensures { result ≡ to_le_bytes w32 n }
+{
     let mut bytes = [0; 4];
-    bytes.copy_from_slice(&text[at..at + 4]);
-    u32::from_le_bytes(bytes)
+    LittleEndian::write_u32(&mut bytes, n);
+    bytes
 }

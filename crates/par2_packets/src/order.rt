@@ -8,6 +8,7 @@ ghost use Rattle.std.specs.Str.{bytes_eq};
 ghost use Rattle.par2_packets.specs.View.{id_number};
 
 use crate::record::FileRecord;
+use byteorder::{ByteOrder, LittleEndian};
 use thiserror::Error;
 
 /// Two files have one File ID.
@@ -20,7 +21,7 @@ fn little_endian(id: &[u8; 16]) -> u128
     ensures size { length id.now ≡ 16 }
     ensures bytes { (k : ℕ) → slice_index id.now k < 256 }
 {
-    u128::from_le_bytes(*id)
+    LittleEndian::read_u128(id)
 }
 
 // The File ID as a number.

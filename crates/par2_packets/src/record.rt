@@ -4,6 +4,7 @@ ghost use Rattle.std.specs.Prelude.{◌≡◌, ◌≤◌, length, map};
 ghost use Rattle.par2_spec.specs.Volumes as volumes;
 ghost use Rattle.par2_packets.specs.View.{file_record_of};
 
+use crate::bytes::{u32_bytes, u64_bytes};
 use md5::{Digest, Md5};
 
 /// The checksums of a slice: MD5 and CRC-32.
@@ -31,7 +32,7 @@ pub fn file_id(md5_16k: &[u8; 16], length: u64, name: &str) -> [u8; 16]
 {
     let mut hasher = Md5::new();
     hasher.update(md5_16k);
-    hasher.update(&length.to_le_bytes());
+    hasher.update(&u64_bytes(length));
     hasher.update(name.as_bytes());
     hasher.finalize()
 }
@@ -42,8 +43,8 @@ pub fn main_id(s: u64, files: &[FileRecord]) -> [u8; 16]
     ensures { result ≡ volumes.main_id s (map file_record_of files.now) }
 {
     let mut hasher = Md5::new();
-    hasher.update(&s.to_le_bytes());
-    hasher.update(&(files.len() as u32).to_le_bytes());
+    hasher.update(&u64_bytes(s));
+    hasher.update(&u32_bytes(files.len() as u32));
     for file in files {
         hasher.update(&file.id);
     }
