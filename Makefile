@@ -8,9 +8,9 @@ PROGRAM = crates/par2/out/par2
 
 .PHONY: build demo test bench install
 
-# Proves what the program stands on and builds it. `rt run` also runs it: without words it ends with status 3.
+# Proves what the program stands on and builds it, unless it was built from the same sources.
 build:
-	cd crates/par2 && { rt run > /dev/null; [ $$? -eq 3 ]; }
+	sh scripts/build
 
 demo: build
 	sh scripts/demo "$(CURDIR)/$(PROGRAM)"
