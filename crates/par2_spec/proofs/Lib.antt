@@ -36,6 +36,7 @@ pub mod RowsFolders
 pub mod RowsRank
 pub mod UniqueLaws
 pub mod OthersLaws
+pub mod ExistLaws
 pub mod OrderLaws
 pub mod RestoredLaws
 pub mod FilesLaws

@@ -100,7 +100,7 @@ first_word-marked x [] h = absurd (omega (arith, h))
 first_word-marked x (a ∷ []) h = absurd (omega (arith, h))
 first_word-marked x (a ∷ b ∷ text) h = both_parts (bit_xor x (a + 256 * b))
 
-word_behind : (p a b : ℕ) (text : List ℕ) → word (suc p) (a ∷ b ∷ text) ≡ word p text
+pub word_behind : (p a b : ℕ) (text : List ℕ) → word (suc p) (a ∷ b ∷ text) ≡ word p text
 word_behind p a b text =
     let low : 2 * suc p ≡ suc (suc (2 * p)) = omega arith in
     let high : 2 * suc p + 1 ≡ suc (suc (2 * p + 1)) = omega arith in

@@ -142,7 +142,7 @@ independent-iff lost survivors e =
 
 -- ---- the numbers that pass a test
 
-counts : List ℕ → ℕ → Bool
+pub counts : List ℕ → ℕ → Bool
 counts xs q = list_any (nat_eq q) xs
 
 counts-filter : (p : ℕ → Bool) (xs : List ℕ) (q : ℕ) → counts (filter p xs) q ≡ (counts xs q && p q)
@@ -165,7 +165,7 @@ counts-filter p (x ∷ xs) q =
     kept_one false true pq r h = refl
     kept_one false false pq r h = refl
 
-counts-iff : (xs : List ℕ) (q : ℕ) → (counts xs q ≡ true) ↔ Contains xs q
+pub counts-iff : (xs : List ℕ) (q : ℕ) → (counts xs q ≡ true) ↔ Contains xs q
 unfolding counts
 counts-iff xs q = (Contains-from_any {eq = nat_eq} eqb-true q xs, list_any-from_Contains nat_eq_equiv q xs)
 

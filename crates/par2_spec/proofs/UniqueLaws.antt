@@ -45,7 +45,7 @@ dot-sums (c ∷ row) (x ∷ u) (y ∷ v) e =
     ∙ ap (bit_xor (bit_xor (mul c x) (mul c y))) (dot-sums row u v (omega (arith, e)))
     ∙ xor_middle (mul c x) (mul c y) (dot row u) (dot row v)
 
-dot-lt : (row v : List ℕ) → AreElements row → AreElements v → dot row v < 2 ^ 16
+pub dot-lt : (row v : List ℕ) → AreElements row → AreElements v → dot row v < 2 ^ 16
 unfolding dot
 dot-lt [] v h k = omega arith
 dot-lt (c ∷ row) [] h k = omega arith
@@ -54,7 +54,7 @@ dot-lt (c ∷ row) (x ∷ v) h k = xor_lt 16 (mul c x) (dot row v) (product-lt c
 same_sum : (x y : ℕ) → bit_xor x y ≡ 0 → x ≡ y
 same_sum x y e = sym (xor_zero_r x) ∙ ap (bit_xor x) (sym (xor_self y)) ∙ sym (xor_assoc x y y) ∙ ap (λ t. bit_xor t y) e
 
-coefficients_are : (e : ℕ) (is : List ℕ) → AreElements (coefficients is e)
+pub coefficients_are : (e : ℕ) (is : List ℕ) → AreElements (coefficients is e)
 unfolding coefficient
 coefficients_are e [] = tt
 coefficients_are e (i ∷ is) = (power-lt _ e (constant-lt i), coefficients_are e is)
@@ -66,7 +66,7 @@ byte_at [] i h = omega arith
 byte_at (b ∷ bytes) zero h = h.0
 byte_at (b ∷ bytes) (suc i) h = byte_at bytes i h.1
 
-word-lt : (p : ℕ) (bytes : List ℕ) → AllByRecursion (λ b. b < 256) bytes → word p bytes < 2 ^ 16
+pub word-lt : (p : ℕ) (bytes : List ℕ) → AllByRecursion (λ b. b < 256) bytes → word p bytes < 2 ^ 16
 word-lt p bytes h =
     let low : slice_index bytes (2 * p) < 256 = byte_at bytes (2 * p) h in
     let high : slice_index bytes (2 * p + 1) < 256 = byte_at bytes (2 * p + 1) h in
@@ -75,12 +75,12 @@ word-lt p bytes h =
 abbrev pub AreTexts : List (List ℕ) → Type 0
 AreTexts texts = AllByRecursion (λ text. AllByRecursion (λ b. b < 256) text) texts
 
-words_are : (p : ℕ) (texts : List (List ℕ)) → AreTexts texts → AreElements (map (word p) texts)
+pub words_are : (p : ℕ) (texts : List (List ℕ)) → AreTexts texts → AreElements (map (word p) texts)
 words_are p [] h = tt
 words_are p (text ∷ texts) h = (word-lt p text h.0, words_are p texts h.1)
 
 -- texts of an even length with the same words are the same
-same_words : (s : ℕ) (a b : List ℕ) → s % 2 ≡ 0 → length a ≡ s → length b ≡ s → AllByRecursion (λ x. x < 256) a → AllByRecursion (λ x. x < 256) b → ((p : ℕ) → p < s / 2 → word p a ≡ word p b) → a ≡ b
+pub same_words : (s : ℕ) (a b : List ℕ) → s % 2 ≡ 0 → length a ≡ s → length b ≡ s → AllByRecursion (λ x. x < 256) a → AllByRecursion (λ x. x < 256) b → ((p : ℕ) → p < s / 2 → word p a ≡ word p b) → a ≡ b
 same_words s a b even la lb ha hb same = ext_get_or 0 a b (la ∙ sym lb) (λ i lt. byte i (omega (arith, lt, la)))
   where
     low_high : (p : ℕ) → word p a ≡ word p b → (slice_index a (2 * p) ≡ slice_index b (2 * p)) × (slice_index a (2 * p + 1) ≡ slice_index b (2 * p + 1))
@@ -182,7 +182,7 @@ no_difference [] (y ∷ v) e h = absurd (omega (arith, e))
 no_difference (x ∷ u) [] e h = absurd (omega (arith, e))
 no_difference (x ∷ u) (y ∷ v) e h = ap (λ z. z ∷ u) (same_sum x y h.0) ∙ ap (λ w. y ∷ w) (no_difference u v (omega (arith, e)) h.1)
 
-sums-elements : (u v : List ℕ) → AreElements u → AreElements v → AreElements (sums u v)
+pub sums-elements : (u v : List ℕ) → AreElements u → AreElements v → AreElements (sums u v)
 sums-elements [] v h k = tt
 sums-elements (x ∷ u) [] h k = tt
 sums-elements (x ∷ u) (y ∷ v) h k = (xor_lt 16 x y h.0 k.0, sums-elements u v h.1 k.1)
@@ -201,7 +201,7 @@ zero_at_known (Some z ∷ ks) (x ∷ a) (y ∷ b) p h k =
 
 -- ---- what all kept exponents kill, all survivors kill
 
-contains_later : (x : ℕ) (xs : List ℕ) (q : ℕ) → Contains xs q → Contains (x ∷ xs) q
+pub contains_later : (x : ℕ) (xs : List ℕ) (q : ℕ) → Contains xs q → Contains (x ∷ xs) q
 contains_later x xs q c = (suc c.0, (let l : c.0 < length xs = c.1 in omega (arith, l)), c.2)
 
 all_from_contains : (P : ℕ → Type 0) (xs : List ℕ) → ((q : ℕ) → Contains xs q → P q) → AllByRecursion P xs

@@ -1,5 +1,5 @@
 -- Which lost slices the surviving recovery slices determine. A vector gives each lost slice an element.
-use Rattle.std.specs.Prelude.{◌≡◌, ◌<◌, ◌≢◌, ℕ, ◌^◌, ◌==◌, ◌&&◌, ◌||◌, Bool, not, List, [], length, map, filter, zip, nat_lt, Option, is_none, unwrap_or}
+use Rattle.std.specs.Prelude.{◌≡◌, ◌<◌, ◌≢◌, ℕ, ◌^◌, ◌%◌, ◌==◌, ◌&&◌, ◌||◌, Bool, not, List, [], length, map, filter, zip, nat_lt, Option, is_none, unwrap_or}
 use Rattle.std.specs.List.{list_any, list_all, AllByRecursion, AllZip, Contains}
 use Rattle.std.specs.Option.{ForSome}
 use Rattle.std.specs.Str.{bytes_eq}
@@ -88,3 +88,22 @@ kept_slices lost survivors recovered = filter (λ r. list_any (λ e. e == r.0) (
 pub record IsRebuilt (s : ℕ) (known : List (Option (List ℕ))) (recovered : List (ℕ × List ℕ)) (slices : List (List ℕ)) : Type 0 where
   pub agrees : Agrees s known recovered slices
   pub only : (others : List (List ℕ)) → Agrees s known recovered others → others ≡ slices
+
+-- ---- what is premised of what survives
+
+abbrev pub AreBytes : List ℕ → Type 0
+AreBytes text = AllByRecursion (λ b. b < 256) text
+
+-- the known slices, and recovery slices of exponents below m, are texts of s bytes, and `text` gives each exponent its
+-- recovery slice: an exponent has one
+pub record AreSurvivors (s m : ℕ) (known : List (Option (List ℕ))) (recovery : List (ℕ × List ℕ)) (text : ℕ → List ℕ) : Type 0 where
+  pub even : s % 2 ≡ 0
+  pub known_sizes : AllByRecursion (λ slice. ForSome slice (λ found. length found ≡ s)) known
+  pub known_bytes : AllByRecursion (λ slice. ForSome slice AreBytes) known
+  pub bytes : (e : ℕ) → AreBytes (text e)
+  pub each : AllByRecursion (λ r. (r.0 < m) × (length r.1 ≡ s) × (text r.0 ≡ r.1)) recovery
+
+-- at least two lists agree
+abbrev pub TwoAgree : ℕ → List (Option (List ℕ)) → List (ℕ × List ℕ) → Type 0
+TwoAgree s known recovered =
+    (slices : List (List ℕ)) × Agrees s known recovered slices × AnotherAgrees s known recovered slices

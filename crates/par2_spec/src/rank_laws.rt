@@ -3,7 +3,7 @@
 ghost use Rattle.std.specs.Prelude.{◌≡◌, ◌<◌, ◌≤◌, ◌%◌, ◌↔◌, ℕ, List, IsTrue, Option, length, map};
 ghost use Rattle.std.specs.List.{AllByRecursion, Contains};
 ghost use Rattle.std.specs.FinMap as map_of;
-ghost use Rattle.par2_spec.specs.Rank.{is_repairable, IsRepairable, kept, IsKept, agrees, Agrees, AnotherAgrees, kept_slices, IsRebuilt, IsVector, Kills};
+ghost use Rattle.par2_spec.specs.Rank.{is_repairable, IsRepairable, kept, IsKept, agrees, Agrees, AnotherAgrees, kept_slices, IsRebuilt, IsVector, Kills, AreSurvivors, TwoAgree};
 ghost use Rattle.par2_spec.specs.Sets.{ParSet};
 ghost use Rattle.par2_spec.specs.Search.{lost, survivors};
 ghost use Rattle.par2_spec.specs.Repairs.{rebuilt};
@@ -35,4 +35,21 @@ pub fn another_list_agrees()
 /// A vector that all kept exponents kill is killed by all survivors.
 pub fn kept_exponents_kill_as_all()
     ensures { (lost survivors v : List ℕ) → IsVector (length lost) v → ((e : ℕ) → Contains (kept lost survivors) e → Kills lost e v) → AllByRecursion (λ e. Kills lost e v) survivors }
+{}
+
+/// Some slices agree with the known ones and with the recovery slices of the kept exponents, also where the surviving
+/// recovery slices contradict each other.
+pub fn some_slices_agree()
+    ensures { (s m : ℕ) (known : List (Option (List ℕ))) (recovery : List (ℕ × List ℕ)) (text : ℕ → List ℕ)
+        → AreSurvivors s m known recovery text
+        → let kept = kept_slices (lost known) (map (λ r. r.0) recovery) recovery in
+        (slices : List (List ℕ)) × Agrees s known kept slices }
+{}
+
+/// Where the lost slices are not determined, at least two lists do.
+pub fn two_lists_agree()
+    ensures { (s m : ℕ) (known : List (Option (List ℕ))) (recovery : List (ℕ × List ℕ)) (text : ℕ → List ℕ)
+        → AreSurvivors s m known recovery text → 2 ≤ s
+        → (IsRepairable (lost known) (map (λ r. r.0) recovery) → ⊥)
+        → TwoAgree s known (kept_slices (lost known) (map (λ r. r.0) recovery) recovery) }
 {}
