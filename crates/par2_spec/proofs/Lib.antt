@@ -37,6 +37,7 @@ pub mod RowsRank
 pub mod UniqueLaws
 pub mod OthersLaws
 pub mod ExistLaws
+pub mod LengthLaws
 pub mod OrderLaws
 pub mod RestoredLaws
 pub mod FilesLaws

@@ -1,15 +1,15 @@
 //! Laws of repair and purge: each is the contract of a function that does nothing.
 
 ghost use Rattle.std.specs.Prelude.{◌≡◌, ◌≤◌, ◌++◌, ℕ, List, IsTrue, Ok, length};
-ghost use Rattle.std.specs.List.{list_all};
+ghost use Rattle.std.specs.List.{list_all, AllByRecursion};
 ghost use Rattle.par2_spec.specs.Names.{is_name};
 ghost use Rattle.par2_spec.specs.Folders.{Folder, has};
 ghost use Rattle.par2_spec.specs.Changes.{effects, are_applicable};
 ghost use Rattle.par2_spec.specs.Sets.{ParSet, set_of};
-ghost use Rattle.par2_spec.specs.Search.{candidates};
-ghost use Rattle.par2_spec.specs.Repairs.{aside, after_repair, after_repair_and_purge, after_purge};
+ghost use Rattle.par2_spec.specs.Search.{candidates, all_pairs};
+ghost use Rattle.par2_spec.specs.Repairs.{files_of_slices, aside, after_repair, after_repair_and_purge, after_purge};
 ghost use Rattle.par2_spec.specs.Plans.{repair_changes, repair_removals, purge_changes};
-ghost use Rattle.par2_spec.specs.Rules.{FitsRepair, HoldsRepaired, AreFew, IsLeastFree, taken_for};
+ghost use Rattle.par2_spec.specs.Rules.{IsSound, FitsRepair, HoldsRepaired, AreFew, IsLeastFree, taken_for};
 
 /// An aside is always found: it is the least name that is free, it is a name where it is not too long, and
 /// different names have different asides.
@@ -45,4 +45,12 @@ pub fn repair_and_purge_lead_to_their_folder()
 pub fn purge_leads_to_its_folder()
     ensures applies { (folder : Folder) (set : ParSet) → IsTrue (are_applicable folder (purge_changes folder set)) }
     ensures leads { (folder : Folder) (set : ParSet) → effects folder (purge_changes folder set) ≡ after_purge folder set }
+{}
+
+/// A file that is cut out of as many slices as the set has, each of its slice size, has the described length.
+pub fn written_files_have_their_length()
+    ensures { (set : ParSet) (slices : List (List ℕ)) → IsSound set
+        → length slices ≡ length (all_pairs set)
+        → AllByRecursion (λ text. length text ≡ set.slice_size) slices
+        → AllByRecursion (λ c. length c.1 ≡ c.0.size) (files_of_slices set slices) }
 {}
