@@ -87,7 +87,7 @@ alike_from_intact s t bytes h =
     let its = parts_of_match (pair_at t.pairs j) (slice_at s bytes j) (each_match s bytes t.pairs 0 (slice_count s (length bytes)) parts.1 j j (omega arith) (omega (arith, low)) few) in
     (its.0 ∙ ap (λ (p : Pair). p.1) (sym same), its.1 ∙ ap (λ (p : Pair). p.0) (sym same))
     in
-    record { crcs = λ j within. (each j within).0; digests = λ j within. (each j within).1; }
+    record { crcs = λ j within. (each j within).0; digests = λ j within. (each j within).1 }
 
 intact_from_alike : (s : ℕ) (t : Target) (bytes : List ℕ) → length bytes ≡ t.size → AreAlike s bytes (compared s t) → is_intact s t bytes ≡ true
 intact_from_alike s t bytes size alike =
@@ -107,8 +107,7 @@ intact_from_alike s t bytes size alike =
 pub intact_by_md5s : (s : ℕ) (t : Target) (bytes : List ℕ) (first : List Pair) (digests : Bool) → length bytes ≡ t.size → first ≡ compared s t → ((j : ℕ) → j < length first → HasCrc32 s bytes first j) → Decides digests ((j : ℕ) → j < length first → HasMd5 s bytes first j) → digests ≡ is_intact s t bytes
 intact_by_md5s s t bytes first digests size is crcs decides =
     same_from_decides {P = AreAlike s bytes first} digests (is_intact s t bytes)
-    (λ e. record { crcs = crcs; digests = decides.0 e; }, λ alike. decides.1 alike.digests)
-    (
+    (λ e. record { crcs = crcs; digests = decides.0 e }, λ alike. decides.1 alike.digests) (
       λ e. subst (AreAlike s bytes) (sym is) (alike_from_intact s t bytes e),
       λ alike. intact_from_alike s t bytes size (subst (AreAlike s bytes) is alike),
     )

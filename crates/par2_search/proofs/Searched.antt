@@ -17,7 +17,7 @@ use Rattle.par2_search.specs.Texts.{AreShort, IsSearched, missing_pairs, padded_
 abbrev pub Window : Type 0
 Window = Option (Bor (List ℕ))
 
-find-map : {X Y : Type 0} (p : Y → Bool) (f : X → Y) (xs : List X) → find p (map f xs) ≡ option_map f (find (λ x. p (f x)) xs)
+pub find-map : {X Y : Type 0} (p : Y → Bool) (f : X → Y) (xs : List X) → find p (map f xs) ≡ option_map f (find (λ x. p (f x)) xs)
 find-map p f [] = refl
 find-map {X = X} p f (x ∷ xs) = ap (cond (p (f x)) (Some (f x))) (find-map p f xs) ∙ out (p (f x)) (find (λ y. p (f y)) xs)
   where
@@ -208,7 +208,3 @@ written_back new items n size same =
     ap (λ rest. take n (new ++ rest)) (drop_all (length new) items (omega (arith, size, same)))
     ∙ ap (take n) (append-nil new)
     ∙ take_all n new (omega (arith, same))
-
-pub no_items : {X : Type 0} (xs : List X) → length xs ≡ 0 → xs ≡ []
-no_items [] h = refl
-no_items (x ∷ xs) h = absurd (omega (arith, h))

@@ -2,17 +2,17 @@ use Rattle.std.proofs.Common.{◌≡◌, ◌∙◌, ℕ, List, [], ◌++◌, ◌
 use Rattle.std.specs.Prelude.{None, IfSome}
 use Rattle.std.specs.Borrow.{Bor}
 use Rattle.std.proofs.lemmas.Bool.{eqb-true}
-use Rattle.std.proofs.lemmas.List.{get_or-map, length-map, take-append-drop, take_all, take_more}
+use Rattle.std.proofs.lemmas.List.{get_or-map, length-map, nil_from_length, take-append-drop, take_all, take_more}
 use Rattle.std.proofs.lemmas.List.Elements.{All-replicate}
 use Rattle.par2_spec.specs.Checksums.{Pair}
 use Rattle.par2_spec.specs.Windows.{found}
 use Rattle.par2_search.specs.Texts.{AreShort, IsSearched, missing_pairs, padded_window, padded_windows, texts_of}
-use Rattle.par2_search.proofs.Searched.{all_found, no_items, none_searched, one_searched, written_back, Window}
+use Rattle.par2_search.proofs.Searched.{all_found, none_searched, one_searched, written_back, Window}
 use Rattle.par2_search.proofs.windows.found_windows.Goals as goal
 use Rattle.par2_search.proofs.windows.found_windows.Goals.{else-loop-text-test, then-loop-text-test+in_ok-missing+then-is_empty}
 
 abbrev no_text : Bor (List ℕ)
-no_text = record { ref_ptr = (0, 0); now = []; }
+no_text = record { ref_ptr = (0, 0); now = [] }
 
 pub loop-text-init : goal.loop-text-init
 loop-text-init c =
@@ -53,6 +53,6 @@ returns-clause-first c =
       | else-loop-text-test w ↦ c.loop-text.invariant.first
           ∙ ap (λ ts. map (found s ts) pairs) (take_all n texts (omega (arith, w.loop-text-test.false, length-map c.args.texts.now (λ text. text.now))))
       | then-loop-text-test+in_ok-missing+then-is_empty w ↦ all_found s (take n texts) (drop n texts) pairs c.loop-text.windows.items c.loop-text.invariant.first
-          (sym (w.in_ok-missing.ensures ∙ ap (missing_pairs pairs) w.deref.ensures.value) ∙ no_items w.in_ok-missing.missing.items (omega (arith, w.in_ok-missing.missing.ok.0, eqb-true _ 0 (sym w.is_empty.ensures ∙ w.if-is_empty.true))))
+          (sym (w.in_ok-missing.ensures ∙ ap (missing_pairs pairs) w.deref.ensures.value) ∙ nil_from_length w.in_ok-missing.missing.items (omega (arith, w.in_ok-missing.missing.ok.0, eqb-true _ 0 (sym w.is_empty.ensures ∙ w.if-is_empty.true))))
           ∙ ap (λ ts. map (found s ts) pairs) (take-append-drop n texts)
     ]

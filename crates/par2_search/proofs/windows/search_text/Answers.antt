@@ -45,7 +45,7 @@ loop-i-preserved c =
           let here = next_offset s text pairs old now offsets next i c.loop-i.invariant c.requires.count c.loop-i-test.true (none ∙ w.if-is_none.true) in
           let offset_is = get_or_read offsets _ _ here.0 w.index.ensures None in
           let taken = window_taken s text pairs old now offsets next i w.window_at.result c.loop-i.invariant c.requires.count c.loop-i-test.true (none ∙ w.if-is_none.true)
-              (w.window_at.ensures.value ∙ ap (option_map (window s text)) offset_is) w.window_at.ensures.short in
+          (w.window_at.ensures.value ∙ ap (option_map (window s text)) offset_is) w.window_at.ensures.short in
           subst (λ ws. With ws c.if-is_none.next) (sym w.windows-is) (subst (With (set now i w.window_at.result)) (sym w.next-is) taken)
           )
       | else-is_none w ↦ (
