@@ -15,7 +15,7 @@ use Rattle.par2_spec.specs.Sets.{Target}
 use Rattle.par2_spec.specs.Slices.{padded, slice_at, slice_count}
 use Rattle.par2_spec.specs.Windows.{is_match}
 use Rattle.par2_slices.specs.Searches.{no_pair, pair_at}
-use Rattle.par2_search.specs.Intact.{HasCrc32, HasMd5}
+use Rattle.par2_search.specs.Intact.{HaveCrc32s, HaveMd5s}
 
 -- a slice that lies in the text has no padding
 pub whole_slice : (s : ℕ) (bytes : List ℕ) (j : ℕ) → (j + 1) * s ≤ length bytes → take s (drop (j * s) bytes) ≡ slice_at s bytes j
@@ -23,13 +23,6 @@ whole_slice s bytes j within =
     let slice : List ℕ = take s (drop (j * s) bytes) in
     let missing : s - length slice ≡ 0 = omega (arith, within, length-take s (drop (j * s) bytes), length-drop (j * s) bytes) in
     sym (ap (λ n. slice ++ replicate n 0) missing ∙ append-nil slice)
-
--- what holds up to a group of eight and in it holds up to the next one
-pub next_group : (P : ℕ → Type 0) (group : ℕ) → ((j : ℕ) → j < group * 8 → P j) → ((k : ℕ) → k < 8 → P (group * 8 + k)) → (j : ℕ) → j < (group + 1) * 8 → P j
-next_group P group below here j within = elim (cases_lt j (group * 8)) [
-  | inl early ↦ below j early
-  | inr late ↦ subst P (let e : group * 8 + (j - group * 8) ≡ j = omega (arith, late) in e) (here (j - group * 8) (omega (arith, late, within)))
-]
 
 match_from : (pair : Pair) (slice : List ℕ) → crc32 slice ≡ pair.1 → md5 slice ≡ pair.0 → is_match pair slice ≡ true
 match_from pair slice crc digest =
@@ -71,8 +64,8 @@ compared_is s t size count n pairs size_is pairs_is count_is n_is =
 
 -- each has the checksums of its slice
 pub record AreAlike (s : ℕ) (bytes : List ℕ) (pairs : List Pair) : Type 0 where
-  pub crcs : (j : ℕ) → j < length pairs → HasCrc32 s bytes pairs j
-  pub digests : (j : ℕ) → j < length pairs → HasMd5 s bytes pairs j
+  pub crcs : HaveCrc32s s bytes pairs
+  pub digests : HaveMd5s s bytes pairs 0 (length pairs)
 
 alike_from_intact : (s : ℕ) (t : Target) (bytes : List ℕ) → is_intact s t bytes ≡ true → AreAlike s bytes (compared s t)
 alike_from_intact s t bytes h =
@@ -87,7 +80,7 @@ alike_from_intact s t bytes h =
     let its = parts_of_match (pair_at t.pairs j) (slice_at s bytes j) (each_match s bytes t.pairs 0 (slice_count s (length bytes)) parts.1 j j (omega arith) (omega (arith, low)) few) in
     (its.0 ∙ ap (λ (p : Pair). p.1) (sym same), its.1 ∙ ap (λ (p : Pair). p.0) (sym same))
     in
-    record { crcs = λ j within. (each j within).0; digests = λ j within. (each j within).1 }
+    record { crcs = λ j within. (each j within).0; digests = λ j _ within. (each j within).1 }
 
 intact_from_alike : (s : ℕ) (t : Target) (bytes : List ℕ) → length bytes ≡ t.size → AreAlike s bytes (compared s t) → is_intact s t bytes ≡ true
 intact_from_alike s t bytes size alike =
@@ -101,10 +94,10 @@ intact_from_alike s t bytes size alike =
     ap (λ n. is_match (pair_at t.pairs j) (slice_at s bytes n)) (let e : i ≡ j = omega (arith, is) in e)
     ∙ match_from (pair_at t.pairs j) (slice_at s bytes j)
     (alike.crcs j inside ∙ ap (λ (p : Pair). p.1) same)
-    (alike.digests j inside ∙ ap (λ (p : Pair). p.0) same))
+    (alike.digests j (omega arith) inside ∙ ap (λ (p : Pair). p.0) same))
 
 -- where the CRC-32s agree, the MD5s decide
-pub intact_by_md5s : (s : ℕ) (t : Target) (bytes : List ℕ) (first : List Pair) (digests : Bool) → length bytes ≡ t.size → first ≡ compared s t → ((j : ℕ) → j < length first → HasCrc32 s bytes first j) → Decides digests ((j : ℕ) → j < length first → HasMd5 s bytes first j) → digests ≡ is_intact s t bytes
+pub intact_by_md5s : (s : ℕ) (t : Target) (bytes : List ℕ) (first : List Pair) (digests : Bool) → length bytes ≡ t.size → first ≡ compared s t → HaveCrc32s s bytes first → Decides digests (HaveMd5s s bytes first 0 (length first)) → digests ≡ is_intact s t bytes
 intact_by_md5s s t bytes first digests size is crcs decides =
     same_from_decides {P = AreAlike s bytes first} digests (is_intact s t bytes)
     (λ e. record { crcs = crcs; digests = decides.0 e }, λ alike. decides.1 alike.digests) (
@@ -113,6 +106,6 @@ intact_by_md5s s t bytes first digests size is crcs decides =
     )
 
 -- where they don't, the bytes are not intact
-pub not_intact_by_crcs : (s : ℕ) (t : Target) (bytes : List ℕ) (first : List Pair) (crcs : Bool) → first ≡ compared s t → Decides crcs ((j : ℕ) → j < length first → HasCrc32 s bytes first j) → crcs ≡ false → crcs ≡ is_intact s t bytes
+pub not_intact_by_crcs : (s : ℕ) (t : Target) (bytes : List ℕ) (first : List Pair) (crcs : Bool) → first ≡ compared s t → Decides crcs (HaveCrc32s s bytes first) → crcs ≡ false → crcs ≡ is_intact s t bytes
 not_intact_by_crcs s t bytes first crcs is decides differ =
     differ ∙ sym (false_from_ne_true _ (λ e. false≢true (sym differ ∙ decides.1 (subst (AreAlike s bytes) (sym is) (alike_from_intact s t bytes e)).crcs)))

@@ -1,7 +1,6 @@
 -- Texts that are searched, one after the other, for the pairs that have no window.
 use Rattle.std.proofs.Common.{◌≡◌, ℕ, zero, suc, ◌+◌, ◌-◌, ◌<◌, ◌≤◌, Bool, true, false, not, cond, List, [], ◌∷◌, ◌++◌, length, map, take, drop, get_or, set, replicate, refl, sym, ap, subst, ◌∙◌, inl, inr, below_more, get_or-set_same, get_or-set_other, arith}
 use Rattle.std.specs.Prelude.{Option, Some, None, IfSome, find, flat_map, is_none, is_some, option_map}
-use Rattle.std.specs.Borrow.{Bor}
 use Rattle.std.specs.List.{range_with_len}
 use Rattle.std.specs.Option.{option_or}
 use Rattle.std.proofs.lemmas.Bool.{cases_eq, false≢true}
@@ -12,12 +11,9 @@ use Rattle.std.proofs.lemmas.List.Folds.{find-append}
 use Rattle.par2_spec.specs.Checksums.{Pair}
 use Rattle.par2_spec.specs.Windows.{first_match, found, is_match, window, windows}
 use Rattle.par2_slices.specs.Searches.{no_pair, offset_at, pair_at}
-use Rattle.par2_search.specs.Texts.{AreShort, IsSearched, missing_pairs, padded_window, padded_windows, window_of}
+use Rattle.par2_search.specs.Texts.{AreShort, IsSearched, Window, missing_pairs, padded_window, padded_windows, window_of}
 
-abbrev pub Window : Type 0
-Window = Option (Bor (List ℕ))
-
-pub find-map : {X Y : Type 0} (p : Y → Bool) (f : X → Y) (xs : List X) → find p (map f xs) ≡ option_map f (find (λ x. p (f x)) xs)
+find-map : {X Y : Type 0} (p : Y → Bool) (f : X → Y) (xs : List X) → find p (map f xs) ≡ option_map f (find (λ x. p (f x)) xs)
 find-map p f [] = refl
 find-map {X = X} p f (x ∷ xs) = ap (cond (p (f x)) (Some (f x))) (find-map p f xs) ∙ out (p (f x)) (find (λ y. p (f y)) xs)
   where

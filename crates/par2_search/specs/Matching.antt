@@ -45,5 +45,5 @@ matched_numbers s texts ts = matched_from s texts (range_with_len 0 (length text
 -- the matches by the numbers of distinct names are those by the names
 abbrev pub NumbersAreNames : Folder → ℕ → List (List ℕ) → List sets.Target → Type 0
 NumbersAreNames folder s names ts =
-    IsDistinct bytes_eq names
-    → map (option_map (text_at names)) (matched_numbers s (map (bytes_of folder) names) ts) ≡ matched folder s names ts
+    let numbers = matched_numbers s (map (bytes_of folder) names) ts in
+    IsDistinct bytes_eq names → map (option_map (text_at names)) numbers ≡ matched folder s names ts

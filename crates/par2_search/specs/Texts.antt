@@ -12,23 +12,28 @@ use Rattle.par2_slices.specs.Searches.{pair_at}
 abbrev pub texts_of : List (Bor (List ℕ)) → List (List ℕ)
 texts_of texts = map (λ text. text.now) texts
 
+-- where a window was found, the bytes of it that lie in the text
+abbrev pub Window : Type 0
+Window = Option (Bor (List ℕ))
+
 -- a window with the zeros that follow it past the end of its text
-abbrev pub padded_window : ℕ → Option (Bor (List ℕ)) → Option (List ℕ)
+abbrev pub padded_window : ℕ → Window → Option (List ℕ)
 padded_window s window = option_map (λ bytes. padded s bytes.now) window
 
-abbrev pub padded_windows : ℕ → List (Option (Bor (List ℕ))) → List (Option (List ℕ))
+abbrev pub padded_windows : ℕ → List Window → List (Option (List ℕ))
 padded_windows s windows = map (padded_window s) windows
 
 -- no window is longer than s bytes
-abbrev pub AreShort : ℕ → List (Option (Bor (List ℕ))) → Type 0
+abbrev pub AreShort : ℕ → List Window → Type 0
 AreShort s windows = All (λ window. IfSome window (λ bytes. length bytes.now ≤ s)) windows
 
 -- window i of a list
-abbrev pub window_of : List (Option (Bor (List ℕ))) → ℕ → Option (Bor (List ℕ))
+abbrev pub window_of : List Window → ℕ → Window
 window_of windows i = slice_index_or windows i None
 
--- after a text more each pair has the window that it had before, or else the first one of the text that matches it
-pub record IsSearched (s : ℕ) (text : List ℕ) (pairs : List Pair) (old new : List (Option (Bor (List ℕ)))) : Type 0 where
+-- once a text is searched, each pair has the window that it had before, or else the first of the text
+-- that matches it
+pub record IsSearched (s : ℕ) (text : List ℕ) (pairs : List Pair) (old new : List Window) : Type 0 where
   pub each : (i : ℕ) → i < length pairs → padded_window s (window_of new i)
       ≡ option_or (padded_window s (window_of old i)) (found s (text ∷ []) (pair_at pairs i))
   pub short : AreShort s old → AreShort s new

@@ -1,11 +1,11 @@
 //! Whether bytes are those of a target, by their length and the checksums of their slices.
 
-ghost use Rattle.std.specs.Prelude.{◌≡◌, ◌↔◌, ◌≤◌, ◌<◌, ◌+◌, ◌*◌, ◌^◌, ℕ, IsTrue, length, slice_index};
+ghost use Rattle.std.specs.Prelude.{◌≡◌, ◌↔◌, ◌≤◌, ◌<◌, ◌+◌, ◌-◌, ◌*◌, ◌^◌, min, ℕ, IsTrue, length, slice_index};
 ghost use Rattle.par2_spec.specs.Checksums as checksums;
 ghost use Rattle.par2_spec.specs.Search as search;
 ghost use Rattle.par2_spec.specs.Sets as sets;
 ghost use Rattle.par2_spec.specs.Slices as slices;
-ghost use Rattle.par2_search.specs.Intact.{HasCrc32, HasMd5};
+ghost use Rattle.par2_search.specs.Intact.{HaveCrc32s, HaveMd5s};
 
 use par2_digests::{LANES, window_digests};
 use par2_slices::{Pair, crc32, padded_crc32, padded_md5, slice_bytes, slice_count};
@@ -29,7 +29,7 @@ fn slice_crc32(bytes: &[u8], s: u64, j: u64) -> u32
 fn have_crc32s(bytes: &[u8], s: u64, pairs: &[Pair]) -> bool
     requires size { 1 ≤ s }
     requires count { length pairs.now ≤ slices.slice_count s (length bytes.now) }
-    ensures { IsTrue result ↔ ((j : ℕ) → j < length pairs.now → HasCrc32 s bytes.now pairs.now j) }
+    ensures { IsTrue result ↔ HaveCrc32s s bytes.now pairs.now }
 {
     for (j, pair) in pairs.iter().enumerate() {
         if slice_crc32(bytes, s, j as u64) != pair.1 {
@@ -39,42 +39,47 @@ fn have_crc32s(bytes: &[u8], s: u64, pairs: &[Pair]) -> bool
     true
 }
 
-/// Where eight slices begin, of which the first is slice `first`.
-fn starts_from(first: usize, s: usize) -> [usize; LANES]
-    requires last { first + 8 < 2 ^ 64 }
-    requires end { (first + 8) * s < 2 ^ 64 }
-    ensures { (k : ℕ) → k < 8 → slice_index result k ≡ (first + k) * s }
+/// Where `count` slices begin, of which the first is slice `first`; the last of them again in the lanes that are left.
+fn starts_from(first: usize, count: usize, s: usize) -> [usize; LANES]
+    requires some { 1 ≤ count }
+    requires last { first + count < 2 ^ 64 }
+    requires end { (first + count) * s < 2 ^ 64 }
+    ensures { (k : ℕ) → k < 8 → slice_index result k ≡ (first + min k (count - 1)) * s }
 {
     let mut starts = [0; LANES];
     for lane in 0..LANES {
-        starts[lane] = (first + lane) * s;
+        starts[lane] = (first + lane.min(count - 1)) * s;
     }
     starts
 }
 
-/// Whether the eight pairs from pair `first` on have the MD5s of the slices of their numbers, which are whole.
-fn group_has_md5s(bytes: &[u8], s: usize, pairs: &[Pair], first: usize) -> bool
-    requires pairs { first + 8 ≤ length pairs.now }
-    requires whole { (first + 8) * s ≤ length bytes.now }
-    ensures { IsTrue result ↔ ((k : ℕ) → k < 8 → HasMd5 s bytes.now pairs.now (first + k)) }
+/// Whether `count` pairs from pair `first` on, eight at most, have the MD5s of the slices of their numbers, which are
+/// whole.
+fn group_has_md5s(bytes: &[u8], s: usize, pairs: &[Pair], first: usize, count: usize) -> bool
+    requires some { 1 ≤ count }
+    requires few { count ≤ 8 }
+    requires pairs { first + count ≤ length pairs.now }
+    requires whole { (first + count) * s ≤ length bytes.now }
+    ensures { IsTrue result ↔ HaveMd5s s bytes.now pairs.now first (first + count) }
 {
-    let digests = window_digests(bytes, &starts_from(first, s), s);
-    for (lane, digest) in digests.iter().enumerate() {
-        if *digest != pairs[first + lane].0 {
+    let digests = window_digests(bytes, &starts_from(first, count, s), s);
+    for lane in 0..count {
+        if digests[lane] != pairs[first + lane].0 {
             return false;
         }
     }
     true
 }
 
-/// Whether the pairs of the first groups of eight have the MD5s of the slices of their numbers, which are whole.
-fn groups_have_md5s(bytes: &[u8], s: usize, pairs: &[Pair], groups: usize) -> bool
-    requires pairs { groups * 8 ≤ length pairs.now }
-    requires whole { groups * 8 * s ≤ length bytes.now }
-    ensures { IsTrue result ↔ ((j : ℕ) → j < groups * 8 → HasMd5 s bytes.now pairs.now j) }
+/// Whether the first pairs have the MD5s of the slices of their numbers, which are whole.
+fn groups_have_md5s(bytes: &[u8], s: usize, pairs: &[Pair], count: usize) -> bool
+    requires pairs { count ≤ length pairs.now }
+    requires whole { count * s ≤ length bytes.now }
+    ensures { IsTrue result ↔ HaveMd5s s bytes.now pairs.now 0 count }
 {
-    for group in 0..groups {
-        if !group_has_md5s(bytes, s, pairs, group * LANES) {
+    for group in 0..count.div_ceil(LANES) {
+        let first = group * LANES;
+        if !group_has_md5s(bytes, s, pairs, first, LANES.min(count - first)) {
             return false;
         }
     }
@@ -85,7 +90,7 @@ fn groups_have_md5s(bytes: &[u8], s: usize, pairs: &[Pair], groups: usize) -> bo
 fn rest_has_md5s(bytes: &[u8], s: u64, pairs: &[Pair], start: usize) -> bool
     requires size { 1 ≤ s }
     requires count { length pairs.now ≤ slices.slice_count s (length bytes.now) }
-    ensures { IsTrue result ↔ ((j : ℕ) → start ≤ j → j < length pairs.now → HasMd5 s bytes.now pairs.now j) }
+    ensures { IsTrue result ↔ HaveMd5s s bytes.now pairs.now start (length pairs.now) }
 {
     for j in start..pairs.len() {
         if padded_md5(slice_bytes(bytes, s, j as u64), s) != pairs[j].0 {
@@ -95,23 +100,30 @@ fn rest_has_md5s(bytes: &[u8], s: u64, pairs: &[Pair], start: usize) -> bool
     true
 }
 
-/// Whether each pair has the MD5 of the slice of its number. Whole slices are digested eight at a time.
+/// How many of some whole slices are digested side by side. One that is left is digested sooner by itself.
+fn count_side_by_side(whole: usize) -> usize
+    ensures { result ≤ whole }
+{
+    if whole % LANES == 1 { whole - 1 } else { whole }
+}
+
+/// Whether each pair has the MD5 of the slice of its number.
 fn have_md5s(bytes: &[u8], s: u64, pairs: &[Pair]) -> bool
     requires size { 1 ≤ s }
     requires count { length pairs.now ≤ slices.slice_count s (length bytes.now) }
-    ensures { IsTrue result ↔ ((j : ℕ) → j < length pairs.now → HasMd5 s bytes.now pairs.now j) }
+    ensures { IsTrue result ↔ HaveMd5s s bytes.now pairs.now 0 (length pairs.now) }
 {
-    let whole = (bytes.len() as u64 / s) as usize;
-    let groups = pairs.len().min(whole) / LANES;
-    groups_have_md5s(bytes, s as usize, pairs, groups)
-        && rest_has_md5s(bytes, s, pairs, groups * LANES)
+    let whole = pairs.len().min((bytes.len() as u64 / s) as usize);
+    let count = count_side_by_side(whole);
+    groups_have_md5s(bytes, s as usize, pairs, count) && rest_has_md5s(bytes, s, pairs, count)
 }
 
 /// Whether the bytes are those of a target of this size and these pairs, by their length and the checksums of their
 /// slices.
 pub fn is_intact(bytes: &[u8], s: u64, size: u64, pairs: &[Pair]) -> bool
     requires { 1 ≤ s }
-    ensures { (t : sets.Target) → t.size ≡ size → t.pairs ≡ pairs.now → result ≡ search.is_intact s t bytes.now }
+    ensures { (t : sets.Target) → t.size ≡ size → t.pairs ≡ pairs.now
+        → result ≡ search.is_intact s t bytes.now }
 {
     if bytes.len() as u64 != size {
         return false;

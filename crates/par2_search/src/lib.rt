@@ -7,5 +7,5 @@ mod matching;
 mod windows;
 
 pub use intact::is_intact;
-pub use matching::{Target, matched, matches_by_name};
+pub use matching::{Target, matched, matches_by_number_are_by_name};
 pub use windows::found_windows;

@@ -29,7 +29,8 @@ fn numbers_below(alloc: Global, n: usize) -> Result<Vec<usize>, AllocError>
 fn first_intact(texts: &[&[u8]], s: u64, target: &Target, free: &[usize]) -> Option<usize>
     requires size { 1 ≤ s }
     requires free { All (λ i. i < length texts.now) free.now }
-    ensures { (t : sets.Target) → Describes target.now t → result ≡ first_intact s (texts_of texts.now) t free.now }
+    ensures { (t : sets.Target) → Describes target.now t
+        → result ≡ first_intact s (texts_of texts.now) t free.now }
 {
     for &i in free {
         if is_intact(texts[i], s, target.size, target.pairs) {
@@ -44,7 +45,8 @@ fn take_first(texts: &[&[u8]], s: u64, target: &Target, free: &mut Vec<usize>) -
     requires size { 1 ≤ s }
     requires free { All (λ i. i < length texts.now) free.old.items }
     ensures free { All (λ i. i < length texts.now) free.new.items }
-    ensures first { (t : sets.Target) → Describes target.now t → result ≡ first_intact s (texts_of texts.now) t free.old.items }
+    ensures first { (t : sets.Target) → Describes target.now t
+        → result ≡ first_intact s (texts_of texts.now) t free.old.items }
     ensures left { free.new.items ≡ without result free.old.items }
 {
     let first = first_intact(texts, s, target, free)?;
@@ -60,7 +62,8 @@ pub fn matched(
     targets: &[Target],
 ) -> Result<Vec<Option<usize>>, AllocError>
     requires { 1 ≤ s }
-    ensures { IfOk result (λ numbers. (ts : List sets.Target) → Describe targets.now ts → numbers.items ≡ matched_numbers s (texts_of texts.now) ts) }
+    ensures { IfOk result (λ numbers. (ts : List sets.Target) → Describe targets.now ts
+        → numbers.items ≡ matched_numbers s (texts_of texts.now) ts) }
 {
     let mut free = numbers_below(alloc, texts.len())?;
     let mut numbers = Vec::with_capacity(alloc, targets.len())?;
@@ -71,6 +74,7 @@ pub fn matched(
 }
 
 /// Where texts have distinct names, the matches by the numbers of the texts are those by their names.
-pub fn matches_by_name()
-    ensures { (folder : Folder) (s : ℕ) (names : List (List ℕ)) (ts : List sets.Target) → NumbersAreNames folder s names ts }
+pub fn matches_by_number_are_by_name()
+    ensures { (folder : Folder) (s : ℕ) (names : List (List ℕ)) (ts : List sets.Target)
+        → NumbersAreNames folder s names ts }
 {}

@@ -69,7 +69,8 @@ pub fn found_windows<'a>(
     pairs: &[Pair],
 ) -> Result<Vec<Option<&'a [u8]>>, AllocError>
     requires { 1 ≤ s }
-    ensures first { IfOk result (λ windows. padded_windows s windows.items ≡ map (found s (texts_of texts.now)) pairs.now) }
+    ensures first { IfOk result (λ windows.
+        padded_windows s windows.items ≡ map (found s (texts_of texts.now)) pairs.now) }
     ensures short { IfOk result (λ windows. AreShort s windows.items) }
 {
     let mut windows = vec![in alloc; None; pairs.len()]?;

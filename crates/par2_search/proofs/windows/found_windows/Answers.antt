@@ -6,8 +6,8 @@ use Rattle.std.proofs.lemmas.List.{get_or-map, length-map, nil_from_length, take
 use Rattle.std.proofs.lemmas.List.Elements.{All-replicate}
 use Rattle.par2_spec.specs.Checksums.{Pair}
 use Rattle.par2_spec.specs.Windows.{found}
-use Rattle.par2_search.specs.Texts.{AreShort, IsSearched, missing_pairs, padded_window, padded_windows, texts_of}
-use Rattle.par2_search.proofs.Searched.{all_found, none_searched, one_searched, written_back, Window}
+use Rattle.par2_search.specs.Texts.{Window, AreShort, IsSearched, missing_pairs, padded_window, padded_windows, texts_of}
+use Rattle.par2_search.proofs.Searched.{all_found, none_searched, one_searched, written_back}
 use Rattle.par2_search.proofs.windows.found_windows.Goals as goal
 use Rattle.par2_search.proofs.windows.found_windows.Goals.{else-loop-text-test, then-loop-text-test+in_ok-missing+then-is_empty}
 

@@ -4,8 +4,8 @@ use Rattle.std.proofs.lemmas.List.{get_or_read}
 use Rattle.par2_spec.specs.Checksums.{Pair}
 use Rattle.par2_spec.specs.Windows.{window}
 use Rattle.par2_slices.specs.Searches.{pair_at}
-use Rattle.par2_search.specs.Texts.{window_of}
-use Rattle.par2_search.proofs.Searched.{Searching, Window, first_within, next_offset, none_from_some, window_kept, window_taken}
+use Rattle.par2_search.specs.Texts.{Window, window_of}
+use Rattle.par2_search.proofs.Searched.{Searching, first_within, next_offset, none_from_some, window_kept, window_taken}
 use Rattle.par2_search.proofs.windows.search_text.Goals as goal
 use Rattle.par2_search.proofs.windows.search_text.Goals.{then-is_none, else-is_none}
 
