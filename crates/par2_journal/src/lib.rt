@@ -20,6 +20,3 @@ pub use prepared::{Prepared, SessionFault};
 pub use session::Session;
 pub use spelling::Journals;
 pub use step::{Step, Steps};
-
-#[cfg(test)]
-mod tests;

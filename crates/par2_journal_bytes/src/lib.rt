@@ -14,6 +14,3 @@ pub use laws::one_reading;
 pub use par2_spec::Version;
 pub use reading::decode;
 pub use writing::encode;
-
-#[cfg(test)]
-mod tests;

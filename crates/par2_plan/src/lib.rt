@@ -12,6 +12,3 @@ mod words;
 pub use changes::Changes;
 pub use create::plan_create;
 pub use par2_spec::{CreateArgs, Fault};
-
-#[cfg(test)]
-mod tests;

@@ -9,6 +9,3 @@ pub use failure::write_failure;
 pub use report::{PrintedState, PrintedTarget, write_set, write_target, write_verdict};
 pub use step::{PrintedStep, write_done, write_note, write_step};
 pub use text::{WriteFault, write_parts};
-
-#[cfg(test)]
-mod tests;

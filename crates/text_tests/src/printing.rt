@@ -1,7 +1,7 @@
 //! The texts word for word, and writers that stop.
 ghost use Rattle.std.specs.Prelude.{Some};
 
-use crate::{
+use par2_printing::{
     PrintedState, PrintedStep, PrintedTarget, write_done, write_failure, write_note, write_set,
     write_step, write_target, write_verdict,
 };

@@ -1,10 +1,12 @@
 //! The expected texts were made by another program, from the format alone.
-ghost use Rattle.std.specs.Prelude.{◌≡◌, ◌≤◌, length, IfSome};
+ghost use Rattle.std.specs.Prelude.{◌≡◌, ◌≤◌, length, IfSome, None};
 ghost use Rattle.par2_spec.specs.Journals.{IsCursor};
 
-use super::*;
 use md5::{Digest, Md5};
 use par2_folder::{Bytes, Change, Name};
+use par2_journal_bytes::{
+    DecodeFault, Halfway, HalfwayParts, Journal, JournalParts, Version, decode, encode,
+};
 use std::alloc::{AllocError, Global};
 use std::process::Abort;
 use std::test::Fail;
@@ -65,6 +67,33 @@ fn are_same_changes(ones: &[Change], others: &[Change]) -> bool {
             .all(|(one, other)| is_same_change(one, other))
 }
 
+fn are_same_entries(entries: &[Vec<Change>], others: &[&[Change]]) -> bool {
+    entries.len() == others.len()
+        && entries
+            .iter()
+            .zip(others)
+            .all(|(one, other)| are_same_changes(one, other))
+}
+
+fn is_same_halfway(halfway: &Option<Halfway>, parts: &Option<HalfwayParts<'_>>) -> bool {
+    match (halfway, parts) {
+        (None, None) => true,
+        (Some(one), Some(other)) => {
+            one.fingerprints.as_slice() == other.fingerprints
+                && are_same_changes(&one.back, other.back)
+        }
+        _ => false,
+    }
+}
+
+fn is_same_journal(journal: &Journal, parts: &JournalParts<'_>) -> bool {
+    journal.version == parts.version
+        && journal.fingerprint == parts.fingerprint
+        && journal.cursor == parts.cursor
+        && are_same_entries(&journal.entries, parts.entries)
+        && is_same_halfway(&journal.halfway, &parts.halfway)
+}
+
 // The text of these parts, which reads back as they are.
 fn text_of<R: Abort + AllocGlobal>(rt: &R, parts: &JournalParts<'_>) -> Result<Vec<u8>, Fail>
     requires cursor { IsCursor parts.now.version parts.now.cursor (length parts.now.entries.now) }
@@ -72,75 +101,71 @@ fn text_of<R: Abort + AllocGlobal>(rt: &R, parts: &JournalParts<'_>) -> Result<V
     requires each { IfSome parts.now.halfway (λ h. length h.fingerprints.now ≡ length h.back.now) }
 {
     let text = encode(rt.alloc(), parts)?;
-    let journal = decode(rt.alloc(), &text)?;
-    assert_eq!(rt; journal.version, parts.version);
-    assert_eq!(rt; journal.fingerprint, parts.fingerprint);
-    assert_eq!(rt; journal.cursor, parts.cursor);
-    assert_eq!(rt; journal.entries.len(), parts.entries.len());
-    for (one, other) in journal.entries.iter().zip(parts.entries) {
-        assert!(rt; are_same_changes(one, other));
-    }
-    match (&journal.halfway, parts.halfway) {
-        (None, None) => {}
-        (Some(one), Some(other)) => {
-            assert_eq!(rt; one.fingerprints.as_slice(), other.fingerprints);
-            assert!(rt; are_same_changes(&one.back, other.back));
-        }
-        _ => assert!(rt; false),
-    }
+    let Ok(journal) = decode(rt.alloc(), &text) else {
+        panic!(rt; "no journal");
+    };
+    assert!(rt; is_same_journal(&journal, parts));
     Ok(text)
 }
 
-#[test]
-fn journal_lengths(rt: HostRuntime) -> Result<(), Fail> {
-    let undo = [Change::Remove(name(&rt, "t.par2"))];
-    let undos = [undo.as_slice()];
-    let redo = [Change::Write(name(&rt, "t.par2"), Bytes::copy_of(rt.alloc(), &[0; 420])?)];
-    let redos = [redo.as_slice()];
-    let settled = JournalParts {
-        version: Version::One,
+// The parts of a journal without entries.
+fn settled(version: Version) -> JournalParts<'static>
+    ensures version { result.version ≡ version }
+    ensures cursor { result.cursor ≡ 0 }
+    ensures entries { length result.entries.now ≡ 0 }
+    ensures halfway { result.halfway ≡ None }
+{
+    JournalParts {
+        version,
         fingerprint: FINGERPRINT,
         cursor: 0,
         entries: &[],
         halfway: None,
+    }
+}
+
+#[test]
+fn journals_of_an_undo(rt: HostRuntime) -> Result<(), Fail> {
+    let undo = [Change::Remove(name(&rt, "t.par2"))];
+    let undos = [undo.as_slice()];
+    let one = JournalParts {
+        cursor: 1,
+        entries: &undos,
+        ..settled(Version::One)
     };
+    assert_eq!(rt; text_of(&rt, &one)?.as_slice(), UNDO_ONE);
+    let two = JournalParts {
+        version: Version::Two,
+        ..one
+    };
+    assert_eq!(rt; text_of(&rt, &two)?.as_slice(), UNDO_TWO);
+    Ok(())
+}
 
-    let text = text_of(
-        &rt,
-        &JournalParts {
-            cursor: 1,
-            entries: &undos,
-            ..settled
-        },
-    )?;
-    assert_eq!(rt; text.len(), 65);
-    assert_eq!(rt; text.as_slice(), UNDO_ONE);
-    let text = text_of(
-        &rt,
-        &JournalParts {
-            version: Version::Two,
-            cursor: 1,
-            entries: &undos,
-            ..settled
-        },
-    )?;
-    assert_eq!(rt; text.len(), 73);
-    assert_eq!(rt; text.as_slice(), UNDO_TWO);
+#[test]
+fn journal_without_entries(rt: HostRuntime) -> Result<(), Fail> {
+    assert_eq!(rt;
+        text_of(&rt, &settled(Version::One))?.as_slice(),
+        NOTHING_ONE
+    );
+    Ok(())
+}
 
-    let text = text_of(&rt, &settled)?;
-    assert_eq!(rt; text.len(), 49);
-    assert_eq!(rt; text.as_slice(), NOTHING_ONE);
-    let text = text_of(
-        &rt,
-        &JournalParts {
-            version: Version::Two,
-            entries: &redos,
-            ..settled
-        },
-    )?;
-    assert_eq!(rt; text.len(), 501);
-    assert!(rt; text.ends_with(&REDO_DIGEST));
+#[test]
+fn journal_of_a_redo(rt: HostRuntime) -> Result<(), Fail> {
+    let redo = [Change::Write(name(&rt, "t.par2"), Bytes::copy_of(rt.alloc(), &[0; 420])?)];
+    let redos = [redo.as_slice()];
+    let parts = JournalParts {
+        entries: &redos,
+        ..settled(Version::Two)
+    };
+    let text = text_of(&rt, &parts)?;
+    assert!(rt; text.len() == 501 && text.ends_with(&REDO_DIGEST));
+    Ok(())
+}
 
+#[test]
+fn halfway_journals(rt: HostRuntime) -> Result<(), Fail> {
     let back = [
         Change::Remove(name(&rt, "a")),
         Change::Rename(name(&rt, "a.1"), name(&rt, "a")),
@@ -150,19 +175,16 @@ fn journal_lengths(rt: HostRuntime) -> Result<(), Fail> {
         fingerprints: &fingerprints,
         back: &back,
     });
-    let text = text_of(&rt, &JournalParts { halfway, ..settled })?;
-    assert_eq!(rt; text.len(), 99);
-    assert_eq!(rt; text.as_slice(), HALFWAY_ONE);
-    let text = text_of(
-        &rt,
-        &JournalParts {
-            version: Version::Two,
+    for (version, wanted) in [(Version::One, HALFWAY_ONE), (Version::Two, HALFWAY_TWO)] {
+        let parts = JournalParts {
+            version,
+            fingerprint: FINGERPRINT,
+            cursor: 0,
+            entries: &[],
             halfway,
-            ..settled
-        },
-    )?;
-    assert_eq!(rt; text.len(), 107);
-    assert_eq!(rt; text.as_slice(), HALFWAY_TWO);
+        };
+        assert_eq!(rt; text_of(&rt, &parts)?.as_slice(), wanted);
+    }
     Ok(())
 }
 
@@ -221,14 +243,18 @@ fn damaged_journals(rt: HostRuntime) -> Result<(), Fail> {
     let alloc = rt.alloc();
     for text in [UNDO_ONE, UNDO_TWO, NOTHING_ONE, HALFWAY_ONE, HALFWAY_TWO] {
         assert!(rt; decode(alloc, text).is_ok());
-        assert!(rt; are_prefixes_refused(alloc, text));
-        assert!(rt; are_changes_refused(alloc, text)?);
+        assert!(rt; are_prefixes_refused(alloc, text) && are_changes_refused(alloc, text)?);
         let mut longer = Vec::from_slice(alloc, text)?;
         longer.push(0)?;
         assert!(rt; is_refused(alloc, &longer));
     }
+    Ok(())
+}
+
+#[test]
+fn false_journals(rt: HostRuntime) -> Result<(), Fail> {
     for body in FALSE_BODIES {
-        assert!(rt; is_refused(alloc, &closed(alloc, body)?));
+        assert!(rt; is_refused(rt.alloc(), &closed(rt.alloc(), body)?));
     }
     Ok(())
 }

@@ -1,0 +1,13 @@
+//! Tests of plans and sessions. They stand apart from the libraries, so that these are proved without them.
+#![tactic(auto)]
+
+#[cfg(test)]
+mod fixtures;
+#[cfg(test)]
+mod journal;
+#[cfg(test)]
+mod opening;
+#[cfg(test)]
+mod plan;
+#[cfg(test)]
+mod session;

@@ -1,0 +1,118 @@
+//! Folders that are opened with a journal.
+use crate::fixtures::folder_of;
+use crate::journal::{halfway_of, is_removal_of, journal_of};
+use crate::session::{assert_stands, create, redo, session_of, undo};
+use par2_folder::{Folder, Name};
+use par2_journal::{Halfway, Opened, Session};
+use par2_spec::JournalFault;
+use std::alloc::Global;
+use std::process::Abort;
+use std::test::Fail;
+
+fn open(alloc: Global, folder: Folder, text: &[u8]) -> Result<Opened, (JournalFault, Folder)> {
+    Session::open(alloc, folder, text)
+}
+
+// The journal does not open the folder with this file alone, which is given back as it was.
+fn assert_refused<R: Abort + AllocGlobal>(
+    rt: &R,
+    file: &str,
+    text: &[u8],
+    wanted: JournalFault,
+) -> Result<(), Fail> {
+    let folder = folder_of(rt, &[(file, b"abcdefgh")])?;
+    let before = folder.fingerprint(rt.alloc())?;
+    let Err((fault, folder)) = open(rt.alloc(), folder, text) else {
+        panic!(rt; "opened in place of {wanted:?}");
+    };
+    assert_eq!(rt; fault, wanted);
+    assert_eq!(rt; folder.fingerprint(rt.alloc())?, before);
+    Ok(())
+}
+
+// The journal of a create that was taken back.
+fn undone_create<R: Abort + AllocGlobal>(rt: &R) -> Result<Vec<u8>, Fail> {
+    let mut session = session_of(rt)?;
+    create(rt, &mut session, "t.par2")?;
+    undo(rt, &mut session);
+    journal_of(rt, &session)
+}
+
+#[test]
+fn opens_its_journal(rt: HostRuntime) -> Result<(), Fail> {
+    let text = undone_create(&rt)?;
+    let folder = folder_of(&rt, &[("a", b"abcdefgh")])?;
+    let Ok(Opened::Settled(mut again)) = open(rt.alloc(), folder, &text) else {
+        panic!(rt; "not opened");
+    };
+    assert_stands(&rt, &again, "t.par2", (0, 1, None));
+    redo(&rt, &mut again);
+    assert_stands(&rt, &again, "t.par2", (1, 0, Some(420)));
+    Ok(())
+}
+
+#[test]
+fn foreign_journals(rt: HostRuntime) -> Result<(), Fail> {
+    let text = undone_create(&rt)?;
+    assert_refused(
+        &rt,
+        "b",
+        &text,
+        JournalFault::FolderChanged { halfway: false },
+    )?;
+    assert_refused(&rt, "a", b"no journal", JournalFault::JournalInvalid)?;
+    let begun = halfway_of(&rt, &mut session_of(&rt)?)?;
+    assert_refused(
+        &rt,
+        "b",
+        &begun,
+        JournalFault::FolderChanged { halfway: true },
+    )
+}
+
+// Opens by the journal of a command that was begun.
+fn open_begun<R: Abort + AllocGlobal>(rt: &R, folder: Folder, text: &[u8]) -> Halfway {
+    let Ok(Opened::Begun(begun)) = open(rt.alloc(), folder, text) else {
+        panic!(rt; "not opened");
+    };
+    begun
+}
+
+#[test]
+fn opens_before_the_first_change(rt: HostRuntime) -> Result<(), Fail> {
+    let text = halfway_of(&rt, &mut session_of(&rt)?)?;
+    let before = folder_of(&rt, &[("a", b"abcdefgh")])?;
+    assert_eq!(rt; open_begun(&rt, before, &text).changes().len(), 0);
+    Ok(())
+}
+
+// The folder of a session with the files `a` and `t.par2`.
+fn folder_after<R: Abort + AllocGlobal>(rt: &R, session: &Session) -> Result<Folder, Fail> {
+    let name = Name::new("t.par2").expect(rt, "a name");
+    let Some(index) = session.folder().get(&name) else {
+        panic!(rt; "no index");
+    };
+    folder_of(rt, &[("a", b"abcdefgh"), ("t.par2", index)])
+}
+
+// The command is taken back by removing the index.
+fn assert_taken_back<R: Abort + AllocGlobal>(
+    rt: &R,
+    begun: Halfway,
+    settled: &[u8],
+) -> Result<(), Fail> {
+    assert!(rt; is_removal_of(begun.changes(), "t.par2"));
+    let text = begun.settled(rt.alloc())?;
+    assert_eq!(rt; text.as_slice(), settled);
+    assert_stands(rt, &begun.finish(), "t.par2", (0, 0, None));
+    Ok(())
+}
+
+#[test]
+fn opens_after_the_last_change(rt: HostRuntime) -> Result<(), Fail> {
+    let mut session = session_of(&rt)?;
+    let settled = journal_of(&rt, &session)?;
+    let text = halfway_of(&rt, &mut session)?;
+    let begun = open_begun(&rt, folder_after(&rt, &session)?, &text);
+    assert_taken_back(&rt, begun, &settled)
+}
