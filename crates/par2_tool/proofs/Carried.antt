@@ -1,6 +1,5 @@
 -- What comes of an action on a store that was opened.
-use Rattle.std.proofs.Common.{◌≡◌, ◌⊎◌, inl, inr, ◌<◌, ◌≤◌, ℕ, List, Option, Some, None, Result, Ok, Err, Bool, true, false, refl, sym, ap, subst, ◌∙◌, arith}
-use Rattle.std.specs.Prelude.{is_ok}
+use Rattle.std.proofs.Common.{◌≡◌, inl, inr, ◌<◌, ◌≤◌, ℕ, List, Option, Some, None, Result, Ok, Err, Bool, true, false, refl, sym, ap, subst, ◌∙◌, arith}
 use Rattle.par2_spec.specs.Changes.{Change}
 use Rattle.par2_spec.specs.Commands.{Action, Do, Undo, Redo}
 use Rattle.par2_spec.specs.History as history
@@ -13,10 +12,10 @@ use Rattle.par2_spec.specs.declared.Fault.TheVariants.{Memory}
 use Rattle.par2_spec.proofs.NamesLaws.{false_true}
 use Rattle.par2_journal.specs.declared.prepared.SessionFault.{SessionFault}
 use Rattle.par2_journal.specs.declared.prepared.SessionFault.TheVariants.{Plan, NothingToUndo, NothingToRedo}
-use Rattle.par2_tool.specs.Held.{IsOpening, Holds, kept, TellsApartAlong, TellsApartBack, OpensAsBefore, OpensAsBeforeOrAfter}
-use Rattle.par2_tool.specs.Opened.{IsUnopened}
+use Rattle.par2_tool.specs.Held.{TellsApartAlong, TellsApartBack, OpensAsBefore, OpensAsBeforeOrAfter}
+use Rattle.par2_tool.specs.Opened.{IsOpened, IsUnopened}
 use Rattle.par2_tool.specs.Refused.{IsRefused, IsSession, failed, unopened_as}
-use Rattle.par2_tool.specs.Told.{IsBack, IsFailed, IsAtTheEnd, IsStopped, OpensAsBeforeOrAfterRun}
+use Rattle.par2_tool.specs.Told.{IsBack, IsCause, IsFailed, IsAtTheEnd, OpensAsBeforeOrAfterRun}
 use Rattle.par2_tool.specs.declared.opening.OpenFault.{OpenFault}
 use Rattle.par2_tool.specs.declared.opening.OpenFault.TheVariants as unopened
 use Rattle.par2_tool.specs.declared.performing.PerformFault.{PerformFault}
@@ -53,52 +52,78 @@ is_plan_fault (Plan fault) = true
 is_plan_fault NothingToUndo = false
 is_plan_fault NothingToRedo = false
 
-module _ (action : Action) (old mid new : Contents) (before middle after : ℕ) (s later : KeptSession) (dropped : Bool) (opening : IsOpening old (Ok (record { session = session_of_kept s; dropped = dropped })))
-    (holds : Holds mid (record { session = session_of_kept s; dropped = dropped })) (back : IsBack action → dropped ≡ false) (rose : before ≤ middle) where
-  unchanged : new ≡ mid → Holds new (record { session = session_of_kept s; dropped = dropped })
-  unchanged same = subst (λ (k : Contents). Holds k (record { session = session_of_kept s; dropped = dropped })) (sym same) holds
+module _ (action : Action) (old mid new : Contents) (s later : KeptSession) (dropped : Bool) (opened : IsOpened old mid (record { session = session_of_kept s; dropped = dropped })) (back : IsBack action → dropped ≡ false) where
+  abbrev start : Started
+  start = record { session = session_of_kept s; dropped = dropped }
+
+  unchanged : new ≡ mid → IsOpened old new start
+  unchanged same = subst (λ (k : Contents). IsOpened old k start) (sym same) opened
 
   ended : (end : history.Refusal) → is_plan {A = List Change} (Err end) ≡ false → changes_asked (session_of_kept s) action ≡ Err end → new ≡ mid → IsAtTheEnd action old new end
   ended end is asked same =
       let none = back (at_an_end (session_of_kept s) action end is asked) in (
         session_of_kept s,
-        subst (λ b. IsOpening old (Ok (record { session = session_of_kept s; dropped = b }))) none opening,
+        subst (λ b. IsOpened old new (record { session = session_of_kept s; dropped = b })) none (unchanged same),
         asked,
-        subst (λ b. Holds new (record { session = session_of_kept s; dropped = b })) none (unchanged same),
       )
 
-  pub perform_failed : (fault : PerformFault) → IsRefused action s later middle after fault → (IsSession fault → new ≡ mid)
-      → (TellsApartAlong (session_of_kept s) action → OpensAsBeforeOrAfter (session_of_kept s) action mid new) → IsFailed action old new before after (failed fault)
+  pub perform_failed : (before after : ℕ) (fault : PerformFault) → IsRefused action s later before after fault → (IsSession fault → new ≡ mid)
+      → (TellsApartAlong (session_of_kept s) action → OpensAsBeforeOrAfter (session_of_kept s) action mid new) → IsFailed action old new (failed fault)
   unfolding memory_of is_plan_fault is_plan
-  perform_failed (Refusing (Plan reason)) refused same stopped =
+  perform_failed before after (Refusing (Plan reason)) refused same stopped =
       elim refused.0 [
-        | inl memory ↦ inl (ap memory_of memory, inr (record { session = session_of_kept s; dropped = dropped }, opening, unchanged (same tt)))
-        | inr asked ↦ inr (record { session = session_of_kept s; dropped = dropped }, opening, asked, unchanged (same tt))
+        | inl memory ↦ inl (ap memory_of memory, inr (start, unchanged (same tt)))
+        | inr asked ↦ inr (start, unchanged (same tt), asked)
       ]
-  perform_failed (Refusing NothingToUndo) refused same stopped =
+  perform_failed before after (Refusing NothingToUndo) refused same stopped =
       elim refused.0 [
         | inl memory ↦ absurd (false_true (ap is_plan_fault memory))
         | inr asked ↦ ended history.NothingToUndo refl asked (same tt)
       ]
-  perform_failed (Refusing NothingToRedo) refused same stopped =
+  perform_failed before after (Refusing NothingToRedo) refused same stopped =
       elim refused.0 [
         | inl memory ↦ absurd (false_true (ap is_plan_fault memory))
         | inr asked ↦ ended history.NothingToRedo refl asked (same tt)
       ]
-  perform_failed Store refused same stopped =
-      (omega (arith, rose, refused), λ _ along. all_stops (stopped (along (record { session = session_of_kept s; dropped = dropped }) opening)))
+  perform_failed before after Store refused same stopped = λ _ along. all_stops (stopped (along start opened.opens))
     where
       all_stops : OpensAsBeforeOrAfter (session_of_kept s) action mid new → OpensAsBeforeOrAfterRun action old new
-      all_stops (inl e) = inr (record { session = session_of_kept s; dropped = dropped }, opening, inl (unchanged e).opens)
-      all_stops (inr stop) = inr (record { session = session_of_kept s; dropped = dropped }, opening, inr stop)
+      all_stops (inl e) = inr (start, opened.opens, inl (unchanged e).holds.opens)
+      all_stops (inr stop) = inr (start, opened.opens, inr stop)
 
-pub opening_failed : (action : Action) (old new : Contents) (before after : ℕ) (fault : OpenFault) → IsUnopened old new fault → (fault ≡ unopened.Store → before < after)
-    → (TellsApartBack old → OpensAsBefore old new) → IsFailed action old new before after (unopened_as fault)
-opening_failed action old new before after unopened.JournalInvalid is rose stopped = is
-opening_failed action old new before after unopened.FolderChanged is rose stopped = inl is
-opening_failed action old new before after unopened.Memory is rose stopped = inl (refl, inl is)
-opening_failed action old new before after unopened.Store is rose stopped = (rose refl, λ back _. all_stops (stopped back))
+pub opening_failed : (action : Action) (old new : Contents) (fault : OpenFault) → IsUnopened old new fault → (TellsApartBack old → OpensAsBefore old new) → IsFailed action old new (unopened_as fault)
+opening_failed action old new unopened.JournalInvalid is stopped = is
+opening_failed action old new unopened.FolderChanged is stopped = inl is
+opening_failed action old new unopened.Memory is stopped = inl (refl, inl is)
+opening_failed action old new unopened.Store is stopped = λ back _. all_stops (stopped back)
   where
     all_stops : OpensAsBefore old new → OpensAsBeforeOrAfterRun action old new
     all_stops (inl e) = inl e
     all_stops (inr s) = inr (s.0, s.1, inl s.2)
+
+-- ---- why, whatever the store does
+
+pub perform_cause : (action : Action) (s later : KeptSession) (before middle after : ℕ) (fault : PerformFault) → before ≤ middle → IsRefused action s later middle after fault → IsCause action before after (failed fault)
+unfolding memory_of is_plan_fault
+perform_cause action s later before middle after (Refusing (Plan reason)) rose refused =
+    elim refused.0 [
+      | inl memory ↦ inl (ap memory_of memory)
+      | inr asked ↦ inr (session_of_kept s, asked)
+    ]
+perform_cause action s later before middle after (Refusing NothingToUndo) rose refused =
+    elim refused.0 [
+      | inl memory ↦ absurd (false_true (ap is_plan_fault memory))
+      | inr asked ↦ (session_of_kept s, asked)
+    ]
+perform_cause action s later before middle after (Refusing NothingToRedo) rose refused =
+    elim refused.0 [
+      | inl memory ↦ absurd (false_true (ap is_plan_fault memory))
+      | inr asked ↦ (session_of_kept s, asked)
+    ]
+perform_cause action s later before middle after Store rose refused = omega (arith, rose, refused)
+
+pub opening_cause : (action : Action) (before after : ℕ) (fault : OpenFault) → (fault ≡ unopened.Store → before < after) → IsCause action before after (unopened_as fault)
+opening_cause action before after unopened.JournalInvalid rose = tt
+opening_cause action before after unopened.FolderChanged rose = tt
+opening_cause action before after unopened.Memory rose = inl refl
+opening_cause action before after unopened.Store rose = rose refl

@@ -1,14 +1,11 @@
 -- Runs on one store keep one history.
-use Rattle.std.proofs.Common.{◌≡◌, ◌⊎◌, inl, inr, List, [], ◌∷◌, Option, Some, None, Result, Ok, Err, Bool, true, false, if◌then◌else◌, refl, sym, ap, subst, ◌∙◌}
-use Rattle.std.specs.Prelude.{IsErr, ◌&&◌, ◌-◌, not, is_ok, position, length, take, drop, reverse, ℕ}
+use Rattle.std.proofs.Common.{◌≡◌, inl, inr, List, [], ◌∷◌, Option, Some, None, Result, Ok, Err, true, false, refl, sym, ap, subst, ◌∙◌}
+use Rattle.std.specs.Prelude.{IsErr, is_ok, ℕ}
 use Rattle.std.specs.List.{AllByRecursion}
-use Rattle.std.specs.Str.{bytes_eq}
-use Rattle.par2_spec.specs.Changes.{Change, effects}
-use Rattle.par2_spec.specs.Commands.{Action, Do, Undo, Redo, Command, Create, Verify, Repair, Purge}
-use Rattle.par2_spec.specs.Folders.{Folder, fingerprint}
+use Rattle.par2_spec.specs.Commands.{Action, Do, Undo, Redo}
+use Rattle.par2_spec.specs.Folders.{Folder}
 use Rattle.par2_spec.specs.History.{History, Refusal, MayBeRefused, Run, history_after}
 use Rattle.par2_spec.specs.History as history
-use Rattle.par2_spec.specs.Journals.{Journal, Halfway, Spells}
 use Rattle.par2_spec.specs.Opening.{Opened, Settled, ToTakeBack, Started, OpensAs, Opens, opened, new_session, is_valid, leads, started}
 use Rattle.par2_spec.specs.Sessions.{Session, history_of, session_after, changes_asked, applied}
 use Rattle.par2_spec.specs.Stores.{Contents}
@@ -20,8 +17,7 @@ use Rattle.par2_spec.proofs.StopLaws.{taken_back_leads}
 use Rattle.par2_journal.specs.Plain.{IsPlain}
 use Rattle.par2_journal.proofs.Acting.{leads_asked}
 use Rattle.par2_journal_bytes.proofs.Whole.{one_reading}
-use Rattle.par2_tool.specs.Held.{IsOpening, Holds, kept}
-use Rattle.par2_tool.specs.Told.{IsDone, IsRefusedFor}
+use Rattle.par2_tool.specs.Held.{Holds, kept}
 use Rattle.par2_tool.specs.Runs.{Runs, Ended, Accepted, Passed}
 use Rattle.par2_tool.proofs.Reopened.{settled_on, begun_by}
 
@@ -87,7 +83,7 @@ runs_go old new started (action ∷ actions) n holds plain (Accepted done rest) 
     let later = runs_go _ new (kept done.after) actions _ done.holds plain.1 rest in
     (later.0, history.Accepted (ap (λ s. history_after (history_of s) action) same ∙ leads) later.1, later.2)
 runs_go old new started (action ∷ actions) n holds plain (Passed refused rest) =
-    let same : refused.0 ≡ started = one_start old.files old.journal refused.0 started refused.1 holds.opens in
+    let same : refused.0 ≡ started = one_start old.files old.journal refused.0 started refused.1.opens holds.opens in
     let may = subst (λ (x : Started). MayBeRefused (history_of x.session) action) same (may_be_refused refused.0.session action _ refused.2) in
-    let later = runs_go _ new started actions n (subst (λ (x : Started). Holds _ x) same refused.3) plain.1 rest in
+    let later = runs_go _ new started actions n (subst (λ (x : Started). Holds _ x) same refused.1.holds) plain.1 rest in
     (later.0, history.Passed may later.1, later.2)

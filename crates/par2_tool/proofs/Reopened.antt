@@ -15,7 +15,7 @@ use Rattle.par2_spec.specs.declared.JournalFault.TheVariants.{JournalInvalid, Fo
 use Rattle.par2_spec.specs.declared.Version.TheVariants.{Two}
 use Rattle.par2_spec.proofs.StopLaws.{settled_stored, still_stored, taken_back_leads}
 use Rattle.par2_tool.specs.Held.{Holds, IsOpening, OpensAsBefore, TellsApartBack, kept}
-use Rattle.par2_tool.specs.Opened.{IsRead, IsStillBegun, IsTakenBack}
+use Rattle.par2_tool.specs.Opened.{IsRead, IsStillBegun, IsTakenBack, TakesBack}
 use Rattle.par2_tool.specs.Performed.{IsStoppedAt}
 use Rattle.par2_tool.proofs.Made.{all_changed_is}
 
@@ -104,6 +104,16 @@ holds_taken_back old new files text s back read opens done =
     let is : new ≡ record { files = s.folder; journal = Some done.0 } =
     done.2 ∙ ap (λ k. journaled k done.0) (all_changed_is old back) ∙ ap (λ f. record { files = f; journal = Some done.0 }) home in
     subst (λ k. Holds k (kept s)) (sym is) (record { files = refl; opens = settled_stored Two s done.0 leads.2 done.1 })
+
+pub takes_back : (old new : Contents) (files : Folder) (text : List ℕ) (s : Session) (back : List Change) → IsRead old files text → Opens files text (Ok (ToTakeBack s back)) → IsTakenBack s back old new → TakesBack old new
+takes_back old new files text s back read opens done = record {
+  text = text;
+  session = s;
+  back = back;
+  journal = ap (λ (k : Contents). k.journal) read;
+  begun = subst (λ f. Opens f text (Ok (ToTakeBack s back))) (sym (ap (λ (k : Contents). k.files) read)) opens;
+  taken = done;
+}
 
 -- wherever that stops, the store opens as it did
 pub opens_still : (old new : Contents) (files : Folder) (text : List ℕ) (s : Session) (back : List Change) → IsRead old files text → Opens files text (Ok (ToTakeBack s back)) → TellsApartBack old → IsStillBegun s back old new → OpensAsBefore old new

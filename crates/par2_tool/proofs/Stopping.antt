@@ -3,12 +3,12 @@ use Rattle.std.proofs.Common.{◌≡◌, ◌≢◌, ◌⊎◌, inl, inr, ℕ, �
 use Rattle.std.specs.Prelude.{IfOk}
 use Rattle.std.specs.declared.alloc.Global.{Global}
 use Rattle.std.proofs.lemmas.List.{take_all}
-use Rattle.par2_spec.specs.Changes.{Change, effects, takes_all, are_applicable}
+use Rattle.par2_spec.specs.Changes.{Change, effects, takes_all}
 use Rattle.par2_spec.specs.Commands.{Action}
 use Rattle.par2_spec.specs.Folders.{Folder}
 use Rattle.par2_spec.specs.Journals.{Spells}
-use Rattle.par2_spec.specs.Opening.{JournalPair, OpensAs, TellsApart, Started, halfway_where, journals_of, settled_journal}
-use Rattle.par2_spec.specs.Sessions.{Session, KeptSession, CanWalk, OnlyGrew, session_of_kept, session_after, session_with, changes_asked, kept_done, kept_undone, kept_redone}
+use Rattle.par2_spec.specs.Opening.{OpensAs, TellsApart, halfway_where, journals_of, settled_journal}
+use Rattle.par2_spec.specs.Sessions.{Session, KeptSession, CanWalk, OnlyGrew, session_of_kept, changes_asked, kept_done, kept_undone, kept_redone}
 use Rattle.par2_spec.specs.Stores.{Contents, journaled}
 use Rattle.par2_spec.specs.declared.Version.TheVariants.{Two}
 use Rattle.par2_spec.proofs.FolderLaws.{state_files, taken_are_applicable}
@@ -20,7 +20,7 @@ use Rattle.par2_journal.specs.declared.spelling.Journals.{Journals}
 use Rattle.par2_journal.proofs.Acting.{same_session}
 use Rattle.par2_journal.proofs.Spelled.{asked_session, kind_taken}
 use Rattle.par2_tool.specs.Performed.{all_changed, begun, written_down, IsStoppedAt}
-use Rattle.par2_tool.specs.Held.{IsOpening, Holds, kept, TellsApartAlong, OpensAsBeforeOrAfter}
+use Rattle.par2_tool.specs.Held.{IsOpening, Holds, HasJournalOf, kept, TellsApartAlong, OpensAsBeforeOrAfter}
 use Rattle.par2_tool.proofs.Made.{all_changed_is, same_changes}
 
 -- ---- the session afterwards
@@ -83,6 +83,16 @@ pub asked_in_order : (old mid : KeptSession) (action : Action) (ready : Ready) �
 asked_in_order old mid action ready grew is k journals new stop =
     subst (λ r. IfOk r (λ changes. (n : ℕ) × (new.files ≡ effects k.files (take n changes)))) (sym (asked_of_mid old mid action ready grew is)) (in_order k journals (changes_of ready.kind mid) new stop)
 
+-- the last journal is that of the session afterwards
+after_spelled : (old mid : KeptSession) (action : Action) (ready : Ready) → OnlyGrew old mid → IsReady action old ready mid → (journals : Journals) → AreSpelled journals (journals_of Two (session_of_kept mid) action (changes_of ready.kind mid))
+    → Spells journals.after.items (settled_journal Two (session_of_kept (committed ready.kind mid)))
+unfolding journals_of
+after_spelled old mid action ready grew is journals spelled = subst (λ (s : Session). Spells journals.after.items (settled_journal Two s)) (sym (asked_session action old mid ready grew is)) spelled.1
+
+pub written_journal : (old mid : KeptSession) (action : Action) (ready : Ready) → OnlyGrew old mid → IsReady action old ready mid → (journals : Journals) → AreSpelled journals (journals_of Two (session_of_kept mid) action (changes_of ready.kind mid))
+    → (k : Contents) → HasJournalOf (session_of_kept (committed ready.kind mid)) (written_down k journals (changes_of ready.kind mid))
+written_journal old mid action ready grew is journals spelled k = (journals.after.items, refl, after_spelled old mid action ready grew is journals spelled)
+
 module _ (old mid : KeptSession) (action : Action) (ready : Ready) (grew : OnlyGrew old mid) (is : IsReady action old ready mid) (walks : CanWalk old) (journals : Journals)
     (spelled : AreSpelled journals (journals_of Two (session_of_kept mid) action (changes_of ready.kind mid))) (k : Contents) (files : k.files ≡ old.folder.files) where
   cs : List Change
@@ -91,17 +101,13 @@ module _ (old mid : KeptSession) (action : Action) (ready : Ready) (grew : OnlyG
   mid_walks : CanWalk mid
   mid_walks = grown_can_walk old mid walks grew
 
-  after_spelled : Spells journals.after.items (settled_journal Two (session_of_kept (committed ready.kind mid)))
-  unfolding journals_of
-  after_spelled = subst (λ (s : Session). Spells journals.after.items (settled_journal Two s)) (sym (asked_session action old mid ready grew is)) spelled.1
-
   halfway_spelled : SpellsWhere journals.halfway (halfway_where Two (session_of_kept mid) (changes_of ready.kind mid))
   unfolding journals_of
   halfway_spelled = spelled.0
 
   pub written_holds : Holds (written_down k journals (changes_of ready.kind mid)) (kept (session_of_kept (committed ready.kind mid)))
   written_holds =
-      settled_holds (all_changed (begun k journals.halfway) (changes_of ready.kind mid)) (committed ready.kind mid) journals.after.items (committed_walks ready.kind mid mid_walks is.fits.can) after_spelled
+      settled_holds (all_changed (begun k journals.halfway) (changes_of ready.kind mid)) (committed ready.kind mid) journals.after.items (committed_walks ready.kind mid mid_walks is.fits.can) (after_spelled old mid action ready grew is journals spelled)
       (changed_files k journals.halfway (changes_of ready.kind mid) ∙ ap (λ f. effects f (changes_of ready.kind mid)) (files ∙ sym grew.files) ∙ sym (committed_files ready.kind mid))
 
   -- behind some of the changes

@@ -1,11 +1,13 @@
 -- What a store holds of a session, and what a stop leaves of it.
-use Rattle.std.specs.Prelude.{◌≡◌, ◌⊎◌, List, Option, Some, Result, Ok, Err, IfOk, true, false}
+use Rattle.std.specs.Prelude.{◌≡◌, ◌⊎◌, ℕ, List, Some, Result, Ok, IfOk, false}
 use Rattle.par2_spec.specs.Changes.{Change}
 use Rattle.par2_spec.specs.Commands.{Action}
 use Rattle.par2_spec.specs.Sessions.{Session, changes_asked, session_after}
-use Rattle.par2_spec.specs.Opening.{Started, OpensAs, Opens, ToTakeBack, TellsApart}
+use Rattle.par2_spec.specs.Journals.{Spells}
+use Rattle.par2_spec.specs.Opening.{Started, OpensAs, Opens, ToTakeBack, TellsApart, settled_journal}
 use Rattle.par2_spec.specs.Stores.{Contents}
 use Rattle.par2_spec.specs.declared.JournalFault.{JournalFault}
+use Rattle.par2_spec.specs.declared.Version.TheVariants.{Two}
 
 -- what a store with these contents opens as
 abbrev pub IsOpening : Contents → Result Started JournalFault → Type 0
@@ -19,6 +21,11 @@ pub record Holds (contents : Contents) (started : Started) : Type 0 where
 -- the session, of which no history was dropped
 abbrev pub kept : Session → Started
 kept session = record { session = session; dropped = false }
+
+-- the journal of the session stands, in version 2
+abbrev pub HasJournalOf : Session → Contents → Type 0
+HasJournalOf session contents =
+    (text : List ℕ) × (contents.journal ≡ Some text) × Spells text (settled_journal Two session)
 
 -- ---- the premises on fingerprints
 

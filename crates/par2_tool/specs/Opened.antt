@@ -1,17 +1,17 @@
--- What a store is opened as, or why it isn't.
-use Rattle.std.specs.Prelude.{◌≡◌, ◌⊎◌, ◌≤◌, ℕ, List, length, take, Some, Err, true}
+-- What a store is opened as, and what opening does to it; or why it isn't opened.
+use Rattle.std.specs.Prelude.{◌≡◌, ◌⊎◌, ◌≤◌, ℕ, List, length, take, Some, Ok, Err, true}
 use Rattle.par2_spec.specs.Changes.{Change}
 use Rattle.par2_spec.specs.Folders.{Folder}
 use Rattle.par2_spec.specs.Journals.{Spells}
 use Rattle.par2_spec.specs.Opening as defined
-use Rattle.par2_spec.specs.Opening.{settled_journal}
+use Rattle.par2_spec.specs.Opening.{Opens, ToTakeBack, settled_journal}
 use Rattle.par2_spec.specs.Sessions.{Session, session_of_kept}
 use Rattle.par2_spec.specs.Stores.{Contents, journaled}
 use Rattle.par2_spec.specs.declared.JournalFault.TheVariants as journal
 use Rattle.par2_spec.specs.declared.Version.TheVariants.{Two}
 use Rattle.par2_folder.specs.declared.store.ReadFault.{ReadFault}
 use Rattle.par2_folder.specs.declared.store.ReadFault.TheVariants as read
-use Rattle.par2_tool.specs.Held.{IsOpening}
+use Rattle.par2_tool.specs.Held.{IsOpening, Holds}
 use Rattle.par2_tool.specs.Performed.{all_changed}
 use Rattle.par2_tool.specs.declared.opening.OpenFault.{OpenFault}
 use Rattle.par2_tool.specs.declared.opening.OpenFault.TheVariants.{Store, Memory, JournalInvalid, FolderChanged}
@@ -45,3 +45,22 @@ IsTakenBack session back old new =
 abbrev pub IsStillBegun : Session → List Change → Contents → Contents → Type 0
 IsStillBegun session back old new =
     ((n : ℕ) × (n ≤ length back) × (new ≡ all_changed old (take n back))) ⊎ IsTakenBack session back old new
+
+-- the command that the journal says was begun is taken back
+pub record TakesBack (old new : Contents) : Type 0 where
+  pub text : List ℕ
+  pub session : Session
+  pub back : List Change
+  pub journal : old.journal ≡ Some text
+  pub begun : Opens old.files text (Ok (ToTakeBack session back))
+  pub taken : IsTakenBack session back old new
+
+-- nothing is done to the store, or a begun command is taken back
+abbrev pub OnlyTakesBack : Contents → Contents → Type 0
+OnlyTakesBack old new = (new ≡ old) ⊎ TakesBack old new
+
+-- a store was opened: it holds what it opens as, and nothing else was done to it
+pub record IsOpened (old new : Contents) (started : defined.Started) : Type 0 where
+  pub opens : IsOpening old (Ok started)
+  pub holds : Holds new started
+  pub left : OnlyTakesBack old new

@@ -1,9 +1,22 @@
--- What a command does to a store.
-use Rattle.std.specs.Prelude.{◌≡◌, ◌⊎◌, ◌≤◌, ℕ, List, [], ◌∷◌, length, take, Option, Some, None, Vec}
+-- What a command answers, and what it does to a store.
+use Rattle.std.specs.Prelude.{◌≡◌, ◌⊎◌, ◌≤◌, ℕ, List, [], ◌∷◌, length, map, take, Option, Some, None, Vec, Result, Ok, IfOk}
 use Rattle.std.specs.declared.alloc.Global.{Global}
-use Rattle.par2_spec.specs.Changes.{Change}
+use Rattle.par2_spec.specs.Changes.{Change, effects}
+use Rattle.par2_spec.specs.Commands.{Action}
+use Rattle.par2_spec.specs.Folders.{Folder}
+use Rattle.par2_spec.specs.Sessions.{Session, changes_asked}
 use Rattle.par2_spec.specs.Stores.{Contents, changed, journaled}
+use Rattle.par2_spec.specs.Texts.{Outcome, Done, step_of}
 use Rattle.par2_journal.specs.declared.spelling.Journals.{Journals}
+
+-- what an accepted action answers on a session: the steps of its changes
+abbrev pub IsAnswer : Session → Action → Outcome → Type 0
+IsAnswer session action outcome =
+    (changes : List Change) × (changes_asked session action ≡ Ok changes) × (outcome ≡ Done (map step_of changes))
+
+-- some of the changes that are asked for are made, from the first on
+abbrev pub AreSomeMade : {F : Type 0} → Result (List Change) F → Folder → Folder → Type 0
+AreSomeMade asked old new = IfOk asked (λ changes. (n : ℕ) × (new ≡ effects old (take n changes)))
 
 -- the contents after changes, made one after the other
 abbrev pub all_changed : Contents → List Change → Contents

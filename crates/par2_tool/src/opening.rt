@@ -3,7 +3,7 @@ ghost use Rattle.std.specs.Prelude.{◌≡◌, ◌<◌, ◌≤◌, IfOk, IfErr, 
 ghost use Rattle.par2_journal.specs.Opened.{session_before, way_left};
 ghost use Rattle.par2_spec.specs.Sessions.{session_of_kept};
 ghost use Rattle.par2_tool.specs.Held.{IsOpening, Holds, OpensAsBefore, TellsApartBack};
-ghost use Rattle.par2_tool.specs.Opened.{started_of, unread_as, IsRead, IsUnopened, IsTakenBack, IsStillBegun};
+ghost use Rattle.par2_tool.specs.Opened.{started_of, unread_as, IsRead, IsUnopened, IsTakenBack, IsStillBegun, OnlyTakesBack};
 
 use crate::writing::write_down;
 use par2_folder::{Folder, FolderStore, ReadFault, read_folder};
@@ -52,10 +52,16 @@ fn take_back<S: FolderStore>(
 ) -> Result<Session, OpenFault>
     ensures honest { S.honest store.old → S.honest store.new }
     ensures session { IfOk result (λ session. session ≡ session_before halfway) }
-    ensures done { S.honest store.old → OnOk result (IsTakenBack (session_of_kept (session_before halfway)) (way_left halfway) (S.contents store.old) (S.contents store.new)) }
-    ensures stopped { S.honest store.old → OnErr result (IsStillBegun (session_of_kept (session_before halfway)) (way_left halfway) (S.contents store.old) (S.contents store.new)) }
-    ensures memory { IsErrOf result OpenFault.Memory → S.honest store.old → S.contents store.new ≡ S.contents store.old }
-    ensures no_journal { (IsErrOf result OpenFault.JournalInvalid → ⊥) × (IsErrOf result OpenFault.FolderChanged → ⊥) }
+    ensures done { S.honest store.old → OnOk result (IsTakenBack
+        (session_of_kept (session_before halfway)) (way_left halfway)
+        (S.contents store.old) (S.contents store.new)) }
+    ensures stopped { S.honest store.old → OnErr result (IsStillBegun
+        (session_of_kept (session_before halfway)) (way_left halfway)
+        (S.contents store.old) (S.contents store.new)) }
+    ensures memory { IsErrOf result OpenFault.Memory
+        → S.honest store.old → S.contents store.new ≡ S.contents store.old }
+    ensures no_journal { (IsErrOf result OpenFault.JournalInvalid → ⊥)
+        × (IsErrOf result OpenFault.FolderChanged → ⊥) }
     ensures later { S.failures store.old ≤ S.failures store.new }
     ensures cause { IsErrOf result OpenFault.Store → S.failures store.old < S.failures store.new }
 {
@@ -81,10 +87,17 @@ fn open_with<S: FolderStore>(
     text: &[u8],
 ) -> Result<Started, OpenFault>
     ensures honest { S.honest store.old → S.honest store.new }
-    ensures opened { S.honest store.old → IsRead (S.contents store.old) folder.files text.now → IfOk result (λ started. IsOpening (S.contents store.old) (Ok (started_of started))) }
-    ensures holds { S.honest store.old → IsRead (S.contents store.old) folder.files text.now → IfOk result (λ started. Holds (S.contents store.new) (started_of started)) }
-    ensures refused { S.honest store.old → IsRead (S.contents store.old) folder.files text.now → IfErr result (IsUnopened (S.contents store.old) (S.contents store.new)) }
-    ensures stopped { S.honest store.old → IsRead (S.contents store.old) folder.files text.now → TellsApartBack (S.contents store.old) → OnErr result (OpensAsBefore (S.contents store.old) (S.contents store.new)) }
+    ensures opened { S.honest store.old → IsRead (S.contents store.old) folder.files text.now
+        → IfOk result (λ started. IsOpening (S.contents store.old) (Ok (started_of started))) }
+    ensures holds { S.honest store.old → IsRead (S.contents store.old) folder.files text.now
+        → IfOk result (λ started. Holds (S.contents store.new) (started_of started)) }
+    ensures left { S.honest store.old → IsRead (S.contents store.old) folder.files text.now
+        → OnOk result (OnlyTakesBack (S.contents store.old) (S.contents store.new)) }
+    ensures refused { S.honest store.old → IsRead (S.contents store.old) folder.files text.now
+        → IfErr result (IsUnopened (S.contents store.old) (S.contents store.new)) }
+    ensures stopped { S.honest store.old → IsRead (S.contents store.old) folder.files text.now
+        → TellsApartBack (S.contents store.old)
+        → OnErr result (OpensAsBefore (S.contents store.old) (S.contents store.new)) }
     ensures later { S.failures store.old ≤ S.failures store.new }
     ensures cause { IsErrOf result OpenFault.Store → S.failures store.old < S.failures store.new }
 {
@@ -111,14 +124,20 @@ fn open_with<S: FolderStore>(
 }
 
 /// Opens a store as a session: its names, files and journal are read, and a command that was begun is taken back.
-/// Where the folder isn't as the journal of a finished command left it, the session is a new one. After Store and
-/// Memory the store opens as it did.
+/// Where the folder isn't as the journal of a finished command left it, the session is a new one. Nothing else is done
+/// to the store. After Store and Memory it opens as it did.
 pub fn open_store<S: FolderStore>(alloc: Global, store: &mut S) -> Result<Started, OpenFault>
     ensures honest { S.honest store.old → S.honest store.new }
-    ensures opened { S.honest store.old → IfOk result (λ started. IsOpening (S.contents store.old) (Ok (started_of started))) }
-    ensures holds { S.honest store.old → IfOk result (λ started. Holds (S.contents store.new) (started_of started)) }
-    ensures refused { S.honest store.old → IfErr result (IsUnopened (S.contents store.old) (S.contents store.new)) }
-    ensures stopped { S.honest store.old → TellsApartBack (S.contents store.old) → OnErr result (OpensAsBefore (S.contents store.old) (S.contents store.new)) }
+    ensures opened { S.honest store.old
+        → IfOk result (λ started. IsOpening (S.contents store.old) (Ok (started_of started))) }
+    ensures holds { S.honest store.old
+        → IfOk result (λ started. Holds (S.contents store.new) (started_of started)) }
+    ensures left { S.honest store.old
+        → OnOk result (OnlyTakesBack (S.contents store.old) (S.contents store.new)) }
+    ensures refused { S.honest store.old
+        → IfErr result (IsUnopened (S.contents store.old) (S.contents store.new)) }
+    ensures stopped { S.honest store.old → TellsApartBack (S.contents store.old)
+        → OnErr result (OpensAsBefore (S.contents store.old) (S.contents store.new)) }
     ensures later { S.failures store.old ≤ S.failures store.new }
     ensures cause { IsErrOf result OpenFault.Store → S.failures store.old < S.failures store.new }
 {

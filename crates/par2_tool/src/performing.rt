@@ -1,11 +1,11 @@
 //! A command is performed on a store and its session.
-ghost use Rattle.std.specs.Prelude.{◌≡◌, ◌<◌, ◌≤◌, ℕ, List, Ok, map, take, IfOk, IfErr, OnOk, OnErr};
-ghost use Rattle.par2_spec.specs.Changes.{Change, effects};
+ghost use Rattle.std.specs.Prelude.{◌≡◌, ◌<◌, ◌≤◌, Ok, IfOk, IfErr, OnOk, OnErr};
 ghost use Rattle.par2_spec.specs.Sessions.{session_of_kept, session_after, changes_asked};
-ghost use Rattle.par2_spec.specs.Texts.{step_of};
+ghost use Rattle.par2_spec.specs.Texts.{Done};
 ghost use Rattle.par2_spec.specs.Views.{action_of};
 ghost use Rattle.par2_journal.specs.Plain.{IsPlain};
-ghost use Rattle.par2_tool.specs.Held.{Holds, kept, TellsApartAlong, OpensAsBeforeOrAfter};
+ghost use Rattle.par2_tool.specs.Held.{Holds, HasJournalOf, kept, TellsApartAlong, OpensAsBeforeOrAfter};
+ghost use Rattle.par2_tool.specs.Performed.{AreSomeMade, IsAnswer};
 ghost use Rattle.par2_tool.specs.Refused.{IsRefused, IsSession};
 
 use crate::writing::write_down;
@@ -36,13 +36,25 @@ pub fn perform<S: FolderStore>(
 ) -> Result<Steps, PerformFault>
     requires { IsPlain (action_of action.now) }
     ensures honest { S.honest store.old → S.honest store.new }
-    ensures session { OnOk result (session_after (session_of_kept session.old) (action_of action.now) ≡ Ok (session_of_kept session.new)) }
-    ensures steps { IfOk result (λ steps. (changes : List Change) × (changes_asked (session_of_kept session.old) (action_of action.now) ≡ Ok changes) × (steps ≡ map step_of changes)) }
-    ensures holds { S.honest store.old → (S.contents store.old).files ≡ session.old.folder.files → OnOk result (Holds (S.contents store.new) (kept (session_of_kept session.new))) }
-    ensures refused { IfErr result (IsRefused (action_of action.now) session.old session.new (S.failures store.old) (S.failures store.new)) }
-    ensures unchanged { S.honest store.old → IfErr result (λ fault. IsSession fault → S.contents store.new ≡ S.contents store.old) }
-    ensures stopped { S.honest store.old → (S.contents store.old).files ≡ session.old.folder.files → TellsApartAlong (session_of_kept session.old) (action_of action.now) → OnErr result (OpensAsBeforeOrAfter (session_of_kept session.old) (action_of action.now) (S.contents store.old) (S.contents store.new)) }
-    ensures in_order { S.honest store.old → OnErr result (IfOk (changes_asked (session_of_kept session.old) (action_of action.now)) (λ changes. (n : ℕ) × ((S.contents store.new).files ≡ effects (S.contents store.old).files (take n changes)))) }
+    ensures session { OnOk result (session_after
+        (session_of_kept session.old) (action_of action.now) ≡ Ok (session_of_kept session.new)) }
+    ensures steps { IfOk result (λ steps. IsAnswer
+        (session_of_kept session.old) (action_of action.now) (Done steps)) }
+    ensures holds { S.honest store.old → (S.contents store.old).files ≡ session.old.folder.files
+        → OnOk result (Holds (S.contents store.new) (kept (session_of_kept session.new))) }
+    ensures journal { S.honest store.old
+        → OnOk result (HasJournalOf (session_of_kept session.new) (S.contents store.new)) }
+    ensures refused { IfErr result (IsRefused (action_of action.now) session.old session.new
+        (S.failures store.old) (S.failures store.new)) }
+    ensures unchanged { S.honest store.old
+        → IfErr result (λ fault. IsSession fault → S.contents store.new ≡ S.contents store.old) }
+    ensures stopped { S.honest store.old → (S.contents store.old).files ≡ session.old.folder.files
+        → TellsApartAlong (session_of_kept session.old) (action_of action.now)
+        → OnErr result (OpensAsBeforeOrAfter (session_of_kept session.old) (action_of action.now)
+        (S.contents store.old) (S.contents store.new)) }
+    ensures in_order { S.honest store.old → OnErr result (AreSomeMade
+        (changes_asked (session_of_kept session.old) (action_of action.now))
+        (S.contents store.old).files (S.contents store.new).files) }
     ensures later { S.failures store.old ≤ S.failures store.new }
 {
     // What a stop leaves opens only where the session's entries can be walked: the call's contract says so.

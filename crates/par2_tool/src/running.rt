@@ -1,10 +1,12 @@
 //! A run of the program.
 ghost use Rattle.std.specs.Prelude.{◌≡◌, ◌≤◌, IfOk, IfErr, IsTrue, map, string_bytes};
+ghost use Rattle.par2_spec.specs.Sessions.{Session};
 ghost use Rattle.par2_spec.specs.Views.{action_of};
 ghost use Rattle.par2_spec.specs.Texts.{Done};
 ghost use Rattle.par2_journal.specs.Plain.{IsPlain};
 ghost use Rattle.par2_tool.specs.Refused.{failed, unopened_as};
-ghost use Rattle.par2_tool.specs.Told.{Told, IsBack, IsDone, IsFailed, IsTold, Shown};
+ghost use Rattle.par2_tool.specs.Performed.{IsAnswer};
+ghost use Rattle.par2_tool.specs.Told.{Told, IsBack, IsCause, IsDone, IsFailed, IsTold, Leaves, Shown};
 
 use crate::asking::asked_command;
 use crate::opening::{OpenFault, Started, open_store};
@@ -63,8 +65,14 @@ fn carry_out<S: FolderStore>(
 ) -> Result<Accepted, Failure>
     requires { IsPlain (action_of action.now) }
     ensures honest { S.honest store.old → S.honest store.new }
-    ensures done { S.honest store.old → IfOk result (λ accepted. IsDone (action_of action.now) (S.contents store.old) (S.contents store.new) accepted.dropped (Done accepted.steps)) }
-    ensures failed { S.honest store.old → IfErr result (IsFailed (action_of action.now) (S.contents store.old) (S.contents store.new) (S.failures store.old) (S.failures store.new)) }
+    ensures answer { IfOk result (λ accepted. (session : Session)
+        × IsAnswer session (action_of action.now) (Done accepted.steps)) }
+    ensures cause { IfErr result (IsCause (action_of action.now)
+        (S.failures store.old) (S.failures store.new)) }
+    ensures done { S.honest store.old → IfOk result (λ accepted. IsDone (action_of action.now)
+        (S.contents store.old) (S.contents store.new) accepted.dropped (Done accepted.steps)) }
+    ensures failed { S.honest store.old → IfErr result (IsFailed (action_of action.now)
+        (S.contents store.old) (S.contents store.new)) }
     ensures later { S.failures store.old ≤ S.failures store.new }
 {
     let Started {
@@ -84,7 +92,8 @@ fn carry_out<S: FolderStore>(
 }
 
 /// A run of the program: the words are read, the store is opened, what they ask for is performed on it, and what
-/// comes of it is printed on one of the two writers. Answers the status.
+/// comes of it is printed on one of the two writers. Answers the status. What is said of the store's contents holds
+/// where it is honest.
 pub fn run<S: FolderStore, O: Write, E: Write>(
     alloc: Global,
     words: &[String],
@@ -93,7 +102,12 @@ pub fn run<S: FolderStore, O: Write, E: Write>(
     err: &mut E,
 ) -> u8
     ensures honest { S.honest store.old → S.honest store.new }
-    ensures told { S.honest store.old → (told : Told) × IsTold (map string_bytes words.now) (S.contents store.old) (S.contents store.new) (S.failures store.old) (S.failures store.new) told × Shown told (O.contents out.old) (O.contents out.new) (E.contents err.old) (E.contents err.new) result }
+    ensures told { (told : Told)
+        × IsTold (map string_bytes words.now) (S.failures store.old) (S.failures store.new) told
+        × Shown told (O.contents out.old) (O.contents out.new)
+        (E.contents err.old) (E.contents err.new) result
+        × (S.honest store.old → Leaves (map string_bytes words.now) told
+        (S.contents store.old) (S.contents store.new)) }
     ensures later { S.failures store.old ≤ S.failures store.new }
 {
     let command = match asked_command(alloc, words) {

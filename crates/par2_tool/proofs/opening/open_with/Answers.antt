@@ -1,4 +1,4 @@
-use Rattle.std.proofs.Common.{Ok, Err, true, false, refl, sym, ap, subst, ◌∙◌}
+use Rattle.std.proofs.Common.{inr, Ok, Err, true, false, refl, sym, ap, subst, ◌∙◌}
 use Rattle.par2_spec.specs.Changes.{FolderState}
 use Rattle.par2_spec.specs.Opening.{Opens, ToTakeBack}
 use Rattle.par2_spec.specs.Sessions.{Session, KeptSession, session_of_kept}
@@ -7,7 +7,7 @@ use Rattle.par2_spec.specs.declared.JournalFault.TheVariants.{JournalInvalid, Fo
 use Rattle.par2_journal.specs.Opened.{opened_of, session_before, way_left}
 use Rattle.par2_tool.specs.Held.{Holds, OpensAsBefore, kept}
 use Rattle.par2_tool.proofs.Made.{is_new}
-use Rattle.par2_tool.proofs.Reopened.{any_err, holds_settled, holds_taken_back, opens_read, opens_refused, opens_still}
+use Rattle.par2_tool.proofs.Reopened.{any_err, holds_settled, holds_taken_back, opens_read, opens_refused, opens_still, takes_back}
 use Rattle.par2_tool.proofs.opening.open_with.Goals as goal
 
 pub returns-in_err-session-in-Ok-Begun-clause-stopped : goal.returns-in_err-session-in-Ok-Begun-clause-stopped
@@ -85,3 +85,11 @@ returns-in_ok-session-in-Ok-Begun-clause-holds g c honest read =
     let opens = subst (λ found. Opens files text (Ok (opened_of found))) c.in-Ok-Begun.field-0-is c.in-Ok-Begun.ensures.opened in
     subst (λ (s : KeptSession). Holds new (kept (session_of_kept s))) (sym c.in_ok-session-in-Ok-Begun.ensures.session)
     (holds_taken_back (g.S.FolderStore.contents c.args.store.now) new files text (session_of_kept (session_before halfway)) (way_left halfway) read opens (c.in_ok-session-in-Ok-Begun.ensures.done honest))
+
+pub returns-in_ok-session-in-Ok-Begun-clause-left : goal.returns-in_ok-session-in-Ok-Begun-clause-left
+returns-in_ok-session-in-Ok-Begun-clause-left g c honest read =
+    let files = c.args.folder.files in
+    let text = c.args.text.now in
+    let halfway = c.in-Ok-Begun.halfway in
+    let opens = subst (λ found. Opens files text (Ok (opened_of found))) c.in-Ok-Begun.field-0-is c.in-Ok-Begun.ensures.opened in
+    inr (takes_back (g.S.FolderStore.contents c.args.store.now) (g.S.FolderStore.contents c.take_back.new.store) files text (session_of_kept (session_before halfway)) (way_left halfway) read opens (c.in_ok-session-in-Ok-Begun.ensures.done honest))
