@@ -1,6 +1,6 @@
 -- Faults that are passed on.
 use Rattle.std.proofs.Common.{◌≡◌, ◌⊎◌, ◌<◌, ℕ, List, length, get_or, map, refl, sym, ap, ◌∙◌, subst, None, Some, Option, Ok, Err, Result}
-use Rattle.std.specs.Prelude.{ok_or, is_ok}
+use Rattle.std.specs.Prelude.{ok_or, is_ok, IfErr}
 use Rattle.std.specs.Result.{result_ok}
 use Rattle.std.proofs.lemmas.Bool.{false≢true}
 use Rattle.par2_spec.specs.declared.Fault.{Fault}
@@ -13,6 +13,11 @@ use Rattle.par2_sets.proofs.Lists.{all_some_none}
 pub passed_on : {X Y : Type 0} (view : X → Y) (r : Result X Fault) (whole : Result Y Fault) (fault : Fault)
     → (y : Fault) × (r ≡ Err y) × (y ≡ fault) → (fault ≡ Memory) ⊎ (whole ≡ Err fault) → Gives view r whole
 passed_on view r whole fault p h = subst (λ x. Gives view x whole) (sym (p.1 ∙ ap Err p.2)) h
+
+-- the same of a refusal alone
+pub refused_by : {X Y : Type 0} (r : Result X Fault) (whole : Result Y Fault) (fault : Fault)
+    → (y : Fault) × (r ≡ Err y) × (y ≡ fault) → (fault ≡ Memory) ⊎ (whole ≡ Err fault) → IfErr r (λ y. (y ≡ Memory) ⊎ (whole ≡ Err y))
+refused_by r whole fault p h = subst (λ x. IfErr x (λ y. (y ≡ Memory) ⊎ (whole ≡ Err y))) (sym (p.1 ∙ ap Err p.2)) h
 
 abbrev err_or : {A : Type 0} → Fault → Result A Fault → Fault
 err_or d (Ok x) = d

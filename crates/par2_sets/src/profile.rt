@@ -1,6 +1,7 @@
 //! Which described files this profile takes.
 
-ghost use Rattle.std.specs.Prelude.{◌≡◌, ◌≤◌, ◌==◌, nat_le, length, map, sum_by, true, is_some, IfOk, IfSome};
+ghost use Rattle.std.specs.Prelude.{◌≡◌, ◌≤◌, ◌==◌, nat_le, length, map, sum_by, true, is_some};
+ghost use Rattle.std.specs.Prelude.{IfOk, IfSome};
 ghost use Rattle.std.specs.List.{list_all};
 ghost use Rattle.par2_spec.specs.Names.{distinct, is_name};
 ghost use Rattle.par2_spec.specs.Sets.{are_in_profile, unless};

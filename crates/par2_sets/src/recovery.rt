@@ -7,7 +7,8 @@ ghost use Rattle.std.specs.List.Sorted.{IsStrictlyIncreasing};
 ghost use Rattle.std.specs.Ordering.{nat_cmp};
 ghost use Rattle.par2_spec.specs.Sets.{recovery_of};
 ghost use Rattle.par2_packets.specs.View.{packet_of};
-ghost use Rattle.par2_sets.specs.Slices.{KeepsFirst, entry_of, exponents_of, recovered_of, slice_if};
+ghost use Rattle.par2_sets.specs.Slices.{KeepsFirst, slice_if};
+ghost use Rattle.par2_sets.specs.Slices.{entry_of, exponents_of, recovered_of};
 
 use par2_packets::{Packet, read_recovery};
 use std::alloc::{AllocError, Global};

@@ -1,12 +1,11 @@
 //! The set of a base.
 
-ghost use Rattle.std.specs.Prelude.{◌≡◌, length};
+ghost use Rattle.std.specs.Prelude.{◌≡◌, ◌⊎◌, length, Ok, Err, IfOk, IfErr};
 ghost use Rattle.std.specs.List.{AllByRecursion};
 ghost use Rattle.std.specs.List.Sorted.{IsStrictlyIncreasing};
 ghost use Rattle.std.specs.FinMap.{entries};
 ghost use Rattle.par2_spec.specs.Sets as sets;
 ghost use Rattle.par2_spec.specs.Rules.{IsSound};
-ghost use Rattle.par2_sets.specs.Steps.{Gives};
 ghost use Rattle.par2_sets.specs.Slices.{recovered_of, exponents_of};
 
 use crate::Target;
@@ -72,7 +71,8 @@ impl<'a> ParSet<'a> {
     pub fn recovery(&self) -> &[(u32, &'a [u8])]
         ensures value { recovered_of result.now ≡ entries self.now.recovery }
         ensures rising { IsStrictlyIncreasing (exponents_of result.now) }
-        ensures sizes { AllByRecursion (λ r. length r.1 ≡ self.now.slice_size) (recovered_of result.now) }
+        ensures sizes { let slices = recovered_of result.now in
+            AllByRecursion (λ r. length r.1 ≡ self.now.slice_size) slices }
     {
         &self.recovery
     }
@@ -82,7 +82,10 @@ impl<'a> ParSet<'a> {
 /// of it that is absent.
 #[tactic(auto, unfolding(par2_spec::specs::Sets::set_of, par2_spec::specs::Sets::read_set))]
 pub fn set_of<'a>(alloc: Global, folder: &'a Folder, base: &Name) -> Result<ParSet<'a>, Fault>
-    ensures { Gives (λ set. set) result (sets.set_of folder.now.files base.now) }
+    ensures refused { let read = sets.set_of folder.now.files base.now in
+        IfErr result (λ fault. (fault ≡ Fault.Memory) ⊎ (read ≡ Err fault)) }
+    ensures read { IfOk result (λ set. sets.set_of folder.now.files base.now ≡ Ok set) }
+    ensures sound { IfOk result IsSound }
 {
     // The law says that what is read is sound.
     set_is_sound();

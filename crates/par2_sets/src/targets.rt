@@ -25,7 +25,8 @@ impl Model for Target {
 
     ghost Value = { Described };
 
-    ghost view = { λ t. record { name = t.name; size = t.size; digest = t.digest; pairs = t.pairs.items } };
+    ghost view = { λ t.
+        record { name = t.name; size = t.size; digest = t.digest; pairs = t.pairs.items } };
 }
 
 impl Target {

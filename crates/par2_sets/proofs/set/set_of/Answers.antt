@@ -9,12 +9,12 @@ use Rattle.std.specs.List.Sorted.{IsStrictlyIncreasing}
 use Rattle.par2_packets.specs.View.{packet_of}
 use Rattle.par2_sets.specs.Steps.{described, checked}
 use Rattle.par2_sets.specs.Slices.{exponents_of, recovered_of}
-use Rattle.par2_sets.proofs.Refusals.{passed_on}
+use Rattle.par2_sets.proofs.Refusals.{refused_by}
 use Rattle.par2_sets.proofs.Reading.{Begun, not_described, not_taken, not_checked, all_read, the_set}
 use Rattle.par2_sets.proofs.set.set_of.Goals as goal
 
-pub returns-in_err-described : goal.returns-in_err-described
-returns-in_err-described c =
+pub returns-in_err-described-clause-refused : goal.returns-in_err-described-clause-refused
+returns-in_err-described-clause-refused c =
     let files = c.args.folder.now.files in
     let base = c.args.base.now in
     let id = c.in_ok-id.id in
@@ -27,14 +27,14 @@ returns-in_err-described c =
       size = grind arith;
     } in
     let fault = c.in_err-described.field-0.0 in
-    passed_on _ _ _ fault (err_from_is_err_and c.from_residual-in_err-described.result c.from_residual-in_err-described.ensures.1) (
+    refused_by _ _ fault (err_from_is_err_and c.from_residual-in_err-described.result c.from_residual-in_err-described.ensures.1) (
     elim c.in_err-described.ensures as (λ _. (fault ≡ Memory) ⊎ (sets.set_of files base ≡ Err fault)) [
       | inl memory ↦ inl memory
       | inr refused ↦ inr (not_described files base id packets main begun fault (grind arith))
     ])
 
-pub returns-in_err-names : goal.returns-in_err-names
-returns-in_err-names c =
+pub returns-in_err-names-clause-refused : goal.returns-in_err-names-clause-refused
+returns-in_err-names-clause-refused c =
     let files = c.args.folder.now.files in
     let base = c.args.base.now in
     let id = c.in_ok-id.id in
@@ -49,14 +49,14 @@ returns-in_err-names c =
     let fault = c.in_err-names.field-0.0 in
     let ds = c.in_ok-described.described.items in
     let read : described packets main.ids ≡ Ok ds = grind arith in
-    passed_on _ _ _ fault (err_from_is_err_and c.from_residual-in_err-names.result c.from_residual-in_err-names.ensures.1) (
+    refused_by _ _ fault (err_from_is_err_and c.from_residual-in_err-names.result c.from_residual-in_err-names.ensures.1) (
     elim c.in_err-names.ensures.test as (λ _. (fault ≡ Memory) ⊎ (sets.set_of files base ≡ Err fault)) [
       | inl memory ↦ inl memory
       | inr refused ↦ inr (not_taken files base id packets main begun ds read fault (grind arith))
     ])
 
-pub returns-in_err-targets : goal.returns-in_err-targets
-returns-in_err-targets c =
+pub returns-in_err-targets-clause-refused : goal.returns-in_err-targets-clause-refused
+returns-in_err-targets-clause-refused c =
     let files = c.args.folder.now.files in
     let base = c.args.base.now in
     let id = c.in_ok-id.id in
@@ -72,7 +72,7 @@ returns-in_err-targets c =
     let ds = c.in_ok-described.described.items in
     let read : described packets main.ids ≡ Ok ds = grind arith in
     let taken : unless (are_in_profile main.slice_size ds) BadSet ≡ Ok true = grind arith in
-    passed_on _ _ _ fault (err_from_is_err_and c.from_residual-in_err-targets.result c.from_residual-in_err-targets.ensures.1) (
+    refused_by _ _ fault (err_from_is_err_and c.from_residual-in_err-targets.result c.from_residual-in_err-targets.ensures.1) (
     elim c.in_err-targets.ensures as (λ _. (fault ≡ Memory) ⊎ (sets.set_of files base ≡ Err fault)) [
       | inl memory ↦ inl memory
       | inr refused ↦ inr (not_checked files base id packets main begun ds read taken fault (grind arith))
@@ -99,7 +99,7 @@ returns c =
     let done : checked packets main.slice_size ds ≡ Ok targets = grind arith in
     let recovered : recovered_of recovery ≡ entries (recovery_of packets main.slice_size) = grind arith in
     let is = all_read files base id packets main begun ds read taken targets done ∙ the_set id packets main.slice_size c.slice_size-slice_size.result targets recovery c.slice_size-slice_size.ensures recovered in
-    is
+    record { refused = tt; read = is; sound = c.set_is_sound.ensures files base _ is }
 
 pub invariant_of-result : goal.invariant_of-result
 invariant_of-result c =
