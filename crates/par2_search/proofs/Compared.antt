@@ -1,10 +1,9 @@
 -- Slices against the pairs of their numbers.
-use Rattle.std.proofs.Common.{◌≡◌, ℕ, zero, suc, ◌+◌, ◌-◌, ◌*◌, ◌<◌, ◌≤◌, min, Bool, true, false, ◌&&◌, List, [], ◌∷◌, ◌++◌, length, map, take, drop, get_or, replicate, Decides, refl, sym, ap, subst, ◌∙◌, inl, inr, arith}
+use Rattle.std.proofs.Common.{◌≡◌, ℕ, zero, suc, ◌+◌, ◌-◌, ◌*◌, ◌<◌, ◌≤◌, min, Bool, true, false, ◌&&◌, List, [], ◌∷◌, ◌++◌, length, map, take, drop, replicate, Decides, refl, sym, ap, subst, ◌∙◌, arith}
 use Rattle.std.specs.Prelude.{◌==◌, zip}
 use Rattle.std.specs.List.{list_all, range_with_len}
 use Rattle.std.specs.Str.{bytes_eq}
-use Rattle.std.proofs.Math.Nat.{mul-le-mul_right}
-use Rattle.std.proofs.lemmas.Bool.{and_parts, cases_lt, eq-eqb, eqb-true, false_from_ne_true, false≢true}
+use Rattle.std.proofs.lemmas.Bool.{and_parts, eq-eqb, eqb-true, false_from_ne_true, false≢true}
 use Rattle.std.proofs.lemmas.Bool.Decides.{same_from_decides}
 use Rattle.std.proofs.lemmas.List.{append-nil, get_or-take, length-take, length-drop}
 use Rattle.std.proofs.lemmas.Slice.Eq.{bytes_eq-Decides}
@@ -12,7 +11,7 @@ use Rattle.md5.specs.Md5.{md5}
 use Rattle.par2_spec.specs.Checksums.{Pair, crc32}
 use Rattle.par2_spec.specs.Search.{is_intact}
 use Rattle.par2_spec.specs.Sets.{Target}
-use Rattle.par2_spec.specs.Slices.{padded, slice_at, slice_count}
+use Rattle.par2_spec.specs.Slices.{slice_at, slice_count}
 use Rattle.par2_spec.specs.Windows.{is_match}
 use Rattle.par2_slices.specs.Searches.{no_pair, pair_at}
 use Rattle.par2_search.specs.Intact.{HaveCrc32s, HaveMd5s}

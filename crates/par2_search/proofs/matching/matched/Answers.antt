@@ -2,7 +2,6 @@ use Rattle.std.proofs.Common.{◌∙◌, ℕ, ◌+◌, ◌++◌, List, length, d
 use Rattle.std.specs.Borrow.{Bor}
 use Rattle.std.specs.List.{range_with_len}
 use Rattle.std.proofs.lemmas.List.{append-nil, at_drop_all, length-map}
-use Rattle.par2_spec.specs.Sets as sets
 use Rattle.par2_search.specs.Matching.{matched_from}
 use Rattle.par2_search.specs.Texts.{texts_of}
 use Rattle.par2_search.proofs.Matches.{AreBelow, below_length, described_all, match_pushed}
