@@ -18,20 +18,33 @@ use journals::found_journals;
 use par2_folder::MemoryStore;
 use rows::{put, row};
 use sessions::{session_on_a_store, undo_that_fails};
+use std::alloc::Global;
 use stops::stopped_runs;
 use wanting::wanting_stores;
 
 // One byte more than 32,768 slices of 4 bytes have.
 const LARGE: usize = 131_073;
 
-fn main(rt: HostRuntime) -> Result<()> {
-    let mut store = MemoryStore::new(rt.alloc());
+// A store with a file, an empty one and a large one.
+fn three_files(alloc: Global) -> Result<MemoryStore> {
+    let mut store = MemoryStore::new(alloc);
     put(&mut store, "a", b"abcdefgh")?;
     put(&mut store, "e", b"")?;
-    put(&mut store, "large", &vec![in rt.alloc(); 7u8; LARGE]?)?;
+    put(&mut store, "large", &vec![in alloc; 7u8; LARGE]?)?;
+    Ok(store)
+}
+
+// Runs the words of each line of the input on one store.
+fn rows_of_input(rt: &HostRuntime) -> Result<()> {
+    let mut store = three_files(rt.alloc())?;
     for line in rt.lines(rt.alloc()) {
-        let _status = row(&rt, &mut store, line?.as_str())?;
+        let _status = row(rt, &mut store, line?.as_str())?;
     }
+    Ok(())
+}
+
+fn main(rt: HostRuntime) -> Result<()> {
+    rows_of_input(&rt)?;
     session_on_a_store(&rt)?;
     undo_that_fails(&rt)?;
     found_journals(&rt)?;

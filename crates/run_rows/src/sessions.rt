@@ -6,6 +6,7 @@ use crate::rows::{one_file, row, show};
 use anyhow::Result;
 use par2_folder::{FolderStore, FuseStore};
 use par2_tool::{Action, CreateArgs, Session, open_store, perform};
+use std::alloc::{AllocError, Global};
 
 // The calls of an opening over one file, of a create, of showing what the store holds then, and of the undo's first
 // journal.
@@ -32,20 +33,29 @@ fn step<S: FolderStore>(
     show(rt, store)
 }
 
-// Opens a store, and performs a create and two undos.
-fn create_then_undo<S: FolderStore>(rt: &HostRuntime, store: &mut S) -> Result<()> {
-    let alloc = rt.alloc();
-    let started = open_store(alloc, store)?;
-    println!(rt; "history dropped: {}", started.dropped)?;
-    let mut session = started.session;
-    let create = Action::Create(CreateArgs {
+// Of a create of an index over the file `a`.
+fn index_args(alloc: Global) -> Result<CreateArgs, AllocError> {
+    Ok(CreateArgs {
         slice: 4,
         count: 0,
         first: 0,
         base: String::from_str(alloc, "t.par2")?,
         inputs: vec![in alloc; String::from_str(alloc, "a")?]?,
         overwrite: false,
-    });
+    })
+}
+
+// Opens a store.
+fn open<S: FolderStore>(rt: &HostRuntime, store: &mut S) -> Result<Session> {
+    let started = open_store(rt.alloc(), store)?;
+    println!(rt; "history dropped: {}", started.dropped)?;
+    Ok(started.session)
+}
+
+// Opens a store, and performs a create and two undos.
+fn create_then_undo<S: FolderStore>(rt: &HostRuntime, store: &mut S) -> Result<()> {
+    let mut session = open(rt, store)?;
+    let create = Action::Create(index_args(rt.alloc())?);
     step(rt, store, &mut session, &create)?;
     step(rt, store, &mut session, &Action::Undo)?;
     step(rt, store, &mut session, &Action::Undo)
