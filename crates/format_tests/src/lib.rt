@@ -5,3 +5,5 @@
 mod folder;
 #[cfg(test)]
 mod packets;
+#[cfg(test)]
+mod reading;

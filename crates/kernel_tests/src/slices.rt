@@ -1,5 +1,4 @@
 ghost use Rattle.std.specs.Prelude.{◌≤◌, length};
-ghost use Rattle.std.specs.List.{All};
 
 use par2_slices::{
     Pair, Rolling, Wanted, crc32, find, padded_crc32, padded_md5, pair_of, slice_bytes,
@@ -50,21 +49,33 @@ fn checksums_with_padding(rt: HostRuntime) {
     assert!(rt; rolling.value() != whole);
 }
 
-// What `find` answers for the pairs of these slices.
+// What `find` answers, for slices of at least one byte.
+fn found(
+    alloc: Global,
+    bytes: &[u8],
+    s: u64,
+    pairs: &[Pair],
+) -> Result<Vec<Option<usize>>, AllocError> {
+    if s == 0 {
+        return Ok(Vec::new(alloc));
+    }
+    find(alloc, bytes, s, &Wanted::new(alloc, pairs)?)
+}
+
+// What `find` answers for the pairs of these slices, of which those that are too long are left out.
 fn offsets(
     alloc: Global,
     bytes: &[u8],
     s: u64,
     slices: &[&[u8]],
-) -> Result<Vec<Option<usize>>, AllocError>
-    requires size { 1 ≤ s }
-    requires fit { All (λ slice. length slice.now ≤ s) slices.now }
-{
+) -> Result<Vec<Option<usize>>, AllocError> {
     let mut pairs = Vec::new(alloc);
     for slice in slices {
-        pairs.push(pair_of(slice, s))?;
+        if slice.len() as u64 <= s {
+            pairs.push(pair_of(slice, s))?;
+        }
     }
-    find(alloc, bytes, s, &Wanted::new(alloc, &pairs)?)
+    found(alloc, bytes, s, &pairs)
 }
 
 #[test]
@@ -98,8 +109,7 @@ fn slice_larger_than_the_file(rt: HostRuntime) {
 fn same_crc_with_another_md5(rt: HostRuntime) {
     let (md5, crc) = pair_of(b"bcde", 4);
     let pairs = [([7; 16], crc), (md5, crc), (md5, crc ^ 1)];
-    let wanted = Wanted::new(rt.alloc(), &pairs).expect(&rt, "memory");
-    let found = find(rt.alloc(), b"abcdebcde", 4, &wanted).expect(&rt, "memory");
+    let found = found(rt.alloc(), b"abcdebcde", 4, &pairs).expect(&rt, "memory");
     assert!(rt; found.as_slice() == [None, Some(1), None].as_slice());
 }
 
@@ -133,7 +143,7 @@ fn plain_offset(bytes: &[u8], s: u64, pair: &Pair) -> Option<usize>
 fn is_as_plain(alloc: Global, text: &[u8], s: u64, pairs: &[Pair]) -> Result<bool, AllocError>
     requires { 1 ≤ s }
 {
-    let found = find(alloc, text, s, &Wanted::new(alloc, pairs)?)?;
+    let found = found(alloc, text, s, pairs)?;
     for (k, pair) in pairs.iter().enumerate() {
         if found.get(k).copied() != Some(plain_offset(text, s, pair)) {
             return Ok(false);
@@ -155,17 +165,23 @@ const TEXTS: [&[u8]; 9] = [
     b"abcdefghiabcdefghiabcdefghi",
 ];
 
+// The pairs of the slices of a file.
+fn slice_pairs(alloc: Global, bytes: &[u8], s: u64) -> Result<Vec<Pair>, AllocError>
+    requires { 1 ≤ s }
+{
+    let mut pairs = Vec::new(alloc);
+    for j in 0..slice_count(bytes.len() as u64, s) {
+        pairs.push(pair_of(slice_bytes(bytes, s, j), s))?;
+    }
+    Ok(pairs)
+}
+
 #[test]
 fn same_as_a_plain_search(rt: HostRuntime) {
     for text in TEXTS {
         for other in TEXTS {
             for s in 1..10u64 {
-                let mut pairs = Vec::new(rt.alloc());
-                for j in 0..slice_count(other.len() as u64, s) {
-                    pairs
-                        .push(pair_of(slice_bytes(other, s, j), s))
-                        .expect(&rt, "memory");
-                }
+                let pairs = slice_pairs(rt.alloc(), other, s).expect(&rt, "memory");
                 assert!(rt; is_as_plain(rt.alloc(), text, s, &pairs).expect(&rt, "memory"));
             }
         }

@@ -62,11 +62,11 @@ fn are_names(files: &[FileRecord]) -> bool
 }
 
 // The name of file i.
-fn name_at(record: &SetRecord, i: usize) -> &str
-    requires { i < length record.now.files.items }
-    ensures { result.now ≡ slice_index_or (names_of record.now) i [] }
+fn name_at(set: &SetRecord, i: usize) -> &str
+    requires { i < length set.now.files.items }
+    ensures { result.now ≡ slice_index_or (names_of set.now) i [] }
 {
-    record.files[i].name.as_str()
+    set.files[i].name.as_str()
 }
 
 // The bytes of a file, none where it is absent.
@@ -84,15 +84,15 @@ fn bytes_of<'a>(folder: &'a Folder, name: &str) -> &'a [u8]
 }
 
 // Whether the files have no more slices than a set may have.
-fn has_few_slices(record: &SetRecord, folder: &Folder) -> bool
-    requires size { 1 ≤ record.now.slice }
-    requires names { AllByRecursion (λ name. IsTrue (is_name name)) (names_of record.now) }
-    ensures { IsTrue result → length (all_slices record.now.slice (files_of folder.now.files (names_of record.now))) ≤ 32768 }
+fn has_few_slices(set: &SetRecord, folder: &Folder) -> bool
+    requires size { 1 ≤ set.now.slice }
+    requires names { AllByRecursion (λ name. IsTrue (is_name name)) (names_of set.now) }
+    ensures { IsTrue result → length (all_slices set.now.slice (files_of folder.now.files (names_of set.now))) ≤ 32768 }
 {
     let mut left = MOST_SLICES;
-    for i in 0..record.files.len() {
-        let bytes = bytes_of(folder, name_at(record, i));
-        let count = slice_count(bytes.len() as u64, record.slice);
+    for i in 0..set.files.len() {
+        let bytes = bytes_of(folder, name_at(set, i));
+        let count = slice_count(bytes.len() as u64, set.slice);
         if count > left {
             return false;
         }
@@ -103,43 +103,43 @@ fn has_few_slices(record: &SetRecord, folder: &Folder) -> bool
 
 // Whether recovery slices may be asked for.
 #[tactic(auto, using(crate::proofs::Tested::are_names))]
-fn fits(record: &SetRecord, folder: &Folder) -> bool
-    ensures size { IsTrue result → 1 ≤ record.now.slice }
-    ensures even { IsTrue result → record.now.slice % 2 ≡ 0 }
-    ensures names { IsTrue result → AllByRecursion (λ name. IsTrue (is_name name)) (names_of record.now) }
-    ensures slices { IsTrue result → length (all_slices record.now.slice (files_of folder.now.files (names_of record.now))) ≤ 32768 }
+fn fits(set: &SetRecord, folder: &Folder) -> bool
+    ensures size { IsTrue result → 1 ≤ set.now.slice }
+    ensures even { IsTrue result → set.now.slice % 2 ≡ 0 }
+    ensures names { IsTrue result → AllByRecursion (λ name. IsTrue (is_name name)) (names_of set.now) }
+    ensures slices { IsTrue result → length (all_slices set.now.slice (files_of folder.now.files (names_of set.now))) ≤ 32768 }
 {
-    let s = record.slice;
-    s != 0 && s % 2 == 0 && are_names(&record.files) && has_few_slices(record, folder)
+    let s = set.slice;
+    s != 0 && s % 2 == 0 && are_names(&set.files) && has_few_slices(set, folder)
 }
 
 /// The recovery slices of these exponents.
 pub fn recovery_slices_of(
     alloc: Global,
     gf: &Gf,
-    record: &SetRecord,
+    set: &SetRecord,
     folder: &Folder,
     first: u32,
     count: u32,
 ) -> Result<Option<Vec<Vec<u8>>>, AllocError> {
-    if !fits(record, folder) || first > 65536 || count > 65536 - first {
+    if !fits(set, folder) || first > 65536 || count > 65536 - first {
         return Ok(None);
     }
-    Ok(Some(recovery_slices(alloc, gf, record, folder, first, count)?))
+    Ok(Some(recovery_slices(alloc, gf, set, folder, first, count)?))
 }
 
 /// The recovery slice of this exponent.
 pub fn recovery_slice_of(
     alloc: Global,
     gf: &Gf,
-    record: &SetRecord,
+    set: &SetRecord,
     folder: &Folder,
     e: u32,
 ) -> Result<Option<Vec<u8>>, AllocError> {
-    if !fits(record, folder) || e > 65535 {
+    if !fits(set, folder) || e > 65535 {
         return Ok(None);
     }
-    Ok(Some(recovery_slice(alloc, gf, record, folder, e)?))
+    Ok(Some(recovery_slice(alloc, gf, set, folder, e)?))
 }
 
 fn known_fits(known: &[Option<&[u8]>], size: usize) -> bool

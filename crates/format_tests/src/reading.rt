@@ -1,7 +1,6 @@
-//! Reading from a reader that never ends, which no file of the store in memory is.
+//! Reading to the end, and from a reader that has none.
 
-use crate::ReadFault;
-use crate::reading::read_within;
+use par2_folder::{ReadFault, read_within};
 use std::io::{self, Read};
 use std::test::Fail;
 
