@@ -3,10 +3,10 @@
 
 ghost use Rattle.std.specs.Prelude.{◌≡◌, ◌<◌, ◌≤◌};
 
-use crate::examples::{recovery_of_a, survivors_of};
+use crate::examples::recovery_of_a;
 use crate::plain::{Equation, eliminated, power, product};
 use par2_gf16::Gf;
-use par2_recovery::RebuildFault;
+use par2_recovery::{RebuildFault, Survivors};
 use recovery_calls::rebuilt;
 use std::alloc::{AllocError, Global};
 use std::test::Fail;
@@ -39,10 +39,8 @@ struct Recovered {
 }
 
 fn words(text: &[u8; 4]) -> [u16; 2] {
-    [
-        u16::from_le_bytes([text[0], text[1]]),
-        u16::from_le_bytes([text[2], text[3]]),
-    ]
+    let [a, b, c, d] = *text;
+    [u16::from_le_bytes([a, b]), u16::from_le_bytes([c, d])]
 }
 
 fn bytes(words: [u16; 2]) -> [u8; 4] {
@@ -75,11 +73,9 @@ fn equation(factors: [u16; 4], text: &[u8; 4]) -> Equation {
 
 // The word at a place of bytes behind which zeros follow.
 fn word_at(bytes: &[u8], w: usize) -> u16 {
-    let low = bytes.get(w.saturating_mul(2)).copied().unwrap_or(0);
-    let high = bytes
-        .get(w.saturating_mul(2).saturating_add(1))
-        .copied()
-        .unwrap_or(0);
+    let at = w.saturating_mul(2);
+    let low = bytes.get(at).copied().unwrap_or(0);
+    let high = bytes.get(at.saturating_add(1)).copied().unwrap_or(0);
     u16::from_le_bytes([low, high])
 }
 
@@ -158,7 +154,12 @@ fn our_answer(
     for one in chosen {
         recovery.push((one.exponent, one.text.as_slice()))?;
     }
-    Ok(rebuilt(alloc, gf, &survivors_of(alloc, 4, &known, &recovery)?))
+    let survivors = Survivors {
+        slice: 4,
+        known,
+        recovery,
+    };
+    Ok(rebuilt(alloc, gf, &survivors))
 }
 
 // Whether both answer the same, and whether it is the lost slices.
