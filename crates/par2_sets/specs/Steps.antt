@@ -1,5 +1,5 @@
 -- The steps by which a set is read, each with the fault that it may end in.
-use Rattle.std.specs.Prelude.{◌≡◌, ◌⊎◌, ℕ, ◌==◌, List, [], ◌∷◌, length, map, flat_map, slice_get, Option, Some, None, Result, Ok, Err, ok_or, option_map, if◌then◌else◌}
+use Rattle.std.specs.Prelude.{◌≡◌, ◌⊎◌, ℕ, ◌==◌, List, [], ◌∷◌, map, flat_map, slice_get, Option, Some, Result, Ok, Err, ok_or, option_map, if◌then◌else◌}
 use Rattle.par2_spec.specs.declared.Fault.{Fault}
 use Rattle.par2_spec.specs.declared.Fault.TheVariants.{NoDescription, NoChecksums, Memory}
 use Rattle.par2_spec.specs.Checksums.{Pair}
