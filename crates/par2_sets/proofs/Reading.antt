@@ -1,12 +1,12 @@
 -- The steps of the reading, one after the other.
-use Rattle.std.proofs.Common.{◌≡◌, ℕ, List, ◌∷◌, map, Bool, true, Option, Some, None, Result, Ok, Err, sym, ap, ◌∙◌}
-use Rattle.std.specs.Prelude.{flat_map, slice_get, option_map, ok_or, unwrap_or, is_some}
+use Rattle.std.proofs.Common.{◌≡◌, ℕ, List, true, Option, Some, None, Result, Ok, Err, sym, ap, ◌∙◌}
+use Rattle.std.specs.Prelude.{slice_get, option_map, ok_or, unwrap_or, is_some}
 use Rattle.std.proofs.lemmas.Bool.{false≢true}
 use Rattle.par2_spec.specs.declared.Fault.{Fault}
 use Rattle.par2_spec.specs.declared.Fault.TheVariants.{NoPackets, NoMain, BadSet}
 use Rattle.par2_spec.specs.Folders.{Folder, bytes_of}
 use Rattle.par2_spec.specs.Packets.{Packet, MainBody, DescBody, accepted}
-use Rattle.par2_spec.specs.Sets.{ParSet, Target, ◌>>=◌, unless, is_slice_size, packets_with, main_of, are_in_profile, recovery_of, other_par_names, read_set, set_of}
+use Rattle.par2_spec.specs.Sets.{ParSet, Target, ◌>>=◌, unless, is_slice_size, main_of, are_in_profile, recovery_of, read_set, set_of}
 use Rattle.std.specs.Borrow.{Bor}
 use Rattle.std.specs.FinMap.{entries}
 use Rattle.par2_sets.specs.Slices.{recovered_of, set_view}

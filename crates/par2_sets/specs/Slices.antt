@@ -2,28 +2,23 @@
 use Rattle.std.specs.Prelude.{◌≡◌, ℕ, ◌==◌, ◌&&◌, nat_lt, List, length, map, Option, Some, None, option_map, option_and_then, if◌then◌else◌}
 use Rattle.std.specs.Option.{option_or}
 use Rattle.std.specs.Borrow.{Bor}
-use Rattle.std.specs.Prelude.{refl}
-use Rattle.std.specs.Coded.{Coded, code_by, coded×, coded_ℕ, coded_list}
-use Rattle.std.specs.FinMap as map_of
-use Rattle.std.specs.FinMap.{FinMap, from_sorted}
+use Rattle.std.specs.FinMap.{from_sorted}
 use Rattle.std.specs.Map.{lookup}
 use Rattle.std.specs.Ordering.{nat_cmp, eq_by_cmp}
-use Rattle.par2_spec.specs.Checksums.{Pair}
 use Rattle.par2_spec.specs.Packets.{Packet, read_recovery}
 use Rattle.par2_spec.specs.Sets.{ParSet, Target}
 use Rattle.par2_spec.specs.Rules.{IsSound}
 use Rattle.std.specs.List.Sorted.{IsStrictlyIncreasing}
 
-abbrev pub bytes_code : Coded (List ℕ)
-bytes_code = coded_list coded_ℕ
-
 -- an exponent with its recovery slice
 abbrev pub entry_of : ℕ × Bor (List ℕ) → ℕ × List ℕ
 entry_of r = (r.0, r.1.now)
 
+-- exponents with their recovery slices, without where they lie
 abbrev pub recovered_of : List (ℕ × Bor (List ℕ)) → List (ℕ × List ℕ)
 recovered_of recovery = map entry_of recovery
 
+-- the exponents alone
 abbrev pub exponents_of : List (ℕ × Bor (List ℕ)) → List ℕ
 exponents_of recovery = map (λ r. r.0) (recovered_of recovery)
 
@@ -40,18 +35,8 @@ slice_at recovery q = option_map (λ bytes. bytes.now) (lookup (eq_by_cmp nat_cm
 -- where an exponent had no slice, it has this one
 abbrev pub KeepsFirst : List (ℕ × Bor (List ℕ)) → List (ℕ × Bor (List ℕ)) → ℕ → List ℕ → Type 0
 KeepsFirst old new exponent bytes =
-    (q : ℕ) → slice_at new q ≡ option_or (slice_at old q) (if eq_by_cmp nat_cmp q exponent then Some bytes else None)
-
--- a one-to-one code of targets and sets, for models
-abbrev pub target_code : Coded Target
-target_code =
-    code_by (List ℕ × (ℕ × (List ℕ × List Pair))) (coded× bytes_code (coded× coded_ℕ (coded× bytes_code (coded_list (coded× bytes_code coded_ℕ)))))
-    (λ t. (t.name, (t.size, (t.digest, t.pairs)))) (λ p. record { name = p.0; size = p.1.0; digest = p.1.1.0; pairs = p.1.1.1 }) (λ _. refl)
-
-abbrev pub set_code : Coded ParSet
-set_code =
-    code_by (List ℕ × (ℕ × (List Target × FinMap nat_cmp (List ℕ)))) (coded× bytes_code (coded× coded_ℕ (coded× (coded_list target_code) (map_of.code coded_ℕ bytes_code))))
-    (λ s. (s.id, (s.slice_size, (s.targets, s.recovery)))) (λ p. record { id = p.0; slice_size = p.1.0; targets = p.1.1.0; recovery = p.1.1.1 }) (λ _. refl)
+    (q : ℕ) → slice_at new q
+    ≡ option_or (slice_at old q) (if eq_by_cmp nat_cmp q exponent then Some bytes else None)
 
 -- a set of these parts
 abbrev pub set_view : List ℕ → ℕ → List Target → List (ℕ × Bor (List ℕ)) → ParSet

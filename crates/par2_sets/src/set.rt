@@ -32,7 +32,8 @@ pub struct ParSet<'a> {
 
 impl<'a> Model for ParSet<'a> {
     ghost use Rattle.par2_spec.specs.Sets as sets;
-    ghost use Rattle.par2_sets.specs.Slices.{set_code, set_view, IsKept};
+    ghost use Rattle.par2_sets.specs.Codes.{set_code};
+    ghost use Rattle.par2_sets.specs.Slices.{IsKept, set_view};
 
     ghost Value = { sets.ParSet };
 
@@ -87,7 +88,7 @@ pub fn set_of<'a>(alloc: Global, folder: &'a Folder, base: &Name) -> Result<ParS
     ensures read { IfOk result (λ set. sets.set_of folder.now.files base.now ≡ Ok set) }
     ensures sound { IfOk result IsSound }
 {
-    // The law says that what is read is sound.
+    // By this law the set is sound.
     set_is_sound();
     let id = first_id(folder, base).ok_or(Fault::NoPackets)?;
     let packets = packets_of(alloc, folder, base, &id).map_err(|_| Fault::Memory)?;

@@ -1,4 +1,4 @@
-use Rattle.std.proofs.Common.{◌≡◌, ◌∙◌, sym, ap, length, rules}
+use Rattle.std.proofs.Common.{◌∙◌, sym, ap, length, rules}
 use Rattle.std.specs.Prelude.{find, option_map, ◌==◌, ◌&&◌}
 use Rattle.std.specs.Str.{bytes_eq}
 use borrow.Author.Tests.{tests}

@@ -1,4 +1,4 @@
-use Rattle.std.proofs.Common.{◌≡◌, ◌∙◌, ℕ, List, not, ◌&&◌, ap, rules}
+use Rattle.std.proofs.Common.{◌∙◌, ℕ, List, not, ◌&&◌, ap, rules}
 use Rattle.std.specs.Prelude.{filter}
 use Rattle.std.specs.Str.{bytes_eq}
 use Rattle.std.proofs.lemmas.Fn.{filter_same}

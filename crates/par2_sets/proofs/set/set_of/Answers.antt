@@ -1,7 +1,6 @@
-use Rattle.std.proofs.Common.{◌≡◌, ◌∙◌, ◌⊎◌, map, sym, ap, inl, inr, Some, Ok, Err, true, arith, rules}
-use Rattle.std.specs.Prelude.{ok_or}
+use Rattle.std.proofs.Common.{◌≡◌, ◌∙◌, ◌⊎◌, map, inl, inr, Ok, Err, true, arith}
 use Rattle.std.proofs.lemmas.Result.{IfOk-at_ok, err_from_is_err_and}
-use Rattle.par2_spec.specs.declared.Fault.TheVariants.{Memory, NoMain, BadSet}
+use Rattle.par2_spec.specs.declared.Fault.TheVariants.{Memory, BadSet}
 use Rattle.par2_spec.specs.Sets as sets
 use Rattle.par2_spec.specs.Sets.{are_in_profile, recovery_of, unless}
 use Rattle.std.specs.FinMap.{entries}
