@@ -21,6 +21,13 @@ find-map {X = X} p f (x ∷ xs) = ap (cond (p (f x)) (Some (f x))) (find-map p f
     out true o = refl
     out false o = refl
 
+-- what a test for nothing says
+pub none_from_some : {X : Type 0} (o : Option X) (b : Bool) → is_some o ≡ not b → is_none o ≡ b
+none_from_some None true h = refl
+none_from_some None false h = absurd (false≢true h)
+none_from_some (Some x) true h = absurd (false≢true (sym h))
+none_from_some (Some x) false h = refl
+
 -- what one text gives
 found_one : (s : ℕ) (text : List ℕ) (pair : Pair) → found s (text ∷ []) pair ≡ option_map (window s text) (first_match s text pair)
 found_one s text pair =
@@ -93,19 +100,19 @@ head_of_rest xs n x ys d is =
     (within, (let e : get_or xs n d ≡ x = cc both in e), (let e : drop (n + 1) xs ≡ ys = cc both in e))
 
 -- the next offset is that of pair i, if it has no window
-pub next_offset : (s : ℕ) (text : List ℕ) (pairs : List Pair) (old now : List Window) (offsets : List (Option ℕ)) (next i : ℕ) → Searching s text pairs old now offsets next i → length old ≡ length pairs → i < length pairs → is_none (window_of now i) ≡ true
+pub next_offset : {s : ℕ} {text : List ℕ} {pairs : List Pair} {old now : List Window} {offsets : List (Option ℕ)} {next i : ℕ} {none : Bool} → Searching s text pairs old now offsets next i → length old ≡ length pairs → i < length pairs → is_some (window_of now i) ≡ not none → none ≡ true
     → (next < length offsets) × (offset_at offsets next ≡ first_match s text (pair_at pairs i)) × (drop (next + 1) offsets ≡ map (first_match s text) (missing_pairs (drop (i + 1) pairs) (drop (i + 1) old)))
-next_offset s text pairs old now offsets next i at count within none =
-    let was : is_none (window_of old i) ≡ true = ap is_none (sym (at.rest i (omega arith))) ∙ none in
+next_offset {s = s} {text = text} {pairs = pairs} {old = old} {now = now} {offsets = offsets} {next = next} {i = i} at count within is holds =
+    let was : is_none (window_of old i) ≡ true = ap is_none (sym (at.rest i (omega arith))) ∙ none_from_some (window_of now i) _ is ∙ holds in
     let rest : List Pair = missing_pairs (drop (i + 1) pairs) (drop (i + 1) old) in
     head_of_rest offsets next (first_match s text (pair_at pairs i)) (map (first_match s text) rest) None
     (at.left ∙ ap (map (first_match s text)) (missing_from pairs old i count within ∙ ap (λ b. cond b (pair_at pairs i ∷ rest) rest) was))
 
 -- a pair that has a window keeps it
-pub window_kept : (s : ℕ) (text : List ℕ) (pairs : List Pair) (old now : List Window) (offsets : List (Option ℕ)) (next i : ℕ) → Searching s text pairs old now offsets next i → length old ≡ length pairs → i < length pairs → is_none (window_of now i) ≡ false → Searching s text pairs old now offsets next (i + 1)
-window_kept s text pairs old now offsets next i at count within there =
+pub window_kept : {s : ℕ} {text : List ℕ} {pairs : List Pair} {old now : List Window} {offsets : List (Option ℕ)} {next i : ℕ} {none : Bool} → Searching s text pairs old now offsets next i → length old ≡ length pairs → i < length pairs → is_some (window_of now i) ≡ not none → none ≡ false → Searching s text pairs old now offsets next (i + 1)
+window_kept {s = s} {text = text} {pairs = pairs} {old = old} {now = now} {offsets = offsets} {next = next} {i = i} at count within is holds =
     let same : window_of now i ≡ window_of old i = at.rest i (omega arith) in
-    let was : is_none (window_of old i) ≡ false = ap is_none (sym same) ∙ there in
+    let was : is_none (window_of old i) ≡ false = ap is_none (sym same) ∙ none_from_some (window_of now i) _ is ∙ holds in
     let rest : List Pair = missing_pairs (drop (i + 1) pairs) (drop (i + 1) old) in
     record {
       count = at.count;
@@ -120,13 +127,13 @@ window_kept s text pairs old now offsets next i at count within there =
     stays (Some w) h = refl
 
 -- and one that has none takes that of the next offset
-pub window_taken : (s : ℕ) (text : List ℕ) (pairs : List Pair) (old now : List Window) (offsets : List (Option ℕ)) (next i : ℕ) (w : Window) → Searching s text pairs old now offsets next i → length old ≡ length pairs → i < length pairs → is_none (window_of now i) ≡ true
+pub window_taken : {s : ℕ} {text : List ℕ} {pairs : List Pair} {old now : List Window} {offsets : List (Option ℕ)} {next i : ℕ} {none : Bool} (w : Window) → Searching s text pairs old now offsets next i → length old ≡ length pairs → i < length pairs → is_some (window_of now i) ≡ not none → none ≡ true
     → padded_window s w ≡ option_map (window s text) (offset_at offsets next) → IfSome w (λ bytes. length bytes.now ≤ s) → Searching s text pairs old (set now i w) offsets (next + 1) (i + 1)
-window_taken s text pairs old now offsets next i w at count within none is short =
+window_taken {s = s} {text = text} {pairs = pairs} {old = old} {now = now} {offsets = offsets} {next = next} {i = i} w at count within is_open holds is short =
     let inside : i < length now = omega (arith, within, at.count) in
     let same : window_of now i ≡ window_of old i = at.rest i (omega arith) in
-    let was : is_none (window_of old i) ≡ true = ap is_none (sym same) ∙ none in
-    let here = next_offset s text pairs old now offsets next i at count within none in
+    let was : is_none (window_of old i) ≡ true = ap is_none (sym same) ∙ none_from_some (window_of now i) _ is_open ∙ holds in
+    let here = next_offset at count within is_open holds in
     record {
       count = length-set now i w ∙ at.count;
       done = below_more _ _
@@ -191,12 +198,6 @@ all_found s texts others (pair ∷ pairs) (Some w ∷ ws) is none =
     let same : padded_window s (Some w) ≡ found s (texts ++ others) pair = ap (λ o. option_or o (found s others pair)) here ∙ sym (found-append s texts others pair) in
     let more : padded_windows s ws ≡ map (found s (texts ++ others)) pairs = all_found s texts others pairs ws rest none in
     cc (same, more)
-
-pub none_from_some : {X : Type 0} (o : Option X) (b : Bool) → is_some o ≡ not b → is_none o ≡ b
-none_from_some None true h = refl
-none_from_some None false h = absurd (false≢true h)
-none_from_some (Some x) true h = absurd (false≢true (sym h))
-none_from_some (Some x) false h = refl
 
 -- what a slice of a whole list is after a write
 pub written_back : {X : Type 0} (new items : List X) (n : ℕ) → length items ≡ n → length new ≡ n → take n (new ++ drop (length new) items) ≡ new
