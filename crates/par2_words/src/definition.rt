@@ -74,7 +74,6 @@ fn purge_arg<'a>(alloc: Global) -> Arg<'a>
         .action(ArgAction::SetTrue)
 }
 
-#[tactic(auto, unfolding(crate::specs::Definition::create_numbers_app))]
 fn create_numbers<'a>(alloc: Global) -> Result<Command<'a>, AllocError>
     ensures { IfOk result (λ c. (app_of c ≡ create_numbers_app) × ((out-Command c).has_globals ≡ false)) }
 {
@@ -84,7 +83,6 @@ fn create_numbers<'a>(alloc: Global) -> Result<Command<'a>, AllocError>
         .arg(first_arg(alloc))
 }
 
-#[tactic(auto, unfolding(crate::specs::Definition::create_app))]
 fn create_command<'a>(alloc: Global) -> Result<Command<'a>, AllocError>
     ensures { IfOk result (λ c. (app_of c ≡ create_app) × ((out-Command c).has_globals ≡ false)) }
 {
@@ -103,7 +101,6 @@ fn verify_command<'a>(alloc: Global) -> Result<Command<'a>, AllocError>
         .arg(files_arg(alloc))
 }
 
-#[tactic(auto, unfolding(crate::specs::Definition::repair_app))]
 fn repair_command<'a>(alloc: Global) -> Result<Command<'a>, AllocError>
     ensures { IfOk result (λ c. (app_of c ≡ repair_app) × ((out-Command c).has_globals ≡ false)) }
 {
@@ -130,7 +127,6 @@ fn start_command<'a>(alloc: Global) -> Command<'a>
         .disable_help_subcommand(true)
 }
 
-#[tactic(auto, unfolding(crate::specs::Definition::file_commands_app))]
 fn file_commands<'a>(alloc: Global) -> Result<Command<'a>, AllocError>
     ensures { IfOk result (λ c. (app_of c ≡ file_commands_app) × ((out-Command c).has_globals ≡ false)) }
 {
@@ -141,7 +137,6 @@ fn file_commands<'a>(alloc: Global) -> Result<Command<'a>, AllocError>
 }
 
 /// The command line with its six commands, as clap takes it.
-#[tactic(auto, unfolding(crate::specs::Definition::par2_app))]
 pub(crate) fn par2_command<'a>(alloc: Global) -> Result<Command<'a>, AllocError>
     ensures { IfOk result (λ c. (app_of c ≡ par2_app) × ((out-Command c).has_globals ≡ false)) }
 {
