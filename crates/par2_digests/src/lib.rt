@@ -11,8 +11,6 @@ mod blocks;
 mod lanes;
 mod padding;
 mod steps;
-#[cfg(test)]
-mod tests;
 
 use blocks::absorbed;
 use lanes::splat;

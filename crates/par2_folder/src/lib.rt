@@ -13,8 +13,6 @@ mod name;
 mod place;
 mod reading;
 mod store;
-#[cfg(test)]
-mod tests;
 
 pub use bytes::Bytes;
 pub use change::Change;
@@ -26,4 +24,5 @@ pub use loading::read_folder;
 pub use memory::MemoryStore;
 pub use name::{BadName, Name};
 pub use par2_spec::ChangeFault;
+pub use reading::read_within;
 pub use store::{FolderStore, ReadFault, StoreFault};

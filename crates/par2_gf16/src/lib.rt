@@ -11,6 +11,3 @@ mod words;
 
 pub use factor::Factor;
 pub use tables::Gf;
-
-#[cfg(test)]
-mod tests;

@@ -6,6 +6,3 @@ mod elimination;
 mod system;
 
 pub use system::{Offer, System};
-
-#[cfg(test)]
-mod tests;

@@ -17,6 +17,3 @@ pub use scan::{Packet, Packets};
 pub use views::{
     DescView, IfscView, MainView, RecoveryView, read_desc, read_ifsc, read_main, read_recovery,
 };
-
-#[cfg(test)]
-mod tests;

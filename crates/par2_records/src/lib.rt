@@ -57,6 +57,3 @@ pub fn file_record(
         pairs: pairs(alloc, bytes, s)?,
     })
 }
-
-#[cfg(test)]
-mod tests;

@@ -10,4 +10,3 @@ pub mod Inverting
 pub mod Standing
 pub mod Finishing
 pub mod Records
-pub mod Tested

@@ -13,6 +13,3 @@ pub use exponents::rank;
 pub use rebuild_slices::{RebuildFault, Survivors, rebuild};
 pub use recovery::{recovery_slice, recovery_slices};
 pub use set_record::{RecordFault, SetRecord};
-
-#[cfg(test)]
-mod tests;

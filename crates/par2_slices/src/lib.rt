@@ -19,6 +19,3 @@ pub use rolling::Rolling;
 pub use search::find;
 pub use wanted::{Pair, Wanted, pair_of};
 pub use zeros::padded_crc32;
-
-#[cfg(test)]
-mod tests;

@@ -1,0 +1,55 @@
+//! Digests side by side, and by the hasher of one message.
+
+use md5::{Digest, Md5};
+use par2_digests::{LANES, window_digests};
+
+const TEXT: &[u8] = b"The quick brown fox jumps over the lazy dog";
+
+// Values of md5sum.
+#[test]
+fn windows_of_a_sentence(rt: HostRuntime) {
+    let digests = window_digests(TEXT, &[0, 1, 4, 10, 16, 16, 31, 35], 8);
+    let expected = [
+        0xb9b9_2654_4b8e_cd5c_3ef5_53a8_7170_b726,
+        0x442c_ffd0_4438_a9d6_e6de_8607_b7fd_5509,
+        0x352f_edc7_6fd6_9d79_d776_c8fb_be7d_87c6,
+        0x5839_ae27_5936_ecbd_1ff6_a4e5_421d_bd8b,
+        0x2620_9f23_b95e_5dc4_0ac9_ea67_85de_cf8c,
+        0x2620_9f23_b95e_5dc4_0ac9_ea67_85de_cf8c,
+        0x2532_7c35_b4c8_c824_3fcc_e1e6_17f7_ea79,
+        0x4dab_19db_799e_70f1_123a_1f94_ac3c_45fb,
+    ];
+    for k in 0..LANES {
+        assert!(rt; u128::from_be_bytes(digests[k]) == expected[k]);
+    }
+}
+
+#[test]
+fn the_whole_text_eight_times(rt: HostRuntime) {
+    for digest in window_digests(TEXT, &[0; LANES], TEXT.len()) {
+        assert!(rt; u128::from_be_bytes(digest) == 0x9e10_7d9d_372b_b682_6bd8_1d35_42a4_19d6);
+    }
+}
+
+#[test]
+fn empty_windows(rt: HostRuntime) {
+    for digest in window_digests(TEXT, &[0, 1, 2, 3, 40, 41, 42, 43], 0) {
+        assert!(rt; u128::from_be_bytes(digest) == 0xd41d_8cd9_8f00_b204_e980_0998_ecf8_427e);
+    }
+}
+
+// About the edges of a block and of the padding.
+#[test]
+fn as_the_hasher_of_one_message(rt: HostRuntime) {
+    let mut bytes = [0; 2048];
+    for i in 0..bytes.len() {
+        bytes[i] = ((i * i / 7 + i) % 256) as u8;
+    }
+    let starts = [0, 1, 1, 500, 501, 64, 900, 1000];
+    for len in [0, 1, 55, 56, 57, 63, 64, 65, 119, 120, 128, 1000] {
+        let digests = window_digests(&bytes, &starts, len);
+        for k in 0..LANES {
+            assert!(rt; digests[k] == Md5::digest(&bytes[starts[k]..starts[k] + len]));
+        }
+    }
+}
