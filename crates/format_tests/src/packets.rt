@@ -2,9 +2,9 @@
 
 use hex::FromHexError;
 use par2_packets::{
-    DuplicateId, FileRecord, Kind, Packet, Packets, append_creator, append_desc, append_ifsc,
-    append_main, append_recovery, file_id, main_id, read_desc, read_ifsc, read_main, read_recovery,
-    sort_ids,
+    DescView, DuplicateId, FileRecord, Kind, Packet, Packets, append_creator, append_desc,
+    append_ifsc, append_main, append_recovery, file_id, main_id, read_desc, read_ifsc, read_main,
+    read_recovery, sort_ids,
 };
 use std::alloc::{AllocError, Global};
 use std::test::Fail;
@@ -169,12 +169,12 @@ fn record_of_a(alloc: Global) -> Result<FileRecord, AllocError> {
 fn packets_of_a_volume(rt: HostRuntime) -> Result<(), Fail> {
     let alloc = rt.alloc();
     let mut text = volume(alloc)?;
-    assert_eq!(rt; text.len(), 492);
-    assert_eq!(rt; kinds_of(alloc, &text)?.as_slice(), KINDS.as_slice());
+    assert!(rt; text.len() == 492);
+    assert!(rt; kinds_of(alloc, &text)?.as_slice() == KINDS.as_slice());
     text.pop();
-    assert_eq!(rt;
-        kinds_of(alloc, &text)?.as_slice(),
-        [Kind::Main, Kind::FileDesc, Kind::Ifsc, Kind::Creator].as_slice()
+    assert!(rt;
+        kinds_of(alloc, &text)?.as_slice()
+            == [Kind::Main, Kind::FileDesc, Kind::Ifsc, Kind::Creator].as_slice()
     );
     Ok(())
 }
@@ -187,77 +187,113 @@ fn packets_of_a_volume_with_one_bit_flipped(rt: HostRuntime) -> Result<(), Fail>
     if let Some(byte) = text.get_mut(400) {
         *byte ^= 1;
     }
-    assert_eq!(rt;
-        kinds_of(alloc, &text)?.as_slice(),
-        [Kind::Main, Kind::FileDesc, Kind::Ifsc, Kind::Recovery].as_slice()
+    assert!(rt;
+        kinds_of(alloc, &text)?.as_slice()
+            == [Kind::Main, Kind::FileDesc, Kind::Ifsc, Kind::Recovery].as_slice()
     );
     Ok(())
 }
 
-#[test]
-fn index_is_written(rt: HostRuntime) -> Result<(), Fail> {
-    let alloc = rt.alloc();
-    let files = Vec::from_array(alloc, [record_of_a(alloc)?])?;
-    let id = main_id(4, &files);
+// The index of a set of these files, with slices of 4 bytes, or None where they are too many.
+fn written_index(alloc: Global, files: &[FileRecord]) -> Result<Option<Vec<u8>>, AllocError> {
+    if files.len() > 32768 {
+        return Ok(None);
+    }
+    let id = main_id(4, files);
     let mut text = Vec::new(alloc);
-    append_main(alloc, &mut text, 4, &files)?;
-    for file in &files {
+    append_main(alloc, &mut text, 4, files)?;
+    for file in files {
         append_desc(alloc, &mut text, &id, file)?;
         append_ifsc(alloc, &mut text, &id, file)?;
     }
     append_creator(alloc, &mut text, &id)?;
-    assert_eq!(rt; text, index(alloc)?);
-    assert_eq!(rt; text.len(), 420);
+    Ok(Some(text))
+}
+
+#[test]
+fn index_is_written(rt: HostRuntime) -> Result<(), Fail> {
+    let files = [record_of_a(rt.alloc())?];
+    let Some(text) = written_index(rt.alloc(), &files)? else {
+        panic!(rt; "no index");
+    };
+    assert!(rt; text == index(rt.alloc())?);
+    assert!(rt; text.len() == 420);
     Ok(())
+}
+
+// The index, and behind it the recovery slices of these exponents.
+fn written_volume(alloc: Global, slices: &[(u32, [u8; 4])]) -> Result<Vec<u8>, FromHexError> {
+    let id = main_id(4, &[record_of_a(alloc)?]);
+    let mut text = index(alloc)?;
+    for (exponent, slice) in slices {
+        append_recovery(alloc, &mut text, &id, *exponent, slice)?;
+    }
+    Ok(text)
 }
 
 #[test]
 fn volumes_are_written(rt: HostRuntime) -> Result<(), Fail> {
     let alloc = rt.alloc();
-    let id = main_id(4, &Vec::from_array(alloc, [record_of_a(alloc)?])?);
+    let first = written_volume(alloc, &[(0, *b"\x04\x04\x04\x0c")])?;
+    assert!(rt; first == volume(alloc)?);
+    assert!(rt; first.len() == 492);
 
-    let mut first = index(alloc)?;
-    append_recovery(alloc, &mut first, &id, 0, b"\x04\x04\x04\x0c")?;
-    assert_eq!(rt; first, volume(alloc)?);
-    assert_eq!(rt; first.len(), 492);
-
-    let mut second = index(alloc)?;
-    append_recovery(alloc, &mut second, &id, 1, b"\x5d\x4d\x51\x79")?;
-    append_recovery(alloc, &mut second, &id, 2, b"\xe5\x9f\xcd\x67")?;
+    let slices = [(1, *b"\x5d\x4d\x51\x79"), (2, *b"\xe5\x9f\xcd\x67")];
+    let second = written_volume(alloc, &slices)?;
     let mut expected = index(alloc)?;
     expected.extend_from_slice(&recovery(alloc, 1)?)?;
     expected.extend_from_slice(&recovery(alloc, 2)?)?;
-    assert_eq!(rt; second, expected);
-    assert_eq!(rt; second.len(), 564);
+    assert!(rt; second == expected);
+    assert!(rt; second.len() == 564);
     Ok(())
+}
+
+// Whether a packet, if it is the Main, says that the set has this file alone.
+fn main_agrees(packet: &Packet<'_>, file: &FileRecord) -> bool {
+    match read_main(packet) {
+        Some(main) => main.slice_size() == 4 && main.count() == 1 && main.id(0) == file.id,
+        None => true,
+    }
+}
+
+// Whether a packet, if it describes a file, describes this one.
+fn desc_agrees(packet: &Packet<'_>, file: &FileRecord) -> bool {
+    let Some(desc) = read_desc(packet) else {
+        return true;
+    };
+    let digests_agree = desc.md5() == file.md5 && desc.md5_16k() == file.md5_16k;
+    let name_agrees = desc.name_bytes() == file.name.as_bytes();
+    digests_agree && name_agrees && desc.id() == file.id && desc.length() == file.length
+}
+
+// Whether a packet, if it has checksums, has those of this file.
+fn ifsc_agrees(packet: &Packet<'_>, file: &FileRecord) -> bool {
+    let Some(ifsc) = read_ifsc(packet) else {
+        return true;
+    };
+    let pairs_agree = file
+        .pairs
+        .iter()
+        .enumerate()
+        .all(|(k, pair)| k < ifsc.count() && ifsc.pair(k) == *pair);
+    ifsc.id() == file.id && ifsc.count() == file.pairs.len() && pairs_agree
+}
+
+// Whether a packet, if it has a recovery slice, has the first one.
+fn recovery_agrees(packet: &Packet<'_>) -> bool {
+    match read_recovery(packet) {
+        Some(slice) => slice.exponent() == 0 && slice.bytes() == b"\x04\x04\x04\x0c".as_slice(),
+        None => true,
+    }
 }
 
 #[test]
 fn bodies_of_a_volume(rt: HostRuntime) -> Result<(), Fail> {
-    let alloc = rt.alloc();
-    let text = volume(alloc)?;
-    let file = record_of_a(alloc)?;
+    let text = volume(rt.alloc())?;
+    let file = record_of_a(rt.alloc())?;
     for packet in Packets::new(&text) {
-        if let Some(main) = read_main(&packet) {
-            assert!(rt; main.slice_size() == 4 && main.count() == 1 && main.id(0) == file.id);
-        }
-        if let Some(desc) = read_desc(&packet) {
-            assert!(rt;
-                desc.id() == file.id && desc.md5() == file.md5 && desc.md5_16k() == file.md5_16k
-            );
-            assert!(rt; desc.length() == 8 && desc.name_bytes() == b"a".as_slice());
-        }
-        if let Some(ifsc) = read_ifsc(&packet) {
-            assert!(rt; ifsc.id() == file.id && ifsc.count() == 2);
-            for (k, pair) in file.pairs.iter().enumerate() {
-                assert!(rt; k < ifsc.count() && ifsc.pair(k) == *pair);
-            }
-        }
-        if let Some(recovery) = read_recovery(&packet) {
-            assert!(rt;
-                recovery.exponent() == 0 && recovery.bytes() == b"\x04\x04\x04\x0c".as_slice()
-            );
-        }
+        assert!(rt; main_agrees(&packet, &file) && desc_agrees(&packet, &file));
+        assert!(rt; ifsc_agrees(&packet, &file) && recovery_agrees(&packet));
     }
     Ok(())
 }
@@ -273,9 +309,8 @@ fn packets_between_other_bytes(rt: HostRuntime) -> Result<(), Fail> {
         text.extend_from_slice(&head)?;
         text.extend_from_slice(&recovery(alloc, 0)?)?;
         text.extend_from_slice(&head)?;
-        assert_eq!(rt;
-            exponents_of(alloc, &text)?.as_slice(),
-            [1, 0].as_slice(),
+        assert!(rt;
+            exponents_of(alloc, &text)?.as_slice() == [1, 0].as_slice(),
             "at {claim}"
         );
     }
@@ -289,7 +324,7 @@ fn heads_at_the_end(rt: HostRuntime) -> Result<(), Fail> {
     text.extend_from_slice(&false_head(alloc, 64)?)?;
     // The last head is cut at each place.
     for _ in 0..64 {
-        assert_eq!(rt; exponents_of(alloc, &text)?.as_slice(), [2].as_slice());
+        assert!(rt; exponents_of(alloc, &text)?.as_slice() == [2].as_slice());
         text.pop();
     }
     Ok(())
@@ -332,7 +367,7 @@ fn bodies_of_each_length(rt: HostRuntime) -> Result<(), Fail> {
         (56, [false, true, true, true]),
         (76, [true, true, true, true]),
     ] {
-        assert_eq!(rt; read_by(rt.alloc(), len)?, read, "at {len}");
+        assert!(rt; read_by(rt.alloc(), len)? == read, "at {len}");
     }
     Ok(())
 }
@@ -353,13 +388,13 @@ fn identifiers_rise_as_little_endian_numbers(rt: HostRuntime) -> Result<(), Fail
     let high = *b"\0\0\0\0\0\0\0\0\0\0\0\0\0\0\0\x01";
     let low = *b"\xff\0\0\0\0\0\0\0\0\0\0\0\0\0\0\0";
     let mut files = Vec::from_array(alloc, [record(alloc, high), record(alloc, low)])?;
-    assert_eq!(rt; sort_ids(&mut files), Ok(()));
+    assert!(rt; sort_ids(&mut files) == Ok(()));
     let ids = files
         .iter()
         .map(|file| file.id)
         .collect::<Vec<[u8; 16]>>(alloc)?;
-    assert_eq!(rt; ids.as_slice(), [low, high].as_slice());
-    assert_eq!(rt; sort_ids(&mut []), Ok(()));
+    assert!(rt; ids.as_slice() == [low, high].as_slice());
+    assert!(rt; sort_ids(&mut []) == Ok(()));
     Ok(())
 }
 
@@ -374,31 +409,36 @@ fn two_records_with_one_identifier(rt: HostRuntime) -> Result<(), Fail> {
             record(alloc, [9; 16]),
         ],
     )?;
-    assert_eq!(rt; sort_ids(&mut files), Err(DuplicateId));
-    assert_eq!(rt; files.len(), 3);
+    assert!(rt; sort_ids(&mut files) == Err(DuplicateId));
+    assert!(rt; files.len() == 3);
     Ok(())
+}
+
+// Whether a packet says what the index of par2cmdline must say.
+fn is_of_fox(packet: &Packet<'_>) -> bool {
+    match packet.kind {
+        Kind::Main => read_main(packet).is_some_and(|main| main.slice_size() == 16
+            && main.count() == 1),
+        Kind::FileDesc => read_desc(packet).is_some_and(|desc| is_fox(&desc)),
+        Kind::Ifsc => read_ifsc(packet).is_some_and(|ifsc| ifsc.count() == 3),
+        _ => true,
+    }
+}
+
+fn is_fox(desc: &DescView<'_>) -> bool {
+    let id = file_id(&desc.md5_16k(), 45, "fox.txt");
+    desc.length() == 45 && desc.name_bytes() == b"fox.txt".as_slice() && desc.id() == id
 }
 
 #[test]
 fn index_of_par2cmdline(rt: HostRuntime) -> Result<(), Fail> {
     let alloc = rt.alloc();
     let text = fox_index(alloc)?;
-    assert_eq!(rt;
-        kinds_of(alloc, &text)?.as_slice(),
-        [Kind::Main, Kind::FileDesc, Kind::Ifsc, Kind::Creator].as_slice()
+    assert!(rt;
+        kinds_of(alloc, &text)?.as_slice()
+            == [Kind::Main, Kind::FileDesc, Kind::Ifsc, Kind::Creator].as_slice()
     );
-    for packet in Packets::new(&text) {
-        if let Some(main) = read_main(&packet) {
-            assert!(rt; main.slice_size() == 16 && main.count() == 1);
-        }
-        if let Some(desc) = read_desc(&packet) {
-            assert!(rt; desc.length() == 45 && desc.name_bytes() == b"fox.txt".as_slice());
-            assert_eq!(rt; desc.id(), file_id(&desc.md5_16k(), 45, "fox.txt"));
-        }
-        if let Some(ifsc) = read_ifsc(&packet) {
-            assert_eq!(rt; ifsc.count(), 3);
-        }
-    }
+    assert!(rt; Packets::new(&text).all(|packet| is_of_fox(&packet)));
     Ok(())
 }
 
@@ -406,7 +446,7 @@ fn index_of_par2cmdline(rt: HostRuntime) -> Result<(), Fail> {
 fn volume_of_par2cmdline(rt: HostRuntime) -> Result<(), Fail> {
     let alloc = rt.alloc();
     let text = fox_volume(alloc)?;
-    assert_eq!(rt; kinds_of(alloc, &text)?.len(), 9);
-    assert_eq!(rt; exponents_of(alloc, &text)?.as_slice(), [0, 1].as_slice());
+    assert!(rt; kinds_of(alloc, &text)?.len() == 9);
+    assert!(rt; exponents_of(alloc, &text)?.as_slice() == [0, 1].as_slice());
     Ok(())
 }
