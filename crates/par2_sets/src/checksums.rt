@@ -14,8 +14,13 @@ use std::alloc::{AllocError, Global};
 fn checksums_of<'a>(packets: &[Packet<'a>], id: &[u8; 16], n: u64) -> Option<IfscView<'a>>
     ensures { option_map (λ c. c.pairs) result ≡ pairs_of (map packet_of packets.now) id.now n }
 {
-    packets.iter().filter_map(|packet| read_ifsc(packet)).find(|checksums| checksums.id() == *id
-        && checksums.count() as u64 == n)
+    packets
+        .iter()
+        .filter_map(|packet| read_ifsc(packet))
+        .find(|checksums| {
+            let count = checksums.count() as u64;
+            checksums.id() == *id && count == n
+        })
 }
 
 // The pairs of an IFSC.
