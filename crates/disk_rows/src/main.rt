@@ -1,11 +1,14 @@
 //! Uses a store in the folder where it runs, which holds a folder, a link, a journal and what a stopped call left
 //! behind, and prints each answer. Then it makes folders of its own, with files that may not be read, may not be
 //! written and may not be listed, and uses a store in each. These show what a user meets whom the modes of files
-//! bind, so not the superuser.
+//! bind, so not the superuser. At last it protects a file by the program's own `run`.
 //!
 //! With the word `show` it only prints what the folder holds.
 #![tactic(auto)]
 
+mod protected;
+
+use anyhow::Result;
 use par2_folder::{DiskStore, FolderStore, Name};
 use std::env::Env;
 use std::fs::{Files, Permissions};
@@ -187,15 +190,23 @@ fn unlisted_folder<R: Files + Env + Print + AllocGlobal>(rt: &R) -> io::Result<(
     env::set_current_dir(rt, "..")
 }
 
-fn main(rt: HostRuntime) -> io::Result<()> {
+fn protected_file(rt: &HostRuntime) -> Result<()> {
+    println!(rt; "sub")?;
+    env::set_current_dir(rt, "sub")?;
+    protected::protect(rt)
+}
+
+fn main(rt: HostRuntime) -> Result<()> {
     if env::args(&rt)?
         .nth(1)
         .is_some_and(|word| word.as_str() == "show")
     {
-        return show(&rt, &mut DiskStore::new(&rt));
+        show(&rt, &mut DiskStore::new(&rt))?;
+        return Ok(());
     }
     steps(&rt)?;
     unreadable_file(&rt)?;
     unwritable_folder(&rt)?;
-    unlisted_folder(&rt)
+    unlisted_folder(&rt)?;
+    protected_file(&rt)
 }

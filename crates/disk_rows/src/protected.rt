@@ -1,6 +1,5 @@
-//! Protects a file of the folder where it runs, and prints what the index says of it. The output that it is to have
-//! was made by another program, from the file and the format alone.
-#![tactic(auto)]
+//! Protects a file of a folder, and prints what the index says of it. The output that this is to have was made by
+//! another program, from the file and the format alone.
 
 use anyhow::Result;
 use par2_folder::{DiskStore, FolderStore, Name};
@@ -70,15 +69,16 @@ fn show(rt: &HostRuntime, index: &[u8]) -> Result<()> {
     Ok(())
 }
 
-fn main(rt: HostRuntime) -> Result<()> {
+/// Protects `numbers.txt` of the current directory.
+pub fn protect(rt: &HostRuntime) -> Result<()> {
     let words = words(rt.alloc())?;
-    let mut store = DiskStore::new(&rt);
+    let mut store = DiskStore::new(rt);
     let mut out = rt.stdout();
     let mut err = rt.stderr();
     let status = run(rt.alloc(), words.as_slice(), &mut store, &mut out, &mut err);
     println!(rt; "status: {status}")?;
     match Name::new("numbers.par2") {
-        Ok(name) => show(&rt, &store.read(rt.alloc(), &name)?),
+        Ok(name) => show(rt, &store.read(rt.alloc(), &name)?),
         Err(fault) => Err(fault.into()),
     }
 }
