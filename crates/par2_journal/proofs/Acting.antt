@@ -73,7 +73,7 @@ redo_refused s none = subst (λ (r : Result History Refusal). IsErr r) (sym (ref
 -- the history goes along
 pub leads_asked : (s : Session) (action : Action) → IsPlain action → (t : Session) → is_valid s ≡ true → session_after s action ≡ Ok t → history_after (history_of s) action ≡ Ok (history_of t)
 leads_asked s (Do (Create a)) plain t valid h = (accepted_next s t (Do (Create a)) valid (λ _. command_leads s.folder (Create a) tt) h).0
-leads_asked s (Do (Verify base extras)) plain t valid h = absurd plain
+leads_asked s (Do (Verify base extras)) plain t valid h = (accepted_next s t (Do (Verify base extras)) valid (λ _. command_leads s.folder (Verify base extras) tt) h).0
 leads_asked s (Do (Repair base extras purge)) plain t valid h = absurd plain
 leads_asked s (Do (Purge base)) plain t valid h = absurd plain
 leads_asked s Undo plain t valid h = (accepted_next s t Undo valid tt h).0

@@ -11,13 +11,13 @@ use Rattle.par2_spec.proofs.FolderLaws.{takes_applicable}
 use Rattle.par2_spec.specs.declared.Fault.{Fault}
 use Rattle.par2_spec.specs.declared.Fault.TheVariants.{Memory}
 use Rattle.par2_journal.specs.Ready.{Changing, Undoing, Redoing, IsReady, next_of}
-use Rattle.par2_journal.specs.Faulted.{MayRefuse}
+use Rattle.par2_journal.specs.Faulted.{MayFail, MayRefuse}
 use Rattle.par2_spec.specs.History.{IsChanging}
 use Rattle.par2_journal.proofs.Acting.{command_done, undo_done, redo_done}
 use Rattle.par2_journal.specs.declared.prepared.SessionFault.TheVariants.{Plan, NothingToUndo, NothingToRedo}
 
 -- a fault of the plan is one of the session
-pub refused_plan : (s : KeptSession) (command : Command) (fault : Fault) → (fault ≡ Memory) ⊎ (refusal s.folder.files command ≡ Some fault) → MayRefuse (Do command) s (Plan fault)
+pub refused_plan : (s : KeptSession) (command : Command) (fault : Fault) → MayFail command s fault → MayRefuse (Do command) s (Plan fault)
 unfolding changes_asked
 refused_plan s command fault (inl memory) = inl (ap Plan memory)
 refused_plan s command fault (inr cause) = inr (ap (λ r. planned r (plans.changes_of s.folder.files command)) cause)

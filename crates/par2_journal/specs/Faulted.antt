@@ -1,17 +1,23 @@
--- Why a session refuses an action.
-use Rattle.std.specs.Prelude.{◌≡◌, ◌⊎◌, Err}
-use Rattle.par2_spec.specs.Commands.{Action}
+-- Why a session refuses a command or an action.
+use Rattle.std.specs.Prelude.{◌≡◌, ◌⊎◌, Some, Err}
+use Rattle.par2_spec.specs.Commands.{Action, Command}
 use Rattle.par2_spec.specs.History as history
+use Rattle.par2_spec.specs.Refusals.{refusal}
 use Rattle.par2_spec.specs.Sessions.{KeptSession, session_of_kept, changes_asked}
+use Rattle.par2_spec.specs.declared.Fault.{Fault}
 use Rattle.par2_spec.specs.declared.Fault.TheVariants.{Memory}
 use Rattle.par2_journal.specs.declared.prepared.SessionFault.{SessionFault}
 use Rattle.par2_journal.specs.declared.prepared.SessionFault.TheVariants.{Plan, NothingToUndo, NothingToRedo}
+
+-- a command is refused for the cause that the definitions name, or for want of memory
+abbrev pub MayFail : Command → KeptSession → Fault → Type 0
+MayFail command s fault = (fault ≡ Memory) ⊎ (refusal s.folder.files command ≡ Some fault)
 
 abbrev pub refusal_of : SessionFault → history.Refusal
 refusal_of (Plan fault) = history.Refused fault
 refusal_of NothingToUndo = history.NothingToUndo
 refusal_of NothingToRedo = history.NothingToRedo
 
--- for the cause that the definitions name, or for want of memory
+-- the same of an action
 abbrev pub MayRefuse : Action → KeptSession → SessionFault → Type 0
 MayRefuse action s fault = (fault ≡ Plan Memory) ⊎ (changes_asked (session_of_kept s) action ≡ Err (refusal_of fault))

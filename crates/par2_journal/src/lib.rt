@@ -14,7 +14,7 @@ mod trying;
 
 pub use history::{NothingToRedo, NothingToUndo};
 pub use opening::{Halfway, Opened};
-pub use par2_plan::{Changes, CreateArgs, Fault};
+pub use par2_plan::{Changes, CreateArgs, Fault, Report, State, TargetReport};
 pub use par2_spec::Action;
 pub use prepared::{Prepared, SessionFault};
 pub use session::Session;

@@ -7,7 +7,7 @@ use crate::{
 };
 use par2_folder::{Change, Folder};
 use par2_journal_bytes::{JournalParts, Version, encode};
-use par2_plan::{Fault, plan_create};
+use par2_plan::{Fault, Report, check, plan_create};
 use par2_spec::Action;
 use std::alloc::{AllocError, Global};
 use std::marker::Model;
@@ -37,16 +37,18 @@ impl Model for Session {
 }
 
 impl Session {
-    ghost use Rattle.std.specs.Prelude.{◌≡◌, ◌↔◌, ◌<◌, ◌≤◌, ◌≢◌, [], Ok, map, length, take, drop, reverse, IsErr, IfOk, IfErr, OnOk, OnErr, IsTrue};
+    ghost use Rattle.std.specs.Prelude.{◌≡◌, ◌↔◌, ◌⊎◌, ◌<◌, ◌≤◌, ◌≢◌, [], Ok, Err, map, string_bytes, length, take, drop, reverse, IsErr, IfOk, IfErr, OnOk, OnErr, IsTrue};
     ghost use Rattle.std.specs.List.{AllByRecursion};
     ghost use Rattle.par2_spec.specs.Changes.{takes_all};
     ghost use Rattle.par2_spec.specs.Sessions.{CanWalk, OnlyGrew, session_of_kept, session_after, changes_asked, history_of, kept_done, kept_undone, kept_redone};
     ghost use Rattle.par2_spec.specs.History.{Run, MayBeRefused, folders, IsChanging};
     ghost use Rattle.par2_spec.specs.Views.{action_of, create_args_of};
+    ghost use Rattle.par2_spec.specs.Reports.{report_in};
     ghost use Rattle.par2_spec.specs.Texts.{step_of};
+    ghost use Rattle.par2_plan.specs.Views.{report_of};
     ghost use Rattle.par2_folder.specs.Views.{change_of};
     ghost use Rattle.par2_journal.specs.Ready.{Fits, IsReady, changes_of, committed, next_of};
-    ghost use Rattle.par2_journal.specs.Faulted.{MayRefuse};
+    ghost use Rattle.par2_journal.specs.Faulted.{MayFail, MayRefuse};
     ghost use Rattle.par2_spec.specs.Commands.{Do, Undo, Redo, Create};
     ghost use Rattle.par2_journal.specs.Plain.{IsPlain};
     ghost use Rattle.par2_spec.specs.Journals.{Spells};
@@ -200,24 +202,25 @@ impl Session {
         self.entries[self.cursor].as_slice()
     }
 
-    fn prepare_create(&mut self, alloc: Global, args: &CreateArgs) -> Result<Prepared, SessionFault>
+    fn prepare_create(&mut self, alloc: Global, args: &CreateArgs) -> Result<Prepared, Fault>
         ensures kept { OnlyGrew self.old self.new }
-        ensures ready { IfOk result (λ prepared. IsReady (Do (Create (create_args_of args.now))) self.old prepared self.new) }
-        ensures refused { IfErr result (MayRefuse (Do (Create (create_args_of args.now))) self.old) }
+        ensures ready { IfOk result (λ prepared.
+            IsReady (Do (Create (create_args_of args.now))) self.old prepared self.new) }
+        ensures refused { IfErr result (MayFail (Create (create_args_of args.now)) self.old) }
     {
         let changes = match plan_create(alloc, self.folder(), args) {
             Ok(changes) => changes,
-            Err(fault) => return Err(SessionFault::Plan(fault)),
+            Err(fault) => return Err(fault),
         };
         let Ok(steps) = Steps::of(alloc, changes.as_slice()) else {
-            return Err(SessionFault::Plan(Fault::Memory));
+            return Err(Fault::Memory);
         };
         match self.make_room(changes.len()) {
             Ok(()) => Ok(Prepared {
                 task: Task::Change(changes),
                 steps,
             }),
-            Err(_) => Err(SessionFault::Plan(Fault::Memory)),
+            Err(_) => Err(Fault::Memory),
         }
     }
 
@@ -261,7 +264,10 @@ impl Session {
         ensures refused { IfErr result (MayRefuse (action_of action.now) self.old) }
     {
         match action {
-            Action::Create(args) => self.prepare_create(alloc, args),
+            Action::Create(args) => match self.prepare_create(alloc, args) {
+                Ok(prepared) => Ok(prepared),
+                Err(fault) => Err(SessionFault::Plan(fault)),
+            },
             Action::Undo => self.prepare_undo(alloc),
             Action::Redo => self.prepare_redo(alloc),
             Action::Repair { .. } | Action::Purge { .. } => unreachable!(),
@@ -319,12 +325,26 @@ impl Session {
         steps
     }
 
+    /// What a verify of this base, with further files, reports.
+    pub fn verify(&self, alloc: Global, base: &str, extras: &[String]) -> Result<Report, Fault>
+        ensures refused { IfErr result (λ fault. (fault ≡ Fault.Memory) ⊎ (report_in
+            self.now.folder.files base.now (map string_bytes extras.now) ≡ Err fault)) }
+        ensures report { IfOk result (λ report. report_in
+            self.now.folder.files base.now (map string_bytes extras.now)
+            ≡ Ok (report_of report)) }
+    {
+        check(alloc, self.folder(), base, extras)
+    }
+
     /// Creates, and answers the steps. After a refusal names, bytes and history are as before.
-    pub fn create(&mut self, alloc: Global, args: &CreateArgs) -> Result<Steps, SessionFault>
-        ensures done { OnOk result (session_after (session_of_kept self.old) (Do (Create (create_args_of args.now))) ≡ Ok (session_of_kept self.new)) }
-        ensures steps { IfOk result (λ steps. IfOk (changes_asked (session_of_kept self.old) (Do (Create (create_args_of args.now)))) (λ changes. steps ≡ map step_of changes)) }
+    pub fn create(&mut self, alloc: Global, args: &CreateArgs) -> Result<Steps, Fault>
+        ensures done { OnOk result (session_after (session_of_kept self.old)
+            (Do (Create (create_args_of args.now))) ≡ Ok (session_of_kept self.new)) }
+        ensures steps { IfOk result (λ steps. IfOk
+            (changes_asked (session_of_kept self.old) (Do (Create (create_args_of args.now))))
+            (λ changes. steps ≡ map step_of changes)) }
         ensures unchanged { OnErr result (OnlyGrew self.old self.new) }
-        ensures refused { IfErr result (MayRefuse (Do (Create (create_args_of args.now))) self.old) }
+        ensures refused { IfErr result (MayFail (Create (create_args_of args.now)) self.old) }
     {
         match self.prepare_create(alloc, args) {
             Ok(prepared) => Ok(self.commit(prepared)),
@@ -344,7 +364,7 @@ impl Session {
         match action {
             Action::Create(args) => match self.create(alloc, args) {
                 Ok(_) => Ok(()),
-                Err(fault) => Err(fault),
+                Err(fault) => Err(SessionFault::Plan(fault)),
             },
             Action::Undo => match self.undo() {
                 Ok(()) => Ok(()),

@@ -1,13 +1,16 @@
 -- Runs on one store keep one history.
-use Rattle.std.proofs.Common.{◌≡◌, inl, inr, List, [], ◌∷◌, Option, Some, None, Result, Ok, Err, true, false, refl, sym, ap, subst, ◌∙◌}
+use Rattle.std.proofs.Common.{◌≡◌, inl, inr, List, [], ◌∷◌, Option, Some, None, Result, Ok, Err, Bool, true, false, refl, sym, ap, subst, ◌∙◌}
 use Rattle.std.specs.Prelude.{IsErr, is_ok, ℕ}
 use Rattle.std.specs.List.{AllByRecursion}
-use Rattle.par2_spec.specs.Commands.{Action, Do, Undo, Redo}
+use Rattle.par2_spec.specs.Commands.{Action, Do, Undo, Redo, Create, Verify, Repair, Purge}
 use Rattle.par2_spec.specs.Folders.{Folder}
-use Rattle.par2_spec.specs.History.{History, Refusal, MayBeRefused, Run, history_after}
+use Rattle.par2_spec.specs.History.{History, Refusal, Refused, MayBeRefused, Run, history_after}
 use Rattle.par2_spec.specs.History as history
 use Rattle.par2_spec.specs.Opening.{Opened, Settled, ToTakeBack, Started, OpensAs, Opens, opened, new_session, is_valid, leads, started}
-use Rattle.par2_spec.specs.Sessions.{Session, history_of, session_after, changes_asked, applied}
+use Rattle.par2_spec.specs.Sessions.{Session, history_of, session_after, changes_asked, applied, planned}
+use Rattle.par2_spec.specs.Plans.{changes_of}
+use Rattle.par2_spec.specs.Refusals.{refusal}
+use Rattle.par2_spec.specs.declared.Fault.{Fault}
 use Rattle.par2_spec.specs.Stores.{Contents}
 use Rattle.par2_spec.specs.declared.JournalFault.{JournalFault}
 use Rattle.par2_spec.specs.declared.JournalFault.TheVariants.{JournalInvalid, FolderChanged, Memory}
@@ -17,6 +20,8 @@ use Rattle.par2_spec.proofs.StopLaws.{taken_back_leads}
 use Rattle.par2_journal.specs.Plain.{IsPlain}
 use Rattle.par2_journal.proofs.Acting.{leads_asked}
 use Rattle.par2_journal_bytes.proofs.Whole.{one_reading}
+use Rattle.par2_tool.specs.Opened.{IsOpened}
+use Rattle.par2_tool.specs.Performed.{IsWritten}
 use Rattle.par2_tool.specs.Held.{Holds, kept}
 use Rattle.par2_tool.specs.Runs.{Runs, Ended, Accepted, Passed}
 use Rattle.par2_tool.proofs.Reopened.{settled_on, begun_by}
@@ -72,16 +77,39 @@ may_be_refused s (Do command) reason e = tt
 may_be_refused s Undo reason e = subst (λ (r : Result History Refusal). IsErr r) (sym (refused_after s Undo reason e)) refl
 may_be_refused s Redo reason e = subst (λ (r : Result History Refusal). IsErr r) (sym (refused_after s Redo reason e)) refl
 
+-- a verify leaves the session
+verify_stays : (s after : Session) (base : List ℕ) (extras : List (List ℕ)) → session_after s (Do (Verify base extras)) ≡ Ok after → s ≡ after
+unfolding session_after changes_asked
+verify_stays s after base extras e = by_refusal (refusal s.folder (Verify base extras)) e
+  where
+    by_refusal : (o : Option Fault) → applied s (Do (Verify base extras)) (planned o (changes_of s.folder (Verify base extras))) ≡ Ok after → s ≡ after
+    by_refusal None h = same_ok s after h
+    by_refusal (Some fault) h = absurd (ok_no_err after (Refused fault) (sym h))
+
+-- an accepted action leaves the session afterwards in the store, a verify of a folder with a dropped history that too
+written_holds : (action : Action) (s after : Session) (dropped : Bool) (old between new : Contents) → IsOpened old between (record { session = s; dropped = dropped }) → session_after s action ≡ Ok after → IsWritten action after between new
+    → (end : Started) × (end.session ≡ after) × Holds new end
+written_holds (Do (Verify base extras)) s after dropped old between new opened leads written =
+    let end : Started = record { session = s; dropped = dropped } in
+    (end, verify_stays s after base extras leads, subst (λ (k : Contents). Holds k end) (sym written) opened.holds)
+written_holds (Do (Create a)) s after dropped old between new opened leads written = (kept after, refl, written.0)
+written_holds (Do (Repair base extras purge)) s after dropped old between new opened leads written = (kept after, refl, written.0)
+written_holds (Do (Purge base)) s after dropped old between new opened leads written = (kept after, refl, written.0)
+written_holds Undo s after dropped old between new opened leads written = (kept after, refl, written.0)
+written_holds Redo s after dropped old between new opened leads written = (kept after, refl, written.0)
+
 -- ---- all of them
 
 pub runs_go : (old new : Contents) (started : Started) (actions : List Action) (n : ℕ) → Holds old started → AllByRecursion IsPlain actions → Runs old actions n new
     → (end : Started) × Run (history_of started.session) actions n (history_of end.session) × Holds new end
 runs_go old new started [] n holds plain Ended = (started, history.Ended, holds)
 runs_go old new started (action ∷ actions) n holds plain (Accepted done rest) =
-    let same : started.session ≡ done.session = ap (λ (x : Started). x.session) (one_start old.files old.journal started _ holds.opens done.opened) in
-    let leads = leads_asked done.session action plain.0 done.after (start_leads old.files old.journal _ done.opened) done.leads in
-    let later = runs_go _ new (kept done.after) actions _ done.holds plain.1 rest in
-    (later.0, history.Accepted (ap (λ s. history_after (history_of s) action) same ∙ leads) later.1, later.2)
+    let same : started.session ≡ done.session = ap (λ (x : Started). x.session) (one_start old.files old.journal started _ holds.opens done.opened.opens) in
+    let leads = leads_asked done.session action plain.0 done.after (start_leads old.files old.journal _ done.opened.opens) done.leads in
+    let left = written_holds action done.session done.after _ old done.between _ done.opened done.leads done.written in
+    let later = runs_go _ new left.0 actions _ left.2 plain.1 rest in
+    let step = ap (λ s. history_after (history_of s) action) same ∙ leads ∙ ap (λ (s : Session). Ok (history_of s)) (sym left.1) in
+    (later.0, history.Accepted step later.1, later.2)
 runs_go old new started (action ∷ actions) n holds plain (Passed refused rest) =
     let same : refused.0 ≡ started = one_start old.files old.journal refused.0 started refused.1.opens holds.opens in
     let may = subst (λ (x : Started). MayBeRefused (history_of x.session) action) same (may_be_refused refused.0.session action _ refused.2) in

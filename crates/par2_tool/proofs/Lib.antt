@@ -1,4 +1,5 @@
 mod Made
+mod Verified
 mod Reopened
 mod Stopping
 mod Carried

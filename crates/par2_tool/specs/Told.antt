@@ -15,9 +15,9 @@ use Rattle.par2_spec.specs.declared.JournalFault.TheVariants as journal
 use Rattle.par2_printing.specs.Printed.{words_asked}
 use Rattle.par2_words.specs.Meanings.{asked_by}
 use Rattle.par2_tool.specs.Asked.{IsAvailable}
-use Rattle.par2_tool.specs.Held.{IsOpening, Holds, HasJournalOf, kept, TellsApartAlong, TellsApartBack}
+use Rattle.par2_tool.specs.Held.{IsOpening, Holds, kept, TellsApartAlong, TellsApartBack}
 use Rattle.par2_tool.specs.Opened.{IsOpened}
-use Rattle.par2_tool.specs.Performed.{IsAnswer}
+use Rattle.par2_tool.specs.Performed.{IsAnswer, IsWritten}
 
 -- an outcome, the history having been dropped or not; or a failure with the words that it can speak of
 pub data Told : Type 0 where
@@ -26,16 +26,17 @@ pub data Told : Type 0 where
 
 -- ---- on an honest store
 
--- an accepted action: its answer is the one on the session that the store opens as, and the store holds the session
--- afterwards, with its journal
+-- an accepted action: the store was opened, the answer is the one on the session that it opens as, and the action made
+-- of the store what it is to make of it
 pub record IsDone (action : Action) (old new : Contents) (dropped : Bool) (outcome : Outcome) : Type 0 where
   pub session : Session
-  pub opened : IsOpening old (Ok (record { session = session; dropped = dropped }))
+  -- the contents that opening left
+  pub between : Contents
+  pub opened : IsOpened old between (record { session = session; dropped = dropped })
   pub answer : IsAnswer session action outcome
   pub after : Session
   pub leads : session_after session action ≡ Ok after
-  pub holds : Holds new (kept after)
-  pub journal : HasJournalOf after new
+  pub written : IsWritten action after between new
 
 -- the store is as it was, or as opening it left it
 abbrev pub IsLeft : Contents → Contents → Type 0

@@ -11,7 +11,11 @@ ghost use Rattle.par2_tool.specs.Held.{Holds};
 ghost use Rattle.par2_tool.specs.Runs.{Runs};
 
 /// Runs on one store, each of which opens it anew, go through the history that one lasting session would have, and the
-/// store holds that session afterwards.
+/// store holds that session afterwards. A verify is a run that changes neither.
 pub fn runs_keep_one_history()
-    ensures { (old new : Contents) (started : Started) (actions : List Action) (n : ℕ) → Holds old started → AllByRecursion IsPlain actions → Runs old actions n new → (end : Started) × Run (history_of started.session) actions n (history_of end.session) × Holds new end }
+    ensures { (old new : Contents) (started : Started) (actions : List Action) (n : ℕ)
+        → Holds old started → AllByRecursion IsPlain actions → Runs old actions n new
+        → (end : Started)
+        × Run (history_of started.session) actions n (history_of end.session)
+        × Holds new end }
 {}

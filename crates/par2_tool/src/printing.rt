@@ -1,15 +1,21 @@
 //! What comes of a run is printed.
 ghost use Rattle.std.specs.Prelude.{◌≡◌, ◌++◌, map, flat_map};
-ghost use Rattle.par2_spec.specs.Texts.{Done, done_text, note_text, step_line, output_of, error_of, status_of};
+ghost use Rattle.par2_spec.specs.Texts.{done_text, note_text, step_line, target_line, report_text, output_of, error_of};
 ghost use Rattle.par2_spec.specs.Texts as texts;
 ghost use Rattle.par2_journal.specs.Stepped.{stepped};
-ghost use Rattle.par2_printing.specs.Printed.{step_shown, words_given};
+ghost use Rattle.par2_plan.specs.Views.{state_of, target_report_of, report_of};
+ghost use Rattle.par2_printing.specs.Printed.{step_shown, state_shown, target_shown, words_given};
 ghost use Rattle.par2_printing.specs.Wrote.{Wrote};
+ghost use Rattle.par2_tool.specs.Performed.{outcome_of};
 ghost use Rattle.par2_tool.specs.Told.{Printed};
 
-use par2_journal::{Step, Steps};
-use par2_printing::{PrintedStep, WriteFault, write_done, write_failure, write_note, write_step};
-use par2_spec::{Command, Failure, Fault};
+use crate::performing::Outcome;
+use par2_journal::{Report, State, Step, TargetReport};
+use par2_printing::{
+    PrintedState, PrintedStep, PrintedTarget, WriteFault, write_done, write_failure, write_note,
+    write_set, write_step, write_target, write_verdict,
+};
+use par2_spec::{Command, Failure, Fault, Verdict};
 use std::io::Write;
 
 // The status where a writer fails.
@@ -27,7 +33,8 @@ fn printed(step: &Step) -> PrintedStep<'_>
 }
 
 fn write_steps<W: Write>(out: &mut W, steps: &[Step]) -> Result<(), WriteFault>
-    ensures { Wrote (W.contents out.old) (W.contents out.new) (flat_map step_line (map stepped steps.now)) result }
+    ensures { Wrote (W.contents out.old) (W.contents out.new)
+        (flat_map step_line (map stepped steps.now)) result }
 {
     for step in steps {
         write_step(out, printed(step))?;
@@ -37,7 +44,8 @@ fn write_steps<W: Write>(out: &mut W, steps: &[Step]) -> Result<(), WriteFault>
 
 #[tactic(auto, using(par2_printing::proofs::WroteLaws::wrote_then, par2_printing::proofs::WroteLaws::wrote_less))]
 fn write_all_done<W: Write>(out: &mut W, steps: &[Step]) -> Result<(), WriteFault>
-    ensures { Wrote (W.contents out.old) (W.contents out.new) (done_text (map stepped steps.now)) result }
+    ensures { Wrote (W.contents out.old) (W.contents out.new)
+        (done_text (map stepped steps.now)) result }
 {
     match write_steps(out, steps) {
         Ok(()) => write_done(out, steps.len()),
@@ -47,7 +55,8 @@ fn write_all_done<W: Write>(out: &mut W, steps: &[Step]) -> Result<(), WriteFaul
 
 #[tactic(auto, using(par2_printing::proofs::WroteLaws::wrote_then, par2_printing::proofs::WroteLaws::wrote_less))]
 fn write_accepted<W: Write>(out: &mut W, steps: &[Step], dropped: bool) -> Result<(), WriteFault>
-    ensures { Wrote (W.contents out.old) (W.contents out.new) (note_text dropped ++ done_text (map stepped steps.now)) result }
+    ensures { Wrote (W.contents out.old) (W.contents out.new)
+        (note_text dropped ++ done_text (map stepped steps.now)) result }
 {
     match write_note(out, dropped) {
         Ok(()) => write_all_done(out, steps),
@@ -55,14 +64,81 @@ fn write_accepted<W: Write>(out: &mut W, steps: &[Step], dropped: bool) -> Resul
     }
 }
 
-/// Prints the steps of an accepted command on the output, below a note where the history was dropped, and answers the
-/// status.
-#[tactic(auto, unfolding(par2_spec::specs::Texts::status_of, par2_spec::specs::Texts::output_of))]
-pub fn tell<W: Write>(out: &mut W, steps: &Steps, dropped: bool) -> u8
-    ensures { Printed (W.contents out.old) (W.contents out.new) (output_of dropped (Done steps.now)) (status_of (Done steps.now)) result }
+fn printed_state(state: &State) -> PrintedState<'_>
+    ensures { state_shown result ≡ state_of state.now }
 {
-    match write_accepted(out, steps.as_slice(), dropped) {
-        Ok(()) => 0,
+    match state {
+        State::Complete => PrintedState::Complete,
+        State::Misplaced(name) => PrintedState::Misplaced(name.as_str()),
+        State::Damaged => PrintedState::Damaged,
+        State::Missing => PrintedState::Missing,
+    }
+}
+
+fn printed_target(target: &TargetReport) -> PrintedTarget<'_>
+    ensures { target_shown result ≡ target_report_of target.now }
+{
+    PrintedTarget {
+        name: target.name.as_str(),
+        state: printed_state(&target.state),
+        found: target.found,
+        total: target.total,
+    }
+}
+
+fn write_targets<W: Write>(out: &mut W, targets: &[TargetReport]) -> Result<(), WriteFault>
+    ensures { Wrote (W.contents out.old) (W.contents out.new)
+        (flat_map target_line (map target_report_of targets.now)) result }
+{
+    for target in targets {
+        write_target(out, printed_target(target))?;
+    }
+    Ok(())
+}
+
+fn write_report<W: Write>(out: &mut W, report: &Report) -> Result<(), WriteFault>
+    ensures { Wrote (W.contents out.old) (W.contents out.new)
+        (report_text (report_of report.now)) result }
+{
+    write_set(out, &report.set_id)?;
+    write_targets(out, &report.targets)?;
+    write_verdict(out, report.verdict(), report.lost, report.rank)
+}
+
+#[tactic(auto, unfolding(par2_spec::specs::Texts::output_of))]
+fn write_outcome<W: Write>(out: &mut W, outcome: &Outcome, dropped: bool) -> Result<(), WriteFault>
+    ensures { Wrote (W.contents out.old) (W.contents out.new)
+        (output_of dropped (outcome_of outcome.now)) result }
+{
+    match outcome {
+        Outcome::Report(report) => write_report(out, report),
+        Outcome::Done(steps) => write_accepted(out, steps.as_slice(), dropped),
+    }
+}
+
+// The status after an accepted command.
+#[tactic(auto, unfolding(par2_spec::specs::Texts::status_of))]
+fn status_of(outcome: &Outcome) -> u8
+    ensures { result ≡ texts.status_of (outcome_of outcome.now) }
+{
+    match outcome {
+        Outcome::Report(report) => match report.verdict() {
+            Verdict::Complete => 0,
+            Verdict::Repairable => 1,
+            Verdict::NotRepairable => 2,
+        },
+        Outcome::Done(_) => 0,
+    }
+}
+
+/// Prints what an accepted command answers on the output, steps below a note where the history was dropped, and
+/// answers the status.
+pub fn tell<W: Write>(out: &mut W, outcome: &Outcome, dropped: bool) -> u8
+    ensures { Printed (W.contents out.old) (W.contents out.new)
+        (output_of dropped (outcome_of outcome.now)) (texts.status_of (outcome_of outcome.now)) result }
+{
+    match write_outcome(out, outcome, dropped) {
+        Ok(()) => status_of(outcome),
         Err(_) => WRITER_FAILED,
     }
 }
@@ -104,7 +180,8 @@ fn status_of_failure(failure: Failure) -> u8
 
 /// Prints a failure on the error writer, and answers the status.
 pub fn fail<W: Write>(err: &mut W, command: Option<&Command>, failure: Failure) -> u8
-    ensures { Printed (W.contents err.old) (W.contents err.new) (error_of (words_given command.entry) failure) (texts.status_of_failure failure) result }
+    ensures { Printed (W.contents err.old) (W.contents err.new)
+        (error_of (words_given command.entry) failure) (texts.status_of_failure failure) result }
 {
     match write_failure(err, command, failure) {
         Ok(()) => status_of_failure(failure),

@@ -1,31 +1,30 @@
 //! A run of the program.
 ghost use Rattle.std.specs.Prelude.{◌≡◌, ◌≤◌, IfOk, IfErr, IsTrue, map, string_bytes};
 ghost use Rattle.par2_spec.specs.Sessions.{Session};
-ghost use Rattle.par2_spec.specs.Views.{action_of};
-ghost use Rattle.par2_spec.specs.Texts.{Done};
+ghost use Rattle.par2_spec.specs.Views.{command_of};
 ghost use Rattle.par2_journal.specs.Plain.{IsPlain};
 ghost use Rattle.par2_tool.specs.Refused.{failed, unopened_as};
-ghost use Rattle.par2_tool.specs.Performed.{IsAnswer};
+ghost use Rattle.par2_tool.specs.Performed.{outcome_of, IsAnswer};
 ghost use Rattle.par2_tool.specs.Told.{Told, IsBack, IsCause, IsDone, IsFailed, IsTold, Leaves, Shown};
 
 use crate::asking::asked_command;
 use crate::opening::{OpenFault, Started, open_store};
-use crate::performing::{PerformFault, perform};
+use crate::performing::{Outcome, PerformFault, perform};
 use crate::printing::{fail, tell};
 use par2_folder::FolderStore;
-use par2_journal::{SessionFault, Steps};
+use par2_journal::SessionFault;
 use par2_spec::{Action, Command, Failure, Fault};
 use std::alloc::Global;
 use std::io::Write;
 
-/// What is told of an accepted action.
+/// What is told of an accepted command.
 #[derive(Debug, Drop)]
 struct Accepted {
-    steps: Steps,
+    outcome: Outcome,
     dropped: bool,
 }
 
-// Why an action failed.
+// Why a command failed.
 fn failure_of(fault: PerformFault) -> Failure
     ensures { result ≡ failed fault }
 {
@@ -49,29 +48,29 @@ fn unopened(fault: OpenFault) -> Failure
     }
 }
 
-// Whether an action undoes or does again.
-fn is_back(action: &Action) -> bool
-    ensures back { IsTrue result → IsBack (action_of action.now) }
-    ensures all { IsBack (action_of action.now) → IsTrue result }
+// Whether a command undoes or does again.
+fn is_back(command: &Command) -> bool
+    ensures back { IsTrue result → IsBack (command_of command.now) }
+    ensures all { IsBack (command_of command.now) → IsTrue result }
 {
-    matches!(action, Action::Undo | Action::Redo)
+    matches!(command, Command::Act(Action::Undo | Action::Redo))
 }
 
-// Opens a store and performs an action on it. There is nothing to go back to where the history was dropped.
+// Opens a store and performs a command on it. There is nothing to go back to where the history was dropped.
 fn carry_out<S: FolderStore>(
     alloc: Global,
     store: &mut S,
-    action: &Action,
+    command: &Command,
 ) -> Result<Accepted, Failure>
-    requires { IsPlain (action_of action.now) }
+    requires { IsPlain (command_of command.now) }
     ensures honest { S.honest store.old → S.honest store.new }
     ensures answer { IfOk result (λ accepted. (session : Session)
-        × IsAnswer session (action_of action.now) (Done accepted.steps)) }
-    ensures cause { IfErr result (IsCause (action_of action.now)
+        × IsAnswer session (command_of command.now) (outcome_of accepted.outcome)) }
+    ensures cause { IfErr result (IsCause (command_of command.now)
         (S.failures store.old) (S.failures store.new)) }
-    ensures done { S.honest store.old → IfOk result (λ accepted. IsDone (action_of action.now)
-        (S.contents store.old) (S.contents store.new) accepted.dropped (Done accepted.steps)) }
-    ensures failed { S.honest store.old → IfErr result (IsFailed (action_of action.now)
+    ensures done { S.honest store.old → IfOk result (λ accepted. IsDone (command_of command.now)
+        (S.contents store.old) (S.contents store.new) accepted.dropped (outcome_of accepted.outcome)) }
+    ensures failed { S.honest store.old → IfErr result (IsFailed (command_of command.now)
         (S.contents store.old) (S.contents store.new)) }
     ensures later { S.failures store.old ≤ S.failures store.new }
 {
@@ -82,11 +81,11 @@ fn carry_out<S: FolderStore>(
         Ok(started) => started,
         Err(fault) => return Err(unopened(fault)),
     };
-    if dropped && is_back(action) {
+    if dropped && is_back(command) {
         return Err(Failure::FolderChanged);
     }
-    match perform(alloc, store, &mut session, action) {
-        Ok(steps) => Ok(Accepted { steps, dropped }),
+    match perform(alloc, store, &mut session, command) {
+        Ok(outcome) => Ok(Accepted { outcome, dropped }),
         Err(fault) => Err(failure_of(fault)),
     }
 }
@@ -114,11 +113,8 @@ pub fn run<S: FolderStore, O: Write, E: Write>(
         Ok(command) => command,
         Err(failure) => return fail(err, None, failure),
     };
-    let Command::Act(action) = &command else {
-        unreachable!()
-    };
-    match carry_out(alloc, store, action) {
-        Ok(accepted) => tell(out, &accepted.steps, accepted.dropped),
+    match carry_out(alloc, store, &command) {
+        Ok(accepted) => tell(out, &accepted.outcome, accepted.dropped),
         Err(failure) => fail(err, Some(&command), failure),
     }
 }

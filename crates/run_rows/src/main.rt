@@ -1,7 +1,7 @@
 //! Runs the words of each line of its input, all on one store in memory, and prints what comes of each run, the files
 //! with their lengths and the journal's length. Then it performs a create and two undos on one session, finds journals
-//! that others left, and runs words on stores that fail or want memory at the first of their calls, at the second, and
-//! so on until none is refused.
+//! that others left, runs words on stores that fail or want memory at the first of their calls, at the second, and so
+//! on until none is refused, and verifies folders that others changed.
 //!
 //! Memory is ample but where a store answers otherwise, so the stored output also refuses a `run` that always
 //! answers want of memory.
@@ -11,6 +11,7 @@ mod journals;
 mod rows;
 mod sessions;
 mod stops;
+mod verifies;
 mod wanting;
 
 use anyhow::Result;
@@ -20,6 +21,7 @@ use rows::{put, row};
 use sessions::{session_on_a_store, undo_that_fails};
 use std::alloc::Global;
 use stops::stopped_runs;
+use verifies::verified_stores;
 use wanting::wanting_stores;
 
 // One byte more than 32,768 slices of 4 bytes have.
@@ -49,5 +51,6 @@ fn main(rt: HostRuntime) -> Result<()> {
     undo_that_fails(&rt)?;
     found_journals(&rt)?;
     stopped_runs(&rt)?;
-    wanting_stores(&rt)
+    wanting_stores(&rt)?;
+    verified_stores(&rt)
 }

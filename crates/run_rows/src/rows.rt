@@ -32,6 +32,14 @@ pub fn remove(store: &mut MemoryStore, text: &str) -> Result<()> {
     }
 }
 
+/// Gives a file another name.
+pub fn rename(store: &mut MemoryStore, from: &str, to: &str) -> Result<()> {
+    match (Name::new(from), Name::new(to)) {
+        (Ok(from), Ok(to)) => Ok(store.rename(&from, &to)?),
+        (Err(fault), _) | (_, Err(fault)) => Err(fault.into()),
+    }
+}
+
 /// A store with one file and no journal.
 pub fn one_file(alloc: Global) -> Result<MemoryStore> {
     let mut store = MemoryStore::new(alloc);

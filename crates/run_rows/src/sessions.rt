@@ -1,28 +1,29 @@
 //! Actions that are performed on one session.
-ghost use Rattle.par2_spec.specs.Views.{action_of};
+ghost use Rattle.par2_spec.specs.Views.{command_of};
 ghost use Rattle.par2_journal.specs.Plain.{IsPlain};
 
 use crate::rows::{one_file, row, show};
 use anyhow::Result;
 use par2_folder::{FolderStore, FuseStore};
-use par2_tool::{Action, CreateArgs, Session, open_store, perform};
+use par2_tool::{Action, Command, CreateArgs, Outcome, Session, open_store, perform};
 use std::alloc::{AllocError, Global};
 
 // The calls of an opening over one file, of a create, of showing what the store holds then, and of the undo's first
 // journal.
 const CALLS_BEFORE_REMOVAL: u64 = 11;
 
-// Performs an action, and prints what comes of it.
+// Performs a command, and prints what comes of it.
 fn step<S: FolderStore>(
     rt: &HostRuntime,
     store: &mut S,
     session: &mut Session,
-    action: &Action,
+    command: &Command,
 ) -> Result<()>
-    requires { IsPlain (action_of action.now) }
+    requires { IsPlain (command_of command.now) }
 {
-    match perform(rt.alloc(), store, session, action) {
-        Ok(steps) => println!(rt; "performed: {}", steps.len())?,
+    match perform(rt.alloc(), store, session, command) {
+        Ok(Outcome::Done(steps)) => println!(rt; "performed: {}", steps.len())?,
+        Ok(Outcome::Report(report)) => println!(rt; "verified: {:?}", report.verdict())?,
         Err(fault) => println!(rt; "refused: {fault:?}")?,
     }
     println!(rt;
@@ -55,10 +56,10 @@ fn open<S: FolderStore>(rt: &HostRuntime, store: &mut S) -> Result<Session> {
 // Opens a store, and performs a create and two undos.
 fn create_then_undo<S: FolderStore>(rt: &HostRuntime, store: &mut S) -> Result<()> {
     let mut session = open(rt, store)?;
-    let create = Action::Create(index_args(rt.alloc())?);
+    let create = Command::Act(Action::Create(index_args(rt.alloc())?));
     step(rt, store, &mut session, &create)?;
-    step(rt, store, &mut session, &Action::Undo)?;
-    step(rt, store, &mut session, &Action::Undo)
+    step(rt, store, &mut session, &Command::Act(Action::Undo))?;
+    step(rt, store, &mut session, &Command::Act(Action::Undo))
 }
 
 /// A create and two undos, the second of which has nothing to undo.

@@ -1,78 +1,94 @@
 use Rattle.std.proofs.Common.{◌≡◌, List, sym, ap, subst, ◌∙◌, map}
 use Rattle.par2_spec.specs.Changes as defined
-use Rattle.par2_spec.specs.Sessions.{KeptSession, session_of_kept, changes_asked}
+use Rattle.par2_spec.specs.Sessions.{KeptSession, session_of_kept, session_after, changes_asked}
 use Rattle.par2_spec.specs.Stores.{Contents}
-use Rattle.par2_spec.specs.Views.{action_of}
+use Rattle.par2_spec.specs.Views.{action_of, command_of}
+use Rattle.par2_spec.specs.declared.asked.Command.{Command}
+use Rattle.par2_plan.specs.Views.{report_of}
+use Rattle.par2_journal.specs.Faulted.{MayRefuse}
+use Rattle.par2_journal.specs.declared.prepared.SessionFault.TheVariants.{Plan}
 use Rattle.par2_folder.specs.Views.{change_of}
 use Rattle.par2_journal.specs.Ready.{changes_of, committed}
-use Rattle.par2_tool.specs.Held.{Holds, HasJournalOf, kept}
-use Rattle.par2_tool.specs.Performed.{written_down, IsStoppedAt}
+use Rattle.par2_tool.specs.Held.{TellsApartAlong, OpensAsBeforeOrAfter}
+use Rattle.par2_tool.specs.Performed.{written_down, AreSomeMade, HoldsJournaled, IsStoppedAt, IsWritten}
+use Rattle.par2_tool.proofs.Verified.{as_it_was, verify_leaves, verify_refused, written_by}
 use Rattle.par2_tool.proofs.Stopping.{none_made, written_holds, written_journal, stopped_opens, asked_in_order}
 use Rattle.par2_tool.proofs.performing.perform.Goals as goal
 
+pub returns-in-Ok-clause-session : goal.returns-in-Ok-clause-session
+returns-in-Ok-clause-session g c =
+    let s = session_of_kept c.args.session.now in
+    let report = rw c.as_str.ensures.value at (rw c.as_slice.ensures.value at c.in-Ok.ensures.report) in
+    ap (λ (x : Command). session_after s (command_of x)) c.in-Verify.is
+    ∙ verify_leaves s _ _ (report_of c.in-Ok.report) report
+
+pub returns-in-Err-clause-refused : goal.returns-in-Err-clause-refused
+returns-in-Err-clause-refused g c =
+    let s = c.args.session.now in
+    let refused = rw c.as_str.ensures.value at (rw c.as_slice.ensures.value at c.in-Err.ensures.refused) in (
+      subst (λ (x : Command). MayRefuse (command_of x) s (Plan c.in-Err.fault)) (sym c.in-Verify.is) (verify_refused s _ _ c.in-Err.fault refused),
+      as_it_was s,
+    )
+
 pub returns-in-Err-clause-in_order : goal.returns-in-Err-clause-in_order
-returns-in-Err-clause-in_order g c honest = none_made (g.S.FolderStore.contents c.args.store.now).files (changes_asked (session_of_kept c.args.session.now) (action_of c.args.action.now))
+returns-in-Err-clause-in_order g c honest = none_made (g.S.FolderStore.contents c.args.store.now).files (changes_asked (session_of_kept c.args.session.now) (command_of c.args.command.now))
+
+pub returns-in-Err-prepare-clause-in_order : goal.returns-in-Err-prepare-clause-in_order
+returns-in-Err-prepare-clause-in_order g c honest = none_made (g.S.FolderStore.contents c.args.store.now).files (changes_asked (session_of_kept c.args.session.now) (command_of c.args.command.now))
 
 pub returns-in-Err-journals-clause-in_order : goal.returns-in-Err-journals-clause-in_order
-returns-in-Err-journals-clause-in_order g c honest = none_made (g.S.FolderStore.contents c.args.store.now).files (changes_asked (session_of_kept c.args.session.now) (action_of c.args.action.now))
+returns-in-Err-journals-clause-in_order g c honest = none_made (g.S.FolderStore.contents c.args.store.now).files (changes_asked (session_of_kept c.args.session.now) (command_of c.args.command.now))
 
-pub returns-in-Ok-write_down-clause-holds : goal.returns-in-Ok-write_down-clause-holds
-returns-in-Ok-write_down-clause-holds g c honest files =
-    let ready = c.in-Ok.prepared in
-    let grew = c.in-Ok.ensures.kept in
-    let is = c.in-Ok.ensures.ready in
+pub returns-in-Ok-write_down-clause-written : goal.returns-in-Ok-write_down-clause-written
+returns-in-Ok-write_down-clause-written g c honest files =
+    let ready = c.in-Ok-prepare.prepared in
+    let grew = c.in-Ok-prepare.ensures.kept in
+    let is = c.in-Ok-prepare.ensures.ready in
     let old = c.args.session.now in
     let mid = c.prepare.new.self in
     let journals = c.in-Ok-journals.journals in
-    let action = action_of c.args.action.now in
+    let given = c.in-Act.action in
+    let action = action_of given in
     let start = g.S.FolderStore.contents c.args.store.now in
     let new = g.S.FolderStore.contents c.write_down.new.store in
-    let holds = written_holds old mid action ready grew is c.folder-folder.ensures.walks journals (c.in-Ok-journals.ensures.journals action old grew is) start files in
+    let spelled = c.in-Ok-journals.ensures.journals action old grew is in
     let made : map change_of c.changes.result.now ≡ changes_of ready.kind mid = c.changes.ensures ∙ ap (changes_of ready.kind) c.in-Ok-journals.ensures.unchanged in
     let there : new ≡ written_down start journals (changes_of ready.kind mid) = c.in-Ok-write_down.ensures.done honest ∙ ap (written_down start journals) made in
     let after : c.commit.new.self ≡ committed ready.kind mid = c.commit.ensures.session ∙ ap (committed ready.kind) c.in-Ok-journals.ensures.unchanged in
-    subst (λ (k : Contents). Holds k (kept (session_of_kept c.commit.new.self))) (sym there)
-    (subst (λ (s : KeptSession). Holds (written_down start journals (changes_of ready.kind mid)) (kept (session_of_kept s))) (sym after) holds)
+    let all : HoldsJournaled (session_of_kept (committed ready.kind mid)) (written_down start journals (changes_of ready.kind mid)) = (
+      written_holds old mid action ready grew is c.folder-folder.ensures.walks journals spelled start files,
+      written_journal old mid action ready grew is journals spelled start,
+    ) in
+    subst (λ (x : Command). IsWritten (command_of x) (session_of_kept c.commit.new.self) start new) (sym c.in-Act.is)
+    (written_by given (session_of_kept c.commit.new.self) start new
+    (subst (λ (k : Contents). HoldsJournaled (session_of_kept c.commit.new.self) k) (sym there)
+    (subst (λ (s : KeptSession). HoldsJournaled (session_of_kept s) (written_down start journals (changes_of ready.kind mid))) (sym after) all)))
 
 pub returns-in-Err-write_down-clause-stopped : goal.returns-in-Err-write_down-clause-stopped
 returns-in-Err-write_down-clause-stopped g c honest files apart =
-    let ready = c.in-Ok.prepared in
-    let grew = c.in-Ok.ensures.kept in
-    let is = c.in-Ok.ensures.ready in
+    let ready = c.in-Ok-prepare.prepared in
+    let grew = c.in-Ok-prepare.ensures.kept in
+    let is = c.in-Ok-prepare.ensures.ready in
     let old = c.args.session.now in
     let mid = c.prepare.new.self in
     let journals = c.in-Ok-journals.journals in
-    let action = action_of c.args.action.now in
+    let action = action_of c.in-Act.action in
     let start = g.S.FolderStore.contents c.args.store.now in
     let new = g.S.FolderStore.contents c.write_down.new.store in
     let made : map change_of c.changes.result.now ≡ changes_of ready.kind mid = c.changes.ensures ∙ ap (changes_of ready.kind) c.in-Ok-journals.ensures.unchanged in
     let stop = subst (λ (cs : List defined.Change). IsStoppedAt start journals cs new) made (c.in-Err-write_down.ensures.stopped honest) in
-    stopped_opens old mid action ready grew is c.folder-folder.ensures.walks journals (c.in-Ok-journals.ensures.journals action old grew is) start files new stop apart
+    let apart_from : TellsApartAlong (session_of_kept old) action = subst (λ (x : Command). TellsApartAlong (session_of_kept old) (command_of x)) c.in-Act.is apart in
+    subst (λ (x : Command). OpensAsBeforeOrAfter (session_of_kept old) (command_of x) start new) (sym c.in-Act.is)
+    (stopped_opens old mid action ready grew is c.folder-folder.ensures.walks journals (c.in-Ok-journals.ensures.journals action old grew is) start files new stop apart_from)
 
 pub returns-in-Err-write_down-clause-in_order : goal.returns-in-Err-write_down-clause-in_order
 returns-in-Err-write_down-clause-in_order g c honest =
-    let ready = c.in-Ok.prepared in
+    let ready = c.in-Ok-prepare.prepared in
     let mid = c.prepare.new.self in
     let journals = c.in-Ok-journals.journals in
     let start = g.S.FolderStore.contents c.args.store.now in
     let new = g.S.FolderStore.contents c.write_down.new.store in
     let made : map change_of c.changes.result.now ≡ changes_of ready.kind mid = c.changes.ensures ∙ ap (changes_of ready.kind) c.in-Ok-journals.ensures.unchanged in
     let stop = subst (λ (cs : List defined.Change). IsStoppedAt start journals cs new) made (c.in-Err-write_down.ensures.stopped honest) in
-    asked_in_order c.args.session.now mid (action_of c.args.action.now) ready c.in-Ok.ensures.kept c.in-Ok.ensures.ready start journals new stop
-
-pub returns-in-Ok-write_down-clause-journal : goal.returns-in-Ok-write_down-clause-journal
-returns-in-Ok-write_down-clause-journal g c honest =
-    let ready = c.in-Ok.prepared in
-    let grew = c.in-Ok.ensures.kept in
-    let is = c.in-Ok.ensures.ready in
-    let old = c.args.session.now in
-    let mid = c.prepare.new.self in
-    let journals = c.in-Ok-journals.journals in
-    let action = action_of c.args.action.now in
-    let start = g.S.FolderStore.contents c.args.store.now in
-    let made : map change_of c.changes.result.now ≡ changes_of ready.kind mid = c.changes.ensures ∙ ap (changes_of ready.kind) c.in-Ok-journals.ensures.unchanged in
-    let there = c.in-Ok-write_down.ensures.done honest ∙ ap (written_down start journals) made in
-    let after : c.commit.new.self ≡ committed ready.kind mid = c.commit.ensures.session ∙ ap (committed ready.kind) c.in-Ok-journals.ensures.unchanged in
-    subst (λ (k : Contents). HasJournalOf (session_of_kept c.commit.new.self) k) (sym there)
-    (subst (λ (s : KeptSession). HasJournalOf (session_of_kept s) (written_down start journals (changes_of ready.kind mid))) (sym after)
-    (written_journal old mid action ready grew is journals (c.in-Ok-journals.ensures.journals action old grew is) start))
+    subst (λ (x : Command). AreSomeMade (changes_asked (session_of_kept c.args.session.now) (command_of x)) start.files new.files) (sym c.in-Act.is)
+    (asked_in_order c.args.session.now mid (action_of c.in-Act.action) ready c.in-Ok-prepare.ensures.kept c.in-Ok-prepare.ensures.ready start journals new stop)

@@ -1,6 +1,6 @@
 use Rattle.std.proofs.Common.{◌≡◌, inr, Err, false, sym, ap, subst, ◌∙◌}
 use Rattle.par2_spec.specs.Sessions.{session_of_kept}
-use Rattle.par2_spec.specs.Views.{action_of}
+use Rattle.par2_spec.specs.Views.{command_of}
 use Rattle.par2_spec.specs.declared.Failure.{Failure}
 use Rattle.par2_spec.proofs.NamesLaws.{false_true}
 use Rattle.par2_tool.specs.Opened.{started_of, IsOpened}
@@ -11,7 +11,7 @@ use Rattle.par2_tool.proofs.running.carry_out.Goals.{else-dropped-via-then-dropp
 
 pub returns-in-Err-clause-failed : goal.returns-in-Err-clause-failed
 returns-in-Err-clause-failed g c honest =
-    let action = action_of c.args.action.now in
+    let action = command_of c.args.command.now in
     let old = g.S.FolderStore.contents c.args.store.now in
     let new = g.S.FolderStore.contents c.open_store.new.store in
     subst (λ (failure : Failure). IsFailed action old new failure) (sym c.unopened.ensures)
@@ -19,7 +19,7 @@ returns-in-Err-clause-failed g c honest =
 
 pub returns-in-Err-clause-cause : goal.returns-in-Err-clause-cause
 returns-in-Err-clause-cause g c =
-    let action = action_of c.args.action.now in
+    let action = command_of c.args.command.now in
     let before = g.S.FolderStore.failures c.args.store.now in
     let after = g.S.FolderStore.failures c.open_store.new.store in
     subst (λ (failure : Failure). IsCause action before after failure) (sym c.unopened.ensures)
@@ -32,25 +32,22 @@ returns-then-is_back-clause-failed g c honest =
     let opened : IsOpened old new (started_of c.in-Ok.started) = record { opens = c.in-Ok.ensures.opened honest; holds = c.in-Ok.ensures.holds honest; left = c.in-Ok.ensures.left honest } in
     inr (c.is_back.ensures.back c.if-is_back.true, started_of c.in-Ok.started, opened, c.if-dropped.true)
 
-pub returns-in-Ok-perform-clause-answer : goal.returns-in-Ok-perform-clause-answer
-returns-in-Ok-perform-clause-answer g c = (session_of_kept c.in-Ok.started.session, c.in-Ok-perform.ensures.steps)
-
 pub returns-in-Ok-perform-clause-done : goal.returns-in-Ok-perform-clause-done
 returns-in-Ok-perform-clause-done g c honest =
-    let kept_honest = c.open_store.ensures.honest honest in
+    let holds = c.in-Ok.ensures.holds honest in
     record {
       session = session_of_kept c.in-Ok.started.session;
-      opened = c.in-Ok.ensures.opened honest;
-      answer = c.in-Ok-perform.ensures.steps;
+      between = g.S.FolderStore.contents c.open_store.new.store;
+      opened = record { opens = c.in-Ok.ensures.opened honest; holds = holds; left = c.in-Ok.ensures.left honest };
+      answer = c.in-Ok-perform.ensures.answer;
       after = session_of_kept c.perform.new.session;
       leads = c.in-Ok-perform.ensures.session;
-      holds = c.in-Ok-perform.ensures.holds kept_honest (c.in-Ok.ensures.holds honest).files;
-      journal = c.in-Ok-perform.ensures.journal kept_honest;
+      written = c.in-Ok-perform.ensures.written (c.open_store.ensures.honest honest) holds.files;
     }
 
 pub returns-clause-cause : goal.returns-clause-cause
 returns-clause-cause g c =
-    let action = action_of c.args.action.now in
+    let action = command_of c.args.command.now in
     let before = g.S.FolderStore.failures c.args.store.now in
     let middle = g.S.FolderStore.failures c.open_store.new.store in
     let after = g.S.FolderStore.failures c.perform.new.store in
@@ -59,7 +56,7 @@ returns-clause-cause g c =
 
 pub returns-clause-failed : goal.returns-clause-failed
 returns-clause-failed g c honest =
-    let action = action_of c.args.action.now in
+    let action = command_of c.args.command.now in
     let old = g.S.FolderStore.contents c.args.store.now in
     let mid = g.S.FolderStore.contents c.open_store.new.store in
     let new = g.S.FolderStore.contents c.perform.new.store in

@@ -1,9 +1,8 @@
 use Rattle.std.specs.Prelude.{map, string_bytes}
-use Rattle.std.proofs.Common.{inl, inr, Err, Some, [], refl, ap, ◌∙◌}
-use Rattle.par2_spec.specs.Texts.{Done}
-use Rattle.par2_spec.specs.Views.{action_of, command_of}
-use Rattle.par2_spec.specs.declared.asked.Command.{Command}
+use Rattle.std.proofs.Common.{inl, inr, Err, [], refl, ap, ◌∙◌}
+use Rattle.par2_spec.specs.Views.{command_of}
 use Rattle.par2_printing.specs.Printed.{words_asked}
+use Rattle.par2_tool.specs.Performed.{outcome_of}
 use Rattle.par2_tool.specs.Told.{Answered, Failed, IsUnread}
 use Rattle.par2_tool.proofs.running.run.Goals as goal
 
@@ -23,21 +22,19 @@ returns-in-Err-clause-told g c =
 
 pub returns-in-Ok-carry_out-clause-told : goal.returns-in-Ok-carry_out-clause-told
 returns-in-Ok-carry_out-clause-told g c =
-    let action = action_of c.in-Act.action in
-    let asked = c.in-Ok.ensures.asked ∙ ap (λ (x : Command). Some (command_of x)) c.in-Act.is in (
-      Answered c.in-Ok-carry_out.accepted.dropped (Done c.in-Ok-carry_out.accepted.steps),
-      (action, asked, c.in-Ok-carry_out.ensures.answer.0, c.in-Ok-carry_out.ensures.answer.1),
+    let accepted = c.in-Ok-carry_out.accepted in
+    let action = command_of c.in-Ok.command in (
+      Answered accepted.dropped (outcome_of accepted.outcome),
+      (action, c.in-Ok.ensures.asked, c.in-Ok-carry_out.ensures.answer.0, c.in-Ok-carry_out.ensures.answer.1),
       (c.tell.ensures, refl),
-      λ honest. (action, asked, c.in-Ok-carry_out.ensures.done honest),
+      λ honest. (action, c.in-Ok.ensures.asked, c.in-Ok-carry_out.ensures.done honest),
     )
 
 pub returns-clause-told : goal.returns-clause-told
 returns-clause-told g c =
-    let action = action_of c.in-Act.action in
-    let asked = c.in-Ok.ensures.asked ∙ ap (λ (x : Command). Some (command_of x)) c.in-Act.is in
-    let spoken = words_asked (command_of c.in-Ok.command) in (
-      Failed spoken c.in-Err-carry_out.failure,
-      inr (action, asked, ap (λ (x : Command). words_asked (command_of x)) c.in-Act.is, c.in-Err-carry_out.ensures.cause),
+    let action = command_of c.in-Ok.command in (
+      Failed (words_asked action) c.in-Err-carry_out.failure,
+      inr (action, c.in-Ok.ensures.asked, refl, c.in-Err-carry_out.ensures.cause),
       (c.fail-in-Err-carry_out.ensures, refl),
-      λ honest. inr (action, asked, c.in-Err-carry_out.ensures.failed honest),
+      λ honest. inr (action, c.in-Ok.ensures.asked, c.in-Err-carry_out.ensures.failed honest),
     )

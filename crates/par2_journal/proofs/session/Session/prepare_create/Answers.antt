@@ -3,12 +3,12 @@ use Rattle.std.specs.Prelude.{map}
 use Rattle.par2_spec.specs.Texts.{step_of}
 use Rattle.par2_spec.specs.Commands.{Create}
 use Rattle.par2_spec.specs.Views.{create_args_of}
-use Rattle.par2_journal.proofs.Asked.{refused_plan, ready_command}
+use Rattle.par2_journal.proofs.Asked.{ready_command}
 use Rattle.par2_journal.proofs.session.Session.prepare_create.Goals as goal
 
 pub returns-in-Err-clause-refused : goal.returns-in-Err-clause-refused
 returns-in-Err-clause-refused c =
-    refused_plan c.args.self.now (Create (create_args_of c.args.args.now)) c.in-Err.fault (rw c.folder.ensures.folder at c.in-Err.ensures.refused)
+    rw c.folder.ensures.folder at c.in-Err.ensures.refused
 
 pub returns-in-Ok-make_room-clause-ready : goal.returns-in-Ok-make_room-clause-ready
 returns-in-Ok-make_room-clause-ready c =

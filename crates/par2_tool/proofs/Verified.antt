@@ -1,0 +1,67 @@
+-- What a verify answers and leaves, and what the other commands leave.
+use Rattle.std.proofs.Common.{◌≡◌, ◌⊎◌, inl, inr, ℕ, List, Some, None, Result, Ok, Err, refl, sym, ap, arith}
+use Rattle.std.specs.Prelude.{is_ok}
+use Rattle.par2_spec.specs.Commands.{Do, Verify}
+use Rattle.par2_spec.specs.Folders.{Folder}
+use Rattle.par2_spec.specs.Stores.{Contents}
+use Rattle.par2_spec.specs.Views.{action_of}
+use Rattle.par2_spec.specs.declared.asked.Action.{Action}
+use Rattle.par2_spec.specs.declared.asked.Action.TheVariants as given
+use Rattle.par2_spec.specs.Plans.{changes_of}
+use Rattle.par2_spec.specs.Refusals.{refusal, set_in}
+use Rattle.par2_spec.specs.Reports.{Report, report_in, report_of}
+use Rattle.par2_spec.specs.Search.{candidates}
+use Rattle.par2_spec.specs.Sets.{ParSet, ◌>>=◌}
+use Rattle.par2_spec.specs.Faults.{fault_of}
+use Rattle.par2_spec.specs.Sessions.{Session, KeptSession, OnlyGrew, session_after, changes_asked, applied, planned}
+use Rattle.par2_spec.specs.declared.Fault.{Fault}
+use Rattle.par2_spec.specs.declared.Fault.TheVariants.{Memory}
+use Rattle.par2_spec.proofs.NamesLaws.{false_true}
+use Rattle.par2_journal.specs.Faulted.{MayRefuse}
+use Rattle.par2_journal.specs.declared.prepared.SessionFault.TheVariants.{Plan}
+use Rattle.par2_tool.specs.Performed.{HoldsJournaled, IsWritten}
+
+module _ (folder : Folder) (base : List ℕ) (extras : List (List ℕ)) where
+  answer_of : Result ParSet Fault → Result Report Fault
+  answer_of found = found >>= (λ set. Ok (report_of folder set (candidates folder set extras)))
+
+  read : (found : Result ParSet Fault) (report : Report) → answer_of found ≡ Ok report → fault_of found ≡ None
+  unfolding answer_of
+  read (Ok set) report e = refl
+  read (Err fault) report e = absurd (false_true (ap is_ok e))
+
+  unread : (found : Result ParSet Fault) (fault : Fault) → answer_of found ≡ Err fault → fault_of found ≡ Some fault
+  unfolding answer_of
+  unread (Ok set) fault e = absurd (false_true (sym (ap is_ok e)))
+  unread (Err reason) fault e = cc
+
+  accepted : (report : Report) → report_in folder base extras ≡ Ok report → refusal folder (Verify base extras) ≡ None
+  unfolding report_in refusal answer_of
+  accepted report e = read (set_in folder base extras) report e
+
+  refused : (fault : Fault) → report_in folder base extras ≡ Err fault → refusal folder (Verify base extras) ≡ Some fault
+  unfolding report_in refusal answer_of
+  refused fault e = unread (set_in folder base extras) fault e
+
+-- its fault is one of the session
+pub verify_refused : (s : KeptSession) (base : List ℕ) (extras : List (List ℕ)) (fault : Fault) → (fault ≡ Memory) ⊎ (report_in s.folder.files base extras ≡ Err fault) → MayRefuse (Do (Verify base extras)) s (Plan fault)
+unfolding changes_asked
+verify_refused s base extras fault (inl memory) = inl (ap Plan memory)
+verify_refused s base extras fault (inr e) = inr (ap (λ o. planned o (changes_of s.folder.files (Verify base extras))) (refused s.folder.files base extras fault e))
+
+-- the session stays
+pub verify_leaves : (s : Session) (base : List ℕ) (extras : List (List ℕ)) (report : Report) → report_in s.folder base extras ≡ Ok report → session_after s (Do (Verify base extras)) ≡ Ok s
+unfolding session_after changes_asked
+verify_leaves s base extras report e =
+    ap (λ o. applied s (Do (Verify base extras)) (planned o (changes_of s.folder (Verify base extras)))) (accepted s.folder base extras report e)
+
+pub as_it_was : (s : KeptSession) → OnlyGrew s s
+as_it_was s = record { files = refl; undos = refl; redos = refl; vacant = omega arith; room = omega arith }
+
+-- each other command leaves the session afterwards in the store
+pub written_by : (action : Action) (after : Session) (old new : Contents) → HoldsJournaled after new → IsWritten (action_of action) after old new
+written_by (given.Create a) after old new holds = holds
+written_by (given.Repair base extras purge) after old new holds = holds
+written_by (given.Purge base) after old new holds = holds
+written_by given.Undo after old new holds = holds
+written_by given.Redo after old new holds = holds
