@@ -1,5 +1,7 @@
 //! Worked examples of a session, and each refusal that it knows.
-use crate::{Action, CreateArgs, Fault, NothingToRedo, NothingToUndo, Opened, Session, Step};
+use crate::{
+    Action, CreateArgs, Fault, NothingToRedo, NothingToUndo, Opened, Session, SessionFault, Step,
+};
 use par2_folder::{Bytes, Change, Folder, Name};
 use par2_journal_bytes::decode;
 use par2_spec::JournalFault;
@@ -95,7 +97,7 @@ fn prepared_and_committed(rt: HostRuntime) -> Result<(), Fail> {
     assert_eq!(rt; length_of(&session, "t.par2"), Some(420));
     match session.prepare(rt.alloc(), &action) {
         Ok(_) => panic!(rt; "the index is written twice"),
-        Err(fault) => assert_eq!(rt; fault, Fault::Exists),
+        Err(fault) => assert_eq!(rt; fault, SessionFault::Plan(Fault::Exists)),
     }
     Ok(())
 }

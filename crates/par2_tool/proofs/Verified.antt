@@ -1,5 +1,5 @@
 -- What a verify answers and leaves, and what the other commands leave.
-use Rattle.std.proofs.Common.{◌≡◌, ◌⊎◌, inl, inr, ◌≤◌, ℕ, List, Option, Some, None, Result, Ok, Err, Bool, true, refl, sym, ap, ◌∙◌, arith}
+use Rattle.std.proofs.Common.{◌≡◌, ◌⊎◌, inl, inr, ℕ, List, Some, None, Result, Ok, Err, refl, sym, ap, arith}
 use Rattle.std.specs.Prelude.{is_ok}
 use Rattle.par2_spec.specs.Commands.{Do, Verify}
 use Rattle.par2_spec.specs.Folders.{Folder}

@@ -34,7 +34,10 @@ fn show_set(rt: &HostRuntime, store: &mut MemoryStore) -> Result<()> {
         Err(fault) => return Err(fault.into()),
     };
     let id = bytes.get(32..48).unwrap_or(&[]);
-    println!(rt; "  bytes 32 to 47 of t.par2: {}", hex::encode(rt.alloc(), id)?)?;
+    println!(rt;
+        "  bytes 32 to 47 of t.par2: {}",
+        hex::encode(rt.alloc(), id)?
+    )?;
     Ok(())
 }
 
@@ -71,7 +74,13 @@ fn cut(rt: &HostRuntime) -> Result<()> {
 fn refused(rt: &HostRuntime) -> Result<()> {
     println!(rt; "verifies that are refused")?;
     let mut store = two_files(rt.alloc())?;
-    for line in ["verify zz", "verify a zz", "verify a", "verify", "verify -p a"] {
+    for line in [
+        "verify zz",
+        "verify a zz",
+        "verify a",
+        "verify",
+        "verify -p a",
+    ] {
         verified(rt, &mut store, line)?;
     }
     Ok(())

@@ -1,4 +1,4 @@
-use Rattle.std.proofs.Common.{◌++◌, List, ℕ, map, Ok, Err, refl, subst}
+use Rattle.std.proofs.Common.{◌++◌, List, ℕ, Ok, Err, refl, subst}
 use Rattle.std.specs.Prelude.{codes, flat_map}
 use Rattle.std.proofs.lemmas.Result.{err_from_is_err_and}
 use Rattle.par2_spec.specs.Reports.{Report, verdict_of}

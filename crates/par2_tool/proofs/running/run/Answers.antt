@@ -1,5 +1,5 @@
 use Rattle.std.specs.Prelude.{map, string_bytes}
-use Rattle.std.proofs.Common.{inl, inr, Err, Some, [], refl, ap, ◌∙◌}
+use Rattle.std.proofs.Common.{inl, inr, Err, [], refl, ap, ◌∙◌}
 use Rattle.par2_spec.specs.Views.{command_of}
 use Rattle.par2_printing.specs.Printed.{words_asked}
 use Rattle.par2_tool.specs.Performed.{outcome_of}
