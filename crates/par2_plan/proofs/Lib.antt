@@ -1,10 +1,16 @@
+mod Answered
+mod Choices
+mod Given
 mod Ids
 mod IndexBytes
 mod Listed
+mod Lost
 mod Numbered
 mod Ordered
 mod Passed
 mod Places
+mod Present
 mod Refused
+mod Standing
 mod VolumeNames
 mod Written

@@ -1,2 +1,7 @@
 pub mod Causes
+pub mod Findings
+pub mod Matches
 pub mod Outputs
+pub mod Parts
+pub mod Readings
+pub mod Views

@@ -1,17 +1,25 @@
 //! What a command changes in a folder, or why it is refused.
 #![tactic(auto)]
 
+mod candidates;
 mod changes;
 mod create;
+mod finding;
 mod index;
 mod inputs;
+mod matching;
 mod names;
 mod outputs;
+mod reading;
+mod report;
+mod verify;
 mod words;
 
 pub use changes::Changes;
 pub use create::plan_create;
-pub use par2_spec::{CreateArgs, Fault};
+pub use par2_spec::{CreateArgs, Fault, Verdict};
+pub use report::{Report, State, TargetReport};
+pub use verify::check;
 
 #[cfg(test)]
 mod tests;

@@ -22,7 +22,7 @@ pub fn slice_bytes(bytes: &[u8], s: u64, j: u64) -> &[u8]
 }
 
 /// The bytes of the file in its window at `offset`: fewer than `s` at the end of the file.
-pub(crate) fn window_bytes(bytes: &[u8], s: u64, offset: usize) -> &[u8]
+pub fn window_bytes(bytes: &[u8], s: u64, offset: usize) -> &[u8]
     requires { offset ≤ length bytes.now }
     ensures { result.now ≡ take s (drop offset bytes.now) }
 {

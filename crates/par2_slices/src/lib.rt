@@ -13,7 +13,7 @@ mod wanted;
 mod zeros;
 
 pub use checksum::crc32;
-pub use cutting::{slice_bytes, slice_count, slice_into};
+pub use cutting::{slice_bytes, slice_count, slice_into, window_bytes};
 pub use digest::padded_md5;
 pub use rolling::Rolling;
 pub use search::find;

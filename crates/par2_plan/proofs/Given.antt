@@ -1,0 +1,72 @@
+-- The matches of needing targets, by numbers and by names.
+use Rattle.std.proofs.Common.{◌≡◌, ℕ, zero, suc, ◌+◌, ◌<◌, List, [], ◌∷◌, length, map, refl, sym, ap, ◌∙◌, Bool, true, false, not, cond, arith}
+use Rattle.std.specs.Prelude.{Option, Some, None, IfSome, filter, find, option_map, option_to_list, ◌==◌}
+use Rattle.std.specs.List.{AllByRecursion, IsDistinct, range_with_len}
+use Rattle.std.specs.Str.{bytes_eq}
+use Rattle.std.proofs.lemmas.Slice.Zip.{seconds-zip}
+use Rattle.par2_spec.specs.Names.{is_among}
+use Rattle.par2_spec.specs.Folders.{Folder, bytes_of}
+use Rattle.par2_spec.specs.Sets.{ParSet, Target}
+use Rattle.par2_spec.specs.Search.{is_intact, is_needing, needing, intact_names, matched, matches}
+use Rattle.par2_spec.proofs.FoundLaws.{all-filter}
+use Rattle.par2_spec.proofs.NamesLaws.{distinct_from_std, std_from_distinct, distinct-filter}
+use Rattle.par2_search.specs.Matching.{text_at, first_intact, without, matched_from, matched_numbers, NumbersAreNames}
+use Rattle.par2_plan.specs.Matches.{ArePlaces, chosen, intact_by}
+use Rattle.par2_plan.specs.Findings.{needs, matches_given}
+use Rattle.par2_plan.proofs.Choices.{chosen-map, passed_over-map}
+
+-- ---- numbers are places
+
+found_holds : (P : ℕ → Type 0) (p : ℕ → Bool) (xs : List ℕ) → AllByRecursion P xs → IfSome (find p xs) P
+found_holds P p [] h = tt
+found_holds P p (x ∷ xs) h = step (p x) (found_holds P p xs h.1)
+  where
+    step : (b : Bool) → IfSome (find p xs) P → IfSome (cond b (Some x) (find p xs)) P
+    step true k = h.0
+    step false k = k
+
+left_hold : (P : ℕ → Type 0) (o : Option ℕ) (free : List ℕ) → AllByRecursion P free → AllByRecursion P (without o free)
+left_hold P None free h = h
+left_hold P (Some taken) free h = all-filter P (λ i. not (i == taken)) free h
+
+places_from : (n s : ℕ) (texts : List (List ℕ)) (ts : List Target) (free : List ℕ) → AllByRecursion (λ i. i < n) free → ArePlaces n (matched_from s texts free ts)
+places_from n s texts [] free h = tt
+places_from n s texts (t ∷ ts) free h =
+    (found_holds (λ i. i < n) _ free h, places_from n s texts ts (without (first_intact s texts t free) free) (left_hold (λ i. i < n) (first_intact s texts t free) free h))
+
+below_end : (a k n : ℕ) → a + k ≡ n → AllByRecursion (λ i. i < n) (range_with_len a k)
+below_end a zero n e = tt
+below_end a (suc k) n e = (omega (arith, e), below_end (a + 1) k n (omega (arith, e)))
+
+pub are_places : (s : ℕ) (texts : List (List ℕ)) (ts : List Target) → ArePlaces (length texts) (matched_numbers s texts ts)
+are_places s texts ts = places_from (length texts) s texts ts (range_with_len 0 (length texts)) (below_end 0 (length texts) (length texts) (omega arith))
+
+-- ---- the matches of a set
+
+matched_count : (folder : Folder) (s : ℕ) (free : List (List ℕ)) (ts : List Target) → length (matched folder s free ts) ≡ length ts
+matched_count folder s free [] = refl
+matched_count folder s free (t ∷ ts) =
+    ap suc (matched_count folder s (filter (λ name. not (is_among (option_to_list (find (λ name. is_intact s t (bytes_of folder name)) free)) name)) free) ts)
+
+module _ (folder : Folder) (set : ParSet) (searched : List (List ℕ)) where
+  -- the candidates that are no intact target's
+  abbrev pub free_by : List (List ℕ)
+  free_by = filter (λ name. not (is_among (intact_by (needs folder set) set.targets) name)) searched
+
+  pub chosen_needing : chosen (needs folder set) set.targets ≡ needing folder set
+  chosen_needing = chosen-map (is_needing folder set) set.targets
+
+  pub given_by_names : matches_given folder set searched ≡ matched folder set.slice_size free_by (needing folder set)
+  unfolding matches
+  given_by_names =
+      let free = filter (λ name. not (is_among (intact_names folder set) name)) searched in
+      seconds-zip (needing folder set) (matched folder set.slice_size free (needing folder set)) (matched_count folder set.slice_size free (needing folder set))
+      ∙ ap (λ (ts : List Target). matched folder set.slice_size (filter (λ name. not (is_among (map (λ t. t.name) ts) name)) searched) (needing folder set))
+      (sym (passed_over-map (is_needing folder set) set.targets))
+
+  pub free_once : IsDistinct bytes_eq searched → IsDistinct bytes_eq free_by
+  free_once once = std_from_distinct free_by (distinct-filter _ searched (distinct_from_std searched once))
+
+  pub given_by_numbers : IsDistinct bytes_eq searched → NumbersAreNames folder set.slice_size free_by (needing folder set)
+      → map (option_map (text_at free_by)) (matched_numbers set.slice_size (map (bytes_of folder) free_by) (needing folder set)) ≡ matches_given folder set searched
+  given_by_numbers once law = law (free_once once) ∙ sym given_by_names

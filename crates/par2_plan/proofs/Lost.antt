@@ -1,0 +1,138 @@
+-- Numbers of slices that are not found.
+use Rattle.std.proofs.Common.{◌≡◌, ℕ, zero, suc, ◌+◌, ◌≤◌, ◌<◌, List, [], ◌∷◌, ◌++◌, length, map, take, get_or, refl, sym, ap, ◌∙◌, Bool, true, false, cond, ◌&&◌, ◌||◌, ◌==◌, ◌⊎◌, inl, inr, Bor, arith, append-nil, append_assoc, length-append, Vec, Global}
+use Rattle.std.specs.Prelude.{Option, Some, None, is_some, is_none, filter, flat_map, slice_index}
+use Rattle.std.specs.List.{AllByRecursion, list_all}
+use Rattle.std.proofs.lemmas.List.{take_more, length-take-le}
+use Rattle.par2_spec.specs.Lists.{all_lists}
+use Rattle.par2_spec.specs.Recovery.{dot, coefficients}
+use Rattle.par2_spec.specs.Rank.{is_independent, kills, smaller, rank}
+use Rattle.par2_spec.specs.Sets.{Target}
+use Rattle.par2_spec.proofs.ListsLaws.{all-append}
+use Rattle.std.proofs.lemmas.Bool.{eqb-true}
+use Rattle.par2_search.specs.Texts.{padded_windows}
+use Rattle.par2_plan.specs.Findings.{Standing, Intact, Matched, Unmatched, AreSized}
+use Rattle.par2_plan.specs.Parts.{missing_from, lost_from}
+use Rattle.par2_plan.specs.Views.{standing_of, standings_of}
+use Rattle.par2_plan.specs.declared.finding.Standing as code
+use Rattle.par2_plan.specs.declared.finding.Standing.TheVariants as variants
+
+-- the first slice of some
+missing_head : {A : Type 0} (n : ℕ) (x : Option A) (xs : List (Option A)) → missing_from n (x ∷ xs) ≡ cond (is_none x) (n ∷ missing_from (n + 1) xs) (missing_from (n + 1) xs)
+missing_head n None xs = refl
+missing_head n (Some x) xs = refl
+
+pub missing-append : {A : Type 0} (n : ℕ) (xs ys : List (Option A)) → missing_from n (xs ++ ys) ≡ missing_from n xs ++ missing_from (n + length xs) ys
+missing-append n [] ys = ap (λ k. missing_from k ys) (let e : n ≡ n + 0 = omega arith in e)
+missing-append n (None ∷ xs) ys =
+    ap (λ rest. n ∷ rest) (missing-append (n + 1) xs ys ∙ ap (λ k. missing_from (n + 1) xs ++ missing_from k ys) (let e : n + 1 + length xs ≡ n + suc (length xs) = omega arith in e))
+missing-append n (Some x ∷ xs) ys =
+    missing-append (n + 1) xs ys ∙ ap (λ k. missing_from (n + 1) xs ++ missing_from k ys) (let e : n + 1 + length xs ≡ n + suc (length xs) = omega arith in e)
+
+-- the same with or without the zeros of a window
+pub missing-padded : (s n : ℕ) (windows : List (Option (Bor (List ℕ)))) → missing_from n (padded_windows s windows) ≡ missing_from n windows
+missing-padded s n [] = refl
+missing-padded s n (None ∷ windows) = ap (λ rest. n ∷ rest) (missing-padded s (n + 1) windows)
+missing-padded s n (Some window ∷ windows) = missing-padded s (n + 1) windows
+
+few_some : {A : Type 0} (xs : List (Option A)) → length (filter (λ x. is_some x) xs) ≤ length xs
+few_some [] = omega arith
+few_some (None ∷ xs) = omega (arith, few_some xs)
+few_some (Some x ∷ xs) = omega (arith, few_some xs)
+
+-- nothing is missing where as many are there as there can be
+pub none_missing : {A : Type 0} (n : ℕ) (xs : List (Option A)) → length (filter (λ x. is_some x) xs) ≡ length xs → missing_from n xs ≡ []
+none_missing n [] h = refl
+none_missing n (None ∷ xs) h = absurd (omega (arith, few_some xs, h))
+none_missing n (Some x ∷ xs) h = none_missing (n + 1) xs (omega (arith, h))
+
+-- numbers from n on stay below the end
+missing_below : {A : Type 0} (n m : ℕ) (xs : List (Option A)) → n + length xs ≤ m → AllByRecursion (λ i. i < m) (missing_from n xs)
+missing_below n m [] h = tt
+missing_below n m (None ∷ xs) h = (omega (arith, h), missing_below (n + 1) m xs (omega (arith, h)))
+missing_below n m (Some x ∷ xs) h = missing_below (n + 1) m xs (omega (arith, h))
+
+pub lost_below : (n m : ℕ) (ts : List Target) (standings : List Standing) → AreSized ts standings → n + length (flat_map (λ t. t.pairs) ts) ≤ m → AllByRecursion (λ i. i < m) (lost_from n ts standings)
+lost_below n m [] [] sized h = tt
+lost_below n m [] (standing ∷ standings) sized h = tt
+lost_below n m (t ∷ ts) [] sized h = tt
+lost_below n m (t ∷ ts) (Intact ∷ standings) sized h = lost_below (n + length t.pairs) m ts standings sized (omega (arith, h, length-append t.pairs (flat_map (λ u. u.pairs) ts)))
+lost_below n m (t ∷ ts) (Matched name ∷ standings) sized h = lost_below (n + length t.pairs) m ts standings sized (omega (arith, h, length-append t.pairs (flat_map (λ u. u.pairs) ts)))
+lost_below n m (t ∷ ts) (Unmatched slices ∷ standings) sized h =
+    let whole = length-append t.pairs (flat_map (λ u. u.pairs) ts) in
+    all-append (λ i. i < m) (missing_from n slices) (lost_from (n + length t.pairs) ts standings)
+    (missing_below n m slices (omega (arith, h, whole, sized.0)))
+    (lost_below (n + length t.pairs) m ts standings sized.1 (omega (arith, h, whole)))
+
+pub each_below : (m : ℕ) (xs : List ℕ) → 0 < m → AllByRecursion (λ i. i < m) xs → (i : ℕ) → slice_index xs i < m
+each_below m [] positive h i = positive
+each_below m (x ∷ xs) positive h zero = h.0
+each_below m (x ∷ xs) positive h (suc i) = each_below m xs positive h.1 i
+
+-- ---- where nothing is lost
+
+nothing_told : (before : List (List ℕ)) → is_independent 0 before [] ≡ false
+unfolding is_independent dot all_lists
+nothing_told before = step (list_all (kills []) before)
+  where
+    step : (b : Bool) → ((b && false) || false) ≡ false
+    step true = refl
+    step false = refl
+
+none_pass : (p : ℕ → Bool) (xs : List ℕ) → ((x : ℕ) → p x ≡ false) → filter p xs ≡ []
+none_pass p [] no_one = refl
+none_pass p (x ∷ xs) no_one = ap (λ b. cond b (x ∷ filter p xs) (filter p xs)) (no_one x) ∙ none_pass p xs no_one
+
+-- no exponent tells anything of no slice
+pub rank_of_nothing : (survivors : List ℕ) → rank [] survivors ≡ 0
+rank_of_nothing survivors = ap length (none_pass _ survivors (λ e. nothing_told (map (coefficients []) (smaller e survivors))))
+
+-- ---- slice by slice, and target by target
+
+pub missing_more : {A : Type 0} (n : ℕ) (xs : List (Option A)) (i : ℕ) → i < length xs
+    → missing_from n (take (i + 1) xs) ≡ missing_from n (take i xs) ++ cond (is_some (get_or xs i None)) [] ((n + i) ∷ [])
+missing_more {A} n xs i low =
+    ap (missing_from n) (take_more xs i None low)
+    ∙ missing-append n (take i xs) (get_or xs i None ∷ [])
+    ∙ ap (λ k. missing_from n (take i xs) ++ missing_from (n + k) (get_or xs i None ∷ [])) (length-take-le i xs (omega (arith, low)))
+    ∙ ap (λ ys. missing_from n (take i xs) ++ ys) (one (get_or xs i None))
+  where
+    one : (x : Option A) → missing_from (n + i) (x ∷ []) ≡ cond (is_some x) [] ((n + i) ∷ [])
+    one None = refl
+    one (Some x) = refl
+
+-- the numbers of a target's slices that are not found
+abbrev pub missing_in : ℕ → code.Standing → List ℕ
+missing_in n (variants.Unmatched windows) = missing_from n windows.items
+missing_in n standing = []
+
+pub lost_step : (s n : ℕ) (t : Target) (ts : List Target) (standing : code.Standing) (standings : List Standing) (old new : List ℕ) → new ≡ old ++ missing_in n standing
+    → new ++ lost_from (n + length t.pairs) ts standings ≡ old ++ lost_from n (t ∷ ts) (standing_of s standing ∷ standings)
+lost_step s n t ts variants.Intact standings old new e = ap (λ xs. xs ++ lost_from (n + length t.pairs) ts standings) (e ∙ append-nil old)
+lost_step s n t ts (variants.Matched name) standings old new e = ap (λ xs. xs ++ lost_from (n + length t.pairs) ts standings) (e ∙ append-nil old)
+lost_step s n t ts (variants.Unmatched windows) standings old new e =
+    ap (λ xs. xs ++ lost_from (n + length t.pairs) ts standings) (e ∙ ap (λ xs. old ++ xs) (sym (missing-padded s n windows.items)))
+    ∙ append_assoc old (missing_from n (padded_windows s windows.items)) (lost_from (n + length t.pairs) ts standings)
+
+pub sized_rest : (s : ℕ) (t : Target) (ts : List Target) (standing : code.Standing) (standings : List Standing) → AreSized (t ∷ ts) (standing_of s standing ∷ standings) → AreSized ts standings
+sized_rest s t ts variants.Intact standings h = h
+sized_rest s t ts (variants.Matched name) standings h = h
+sized_rest s t ts (variants.Unmatched windows) standings h = h.1
+
+pub few_rest : (n m : ℕ) (t : Target) (ts : List Target) → n + length (flat_map (λ u. u.pairs) (t ∷ ts)) ≤ m → n + length t.pairs + length (flat_map (λ u. u.pairs) ts) ≤ m
+few_rest n m t ts h = omega (arith, h, length-append t.pairs (flat_map (λ u. u.pairs) ts))
+
+pub nothing_from : (xs : List ℕ) → (length xs == 0) ≡ true → xs ≡ []
+nothing_from [] h = refl
+nothing_from (x ∷ xs) h = absurd (omega (arith, eqb-true (length (x ∷ xs)) 0 h))
+
+pub none_in : (n : ℕ) (standing : code.Standing) → ((windows : Vec (Option (Bor (List ℕ))) Global) → standing ≡ variants.Unmatched windows → ⊥) → missing_in n standing ≡ []
+none_in n variants.Intact h = refl
+none_in n (variants.Matched name) h = refl
+none_in n (variants.Unmatched windows) h = absurd (h windows refl)
+
+pub lost_end_of : (s n : ℕ) (ts : List Target) (standings : List code.Standing) → (ts ≡ []) ⊎ (standings ≡ []) → lost_from n ts (standings_of s standings) ≡ []
+lost_end_of s n [] [] h = refl
+lost_end_of s n [] (standing ∷ standings) h = refl
+lost_end_of s n (t ∷ ts) [] h = refl
+lost_end_of s n (t ∷ ts) (standing ∷ standings) (inl h) = absurd (let no : ⊥ = cc in no)
+lost_end_of s n (t ∷ ts) (standing ∷ standings) (inr h) = absurd (let no : ⊥ = cc in no)

@@ -1,0 +1,91 @@
+-- The base and the further files that are there.
+use Rattle.std.proofs.Common.{◌≡◌, ℕ, ◌+◌, ◌<◌, ◌^◌, List, [], ◌∷◌, map, refl, sym, ap, ◌∙◌, Bool, true, false, not, cond, arith, IsTrue, length, ◌⊎◌, subst}
+use Rattle.std.specs.Prelude.{Option, Some, None, Result, Ok, Err, option_map, is_ok, IsOk}
+use Rattle.std.specs.List.{AllByRecursion, position_from}
+use Rattle.std.specs.Str.{bytes_eq}
+use Rattle.std.proofs.lemmas.Bool.{or_from, false_from_ne_true}
+use Rattle.std.proofs.lemmas.Iterator.Adapters.{position_from-zero}
+use Rattle.par2_spec.specs.declared.Fault.{Fault}
+use Rattle.par2_spec.specs.declared.Fault.TheVariants.{NoSuchFile, Memory}
+use Rattle.par2_spec.specs.Faults.{or_fault}
+use Rattle.par2_spec.specs.Names.{is_name, is_among}
+use Rattle.par2_spec.specs.Folders.{Folder, File, has, files, IsFolder}
+use Rattle.par2_spec.specs.Sets.{ParSet, set_of}
+use Rattle.par2_spec.specs.Refusals.{set_in}
+use Rattle.par2_spec.proofs.NamesLaws.{same_name, clash}
+use Rattle.par2_spec.proofs.MovesLaws.{has_by_names}
+use Rattle.par2_spec.proofs.AcceptedCommands.{missing, in_full, in_part}
+use Rattle.par2_sets.specs.Steps.{Gives}
+use Rattle.par2_plan.specs.Readings.{present_from}
+
+-- what a `?` answers, where a step has ended in a fault
+pub passed_on : {X Y : Type 0} (view : X → Y) (r : Result X Fault) (whole : Result Y Fault) (fault : Fault)
+    → (y : Fault) × (r ≡ Err y) × (y ≡ fault) → (fault ≡ Memory) ⊎ (whole ≡ Err fault) → Gives view r whole
+passed_on view r whole fault p h = subst (λ x. Gives view x whole) (sym (p.1 ∙ ap Err p.2)) h
+
+-- ---- what is no name is no file's
+
+none_of_these : (word : List ℕ) → is_name word ≡ false → (entries : List File) → AllByRecursion (λ file. IsTrue (is_name file.0) × (length file.1 < 2 ^ 64)) entries
+    → is_among (map (λ file. file.0) entries) word ≡ false
+none_of_these word unnamed [] h = refl
+none_of_these word unnamed (file ∷ entries) h =
+    or_from (bytes_eq word file.0) (is_among (map (λ file. file.0) entries) word)
+    (false_from_ne_true _ (λ e. clash (ap is_name (same_name word file.0 e) ∙ h.0.0) unnamed)) (none_of_these word unnamed entries h.1)
+
+pub no_file : (folder : Folder) (word : List ℕ) → IsFolder folder → is_name word ≡ false → has folder word ≡ false
+no_file folder word kept unnamed = has_by_names folder word ∙ none_of_these word unnamed (files folder) kept
+
+pub not_ok : {A E : Type 0} (r : Result A E) → is_ok r ≡ false → IsOk r → ⊥
+not_ok r e h = clash h e
+
+-- ---- the first word that is absent
+
+later_place : {X : Type 0} (test : X → Bool) (i j : ℕ) (xs : List X) → position_from test (i + j) xs ≡ option_map (λ k. i + k) (position_from test j xs)
+later_place test i j [] = refl
+later_place test i j (x ∷ xs) = step (test x) (ap (λ n. position_from test n xs) (let e : i + j + 1 ≡ i + (j + 1) = omega arith in e) ∙ later_place test i (j + 1) xs)
+  where
+    step : (b : Bool) → position_from test (i + j + 1) xs ≡ option_map (λ k. i + k) (position_from test (j + 1) xs)
+        → cond b (Some (i + j)) (position_from test (i + j + 1) xs) ≡ option_map (λ k. i + k) (cond b (Some j) (position_from test (j + 1) xs))
+    step true h = refl
+    step false h = h
+
+missing_behind : (folder : Folder) (base : List ℕ) (extras : List (List ℕ)) → has folder base ≡ true → missing folder (base ∷ extras) ≡ option_map (λ k. 1 + k) (missing folder extras)
+missing_behind folder base extras there =
+    let test = λ (word : List ℕ). not (has folder word) in
+    position_from-zero test (base ∷ extras)
+    ∙ ap (λ b. cond (not b) (Some 0) (position_from test 1 extras)) there
+    ∙ later_place test 1 0 extras
+    ∙ ap (option_map (λ k. 1 + k)) (sym (position_from-zero test extras))
+
+module _ (folder : Folder) (base : List ℕ) (extras : List (List ℕ)) where
+  pub base_absent : has folder base ≡ false → set_in folder base extras ≡ Err (NoSuchFile 0)
+  base_absent gone =
+      let test = λ (word : List ℕ). not (has folder word) in
+      in_part folder base extras 0 (position_from-zero test (base ∷ extras) ∙ ap (λ b. cond (not b) (Some 0) (position_from test 1 extras)) gone)
+
+  module _ (there : has folder base ≡ true) where
+    pub extra_absent : (fault : Fault) → present_from 1 folder extras ≡ Err fault → set_in folder base extras ≡ Err fault
+    extra_absent fault h = step (missing folder extras) refl
+      where
+        refused : (k : ℕ) → ◌≡◌ {A = Result (List (List ℕ)) Fault} (Err (NoSuchFile (1 + k))) (Err fault) → ◌≡◌ {A = Result ParSet Fault} (Err (NoSuchFile (1 + k))) (Err fault)
+        refused k e = cc
+
+        step : (o : Option ℕ) → missing folder extras ≡ o → set_in folder base extras ≡ Err fault
+        step None e = absurd (let answer : or_fault (option_map (λ k. NoSuchFile (1 + k)) None) extras ≡ Err fault = ap (λ m. or_fault (option_map (λ k. NoSuchFile (1 + k)) m) extras) (sym e) ∙ h in let no : ⊥ = cc in no)
+        step (Some k) e =
+            in_part folder base extras (1 + k) (missing_behind folder base extras there ∙ ap (option_map (λ k. 1 + k)) e)
+            ∙ ap (λ n. Err (NoSuchFile n)) (let n : 0 + (1 + k) ≡ 1 + k = omega arith in n)
+            ∙ refused k (ap (λ m. or_fault (option_map (λ k. NoSuchFile (1 + k)) m) extras) (sym e) ∙ h)
+
+    pub all_present : (names : List (List ℕ)) → present_from 1 folder extras ≡ Ok names → (set_in folder base extras ≡ set_of folder base) × (names ≡ extras)
+    all_present names h = step (missing folder extras) refl
+      where
+        taken : ◌≡◌ {A = Result (List (List ℕ)) Fault} (Ok extras) (Ok names) → names ≡ extras
+        taken e = cc
+
+        step : (o : Option ℕ) → missing folder extras ≡ o → (set_in folder base extras ≡ set_of folder base) × (names ≡ extras)
+        step None e = (
+          in_full folder base extras (missing_behind folder base extras there ∙ ap (option_map (λ k. 1 + k)) e),
+          taken (ap (λ m. or_fault (option_map (λ k. NoSuchFile (1 + k)) m) extras) (sym e) ∙ h),
+        )
+        step (Some k) e = absurd (let answer : or_fault (option_map (λ k. NoSuchFile (1 + k)) (Some k)) extras ≡ Ok names = ap (λ m. or_fault (option_map (λ k. NoSuchFile (1 + k)) m) extras) (sym e) ∙ h in let no : ⊥ = cc in no)

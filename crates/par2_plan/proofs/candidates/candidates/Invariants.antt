@@ -1,0 +1,8 @@
+use Rattle.std.proofs.Common.{◌≡◌, ◌++◌, map, take}
+use Rattle.std.specs.Prelude.{filter}
+use Rattle.par2_spec.specs.Folders.{has}
+use Rattle.par2_plan.proofs.candidates.candidates.Given as goal
+
+abbrev pub invariant-loop-extra : goal.invariant-loop-extra
+invariant-loop-extra l =
+    l.names.items ≡ map (λ t. t.name) (filter (λ t. has l.folder.files t.name) l.set.targets) ++ take l.extra-index l.extras

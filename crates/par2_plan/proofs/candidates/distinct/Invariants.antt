@@ -1,0 +1,8 @@
+use Rattle.std.proofs.Common.{◌≡◌, take}
+use Rattle.par2_spec.specs.Names.{distinct}
+use Rattle.par2_plan.specs.Matches.{HoldsNames}
+use Rattle.par2_plan.proofs.candidates.distinct.Given as goal
+
+abbrev pub invariant-loop-name : goal.invariant-loop-name
+invariant-loop-name l =
+    (l.list.items ≡ distinct (take l.name-index l.names)) × HoldsNames l.seen (take l.name-index l.names)

@@ -1,0 +1,61 @@
+use Rattle.std.proofs.Common.{◌≡◌, ◌∙◌, ◌+◌, ◌++◌, ◌≤◌, ◌<◌, [], ◌∷◌, List, ℕ, sym, ap, ap₂, subst, length, append-nil, arith}
+use Rattle.std.specs.List.{AllByRecursion}
+use Rattle.std.specs.Iterator.Adapters.{zip_first, zip_second}
+use Rattle.std.specs.Slice.Iter.{iter_rest}
+use Rattle.std.proofs.lemmas.Slice.Zip.{Zip-more, either_empty_from_Zip}
+use Rattle.std.specs.Prelude.{flat_map}
+use Rattle.par2_spec.specs.Checksums.{Pair}
+use Rattle.par2_spec.specs.Sets.{Target}
+use Rattle.par2_plan.specs.Findings.{Standing, AreSized}
+use Rattle.par2_plan.specs.Parts.{lost_from, missing_from}
+use Rattle.par2_plan.specs.Views.{standing_of, standings_of}
+use Rattle.par2_plan.proofs.Lost.{lost_step, sized_rest, few_rest, lost_end_of, lost_below, each_below, missing_in, none_in}
+use Rattle.par2_plan.proofs.report.lost_slices.Goals as goal
+use Rattle.par2_plan.proofs.report.lost_slices.Goals.{in-Unmatched+in_ok-push_missing, in_default}
+
+pub loop-target-preserved : goal.loop-target-preserved
+loop-target-preserved c =
+    let it = c.loop-target.target-iterator in
+    let more = Zip-more it c.next.new.self c.next.result _ c.in-Some.is c.next.ensures.steps in
+    let s = c.args.set.now.slice_size in
+    let n = c.loop-target.first in
+    let standing = c.in-Some.standing.now in
+    let t : Target = c.in-Some.target.now in
+    let ts : List Target = iter_rest (zip_first c.next.new.self) in
+    let rest : List Standing = standings_of s (iter_rest (zip_second c.next.new.self)) in
+    let old : List ℕ = c.loop-target.lost.items in
+    let new : c.match-standing.lost.items ≡ old ++ missing_in n standing =
+    elim c.match-standing.branch as (λ _. c.match-standing.lost.items ≡ old ++ missing_in n standing) [
+      | in-Unmatched+in_ok-push_missing w ↦
+          ap (λ v. v.items) w.lost-is ∙ w.in_ok-push_missing.ensures ∙ ap (λ ws. old ++ missing_from n ws) w.deref.ensures.value ∙ ap (λ x. old ++ missing_in n x) (sym w.in-Unmatched.is)
+      | in_default w ↦ ap (λ v. v.items) w.lost-is ∙ sym (append-nil old) ∙ ap (λ xs. old ++ xs) (sym (none_in n standing w.in_default.not-Unmatched))
+    ] in
+    let pairs : ◌≡◌ {A = List Pair} c.pairs.result.now t.pairs = c.pairs.ensures in
+    let here : iter_rest (zip_first it) ≡ t ∷ ts = more.0 in
+    let there : standings_of s (iter_rest (zip_second it)) ≡ standing_of s standing ∷ rest = ap (standings_of s) more.1 in
+    let inv = c.loop-target.invariant in record {
+      numbers =
+          ap (λ (ps : List Pair). c.match-standing.lost.items ++ lost_from (n + length ps) ts rest) pairs
+          ∙ lost_step s n t ts standing rest old c.match-standing.lost.items new
+          ∙ ap₂ (λ (us : List Target) (sts : List Standing). old ++ lost_from n us sts) (sym here) (sym there) ∙ inv.numbers;
+      few =
+          subst (λ (ps : List Pair). n + length ps + length (flat_map (λ (u : Target). u.pairs) ts) ≤ 32768) (sym pairs)
+          (few_rest n 32768 t ts (subst (λ (us : List Target). n + length (flat_map (λ (u : Target). u.pairs) us) ≤ 32768) here inv.few));
+      sized = sized_rest s t ts standing rest (subst (λ (us : List Target). AreSized us (standing_of s standing ∷ rest)) here (subst (AreSized (iter_rest (zip_first it))) there inv.sized));
+    }
+
+pub returns-clause-numbers : goal.returns-clause-numbers
+returns-clause-numbers c =
+    let it = c.loop-target.target-iterator in
+    let s = c.args.set.now.slice_size in
+    let e : lost_from c.loop-target.first (iter_rest (zip_first it)) (standings_of s (iter_rest (zip_second it))) ≡ [] =
+    lost_end_of s _ _ _ (either_empty_from_Zip it c.next.new.self _ c.in-None.is c.next.ensures.steps) in
+    sym (append-nil c.loop-target.lost.items) ∙ ap (λ xs. c.loop-target.lost.items ++ xs) (sym e) ∙ c.loop-target.invariant.numbers
+
+pub returns-clause-low : goal.returns-clause-low
+returns-clause-low c =
+    let set = c.args.set.now in
+    let sound = c.targets.ensures.sound in
+    let few : 0 + length (flat_map (λ (u : Target). u.pairs) set.targets) ≤ 32768 = omega (arith, sound.slices) in
+    let all = lost_below 0 32768 set.targets (standings_of set.slice_size c.args.standings.now) c.requires few in
+    each_below 32768 c.loop-target.lost.items (omega arith) (subst (AllByRecursion (λ i. i < 32768)) (sym (returns-clause-numbers c)) all)

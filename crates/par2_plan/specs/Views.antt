@@ -1,0 +1,53 @@
+-- Standings and reports of this crate as those of the definitions.
+use Rattle.std.specs.Prelude.{◌≡◌, ℕ, Bool, List, Option, map}
+use Rattle.std.specs.Borrow.{Bor}
+use Rattle.par2_spec.specs.Checksums.{Pair}
+use Rattle.par2_spec.specs.Sets.{ParSet}
+use Rattle.par2_spec.specs.Reports as reports
+use Rattle.par2_search.specs.Texts.{padded_windows}
+use Rattle.par2_plan.specs.Findings as findings
+use Rattle.par2_plan.specs.declared.finding.Standing.{Standing}
+use Rattle.par2_plan.specs.declared.finding.Standing.TheVariants.{Intact, Matched, Unmatched}
+use Rattle.par2_plan.specs.declared.report.State.{State}
+use Rattle.par2_plan.specs.declared.report.State.TheVariants.{Complete, Misplaced, Damaged, Missing}
+use Rattle.par2_plan.specs.declared.report.TargetReport.{TargetReport}
+use Rattle.par2_plan.specs.declared.report.Report.{Report}
+
+-- its windows stand for slices of s bytes
+abbrev pub standing_of : ℕ → Standing → findings.Standing
+standing_of s Intact = findings.Intact
+standing_of s (Matched name) = findings.Matched name
+standing_of s (Unmatched windows) = findings.Unmatched (padded_windows s windows.items)
+
+abbrev pub standings_of : ℕ → List Standing → List findings.Standing
+standings_of s standings = map (standing_of s) standings
+
+-- the standings of a set's targets, of which some need a match, by those matches and by windows that stand where the
+-- slices of those without one are found
+abbrev pub AreStandingsBy : ParSet → List Bool → List (Option (List ℕ)) → List (Option (Bor (List ℕ))) → List Standing → Type 0
+AreStandingsBy set needing given windows standings =
+    (find_slice : Pair → Option (List ℕ))
+    → padded_windows set.slice_size windows ≡ map find_slice (findings.sought_by needing set.targets given)
+    → standings_of set.slice_size standings ≡ findings.standings_by find_slice needing set.targets given
+
+abbrev pub state_of : State → reports.State
+state_of Complete = reports.Complete
+state_of (Misplaced name) = reports.Misplaced name
+state_of Damaged = reports.Damaged
+state_of Missing = reports.Missing
+
+abbrev pub target_report_of : TargetReport → reports.TargetReport
+target_report_of report = record {
+  name = report.name;
+  state = state_of report.state;
+  found = report.found;
+  total = report.total;
+}
+
+abbrev pub report_of : Report → reports.Report
+report_of report = record {
+  set_id = report.set_id;
+  targets = map target_report_of report.targets.items;
+  lost = report.lost;
+  rank = report.rank;
+}

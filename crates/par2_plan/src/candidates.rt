@@ -1,0 +1,77 @@
+//! The files that are searched for what is left of a set's files.
+ghost use Rattle.std.specs.Prelude.{◌≡◌, map, filter, IfOk};
+ghost use Rattle.par2_spec.specs.Folders.{has, bytes_of};
+ghost use Rattle.par2_spec.specs.Names.{distinct};
+ghost use Rattle.par2_spec.specs.Search as search;
+ghost use Rattle.par2_search.specs.Texts.{texts_of};
+
+use par2_folder::{Folder, Name};
+use par2_sets::ParSet;
+use std::alloc::{AllocError, Global};
+use std::collections::BTreeSet;
+
+// The names of the targets that are in the folder.
+fn present_targets(alloc: Global, folder: &Folder, set: &ParSet) -> Result<Vec<Name>, AllocError>
+    ensures { let there = filter (λ t. has folder.now.files t.name) set.now.targets in
+        IfOk result (λ names. names.items ≡ map (λ t. t.name) there) }
+{
+    let targets = set.targets().iter();
+    targets
+        .filter(|target| folder.get(target.name()).is_some())
+        .map(|target| target.name().copied())
+        .collect(alloc)
+}
+
+// Each name once, where it comes first.
+fn distinct(alloc: Global, names: &[Name]) -> Result<Vec<Name>, AllocError>
+    ensures { IfOk result (λ list. list.items ≡ distinct names.now) }
+{
+    let mut seen = BTreeSet::new(alloc);
+    let mut list = Vec::new(alloc);
+    for name in names {
+        if seen.insert(name)? {
+            list.push(name.copied())?;
+        }
+    }
+    Ok(list)
+}
+
+/// The names of the targets that are in the folder, then the further names, each once.
+pub fn candidates(
+    alloc: Global,
+    folder: &Folder,
+    set: &ParSet,
+    extras: &[Name],
+) -> Result<Vec<Name>, AllocError>
+    ensures { let searched = search.candidates folder.now.files set.now extras.now in
+        IfOk result (λ names. names.items ≡ searched) }
+{
+    let mut names = present_targets(alloc, folder, set)?;
+    for extra in extras {
+        names.push(extra.copied())?;
+    }
+    distinct(alloc, &names)
+}
+
+// The bytes of a file, none where it is absent.
+fn bytes_of<'a>(folder: &'a Folder, name: &Name) -> &'a [u8]
+    ensures { result.now ≡ bytes_of folder.now.files name.now }
+{
+    folder.get(name).unwrap_or(&[])
+}
+
+/// The bytes of the files of these names.
+pub fn texts_of<'a>(
+    alloc: Global,
+    folder: &'a Folder,
+    names: &[Name],
+) -> Result<Vec<&'a [u8]>, AllocError>
+    ensures { let bytes = map (bytes_of folder.now.files) names.now in
+        IfOk result (λ texts. texts_of texts.items ≡ bytes) }
+{
+    let mut texts = Vec::with_capacity(alloc, names.len())?;
+    for name in names {
+        texts.push(bytes_of(folder, name))?;
+    }
+    Ok(texts)
+}

@@ -1,0 +1,127 @@
+//! How it stands with each target of a set: which file is intact for it, or else where its slices are found.
+ghost use Rattle.std.specs.Prelude.{◌≡◌, ◌≤◌, ◌+◌, length, map, take, drop, IfOk};
+ghost use Rattle.std.specs.List.{IsDistinct};
+ghost use Rattle.std.specs.Str.{bytes_eq};
+ghost use Rattle.par2_spec.specs.Folders.{bytes_of};
+ghost use Rattle.par2_spec.specs.Windows.{found};
+ghost use Rattle.par2_search.specs.Texts.{padded_windows};
+ghost use Rattle.par2_plan.specs.Findings.{sought_by, standings};
+ghost use Rattle.par2_plan.specs.Views.{standings_of, AreStandingsBy};
+
+use crate::candidates::texts_of;
+use crate::matching::{matches, needs};
+use par2_folder::{Folder, Name};
+use par2_search::found_windows;
+use par2_sets::ParSet;
+use par2_slices::Pair;
+use std::alloc::{AllocError, Global};
+
+/// How it stands with a target.
+#[derive(Drop)]
+pub enum Standing<'a> {
+    /// The file of its name is intact.
+    Intact,
+    /// It isn't, and the file of this name is the target's match.
+    Matched(Name),
+    /// There is no match. Its slices stand where they are found, without zeros past the end of a file.
+    Unmatched(Vec<Option<&'a [u8]>>),
+}
+
+// The pairs of the targets that need a match and have none.
+fn sought_pairs(
+    alloc: Global,
+    set: &ParSet,
+    needing: &[bool],
+    matches: &[Option<Name>],
+) -> Result<Vec<Pair>, AllocError>
+    ensures { let sought = sought_by needing.now set.now.targets matches.now in
+        IfOk result (λ pairs. pairs.items ≡ sought) }
+{
+    let mut pairs = Vec::new(alloc);
+    let mut given = matches.iter();
+    for (target, needs) in set.targets().iter().zip(needing) {
+        if *needs && !matches!(given.next(), Some(Some(_))) {
+            pairs.extend_from_slice(target.pairs())?;
+        }
+    }
+    Ok(pairs)
+}
+
+// Where the slices of these pairs are found in the files of these names.
+fn found_slices<'a>(
+    alloc: Global,
+    folder: &'a Folder,
+    set: &ParSet,
+    candidates: &[Name],
+    pairs: &[Pair],
+) -> Result<Vec<Option<&'a [u8]>>, AllocError>
+    ensures { let s = set.now.slice_size in
+        let texts = map (bytes_of folder.now.files) candidates.now in
+        IfOk result (λ windows. padded_windows s windows.items ≡ map (found s texts) pairs.now) }
+{
+    let texts = texts_of(alloc, folder, candidates)?;
+    found_windows(alloc, &texts, set.slice_size(), pairs)
+}
+
+// So many windows from the first one on, as far as there are any.
+fn part<'w, 'a>(
+    windows: &'w [Option<&'a [u8]>],
+    first: usize,
+    count: usize,
+) -> &'w [Option<&'a [u8]>]
+    requires { first ≤ length windows.now }
+    ensures value { result.now ≡ take count (drop first windows.now) }
+    ensures within { first + length result.now ≤ length windows.now }
+{
+    let rest = &windows[first..];
+    &rest[..count.min(rest.len())]
+}
+
+// The standings of targets of which some need a match, by those matches and the windows of the slices of those
+// without one, in order.
+fn standings_with<'a>(
+    alloc: Global,
+    set: &ParSet,
+    needing: &[bool],
+    matches: &[Option<Name>],
+    windows: &[Option<&'a [u8]>],
+) -> Result<Vec<Standing<'a>>, AllocError>
+    ensures { IfOk result (λ list.
+        AreStandingsBy set.now needing.now matches.now windows.now list.items) }
+{
+    let mut standings = Vec::with_capacity(alloc, needing.len())?;
+    let mut given = matches.iter();
+    let mut first = 0;
+    for (target, needs) in set.targets().iter().zip(needing) {
+        if !*needs {
+            standings.push(Standing::Intact)?;
+        } else if let Some(Some(name)) = given.next() {
+            standings.push(Standing::Matched(name.copied()))?;
+        } else {
+            let own = part(windows, first, target.pairs().len());
+            first += own.len();
+            standings.push(Standing::Unmatched(Vec::from_slice(alloc, own)?))?;
+        }
+    }
+    Ok(standings)
+}
+
+/// How it stands with each target of a set, in order, by the files of these names. No slice of an intact or matched
+/// target is searched for.
+pub fn standings<'a>(
+    alloc: Global,
+    folder: &'a Folder,
+    set: &ParSet,
+    candidates: &[Name],
+) -> Result<Vec<Standing<'a>>, AllocError>
+    requires { IsDistinct bytes_eq candidates.now }
+    ensures { let s = set.now.slice_size in
+        let all = standings folder.now.files set.now candidates.now in
+        IfOk result (λ list. standings_of s list.items ≡ all) }
+{
+    let needing = needs(alloc, folder, set)?;
+    let matches = matches(alloc, folder, set, &needing, candidates)?;
+    let pairs = sought_pairs(alloc, set, &needing, &matches)?;
+    let windows = found_slices(alloc, folder, set, candidates, &pairs)?;
+    standings_with(alloc, set, &needing, &matches, &windows)
+}

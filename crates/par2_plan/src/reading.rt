@@ -1,0 +1,59 @@
+//! What a command reads first: the set of its base, and the names of its further files.
+ghost use Rattle.std.specs.Prelude.{◌≡◌, map, string_bytes, is_some, IfOk, IfSome};
+ghost use Rattle.par2_spec.specs.Folders.{has};
+ghost use Rattle.par2_spec.specs.Refusals.{set_in};
+ghost use Rattle.par2_sets.specs.Steps.{Gives};
+ghost use Rattle.par2_plan.specs.Readings.{present_from};
+
+use par2_folder::{Folder, Name};
+use par2_sets::{ParSet, set_of};
+use par2_spec::Fault;
+use std::alloc::Global;
+
+/// The set of a base, and the names of further files.
+#[derive(Drop)]
+pub struct Reading<'a> {
+    pub set: ParSet<'a>,
+    pub extras: Vec<Name>,
+}
+
+// The name of a file, where the word is one.
+fn present(folder: &Folder, word: &str) -> Option<Name>
+    ensures variant { is_some result ≡ has folder.now.files word.now }
+    ensures value { IfSome result (λ name. name ≡ word.now) }
+{
+    // It says that the names in a folder are names.
+    let _ = folder.vacant();
+    let name = Name::new(word).ok()?;
+    folder.get(&name).is_some().then_some(name)
+}
+
+// The names of the further files.
+fn present_extras(alloc: Global, folder: &Folder, extras: &[String]) -> Result<Vec<Name>, Fault>
+    ensures { let names = present_from 1 folder.now.files (map string_bytes extras.now) in
+        Gives (λ list. list.items) result names }
+{
+    let mut names = Vec::new(alloc);
+    for i in 0..extras.len() {
+        let name = present(folder, &extras[i]).ok_or(Fault::NoSuchFile(i + 1))?;
+        names.push(name).map_err(|_| Fault::Memory)?;
+    }
+    Ok(names)
+}
+
+/// Reads the set of the base, where the base and the further files are there.
+pub fn read<'a>(
+    alloc: Global,
+    folder: &'a Folder,
+    base: &str,
+    extras: &[String],
+) -> Result<Reading<'a>, Fault>
+    ensures set { let set = set_in folder.now.files base.now (map string_bytes extras.now) in
+        Gives (λ reading. reading.set) result set }
+    ensures extras { IfOk result (λ reading. reading.extras.items ≡ map string_bytes extras.now) }
+{
+    let base = present(folder, base).ok_or(Fault::NoSuchFile(0))?;
+    let extras = present_extras(alloc, folder, extras)?;
+    let set = set_of(alloc, folder, &base)?;
+    Ok(Reading { set, extras })
+}

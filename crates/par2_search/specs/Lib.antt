@@ -1,0 +1,3 @@
+pub mod Intact
+pub mod Matching
+pub mod Texts

@@ -1,0 +1,153 @@
+-- The recovery slices of the packets, by their exponents.
+use Rattle.std.proofs.Common.{◌≡◌, ℕ, ◌+◌, ◌<◌, ◌==◌, ◌&&◌, T, Bool, true, false, cond, List, [], ◌∷◌, ◌++◌, Option, Some, None, length, map, take, get_or, refl, sym, ap, ◌∙◌, subst}
+use Rattle.std.specs.Prelude.{nat_lt, is_some, filter, filter_map, option_map, option_and_then, if◌then◌else◌}
+use Rattle.std.specs.Option.{option_or}
+use Rattle.std.specs.Borrow.{Bor}
+use Rattle.std.specs.declared.cmp.Ordering.{Ordering}
+use Rattle.std.specs.declared.cmp.Ordering.TheVariants.{Less, Equal, Greater}
+use Rattle.std.specs.Ordering.{nat_cmp, is_lt, is_eq, eq_by_cmp}
+use Rattle.std.specs.Cmp.{nat_cmp_total, eq_by_cmp_equiv}
+use Rattle.std.proofs.lemmas.Bool.{false≢true}
+use Rattle.std.specs.List.{cons_option, AllByRecursion}
+use Rattle.std.specs.List.Sorted.{IsStrictlySortedBy, IsStrictlyIncreasing}
+use Rattle.std.proofs.lemmas.Map.Keys.{sorted_from_strictly_increasing, IsStrictlyIncreasing-from_sorted}
+use Rattle.std.specs.Map.{lookup, keys_of}
+use Rattle.std.proofs.lemmas.List.{map_more, append-nil}
+use Rattle.std.proofs.lemmas.List.Elements.{filter_map-append}
+use Rattle.std.specs.FinMap as map_of
+use Rattle.std.specs.FinMap.{FinMap, find, is_sorted, same_map, same_entries_map, entries_sorted, nat_cmp-IsAntisymmetric, entries-from_sorted, get-from_sorted, get-from_entries}
+use Rattle.std.specs.FinMap.Entries.{below_all}
+use Rattle.par2_spec.specs.Packets.{Packet, RecoveryBody, read_recovery}
+use Rattle.par2_spec.specs.Sets.{recovery_of}
+use Rattle.par2_sets.specs.Slices.{entry_of, exponents_of, recovered_of, slice_if, slice_at, KeepsFirst}
+
+-- ---- which packets count
+
+-- the exponents and the slices that a set has a use for, in the order of the packets
+abbrev pub slices_in : List Packet → ℕ → List (ℕ × List ℕ)
+slices_in packets s = filter_map (slice_if s) packets
+
+abbrev fits : ℕ → RecoveryBody → Bool
+fits s r = nat_lt r.exponent 65536 && length r.bytes == s
+
+abbrev pair_of : RecoveryBody → ℕ × List ℕ
+pair_of r = (r.exponent, r.bytes)
+
+chosen : (s : ℕ) (packets : List Packet) → slices_in packets s ≡ map pair_of (filter (fits s) (filter_map (λ p. read_recovery p.kind p.body) packets))
+chosen s [] = refl
+chosen s (p ∷ packets) = step (read_recovery p.kind p.body) (slices_in packets s) (filter_map (λ q. read_recovery q.kind q.body) packets) (chosen s packets)
+  where
+    inner : (b : Bool) (r : RecoveryBody) (es : List (ℕ × List ℕ)) (rs : List RecoveryBody) → es ≡ map pair_of (filter (fits s) rs)
+        → cons_option (if b then Some (pair_of r) else None) es ≡ map pair_of (cond b (r ∷ filter (fits s) rs) (filter (fits s) rs))
+    inner true r es rs e = ap (λ xs. pair_of r ∷ xs) e
+    inner false r es rs e = e
+
+    step : (o : Option RecoveryBody) (es : List (ℕ × List ℕ)) (rs : List RecoveryBody) → es ≡ map pair_of (filter (fits s) rs)
+        → cons_option (option_and_then (λ r. if fits s r then Some (pair_of r) else None) o) es ≡ map pair_of (filter (fits s) (cons_option o rs))
+    step None es rs e = e
+    step (Some r) es rs e = inner (fits s r) r es rs e
+
+-- ---- a map of the first slices
+
+find-push : (es : List (ℕ × List ℕ)) (k : ℕ) (v : List ℕ) (q : ℕ)
+    → find nat_cmp q (es ++ (k, v) ∷ []) ≡ option_or (find nat_cmp q es) (if eq_by_cmp nat_cmp q k then Some v else None)
+find-push [] k v q = refl
+find-push (e ∷ es) k v q = step (eq_by_cmp nat_cmp q e.0) (find-push es k v q)
+  where
+    step : (b : Bool) → find nat_cmp q (es ++ (k, v) ∷ []) ≡ option_or (find nat_cmp q es) (if eq_by_cmp nat_cmp q k then Some v else None)
+        → cond b (Some e.1) (find nat_cmp q (es ++ (k, v) ∷ [])) ≡ option_or (cond b (Some e.1) (find nat_cmp q es)) (if eq_by_cmp nat_cmp q k then Some v else None)
+    step true h = refl
+    step false h = h
+
+find-map : (es : List (ℕ × Bor (List ℕ))) (q : ℕ) → find nat_cmp q (map entry_of es) ≡ slice_at es q
+find-map [] q = refl
+find-map (e ∷ es) q = step (eq_by_cmp nat_cmp q e.0) (find-map es q)
+  where
+    step : (b : Bool) → find nat_cmp q (map entry_of es) ≡ slice_at es q → cond b (Some e.1.now) (find nat_cmp q (map entry_of es)) ≡ option_map (λ x. x.now) (cond b (Some e.1) (lookup (eq_by_cmp nat_cmp q) es))
+    step true h = refl
+    step false h = h
+
+below : (k : ℕ) (es : List (ℕ × Bor (List ℕ))) → AllByRecursion (λ y. nat_cmp k y ≡ Less) (keys_of es) → T (below_all nat_cmp k (map entry_of es))
+below k [] h = tt
+below k (e ∷ es) h = subst (λ o. T (is_lt o && below_all nat_cmp k (map entry_of es))) (sym h.0) (below k es h.1)
+
+-- entries in the order of their exponents
+pub sorted : (es : List (ℕ × Bor (List ℕ))) → IsStrictlySortedBy nat_cmp (keys_of es) → T (is_sorted nat_cmp (map entry_of es))
+unfolding IsStrictlySortedBy
+sorted [] h = tt
+sorted (e ∷ es) h = both _ _ (below e.0 es h.0) (sorted es h.1)
+  where
+    both : (a b : Bool) → T a → T b → T (a && b)
+    both true b p q = q
+    both false b p q = p
+
+-- a map that finds at each exponent what the packets have first
+pub first_slices : (packets : List Packet) (s : ℕ) (es : List (ℕ × Bor (List ℕ))) → IsStrictlySortedBy nat_cmp (keys_of es)
+    → ((q : ℕ) → slice_at es q ≡ find nat_cmp q (slices_in packets s)) → map entry_of es ≡ map_of.entries (recovery_of packets s)
+first_slices packets s es up says =
+    sym (entries-from_sorted nat_cmp (map entry_of es) (sorted es up))
+    ∙ ap map_of.entries (same_map nat_cmp_total nat_cmp-IsAntisymmetric (map_of.from_sorted (map entry_of es)) (recovery_of packets s) (λ q.
+    get-from_sorted nat_cmp (map entry_of es) q (sorted es up) ∙ find-map es q ∙ says q
+    ∙ ap (find nat_cmp q) (chosen s packets) ∙ sym (get-from_entries nat_cmp_total _ q)))
+
+-- ---- the parts of a set
+
+keys_are : (es : List (ℕ × Bor (List ℕ))) → exponents_of es ≡ keys_of es
+keys_are [] = refl
+keys_are (e ∷ es) = ap (λ ks. e.0 ∷ ks) (keys_are es)
+
+-- exponents that rise are those of a map
+pub kept_entries : (es : List (ℕ × Bor (List ℕ))) → IsStrictlyIncreasing (exponents_of es) → map_of.entries (map_of.from_sorted {R = nat_cmp} (recovered_of es)) ≡ recovered_of es
+kept_entries es up = entries-from_sorted nat_cmp (recovered_of es) (sorted es (sorted_from_strictly_increasing (keys_of es) (subst IsStrictlyIncreasing (keys_are es) up)))
+
+pub made_of : (es : List (ℕ × Bor (List ℕ))) (m : FinMap nat_cmp (List ℕ)) → recovered_of es ≡ map_of.entries m → map_of.from_sorted (recovered_of es) ≡ m
+made_of es m e = same_entries_map _ _ (entries-from_sorted nat_cmp (recovered_of es) (subst (λ xs. T (is_sorted nat_cmp xs)) (sym e) (entries_sorted m)) ∙ e)
+
+-- entries in order have exponents that rise
+pub rising : (es : List (ℕ × Bor (List ℕ))) → IsStrictlySortedBy nat_cmp (keys_of es) → IsStrictlyIncreasing (exponents_of es)
+rising es up = subst IsStrictlyIncreasing (sym (keys_are es)) (IsStrictlyIncreasing-from_sorted (keys_of es) up)
+
+pub sizes_of : (s : ℕ) (rs : List (ℕ × List ℕ)) → AllByRecursion (λ r. (r.0 < 65536) × (length r.1 ≡ s)) rs → AllByRecursion (λ r. length r.1 ≡ s) rs
+sizes_of s [] h = tt
+sizes_of s (r ∷ rs) h = (h.0.1, sizes_of s rs h.1)
+
+-- ---- one more packet
+
+-- a packet without a slice
+pub nothing_more : {A : Type 0} (view : A → Packet) (s : ℕ) (xs : List A) (i : ℕ) (d : A) → i < length xs → slice_if s (view (get_or xs i d)) ≡ None
+    → slices_in (map view (take (i + 1) xs)) s ≡ slices_in (map view (take i xs)) s
+nothing_more view s xs i d low none =
+    ap (λ ps. slices_in ps s) (map_more view xs i d low) ∙ filter_map-append (slice_if s) (map view (take i xs)) (view (get_or xs i d) ∷ [])
+    ∙ ap (λ o. slices_in (map view (take i xs)) s ++ cons_option o []) none ∙ append-nil _
+
+-- a packet with a slice
+pub one_more : {A : Type 0} (view : A → Packet) (s : ℕ) (xs : List A) (i : ℕ) (d : A) (k : ℕ) (v : List ℕ) → i < length xs → slice_if s (view (get_or xs i d)) ≡ Some (k, v)
+    → (q : ℕ) → find nat_cmp q (slices_in (map view (take (i + 1) xs)) s) ≡ option_or (find nat_cmp q (slices_in (map view (take i xs)) s)) (if eq_by_cmp nat_cmp q k then Some v else None)
+one_more view s xs i d k v low some q =
+    ap (λ ps. find nat_cmp q (slices_in ps s)) (map_more view xs i d low)
+    ∙ ap (find nat_cmp q) (filter_map-append (slice_if s) (map view (take i xs)) (view (get_or xs i d) ∷ [])
+    ∙ ap (λ o. slices_in (map view (take i xs)) s ++ cons_option o []) some)
+    ∙ find-push (slices_in (map view (take i xs)) s) k v q
+
+-- ---- a new slice
+
+same_exponent : (q k : ℕ) → eq_by_cmp nat_cmp q k ≡ true → q ≡ k
+same_exponent q k h = nat_cmp-IsAntisymmetric q k (equal (nat_cmp q k) h)
+  where
+    equal : (o : Ordering) → is_eq o ≡ true → o ≡ Equal
+    equal Less h = absurd (false≢true h)
+    equal Equal h = refl
+    equal Greater h = absurd (false≢true h)
+
+pub new_slice : (old new : List (ℕ × Bor (List ℕ))) (k : ℕ) (b : Bor (List ℕ)) → is_some (lookup (eq_by_cmp nat_cmp k) old) ≡ false
+    → ((q : ℕ) → lookup (eq_by_cmp nat_cmp q) new ≡ cond (eq_by_cmp nat_cmp k q) (Some b) (lookup (eq_by_cmp nat_cmp q) old)) → KeepsFirst old new k b.now
+new_slice old new k b none puts q =
+    ap (option_map (λ x. x.now)) (puts q ∙ ap (λ t. cond t (Some b) (lookup (eq_by_cmp nat_cmp q) old)) ((eq_by_cmp_equiv nat_cmp_total).symm k q))
+    ∙ step (lookup (eq_by_cmp nat_cmp q) old) (eq_by_cmp nat_cmp q k) (λ h. ap (λ n. is_some (lookup (eq_by_cmp nat_cmp n) old)) (same_exponent q k h) ∙ none)
+  where
+    step : (o : Option (Bor (List ℕ))) (t : Bool) → (t ≡ true → is_some o ≡ false)
+        → option_map (λ x. x.now) (cond t (Some b) o) ≡ option_or (option_map (λ x. x.now) o) (if t then Some b.now else None)
+    step None true h = refl
+    step (Some x) true h = absurd (false≢true (sym (h refl)))
+    step None false h = refl
+    step (Some x) false h = refl

@@ -1,0 +1,5 @@
+pub mod Lists
+pub mod Names
+pub mod Exponents
+pub mod Refusals
+pub mod Reading

@@ -1,0 +1,41 @@
+-- Faults that are passed on.
+use Rattle.std.proofs.Common.{◌≡◌, ◌⊎◌, ◌<◌, ℕ, List, length, get_or, map, refl, sym, ap, ◌∙◌, subst, None, Some, Option, Ok, Err, Result}
+use Rattle.std.specs.Prelude.{ok_or, is_ok, IfErr}
+use Rattle.std.specs.Result.{result_ok}
+use Rattle.std.proofs.lemmas.Bool.{false≢true}
+use Rattle.par2_spec.specs.declared.Fault.{Fault}
+use Rattle.par2_spec.specs.declared.Fault.TheVariants.{Memory}
+use Rattle.par2_spec.specs.Sets.{all_some}
+use Rattle.par2_sets.specs.Steps.{Gives}
+use Rattle.par2_sets.proofs.Lists.{all_some_none}
+
+-- what a `?` answers, where a step has ended in a fault
+pub passed_on : {X Y : Type 0} (view : X → Y) (r : Result X Fault) (whole : Result Y Fault) (fault : Fault)
+    → (y : Fault) × (r ≡ Err y) × (y ≡ fault) → (fault ≡ Memory) ⊎ (whole ≡ Err fault) → Gives view r whole
+passed_on view r whole fault p h = subst (λ x. Gives view x whole) (sym (p.1 ∙ ap Err p.2)) h
+
+-- the same of a refusal alone
+pub refused_by : {X Y : Type 0} (r : Result X Fault) (whole : Result Y Fault) (fault : Fault)
+    → (y : Fault) × (r ≡ Err y) × (y ≡ fault) → (fault ≡ Memory) ⊎ (whole ≡ Err fault) → IfErr r (λ y. (y ≡ Memory) ⊎ (whole ≡ Err y))
+refused_by r whole fault p h = subst (λ x. IfErr x (λ y. (y ≡ Memory) ⊎ (whole ≡ Err y))) (sym (p.1 ∙ ap Err p.2)) h
+
+abbrev err_or : {A : Type 0} → Fault → Result A Fault → Fault
+err_or d (Ok x) = d
+err_or d (Err fault) = fault
+
+-- what was missing
+missing_one : {A : Type 0} (o : Option A) (missing fault : Fault) → ok_or o missing ≡ Err fault → (o ≡ None) × (fault ≡ missing)
+missing_one None missing fault h = (refl, sym (ap (err_or missing) h))
+missing_one (Some x) missing fault h = absurd (false≢true (sym (ap is_ok h)))
+
+-- what was there
+pub there_is : {A : Type 0} (o : Option A) (missing : Fault) (x : A) → ok_or o missing ≡ Ok x → o ≡ Some x
+there_is None missing x h = absurd (false≢true (ap is_ok h))
+there_is (Some y) missing x h = ap (λ r. result_ok r) h
+
+-- one is missing among all
+pub one_missing : {A B : Type 0} (f : A → Option B) (xs : List A) (i : ℕ) (x : A) (missing fault : Fault)
+    → i < length xs → x ≡ get_or xs i x → ok_or (f x) missing ≡ Err fault → ok_or (all_some (map f xs)) missing ≡ Err fault
+one_missing f xs i x missing fault low is h =
+    let m = missing_one (f x) missing fault h in
+    ap (λ o. ok_or o missing) (all_some_none f xs i x low is m.0) ∙ ap Err (sym m.1)

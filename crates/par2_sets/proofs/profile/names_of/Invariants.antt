@@ -1,0 +1,9 @@
+use Rattle.std.proofs.Common.{◌≡◌, true, map, take}
+use Rattle.std.specs.List.{list_all}
+use Rattle.par2_spec.specs.Names.{is_name}
+use Rattle.par2_sets.proofs.profile.names_of.Given as goal
+
+abbrev pub invariant-loop-description : goal.invariant-loop-description
+invariant-loop-description l =
+    (l.names.items ≡ map (λ d. d.name) (take l.description-index l.descriptions))
+    × (list_all (λ d. is_name d.name) (take l.description-index l.descriptions) ≡ true)

@@ -1,0 +1,40 @@
+use Rattle.std.proofs.Common.{◌≡◌, ◌∙◌, ◌++◌, ◌∷◌, [], cond, ℕ, map, get_or, length, take, Some, None, sym, ap, ap₂, subst, refl}
+use Rattle.std.specs.Prelude.{if◌then◌else◌}
+use Rattle.std.specs.Ordering.{nat_cmp, eq_by_cmp}
+use Rattle.std.specs.Option.{option_or, option_map}
+use Rattle.std.specs.FinMap.{find, entries}
+use Rattle.std.specs.List.Sorted.{IsStrictlyIncreasing}
+use Rattle.std.proofs.lemmas.List.{take_more, map_more, take_all}
+use Rattle.std.proofs.lemmas.Result.{IfOk-weaker}
+use Rattle.par2_spec.specs.Sets.{recovery_of}
+use Rattle.par2_packets.specs.View.{packet_of}
+use Rattle.par2_sets.specs.Slices.{entry_of, exponents_of, recovered_of, slice_if, slice_at}
+use Rattle.par2_sets.proofs.Exponents.{slices_in, one_more, nothing_more, first_slices, rising}
+use Rattle.par2_sets.proofs.recovery.recovery_of.Goals as goal
+use Rattle.par2_sets.proofs.recovery.recovery_of.Goals.{in-Some+in_ok-keep_first, in_default}
+
+pub loop-packet-preserved : goal.loop-packet-preserved
+loop-packet-preserved c =
+    let ps = c.args.packets.now in
+    let i = c.loop-packet.packet-index in
+    elim c.match-recovery_slice.branch [
+      | in-Some+in_ok-keep_first w ↦ λ q.
+          ap (λ m. slice_at m.entries q) w.slices-is ∙ w.in_ok-keep_first.ensures q
+          ∙ ap (λ o. option_or o (if eq_by_cmp nat_cmp q w.in-Some.exponent then Some w.in-Some.bytes.now else None)) (c.loop-packet.invariant q)
+          ∙ sym (one_more packet_of c.args.s ps i _ w.in-Some.exponent w.in-Some.bytes.now c.loop-packet-test.true (sym c.recovery_slice.ensures ∙ ap (option_map entry_of) w.in-Some.is) q)
+      | in_default w ↦ λ q.
+          ap (λ m. slice_at m.entries q) w.slices-is ∙ c.loop-packet.invariant q
+          ∙ ap (find nat_cmp q) (sym (nothing_more packet_of c.args.s ps i _ c.loop-packet-test.true (sym c.recovery_slice.ensures ∙ ap (option_map entry_of) w.in_default.is)))
+    ]
+
+pub returns : goal.returns
+returns c =
+    let ps = c.args.packets.now in
+    let es = c.loop-packet.slices.entries in
+    let whole : take c.loop-packet.packet-index ps ≡ ps = take_all c.loop-packet.packet-index ps c.loop-packet-test.false in
+    let says : (q : ℕ) → slice_at es q ≡ find nat_cmp q (slices_in (map packet_of ps) c.args.s) =
+    λ q. c.loop-packet.invariant q ∙ ap (λ xs. find nat_cmp q (slices_in (map packet_of xs) c.args.s)) whole in
+    let same = first_slices (map packet_of ps) c.args.s es c.in_order.ensures.rising says in record {
+      value = IfOk-weaker c.in_order.result (λ list. list.items ≡ es) (λ list. recovered_of list.items ≡ entries (recovery_of (map packet_of ps) c.args.s)) (λ list e. ap recovered_of e ∙ same) c.in_order.ensures.value;
+      rising = IfOk-weaker c.in_order.result (λ list. list.items ≡ es) (λ list. IsStrictlyIncreasing (exponents_of list.items)) (λ list e. subst (λ xs. IsStrictlyIncreasing (exponents_of xs)) (sym e) (rising es c.in_order.ensures.rising)) c.in_order.ensures.value;
+    }

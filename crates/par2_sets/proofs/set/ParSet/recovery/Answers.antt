@@ -1,0 +1,20 @@
+use Rattle.std.proofs.Common.{◌≡◌, ◌∙◌, ◌<◌, length, sym, ap, subst}
+use Rattle.std.specs.List.{AllByRecursion}
+use Rattle.std.specs.List.Sorted.{IsStrictlyIncreasing}
+use Rattle.std.specs.FinMap.{entries}
+use Rattle.par2_spec.specs.Rules.{IsSound}
+use Rattle.par2_sets.specs.Slices.{exponents_of, recovered_of}
+use Rattle.par2_sets.proofs.Exponents.{kept_entries, sizes_of}
+use Rattle.par2_sets.proofs.set.ParSet.recovery.Goals as goal
+
+pub returns : goal.returns
+returns c =
+    let set = c.args.self.now in
+    let items : c.deref.result.now ≡ c.self.inside.recovery.items = c.deref.ensures.value in
+    let same : recovered_of c.deref.result.now ≡ entries set.recovery =
+    ap recovered_of items ∙ sym (kept_entries c.self.inside.recovery.items c.self.invariant.rising) ∙ ap (λ s. entries s.recovery) c.self.view_is in
+    let sound = subst IsSound c.self.view_is c.self.invariant.sound in record {
+      value = same;
+      rising = subst (λ rs. IsStrictlyIncreasing (exponents_of rs)) (sym items) c.self.invariant.rising;
+      sizes = sizes_of set.slice_size (recovered_of c.deref.result.now) (subst (AllByRecursion (λ r. (r.0 < 65536) × (length r.1 ≡ set.slice_size))) (sym same) sound.recovery);
+    }

@@ -1,0 +1,68 @@
+-- Recovery slices with their exponents.
+use Rattle.std.specs.Prelude.{◌≡◌, ℕ, ◌==◌, ◌&&◌, nat_lt, List, length, map, Option, Some, None, option_map, option_and_then, if◌then◌else◌}
+use Rattle.std.specs.Option.{option_or}
+use Rattle.std.specs.Borrow.{Bor}
+use Rattle.std.specs.Prelude.{refl}
+use Rattle.std.specs.Coded.{Coded, code_by, coded×, coded_ℕ, coded_list}
+use Rattle.std.specs.FinMap as map_of
+use Rattle.std.specs.FinMap.{FinMap, from_sorted}
+use Rattle.std.specs.Map.{lookup}
+use Rattle.std.specs.Ordering.{nat_cmp, eq_by_cmp}
+use Rattle.par2_spec.specs.Checksums.{Pair}
+use Rattle.par2_spec.specs.Packets.{Packet, read_recovery}
+use Rattle.par2_spec.specs.Sets.{ParSet, Target}
+use Rattle.par2_spec.specs.Rules.{IsSound}
+use Rattle.std.specs.List.Sorted.{IsStrictlyIncreasing}
+
+abbrev pub bytes_code : Coded (List ℕ)
+bytes_code = coded_list coded_ℕ
+
+-- an exponent with its recovery slice
+abbrev pub entry_of : ℕ × Bor (List ℕ) → ℕ × List ℕ
+entry_of r = (r.0, r.1.now)
+
+abbrev pub recovered_of : List (ℕ × Bor (List ℕ)) → List (ℕ × List ℕ)
+recovered_of recovery = map entry_of recovery
+
+abbrev pub exponents_of : List (ℕ × Bor (List ℕ)) → List ℕ
+exponents_of recovery = map (λ r. r.0) (recovered_of recovery)
+
+-- the exponent and the recovery slice of a packet, where a set of slice size s has a use for it
+abbrev pub slice_if : ℕ → Packet → Option (ℕ × List ℕ)
+slice_if s p =
+    option_and_then (λ r. if nat_lt r.exponent 65536 && length r.bytes == s then Some (r.exponent, r.bytes) else None)
+    (read_recovery p.kind p.body)
+
+-- the recovery slice of an exponent
+abbrev pub slice_at : List (ℕ × Bor (List ℕ)) → ℕ → Option (List ℕ)
+slice_at recovery q = option_map (λ bytes. bytes.now) (lookup (eq_by_cmp nat_cmp q) recovery)
+
+-- where an exponent had no slice, it has this one
+abbrev pub KeepsFirst : List (ℕ × Bor (List ℕ)) → List (ℕ × Bor (List ℕ)) → ℕ → List ℕ → Type 0
+KeepsFirst old new exponent bytes =
+    (q : ℕ) → slice_at new q ≡ option_or (slice_at old q) (if eq_by_cmp nat_cmp q exponent then Some bytes else None)
+
+-- a one-to-one code of targets and sets, for models
+abbrev pub target_code : Coded Target
+target_code =
+    code_by (List ℕ × (ℕ × (List ℕ × List Pair))) (coded× bytes_code (coded× coded_ℕ (coded× bytes_code (coded_list (coded× bytes_code coded_ℕ)))))
+    (λ t. (t.name, (t.size, (t.digest, t.pairs)))) (λ p. record { name = p.0; size = p.1.0; digest = p.1.1.0; pairs = p.1.1.1 }) (λ _. refl)
+
+abbrev pub set_code : Coded ParSet
+set_code =
+    code_by (List ℕ × (ℕ × (List Target × FinMap nat_cmp (List ℕ)))) (coded× bytes_code (coded× coded_ℕ (coded× (coded_list target_code) (map_of.code coded_ℕ bytes_code))))
+    (λ s. (s.id, (s.slice_size, (s.targets, s.recovery)))) (λ p. record { id = p.0; slice_size = p.1.0; targets = p.1.1.0; recovery = p.1.1.1 }) (λ _. refl)
+
+-- a set of these parts
+abbrev pub set_view : List ℕ → ℕ → List Target → List (ℕ × Bor (List ℕ)) → ParSet
+set_view id slice_size targets recovery = record {
+  id = id;
+  slice_size = slice_size;
+  targets = targets;
+  recovery = from_sorted (recovered_of recovery);
+}
+
+-- what is true of the parts of each set
+pub record IsKept (id : List ℕ) (slice_size : ℕ) (targets : List Target) (recovery : List (ℕ × Bor (List ℕ))) : Type 0 where
+  pub rising : IsStrictlyIncreasing (exponents_of recovery)
+  pub sound : IsSound (set_view id slice_size targets recovery)

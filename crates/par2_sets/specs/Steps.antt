@@ -1,0 +1,40 @@
+-- The steps by which a set is read, each with the fault that it may end in.
+use Rattle.std.specs.Prelude.{◌≡◌, ◌⊎◌, ℕ, ◌==◌, List, [], ◌∷◌, length, map, flat_map, slice_get, Option, Some, None, Result, Ok, Err, ok_or, option_map, if◌then◌else◌}
+use Rattle.par2_spec.specs.declared.Fault.{Fault}
+use Rattle.par2_spec.specs.declared.Fault.TheVariants.{NoDescription, NoChecksums, BadSet, Memory}
+use Rattle.par2_spec.specs.Checksums.{Pair}
+use Rattle.par2_spec.specs.Slices.{slice_count}
+use Rattle.par2_spec.specs.Names.{is_name}
+use Rattle.par2_spec.specs.Folders.{Folder, bytes_of}
+use Rattle.par2_spec.specs.Packets.{Packet, DescBody, accepted}
+use Rattle.par2_spec.specs.Sets.{Target, ◌>>=◌, unless, all_some, packets_with, description_of, pairs_of, target_of, are_in_profile, other_par_names}
+
+-- what a call answers: the value of its step or the step's fault, or that there was no memory
+abbrev pub Gives : {X Y : Type 0} → (X → Y) → Result X Fault → Result Y Fault → Type 0
+Gives view (Ok x) step = step ≡ Ok (view x)
+Gives view (Err fault) step = (fault ≡ Memory) ⊎ (step ≡ Err fault)
+
+-- the identifier of the first packet of a base
+abbrev pub first_id : Folder → List ℕ → Option (List ℕ)
+first_id folder base = option_map (λ p. p.set_id) (slice_get (accepted (bytes_of folder base)) 0)
+
+-- the packets of a set, those of the base first
+abbrev pub set_packets : Folder → List ℕ → List ℕ → List Packet
+set_packets folder base id =
+    packets_with id (flat_map accepted (bytes_of folder base ∷ map (bytes_of folder) (other_par_names folder base)))
+
+-- the descriptions of the files with these File IDs
+abbrev pub described : List Packet → List (List ℕ) → Result (List DescBody) Fault
+described packets ids = ok_or (all_some (map (description_of packets) ids)) NoDescription
+
+-- the checksums of a file's slices
+abbrev pub checksums_for : List Packet → ℕ → DescBody → Result (List Pair) Fault
+checksums_for packets s d =
+    ok_or (if d.size == 0 then Some [] else pairs_of packets d.id (slice_count s d.size)) NoChecksums
+
+abbrev pub checked_target : List Packet → ℕ → DescBody → Result Target Fault
+checked_target packets s d = ok_or (target_of packets s d) NoChecksums
+
+-- the targets of these descriptions
+abbrev pub checked : List Packet → ℕ → List DescBody → Result (List Target) Fault
+checked packets s ds = ok_or (all_some (map (target_of packets s) ds)) NoChecksums

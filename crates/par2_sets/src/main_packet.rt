@@ -1,0 +1,36 @@
+//! The Main of a set.
+
+ghost use Rattle.std.specs.Prelude.{◌≡◌, map};
+ghost use Rattle.md5.specs.Md5.{md5};
+ghost use Rattle.par2_spec.specs.Sets.{main_of, is_slice_size};
+ghost use Rattle.par2_packets.specs.View.{packet_of};
+
+use md5::{Digest, Md5};
+use par2_packets::{MainView, Packet, read_main};
+
+fn digest_of(bytes: &[u8]) -> [u8; 16]
+    ensures { result ≡ md5 bytes.now }
+{
+    Md5::digest(bytes)
+}
+
+/// The first well-formed Main whose body has the identifier as its MD5.
+pub(crate) fn main_of<'a>(packets: &[Packet<'a>], id: &[u8; 16]) -> Option<MainView<'a>>
+    ensures { result ≡ main_of id.now (map packet_of packets.now) }
+{
+    for packet in packets {
+        if let Some(main) = read_main(packet)
+            && digest_of(packet.body) == *id
+        {
+            return Some(main);
+        }
+    }
+    None
+}
+
+/// Whether this is a multiple of 4 from 4 to 2^30.
+pub(crate) fn is_slice_size(s: u64) -> bool
+    ensures { result ≡ is_slice_size s }
+{
+    s % 4 == 0 && 4 <= s && s <= 1 << 30
+}

@@ -1,0 +1,94 @@
+//! The packets of a set, where the files of a folder hold them.
+
+ghost use Rattle.std.specs.Prelude.{◌≡◌, ◌++◌, ◌&&◌, not, map, IfOk, OnOk};
+ghost use Rattle.std.specs.Str.{bytes_eq};
+ghost use Rattle.par2_spec.specs.Folders.{bytes_of};
+ghost use Rattle.par2_spec.specs.Names.{is_par_name};
+ghost use Rattle.par2_spec.specs.Packets.{accepted};
+ghost use Rattle.par2_spec.specs.Sets.{packets_with, other_par_names};
+ghost use Rattle.par2_packets.specs.View.{packet_of};
+ghost use Rattle.par2_sets.specs.Steps.{first_id, set_packets};
+
+use par2_folder::{Folder, Name};
+use par2_packets::{Packet, Packets};
+use std::alloc::{AllocError, Global};
+
+// The bytes of a file, none where it is absent.
+fn bytes_of<'a>(folder: &'a Folder, name: &Name) -> &'a [u8]
+    ensures { result.now ≡ bytes_of folder.now.files name.now }
+{
+    match folder.get(name) {
+        Some(bytes) => bytes,
+        None => &[],
+    }
+}
+
+// Whether the name ends in `.par2`, in letters of either case.
+fn is_par_name(name: &Name) -> bool
+    ensures { result ≡ is_par_name name.now }
+{
+    let bytes = name.as_str().as_bytes();
+    let ending = &bytes[bytes.len().saturating_sub(5)..];
+    ending.eq_ignore_ascii_case(b".par2")
+}
+
+/// The identifier of the first packet of the base.
+pub(crate) fn first_id(folder: &Folder, base: &Name) -> Option<[u8; 16]>
+    ensures { result ≡ first_id folder.now.files base.now }
+{
+    let first = Packets::new(bytes_of(folder, base)).next()?;
+    Some(first.set_id)
+}
+
+// Adds the packets of a text that have the identifier.
+fn add_packets<'a>(
+    packets: &mut Vec<Packet<'a>>,
+    id: &[u8; 16],
+    text: &'a [u8],
+) -> Result<(), AllocError>
+    ensures { let added = packets_with id.now (accepted text.now) in
+        OnOk result (map packet_of packets.new.items ≡ map packet_of packets.old.items ++ added) }
+{
+    for packet in Packets::new(text) {
+        if packet.set_id == *id {
+            packets.push(packet)?;
+        }
+    }
+    Ok(())
+}
+
+// Whether the name is that of a `.par2` file other than the base.
+fn is_other(name: &Name, base: &Name) -> bool
+    ensures { result ≡ (is_par_name name.now && not (bytes_eq name.now base.now)) }
+{
+    is_par_name(name) && name != base
+}
+
+// The names of the other `.par2` files, in order.
+fn other_par_names(alloc: Global, folder: &Folder, base: &Name) -> Result<Vec<Name>, AllocError>
+    ensures { let all = other_par_names folder.now.files base.now in
+        IfOk result (λ names. names.items ≡ all) }
+{
+    let mut names = folder.names(alloc)?;
+    names.retain(|name| is_other(name, base));
+    Ok(names)
+}
+
+/// The packets with the identifier: those of the base, then those of each other `.par2` file, in
+/// the order of the names.
+pub(crate) fn packets_of<'a>(
+    alloc: Global,
+    folder: &'a Folder,
+    base: &Name,
+    id: &[u8; 16],
+) -> Result<Vec<Packet<'a>>, AllocError>
+    ensures { let all = set_packets folder.now.files base.now id.now in
+        IfOk result (λ packets. map packet_of packets.items ≡ all) }
+{
+    let mut packets = Vec::new(alloc);
+    add_packets(&mut packets, id, bytes_of(folder, base))?;
+    for name in &other_par_names(alloc, folder, base)? {
+        add_packets(&mut packets, id, bytes_of(folder, name))?;
+    }
+    Ok(packets)
+}

@@ -1,0 +1,109 @@
+//! The set of a base.
+
+ghost use Rattle.std.specs.Prelude.{◌≡◌, ◌⊎◌, length, Ok, Err, IfOk, IfErr};
+ghost use Rattle.std.specs.List.{AllByRecursion};
+ghost use Rattle.std.specs.List.Sorted.{IsStrictlyIncreasing};
+ghost use Rattle.std.specs.FinMap.{entries};
+ghost use Rattle.par2_spec.specs.Sets as sets;
+ghost use Rattle.par2_spec.specs.Rules.{IsSound};
+ghost use Rattle.par2_sets.specs.Slices.{recovered_of, exponents_of};
+
+use crate::Target;
+use crate::descriptions::descriptions;
+use crate::main_packet::{is_slice_size, main_of};
+use crate::packets::{first_id, packets_of};
+use crate::profile::names_in_profile;
+use crate::recovery::recovery_of;
+use crate::targets::targets_of;
+use par2_folder::{Folder, Name};
+use par2_spec::Fault;
+use par2_spec::search_laws::set_is_sound;
+use std::alloc::Global;
+use std::marker::Model;
+
+/// The set of a base. Its recovery slices stand in the folder, and none is copied.
+#[derive(Drop)]
+pub struct ParSet<'a> {
+    id: [u8; 16],
+    slice_size: u64,
+    targets: Vec<Target>,
+    recovery: Vec<(u32, &'a [u8])>,
+}
+
+impl<'a> Model for ParSet<'a> {
+    ghost use Rattle.par2_spec.specs.Sets as sets;
+    ghost use Rattle.par2_sets.specs.Slices.{set_code, set_view, IsKept};
+
+    ghost Value = { sets.ParSet };
+
+    ghost coded = { set_code };
+
+    ghost view = { λ p. set_view p.id p.slice_size p.targets.items p.recovery.items };
+
+    ghost invariant = { λ p. IsKept p.id p.slice_size p.targets.items p.recovery.items };
+}
+
+impl<'a> ParSet<'a> {
+    /// The Recovery Set ID.
+    pub fn id(&self) -> [u8; 16]
+        ensures { result ≡ self.now.id }
+    {
+        self.id
+    }
+
+    /// How many bytes a slice has.
+    pub fn slice_size(&self) -> u64
+        ensures value { result ≡ self.now.slice_size }
+        ensures sound { IsSound self.now }
+    {
+        self.slice_size
+    }
+
+    /// The files that it describes, in the order of the Main.
+    pub fn targets(&self) -> &[Target]
+        ensures value { result.now ≡ self.now.targets }
+        ensures sound { IsSound self.now }
+    {
+        &self.targets
+    }
+
+    /// The surviving recovery slices with their exponents, which rise strictly.
+    pub fn recovery(&self) -> &[(u32, &'a [u8])]
+        ensures value { recovered_of result.now ≡ entries self.now.recovery }
+        ensures rising { IsStrictlyIncreasing (exponents_of result.now) }
+        ensures sizes { let slices = recovered_of result.now in
+            AllByRecursion (λ r. length r.1 ≡ self.now.slice_size) slices }
+    {
+        &self.recovery
+    }
+}
+
+/// The set that the packets of the base and of the other `.par2` files describe, or the first part
+/// of it that is absent.
+#[tactic(auto, unfolding(par2_spec::specs::Sets::set_of, par2_spec::specs::Sets::read_set))]
+pub fn set_of<'a>(alloc: Global, folder: &'a Folder, base: &Name) -> Result<ParSet<'a>, Fault>
+    ensures refused { let read = sets.set_of folder.now.files base.now in
+        IfErr result (λ fault. (fault ≡ Fault.Memory) ⊎ (read ≡ Err fault)) }
+    ensures read { IfOk result (λ set. sets.set_of folder.now.files base.now ≡ Ok set) }
+    ensures sound { IfOk result IsSound }
+{
+    // The law says that what is read is sound.
+    set_is_sound();
+    let id = first_id(folder, base).ok_or(Fault::NoPackets)?;
+    let packets = packets_of(alloc, folder, base, &id).map_err(|_| Fault::Memory)?;
+    let main = main_of(&packets, &id).ok_or(Fault::NoMain)?;
+    let slice_size = main.slice_size();
+    if !is_slice_size(slice_size) {
+        return Err(Fault::BadSet);
+    }
+    let described = descriptions(alloc, &packets, &main)?;
+    let names = names_in_profile(alloc, slice_size, &described)?;
+    let targets = targets_of(alloc, &packets, slice_size, &described, &names)?;
+    let recovery = recovery_of(alloc, &packets, slice_size).map_err(|_| Fault::Memory)?;
+    Ok(ParSet {
+        id,
+        slice_size,
+        targets,
+        recovery,
+    })
+}

@@ -1,0 +1,100 @@
+//! The files that a set describes.
+
+ghost use Rattle.std.specs.Prelude.{◌≡◌, ◌≤◌, map};
+ghost use Rattle.par2_packets.specs.View.{packet_of};
+ghost use Rattle.par2_sets.specs.Steps.{Gives, checked, checked_target};
+
+use crate::checksums::pairs_for;
+use par2_folder::Name;
+use par2_packets::{DescView, Packet, Pair};
+use par2_spec::Fault;
+use std::alloc::Global;
+use std::marker::Model;
+
+/// A file that a set describes.
+#[derive(Debug, Drop)]
+pub struct Target {
+    name: Name,
+    size: u64,
+    digest: [u8; 16],
+    pairs: Vec<Pair>,
+}
+
+impl Model for Target {
+    ghost use Rattle.par2_spec.specs.Sets.{Target as Described};
+
+    ghost Value = { Described };
+
+    ghost view = { λ t.
+        record { name = t.name; size = t.size; digest = t.digest; pairs = t.pairs.items } };
+}
+
+impl Target {
+    pub fn name(&self) -> &Name
+        ensures { result.now ≡ self.now.name }
+    {
+        &self.name
+    }
+
+    /// How many bytes the file has.
+    pub fn size(&self) -> u64
+        ensures { result ≡ self.now.size }
+    {
+        self.size
+    }
+
+    /// The MD5 of the file.
+    pub fn digest(&self) -> [u8; 16]
+        ensures { result ≡ self.now.digest }
+    {
+        self.digest
+    }
+
+    /// The checksums of its slices, in order.
+    pub fn pairs(&self) -> &[Pair]
+        ensures { result.now ≡ self.now.pairs }
+    {
+        &self.pairs
+    }
+}
+
+// The target of a description and its name.
+fn target_of(
+    alloc: Global,
+    packets: &[Packet],
+    s: u64,
+    description: &DescView,
+    name: &Name,
+) -> Result<Target, Fault>
+    requires size { 1 ≤ s }
+    requires name { name.now ≡ description.now.name }
+    ensures { Gives (λ t. t) result (checked_target (map packet_of packets.now) s description.now) }
+{
+    Ok(Target {
+        name: name.copied(),
+        size: description.length(),
+        digest: description.md5(),
+        pairs: pairs_for(alloc, packets, s, description)?,
+    })
+}
+
+/// The targets of the descriptions and their names, in order.
+pub(crate) fn targets_of(
+    alloc: Global,
+    packets: &[Packet],
+    s: u64,
+    descriptions: &[DescView],
+    names: &[Name],
+) -> Result<Vec<Target>, Fault>
+    requires size { 1 ≤ s }
+    requires names { names.now ≡ map (λ d. d.name) descriptions.now }
+    ensures { let all = checked (map packet_of packets.now) s descriptions.now in
+        Gives (λ targets. targets.items) result all }
+{
+    let mut targets = Vec::new(alloc);
+    for (description, name) in descriptions.iter().zip(names) {
+        let target = target_of(alloc, packets, s, description, name)?;
+        targets.push(target).map_err(|_| Fault::Memory)?;
+    }
+    Ok(targets)
+}

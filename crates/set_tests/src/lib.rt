@@ -1,0 +1,7 @@
+//! Small folders whose packets describe a set, or fail to.
+#![tactic(auto)]
+
+#[cfg(test)]
+mod packets;
+#[cfg(test)]
+mod sets;
