@@ -23,4 +23,4 @@ returns c =
     let set = c.args.set.now in
     let are : c.deref.result.now ≡ survivors set =
     c.deref.ensures.value ∙ c.in_ok-exponents.ensures ∙ sym (map-map (λ (r : ℕ × List ℕ). r.0) entry_of rs) ∙ ap (map (λ (r : ℕ × List ℕ). r.0)) c.recovery.ensures.value in
-    IfOk-weaker c.rank.result _ _ (λ n e. e ∙ ap (rank c.args.lost.now) are) c.rank.ensures
+    IfOk-weaker c.rank.result _ _ (λ n e. e ∙ ap (rank c.args.lost.now) are) c.rank.ensures.rank
