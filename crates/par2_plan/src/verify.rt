@@ -35,9 +35,11 @@ fn report_with(
 /// What a verify says of the set of a base, which is searched for in the files of its targets and in further ones.
 /// Memory is answered only where a growth is refused.
 pub fn check(alloc: Global, folder: &Folder, base: &str, extras: &[String]) -> Result<Report, Fault>
-    ensures refused { let answer = report_in folder.now.files base.now (map string_bytes extras.now) in
+    ensures refused { let words = map string_bytes extras.now in
+        let answer = report_in folder.now.files base.now words in
         IfErr result (λ fault. (fault ≡ Fault.Memory) ⊎ (answer ≡ Err fault)) }
-    ensures report { let answer = report_in folder.now.files base.now (map string_bytes extras.now) in
+    ensures report { let words = map string_bytes extras.now in
+        let answer = report_in folder.now.files base.now words in
         IfOk result (λ report. answer ≡ Ok (report_of report)) }
 {
     let reading = read(alloc, folder, base, extras)?;
