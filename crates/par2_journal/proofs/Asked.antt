@@ -1,5 +1,5 @@
 -- What is asked of a session, and what it makes ready.
-use Rattle.std.proofs.Common.{◌≡◌, ◌≢◌, inl, inr, ◌<◌, ◌≤◌, List, [], ◌∷◌, length, map, Some, None, Ok, Err, true, refl, sym, ap, ◌∙◌, arith}
+use Rattle.std.proofs.Common.{◌≡◌, ◌≢◌, ◌⊎◌, inl, inr, ◌<◌, ◌≤◌, List, [], ◌∷◌, length, map, Some, None, Ok, Err, true, refl, sym, ap, ◌∙◌, arith}
 use Rattle.par2_spec.specs.Changes.{Change, Write, Replace, Rename, Remove, places_taken, are_applicable}
 use Rattle.par2_spec.specs.Commands.{Command, Do, Undo, Redo}
 use Rattle.par2_spec.specs.Refusals.{refusal}
@@ -9,6 +9,7 @@ use Rattle.par2_spec.specs.Sessions.{KeptSession, OnlyGrew, changes_asked, plann
 use Rattle.par2_spec.specs.Texts.{Step, step_of}
 use Rattle.par2_spec.proofs.FolderLaws.{takes_applicable}
 use Rattle.par2_spec.specs.declared.Fault.{Fault}
+use Rattle.par2_spec.specs.declared.Fault.TheVariants.{Memory}
 use Rattle.par2_journal.specs.Ready.{Changing, Undoing, Redoing, IsReady, next_of}
 use Rattle.par2_journal.specs.Faulted.{MayFail, MayRefuse}
 use Rattle.par2_spec.specs.History.{IsChanging}
