@@ -7,6 +7,7 @@
 //! answers want of memory.
 #![tactic(auto)]
 
+mod damaged;
 mod journals;
 mod rows;
 mod sessions;
@@ -15,6 +16,7 @@ mod verifies;
 mod wanting;
 
 use anyhow::Result;
+use damaged::damaged_stores;
 use journals::found_journals;
 use par2_folder::MemoryStore;
 use rows::{put, row};
@@ -52,5 +54,6 @@ fn main(rt: HostRuntime) -> Result<()> {
     found_journals(&rt)?;
     stopped_runs(&rt)?;
     wanting_stores(&rt)?;
-    verified_stores(&rt)
+    verified_stores(&rt)?;
+    damaged_stores(&rt)
 }
