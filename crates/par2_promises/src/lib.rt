@@ -2,6 +2,9 @@
 //! and on the folder after it. Each law is the contract of a function that only calls the laws that it follows from.
 #![tactic(auto)]
 
+pub mod choices;
 pub mod reading;
 pub mod refusals;
 pub mod restored;
+pub mod survivors;
+pub mod written;

@@ -1,4 +1,4 @@
-use Rattle.std.proofs.Common.{◌≡◌, ◌∙◌, List, ℕ, Bool, sym, subst, inl, inr, true, false}
+use Rattle.std.proofs.Common.{◌≡◌, ◌∙◌, List, sym, subst, inl, inr, true, false}
 use Rattle.std.specs.Prelude.{Some}
 use Rattle.std.specs.List.{AllByRecursion}
 use Rattle.std.specs.FinMap as map_of
