@@ -1,13 +1,16 @@
 -- The set that a repair reads, by which of its files are there.
-use Rattle.std.proofs.Common.{◌≡◌, ◌⊎◌, ℕ, ◌+◌, List, [], ◌∷◌, refl, sym, ◌∙◌, inl, inr, cond, true, false, Bool, not, ◌&&◌}
+use Rattle.std.proofs.Common.{◌≡◌, ◌⊎◌, ℕ, ◌+◌, List, [], ◌∷◌, refl, sym, ◌∙◌, subst, inl, inr, cond, true, false, Bool, not, ◌&&◌}
 use Rattle.std.specs.Prelude.{Option, Some, None, Ok, Err, position}
 use Rattle.std.specs.List.{list_all, position_from}
 use Rattle.std.proofs.lemmas.Bool.{and_parts, and_from}
 use Rattle.std.proofs.lemmas.Iterator.Adapters.{position_from-zero}
+use Rattle.par2_spec.specs.declared.Fault.{Fault}
 use Rattle.par2_spec.specs.declared.Fault.TheVariants.{NoSuchFile}
 use Rattle.par2_spec.specs.Folders.{Folder, has}
 use Rattle.par2_spec.specs.Sets.{ParSet, set_of}
 use Rattle.par2_spec.specs.Refusals.{set_in}
+use Rattle.par2_promises.specs.Faults.{is_of_reading}
+use Rattle.par2_promises.proofs.ReadSets.{set_of_answers}
 
 -- the place of the first name that is not there
 abbrev absent : Folder → List (List ℕ) → Option ℕ
@@ -51,3 +54,14 @@ module _ (folder : Folder) (base : List ℕ) (extras : List (List ℕ)) where
       step : (o : Option ℕ) → absent folder (base ∷ extras) ≡ o → (set_in folder base extras ≡ Ok set) ⊎ ((place : ℕ) × (set_in folder base extras ≡ Err (NoSuchFile place)))
       step None e = inl (read_by e ∙ reads)
       step (Some k) e = inr (0 + k, unread_by k e)
+
+  -- where none is read, the fault is one of reading
+  pub fault_of_reading : (fault : Fault) → set_in folder base extras ≡ Err fault → is_of_reading fault ≡ true
+  fault_of_reading fault unread = step (absent folder (base ∷ extras)) refl
+    where
+      step : (o : Option ℕ) → absent folder (base ∷ extras) ≡ o → is_of_reading fault ≡ true
+      step None e = set_of_answers folder base (Err fault) (sym (read_by e) ∙ unread)
+      step (Some k) e =
+          let told = sym (unread_by k e) ∙ unread in
+          let same : NoSuchFile (0 + k) ≡ fault = cc in
+          subst (λ f. is_of_reading f ≡ true) same refl

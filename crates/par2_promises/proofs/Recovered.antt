@@ -1,6 +1,6 @@
 -- The recovery slices of a set that reads are bytes of its folder's files.
 use Rattle.std.proofs.Common.{◌≡◌, ℕ, zero, suc, ◌-◌, ◌<◌, List, [], ◌∷◌, length, map, drop, refl, sym, ap, ◌∙◌, subst, T, cond, true, false, Bool, ◌&&◌, arith}
-use Rattle.std.specs.Prelude.{flat_map, nat_le, nat_lt, ◌==◌, slice_get, Some, None, Result, Ok, Err, ok_or, unwrap_or, if◌then◌else◌}
+use Rattle.std.specs.Prelude.{flat_map, nat_le, nat_lt, ◌==◌, Some, None, Ok, unwrap_or, if◌then◌else◌}
 use Rattle.std.specs.List.{AllByRecursion}
 use Rattle.std.specs.Option.{ForSome}
 use Rattle.std.specs.Str.{bytes_eq}
@@ -11,17 +11,16 @@ use Rattle.std.specs.Ordering.{nat_cmp, eq_by_cmp, is_lt, is_eq, ordering_revers
 use Rattle.std.specs.declared.cmp.Ordering.{Ordering}
 use Rattle.std.specs.declared.cmp.Ordering.TheVariants.{Less, Equal, Greater}
 use Rattle.std.specs.Cmp.{nat_cmp_total, tied_itself}
-use Rattle.par2_spec.specs.declared.Fault.{Fault}
-use Rattle.par2_spec.specs.declared.Fault.TheVariants.{NoPackets, NoMain, NoDescription, NoChecksums, BadSet}
 use Rattle.par2_spec.specs.declared.Kind.{Kind}
 use Rattle.par2_spec.specs.declared.Kind.TheVariants.{Main, FileDesc, Ifsc, Recovery, Creator, Other}
 use Rattle.par2_spec.specs.Packets.{Packet, RecoveryBody, accepted, accepted_after, begins_with_packet, claimed, first_packet, read_recovery}
 use Rattle.par2_spec.specs.Rank.{AreBytes}
 use Rattle.par2_spec.specs.Folders.{Folder, bytes_of}
-use Rattle.par2_spec.specs.Sets.{ParSet, packets_with, recovery_of, read_set, set_of, other_par_names, unless, all_some, is_slice_size, main_of, description_of, are_in_profile, target_of}
+use Rattle.par2_spec.specs.Sets.{ParSet, packets_with, recovery_of, set_of, other_par_names}
 use Rattle.par2_promises.specs.Premises.{HoldsBytes}
 use Rattle.par2_promises.proofs.Lists.{all-take, all-drop, all-filter, all-filter_map, all-image, all-map, all-flat_map}
 use Rattle.par2_promises.proofs.Texts.{bytes_of_file}
+use Rattle.par2_promises.proofs.ReadSets.{set_of_answers}
 
 -- ---- packets
 
@@ -126,49 +125,13 @@ each_has_its_own set = by_get (map_of.entries set.recovery) (own_values (map_of.
     by_get [] h = tt
     by_get (e ∷ es) h = (get-entries set.recovery e.0 ∙ h.0, by_get es h.1)
 
--- ---- a set that reads
-
-abbrev IsOfPackets : List (List ℕ) → ParSet → Type 0
-IsOfPackets texts set = (id : List ℕ) × (set.recovery ≡ recovery_of (packets_with id (flat_map accepted texts)) set.slice_size)
-
--- by whether an answer is a value
-by_answer : {A : Type 0} (answer : Result A Fault) (goal : Type 0) → ((fault : Fault) → answer ≡ Err fault → goal) → ((value : A) → answer ≡ Ok value → goal) → goal
-by_answer (Ok value) goal refused accepted = accepted value refl
-by_answer (Err fault) goal refused accepted = refused fault refl
-
-recovery_is_read : (base : List ℕ) (others : List (List ℕ)) (set : ParSet) → read_set base others ≡ Ok set → IsOfPackets (base ∷ others) set
-unfolding read_set
-recovery_is_read base others set h =
-    by_answer (ok_or (slice_get (accepted base) 0) NoPackets) goal (λ fault e. let clash = rw e at h in absurd (cc)) (λ first e.
-    let packets = packets_with first.set_id (flat_map accepted (base ∷ others)) in
-    let by_main = rw e at h in
-    by_answer (ok_or (main_of first.set_id packets) NoMain) goal (λ fault e. let clash = rw e at by_main in absurd (cc)) (λ main e.
-    let by_size = rw e at by_main in
-    by_answer (unless (is_slice_size main.slice_size) BadSet) goal (λ fault e. let clash = rw e at by_size in absurd (cc)) (λ sized e.
-    let by_descriptions = rw e at by_size in
-    by_answer (ok_or (all_some (map (description_of packets) main.ids)) NoDescription) goal (λ fault e. let clash = rw e at by_descriptions in absurd (cc)) (λ described e.
-    let by_profile = rw e at by_descriptions in
-    by_answer (unless (are_in_profile main.slice_size described) BadSet) goal (λ fault e. let clash = rw e at by_profile in absurd (cc)) (λ in_profile e.
-    let by_checksums = rw e at by_profile in
-    by_answer (ok_or (all_some (map (target_of packets main.slice_size) described)) NoChecksums) goal (λ fault e. let clash = rw e at by_checksums in absurd (cc)) (λ targets e.
-    let is = rw e at by_checksums in
-    subst (IsOfPackets (base ∷ others)) (ap value is) (first.set_id, refl)))))))
-  where
-    goal : Type 0
-    goal = IsOfPackets (base ∷ others) set
-
-    value : Result ParSet Fault → ParSet
-    value (Ok made) = made
-    value (Err fault) = set
-
 -- the recovery slices of a set that is read in a folder whose files hold bytes
 pub recovery_of_bytes : (folder : Folder) (base : List ℕ) (set : ParSet) → HoldsBytes folder → set_of folder base ≡ Ok set → AllByRecursion (λ e. AreBytes e.1) (map_of.entries set.recovery)
-unfolding set_of
 recovery_of_bytes folder base set held reads =
-    let others = map (bytes_of folder) (other_par_names folder base) in
-    let read = recovery_is_read (bytes_of folder base) others set reads in
-    let texts = bytes_of folder base ∷ others in
-    let in_texts = all-map (λ text. AllByRecursion HasBytes (accepted text)) (bytes_of folder) (λ name. packets_have 0 (bytes_of folder name) (bytes_of_file folder name held)) in
-    let in_packets = all-flat_map HasBytes accepted texts (in_texts (base ∷ other_par_names folder base)) in
+    let names = base ∷ other_par_names folder base in
+    let texts = map (bytes_of folder) names in
+    let read = set_of_answers folder base (Ok set) reads in
+    let in_texts = all-map (λ text. AllByRecursion HasBytes (accepted text)) (bytes_of folder) (λ name. packets_have 0 (bytes_of folder name) (bytes_of_file folder name held)) names in
+    let in_packets = all-flat_map HasBytes accepted texts in_texts in
     let kept = all-filter HasBytes (λ p. bytes_eq p.set_id read.0) (flat_map accepted texts) in_packets in
     subst (λ recovery. AllByRecursion IsOfBytes (map_of.entries recovery)) (sym read.1) (recovery_has (packets_with read.0 (flat_map accepted texts)) set.slice_size kept)

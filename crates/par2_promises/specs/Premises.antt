@@ -8,13 +8,16 @@ use Rattle.par2_spec.specs.Sets.{MadeFrom}
 use Rattle.par2_spec.specs.Search.{candidates, NoCollision}
 use Rattle.par2_spec.specs.Rules.{AreFew}
 
--- the set of the base was made from these files with slices of s bytes, and what a repair finds of them is true
-pub record IsTrueTo (folder : Folder) (base : List ℕ) (extras : List (List ℕ)) (originals : List File) (s : ℕ) : Type 0 where
+-- the set of the base was made from these files, cut into slices of s bytes, and what a repair
+-- finds of them is true
+pub record IsTrueTo (folder : Folder) (base : List ℕ) (extras : List (List ℕ))
+    (originals : List File) (s : ℕ) : Type 0 where
   pub made : MadeFrom folder base originals s
   -- the files hold bytes
   pub bytes : AllByRecursion (λ file. AreBytes file.1) originals
   -- a window with the checksums of a slice is that slice
-  pub told : NoCollision folder (candidates folder made.set extras) s (all_slices s originals)
+  pub no_collision : NoCollision folder (candidates folder made.set extras) s (all_slices s originals)
+  -- the numbers of asides are written in full
   pub few : AreFew folder made.set
 
 -- each file of the folder holds bytes

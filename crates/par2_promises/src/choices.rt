@@ -17,8 +17,9 @@ use crate::survivors::what_survives_is_texts;
 use par2_spec::rank_laws::two_lists_agree;
 use par2_spec::search_laws::set_is_sound;
 
-/// Where a repair is refused as not repairable, at least two lists of slices agree with the known slices and with the
-/// recovery slices of the kept exponents, also where the surviving recovery slices contradict each other.
+/// Where a repair is refused as not repairable, at least two lists of slices agree with the known
+/// slices and with the recovery slices of the kept exponents, also where the surviving recovery
+/// slices contradict each other.
 pub fn refused_repair_leaves_two_lists()
     ensures { (folder : Folder) (base : List ℕ) (extras : List (List ℕ)) (purge : Bool)
         (set : ParSet) (missing rank : ℕ) → HoldsBytes folder → set_in folder base extras ≡ Ok set

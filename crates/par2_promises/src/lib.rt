@@ -1,5 +1,6 @@
-//! What a repair promises, over the definitions: the laws of `par2_spec` composed on what a command is refused for
-//! and on the folder after it. Each law is the contract of a function that only calls the laws that it follows from.
+//! What a repair promises, over the definitions: the laws of `par2_spec` composed on what a repair
+//! is refused for and on the folder after it. Each law is the contract of a function that does
+//! nothing but call the laws that it follows from.
 #![tactic(auto)]
 
 pub mod choices;

@@ -14,7 +14,8 @@ ghost use Rattle.par2_spec.specs.Refusals.{repair_refusal};
 
 use par2_spec::rank_laws::tests_say_the_words;
 
-/// Where a repair is accepted, the lost slices are determined, and each file that is written has its digest.
+/// Where a repair is accepted, the lost slices are determined, and each file that it writes from
+/// slices has its digest.
 pub fn accepted_repair_is_right()
     ensures repairable { (folder : Folder) (set : ParSet) (searched : List (List ℕ))
         → repair_refusal folder set searched ≡ None
@@ -26,7 +27,8 @@ pub fn accepted_repair_is_right()
     tests_say_the_words();
 }
 
-/// Where a repair fails, the lost slices are determined, and a file that would be written has another digest.
+/// Where a repair fails, the lost slices are determined, and a file that it would write has another
+/// digest.
 pub fn failed_repair_is_wrong()
     ensures repairable { (folder : Folder) (set : ParSet) (searched : List (List ℕ))
         → repair_refusal folder set searched ≡ Some RepairFailed

@@ -48,8 +48,8 @@ pub fn accepted_repair_leaves_the_files()
     repair_leaves_the_files();
 }
 
-/// A repair is refused as not repairable only where other slices than those of the files, too, agree with all that
-/// is found.
+/// A repair is refused as not repairable only where other slices than those of the files, too,
+/// agree with all that is found.
 pub fn refused_repair_leaves_a_choice()
     ensures { (folder : Folder) (base : List ℕ) (extras : List (List ℕ)) (purge : Bool)
         (files : List File) (s missing rank : ℕ) (original : IsTrueTo folder base extras files s)

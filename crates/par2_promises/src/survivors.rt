@@ -11,8 +11,8 @@ ghost use Rattle.par2_promises.specs.Slices.{recovery_slice};
 
 use par2_spec::search_laws::set_is_sound;
 
-/// Where a folder's files hold bytes, the known slices and the recovery slices of a set that reads are texts of bytes
-/// of the slice size.
+/// Where the folder's files hold bytes, the known slices and the recovery slices of a set are texts
+/// of bytes of the slice size.
 pub fn what_survives_is_texts()
     ensures { (folder : Folder) (base : List ℕ) (set : ParSet) (searched : List (List ℕ))
         → HoldsBytes folder → set_of folder base ≡ Ok set

@@ -32,7 +32,8 @@ pub fn rebuilt_slices_agree_with_what_survives()
     rebuilt_slices_agree();
 }
 
-/// Each file that a repair writes from slices has the described length and, where it is accepted, the described MD5.
+/// Each file that a repair writes from slices has the described length and, where the repair is
+/// accepted, the described MD5.
 pub fn written_files_are_as_described()
     ensures lengths { (folder : Folder) (base : List ℕ) (extras : List (List ℕ)) (set : ParSet)
         → HoldsBytes folder → set_in folder base extras ≡ Ok set

@@ -2,4 +2,4 @@ use Rattle.par2_promises.proofs.restored.refused_repair_leaves_a_choice.Goals as
 
 pub returns : goal.returns
 returns c folder base extras purge files s missing rank original refused =
-    c.refused_repair_has_a_choice.ensures folder base extras purge files s missing rank original.made original.told original.bytes refused
+    c.refused_repair_has_a_choice.ensures folder base extras purge files s missing rank original.made original.no_collision original.bytes refused
