@@ -6,6 +6,6 @@
 pub mod choices;
 pub mod reading;
 pub mod refusals;
-pub mod restored;
+pub mod restored_files;
 pub mod survivors;
-pub mod written;
+pub mod written_files;

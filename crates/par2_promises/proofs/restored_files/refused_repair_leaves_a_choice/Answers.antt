@@ -1,4 +1,4 @@
-use Rattle.par2_promises.proofs.restored.refused_repair_leaves_a_choice.Goals as goal
+use Rattle.par2_promises.proofs.restored_files.refused_repair_leaves_a_choice.Goals as goal
 
 pub returns : goal.returns
 returns c folder base extras purge files s missing rank original refused =

@@ -4,7 +4,7 @@ use Rattle.std.proofs.lemmas.Bool.{both_ways}
 use Rattle.par2_spec.specs.Search.{candidates}
 use Rattle.par2_spec.specs.Repairs.{rebuilt_targets}
 use Rattle.par2_promises.proofs.Causes.{has_digest}
-use Rattle.par2_promises.proofs.restored.repair_never_fails.Goals as goal
+use Rattle.par2_promises.proofs.restored_files.repair_never_fails.Goals as goal
 
 pub returns : goal.returns
 returns c folder base extras purge files s original refused =

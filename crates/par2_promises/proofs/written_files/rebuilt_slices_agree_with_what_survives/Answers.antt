@@ -1,7 +1,7 @@
 use Rattle.std.specs.FinMap as map_of
 use Rattle.par2_spec.specs.Search.{known}
 use Rattle.par2_promises.specs.Slices.{recovery_slice}
-use Rattle.par2_promises.proofs.written.rebuilt_slices_agree_with_what_survives.Goals as goal
+use Rattle.par2_promises.proofs.written_files.rebuilt_slices_agree_with_what_survives.Goals as goal
 
 pub returns : goal.returns
 returns c folder base set searched held reads =

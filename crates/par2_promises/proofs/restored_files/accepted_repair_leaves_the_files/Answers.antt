@@ -6,7 +6,7 @@ use Rattle.par2_spec.specs.Folders.{Folder, File}
 use Rattle.par2_spec.specs.Search.{candidates}
 use Rattle.par2_spec.specs.Commands.{Repair}
 use Rattle.par2_spec.specs.Refusals.{after}
-use Rattle.par2_promises.proofs.restored.accepted_repair_leaves_the_files.Goals as goal
+use Rattle.par2_promises.proofs.restored_files.accepted_repair_leaves_the_files.Goals as goal
 
 -- the folder has each file with its bytes
 abbrev HasFiles : List File → Folder → Type 0
