@@ -8,7 +8,7 @@ use Rattle.std.specs.Str.{bytes_eq}
 use Rattle.std.proofs.lemmas.List.{map-append}
 use Rattle.std.proofs.lemmas.Simd.{map-map}
 use Rattle.par2_spec.proofs.FolderLaws.{effects-append, are_applicable-append}
-use Rattle.std.proofs.lemmas.Bool.{and_parts, or_parts, or_cases, or_left, or_right, or_from, and_from, false_from_ne_true, cases_Bool, not_from_false}
+use Rattle.std.proofs.lemmas.Bool.{and_parts, and_right, or_parts, or_cases, or_left, or_right, or_from, and_from, false_from_ne_true, cases_Bool, not_from_false}
 use Rattle.par2_spec.specs.Names.{is_among, is_par_name}
 use Rattle.par2_spec.specs.Folders.{Folder, has, bytes_of, names, File, laid_over, without}
 use Rattle.par2_spec.specs.Changes.{Write, Rename, Remove, effects, are_applicable}
@@ -518,6 +518,19 @@ module _ (folder : Folder) (set : ParSet) (given : List (List ℕ)) (fits : Fits
   left_moved : (q : List ℕ) → is_among left q ≡ true → is_among moved q ≡ true
   left_moved q h = (and_parts _ _ (sym (left_is q) ∙ h)).0
 
+  -- nothing stands under the aside of a match
+  pub vacant_aside : (q : List ℕ) → is_among taken_names q ≡ true → has (after_repair folder set given) (off q) ≡ false
+  vacant_aside q h =
+      after_other (off q) (aside_no_target q)
+      ∙ or_from (is_among (map off left) (off q)) (not (is_among gone_names (off q)) && has folder (off q)) (false_from_ne_true (is_among (map off left) (off q)) not_left)
+      (and_right (not (is_among gone_names (off q))) (has folder (off q)) (aside_free q))
+    where
+      not_left : is_among (map off left) (off q) ≡ true → ⊥
+      not_left i =
+          let r = image_of off left (off q) i in
+          let mine = subst (λ x. is_among left x ≡ true) (sym (fits.aside_one q r.0 r.2)) r.1 in
+          clash h (false_from_not (is_among taken_names q) (and_parts (is_among moved q) (not (is_among taken_names q)) (sym (left_is q) ∙ mine)).1)
+
   par_left_par : (q : List ℕ) → is_among par_left q ≡ true → is_among (par_files folder set) q ≡ true
   par_left_par q h = (and_parts _ _ (sym (par_left_is q) ∙ h)).0
 
@@ -651,6 +664,10 @@ module _ (folder : Folder) (set : ParSet) (given : List (List ℕ)) (fits : Fits
   written_hold after [] h = tt
   written_hold after (c ∷ cs) h = (h.0, written_hold after cs h.1)
 
+  none_there : (o : Option (List ℕ)) → is_some o ≡ false → o ≡ None
+  none_there None h = refl
+  none_there (Some bytes) h = absurd (false_true (sym h))
+
   pub repaired_holds : HoldsRepaired folder set given (after_repair folder set given)
   repaired_holds = record {
     matched_ones = matched_hold folder (after_repair folder set given) (matches folder set given)
@@ -664,6 +681,7 @@ module _ (folder : Folder) (set : ParSet) (given : List (List ℕ)) (fits : Fits
     asides = λ name h k.
         unwanted (aside folder set name) (false_from_ne_true _ (λ i. clash (wanted_is_target folder set given fits (aside folder set name) i) (aside_no_target folder set given fits name)))
         ∙ get_under (aside folder set) folder base (left folder set given fits) fits.aside_one name (left_is folder set given fits name ∙ and_from _ _ h (not_from_false _ k));
+    taken_asides = λ name h k. none_there (map_of.get (after_repair folder set given) (aside folder set name)) (vacant_aside folder set given fits name k);
     moved_away = λ name h k.
         unwanted name k ∙ unaside name (present_no_aside folder set given fits (left folder set given fits) name (match_there folder set given fits name h))
         ∙ get_without (gone_names folder set given fits) folder name

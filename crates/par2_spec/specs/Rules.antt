@@ -78,6 +78,10 @@ pub record HoldsRepaired (folder : Folder) (set : ParSet) (searched : List (List
   pub written_ones : AllByRecursion (λ c. map_of.get after c.0.name ≡ Some c.1) (rebuilt_targets folder set searched)
   -- under its aside each file that was put aside and is nobody's match
   pub asides : (name : List ℕ) → IsTrue (is_among (put_aside folder set) name) → IsFalse (is_among (matching folder set searched) name) → map_of.get after (aside folder set name) ≡ Some (bytes_of folder name)
+  -- nothing under its aside, where a file that was put aside is a match
+  pub taken_asides : (name : List ℕ) → IsTrue (is_among (put_aside folder set) name)
+      → IsTrue (is_among (matching folder set searched) name)
+      → map_of.get after (aside folder set name) ≡ None
   -- no match under its old name, where that is no needing target's
   pub moved_away : (name : List ℕ) → IsTrue (is_among (matching folder set searched) name) → IsFalse (is_among (needing_names folder set) name) → map_of.get after name ≡ None
   -- each other file as it was

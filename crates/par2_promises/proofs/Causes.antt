@@ -1,0 +1,77 @@
+-- What each answer to a repair says of the three tests of its set.
+use Rattle.std.proofs.Common.{◌≡◌, ℕ, List, [], ◌∷◌, refl, true, false, Bool, not}
+use Rattle.std.specs.Prelude.{Option, Some, None}
+use Rattle.std.specs.List.{list_all, AllByRecursion}
+use Rattle.std.specs.Str.{bytes_eq}
+use Rattle.std.proofs.lemmas.Bool.{and_parts}
+use Rattle.std.proofs.lemmas.Slice.Eq.{bytes_eq-Decides}
+use Rattle.md5.specs.Md5.{md5}
+use Rattle.par2_spec.specs.declared.Fault.{Fault}
+use Rattle.par2_spec.specs.declared.Fault.TheVariants.{NameTooLong, NotRepairable, RepairFailed}
+use Rattle.par2_spec.specs.Faults.{first_fault, fault_where}
+use Rattle.par2_spec.specs.Rank.{is_repairable, rank}
+use Rattle.par2_spec.specs.Folders.{Folder}
+use Rattle.par2_spec.specs.Sets.{ParSet, Target}
+use Rattle.par2_spec.specs.Search.{known, lost, survivors}
+use Rattle.par2_spec.specs.Repairs.{rebuilt_targets}
+use Rattle.par2_spec.specs.Refusals.{repair_refusal}
+
+-- the answer by whether the set is repairable, a name is too long, and the digests are right
+abbrev answer : (repairable long right : Bool) (missing rank : ℕ) → Option Fault
+answer repairable long right missing rank =
+    first_fault (
+    fault_where (not repairable) (NotRepairable missing rank)
+    ∷ fault_where long NameTooLong
+    ∷ fault_where (not right) RepairFailed
+    ∷ [])
+
+by_none : (repairable long right : Bool) (m r : ℕ) → answer repairable long right m r ≡ None → (repairable ≡ true) × (right ≡ true)
+by_none true false true m r e = (refl, refl)
+by_none true false false m r e = cc
+by_none true true right m r e = cc
+by_none false long right m r e = cc
+
+by_failed : (repairable long right : Bool) (m r : ℕ) → answer repairable long right m r ≡ Some RepairFailed → (repairable ≡ true) × (right ≡ false)
+by_failed true false false m r e = (refl, refl)
+by_failed true false true m r e = cc
+by_failed true true right m r e = cc
+by_failed false long right m r e = cc
+
+by_unrepairable : (repairable long right : Bool) (m r missing rank : ℕ) → answer repairable long right m r ≡ Some (NotRepairable missing rank) → repairable ≡ false
+by_unrepairable false long right m r missing rank e = refl
+by_unrepairable true false true m r missing rank e = cc
+by_unrepairable true false false m r missing rank e = cc
+by_unrepairable true true right m r missing rank e = cc
+
+-- a file that is written has its digest
+abbrev pub has_digest : Target × List ℕ → Bool
+has_digest c = bytes_eq (md5 c.1) c.0.digest
+
+module _ (folder : Folder) (set : ParSet) (searched : List (List ℕ)) where
+  abbrev missing : List ℕ
+  missing = lost (known folder set searched)
+
+  abbrev repairable : Bool
+  repairable = is_repairable missing (survivors set)
+
+  abbrev right : Bool
+  right = list_all has_digest (rebuilt_targets folder set searched)
+
+  pub accepted_by : repair_refusal folder set searched ≡ None → (repairable ≡ true) × (right ≡ true)
+  unfolding repair_refusal
+  accepted_by e = by_none repairable _ right _ _ e
+
+  pub failed_by : repair_refusal folder set searched ≡ Some RepairFailed → (repairable ≡ true) × (right ≡ false)
+  unfolding repair_refusal
+  failed_by e = by_failed repairable _ right _ _ e
+
+  pub unrepairable_by : (missing rank : ℕ) → repair_refusal folder set searched ≡ Some (NotRepairable missing rank) → repairable ≡ false
+  unfolding repair_refusal
+  unrepairable_by m r e = by_unrepairable repairable _ _ _ _ m r e
+
+-- each of them
+pub have_digests : (cs : List (Target × List ℕ)) → list_all has_digest cs ≡ true → AllByRecursion (λ c. md5 c.1 ≡ c.0.digest) cs
+have_digests [] h = tt
+have_digests (c ∷ cs) h =
+    let both = and_parts (has_digest c) (list_all has_digest cs) h in
+    ((bytes_eq-Decides (md5 c.1) c.0.digest).0 both.0, have_digests cs both.1)

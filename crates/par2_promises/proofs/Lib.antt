@@ -1,0 +1,9 @@
+pub mod Present
+pub mod Causes
+pub mod Lists
+pub mod Texts
+pub mod ReadSets
+pub mod Recovered
+pub mod SliceSizes
+pub mod Surviving
+pub mod Agreeing
