@@ -1,0 +1,13 @@
+-- Why files can't be put aside.
+use Rattle.std.specs.Prelude.{ℕ, nat_lt, List, length, Option}
+use Rattle.std.specs.List.{list_any}
+use Rattle.par2_spec.specs.Faults.{fault_where}
+use Rattle.par2_spec.specs.Folders.{Folder}
+use Rattle.par2_spec.specs.Repairs.{aside}
+use Rattle.par2_spec.specs.Sets.{ParSet}
+use Rattle.par2_spec.specs.declared.Fault.{Fault}
+use Rattle.par2_spec.specs.declared.Fault.TheVariants.{NameTooLong}
+
+-- the aside of one of these names would be longer than a name may be
+abbrev pub long_aside : Folder → ParSet → List (List ℕ) → Option Fault
+long_aside folder set names = fault_where (list_any (λ name. nat_lt 255 (length (aside folder set name))) names) NameTooLong

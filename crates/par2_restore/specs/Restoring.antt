@@ -1,0 +1,37 @@
+-- What a repair gives back of a set's files, and why it refuses.
+use Rattle.std.specs.Prelude.{ℕ, not, List, length, map, filter, Option}
+use Rattle.std.specs.List.{list_all}
+use Rattle.std.specs.Str.{bytes_eq}
+use Rattle.md5.specs.Md5.{md5}
+use Rattle.par2_spec.specs.Faults.{fault_where}
+use Rattle.par2_spec.specs.Folders.{File}
+use Rattle.par2_spec.specs.Names.{is_among}
+use Rattle.par2_spec.specs.Rank.{is_repairable, rank}
+use Rattle.par2_spec.specs.Repairs.{files_of_slices}
+use Rattle.par2_spec.specs.Search.{all_pairs, lost, survivors}
+use Rattle.par2_spec.specs.Sets.{ParSet, Target}
+use Rattle.par2_spec.specs.Windows.{found}
+use Rattle.par2_spec.specs.declared.Fault.{Fault}
+use Rattle.par2_spec.specs.declared.Fault.TheVariants.{NotRepairable, RepairFailed}
+
+-- the slices of a set, where they are found in these texts
+abbrev pub known_in : ParSet → List (List ℕ) → List (Option (List ℕ))
+known_in set texts = map (found set.slice_size texts) (all_pairs set)
+
+-- why the lost slices can't be rebuilt, if they can't
+abbrev pub undetermined : ParSet → List (Option (List ℕ)) → Option Fault
+undetermined set known =
+    let missing = lost known in
+    fault_where (not (is_repairable missing (survivors set))) (NotRepairable (length missing) (rank missing (survivors set)))
+
+-- the targets of these names, with their bytes by all slices
+abbrev pub targets_among : ParSet → List (List ℕ) → List (List ℕ) → List (Target × List ℕ)
+targets_among set slices names = filter (λ c. is_among names c.0.name) (files_of_slices set slices)
+
+-- the files of such targets
+abbrev pub files_of : List (Target × List ℕ) → List File
+files_of targets = map (λ c. (c.0.name, c.1)) targets
+
+-- why they are refused, if they are: one has another digest than its target
+abbrev pub wrong_digest : List (Target × List ℕ) → Option Fault
+wrong_digest targets = fault_where (not (list_all (λ c. bytes_eq (md5 c.1) c.0.digest) targets)) RepairFailed
