@@ -1,8 +1,9 @@
 //! Which names a repair gives to the files that it puts aside, and which files are a set's par files.
 #![tactic(auto)]
 
-mod asides;
-mod par_files;
+mod listing;
+mod numbering;
+mod targets;
 
-pub use asides::asides;
-pub use par_files::par_files;
+pub use numbering::asides;
+pub use listing::par_files;

@@ -1,0 +1,68 @@
+//! The par files of a set.
+ghost use Rattle.std.specs.Prelude.{◌≡◌, ◌&&◌, IfOk};
+ghost use Rattle.std.specs.List.{list_any, list_all};
+ghost use Rattle.std.specs.Str.{bytes_eq};
+ghost use Rattle.par2_spec.specs.Folders as folders;
+ghost use Rattle.par2_spec.specs.Names as names;
+ghost use Rattle.par2_spec.specs.Packets.{accepted};
+ghost use Rattle.par2_spec.specs.Repairs as repairs;
+ghost use Rattle.par2_spec.specs.Rules.{target_names};
+ghost use Rattle.par2_asides.specs.Asides.{HoldsNames};
+
+use crate::targets::target_names;
+use par2_folder::{Folder, Name};
+use par2_packets::Packets;
+use par2_sets::ParSet;
+use std::alloc::{AllocError, Global};
+use std::collections::BTreeSet;
+
+// Whether the name ends in `.par2`, in letters of either case.
+fn is_par_name(name: &Name) -> bool
+    ensures { result ≡ names.is_par_name name.now }
+{
+    let bytes = name.as_str().as_bytes();
+    let ending = &bytes[bytes.len().saturating_sub(5)..];
+    ending.eq_ignore_ascii_case(b".par2")
+}
+
+// Whether a file has packets, all of the set with this identifier.
+fn has_only_packets_of(bytes: &[u8], id: &[u8; 16]) -> bool
+    ensures { let packets = accepted bytes.now in
+        result ≡ (list_any (λ p. bytes_eq p.set_id id.now) packets
+            && list_all (λ p. bytes_eq p.set_id id.now) packets) }
+{
+    let mut found = false;
+    for packet in Packets::new(bytes) {
+        if packet.set_id != *id {
+            return false;
+        }
+        found = true;
+    }
+    found
+}
+
+// Whether the name is that of a par file of the set.
+fn is_par_file(folder: &Folder, set: &ParSet, targets: &BTreeSet<Name>, name: &Name) -> bool
+    requires { HoldsNames targets.now (target_names set.now) }
+    ensures { result ≡ repairs.is_par_file folder.now.files set.now name.now }
+{
+    if !is_par_name(name) || targets.contains(name) {
+        return false;
+    }
+    match folder.get(name) {
+        Some(bytes) => has_only_packets_of(bytes, &set.id()),
+        None => false,
+    }
+}
+
+/// The names of the set's par files, in order: they end in `.par2`, have packets of the set and of no other, and aren't
+/// targets.
+pub fn par_files(alloc: Global, folder: &Folder, set: &ParSet) -> Result<Vec<Name>, AllocError>
+    ensures { let files = repairs.par_files folder.now.files set.now in
+        IfOk result (λ names. names.items ≡ files) }
+{
+    let targets = target_names(alloc, set)?;
+    let mut names = folder.names(alloc)?;
+    names.retain(|name| is_par_file(folder, set, &targets, name));
+    Ok(names)
+}

@@ -1,0 +1,96 @@
+//! The names under which files are put aside.
+ghost use Rattle.std.specs.Prelude.{◌≡◌, ◌⊎◌, ◌+◌, ◌∷◌, [], Some, None, IsTrue, length, map, string_bytes, IfOk, IfErr};
+ghost use Rattle.par2_spec.specs.Names as names;
+ghost use Rattle.par2_spec.specs.Names.{is_among};
+ghost use Rattle.par2_spec.specs.Repairs.{aside};
+ghost use Rattle.par2_spec.specs.Rules.{AreFew, taken_for, target_names};
+ghost use Rattle.par2_asides.specs.Asides.{HoldsNames, long_aside};
+
+use crate::targets::target_names;
+use par2_folder::{Folder, Name};
+use par2_sets::ParSet;
+use par2_spec::Fault;
+use par2_spec::repair_laws::aside_is_found;
+use std::alloc::{AllocError, Global};
+use std::collections::BTreeSet;
+
+// The text NAME.n.
+fn numbered(alloc: Global, name: &Name, n: usize) -> Result<String, AllocError>
+    ensures { IfOk result (λ text. string_bytes text ≡ names.numbered name.now n) }
+{
+    format!(in alloc; "{}.{n}", name.as_str())
+}
+
+// Whether the name is in the folder or a target's.
+fn is_taken(folder: &Folder, set: &ParSet, targets: &BTreeSet<Name>, name: &Name) -> bool
+    requires { HoldsNames targets.now (target_names set.now) }
+    ensures { result ≡ is_among (taken_for folder.now.files set.now) name.now }
+{
+    folder.get(name).is_some() || targets.contains(name)
+}
+
+// The aside of a name, which has one of the first `most` numbers.
+fn aside(
+    alloc: Global,
+    folder: &Folder,
+    set: &ParSet,
+    targets: &BTreeSet<Name>,
+    most: usize,
+    name: &Name,
+) -> Result<Name, Fault>
+    requires targets { HoldsNames targets.now (target_names set.now) }
+    requires most { most ≡ length (taken_for folder.now.files set.now) + 1 }
+    ensures refused { let long = long_aside folder.now.files set.now (name.now ∷ []) in
+        IfErr result (λ fault. (fault ≡ Fault.Memory) ⊎ (long ≡ Some fault)) }
+    ensures aside { IfOk result (λ other. other ≡ aside folder.now.files set.now name.now) }
+{
+    // By this law one of the numbers is free.
+    aside_is_found();
+    for n in 1..=most {
+        let text = numbered(alloc, name, n).map_err(|_| Fault::Memory)?;
+        // No file and no target has a text that is no name.
+        let other = Name::new(&text).map_err(|_| Fault::NameTooLong)?;
+        if !is_taken(folder, set, targets, &other) {
+            return Ok(other);
+        }
+    }
+    unreachable!()
+}
+
+// How many numbers to try for an aside: one more than there are names to keep away from.
+fn tries(alloc: Global, folder: &Folder, set: &ParSet) -> Result<usize, Fault>
+    ensures refused { IfErr result (λ fault. fault ≡ Fault.Memory) }
+    ensures count { let taken = taken_for folder.now.files set.now in
+        IfOk result (λ most. most ≡ length taken + 1) }
+{
+    let files = folder.names(alloc).map_err(|_| Fault::Memory)?.len();
+    let taken = files.checked_add(set.targets().len());
+    taken
+        .and_then(|taken| taken.checked_add(1))
+        .ok_or(Fault::Memory)
+}
+
+/// The names under which the files of these names are put aside: each the name with the least number from 1 on that is
+/// neither in the folder nor a target's.
+pub fn asides(
+    alloc: Global,
+    folder: &Folder,
+    set: &ParSet,
+    names: &[Name],
+) -> Result<Vec<Name>, Fault>
+    ensures refused { let long = long_aside folder.now.files set.now names.now in
+        IfErr result (λ fault. (fault ≡ Fault.Memory) ⊎ (long ≡ Some fault)) }
+    ensures short { IfOk result (λ _. long_aside folder.now.files set.now names.now ≡ None) }
+    ensures names { IfOk result (λ asides.
+        asides.items ≡ map (aside folder.now.files set.now) names.now) }
+    ensures few { IfOk result (λ _. AreFew folder.now.files set.now) }
+{
+    let targets = target_names(alloc, set).map_err(|_| Fault::Memory)?;
+    let most = tries(alloc, folder, set)?;
+    let mut asides = Vec::with_capacity(alloc, names.len()).map_err(|_| Fault::Memory)?;
+    for name in names {
+        let other = aside(alloc, folder, set, &targets, most, name)?;
+        asides.push(other).map_err(|_| Fault::Memory)?;
+    }
+    Ok(asides)
+}
