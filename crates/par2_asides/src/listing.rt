@@ -41,18 +41,21 @@ fn has_only_packets_of(bytes: &[u8], id: &[u8; 16]) -> bool
     found
 }
 
+// The bytes of a file, none where it is absent.
+fn bytes_of<'a>(folder: &'a Folder, name: &Name) -> &'a [u8]
+    ensures { result.now ≡ folders.bytes_of folder.now.files name.now }
+{
+    folder.get(name).unwrap_or(&[])
+}
+
 // Whether the name is that of a par file of the set.
 fn is_par_file(folder: &Folder, set: &ParSet, targets: &BTreeSet<Name>, name: &Name) -> bool
     requires { HoldsNames targets.now (target_names set.now) }
     ensures { result ≡ repairs.is_par_file folder.now.files set.now name.now }
 {
-    if !is_par_name(name) || targets.contains(name) {
-        return false;
-    }
-    match folder.get(name) {
-        Some(bytes) => has_only_packets_of(bytes, &set.id()),
-        None => false,
-    }
+    is_par_name(name)
+        && !targets.contains(name)
+        && has_only_packets_of(bytes_of(folder, name), &set.id())
 }
 
 /// The names of the set's par files, in order: they end in `.par2`, have packets of the set and of no other, and aren't

@@ -1,12 +1,14 @@
 //! The names under which files are put aside.
-ghost use Rattle.std.specs.Prelude.{◌≡◌, ◌⊎◌, ◌+◌, ◌∷◌, [], Some, None, IsTrue, length, map, string_bytes, IfOk, IfErr};
+ghost use Rattle.std.specs.Prelude.{◌≡◌, ◌⊎◌, ◌<◌, ◌+◌, ◌∷◌, [], Some, None, IsTrue, length, map, string_bytes, IfOk, IfErr};
 ghost use Rattle.par2_spec.specs.Names as names;
-ghost use Rattle.par2_spec.specs.Names.{is_among};
+ghost use Rattle.std.specs.List.{list_all};
+ghost use Rattle.par2_spec.specs.Names.{is_among, is_name};
 ghost use Rattle.par2_spec.specs.Repairs.{aside};
 ghost use Rattle.par2_spec.specs.Rules.{AreFew, taken_for, target_names};
 ghost use Rattle.par2_asides.specs.Asides.{HoldsNames, long_aside};
 
 use crate::targets::target_names;
+use itoa::Buffer;
 use par2_folder::{Folder, Name};
 use par2_sets::ParSet;
 use par2_spec::Fault;
@@ -15,10 +17,24 @@ use std::alloc::{AllocError, Global};
 use std::collections::BTreeSet;
 
 // The text NAME.n.
-fn numbered(alloc: Global, name: &Name, n: usize) -> Result<String, AllocError>
-    ensures { IfOk result (λ text. string_bytes text ≡ names.numbered name.now n) }
+fn numbered_text(alloc: Global, name: &Name, n: usize) -> Result<String, AllocError>
+    ensures text { IfOk result (λ text. string_bytes text ≡ names.numbered name.now n) }
+    ensures name { IsTrue (is_name name.now) }
 {
-    format!(in alloc; "{}.{n}", name.as_str())
+    let mut text = String::from_str(alloc, name.as_str())?;
+    text.push_str(".")?;
+    text.push_str(Buffer::new().format(n))?;
+    Ok(text)
+}
+
+// The name NAME.n, where that is not too long.
+fn numbered(alloc: Global, name: &Name, n: usize) -> Result<Name, Fault>
+    ensures refused { let long = 255 < length (names.numbered name.now n) in
+        IfErr result (λ fault. (fault ≡ Fault.Memory) ⊎ ((fault ≡ Fault.NameTooLong) × long)) }
+    ensures name { IfOk result (λ other. other ≡ names.numbered name.now n) }
+{
+    let text = numbered_text(alloc, name, n).map_err(|_| Fault::Memory)?;
+    Name::new(&text).map_err(|_| Fault::NameTooLong)
 }
 
 // Whether the name is in the folder or a target's.
@@ -27,6 +43,14 @@ fn is_taken(folder: &Folder, set: &ParSet, targets: &BTreeSet<Name>, name: &Name
     ensures { result ≡ is_among (taken_for folder.now.files set.now) name.now }
 {
     folder.get(name).is_some() || targets.contains(name)
+}
+
+// The names in a folder and those of targets are names: what is too long for one is not taken.
+fn taken_are_names(folder: &Folder, set: &ParSet)
+    ensures { IsTrue (list_all is_name (taken_for folder.now.files set.now)) }
+{
+    let _ = folder.vacant();
+    let _ = set.targets();
 }
 
 // The aside of a name, which has one of the first `most` numbers.
@@ -44,12 +68,11 @@ fn aside(
         IfErr result (λ fault. (fault ≡ Fault.Memory) ⊎ (long ≡ Some fault)) }
     ensures aside { IfOk result (λ other. other ≡ aside folder.now.files set.now name.now) }
 {
-    // By this law one of the numbers is free.
+    // By these laws a number is free, and one by which the name is too long is free too.
     aside_is_found();
+    taken_are_names(folder, set);
     for n in 1..=most {
-        let text = numbered(alloc, name, n).map_err(|_| Fault::Memory)?;
-        // No file and no target has a text that is no name.
-        let other = Name::new(&text).map_err(|_| Fault::NameTooLong)?;
+        let other = numbered(alloc, name, n)?;
         if !is_taken(folder, set, targets, &other) {
             return Ok(other);
         }

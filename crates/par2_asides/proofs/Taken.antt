@@ -1,0 +1,116 @@
+-- Names that are taken, and the first number that is free.
+use Rattle.std.proofs.Common.{◌≡◌, ℕ, suc, ◌+◌, ◌-◌, ◌^◌, ◌<◌, ◌≤◌, length, List, [], ◌∷◌, ◌++◌, map, refl, sym, ap, ap₂, subst, ◌∙◌, ◌⊎◌, Bool, true, false, not, cond, ◌||◌, arith, IsTrue, Err, Result}
+use Rattle.std.specs.Prelude.{find, IfErr, Option, Some, unwrap_or}
+use Rattle.std.specs.BTreeSet.{BTreeSet, contains}
+use Rattle.std.specs.BTreeMap.{is_at}
+use Rattle.std.specs.Cmp.Lexicographic.{slice_cmp}
+use Rattle.std.specs.List.{AllByRecursion, list_all, range_with_len}
+use Rattle.std.specs.Ordering.{nat_cmp}
+use Rattle.std.specs.Str.{bytes_eq}
+use Rattle.std.proofs.lemmas.Bool.{and_from, and_parts, false_from_ne_true, leb-true, lt-ltb, or_from}
+use Rattle.std.proofs.lemmas.Map.Text.{is_eq-slice_cmp}
+use Rattle.std.proofs.lemmas.List.Folds.{list_all-append}
+use Rattle.par2_spec.specs.declared.Fault.{Fault}
+use Rattle.par2_spec.specs.declared.Fault.TheVariants.{Memory, NameTooLong}
+use Rattle.par2_spec.specs.Faults.{fault_where}
+use Rattle.par2_spec.specs.Folders.{Folder, File, IsFolder, files, names}
+use Rattle.par2_spec.specs.Names.{is_among, is_name, numbered}
+use Rattle.par2_spec.specs.Repairs.{aside}
+use Rattle.par2_spec.specs.Rules.{IsSound, target_names, taken_for}
+use Rattle.par2_spec.specs.Sets.{ParSet}
+use Rattle.par2_spec.proofs.AsideNames.{name_is_short}
+use Rattle.par2_spec.proofs.NamesLaws.{among-append, clash, itself, other_name, same_name}
+use Rattle.par2_asides.specs.Asides.{HoldsNames, long_aside}
+
+-- ---- trees of names
+
+either_order : (a b : List ℕ) → bytes_eq a b ≡ bytes_eq b a
+either_order a b = step (bytes_eq b a) refl
+  where
+    step : (e : Bool) → bytes_eq b a ≡ e → bytes_eq a b ≡ e
+    step true h = ap (λ x. bytes_eq a x) (same_name b a h) ∙ itself a
+    step false h = other_name a b (λ e. clash (ap (λ x. bytes_eq b x) e ∙ itself b) h)
+
+-- a tree with one more name
+pub holds_more : (old new : BTreeSet (List ℕ)) (key : List ℕ) (names : List (List ℕ))
+    → ((q : List ℕ) → contains (slice_cmp nat_cmp) new q ≡ cond (is_at (slice_cmp nat_cmp key) q) true (contains (slice_cmp nat_cmp) old q))
+    → HoldsNames old names → HoldsNames new (names ++ key ∷ [])
+holds_more old new key names up holds = λ q.
+    up q
+    ∙ ap₂ (λ a b. cond a true b) (is_eq-slice_cmp key q ∙ either_order key q) (holds q)
+    ∙ either (bytes_eq q key) (is_among names q)
+    ∙ sym (among-append names (key ∷ []) q)
+  where
+    either : (a b : Bool) → cond a true b ≡ (b || (a || false))
+    either true true = refl
+    either true false = refl
+    either false true = refl
+    either false false = refl
+
+-- ---- what is taken
+
+names_of_files : (entries : List File) → AllByRecursion (λ file. IsTrue (is_name file.0) × (length file.1 < 2 ^ 64)) entries
+    → list_all is_name (map (λ file. file.0) entries) ≡ true
+names_of_files [] h = refl
+names_of_files (file ∷ entries) h = and_from _ _ h.0.0 (names_of_files entries h.1)
+
+-- the names in a folder and those of targets are names
+pub all_names : (folder : Folder) (set : ParSet) → IsFolder folder → IsSound set → IsTrue (list_all is_name (taken_for folder set))
+all_names folder set kept sound =
+    list_all-append is_name (names folder) (target_names set) ∙ and_from _ _ (names_of_files (files folder) kept) sound.are_names
+
+-- what is no name is not among names
+pub no_name : (taken : List (List ℕ)) (text : List ℕ) → list_all is_name taken ≡ true → is_name text ≡ false → is_among taken text ≡ false
+no_name [] text h unnamed = refl
+no_name (name ∷ taken) text h unnamed =
+    let all = and_parts (is_name name) (list_all is_name taken) h in
+    or_from _ _ (other_name text name (λ e. clash (ap is_name e ∙ all.0) unnamed)) (no_name taken text all.1 unnamed)
+
+-- ---- numbers
+
+-- the name with the first of the numbers from n up to `most` that is free
+abbrev pub first_from : List (List ℕ) → List ℕ → ℕ → ℕ → List ℕ
+first_from taken name most n = unwrap_or (find (λ other. not (is_among taken other)) (map (numbered name) (range_with_len n (most + 1 - n)))) []
+
+-- an aside is the first of all
+pub from_one : (folder : Folder) (set : ParSet) (name : List ℕ) (most : ℕ) → most ≡ length (taken_for folder set) + 1
+    → aside folder set name ≡ first_from (taken_for folder set) name most 1
+unfolding aside
+from_one folder set name most h =
+    ap (λ k. unwrap_or (find (λ other. not (is_among (taken_for folder set) other)) (map (numbered name) (range_with_len 1 k))) [])
+    (let e : length (taken_for folder set) + 1 ≡ most + 1 - 1 = omega (arith, h) in e)
+
+module _ (taken : List (List ℕ)) (name : List ℕ) (most n : ℕ) (low : n ≤ most) where
+  one_more : (b : Bool) → is_among taken (numbered name n) ≡ b
+      → first_from taken name most n ≡ unwrap_or (cond (not b) (Some (numbered name n)) (find (λ other. not (is_among taken other)) (map (numbered name) (range_with_len (n + 1) (most - n))))) []
+  one_more b h =
+      ap (λ k. unwrap_or (find (λ other. not (is_among taken other)) (map (numbered name) (range_with_len n k))) [])
+      (let e : most + 1 - n ≡ suc (most - n) = omega (arith, low) in e)
+      ∙ ap (λ t. unwrap_or (cond (not t) (Some (numbered name n)) (find (λ other. not (is_among taken other)) (map (numbered name) (range_with_len (n + 1) (most - n))))) []) h
+
+  -- a number that is free is the first
+  pub first_here : is_among taken (numbered name n) ≡ false → first_from taken name most n ≡ numbered name n
+  first_here free = one_more false free
+
+  -- a number that is taken is passed over
+  pub first_later : is_among taken (numbered name n) ≡ true → first_from taken name most n ≡ first_from taken name most (n + 1)
+  first_later full =
+      one_more true full
+      ∙ ap (λ k. unwrap_or (find (λ other. not (is_among taken other)) (map (numbered name) (range_with_len (n + 1) k))) [])
+      (let e : most - n ≡ most + 1 - (n + 1) = omega (arith, low) in e)
+
+-- ---- refusals
+
+-- what a `?` answers, where a step has ended in a fault
+pub passed_on : {X : Type 0} (r : Result X Fault) (fault : Fault) (long : Option Fault) → (y : Fault) × (r ≡ Err y) × (y ≡ fault)
+    → (fault ≡ Memory) ⊎ (long ≡ Some fault) → IfErr r (λ f. (f ≡ Memory) ⊎ (long ≡ Some f))
+passed_on r fault long p h = subst (λ x. IfErr x (λ f. (f ≡ Memory) ⊎ (long ≡ Some f))) (sym (p.1 ∙ ap Err p.2)) h
+
+-- a name whose aside is too long
+pub too_long : (folder : Folder) (set : ParSet) (name : List ℕ) → 255 < length (aside folder set name) → long_aside folder set (name ∷ []) ≡ Some NameTooLong
+too_long folder set name h = ap (λ b. fault_where (b || false) NameTooLong) (lt-ltb 255 (length (aside folder set name)) h)
+
+-- what is too long is no name
+pub long_is_no_name : (text : List ℕ) → 255 < length text → is_name text ≡ false
+long_is_no_name text h =
+    false_from_ne_true _ (λ named. let short : length text ≤ 255 = leb-true (length text) 255 (name_is_short text named) in absurd (omega (arith, h, short)))
