@@ -1,13 +1,13 @@
 -- Names that are taken, and the first number that is free.
-use Rattle.std.proofs.Common.{◌≡◌, ℕ, suc, ◌+◌, ◌-◌, ◌^◌, ◌<◌, ◌≤◌, length, List, [], ◌∷◌, ◌++◌, map, refl, sym, ap, ap₂, subst, ◌∙◌, ◌⊎◌, Bool, true, false, not, cond, ◌||◌, arith, IsTrue, Err, Result}
-use Rattle.std.specs.Prelude.{find, IfErr, Option, Some, unwrap_or}
+use Rattle.std.proofs.Common.{◌≡◌, ℕ, suc, ◌+◌, ◌-◌, ◌^◌, ◌<◌, ◌≤◌, length, List, [], ◌∷◌, ◌++◌, map, refl, sym, ap, ap₂, subst, ◌∙◌, ◌⊎◌, Bool, true, false, not, cond, ◌||◌, arith, inl, inr, IsTrue, Ok, Err, Result}
+use Rattle.std.specs.Prelude.{find, IfErr, IsOk, Option, Some, unwrap_or}
 use Rattle.std.specs.BTreeSet.{BTreeSet, contains}
 use Rattle.std.specs.BTreeMap.{is_at}
 use Rattle.std.specs.Cmp.Lexicographic.{slice_cmp}
 use Rattle.std.specs.List.{AllByRecursion, list_all, range_with_len}
 use Rattle.std.specs.Ordering.{nat_cmp}
 use Rattle.std.specs.Str.{bytes_eq}
-use Rattle.std.proofs.lemmas.Bool.{and_from, and_parts, false_from_ne_true, leb-true, lt-ltb, or_from}
+use Rattle.std.proofs.lemmas.Bool.{and_from, and_parts, cases_lt, false_from_ne_true, leb-true, lt-ltb, or_from}
 use Rattle.std.proofs.lemmas.Map.Text.{is_eq-slice_cmp}
 use Rattle.std.proofs.lemmas.List.Folds.{list_all-append}
 use Rattle.par2_spec.specs.declared.Fault.{Fault}
@@ -18,8 +18,8 @@ use Rattle.par2_spec.specs.Names.{is_among, is_name, numbered}
 use Rattle.par2_spec.specs.Repairs.{aside}
 use Rattle.par2_spec.specs.Rules.{IsSound, target_names, taken_for}
 use Rattle.par2_spec.specs.Sets.{ParSet}
-use Rattle.par2_spec.proofs.AsideNames.{name_is_short}
-use Rattle.par2_spec.proofs.NamesLaws.{among-append, clash, itself, other_name, same_name}
+use Rattle.par2_spec.proofs.AsideNames.{name_is_short, numbered_is_name}
+use Rattle.par2_spec.proofs.NamesLaws.{among-append, clash, false_true, itself, other_name, same_name}
 use Rattle.par2_asides.specs.Asides.{HoldsNames, long_aside}
 
 -- ---- trees of names
@@ -114,3 +114,12 @@ too_long folder set name h = ap (λ b. fault_where (b || false) NameTooLong) (lt
 pub long_is_no_name : (text : List ℕ) → 255 < length text → is_name text ≡ false
 long_is_no_name text h =
     false_from_ne_true _ (λ named. let short : length text ≤ 255 = leb-true (length text) 255 (name_is_short text named) in absurd (omega (arith, h, short)))
+
+-- a numbered name is only no name where it is too long
+pub long_where_err : {E : Type 0} (r : Result (List ℕ) E) (name : List ℕ) (n : ℕ) (text : List ℕ) → n < 2 ^ 64 → IsTrue (is_name name) → text ≡ numbered name n
+    → (IsTrue (is_name text) → IsOk r) → IfErr r (λ _. 255 < length (numbered name n))
+long_where_err (Ok x) name n text small named is h = tt
+long_where_err (Err e) name n text small named is h = elim (cases_lt 255 (length (numbered name n))) as (λ _. 255 < length (numbered name n)) [
+  | inl long ↦ long
+  | inr short ↦ absurd (false_true (h (ap is_name is ∙ numbered_is_name name n small named short)))
+]

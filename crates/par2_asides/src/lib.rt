@@ -5,5 +5,5 @@ mod listing;
 mod numbering;
 mod targets;
 
-pub use numbering::asides;
 pub use listing::par_files;
+pub use numbering::asides;

@@ -29,7 +29,7 @@ fn is_par_name(name: &Name) -> bool
 fn has_only_packets_of(bytes: &[u8], id: &[u8; 16]) -> bool
     ensures { let packets = accepted bytes.now in
         result ≡ (list_any (λ p. bytes_eq p.set_id id.now) packets
-            && list_all (λ p. bytes_eq p.set_id id.now) packets) }
+        && list_all (λ p. bytes_eq p.set_id id.now) packets) }
 {
     let mut found = false;
     for packet in Packets::new(bytes) {

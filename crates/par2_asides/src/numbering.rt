@@ -1,5 +1,6 @@
 //! The names under which files are put aside.
-ghost use Rattle.std.specs.Prelude.{◌≡◌, ◌⊎◌, ◌<◌, ◌+◌, ◌∷◌, [], Some, None, IsTrue, length, map, string_bytes, IfOk, IfErr};
+ghost use Rattle.std.specs.Prelude.{◌≡◌, ◌⊎◌, ◌<◌, ◌+◌, ◌++◌, ◌∷◌, [], ℕ, List, Some, None, IsTrue, length, map, string_bytes, IfOk, IfErr};
+ghost use Rattle.par2_spec.specs.Folders as folders;
 ghost use Rattle.par2_spec.specs.Names as names;
 ghost use Rattle.std.specs.List.{list_all};
 ghost use Rattle.par2_spec.specs.Names.{is_among, is_name};
@@ -38,9 +39,9 @@ fn numbered(alloc: Global, name: &Name, n: usize) -> Result<Name, Fault>
 }
 
 // Whether the name is in the folder or a target's.
-fn is_taken(folder: &Folder, set: &ParSet, targets: &BTreeSet<Name>, name: &Name) -> bool
-    requires { HoldsNames targets.now (target_names set.now) }
-    ensures { result ≡ is_among (taken_for folder.now.files set.now) name.now }
+fn is_taken(folder: &Folder, targets: &BTreeSet<Name>, name: &Name) -> bool
+    ensures { (all : List (List ℕ)) → HoldsNames targets.now all
+        → result ≡ is_among (folders.names folder.now.files ++ all) name.now }
 {
     folder.get(name).is_some() || targets.contains(name)
 }
@@ -73,7 +74,7 @@ fn aside(
     taken_are_names(folder, set);
     for n in 1..=most {
         let other = numbered(alloc, name, n)?;
-        if !is_taken(folder, set, targets, &other) {
+        if !is_taken(folder, targets, &other) {
             return Ok(other);
         }
     }
@@ -94,7 +95,7 @@ fn tries(alloc: Global, folder: &Folder, set: &ParSet) -> Result<usize, Fault>
 }
 
 /// The names under which the files of these names are put aside: each the name with the least number from 1 on that is
-/// neither in the folder nor a target's.
+/// neither in the folder nor a target's. The answer is `NameTooLong` where one of them has more than 255 bytes.
 pub fn asides(
     alloc: Global,
     folder: &Folder,

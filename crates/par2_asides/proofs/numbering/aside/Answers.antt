@@ -4,7 +4,7 @@ use Rattle.par2_spec.specs.declared.Fault.{Fault}
 use Rattle.par2_spec.specs.declared.Fault.TheVariants.{Memory}
 use Rattle.par2_spec.specs.Names.{is_among, numbered}
 use Rattle.par2_spec.specs.Repairs.{aside}
-use Rattle.par2_spec.specs.Rules.{taken_for}
+use Rattle.par2_spec.specs.Rules.{taken_for, target_names}
 use Rattle.par2_asides.specs.Asides.{long_aside}
 use Rattle.par2_asides.proofs.Taken.{first_here, first_later, from_one, long_is_no_name, no_name, passed_on, too_long}
 use Rattle.par2_asides.proofs.numbering.aside.Goals as goal
@@ -18,7 +18,7 @@ loop-n-preserved c =
     let name = c.args.name.now in
     let n = c.loop-n.n in
     let low : n ≤ c.args.most = omega (arith, c.loop-n-test.true) in
-    let full : is_among taken (numbered name n) ≡ true = ap (is_among taken) (sym c.in_ok-other.ensures.name) ∙ sym c.is_taken.ensures ∙ c.if-not-is_taken.false in
+    let full : is_among taken (numbered name n) ≡ true = ap (is_among taken) (sym c.in_ok-other.ensures.name) ∙ sym (c.is_taken.ensures (target_names c.args.set.now) c.requires.targets) ∙ c.if-not-is_taken.false in
     c.loop-n.invariant ∙ first_later taken name c.args.most n low full
 
 pub returns-in_err-other-clause-refused : goal.returns-in_err-other-clause-refused

@@ -1,4 +1,4 @@
-use Rattle.std.proofs.Common.{◌≡◌, map, take}
+use Rattle.std.proofs.Common.{map, take}
 use Rattle.par2_asides.specs.Asides.{HoldsNames}
 use Rattle.par2_asides.proofs.targets.target_names.Given as goal
 
