@@ -2,6 +2,8 @@
 #![tactic(auto)]
 
 #[cfg(test)]
+mod asides;
+#[cfg(test)]
 mod packets;
 #[cfg(test)]
 mod sets;
