@@ -1,20 +1,18 @@
 -- What an accepted action makes of a session, and a run of them.
-use Rattle.std.proofs.Common.{◌≡◌, ◌≢◌, ℕ, zero, suc, ◌+◌, ◌<◌, ◌≤◌, List, [], ◌∷◌, length, map, get_or, drop, Ok, Err, Result, true, refl, sym, ap, subst, ◌∙◌, add-one, arith}
+use Rattle.std.proofs.Common.{◌≡◌, ◌≢◌, ℕ, suc, ◌+◌, ◌<◌, ◌≤◌, List, [], ◌∷◌, length, map, get_or, drop, Ok, Err, Result, true, refl, sym, ap, subst, ◌∙◌, add-one, arith}
 use Rattle.std.proofs.Math.Seq.{drop-cons}
-use Rattle.std.specs.Prelude.{IsErr}
-use Rattle.std.specs.List.{AllByRecursion}
+use Rattle.std.specs.Prelude.{IsErr, OnErr}
 use Rattle.std.proofs.lemmas.List.{get_or-map, length-map, drop_all}
 use Rattle.par2_spec.specs.Views.{action_of}
 use Rattle.par2_spec.specs.declared.asked.Action as given
 use Rattle.par2_spec.specs.Changes.{Change}
-use Rattle.par2_spec.specs.Commands.{Action, Do, Undo, Redo, Command, Create, Verify, Repair, Purge}
+use Rattle.par2_spec.specs.Commands.{Action, Do, Undo, Redo, Command}
 use Rattle.par2_spec.specs.History.{History, history_after, Run, Accepted, Passed, MayBeRefused, IsChanging, Refusal, NothingToUndo, NothingToRedo}
 use Rattle.par2_spec.specs.Sessions.{Session, KeptSession, OnlyGrew, CanWalk, session_of_kept, session_after, session_with, changes_asked, applied, first_entry, history_of, kept_undone, kept_redone}
 use Rattle.par2_spec.proofs.SessionLaws.{accepted_next, refused_alike, done_of_kept, undone_of_kept, redone_of_kept, walked_is_valid}
-use Rattle.par2_spec.proofs.AcceptedCommands.{command_leads}
 use Rattle.par2_journal.specs.Ready.{Kind, Changing, Undoing, Redoing, IsKindOf, changes_of, committed, next_of}
 use Rattle.par2_spec.specs.Opening.{is_valid}
-use Rattle.par2_journal.specs.Plain.{IsPlain}
+use Rattle.par2_spec.specs.Rules.{LeadsToAfterAsked}
 
 pub same_session : (old new : KeptSession) → OnlyGrew old new → session_of_kept new ≡ session_of_kept old
 same_session old new grew = λ i. record { folder = grew.files i; undos = grew.undos i; redos = grew.redos i }
@@ -70,14 +68,14 @@ undo_refused s none = subst (λ (r : Result History Refusal). IsErr r) (sym (ref
 pub redo_refused : (s : KeptSession) → s.redos ≡ [] → MayBeRefused (history_of (session_of_kept s)) Redo
 redo_refused s none = subst (λ (r : Result History Refusal). IsErr r) (sym (refused_alike (session_of_kept s) Redo NothingToRedo (no_redo s none))) refl
 
+-- what holds anyway holds of an error
+pub of_error : {A E : Type 0} (r : Result A E) {P : Type 0} → P → OnErr r P
+of_error (Ok a) h = tt
+of_error (Err e) h = h
+
 -- the history goes along
-pub leads_asked : (s : Session) (action : Action) → IsPlain action → (t : Session) → is_valid s ≡ true → session_after s action ≡ Ok t → history_after (history_of s) action ≡ Ok (history_of t)
-leads_asked s (Do (Create a)) plain t valid h = (accepted_next s t (Do (Create a)) valid (λ _. command_leads s.folder (Create a) tt) h).0
-leads_asked s (Do (Verify base extras)) plain t valid h = (accepted_next s t (Do (Verify base extras)) valid (λ _. command_leads s.folder (Verify base extras) tt) h).0
-leads_asked s (Do (Repair base extras purge)) plain t valid h = absurd plain
-leads_asked s (Do (Purge base)) plain t valid h = absurd plain
-leads_asked s Undo plain t valid h = (accepted_next s t Undo valid tt h).0
-leads_asked s Redo plain t valid h = (accepted_next s t Redo valid tt h).0
+pub leads_asked : (s t : Session) (action : Action) → is_valid s ≡ true → LeadsToAfterAsked s.folder action → session_after s action ≡ Ok t → history_after (history_of s) action ≡ Ok (history_of t)
+leads_asked s t action valid leads h = (accepted_next s t action valid leads h).0
 
 -- a run of what is left goes on from an accepted and from a refused action
 module _ (all : List Action) (i : ℕ) (within : i < length all) (action : Action) (read : action ≡ get_or all i action) (start : History) (old new : KeptSession) (n : ℕ)
@@ -85,11 +83,11 @@ module _ (all : List Action) (i : ℕ) (within : i < length all) (action : Actio
   left : drop i all ≡ action ∷ drop (i + 1) all
   left = rw add-one (drop-cons all i action within ∙ ap (λ a. a ∷ drop (suc i) all) (sym read))
 
-  pub on_accepted : IsPlain action → CanWalk old → session_after (session_of_kept old) action ≡ Ok (session_of_kept new)
+  pub on_accepted : LeadsToAfterAsked old.folder.files action → CanWalk old → session_after (session_of_kept old) action ≡ Ok (session_of_kept new)
       → (k : ℕ) (end : History) → Run (history_of (session_of_kept new)) (drop (i + 1) all) k end → Run start all (n + 1 + k) end
-  on_accepted plain walks step k end run =
+  on_accepted leads walks step k end run =
       let sum : n + suc k ≡ n + 1 + k = omega arith in
-      let next = leads_asked (session_of_kept old) action plain (session_of_kept new) (walked_is_valid old walks) step in
+      let next = leads_asked (session_of_kept old) (session_of_kept new) action (walked_is_valid old walks) leads step in
       subst (λ m. Run start all m end) sum (on (suc k) end (subst (λ l. Run (history_of (session_of_kept old)) l (suc k) end) (sym left) (Accepted next run)))
 
   pub on_refused : MayBeRefused (history_of (session_of_kept old)) action → OnlyGrew old new
@@ -99,11 +97,6 @@ module _ (all : List Action) (i : ℕ) (within : i < length all) (action : Actio
       (Passed may (subst (λ s. Run (history_of s) (drop (i + 1) all) k end) (same_session old new grew) run)))
 
 -- ---- the actions as they are handed in
-
-pub plain_at : (actions : List given.Action) (i : ℕ) (d : given.Action) → i < length actions → AllByRecursion IsPlain (map action_of actions) → IsPlain (action_of (get_or actions i d))
-plain_at [] i d within all = absurd (omega (arith, within))
-plain_at (action ∷ actions) zero d within all = all.0
-plain_at (action ∷ actions) (suc i) d within all = plain_at actions i d (omega (arith, within)) all.1
 
 pub read_at : (actions : List given.Action) (i : ℕ) (item : given.Action) → i < length actions → item ≡ get_or actions i item → action_of item ≡ get_or (map action_of actions) i (action_of item)
 read_at actions i item within is = ap action_of is ∙ sym (get_or-map action_of actions i item (action_of item) within)

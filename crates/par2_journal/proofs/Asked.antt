@@ -1,26 +1,32 @@
 -- What is asked of a session, and what it makes ready.
-use Rattle.std.proofs.Common.{◌≡◌, ◌≢◌, ◌⊎◌, inl, inr, ◌<◌, ◌≤◌, List, [], ◌∷◌, length, map, Some, None, Ok, Err, true, refl, sym, ap, ◌∙◌, arith}
+use Rattle.std.proofs.Common.{◌≡◌, ◌≢◌, inl, inr, ◌<◌, ◌≤◌, List, [], ◌∷◌, length, map, None, Result, Ok, Err, true, refl, sym, ap, subst, ◌∙◌, arith}
+use Rattle.std.specs.Prelude.{IfOk, IfErr, IsErrAnd}
 use Rattle.par2_spec.specs.Changes.{Change, Write, Replace, Rename, Remove, places_taken, are_applicable}
 use Rattle.par2_spec.specs.Commands.{Command, Do, Undo, Redo}
 use Rattle.par2_spec.specs.Refusals.{refusal}
 use Rattle.par2_spec.specs.Plans as plans
 use Rattle.par2_spec.specs.History as history
-use Rattle.par2_spec.specs.Sessions.{KeptSession, OnlyGrew, changes_asked, planned, first_entry}
+use Rattle.par2_spec.specs.Sessions.{KeptSession, OnlyGrew, session_of_kept, changes_asked, planned, first_entry}
 use Rattle.par2_spec.specs.Texts.{Step, step_of}
 use Rattle.par2_spec.proofs.FolderLaws.{takes_applicable}
 use Rattle.par2_spec.specs.declared.Fault.{Fault}
-use Rattle.par2_spec.specs.declared.Fault.TheVariants.{Memory}
-use Rattle.par2_journal.specs.Ready.{Changing, Undoing, Redoing, IsReady, next_of}
+use Rattle.par2_journal.specs.Ready.{Ready, Changing, Undoing, Redoing, Fits, IsKindOf, IsReady, changes_of, next_of}
 use Rattle.par2_journal.specs.Faulted.{MayFail, MayRefuse}
 use Rattle.par2_spec.specs.History.{IsChanging}
 use Rattle.par2_journal.proofs.Acting.{command_done, undo_done, redo_done}
+use Rattle.par2_journal.specs.declared.prepared.SessionFault.{SessionFault}
 use Rattle.par2_journal.specs.declared.prepared.SessionFault.TheVariants.{Plan, NothingToUndo, NothingToRedo}
 
 -- a fault of the plan is one of the session
-pub refused_plan : (s : KeptSession) (command : Command) (fault : Fault) → MayFail command s fault → MayRefuse (Do command) s (Plan fault)
+refused_plan : (s : KeptSession) (command : Command) (fault : Fault) → MayFail command s fault → MayRefuse (Do command) s (Plan fault)
 unfolding changes_asked
 refused_plan s command fault (inl memory) = inl (ap Plan memory)
 refused_plan s command fault (inr cause) = inr (ap (λ r. planned r (plans.changes_of s.folder.files command)) cause)
+
+pub refused_for : {A : Type 0} (r : Result A SessionFault) (s : KeptSession) (command : Command) (fault : Fault) → IsErrAnd r (λ e. e ≡ Plan fault) → MayFail command s fault
+    → IfErr r (MayRefuse (Do command) s)
+refused_for (Ok a) s command fault is may = tt
+refused_for (Err e) s command fault is may = subst (MayRefuse (Do command) s) (sym is) (refused_plan s command fault may)
 
 -- each write takes one place
 pub places_within : (changes : List Change) → places_taken changes ≤ length changes
@@ -30,25 +36,38 @@ places_within (Replace name bytes ∷ changes) = omega (arith, places_within cha
 places_within (Rename from to ∷ changes) = omega (arith, places_within changes)
 places_within (Remove name ∷ changes) = omega (arith, places_within changes)
 
-pub ready_command : (old new : KeptSession) (command : Command) (changes : List Change) (steps : List Step)
-    → IsChanging (Do command) → OnlyGrew old new → refusal old.folder.files command ≡ None → changes ≡ plans.changes_of old.folder.files command
-    → are_applicable old.folder.files changes ≡ true → length changes ≤ new.folder.vacant → 0 < new.room → steps ≡ map step_of changes
-    → IsReady (Do command) old (record { kind = Changing changes; steps = steps }) new
-unfolding changes_asked
-ready_command old new command changes steps changing grew accepted are applies room entry told =
-    let asked = ap (λ r. planned r (plans.changes_of old.folder.files command)) accepted ∙ ap Ok (sym are) in
-    record {
-      fits = record {
-        can = (
-          takes_applicable new.folder changes (ap (λ f. are_applicable f changes) grew.files ∙ applies) (omega (arith, places_within changes, room)),
-          entry,
-        );
-        steps = told;
-      };
-      kind = tt;
-      asked = asked;
-      leads = command_done old new command (Changing changes) changing grew tt asked;
-    }
+-- what is ready for changes that can be applied
+pub fits_changes : (old new : KeptSession) (changes : List Change) (steps : List Step) → OnlyGrew old new → are_applicable old.folder.files changes ≡ true
+    → length changes ≤ new.folder.vacant → 0 < new.room → steps ≡ map step_of changes
+    → Fits (record { kind = Changing changes; steps = steps }) new
+fits_changes old new changes steps grew applies room entry told = record {
+  can = (
+    takes_applicable new.folder changes (ap (λ f. are_applicable f changes) grew.files ∙ applies) (omega (arith, places_within changes, room)),
+    entry,
+  );
+  steps = told;
+}
+
+-- an accepted command, of which the changes were made ready
+module _ (old new : KeptSession) (command : Command) (changes : List Change) (changing : IsChanging (Do command)) (grew : OnlyGrew old new)
+    (accepted : refusal old.folder.files command ≡ None) (are : changes ≡ plans.changes_of old.folder.files command) where
+  ready_command : (ready : Ready) → ready.kind ≡ Changing changes → Fits ready new → IsReady (Do command) old ready new
+  unfolding changes_asked
+  ready_command ready is fits =
+      let kind : IsKindOf (Do command) ready.kind = subst (IsKindOf (Do command)) (sym is) tt in
+      let asked : changes_asked (session_of_kept old) (Do command) ≡ Ok (changes_of ready.kind old) =
+      ap (λ r. planned r (plans.changes_of old.folder.files command)) accepted ∙ ap Ok (sym are ∙ ap (λ k. changes_of k old) (sym is)) in
+      record {
+        fits = fits;
+        kind = kind;
+        asked = asked;
+        leads = command_done old new command ready.kind changing grew kind asked;
+      }
+
+  pub plan_ready : {F : Type 0} (r : Result Ready F) → IfOk r (λ ready. ready.kind ≡ Changing changes) → IfOk r (λ ready. Fits ready new)
+      → IfOk r (λ ready. IsReady (Do command) old ready new)
+  plan_ready (Ok ready) is fits = ready_command ready is fits
+  plan_ready (Err fault) is fits = tt
 
 pub nothing_to_undo : (s : KeptSession) → length s.undos ≡ 0 → MayRefuse Undo s NothingToUndo
 unfolding changes_asked

@@ -2,7 +2,6 @@ pub mod Stepped
 pub mod Ready
 pub mod Kinds
 pub mod Kept
-pub mod Plain
 pub mod Faulted
 pub mod Walked
 pub mod Written

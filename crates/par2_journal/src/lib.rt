@@ -2,6 +2,8 @@
 //! inverses.
 #![tactic(auto)]
 
+mod asking;
+mod commands;
 mod history;
 mod opening;
 mod passing;

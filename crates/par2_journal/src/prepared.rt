@@ -1,5 +1,5 @@
 //! What a session has made ready.
-use crate::Steps;
+use crate::{NothingToRedo, NothingToUndo, Steps};
 use par2_plan::{Changes, Fault};
 use std::marker::Model;
 use thiserror::Error;
@@ -13,6 +13,39 @@ pub enum SessionFault {
     NothingToUndo,
     #[error("nothing to redo")]
     NothingToRedo,
+}
+
+impl From<Fault> for SessionFault {
+    ghost use Rattle.std.specs.Prelude.{◌≡◌};
+    ghost use Rattle.par2_journal.specs.declared.prepared.SessionFault.TheVariants.{Plan};
+
+    ghost from_gives = { λ fault refused. refused ≡ Plan fault };
+
+    fn from(fault: Fault) -> Self {
+        SessionFault::Plan(fault)
+    }
+}
+
+impl From<NothingToUndo> for SessionFault {
+    ghost use Rattle.std.specs.Prelude.{◌≡◌};
+    ghost use Rattle.par2_journal.specs.declared.prepared.SessionFault.TheVariants as faults;
+
+    ghost from_gives = { λ _ refused. refused ≡ faults.NothingToUndo };
+
+    fn from(_fault: NothingToUndo) -> Self {
+        SessionFault::NothingToUndo
+    }
+}
+
+impl From<NothingToRedo> for SessionFault {
+    ghost use Rattle.std.specs.Prelude.{◌≡◌};
+    ghost use Rattle.par2_journal.specs.declared.prepared.SessionFault.TheVariants as faults;
+
+    ghost from_gives = { λ _ refused. refused ≡ faults.NothingToRedo };
+
+    fn from(_fault: NothingToRedo) -> Self {
+        SessionFault::NothingToRedo
+    }
 }
 
 // What committing does.

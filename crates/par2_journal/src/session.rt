@@ -2,13 +2,9 @@
 use crate::passing::copies_of;
 use crate::prepared::Task;
 use crate::spelling::{lent, spell_action};
-use crate::{
-    Changes, CreateArgs, Journals, NothingToRedo, NothingToUndo, Prepared, SessionFault, Steps,
-};
+use crate::{Changes, Journals, NothingToRedo, NothingToUndo, Prepared, Steps};
 use par2_folder::{Change, Folder};
 use par2_journal_bytes::{JournalParts, Version, encode};
-use par2_plan::{Fault, Report, check, plan_create};
-use par2_spec::Action;
 use std::alloc::{AllocError, Global};
 use std::marker::Model;
 
@@ -37,27 +33,17 @@ impl Model for Session {
 }
 
 impl Session {
-    ghost use Rattle.std.specs.Prelude.{◌≡◌, ◌↔◌, ◌⊎◌, ◌<◌, ◌≤◌, ◌≢◌, [], Ok, Err, map, string_bytes, length, take, drop, reverse, IsErr, IfOk, IfErr, OnOk, OnErr, IsTrue};
-    ghost use Rattle.std.specs.List.{AllByRecursion};
+    ghost use Rattle.std.specs.Prelude.{◌≡◌, ◌↔◌, ◌<◌, ◌≤◌, ◌≢◌, [], map, length, take, drop, reverse, IsErr, IfOk, OnOk, OnErr, IsTrue};
     ghost use Rattle.par2_spec.specs.Changes.{takes_all};
-    ghost use Rattle.par2_spec.specs.Sessions.{CanWalk, OnlyGrew, session_of_kept, session_after, changes_asked, history_of, kept_done, kept_undone, kept_redone};
-    ghost use Rattle.par2_spec.specs.History.{Run, MayBeRefused, folders, IsChanging};
-    ghost use Rattle.par2_spec.specs.Views.{action_of, create_args_of};
-    ghost use Rattle.par2_spec.specs.Reports.{report_in};
-    ghost use Rattle.par2_spec.specs.Texts.{step_of};
-    ghost use Rattle.par2_plan.specs.Views.{report_of};
-    ghost use Rattle.par2_folder.specs.Views.{change_of};
-    ghost use Rattle.par2_journal.specs.Ready.{Fits, IsReady, changes_of, committed, next_of};
-    ghost use Rattle.par2_journal.specs.Faulted.{MayFail, MayRefuse};
-    ghost use Rattle.par2_spec.specs.Commands.{Do, Undo, Redo, Create};
-    ghost use Rattle.par2_journal.specs.Plain.{IsPlain};
+    ghost use Rattle.par2_spec.specs.Sessions.{CanWalk, OnlyGrew, KeptSession, walks, session_of_kept, kept_done, kept_undone, kept_redone};
+    ghost use Rattle.par2_spec.specs.Commands.{Action as Asked};
     ghost use Rattle.par2_spec.specs.Journals.{Spells};
     ghost use Rattle.par2_spec.specs.Opening.{settled_journal, journals_of};
-    ghost use Rattle.par2_spec.specs.Commands.{Action as Asked};
-    ghost use Rattle.par2_spec.specs.Sessions.{KeptSession, walks};
-    ghost use Rattle.par2_journal.specs.Opened.{session_at};
-    ghost use Rattle.par2_journal.specs.Written.{AreSpelled};
     ghost use Rattle.par2_spec.specs.declared.Version.TheVariants.{Two};
+    ghost use Rattle.par2_folder.specs.Views.{change_of};
+    ghost use Rattle.par2_journal.specs.Opened.{session_at};
+    ghost use Rattle.par2_journal.specs.Ready.{Fits, IsReady, changes_of, committed, next_of};
+    ghost use Rattle.par2_journal.specs.Written.{AreSpelled};
 
     /// The session on this folder, without a history.
     pub fn new(alloc: Global, folder: Folder) -> Session
@@ -160,7 +146,7 @@ impl Session {
     }
 
     // Room for as many files and one more entry.
-    fn make_room(&mut self, files: usize) -> Result<(), AllocError>
+    pub(crate) fn make_room(&mut self, files: usize) -> Result<(), AllocError>
         ensures kept { OnlyGrew self.old self.new }
         ensures vacant { OnOk result (files ≤ self.new.folder.vacant) }
         ensures room { OnOk result (0 < self.new.room) }
@@ -187,7 +173,7 @@ impl Session {
     }
 
     // The changes of the next undo.
-    fn next_undo(&self) -> &[Change]
+    pub(crate) fn next_undo(&self) -> &[Change]
         requires { self.now.undos ≢ [] }
         ensures { map change_of result.now ≡ next_of self.now.undos }
     {
@@ -195,83 +181,11 @@ impl Session {
     }
 
     // The changes of the next redo.
-    fn next_redo(&self) -> &[Change]
+    pub(crate) fn next_redo(&self) -> &[Change]
         requires { self.now.redos ≢ [] }
         ensures { map change_of result.now ≡ next_of self.now.redos }
     {
         self.entries[self.cursor].as_slice()
-    }
-
-    fn prepare_create(&mut self, alloc: Global, args: &CreateArgs) -> Result<Prepared, Fault>
-        ensures kept { OnlyGrew self.old self.new }
-        ensures ready { IfOk result (λ prepared.
-            IsReady (Do (Create (create_args_of args.now))) self.old prepared self.new) }
-        ensures refused { IfErr result (MayFail (Create (create_args_of args.now)) self.old) }
-    {
-        let changes = match plan_create(alloc, self.folder(), args) {
-            Ok(changes) => changes,
-            Err(fault) => return Err(fault),
-        };
-        let Ok(steps) = Steps::of(alloc, changes.as_slice()) else {
-            return Err(Fault::Memory);
-        };
-        match self.make_room(changes.len()) {
-            Ok(()) => Ok(Prepared {
-                task: Task::Change(changes),
-                steps,
-            }),
-            Err(_) => Err(Fault::Memory),
-        }
-    }
-
-    fn prepare_undo(&self, alloc: Global) -> Result<Prepared, SessionFault>
-        ensures ready { IfOk result (λ prepared. IsReady Undo self.now prepared self.now) }
-        ensures refused { IfErr result (MayRefuse Undo self.now) }
-    {
-        if self.undo_depth() == 0 {
-            return Err(SessionFault::NothingToUndo);
-        }
-        match Steps::of(alloc, self.next_undo()) {
-            Ok(steps) => Ok(Prepared {
-                task: Task::Undo,
-                steps,
-            }),
-            Err(_) => Err(SessionFault::Plan(Fault::Memory)),
-        }
-    }
-
-    fn prepare_redo(&self, alloc: Global) -> Result<Prepared, SessionFault>
-        ensures ready { IfOk result (λ prepared. IsReady Redo self.now prepared self.now) }
-        ensures refused { IfErr result (MayRefuse Redo self.now) }
-    {
-        if self.redo_depth() == 0 {
-            return Err(SessionFault::NothingToRedo);
-        }
-        match Steps::of(alloc, self.next_redo()) {
-            Ok(steps) => Ok(Prepared {
-                task: Task::Redo,
-                steps,
-            }),
-            Err(_) => Err(SessionFault::Plan(Fault::Memory)),
-        }
-    }
-
-    /// Makes ready what committing an action will need, memory included. Names, bytes and history stay as they are.
-    pub fn prepare(&mut self, alloc: Global, action: &Action) -> Result<Prepared, SessionFault>
-        requires { IsPlain (action_of action.now) }
-        ensures kept { OnlyGrew self.old self.new }
-        ensures ready { IfOk result (λ prepared. IsReady (action_of action.now) self.old prepared self.new) }
-        ensures refused { IfErr result (MayRefuse (action_of action.now) self.old) }
-    {
-        match action {
-            Action::Create(args) => match self.prepare_create(alloc, args) {
-                Ok(prepared) => Ok(prepared),
-                Err(fault) => Err(SessionFault::Plan(fault)),
-            },
-            Action::Undo => self.prepare_undo(alloc),
-            Action::Redo => self.prepare_redo(alloc),
-            Action::Repair { .. } | Action::Purge { .. } => unreachable!(),
-        }
     }
 
     /// What committing does to the folder, in order.
@@ -288,10 +202,18 @@ impl Session {
 
     /// The journals of what was prepared for an action. The folder makes the changes and is turned back, also where
     /// memory runs out.
-    pub fn journals(&mut self, alloc: Global, prepared: &Prepared) -> Result<Journals, AllocError>
-        requires { Fits prepared.now self.old }
+    pub fn journals(
+        &mut self,
+        alloc: Global,
+        prepared: &mut Prepared,
+    ) -> Result<Journals, AllocError>
+        requires { Fits prepared.old self.old }
         ensures unchanged { self.new ≡ self.old }
-        ensures journals { IfOk result (λ journals. (action : Asked) (before : KeptSession) → OnlyGrew before self.old → IsReady action before prepared.now self.old → AreSpelled journals (journals_of Two (session_of_kept self.old) action (changes_of prepared.now.kind self.old))) }
+        ensures prepared { prepared.new ≡ prepared.old }
+        ensures journals { let changes = changes_of prepared.old.kind self.old in
+            IfOk result (λ journals. (action : Asked) (before : KeptSession)
+            → OnlyGrew before self.old → IsReady action before prepared.old self.old
+            → AreSpelled journals (journals_of Two (session_of_kept self.old) action changes)) }
     {
         let mut changes = copies_of(alloc, self.changes(prepared))?;
         spell_action(
@@ -323,75 +245,5 @@ impl Session {
             }
         }
         steps
-    }
-
-    /// What a verify of this base, with further files, reports.
-    pub fn verify(&self, alloc: Global, base: &str, extras: &[String]) -> Result<Report, Fault>
-        ensures refused { IfErr result (λ fault. (fault ≡ Fault.Memory) ⊎ (report_in
-            self.now.folder.files base.now (map string_bytes extras.now) ≡ Err fault)) }
-        ensures report { IfOk result (λ report. report_in
-            self.now.folder.files base.now (map string_bytes extras.now)
-            ≡ Ok (report_of report)) }
-    {
-        check(alloc, self.folder(), base, extras)
-    }
-
-    /// Creates, and answers the steps. After a refusal names, bytes and history are as before.
-    pub fn create(&mut self, alloc: Global, args: &CreateArgs) -> Result<Steps, Fault>
-        ensures done { OnOk result (session_after (session_of_kept self.old)
-            (Do (Create (create_args_of args.now))) ≡ Ok (session_of_kept self.new)) }
-        ensures steps { IfOk result (λ steps. IfOk
-            (changes_asked (session_of_kept self.old) (Do (Create (create_args_of args.now))))
-            (λ changes. steps ≡ map step_of changes)) }
-        ensures unchanged { OnErr result (OnlyGrew self.old self.new) }
-        ensures refused { IfErr result (MayFail (Create (create_args_of args.now)) self.old) }
-    {
-        match self.prepare_create(alloc, args) {
-            Ok(prepared) => Ok(self.commit(prepared)),
-            Err(fault) => Err(fault),
-        }
-    }
-
-    // One action. Undo and redo take no memory.
-    fn act(&mut self, alloc: Global, action: &Action) -> Result<(), SessionFault>
-        requires { IsPlain (action_of action.now) }
-        ensures done { OnOk result (session_after (session_of_kept self.old) (action_of action.now) ≡ Ok (session_of_kept self.new)) }
-        ensures unchanged { OnErr result (OnlyGrew self.old self.new) }
-        ensures refused { OnErr result (MayBeRefused (history_of (session_of_kept self.old)) (action_of action.now)) }
-        ensures walks { CanWalk self.old }
-    {
-        let _folder = self.folder();
-        match action {
-            Action::Create(args) => match self.create(alloc, args) {
-                Ok(_) => Ok(()),
-                Err(fault) => Err(SessionFault::Plan(fault)),
-            },
-            Action::Undo => match self.undo() {
-                Ok(()) => Ok(()),
-                Err(_) => Err(SessionFault::NothingToUndo),
-            },
-            Action::Redo => match self.redo() {
-                Ok(()) => Ok(()),
-                Err(_) => Err(SessionFault::NothingToRedo),
-            },
-            Action::Repair { .. } | Action::Purge { .. } => unreachable!(),
-        }
-    }
-
-    /// Performs the actions in order, goes on after a refused one, and answers how many were accepted. As many
-    /// undos as commands were accepted lead back.
-    pub fn play(&mut self, alloc: Global, actions: &[Action]) -> usize
-        requires { AllByRecursion IsPlain (map action_of actions.now) }
-        ensures run { Run (history_of (session_of_kept self.old)) (map action_of actions.now) result (history_of (session_of_kept self.new)) }
-        ensures undos { AllByRecursion IsChanging (map action_of actions.now) → drop result (folders (history_of (session_of_kept self.new))) ≡ folders (history_of (session_of_kept self.old)) }
-    {
-        let mut accepted = 0;
-        for action in actions {
-            match self.act(alloc, action) {
-                Ok(()) => accepted += 1,
-                Err(_) => continue,
-            }
-        }
-        accepted
     }
 }

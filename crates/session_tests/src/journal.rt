@@ -36,14 +36,11 @@ pub fn commit<R: Abort + AllocGlobal>(
     session: &mut Session,
     action: &Action,
 ) -> Result<Journals, Fail> {
-    let (Action::Create(_) | Action::Undo | Action::Redo) = action else {
-        panic!(rt; "another action");
-    };
     let before = fingerprint_of(rt.alloc(), session)?;
-    let Ok(prepared) = session.prepare(rt.alloc(), action) else {
+    let Ok(mut prepared) = session.prepare(rt.alloc(), action) else {
         panic!(rt; "refused");
     };
-    let journals = session.journals(rt.alloc(), &prepared)?;
+    let journals = session.journals(rt.alloc(), &mut prepared)?;
     assert_eq!(rt; fingerprint_of(rt.alloc(), session)?, before);
     let _steps = session.commit(prepared);
     Ok(journals)

@@ -4,29 +4,33 @@ use Rattle.par2_spec.specs.Sessions.{KeptSession, session_of_kept, session_after
 use Rattle.par2_spec.specs.Views.{action_of}
 use Rattle.par2_spec.proofs.NamesLaws.{false_true}
 use Rattle.par2_spec.specs.declared.asked.Action.{Action}
-use Rattle.par2_journal.proofs.Acting.{undo_done, redo_done, undo_refused, redo_refused}
+use Rattle.par2_journal.proofs.Acting.{undo_done, redo_done, undo_refused, redo_refused, of_error}
 use Rattle.par2_journal.proofs.session.Session.act.Goals as goal
 
-pub returns-in-Ok-undo-clause-done : goal.returns-in-Ok-undo-clause-done
-returns-in-Ok-undo-clause-done c =
-    let some : c.args.self.now.undos ≢ [] = (λ none. false_true (c.in-Ok-undo.ensures.refused.1 none)) in
+pub returns-in_ok-undo-in-Undo-clause-done : goal.returns-in_ok-undo-in-Undo-clause-done
+returns-in_ok-undo-in-Undo-clause-done c =
+    let undone = c.in_ok-undo-in-Undo.ensures in
+    let some : c.args.self.now.undos ≢ [] = (λ none. false_true (undone.refused.1 none)) in
     ap (λ (a : Action). session_after (session_of_kept c.args.self.now) (action_of a)) c.in-Undo.is
     ∙ undo_done c.args.self.now some
-    ∙ ap (λ (s : KeptSession). Ok (session_of_kept s)) (sym c.in-Ok-undo.ensures.undone)
+    ∙ ap (λ (s : KeptSession). Ok (session_of_kept s)) (sym undone.undone)
 
-pub returns-in-Err-undo-clause-refused : goal.returns-in-Err-undo-clause-refused
-returns-in-Err-undo-clause-refused c =
-    subst (λ (a : Action). MayBeRefused (history_of (session_of_kept c.args.self.now)) (action_of a)) (sym c.in-Undo.is)
-    (undo_refused c.args.self.now (c.in-Err-undo.ensures.refused.0 refl))
+pub returns-in_err-undo-in-Undo-clause-refused : goal.returns-in_err-undo-in-Undo-clause-refused
+returns-in_err-undo-in-Undo-clause-refused c =
+    let empty = undo_refused c.args.self.now (c.in_err-undo-in-Undo.ensures.refused.0 refl) in
+    of_error c.from_residual-in_err-undo-in-Undo.result
+    (subst (λ (a : Action). MayBeRefused (history_of (session_of_kept c.args.self.now)) (action_of a)) (sym c.in-Undo.is) empty)
 
-pub returns-in-Ok-redo-clause-done : goal.returns-in-Ok-redo-clause-done
-returns-in-Ok-redo-clause-done c =
-    let some : c.args.self.now.redos ≢ [] = (λ none. false_true (c.in-Ok-redo.ensures.refused.1 none)) in
+pub returns-in_ok-redo-in-Redo-clause-done : goal.returns-in_ok-redo-in-Redo-clause-done
+returns-in_ok-redo-in-Redo-clause-done c =
+    let redone = c.in_ok-redo-in-Redo.ensures in
+    let some : c.args.self.now.redos ≢ [] = (λ none. false_true (redone.refused.1 none)) in
     ap (λ (a : Action). session_after (session_of_kept c.args.self.now) (action_of a)) c.in-Redo.is
     ∙ redo_done c.args.self.now some
-    ∙ ap (λ (s : KeptSession). Ok (session_of_kept s)) (sym c.in-Ok-redo.ensures.redone)
+    ∙ ap (λ (s : KeptSession). Ok (session_of_kept s)) (sym redone.redone)
 
-pub returns-in-Err-redo-clause-refused : goal.returns-in-Err-redo-clause-refused
-returns-in-Err-redo-clause-refused c =
-    subst (λ (a : Action). MayBeRefused (history_of (session_of_kept c.args.self.now)) (action_of a)) (sym c.in-Redo.is)
-    (redo_refused c.args.self.now (c.in-Err-redo.ensures.refused.0 refl))
+pub returns-in_err-redo-in-Redo-clause-refused : goal.returns-in_err-redo-in-Redo-clause-refused
+returns-in_err-redo-in-Redo-clause-refused c =
+    let empty = redo_refused c.args.self.now (c.in_err-redo-in-Redo.ensures.refused.0 refl) in
+    of_error c.from_residual-in_err-redo-in-Redo.result
+    (subst (λ (a : Action). MayBeRefused (history_of (session_of_kept c.args.self.now)) (action_of a)) (sym c.in-Redo.is) empty)

@@ -3,12 +3,8 @@ use Rattle.par2_spec.specs.Views.{action_of}
 use Rattle.par2_spec.specs.History.{Run, Ended}
 use Rattle.par2_spec.specs.Sessions.{session_of_kept, history_of}
 use Rattle.par2_spec.proofs.SessionLaws.{run_leaves}
-use Rattle.par2_journal.specs.Plain.{IsPlain}
-use Rattle.par2_journal.proofs.Acting.{plain_at, within_all, read_at, none_left, on_accepted, on_refused}
+use Rattle.par2_journal.proofs.Acting.{within_all, read_at, none_left, on_accepted, on_refused}
 use Rattle.par2_journal.proofs.session.Session.play.Goals as goal
-
-pub act-requires : goal.act-requires
-act-requires c = rw c.action-item.is (plain_at c.args.actions.now c.loop-action.action-index _ c.loop-action-test.true c.requires)
 
 pub loop-action-preserved-in-Err : goal.loop-action-preserved-in-Err
 loop-action-preserved-in-Err c =
@@ -29,10 +25,9 @@ loop-action-preserved c =
     let i = c.loop-action.action-index in
     let item = c.action-item.result in
     let within = c.loop-action-test.true in
-    let plain : IsPlain (action_of item) = rw c.action-item.is (plain_at actions i _ within c.requires) in
     record {
       counted = omega (arith, c.loop-action.invariant.counted);
-      run = on_accepted all i (within_all actions i within) (action_of item) (read_at actions i item within c.action-item.is) (history_of (session_of_kept c.args.self.now)) c.loop-action.self c.act.new.self c.loop-action.accepted c.loop-action.invariant.run plain c.in-Ok.ensures.walks c.in-Ok.ensures.done;
+      run = on_accepted all i (within_all actions i within) (action_of item) (read_at actions i item within c.action-item.is) (history_of (session_of_kept c.args.self.now)) c.loop-action.self c.act.new.self c.loop-action.accepted c.loop-action.invariant.run c.in-Ok.ensures.leads c.in-Ok.ensures.walks c.in-Ok.ensures.done;
     }
 
 pub returns-clause-run : goal.returns-clause-run

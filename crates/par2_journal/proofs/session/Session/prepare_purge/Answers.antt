@@ -1,0 +1,10 @@
+use Rattle.par2_spec.specs.Commands.{Purge}
+use Rattle.par2_journal.proofs.Asked.{plan_ready}
+use Rattle.par2_journal.proofs.session.Session.prepare_purge.Goals as goal
+
+pub returns-clause-ready : goal.returns-clause-ready
+returns-clause-ready c =
+    let planned = c.in_ok-changes.ensures in
+    let ready = c.prepare_changes.ensures in
+    plan_ready c.args.self.now c.prepare_changes.new.self (Purge c.args.base.now) c.in_ok-changes.changes tt ready.kept
+    (rw c.folder.ensures.folder at planned.accepted) (rw c.folder.ensures.folder at planned.changes) c.prepare_changes.result ready.kind ready.fits

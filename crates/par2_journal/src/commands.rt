@@ -1,0 +1,138 @@
+//! What a session is asked for: its commands, and runs of actions.
+use crate::{CreateArgs, Session, SessionFault, Steps};
+use par2_plan::{Fault, Report, check};
+use par2_spec::Action;
+use std::alloc::Global;
+
+impl Session {
+    ghost use Rattle.std.specs.Prelude.{◌≡◌, ◌⊎◌, Ok, Err, map, string_bytes, drop, IfOk, IfErr, OnOk, OnErr};
+    ghost use Rattle.std.specs.List.{AllByRecursion};
+    ghost use Rattle.par2_spec.specs.Commands.{Do, Create, Repair, Purge};
+    ghost use Rattle.par2_spec.specs.History.{Run, MayBeRefused, folders, IsChanging};
+    ghost use Rattle.par2_spec.specs.Reports.{report_in};
+    ghost use Rattle.par2_spec.specs.Rules.{LeadsToAfterAsked};
+    ghost use Rattle.par2_spec.specs.Sessions.{CanWalk, OnlyGrew, session_of_kept, session_after, changes_asked, history_of};
+    ghost use Rattle.par2_spec.specs.Texts.{step_of};
+    ghost use Rattle.par2_spec.specs.Views.{action_of, create_args_of};
+    ghost use Rattle.par2_plan.specs.Views.{report_of};
+    ghost use Rattle.par2_journal.specs.Faulted.{MayFail};
+
+    /// What a verify of this base, with further files, reports.
+    pub fn verify(&self, alloc: Global, base: &str, extras: &[String]) -> Result<Report, Fault>
+        ensures refused { IfErr result (λ fault. (fault ≡ Fault.Memory) ⊎ (report_in
+            self.now.folder.files base.now (map string_bytes extras.now) ≡ Err fault)) }
+        ensures report { IfOk result (λ report. report_in
+            self.now.folder.files base.now (map string_bytes extras.now)
+            ≡ Ok (report_of report)) }
+    {
+        check(alloc, self.folder(), base, extras)
+    }
+
+    /// Creates, and answers the steps. After a refusal names, bytes and history are as before.
+    pub fn create(&mut self, alloc: Global, args: &CreateArgs) -> Result<Steps, Fault>
+        ensures done { OnOk result (session_after (session_of_kept self.old)
+            (Do (Create (create_args_of args.now))) ≡ Ok (session_of_kept self.new)) }
+        ensures leads { OnOk result (LeadsToAfterAsked
+            self.old.folder.files (Do (Create (create_args_of args.now)))) }
+        ensures steps { IfOk result (λ steps. IfOk
+            (changes_asked (session_of_kept self.old) (Do (Create (create_args_of args.now))))
+            (λ changes. steps ≡ map step_of changes)) }
+        ensures unchanged { OnErr result (OnlyGrew self.old self.new) }
+        ensures refused { IfErr result (MayFail (Create (create_args_of args.now)) self.old) }
+    {
+        let prepared = self.prepare_create(alloc, args)?;
+        Ok(self.commit(prepared))
+    }
+
+    /// Repairs, with further files to search, and answers the steps. Where asked to it purges in the same command. After
+    /// a refusal names, bytes and history are as before.
+    pub fn repair(
+        &mut self,
+        alloc: Global,
+        base: &str,
+        extras: &[String],
+        purge: bool,
+    ) -> Result<Steps, Fault>
+        ensures done { let action = Do (Repair base.now (map string_bytes extras.now) purge) in
+            OnOk result (session_after (session_of_kept self.old) action
+            ≡ Ok (session_of_kept self.new)) }
+        ensures leads { let action = Do (Repair base.now (map string_bytes extras.now) purge) in
+            OnOk result (LeadsToAfterAsked self.old.folder.files action) }
+        ensures steps { let action = Do (Repair base.now (map string_bytes extras.now) purge) in
+            IfOk result (λ steps. IfOk (changes_asked (session_of_kept self.old) action)
+            (λ changes. steps ≡ map step_of changes)) }
+        ensures unchanged { OnErr result (OnlyGrew self.old self.new) }
+        ensures refused { let command = Repair base.now (map string_bytes extras.now) purge in
+            IfErr result (MayFail command self.old) }
+    {
+        let prepared = self.prepare_repair(alloc, base, extras, purge)?;
+        Ok(self.commit(prepared))
+    }
+
+    /// Removes the set's par files, and answers the steps. After a refusal names, bytes and history are as before.
+    pub fn purge(&mut self, alloc: Global, base: &str) -> Result<Steps, Fault>
+        ensures done { OnOk result (session_after (session_of_kept self.old)
+            (Do (Purge base.now)) ≡ Ok (session_of_kept self.new)) }
+        ensures leads { OnOk result (LeadsToAfterAsked
+            self.old.folder.files (Do (Purge base.now))) }
+        ensures steps { IfOk result (λ steps. IfOk
+            (changes_asked (session_of_kept self.old) (Do (Purge base.now)))
+            (λ changes. steps ≡ map step_of changes)) }
+        ensures unchanged { OnErr result (OnlyGrew self.old self.new) }
+        ensures refused { IfErr result (MayFail (Purge base.now) self.old) }
+    {
+        let prepared = self.prepare_purge(alloc, base)?;
+        Ok(self.commit(prepared))
+    }
+
+    // One action. Undo and redo take no memory.
+    fn act(&mut self, alloc: Global, action: &Action) -> Result<(), SessionFault>
+        ensures done { OnOk result (session_after (session_of_kept self.old)
+            (action_of action.now) ≡ Ok (session_of_kept self.new)) }
+        ensures leads { OnOk result (LeadsToAfterAsked
+            self.old.folder.files (action_of action.now)) }
+        ensures unchanged { OnErr result (OnlyGrew self.old self.new) }
+        ensures refused { OnErr result (MayBeRefused
+            (history_of (session_of_kept self.old)) (action_of action.now)) }
+        ensures walks { CanWalk self.old }
+    {
+        let _folder = self.folder();
+        match action {
+            Action::Create(args) => {
+                let _steps = self.create(alloc, args)?;
+            }
+            Action::Repair {
+                base,
+                extras,
+                purge,
+            } => {
+                let _steps = self.repair(alloc, base, extras, *purge)?;
+            }
+            Action::Purge { base } => {
+                let _steps = self.purge(alloc, base)?;
+            }
+            Action::Undo => self.undo()?,
+            Action::Redo => self.redo()?,
+        }
+        Ok(())
+    }
+
+    /// Performs the actions in order, goes on after a refused one, and answers how many were accepted. As many
+    /// undos as commands were accepted lead back.
+    pub fn play(&mut self, alloc: Global, actions: &[Action]) -> usize
+        ensures run { Run (history_of (session_of_kept self.old)) (map action_of actions.now)
+            result (history_of (session_of_kept self.new)) }
+        ensures undos { AllByRecursion IsChanging (map action_of actions.now)
+            → drop result (folders (history_of (session_of_kept self.new)))
+            ≡ folders (history_of (session_of_kept self.old)) }
+    {
+        let mut accepted = 0;
+        for action in actions {
+            match self.act(alloc, action) {
+                Ok(()) => accepted += 1,
+                Err(_) => continue,
+            }
+        }
+        accepted
+    }
+}
