@@ -11,8 +11,9 @@ use Rattle.par2_spec.specs.Journals.{Journal, Spells}
 use Rattle.par2_spec.specs.Opening.{settled_journal, halfway_journal, halfway_where, journals_of}
 use Rattle.par2_spec.specs.declared.Version.TheVariants.{Two}
 use Rattle.par2_journal.specs.Ready.{Kind, Changing, Undoing, Redoing, Ready, IsReady, CanBe, next_of, changes_of, committed}
-use Rattle.par2_journal.specs.Written.{SpellsWhere, AreSpelled, HasNext, entries_with, halfway_with, settled_with}
+use Rattle.par2_journal.specs.Written.{SpellsWhere, AreSpelled, HasNext, turn_of, entries_with, halfway_with, settled_with}
 use Rattle.par2_journal.specs.declared.spelling.Journals.{Journals}
+use Rattle.par2_journal.specs.declared.spelling.Turn.{Turn}
 use Rattle.par2_spec.proofs.SessionLaws.{next_taken}
 use Rattle.par2_journal.proofs.Acting.{same_session}
 use Rattle.par2_journal.proofs.Turned.{at, undone_to, redone_to, next_undo_is, next_redo_is}
@@ -78,8 +79,8 @@ done_after xs n within folder room cs =
     sym (append-nil (reverse (way_back folder.files cs ∷ reverse (take n xs))) ∙ reverse-append (way_back folder.files cs ∷ []) (reverse (take n xs)) ∙ ap (λ l. l ++ way_back folder.files cs ∷ []) (reverse-reverse (take n xs))) in
     λ i. record { version = Two; fingerprint = fingerprint (state_after_all folder cs).files; cursor = count i; entries = entries i; halfway = None }
 
-pub after_at : (xs : List (List Change)) (n : ℕ) (folder : FolderState) (room : ℕ) (kind : Kind) → HasNext kind n (length xs)
-    → settled_with (fingerprint (state_after_all folder (changes_of kind (at folder xs n room))).files) (entries_with kind n xs (way_back folder.files (changes_of kind (at folder xs n room))))
+pub after_at : (xs : List (List Change)) (n : ℕ) (folder : FolderState) (room : ℕ) (kind : Kind) → HasNext (turn_of kind) n (length xs)
+    → settled_with (fingerprint (state_after_all folder (changes_of kind (at folder xs n room))).files) (entries_with (turn_of kind) n xs (way_back folder.files (changes_of kind (at folder xs n room))))
     ≡ settled_journal Two (session_of_kept (committed kind (at folder xs n room)))
 after_at xs n folder room (Changing cs) next = done_after xs n next folder room cs
 after_at xs n folder room Undoing next =
@@ -99,7 +100,7 @@ after_at xs n folder room Redoing next =
     (redone_after xs n next folder room entry is)
 
 -- what fits has an entry at its cursor
-pub has_next : (xs : List (List Change)) (n : ℕ) (folder : FolderState) (room : ℕ) (kind : Kind) → n ≤ length xs → CanBe kind (at folder xs n room) → HasNext kind n (length xs)
+pub has_next : (xs : List (List Change)) (n : ℕ) (folder : FolderState) (room : ℕ) (kind : Kind) → n ≤ length xs → CanBe kind (at folder xs n room) → HasNext (turn_of kind) n (length xs)
 has_next xs n folder room (Changing cs) within can = within
 has_next xs zero folder room Undoing within can = absurd (can refl)
 has_next xs (suc n) folder room Undoing within can = (omega arith, within)
@@ -154,18 +155,18 @@ kind_taken (Changing cs) s h can = can.0
 kind_taken Undoing s h can = next_entry s.folder s.undos h.back can
 kind_taken Redoing s h can = next_entry s.folder s.redos h.forth can
 
-pub action_spelled : {E : Type 0} (r : Result Journals E) (xs entries : List (List Change)) (n : ℕ) → n ≤ length xs → (folder : FolderState) (room : ℕ) (kind : Kind) (ready : Ready) (cs : List Change)
-    → kind ≡ ready.kind → entries ≡ xs → cs ≡ changes_of ready.kind (at folder xs n room) → CanBe ready.kind (at folder xs n room)
+pub action_spelled : {E : Type 0} (r : Result Journals E) (xs entries : List (List Change)) (n : ℕ) → n ≤ length xs → (folder : FolderState) (room : ℕ) (turn : Turn) (ready : Ready) (cs : List Change)
+    → turn ≡ turn_of ready.kind → entries ≡ xs → cs ≡ changes_of ready.kind (at folder xs n room) → CanBe ready.kind (at folder xs n room)
     → IfOk r (λ j. SpellsWhere j.halfway (halfway_with (fingerprint folder.files) n entries (map fingerprint (folders_after folder.files cs)) (way_back folder.files cs)))
-    → IfOk r (λ j. Spells j.after.items (settled_with (fingerprint (state_after_all folder cs).files) (entries_with kind n entries (way_back folder.files cs))))
+    → IfOk r (λ j. Spells j.after.items (settled_with (fingerprint (state_after_all folder cs).files) (entries_with turn n entries (way_back folder.files cs))))
     → IfOk r (λ j. (action : Action) (before : KeptSession) → OnlyGrew before (at folder xs n room) → IsReady action before ready (at folder xs n room) → AreSpelled j (journals_of Two (session_of_kept (at folder xs n room)) action (changes_of ready.kind (at folder xs n room))))
-action_spelled (Err e) xs entries n within folder room kind ready cs ke ee ce can half after = tt
-action_spelled (Ok j) xs entries n within folder room kind ready cs ke ee ce can half after = λ action before grew is.
+action_spelled (Err e) xs entries n within folder room turn ready cs te ee ce can half after = tt
+action_spelled (Ok j) xs entries n within folder room turn ready cs te ee ce can half after = λ action before grew is.
     both_spelled j action (at folder xs n room) ready before grew is
     (halfway_at xs n within folder room j.halfway (changes_of ready.kind (at folder xs n room)) (way_back folder.files (changes_of ready.kind (at folder xs n room))) refl
     (subst (λ d. SpellsWhere j.halfway (halfway_with (fingerprint folder.files) n xs (map fingerprint (folders_after folder.files d)) (way_back folder.files d))) ce
     (subst (λ es. SpellsWhere j.halfway (halfway_with (fingerprint folder.files) n es (map fingerprint (folders_after folder.files cs)) (way_back folder.files cs))) ee half)))
     (subst (λ (t : Journal). Spells j.after.items t)
-    ((λ i. settled_with (fingerprint (state_after_all folder (ce i)).files) (entries_with (ke i) n (ee i) (way_back folder.files (ce i))))
+    ((λ i. settled_with (fingerprint (state_after_all folder (ce i)).files) (entries_with (te i) n (ee i) (way_back folder.files (ce i))))
     ∙ after_at xs n folder room ready.kind (has_next xs n folder room ready.kind within can))
     after)

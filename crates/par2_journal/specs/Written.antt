@@ -7,6 +7,8 @@ use Rattle.par2_spec.specs.Opening.{JournalPair}
 use Rattle.par2_spec.specs.declared.Version.TheVariants.{Two}
 use Rattle.par2_journal.specs.Ready.{Kind, Changing, Undoing, Redoing}
 use Rattle.par2_journal.specs.declared.spelling.Journals.{Journals}
+use Rattle.par2_journal.specs.declared.spelling.Turn.{Turn}
+use Rattle.par2_journal.specs.declared.spelling.Turn.TheVariants.{Add, Undo, Redo}
 
 -- a text that spells the journal, or neither
 abbrev pub SpellsWhere : Option (Vec ℕ Global) → Option Journal → Type 0
@@ -19,17 +21,23 @@ SpellsWhere (Some text) (Some j) = Spells text.items j
 abbrev pub AreSpelled : Journals → JournalPair → Type 0
 AreSpelled journals pair = SpellsWhere journals.halfway pair.before × Spells journals.after.items pair.after
 
+-- what committing does to the entries
+abbrev pub turn_of : Kind → Turn
+turn_of (Changing changes) = Add
+turn_of Undoing = Undo
+turn_of Redoing = Redo
+
 -- the cursor of a session with n entries has an entry for what is to be done
-abbrev pub HasNext : Kind → ℕ → ℕ → Type 0
-HasNext (Changing changes) cursor n = cursor ≤ n
-HasNext Undoing cursor n = (0 < cursor) × (cursor ≤ n)
-HasNext Redoing cursor n = cursor < n
+abbrev pub HasNext : Turn → ℕ → ℕ → Type 0
+HasNext Add cursor n = cursor ≤ n
+HasNext Undo cursor n = (0 < cursor) × (cursor ≤ n)
+HasNext Redo cursor n = cursor < n
 
 -- the entries and the cursor afterwards
-abbrev pub entries_with : Kind → ℕ → List (List Change) → List Change → List (List Change) × ℕ
-entries_with (Changing changes) cursor entries back = (take cursor entries ++ back ∷ [], cursor + 1)
-entries_with Undoing cursor entries back = (set entries (cursor - 1) back, cursor - 1)
-entries_with Redoing cursor entries back = (set entries cursor back, cursor + 1)
+abbrev pub entries_with : Turn → ℕ → List (List Change) → List Change → List (List Change) × ℕ
+entries_with Add cursor entries back = (take cursor entries ++ back ∷ [], cursor + 1)
+entries_with Undo cursor entries back = (set entries (cursor - 1) back, cursor - 1)
+entries_with Redo cursor entries back = (set entries cursor back, cursor + 1)
 
 -- the journal of entries while changes are made, of which there is at least one
 abbrev pub halfway_with : List ℕ → ℕ → List (List Change) → List (List ℕ) → List Change → Option Journal

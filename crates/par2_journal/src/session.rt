@@ -201,7 +201,7 @@ impl Session {
     }
 
     /// The journals of what was prepared for an action. The folder makes the changes and is turned back, also where
-    /// memory runs out.
+    /// memory runs out. Of a command's changes no bytes are copied but into the journals.
     pub fn journals(
         &mut self,
         alloc: Global,
@@ -215,10 +215,23 @@ impl Session {
             → OnlyGrew before self.old → IsReady action before prepared.old self.old
             → AreSpelled journals (journals_of Two (session_of_kept self.old) action changes)) }
     {
+        let turn = prepared.task.turn();
+        if let Task::Change(changes) = &mut prepared.task {
+            let changes = changes.as_mut_slice();
+            return spell_action(
+                alloc,
+                turn,
+                &self.entries,
+                self.cursor,
+                &mut self.folder,
+                changes,
+            );
+        }
+        // An entry stands in the journal as it is and turned, so that a copy is turned.
         let mut changes = copies_of(alloc, self.changes(prepared))?;
         spell_action(
             alloc,
-            &prepared.task,
+            turn,
             &self.entries,
             self.cursor,
             &mut self.folder,

@@ -4,12 +4,10 @@ ghost use Rattle.par2_spec.specs.Changes.{folders_after, state_after_all, takes_
 ghost use Rattle.par2_spec.specs.Folders.{fingerprint};
 ghost use Rattle.par2_spec.specs.Journals.{Spells};
 ghost use Rattle.par2_journal_bytes.specs.Views.{changes_of, lent_entries_of};
-ghost use Rattle.par2_journal.specs.Kinds.{kind_of};
 ghost use Rattle.par2_journal.specs.Written.{SpellsWhere, HasNext, entries_with, halfway_with, settled_with};
 
 use crate::Changes;
 use crate::passing::pass_through;
-use crate::prepared::Task;
 use par2_folder::{Change, Folder};
 use par2_journal_bytes::{HalfwayParts, JournalParts, Version, encode};
 use std::alloc::{AllocError, Global};
@@ -38,10 +36,20 @@ pub struct Journals {
     pub after: Vec<u8>,
 }
 
+// What an action does to the list of entries.
+#[derive(Clone, Copy, Debug, Drop)]
+pub enum Turn {
+    // The way back of a command becomes the entry before the cursor, and those behind it go.
+    Add,
+    // The way back takes the place of the entry before the cursor, or of that behind it.
+    Undo,
+    Redo,
+}
+
 // An action whose changes were applied to the folder, while the entries are as before: what its journals are made of.
 #[derive(Clone, Copy, Debug, Drop)]
 struct Passed<'a> {
-    task: &'a Task,
+    turn: Turn,
     folder: &'a Folder,
     entries: &'a [Changes],
     cursor: usize,
@@ -79,23 +87,23 @@ impl<'a> Passed<'a> {
 
     // The entries and the cursor afterwards.
     fn turned(&self, alloc: Global) -> Result<(Vec<&[Change]>, usize), AllocError>
-        requires { HasNext (kind_of self.now.task.now) self.now.cursor (length self.now.entries.now) }
-        ensures turned { IfOk result (λ p. (lent_entries_of p.0.items, p.1) ≡ entries_with (kind_of self.now.task.now) self.now.cursor self.now.entries.now (changes_of self.now.back.now)) }
+        requires { HasNext self.now.turn self.now.cursor (length self.now.entries.now) }
+        ensures turned { IfOk result (λ p. (lent_entries_of p.0.items, p.1) ≡ entries_with self.now.turn self.now.cursor self.now.entries.now (changes_of self.now.back.now)) }
         ensures cursor { IfOk result (λ p. p.1 ≤ length p.0.items) }
     {
         let mut list = lent(alloc, &self.entries)?;
-        match self.task {
-            Task::Change(_) => {
+        match self.turn {
+            Turn::Add => {
                 list.truncate(self.cursor);
                 list.push(self.back)?;
                 Ok((list, self.cursor + 1))
             }
-            Task::Undo => {
+            Turn::Undo => {
                 let at = self.cursor - 1;
                 list[at] = self.back;
                 Ok((list, at))
             }
-            Task::Redo => {
+            Turn::Redo => {
                 let at = self.cursor;
                 list[at] = self.back;
                 Ok((list, at + 1))
@@ -104,8 +112,8 @@ impl<'a> Passed<'a> {
     }
 
     fn after(self, alloc: Global) -> Result<Vec<u8>, AllocError>
-        requires { HasNext (kind_of self.task.now) self.cursor (length self.entries.now) }
-        ensures { IfOk result (λ text. Spells text.items (settled_with (fingerprint self.entry.folder.now.files) (entries_with (kind_of self.entry.task.now) self.entry.cursor self.entry.entries.now (changes_of self.entry.back.now)))) }
+        requires { HasNext self.turn self.cursor (length self.entries.now) }
+        ensures { IfOk result (λ text. Spells text.items (settled_with (fingerprint self.entry.folder.now.files) (entries_with self.entry.turn self.entry.cursor self.entry.entries.now (changes_of self.entry.back.now)))) }
     {
         let fingerprint = self.folder.fingerprint(alloc)?;
         let (entries, cursor) = self.turned(alloc)?;
@@ -123,10 +131,10 @@ impl<'a> Passed<'a> {
 
     // Both journals.
     fn spell(self, alloc: Global) -> Result<Journals, AllocError>
-        requires next { HasNext (kind_of self.task.now) self.cursor (length self.entries.now) }
+        requires next { HasNext self.turn self.cursor (length self.entries.now) }
         requires each { length self.fingerprints.now ≡ length self.back.now }
         ensures halfway { IfOk result (λ journals. SpellsWhere journals.halfway (halfway_with self.entry.before self.entry.cursor self.entry.entries.now self.entry.fingerprints.now (changes_of self.entry.back.now))) }
-        ensures after { IfOk result (λ journals. Spells journals.after.items (settled_with (fingerprint self.entry.folder.now.files) (entries_with (kind_of self.entry.task.now) self.entry.cursor self.entry.entries.now (changes_of self.entry.back.now)))) }
+        ensures after { IfOk result (λ journals. Spells journals.after.items (settled_with (fingerprint self.entry.folder.now.files) (entries_with self.entry.turn self.entry.cursor self.entry.entries.now (changes_of self.entry.back.now)))) }
     {
         let halfway = self.halfway(alloc)?;
         let after = self.after(alloc)?;
@@ -134,20 +142,22 @@ impl<'a> Passed<'a> {
     }
 }
 
-// The journals of an action with these changes, which are applied to the folder and turned back.
+// The journals of an action with these changes, which are applied to the folder and turned back, also where memory
+// runs out.
 pub(crate) fn spell_action(
     alloc: Global,
-    task: &Task,
+    turn: Turn,
     entries: &[Changes],
     cursor: usize,
     folder: &mut Folder,
     changes: &mut [Change],
 ) -> Result<Journals, AllocError>
     requires applies { IsTrue (takes_all folder.old (changes_of changes.old)) }
-    requires next { HasNext (kind_of task.now) cursor (length entries.now) }
+    requires next { HasNext turn cursor (length entries.now) }
     ensures folder { folder.new ≡ folder.old }
+    ensures changes { changes_of changes.new ≡ changes_of changes.old }
     ensures halfway { IfOk result (λ journals. SpellsWhere journals.halfway (halfway_with (fingerprint folder.old.files) cursor entries.now (map fingerprint (folders_after folder.old.files (changes_of changes.old))) (way_back folder.old.files (changes_of changes.old)))) }
-    ensures after { IfOk result (λ journals. Spells journals.after.items (settled_with (fingerprint (state_after_all folder.old (changes_of changes.old)).files) (entries_with (kind_of task.now) cursor entries.now (way_back folder.old.files (changes_of changes.old))))) }
+    ensures after { IfOk result (λ journals. Spells journals.after.items (settled_with (fingerprint (state_after_all folder.old (changes_of changes.old)).files) (entries_with turn cursor entries.now (way_back folder.old.files (changes_of changes.old))))) }
 {
     let before = folder.fingerprint(alloc)?;
     let fingerprints = match pass_through(alloc, folder, changes) {
@@ -158,7 +168,7 @@ pub(crate) fn spell_action(
         }
     };
     let passed = Passed {
-        task,
+        turn,
         folder: &*folder,
         entries,
         cursor,

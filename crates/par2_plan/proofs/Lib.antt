@@ -3,6 +3,7 @@ mod Choices
 mod Given
 mod Ids
 mod IndexBytes
+mod Lent
 mod Listed
 mod Lost
 mod Numbered

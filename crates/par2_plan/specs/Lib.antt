@@ -1,5 +1,6 @@
 pub mod Causes
 pub mod Findings
+pub mod Lent
 pub mod Matches
 pub mod Outputs
 pub mod Parts

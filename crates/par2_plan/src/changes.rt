@@ -25,8 +25,10 @@ impl Model for Changes {
 
 impl Changes {
     ghost use Rattle.std.specs.Prelude.{◌≡◌, ◌↔◌, ◌++◌, ◌∷◌, [], length, map, IsTrue, OnOk, OnErr};
+    ghost use Rattle.std.specs.Borrow.{sem};
     ghost use Rattle.par2_spec.specs.Changes.{takes_all, state_after_all, way_back};
     ghost use Rattle.par2_folder.specs.Views.{change_of};
+    ghost use Rattle.par2_plan.specs.Lent.{LendsChanges};
 
     /// No change.
     pub fn new(alloc: Global) -> Self
@@ -50,6 +52,14 @@ impl Changes {
         ensures { map change_of result.now ≡ self.now }
     {
         &self.items
+    }
+
+    /// The changes in order, to be turned one by one.
+    pub fn as_mut_slice(&mut self) -> &mut [Change]
+        ensures* writes_back { sem 𝓛 (LendsChanges self.entry result) }
+        ensures value { map change_of result.now ≡ self.old }
+    {
+        &mut self.items
     }
 
     /// How many changes there are.

@@ -2,7 +2,7 @@ use Rattle.std.proofs.Common.{length, ap, ◌∙◌, arith}
 use Rattle.std.proofs.lemmas.List.{length-map}
 use Rattle.par2_folder.specs.Views.{change_of}
 use Rattle.par2_journal_bytes.specs.Views.{changes_of}
-use Rattle.par2_journal.proofs.Ways.{back_taken, back_leads, back_length}
+use Rattle.par2_journal.proofs.Ways.{back_taken, back_leads, back_again, back_length}
 use Rattle.par2_journal.proofs.Spelled.{folders_count}
 use Rattle.par2_journal.proofs.spelling.spell_action.Goals as goal
 
@@ -16,6 +16,12 @@ returns-in-Err-clause-folder c =
     let passed = c.pass_through.ensures in
     c.apply_all.ensures.folder
     ∙ back_leads c.args.folder.now c.pass_through.new.folder (changes_of c.args.changes.now) (changes_of c.pass_through.new.changes) c.requires.applies passed.folder passed.way_back
+
+pub returns-in-Err-clause-changes : goal.returns-in-Err-clause-changes
+returns-in-Err-clause-changes c =
+    let passed = c.pass_through.ensures in
+    c.apply_all.ensures.way_back
+    ∙ back_again c.args.folder.now c.pass_through.new.folder (changes_of c.args.changes.now) (changes_of c.pass_through.new.changes) c.requires.applies passed.folder passed.way_back
 
 pub spell-answer-requires-clause-each : goal.spell-answer-requires-clause-each
 spell-answer-requires-clause-each c =
@@ -40,3 +46,9 @@ returns-clause-folder c =
     let passed = c.pass_through.ensures in
     c.apply_all-2.ensures.folder
     ∙ back_leads c.args.folder.now c.pass_through.new.folder (changes_of c.args.changes.now) (changes_of c.pass_through.new.changes) c.requires.applies passed.folder passed.way_back
+
+pub returns-clause-changes : goal.returns-clause-changes
+returns-clause-changes c =
+    let passed = c.pass_through.ensures in
+    c.apply_all-2.ensures.way_back
+    ∙ back_again c.args.folder.now c.pass_through.new.folder (changes_of c.args.changes.now) (changes_of c.pass_through.new.changes) c.requires.applies passed.folder passed.way_back

@@ -1,0 +1,13 @@
+use Rattle.std.proofs.Common.{List, map, refl, ap, ◌∙◌}
+use Rattle.par2_spec.specs.Changes as defined
+use Rattle.par2_folder.specs.Views.{change_of}
+use Rattle.par2_folder.specs.declared.change.Change.{Change}
+use Rattle.par2_plan.specs.Lent.{with_changes}
+use Rattle.par2_plan.proofs.Lent.{refilled}
+use Rattle.par2_plan.proofs.changes.Changes.as_mut_slice.Goals as goal
+
+pub returns : goal.returns
+returns c =
+    let items = c.self.inside.items in
+    let written = (λ (last : List Change). refilled change_of _ items.items last items.ok.0 ∙ ap (λ (old : List defined.Change). with_changes old (map change_of last)) c.self.view_is) in
+    ((refl, written), record { writes_back = tt; value = ap (map change_of) c.deref_mut.ensures.value ∙ c.self.view_is })
