@@ -100,7 +100,7 @@ after_at xs n folder room Redoing next =
     (redone_after xs n next folder room entry is)
 
 -- what fits has an entry at its cursor
-pub has_next : (xs : List (List Change)) (n : ℕ) (folder : FolderState) (room : ℕ) (kind : Kind) → n ≤ length xs → CanBe kind (at folder xs n room) → HasNext (turn_of kind) n (length xs)
+has_next : (xs : List (List Change)) (n : ℕ) (folder : FolderState) (room : ℕ) (kind : Kind) → n ≤ length xs → CanBe kind (at folder xs n room) → HasNext (turn_of kind) n (length xs)
 has_next xs n folder room (Changing cs) within can = within
 has_next xs zero folder room Undoing within can = absurd (can refl)
 has_next xs (suc n) folder room Undoing within can = (omega arith, within)
@@ -150,12 +150,12 @@ next_entry : (folder : FolderState) (entries : List (List Change)) → walks fol
 next_entry folder [] h some = absurd (some refl)
 next_entry folder (entry ∷ entries) h some = (next_taken folder (entry ∷ entries) entry entries h refl).0
 
-pub kind_taken : (kind : Kind) (s : KeptSession) → CanWalk s → CanBe kind s → takes_all s.folder (changes_of kind s) ≡ true
+kind_taken : (kind : Kind) (s : KeptSession) → CanWalk s → CanBe kind s → takes_all s.folder (changes_of kind s) ≡ true
 kind_taken (Changing cs) s h can = can.0
 kind_taken Undoing s h can = next_entry s.folder s.undos h.back can
 kind_taken Redoing s h can = next_entry s.folder s.redos h.forth can
 
-pub action_spelled : {E : Type 0} (r : Result Journals E) (xs entries : List (List Change)) (n : ℕ) → n ≤ length xs → (folder : FolderState) (room : ℕ) (turn : Turn) (ready : Ready) (cs : List Change)
+action_spelled : {E : Type 0} (r : Result Journals E) (xs entries : List (List Change)) (n : ℕ) → n ≤ length xs → (folder : FolderState) (room : ℕ) (turn : Turn) (ready : Ready) (cs : List Change)
     → turn ≡ turn_of ready.kind → entries ≡ xs → cs ≡ changes_of ready.kind (at folder xs n room) → CanBe ready.kind (at folder xs n room)
     → IfOk r (λ j. SpellsWhere j.halfway (halfway_with (fingerprint folder.files) n entries (map fingerprint (folders_after folder.files cs)) (way_back folder.files cs)))
     → IfOk r (λ j. Spells j.after.items (settled_with (fingerprint (state_after_all folder cs).files) (entries_with turn n entries (way_back folder.files cs))))
@@ -170,3 +170,27 @@ action_spelled (Ok j) xs entries n within folder room turn ready cs te ee ce can
     ((λ i. settled_with (fingerprint (state_after_all folder (ce i)).files) (entries_with (te i) n (ee i) (way_back folder.files (ce i))))
     ∙ after_at xs n folder room ready.kind (has_next xs n folder room ready.kind within can))
     after)
+
+-- of a session by its fields, for which something is ready
+module _ (xs : List (List Change)) (n : ℕ) (within : n ≤ length xs) (folder : FolderState) (room : ℕ) (s : KeptSession) (same : at folder xs n room ≡ s) (ready : Ready) (can : CanBe ready.kind s) where
+  pub ready_applies : CanWalk (at folder xs n room) → (cs : List Change) → cs ≡ changes_of ready.kind s → takes_all folder cs ≡ true
+  ready_applies walks cs are =
+      ap (takes_all folder) are ∙ ap (λ (t : KeptSession). takes_all t.folder (changes_of ready.kind s)) same ∙ kind_taken ready.kind s (subst CanWalk same walks) can
+
+  can_here : CanBe ready.kind (at folder xs n room)
+  can_here = subst (CanBe ready.kind) (sym same) can
+
+  module _ (turn : Turn) (does : turn ≡ turn_of ready.kind) (entries : List (List Change)) (lent : entries ≡ xs) where
+    pub ready_next : HasNext turn n (length entries)
+    ready_next =
+        subst (λ t. HasNext t n (length entries)) (sym does)
+        (subst (λ l. HasNext (turn_of ready.kind) n (length l)) (sym lent) (has_next xs n folder room ready.kind within can_here))
+
+    pub ready_spelled : {E : Type 0} (r : Result Journals E) (cs : List Change) → cs ≡ changes_of ready.kind s
+        → IfOk r (λ j. SpellsWhere j.halfway (halfway_with (fingerprint folder.files) n entries (map fingerprint (folders_after folder.files cs)) (way_back folder.files cs)))
+        → IfOk r (λ j. Spells j.after.items (settled_with (fingerprint (state_after_all folder cs).files) (entries_with turn n entries (way_back folder.files cs))))
+        → IfOk r (λ j. (action : Action) (before : KeptSession) → OnlyGrew before s → IsReady action before ready s → AreSpelled j (journals_of Two (session_of_kept s) action (changes_of ready.kind s)))
+    ready_spelled r cs are half after =
+        subst (λ (t : KeptSession). IfOk r (λ j. (action : Action) (before : KeptSession) → OnlyGrew before t → IsReady action before ready t → AreSpelled j (journals_of Two (session_of_kept t) action (changes_of ready.kind t))))
+        same
+        (action_spelled r xs entries n within folder room turn ready cs does lent (are ∙ ap (changes_of ready.kind) (sym same)) can_here half after)
