@@ -1,7 +1,6 @@
 -- Runs on one store keep one history.
 use Rattle.std.proofs.Common.{◌≡◌, inl, inr, List, [], ◌∷◌, Option, Some, None, Result, Ok, Err, Bool, true, false, refl, sym, ap, subst, ◌∙◌}
 use Rattle.std.specs.Prelude.{IsErr, is_ok, ℕ}
-use Rattle.std.specs.List.{AllByRecursion}
 use Rattle.par2_spec.specs.Commands.{Action, Do, Undo, Redo, Create, Verify, Repair, Purge}
 use Rattle.par2_spec.specs.Folders.{Folder}
 use Rattle.par2_spec.specs.History.{History, Refusal, Refused, MayBeRefused, Run, history_after}
@@ -15,10 +14,8 @@ use Rattle.par2_spec.specs.Stores.{Contents}
 use Rattle.par2_spec.specs.declared.JournalFault.{JournalFault}
 use Rattle.par2_spec.specs.declared.JournalFault.TheVariants.{JournalInvalid, FolderChanged, Memory}
 use Rattle.par2_spec.proofs.NamesLaws.{false_true}
-use Rattle.par2_spec.proofs.SessionLaws.{refused_alike}
+use Rattle.par2_spec.proofs.SessionLaws.{accepted_next, refused_alike}
 use Rattle.par2_spec.proofs.StopLaws.{taken_back_leads}
-use Rattle.par2_journal.specs.Plain.{IsPlain}
-use Rattle.par2_journal.proofs.Acting.{leads_asked}
 use Rattle.par2_journal_bytes.proofs.Whole.{one_reading}
 use Rattle.par2_tool.specs.Opened.{IsOpened}
 use Rattle.par2_tool.specs.Performed.{IsWritten}
@@ -100,18 +97,19 @@ written_holds Redo s after dropped old between new opened leads written = (kept 
 
 -- ---- all of them
 
-pub runs_go : (old new : Contents) (started : Started) (actions : List Action) (n : ℕ) → Holds old started → AllByRecursion IsPlain actions → Runs old actions n new
+pub runs_go : (old new : Contents) (started : Started) (actions : List Action) (n : ℕ) → Holds old started → Runs old actions n new
     → (end : Started) × Run (history_of started.session) actions n (history_of end.session) × Holds new end
-runs_go old new started [] n holds plain Ended = (started, history.Ended, holds)
-runs_go old new started (action ∷ actions) n holds plain (Accepted done rest) =
+runs_go old new started [] n holds Ended = (started, history.Ended, holds)
+runs_go old new started (action ∷ actions) n holds (Accepted done rest) =
     let same : started.session ≡ done.session = ap (λ (x : Started). x.session) (one_start old.files old.journal started _ holds.opens done.opened.opens) in
-    let leads = leads_asked done.session action plain.0 done.after (start_leads old.files old.journal _ done.opened.opens) done.leads in
-    let left = written_holds action done.session done.after _ old done.between _ done.opened done.leads done.written in
-    let later = runs_go _ new left.0 actions _ left.2 plain.1 rest in
-    let step = ap (λ s. history_after (history_of s) action) same ∙ leads ∙ ap (λ (s : Session). Ok (history_of s)) (sym left.1) in
+    let valid = start_leads old.files old.journal _ done.opened.opens in
+    let goes = (accepted_next done.session done.after action valid done.leads done.accepted).0 in
+    let left = written_holds action done.session done.after _ old done.between _ done.opened done.accepted done.written in
+    let later = runs_go _ new left.0 actions _ left.2 rest in
+    let step = ap (λ s. history_after (history_of s) action) same ∙ goes ∙ ap (λ (s : Session). Ok (history_of s)) (sym left.1) in
     (later.0, history.Accepted step later.1, later.2)
-runs_go old new started (action ∷ actions) n holds plain (Passed refused rest) =
+runs_go old new started (action ∷ actions) n holds (Passed refused rest) =
     let same : refused.0 ≡ started = one_start old.files old.journal refused.0 started refused.1.opens holds.opens in
     let may = subst (λ (x : Started). MayBeRefused (history_of x.session) action) same (may_be_refused refused.0.session action _ refused.2) in
-    let later = runs_go _ new started actions n (subst (λ (x : Started). Holds _ x) same refused.1.holds) plain.1 rest in
+    let later = runs_go _ new started actions n (subst (λ (x : Started). Holds _ x) same refused.1.holds) rest in
     (later.0, history.Passed may later.1, later.2)

@@ -4,3 +4,4 @@ mod Reopened
 mod Stopping
 mod Carried
 mod History
+mod Unread

@@ -1,4 +1,4 @@
--- Why a command is not performed.
+-- Why a command is not performed, and what is told of it.
 use Rattle.std.specs.Prelude.{◌<◌, ℕ}
 use Rattle.par2_spec.specs.Commands.{Action}
 use Rattle.par2_spec.specs.Sessions.{KeptSession, OnlyGrew}
@@ -6,6 +6,8 @@ use Rattle.par2_journal.specs.Faulted.{MayRefuse}
 use Rattle.par2_spec.specs.declared.Failure.{Failure}
 use Rattle.par2_spec.specs.declared.Failure.TheVariants as failure
 use Rattle.par2_journal.specs.declared.prepared.SessionFault.TheVariants.{Plan, NothingToUndo, NothingToRedo}
+use Rattle.par2_words.specs.declared.read.WordsFault.{WordsFault}
+use Rattle.par2_words.specs.declared.read.WordsFault.TheVariants as unread
 use Rattle.par2_tool.specs.declared.performing.PerformFault.{PerformFault}
 use Rattle.par2_spec.specs.declared.Fault.TheVariants.{Memory}
 use Rattle.par2_tool.specs.declared.performing.PerformFault.TheVariants.{Session, Store}
@@ -35,3 +37,8 @@ unopened_as unopened.Store = failure.Store
 unopened_as unopened.Memory = failure.Refused Memory
 unopened_as unopened.JournalInvalid = failure.JournalInvalid
 unopened_as unopened.FolderChanged = failure.FolderChanged
+
+-- what is told of words that aren't read
+abbrev pub unread_as : WordsFault → Failure
+unread_as unread.Arguments = failure.Arguments
+unread_as unread.Memory = failure.Refused Memory

@@ -4,6 +4,7 @@ use Rattle.std.specs.Io.KnownBytes.{Appends}
 use Rattle.clap.specs.Words.{Text}
 use Rattle.par2_spec.specs.Commands.{Action, Do, Undo, Redo}
 use Rattle.par2_spec.specs.History as history
+use Rattle.par2_spec.specs.Rules.{LeadsToAfterAsked}
 use Rattle.par2_spec.specs.Sessions.{Session, changes_asked, session_after}
 use Rattle.par2_spec.specs.Opening.{Started}
 use Rattle.par2_spec.specs.Stores.{Contents}
@@ -14,7 +15,7 @@ use Rattle.par2_spec.specs.declared.Fault.TheVariants as fault
 use Rattle.par2_spec.specs.declared.JournalFault.TheVariants as journal
 use Rattle.par2_printing.specs.Printed.{words_asked}
 use Rattle.par2_words.specs.Meanings.{asked_by}
-use Rattle.par2_tool.specs.Asked.{IsAvailable}
+use Rattle.par2_tool.specs.Asked.{IsCommandLine}
 use Rattle.par2_tool.specs.Held.{IsOpening, Holds, kept, TellsApartAlong, TellsApartBack}
 use Rattle.par2_tool.specs.Opened.{IsOpened}
 use Rattle.par2_tool.specs.Performed.{IsAnswer, IsWritten}
@@ -35,7 +36,9 @@ pub record IsDone (action : Action) (old new : Contents) (dropped : Bool) (outco
   pub opened : IsOpened old between (record { session = session; dropped = dropped })
   pub answer : IsAnswer session action outcome
   pub after : Session
-  pub leads : session_after session action ≡ Ok after
+  pub accepted : session_after session action ≡ Ok after
+  -- the changes of a command apply in order and lead to its folder
+  pub leads : LeadsToAfterAsked session.folder action
   pub written : IsWritten action after between new
 
 -- the store is as it was, or as opening it left it
@@ -87,9 +90,9 @@ IsFailed action old new failure.Arguments = ⊥
 IsFailed action old new failure.JournalInvalid = IsOpening old (Err journal.JournalInvalid) × (new ≡ old)
 IsFailed action old new failure.FolderChanged = IsChanged action old new
 
--- words that ask for nothing that is built, or that can't be read for want of memory
+-- words that are no command line, or that can't be read for want of memory
 abbrev pub IsUnread : List Text → Failure → Type 0
-IsUnread words reason = ((reason ≡ failure.Arguments) × (IsAvailable words → ⊥)) ⊎ (reason ≡ failure.Refused fault.Memory)
+IsUnread words reason = ((reason ≡ failure.Arguments) × (IsCommandLine words → ⊥)) ⊎ (reason ≡ failure.Refused fault.Memory)
 
 -- what a run that tells this makes of the store. It leaves the store as it was where the words aren't read
 abbrev pub Leaves : List Text → Told → Contents → Contents → Type 0

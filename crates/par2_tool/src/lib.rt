@@ -2,7 +2,6 @@
 //! and what comes of it is printed.
 #![tactic(auto)]
 
-mod asking;
 mod laws;
 mod opening;
 mod performing;

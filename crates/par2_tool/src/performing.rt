@@ -1,8 +1,8 @@
 //! A command is performed on a store and its session.
 ghost use Rattle.std.specs.Prelude.{◌≡◌, ◌<◌, ◌≤◌, Ok, IfOk, IfErr, OnOk, OnErr};
+ghost use Rattle.par2_spec.specs.Rules.{LeadsToAfterAsked};
 ghost use Rattle.par2_spec.specs.Sessions.{session_of_kept, session_after, changes_asked};
 ghost use Rattle.par2_spec.specs.Views.{command_of};
-ghost use Rattle.par2_journal.specs.Plain.{IsPlain};
 ghost use Rattle.par2_tool.specs.Held.{TellsApartAlong, OpensAsBeforeOrAfter};
 ghost use Rattle.par2_tool.specs.Performed.{outcome_of, AreSomeMade, IsAnswer, IsVerify, IsWritten};
 ghost use Rattle.par2_tool.specs.Refused.{IsRefused, IsSession};
@@ -42,10 +42,11 @@ pub fn perform<S: FolderStore>(
     session: &mut Session,
     command: &Command,
 ) -> Result<Outcome, PerformFault>
-    requires { IsPlain (command_of command.now) }
     ensures honest { S.honest store.old → S.honest store.new }
     ensures session { OnOk result (session_after
         (session_of_kept session.old) (command_of command.now) ≡ Ok (session_of_kept session.new)) }
+    ensures leads { OnOk result (LeadsToAfterAsked
+        (session_of_kept session.old).folder (command_of command.now)) }
     ensures answer { IfOk result (λ outcome. IsAnswer
         (session_of_kept session.old) (command_of command.now) (outcome_of outcome)) }
     ensures written { S.honest store.old → (S.contents store.old).files ≡ session.old.folder.files
@@ -77,11 +78,11 @@ pub fn perform<S: FolderStore>(
         }
         Command::Act(action) => action,
     };
-    let prepared = match session.prepare(alloc, action) {
+    let mut prepared = match session.prepare(alloc, action) {
         Ok(prepared) => prepared,
         Err(fault) => return Err(PerformFault::Session(fault)),
     };
-    let journals = match session.journals(alloc, &prepared) {
+    let journals = match session.journals(alloc, &mut prepared) {
         Ok(journals) => journals,
         Err(_) => return Err(PerformFault::Session(SessionFault::Plan(Fault::Memory))),
     };

@@ -2,18 +2,17 @@
 ghost use Rattle.std.specs.Prelude.{◌≡◌, ◌≤◌, IfOk, IfErr, IsTrue, map, string_bytes};
 ghost use Rattle.par2_spec.specs.Sessions.{Session};
 ghost use Rattle.par2_spec.specs.Views.{command_of};
-ghost use Rattle.par2_journal.specs.Plain.{IsPlain};
-ghost use Rattle.par2_tool.specs.Refused.{failed, unopened_as};
+ghost use Rattle.par2_tool.specs.Refused.{failed, unopened_as, unread_as};
 ghost use Rattle.par2_tool.specs.Performed.{outcome_of, IsAnswer};
 ghost use Rattle.par2_tool.specs.Told.{Told, IsBack, IsCause, IsDone, IsFailed, IsTold, Leaves, Shown};
 
-use crate::asking::asked_command;
 use crate::opening::{OpenFault, Started, open_store};
 use crate::performing::{Outcome, PerformFault, perform};
 use crate::printing::{fail, tell};
 use par2_folder::FolderStore;
 use par2_journal::SessionFault;
 use par2_spec::{Action, Command, Failure, Fault};
+use par2_words::{WordsFault, read_words};
 use std::alloc::Global;
 use std::io::Write;
 
@@ -22,6 +21,16 @@ use std::io::Write;
 struct Accepted {
     outcome: Outcome,
     dropped: bool,
+}
+
+// Why words are no command.
+fn unread(fault: WordsFault) -> Failure
+    ensures { result ≡ unread_as fault }
+{
+    match fault {
+        WordsFault::Arguments => Failure::Arguments,
+        WordsFault::Memory => Failure::Refused(Fault::Memory),
+    }
 }
 
 // Why a command failed.
@@ -62,7 +71,6 @@ fn carry_out<S: FolderStore>(
     store: &mut S,
     command: &Command,
 ) -> Result<Accepted, Failure>
-    requires { IsPlain (command_of command.now) }
     ensures honest { S.honest store.old → S.honest store.new }
     ensures answer { IfOk result (λ accepted. (session : Session)
         × IsAnswer session (command_of command.now) (outcome_of accepted.outcome)) }
@@ -109,9 +117,9 @@ pub fn run<S: FolderStore, O: Write, E: Write>(
         (S.contents store.old) (S.contents store.new)) }
     ensures later { S.failures store.old ≤ S.failures store.new }
 {
-    let command = match asked_command(alloc, words) {
+    let command = match read_words(alloc, words) {
         Ok(command) => command,
-        Err(failure) => return fail(err, None, failure),
+        Err(fault) => return fail(err, None, unread(fault)),
     };
     match carry_out(alloc, store, &command) {
         Ok(accepted) => tell(out, &accepted.outcome, accepted.dropped),

@@ -1,6 +1,4 @@
 //! Actions that are performed on one session.
-ghost use Rattle.par2_spec.specs.Views.{command_of};
-ghost use Rattle.par2_journal.specs.Plain.{IsPlain};
 
 use crate::rows::{one_file, row, show};
 use anyhow::Result;
@@ -18,9 +16,7 @@ fn step<S: FolderStore>(
     store: &mut S,
     session: &mut Session,
     command: &Command,
-) -> Result<()>
-    requires { IsPlain (command_of command.now) }
-{
+) -> Result<()> {
     match perform(rt.alloc(), store, session, command) {
         Ok(Outcome::Done(steps)) => println!(rt; "performed: {}", steps.len())?,
         Ok(Outcome::Report(report)) => println!(rt; "verified: {:?}", report.verdict())?,

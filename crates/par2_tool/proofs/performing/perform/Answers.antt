@@ -1,9 +1,12 @@
 use Rattle.std.proofs.Common.{◌≡◌, List, sym, ap, subst, ◌∙◌, map}
 use Rattle.par2_spec.specs.Changes as defined
+use Rattle.par2_spec.specs.Commands.{Verify}
+use Rattle.par2_spec.specs.Rules.{LeadsToAfterAsked}
 use Rattle.par2_spec.specs.Sessions.{KeptSession, session_of_kept, session_after, changes_asked}
 use Rattle.par2_spec.specs.Stores.{Contents}
 use Rattle.par2_spec.specs.Views.{action_of, command_of}
 use Rattle.par2_spec.specs.declared.asked.Command.{Command}
+use Rattle.par2_spec.proofs.AcceptedCommands.{command_leads}
 use Rattle.par2_plan.specs.Views.{report_of}
 use Rattle.par2_journal.specs.Faulted.{MayRefuse}
 use Rattle.par2_journal.specs.declared.prepared.SessionFault.TheVariants.{Plan}
@@ -21,6 +24,11 @@ returns-in-Ok-clause-session g c =
     let report = rw c.as_str.ensures.value at (rw c.as_slice.ensures.value at c.in-Ok.ensures.report) in
     ap (λ (x : Command). session_after s (command_of x)) c.in-Verify.is
     ∙ verify_leaves s _ _ (report_of c.in-Ok.report) report
+
+pub returns-in-Ok-clause-leads : goal.returns-in-Ok-clause-leads
+returns-in-Ok-clause-leads g c =
+    let folder = (session_of_kept c.args.session.now).folder in
+    subst (λ (x : Command). LeadsToAfterAsked folder (command_of x)) (sym c.in-Verify.is) (λ _. command_leads folder (Verify _ _) tt)
 
 pub returns-in-Err-clause-refused : goal.returns-in-Err-clause-refused
 returns-in-Err-clause-refused g c =
@@ -52,9 +60,9 @@ returns-in-Ok-write_down-clause-written g c honest files =
     let start = g.S.FolderStore.contents c.args.store.now in
     let new = g.S.FolderStore.contents c.write_down.new.store in
     let spelled = c.in-Ok-journals.ensures.journals action old grew is in
-    let made : map change_of c.changes.result.now ≡ changes_of ready.kind mid = c.changes.ensures ∙ ap (changes_of ready.kind) c.in-Ok-journals.ensures.unchanged in
+    let made : map change_of c.changes.result.now ≡ changes_of ready.kind mid = c.changes.ensures ∙ (λ i. changes_of (c.in-Ok-journals.ensures.prepared i).kind (c.in-Ok-journals.ensures.unchanged i)) in
     let there : new ≡ written_down start journals (changes_of ready.kind mid) = c.in-Ok-write_down.ensures.done honest ∙ ap (written_down start journals) made in
-    let after : c.commit.new.self ≡ committed ready.kind mid = c.commit.ensures.session ∙ ap (committed ready.kind) c.in-Ok-journals.ensures.unchanged in
+    let after : c.commit.new.self ≡ committed ready.kind mid = c.commit.ensures.session ∙ (λ i. committed (c.in-Ok-journals.ensures.prepared i).kind (c.in-Ok-journals.ensures.unchanged i)) in
     let all : HoldsJournaled (session_of_kept (committed ready.kind mid)) (written_down start journals (changes_of ready.kind mid)) = (
       written_holds old mid action ready grew is c.folder-folder.ensures.walks journals spelled start files,
       written_journal old mid action ready grew is journals spelled start,
@@ -75,7 +83,7 @@ returns-in-Err-write_down-clause-stopped g c honest files apart =
     let action = action_of c.in-Act.action in
     let start = g.S.FolderStore.contents c.args.store.now in
     let new = g.S.FolderStore.contents c.write_down.new.store in
-    let made : map change_of c.changes.result.now ≡ changes_of ready.kind mid = c.changes.ensures ∙ ap (changes_of ready.kind) c.in-Ok-journals.ensures.unchanged in
+    let made : map change_of c.changes.result.now ≡ changes_of ready.kind mid = c.changes.ensures ∙ (λ i. changes_of (c.in-Ok-journals.ensures.prepared i).kind (c.in-Ok-journals.ensures.unchanged i)) in
     let stop = subst (λ (cs : List defined.Change). IsStoppedAt start journals cs new) made (c.in-Err-write_down.ensures.stopped honest) in
     let apart_from : TellsApartAlong (session_of_kept old) action = subst (λ (x : Command). TellsApartAlong (session_of_kept old) (command_of x)) c.in-Act.is apart in
     subst (λ (x : Command). OpensAsBeforeOrAfter (session_of_kept old) (command_of x) start new) (sym c.in-Act.is)
@@ -88,7 +96,7 @@ returns-in-Err-write_down-clause-in_order g c honest =
     let journals = c.in-Ok-journals.journals in
     let start = g.S.FolderStore.contents c.args.store.now in
     let new = g.S.FolderStore.contents c.write_down.new.store in
-    let made : map change_of c.changes.result.now ≡ changes_of ready.kind mid = c.changes.ensures ∙ ap (changes_of ready.kind) c.in-Ok-journals.ensures.unchanged in
+    let made : map change_of c.changes.result.now ≡ changes_of ready.kind mid = c.changes.ensures ∙ (λ i. changes_of (c.in-Ok-journals.ensures.prepared i).kind (c.in-Ok-journals.ensures.unchanged i)) in
     let stop = subst (λ (cs : List defined.Change). IsStoppedAt start journals cs new) made (c.in-Err-write_down.ensures.stopped honest) in
     subst (λ (x : Command). AreSomeMade (changes_asked (session_of_kept c.args.session.now) (command_of x)) start.files new.files) (sym c.in-Act.is)
     (asked_in_order c.args.session.now mid (action_of c.in-Act.action) ready c.in-Ok-prepare.ensures.kept c.in-Ok-prepare.ensures.ready start journals new stop)

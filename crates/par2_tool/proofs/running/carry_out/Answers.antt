@@ -41,7 +41,8 @@ returns-in-Ok-perform-clause-done g c honest =
       opened = record { opens = c.in-Ok.ensures.opened honest; holds = holds; left = c.in-Ok.ensures.left honest };
       answer = c.in-Ok-perform.ensures.answer;
       after = session_of_kept c.perform.new.session;
-      leads = c.in-Ok-perform.ensures.session;
+      accepted = c.in-Ok-perform.ensures.session;
+      leads = c.in-Ok-perform.ensures.leads;
       written = c.in-Ok-perform.ensures.written (c.open_store.ensures.honest honest) holds.files;
     }
 

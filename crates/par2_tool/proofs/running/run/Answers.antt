@@ -1,23 +1,22 @@
 use Rattle.std.specs.Prelude.{map, string_bytes}
-use Rattle.std.proofs.Common.{inl, inr, Err, [], refl, ap, ◌∙◌}
+use Rattle.std.proofs.Common.{inl, inr, [], refl, sym, subst}
 use Rattle.par2_spec.specs.Views.{command_of}
+use Rattle.par2_spec.specs.declared.Failure.{Failure}
 use Rattle.par2_printing.specs.Printed.{words_asked}
 use Rattle.par2_tool.specs.Performed.{outcome_of}
 use Rattle.par2_tool.specs.Told.{Answered, Failed, IsUnread}
+use Rattle.par2_tool.proofs.Unread.{unread_words}
 use Rattle.par2_tool.proofs.running.run.Goals as goal
 
 pub returns-in-Err-clause-told : goal.returns-in-Err-clause-told
 returns-in-Err-clause-told g c =
-    let failure = c.in-Err.failure in
     let words = map string_bytes c.args.words.now in
-    let unread = elim c.in-Err.ensures.refused as (λ _. IsUnread words failure) [
-      | inl e ↦ inl (e, c.asked_command.ensures.arguments (c.in-Err.is ∙ ap Err e))
-      | inr e ↦ inr e
-    ] in (
-      Failed [] failure,
-      inl (refl, unread),
+    let told : IsUnread words c.unread.result =
+    subst (λ (failure : Failure). IsUnread words failure) (sym c.unread.ensures) (unread_words words c.in-Err.fault c.in-Err.ensures.arguments) in (
+      Failed [] c.unread.result,
+      inl (refl, told),
       (c.fail.ensures, refl),
-      λ _. inl (unread, refl),
+      λ _. inl (told, refl),
     )
 
 pub returns-in-Ok-carry_out-clause-told : goal.returns-in-Ok-carry_out-clause-told
@@ -25,16 +24,16 @@ returns-in-Ok-carry_out-clause-told g c =
     let accepted = c.in-Ok-carry_out.accepted in
     let action = command_of c.in-Ok.command in (
       Answered accepted.dropped (outcome_of accepted.outcome),
-      (action, c.in-Ok.ensures.asked, c.in-Ok-carry_out.ensures.answer.0, c.in-Ok-carry_out.ensures.answer.1),
+      (action, c.in-Ok.ensures.command, c.in-Ok-carry_out.ensures.answer.0, c.in-Ok-carry_out.ensures.answer.1),
       (c.tell.ensures, refl),
-      λ honest. (action, c.in-Ok.ensures.asked, c.in-Ok-carry_out.ensures.done honest),
+      λ honest. (action, c.in-Ok.ensures.command, c.in-Ok-carry_out.ensures.done honest),
     )
 
 pub returns-clause-told : goal.returns-clause-told
 returns-clause-told g c =
     let action = command_of c.in-Ok.command in (
       Failed (words_asked action) c.in-Err-carry_out.failure,
-      inr (action, c.in-Ok.ensures.asked, refl, c.in-Err-carry_out.ensures.cause),
+      inr (action, c.in-Ok.ensures.command, refl, c.in-Err-carry_out.ensures.cause),
       (c.fail-in-Err-carry_out.ensures, refl),
-      λ honest. inr (action, c.in-Ok.ensures.asked, c.in-Err-carry_out.ensures.failed honest),
+      λ honest. inr (action, c.in-Ok.ensures.command, c.in-Err-carry_out.ensures.failed honest),
     )
