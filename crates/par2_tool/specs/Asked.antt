@@ -1,6 +1,6 @@
 -- Words that ask for an action.
-use Rattle.std.specs.Prelude.{◌≡◌, List, Some, true}
-use Rattle.clap.specs.Words.{Text, takes}
+use Rattle.std.specs.Prelude.{◌≡◌, List, [], Some, true}
+use Rattle.clap.specs.Words.{Text, fault_of, takes}
 use Rattle.par2_spec.specs.Commands.{Action}
 use Rattle.par2_words.specs.Definition.{par2_app}
 use Rattle.par2_words.specs.Meanings.{asked_by}
@@ -10,3 +10,8 @@ pub record IsCommandLine (words : List Text) : Type 0 where
   pub taken : takes par2_app words ≡ true
   pub action : Action
   pub asked : asked_by words ≡ Some action
+
+-- the words ask for this action, and the definition of the command line finds no fault with them
+pub record AskFor (words : List Text) (action : Action) : Type 0 where
+  pub asked : asked_by words ≡ Some action
+  pub faultless : fault_of par2_app words ≡ []

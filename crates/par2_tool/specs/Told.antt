@@ -1,5 +1,5 @@
 -- What a run of the program does to a store, and what it prints.
-use Rattle.std.specs.Prelude.{◌≡◌, ◌⊎◌, ◌<◌, ℕ, Bool, List, [], Option, Some, Ok, Err, length, take, true}
+use Rattle.std.specs.Prelude.{◌≡◌, ◌⊎◌, ◌<◌, ℕ, Bool, List, [], Option, Ok, Err, length, take, true}
 use Rattle.std.specs.Io.KnownBytes.{Appends}
 use Rattle.clap.specs.Words.{Text}
 use Rattle.par2_spec.specs.Commands.{Action, Do, Undo, Redo}
@@ -14,8 +14,7 @@ use Rattle.par2_spec.specs.declared.Failure.TheVariants as failure
 use Rattle.par2_spec.specs.declared.Fault.TheVariants as fault
 use Rattle.par2_spec.specs.declared.JournalFault.TheVariants as journal
 use Rattle.par2_printing.specs.Printed.{words_asked}
-use Rattle.par2_words.specs.Meanings.{asked_by}
-use Rattle.par2_tool.specs.Asked.{IsCommandLine}
+use Rattle.par2_tool.specs.Asked.{AskFor, IsCommandLine}
 use Rattle.par2_tool.specs.Held.{IsOpening, Holds, kept, TellsApartAlong, TellsApartBack}
 use Rattle.par2_tool.specs.Opened.{IsOpened}
 use Rattle.par2_tool.specs.Performed.{IsAnswer, IsWritten}
@@ -97,9 +96,9 @@ IsUnread words reason = ((reason ≡ failure.Arguments) × (IsCommandLine words 
 -- what a run that tells this makes of the store. It leaves the store as it was where the words aren't read
 abbrev pub Leaves : List Text → Told → Contents → Contents → Type 0
 Leaves words (Answered dropped outcome) old new =
-    (action : Action) × (asked_by words ≡ Some action) × IsDone action old new dropped outcome
+    (action : Action) × AskFor words action × IsDone action old new dropped outcome
 Leaves words (Failed spoken reason) old new =
-    (IsUnread words reason × (new ≡ old)) ⊎ ((action : Action) × (asked_by words ≡ Some action) × IsFailed action old new reason)
+    (IsUnread words reason × (new ≡ old)) ⊎ ((action : Action) × AskFor words action × IsFailed action old new reason)
 
 -- ---- on any store
 
@@ -119,10 +118,10 @@ IsCause action before after failure.FolderChanged = Unit {0}
 -- that it can speak of; or, without any, why the words aren't read
 abbrev pub IsTold : List Text → ℕ → ℕ → Told → Type 0
 IsTold words before after (Answered dropped outcome) =
-    (action : Action) × (asked_by words ≡ Some action) × (session : Session) × IsAnswer session action outcome
+    (action : Action) × AskFor words action × (session : Session) × IsAnswer session action outcome
 IsTold words before after (Failed spoken reason) =
     ((spoken ≡ []) × IsUnread words reason)
-    ⊎ ((action : Action) × (asked_by words ≡ Some action) × (spoken ≡ words_asked action) × IsCause action before after reason)
+    ⊎ ((action : Action) × AskFor words action × (spoken ≡ words_asked action) × IsCause action before after reason)
 
 -- the text was written and the status is its own; or the writer failed, it holds a part of the text, which
 -- lacks a byte at least, and the status is 6

@@ -3,6 +3,7 @@ use Rattle.std.proofs.Common.{inl, inr, [], refl, sym, subst}
 use Rattle.par2_spec.specs.Views.{command_of}
 use Rattle.par2_spec.specs.declared.Failure.{Failure}
 use Rattle.par2_printing.specs.Printed.{words_asked}
+use Rattle.par2_tool.specs.Asked.{AskFor}
 use Rattle.par2_tool.specs.Performed.{outcome_of}
 use Rattle.par2_tool.specs.Told.{Answered, Failed, IsUnread}
 use Rattle.par2_tool.proofs.Unread.{unread_words}
@@ -22,18 +23,20 @@ returns-in-Err-clause-told g c =
 pub returns-in-Ok-carry_out-clause-told : goal.returns-in-Ok-carry_out-clause-told
 returns-in-Ok-carry_out-clause-told g c =
     let accepted = c.in-Ok-carry_out.accepted in
-    let action = command_of c.in-Ok.command in (
+    let action = command_of c.in-Ok.command in
+    let asked : AskFor (map string_bytes c.args.words.now) action = record { asked = c.in-Ok.ensures.command; faultless = c.in-Ok.ensures.faultless } in (
       Answered accepted.dropped (outcome_of accepted.outcome),
-      (action, c.in-Ok.ensures.command, c.in-Ok-carry_out.ensures.answer.0, c.in-Ok-carry_out.ensures.answer.1),
+      (action, asked, c.in-Ok-carry_out.ensures.answer.0, c.in-Ok-carry_out.ensures.answer.1),
       (c.tell.ensures, refl),
-      λ honest. (action, c.in-Ok.ensures.command, c.in-Ok-carry_out.ensures.done honest),
+      λ honest. (action, asked, c.in-Ok-carry_out.ensures.done honest),
     )
 
 pub returns-clause-told : goal.returns-clause-told
 returns-clause-told g c =
-    let action = command_of c.in-Ok.command in (
+    let action = command_of c.in-Ok.command in
+    let asked : AskFor (map string_bytes c.args.words.now) action = record { asked = c.in-Ok.ensures.command; faultless = c.in-Ok.ensures.faultless } in (
       Failed (words_asked action) c.in-Err-carry_out.failure,
-      inr (action, c.in-Ok.ensures.command, refl, c.in-Err-carry_out.ensures.cause),
+      inr (action, asked, refl, c.in-Err-carry_out.ensures.cause),
       (c.fail-in-Err-carry_out.ensures, refl),
-      λ honest. inr (action, c.in-Ok.ensures.command, c.in-Err-carry_out.ensures.failed honest),
+      λ honest. inr (action, asked, c.in-Err-carry_out.ensures.failed honest),
     )
