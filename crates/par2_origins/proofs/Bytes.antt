@@ -1,0 +1,60 @@
+-- Sizes of what a set says of files: digests of sixteen bytes and checksums of 32 bits.
+use Rattle.std.proofs.Common.{◌≡◌, ℕ, zero, suc, ◌+◌, ◌-◌, ◌*◌, ◌/◌, ◌%◌, ◌^◌, ◌<◌, List, [], ◌∷◌, ◌++◌, length, map, take, drop, replicate, arith}
+use Rattle.std.specs.Prelude.{bit_xor, fold}
+use Rattle.std.specs.List.{AllByRecursion, range_with_len}
+use Rattle.std.proofs.lemmas.Nat.{xor_lt}
+use Rattle.md5.proofs.StandardFacts.{length-md5}
+use Rattle.par2_spec.specs.Checksums.{crc_step, crc_steps, crc_byte, crc32, pair_of}
+use Rattle.par2_spec.specs.Slices.{slice_at, slice_count, slices}
+use Rattle.par2_spec.specs.Rank.{AreBytes}
+use Rattle.par2_spec.specs.Packing.{IsPair}
+
+-- ---- checksums
+
+step_small : (c : ℕ) → c < 2 ^ 32 → crc_step c < 2 ^ 32
+step_small c h = xor_lt 32 (c / 2) (c % 2 * 0xEDB88320) (omega (arith, h)) (omega arith)
+
+steps_small : (n c : ℕ) → c < 2 ^ 32 → crc_steps n c < 2 ^ 32
+steps_small zero c h = h
+steps_small (suc n) c h = steps_small n (crc_step c) (step_small c h)
+
+fold_small : (bytes : List ℕ) (c : ℕ) → AreBytes bytes → c < 2 ^ 32 → fold crc_byte c bytes < 2 ^ 32
+fold_small [] c h low = low
+fold_small (b ∷ bytes) c h low = fold_small bytes (crc_byte c b) h.1 (steps_small 8 (bit_xor c b) (xor_lt 32 c b low (omega (arith, h.0))))
+
+crc_small : (bytes : List ℕ) → AreBytes bytes → crc32 bytes < 2 ^ 32
+unfolding crc32
+crc_small bytes h = xor_lt 32 (fold crc_byte 0xFFFFFFFF bytes) 0xFFFFFFFF (fold_small bytes 0xFFFFFFFF h (omega arith)) (omega arith)
+
+-- ---- the bytes of slices
+
+bytes-append : (xs ys : List ℕ) → AreBytes xs → AreBytes ys → AreBytes (xs ++ ys)
+bytes-append [] ys h k = k
+bytes-append (x ∷ xs) ys h k = (h.0, bytes-append xs ys h.1 k)
+
+bytes-take : (n : ℕ) (xs : List ℕ) → AreBytes xs → AreBytes (take n xs)
+bytes-take zero xs h = tt
+bytes-take (suc n) [] h = tt
+bytes-take (suc n) (x ∷ xs) h = (h.0, bytes-take n xs h.1)
+
+bytes-drop : (n : ℕ) (xs : List ℕ) → AreBytes xs → AreBytes (drop n xs)
+bytes-drop zero xs h = h
+bytes-drop (suc n) [] h = tt
+bytes-drop (suc n) (x ∷ xs) h = bytes-drop n xs h.1
+
+bytes-zeros : (n : ℕ) → AreBytes (replicate n 0)
+bytes-zeros zero = tt
+bytes-zeros (suc n) = (omega arith, bytes-zeros n)
+
+bytes-slice_at : (s : ℕ) (text : List ℕ) (j : ℕ) → AreBytes text → AreBytes (slice_at s text j)
+bytes-slice_at s text j h =
+    bytes-append (take s (drop (j * s) text)) _ (bytes-take s (drop (j * s) text) (bytes-drop (j * s) text h)) (bytes-zeros _)
+
+pairs_at : (s : ℕ) (text : List ℕ) (a n : ℕ) → AreBytes text → AllByRecursion IsPair (map pair_of (map (slice_at s text) (range_with_len a n)))
+pairs_at s text a zero h = tt
+pairs_at s text a (suc n) h =
+    ((length-md5 (slice_at s text a), crc_small (slice_at s text a) (bytes-slice_at s text a h)), pairs_at s text (a + 1) n h)
+
+-- the pairs of a text's slices
+pub pairs_are : (s : ℕ) (text : List ℕ) → AreBytes text → AllByRecursion IsPair (map pair_of (slices s text))
+pairs_are s text h = pairs_at s text 0 (slice_count s (length text)) h

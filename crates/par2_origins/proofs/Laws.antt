@@ -1,0 +1,28 @@
+-- The laws of packets that the proofs are given.
+use Rattle.std.proofs.Common.{◌≡◌, ℕ, ◌<◌, ◌^◌, List, length, map, false, Some}
+use Rattle.std.specs.Prelude.{◌==◌}
+use Rattle.std.specs.List.{AllByRecursion, list_any}
+use Rattle.par2_spec.specs.declared.Kind.TheVariants.{Main, FileDesc, Ifsc, Recovery}
+use Rattle.par2_spec.specs.Packets.{read_main, read_desc, read_ifsc, read_recovery}
+use Rattle.par2_spec.specs.Packing.{IsPair}
+use Rattle.par2_spec.specs.Volumes.{FileRecord, main_bytes, desc_bytes, ifsc_bytes, recovery_bytes}
+
+-- bodies that were written say what was given
+pub record AreRead : Type 0 where
+  pub main : (s : ℕ) (files : List FileRecord) → s < 2 ^ 64 → length files < 2 ^ 32
+      → AllByRecursion (λ file. length file.id ≡ 16) files
+      → read_main Main (main_bytes s files)
+      ≡ Some (record { slice_size = s; ids = map (λ file. file.id) files })
+  pub desc : (file : FileRecord) → length file.id ≡ 16 → length file.digest ≡ 16
+      → length file.digest_16k ≡ 16 → file.size < 2 ^ 64 → list_any (λ b. b == 0) file.name ≡ false
+      → read_desc FileDesc (desc_bytes file) ≡ Some (record {
+        id = file.id;
+        digest = file.digest;
+        digest_16k = file.digest_16k;
+        size = file.size;
+        name = file.name;
+      })
+  pub ifsc : (file : FileRecord) → length file.id ≡ 16 → AllByRecursion IsPair file.pairs
+      → read_ifsc Ifsc (ifsc_bytes file) ≡ Some (record { id = file.id; pairs = file.pairs })
+  pub recovery : (e : ℕ) (bytes : List ℕ) → e < 2 ^ 32
+      → read_recovery Recovery (recovery_bytes e bytes) ≡ Some (record { exponent = e; bytes = bytes })

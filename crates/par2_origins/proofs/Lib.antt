@@ -1,0 +1,5 @@
+mod Laws
+mod Bytes
+mod Said
+mod Reading
+mod Made

@@ -1,0 +1,124 @@
+-- A set whose packets are those of certain files was made from them.
+use Rattle.std.proofs.Common.{◌≡◌, ℕ, Bool, true, false, cond, List, [], ◌∷◌, map, Option, Some, None, Result, Ok, Err, refl, sym, ap, ◌∙◌, subst}
+use Rattle.std.specs.Prelude.{filter, flat_map, slice_get, ok_or}
+use Rattle.std.specs.List.{AllByRecursion}
+use Rattle.std.specs.Str.{bytes_eq}
+use Rattle.std.specs.FinMap as map_of
+use Rattle.std.proofs.lemmas.Bool.{false≢true}
+use Rattle.par2_spec.specs.declared.Fault.{Fault}
+use Rattle.par2_spec.specs.declared.Fault.TheVariants.{NoPackets, NoMain, NoDescription, NoChecksums, BadSet}
+use Rattle.par2_spec.specs.Recovery.{recovery}
+use Rattle.par2_spec.specs.Folders.{Folder, File, bytes_of}
+use Rattle.par2_spec.specs.Packets.{Packet, MainBody, DescBody, accepted}
+use Rattle.par2_spec.specs.Volumes.{all_slices}
+use Rattle.par2_spec.specs.Sets.{ParSet, Target, MadeFrom, ◌>>=◌, unless, all_some, is_slice_size, packets_with, main_of, description_of, target_of, are_in_profile, recovery_of, read_set, other_par_names, set_of, target_of_file}
+use Rattle.par2_origins.specs.Packets.{AreDescribed, is_read, IsOf, AreOf, AreAllOf}
+use Rattle.par2_origins.proofs.Laws.{AreRead}
+use Rattle.par2_origins.proofs.Said.{Says, packet_says, all-append, all_of_each, same_some, no_some, main_of_files, desc_of_file}
+use Rattle.par2_origins.proofs.Reading.{AllSay, same_bytes, main_is, descriptions_are, targets_are, recovery_is}
+
+-- ---- the steps of the reading, the last one first
+
+abbrev pub came_out : {A : Type 0} → Result A Fault → Bool
+came_out (Ok a) = true
+came_out (Err e) = false
+
+abbrev pub value_or : {A : Type 0} → A → Result A Fault → A
+value_or d (Ok a) = a
+value_or d (Err e) = d
+
+took : {A B : Type 0} (r : Result A Fault) (f : A → Result B Fault) (b : B) → (r >>= f) ≡ Ok b → (a : A) × (r ≡ Ok a) × (f a ≡ Ok b)
+took (Ok a) f b h = (a, refl, h)
+took (Err e) f b h = absurd (false≢true (ap came_out h))
+
+was_some : {A : Type 0} (o : Option A) (e : Fault) (a : A) → ok_or o e ≡ Ok a → o ≡ Some a
+was_some None e a h = absurd (false≢true (ap came_out h))
+was_some (Some x) e a h = ap (λ r. Some (value_or x r)) h
+
+abbrev pub set_with : List ℕ → List Packet → ℕ → List Target → ParSet
+set_with id packets s targets = record { id = id; slice_size = s; targets = targets; recovery = recovery_of packets s }
+
+abbrev pub finished : List ℕ → List Packet → ℕ → List Target → Result ParSet Fault
+finished id packets s targets = Ok (set_with id packets s targets)
+
+abbrev pub by_checksums : List ℕ → List Packet → ℕ → List DescBody → Bool → Result ParSet Fault
+by_checksums id packets s described in_profile = ok_or (all_some (map (target_of packets s) described)) NoChecksums >>= finished id packets s
+
+abbrev pub by_profile : List ℕ → List Packet → ℕ → List DescBody → Result ParSet Fault
+by_profile id packets s described = unless (are_in_profile s described) BadSet >>= by_checksums id packets s described
+
+abbrev pub by_descriptions : List ℕ → List Packet → MainBody → Bool → Result ParSet Fault
+by_descriptions id packets main right_size = ok_or (all_some (map (description_of packets) main.ids)) NoDescription >>= by_profile id packets main.slice_size
+
+abbrev pub by_size : List ℕ → List Packet → MainBody → Result ParSet Fault
+by_size id packets main = unless (is_slice_size main.slice_size) BadSet >>= by_descriptions id packets main
+
+abbrev pub by_main : List ℕ → List (List ℕ) → Packet → Result ParSet Fault
+by_main base others first =
+    let packets = packets_with first.set_id (flat_map accepted (base ∷ others)) in
+    ok_or (main_of first.set_id packets) NoMain >>= by_size first.set_id packets
+
+-- what is left to say of a set that was made from these files
+abbrev IsTold : ℕ → List File → ParSet → Type 0
+IsTold s files set =
+    (set.slice_size ≡ s) × (set.targets ≡ map (target_of_file s) files)
+    × AllByRecursion (λ r. r.1 ≡ recovery s (all_slices s files) r.0) (map_of.entries set.recovery)
+
+-- a set of this identifier that reads, where all packets of the identifier say what the files do
+told : (base : List ℕ) (others : List (List ℕ)) (set : ParSet) (laws : AreRead) (s : ℕ) (files : List File) (d : AreDescribed s files)
+    → AllSay s files (packets_with set.id (flat_map accepted (base ∷ others))) → read_set base others ≡ Ok set → IsTold s files set
+unfolding read_set main_of_files
+told base others set laws s files d say h =
+    let first = took (ok_or (slice_get (accepted base) 0) NoPackets) (by_main base others) set h in
+    let id = first.0.set_id in
+    let packets = packets_with id (flat_map accepted (base ∷ others)) in
+    let main = took (ok_or (main_of id packets) NoMain) (by_size id packets) set first.2 in
+    let n = main.0.slice_size in
+    let size = took (unless (is_slice_size n) BadSet) (by_descriptions id packets main.0) set main.2 in
+    let described = took (ok_or (all_some (map (description_of packets) main.0.ids)) NoDescription) (by_profile id packets n) set size.2 in
+    let profile = took (unless (are_in_profile n described.0) BadSet) (by_checksums id packets n described.0) set described.2 in
+    let targets = took (ok_or (all_some (map (target_of packets n) described.0)) NoChecksums) (finished id packets n) set profile.2 in
+    let made : set_with id packets n targets.0 ≡ set = ap (value_or set) targets.2 in
+    let all : AllSay s files packets = subst (λ x. AllSay s files (packets_with x (flat_map accepted (base ∷ others)))) (ap (λ p. p.id) (sym made)) say in
+    let same_main : main.0 ≡ main_of_files s files = main_is laws s files d packets all id main.0 (was_some (main_of id packets) NoMain main.0 main.1) in
+    let same_size : n ≡ s = ap (λ m. m.slice_size) same_main in
+    let same_ds : described.0 ≡ map (desc_of_file s) files =
+    descriptions_are laws s files d packets all described.0
+    (ap (λ m. all_some (map (description_of packets) m.ids)) (sym same_main) ∙ was_some (all_some (map (description_of packets) main.0.ids)) NoDescription described.0 described.1) in
+    let same_ts : targets.0 ≡ map (target_of_file s) files =
+    targets_are laws s files d packets all targets.0
+    (sym (ap (λ k. all_some (map (target_of packets k) described.0)) same_size ∙ ap (λ ds. all_some (map (target_of packets s) ds)) same_ds)
+    ∙ was_some (all_some (map (target_of packets n) described.0)) NoChecksums targets.0 targets.1) in
+    subst (IsTold s files) made (
+      same_size,
+      same_ts,
+      subst (λ k. AllByRecursion (λ r. r.1 ≡ recovery s (all_slices s files) r.0) (map_of.entries (recovery_of packets k))) (sym same_size) (recovery_is laws s files d packets all),
+    )
+
+-- ---- the packets of a folder
+
+kept : (id : List ℕ) (s : ℕ) (files : List File) (ps : List Packet) → AllByRecursion (λ p. p.set_id ≡ id → is_read p.kind ≡ true → IsOf s files p) ps → AllSay s files (packets_with id ps)
+kept id s files [] h = tt
+kept id s files (p ∷ ps) h = step (bytes_eq p.set_id id) refl (packets_with id ps) (kept id s files ps h.1)
+  where
+    step : (b : Bool) → bytes_eq p.set_id id ≡ b → (rest : List Packet) → AllSay s files rest → AllSay s files (cond b (p ∷ rest) rest)
+    step true e rest k = (packet_says s files p (h.0 (same_bytes p.set_id id e)), k)
+    step false e rest k = k
+
+of_texts : (folder : Folder) (id : List ℕ) (s : ℕ) (files : List File) (names : List (List ℕ)) → AllByRecursion (λ name. AreOf id s files (bytes_of folder name)) names
+    → AllByRecursion (λ p. p.set_id ≡ id → is_read p.kind ≡ true → IsOf s files p) (flat_map accepted (map (bytes_of folder) names))
+of_texts folder id s files [] h = tt
+of_texts folder id s files (name ∷ names) h =
+    all-append (λ p. p.set_id ≡ id → is_read p.kind ≡ true → IsOf s files p) (accepted (bytes_of folder name)) (flat_map accepted (map (bytes_of folder) names)) h.0 (of_texts folder id s files names h.1)
+
+-- all packets of the identifier say what the files do
+pub folder_says : (folder : Folder) (base id : List ℕ) (s : ℕ) (files : List File) → AreAllOf folder base id s files
+    → AllSay s files (packets_with id (flat_map accepted (bytes_of folder base ∷ map (bytes_of folder) (other_par_names folder base))))
+folder_says folder base id s files h = kept id s files _ (of_texts folder id s files (base ∷ other_par_names folder base) h)
+
+pub made_from : AreRead → (folder : Folder) (base : List ℕ) (set : ParSet) (s : ℕ) (files : List File) → set_of folder base ≡ Ok set → AreDescribed s files
+    → AreAllOf folder base set.id s files → MadeFrom folder base files s
+unfolding set_of
+made_from laws folder base set s files reads d all =
+    let is = told (bytes_of folder base) (map (bytes_of folder) (other_par_names folder base)) set laws s files d (folder_says folder base set.id s files all) reads in
+    record { set = set; reads = reads; slice_size = is.0; targets = is.1; recovered = is.2 }

@@ -1,0 +1,237 @@
+-- What a set is read as, where its packets are those of certain files.
+use Rattle.std.proofs.Common.{◌≡◌, ℕ, zero, suc, ◌+◌, ◌%◌, ◌<◌, min, arith, Bool, true, false, cond, List, [], ◌∷◌, ◌++◌, length, map, Option, Some, None, Result, Ok, Err, refl, sym, ap, ◌∙◌, subst, unwrap_or, inl, inr, ◌⊎◌, ◌&&◌}
+use Rattle.std.specs.Prelude.{IsTrue, is_some, ◌==◌, nat_lt, filter, filter_map, flat_map, find, slice_get, option_map, option_and_then, ok_or, if◌then◌else◌}
+use Rattle.std.specs.List.{AllByRecursion, Contains, IsDistinct, cons_option, range_with_len, slice_index_or}
+use Rattle.std.specs.Str.{bytes_eq}
+use Rattle.std.specs.FinMap as map_of
+use Rattle.std.specs.FinMap.{entries-insert, len-entries, len-empty, nat_cmp-IsAntisymmetric}
+use Rattle.std.specs.FinMap.Entries.{put, by_order}
+use Rattle.std.specs.Cmp.{nat_cmp_total}
+use Rattle.std.specs.Ordering.{nat_cmp}
+use Rattle.std.specs.declared.cmp.Ordering.{Ordering}
+use Rattle.std.specs.declared.cmp.Ordering.TheVariants.{Less, Equal, Greater}
+use Rattle.std.proofs.lemmas.Slice.Eq.{bytes_eq-Decides}
+use Rattle.std.proofs.lemmas.Bool.{false≢true, and_parts, eqb-true}
+use Rattle.std.proofs.Math.Nat.{zero-div, zero-mod}
+use Rattle.md5.specs.Md5.{md5}
+use Rattle.par2_spec.specs.declared.Fault.{Fault}
+use Rattle.par2_spec.specs.declared.Fault.TheVariants.{NoPackets, NoMain, NoDescription, NoChecksums, BadSet}
+use Rattle.par2_spec.specs.Checksums.{Pair, pair_of}
+use Rattle.par2_spec.specs.Slices.{slice_count, slice_at, slices}
+use Rattle.par2_spec.specs.Recovery.{recovery}
+use Rattle.par2_spec.specs.Folders.{Folder, File, bytes_of}
+use Rattle.par2_spec.specs.Packets.{Packet, accepted, MainBody, DescBody, IfscBody, RecoveryBody, read_main, read_desc, read_ifsc, read_recovery}
+use Rattle.par2_spec.specs.Volumes.{FileRecord, record_of, id_of, all_slices}
+use Rattle.par2_spec.specs.Sets.{ParSet, Target, MadeFrom, ◌>>=◌, unless, all_some, is_slice_size, packets_with, main_of, description_of, pairs_of, target_of, are_in_profile, recovery_of, read_set, other_par_names, set_of, target_of_file}
+use Rattle.par2_origins.specs.Packets.{AreDescribed, is_read, IsOf, AreOf, AreAllOf}
+use Rattle.par2_origins.proofs.Laws.{AreRead}
+use Rattle.par2_origins.proofs.Said.{all-append, all-map, all_of_each, of_contained, all_contained, Says, packet_says, same_some, no_some, main_of_files, desc_of_file, ifsc_of_file, main_said, desc_said, ifsc_said, recovery_said, IsOfOne, IsTrueSlice}
+
+-- ---- lists
+
+pub same_bytes : (a b : List ℕ) → bytes_eq a b ≡ true → a ≡ b
+same_bytes a b h = (bytes_eq-Decides a b).0 h
+
+pub itself : (a : List ℕ) → bytes_eq a a ≡ true
+itself a = (bytes_eq-Decides a a).1 refl
+
+pub all-filter : {A : Type 0} (P : A → Type 0) (test : A → Bool) (xs : List A) → AllByRecursion P xs → AllByRecursion P (filter test xs)
+all-filter P test [] h = tt
+all-filter {A = A} P test (x ∷ xs) h = step (test x) (filter test xs) (all-filter P test xs h.1)
+  where
+    step : (b : Bool) (ys : List A) → AllByRecursion P ys → AllByRecursion P (cond b (x ∷ ys) ys)
+    step true ys k = (h.0, k)
+    step false ys k = k
+
+all-filter_map : {A B : Type 0} (P : A → Type 0) (Q : B → Type 0) (g : A → Option B) → ((x : A) → P x → (y : B) → g x ≡ Some y → Q y) → (xs : List A) → AllByRecursion P xs → AllByRecursion Q (filter_map g xs)
+all-filter_map P Q g f [] h = tt
+all-filter_map {B = B} P Q g f (x ∷ xs) h = step (g x) refl (filter_map g xs) (all-filter_map P Q g f xs h.1)
+  where
+    step : (o : Option B) → g x ≡ o → (ys : List B) → AllByRecursion Q ys → AllByRecursion Q (cons_option o ys)
+    step None e ys k = k
+    step (Some y) e ys k = (f x h.0 y e, k)
+
+all_flat : {A B : Type 0} (P : B → Type 0) (g : A → List B) (xs : List A) → AllByRecursion (λ x. AllByRecursion P (g x)) xs → AllByRecursion P (flat_map g xs)
+all_flat P g [] h = tt
+all_flat P g (x ∷ xs) h = all-append P (g x) (flat_map g xs) h.0 (all_flat P g xs h.1)
+
+-- what is found is one of them and passes
+pub found_one : {A : Type 0} (P : A → Type 0) (test : A → Bool) (xs : List A) → AllByRecursion P xs → (x : A) → find test xs ≡ Some x → P x × (test x ≡ true)
+found_one P test [] h x e = absurd (no_some x e)
+found_one {A = A} P test (y ∷ xs) h x e = step (test y) refl e (found_one P test xs h.1 x)
+  where
+    step : (b : Bool) → test y ≡ b → cond b (Some y) (find test xs) ≡ Some x → (find test xs ≡ Some x → P x × (test x ≡ true)) → P x × (test x ≡ true)
+    step true t k later = subst (λ z. P z × (test z ≡ true)) (same_some y x k) (h.0, t)
+    step false t k later = later k
+
+first_one : {A : Type 0} (P : A → Type 0) (xs : List A) → AllByRecursion P xs → (x : A) → slice_get xs 0 ≡ Some x → P x
+first_one P [] h x e = absurd (no_some x e)
+first_one P (y ∷ xs) h x e = subst P (same_some y x e) h.0
+
+-- items that are there are what each can only be
+all_there : {A B : Type 0} (g : A → Option B) (f : A → B) (xs : List A) → AllByRecursion (λ x. (y : B) → g x ≡ Some y → y ≡ f x) xs → (ys : List B) → all_some (map g xs) ≡ Some ys → ys ≡ map f xs
+all_there g f [] h ys e = sym (same_some [] ys e)
+all_there {A = A} {B = B} g f (x ∷ xs) h ys e = step (g x) refl (all_some (map g xs)) (λ zs b. all_there g f xs h.1 zs b) e
+  where
+    step : (o : Option B) → g x ≡ o → (os : Option (List B)) → ((zs : List B) → os ≡ Some zs → zs ≡ map f xs) → option_and_then (λ y. option_map (λ zs. y ∷ zs) os) o ≡ Some ys → ys ≡ map f (x ∷ xs)
+    step None a os b k = absurd (no_some ys k)
+    step (Some y) a None b k = absurd (no_some ys k)
+    step (Some y) a (Some zs) b k =
+        sym (same_some (y ∷ zs) ys k) ∙ ap (λ w. w ∷ zs) (h.0 y a) ∙ ap (λ ws. f x ∷ ws) (b zs refl)
+
+-- ---- one file for each File ID
+
+pub contained_cases : {A : Type 0} (y : A) (xs : List A) (x : A) → Contains (y ∷ xs) x → (y ≡ x) ⊎ Contains xs x
+contained_cases {A = A} y xs x i = by_place i.0 i.1 i.2
+  where
+    by_place : (k : ℕ) → k < length (y ∷ xs) → slice_index_or (y ∷ xs) k x ≡ x → (y ≡ x) ⊎ Contains xs x
+    by_place zero low e = inl e
+    by_place (suc k) low e = inr (k, omega (arith, low), e)
+
+of_mapped : {A B : Type 0} (P : B → Type 0) (g : A → B) (xs : List A) → AllByRecursion P (map g xs) → AllByRecursion (λ x. P (g x)) xs
+of_mapped P g [] h = tt
+of_mapped P g (x ∷ xs) h = (h.0, of_mapped P g xs h.1)
+
+one_by_id : (files : List File) → IsDistinct bytes_eq (map id_of files) → (a b : File) → Contains files a → Contains files b → id_of a ≡ id_of b → a ≡ b
+unfolding IsDistinct
+one_by_id [] d a b i j e = absurd (omega (arith, i.1))
+one_by_id (x ∷ files) d a b i j e = elim (contained_cases x files a i) as (λ _. a ≡ b) [
+  | inl first ↦ elim (contained_cases x files b j) as (λ _. a ≡ b) [
+    | inl too ↦ sym first ∙ too
+    | inr later ↦ absurd (apart b later (ap id_of first ∙ e))
+  ]
+  | inr there ↦ elim (contained_cases x files b j) as (λ _. a ≡ b) [
+    | inl too ↦ absurd (apart a there (ap id_of too ∙ sym e))
+    | inr later ↦ one_by_id files d.1 a b there later e
+  ]
+]
+  where
+    apart : (c : File) → Contains files c → id_of x ≡ id_of c → ⊥
+    apart c k same =
+        let other = of_contained (λ y. bytes_eq (id_of x) (id_of y) ≡ false) files c (of_mapped (λ n. bytes_eq (id_of x) n ≡ false) id_of files d.0) k in
+        false≢true (sym other ∙ subst (λ n. bytes_eq (id_of x) n ≡ true) same (itself (id_of x)))
+
+-- ---- steps of the reading
+
+pub mapped : {A B : Type 0} (f : A → B) (o : Option A) (b : B) → option_map f o ≡ Some b → (a : A) × (o ≡ Some a) × (f a ≡ b)
+mapped f None b h = absurd (no_some b h)
+mapped f (Some a) b h = (a, refl, same_some (f a) b h)
+
+pub map-map : {A B C : Type 0} (f : B → C) (g : A → B) (xs : List A) → map f (map g xs) ≡ map (λ x. f (g x)) xs
+map-map f g [] = refl
+map-map f g (x ∷ xs) = ap (λ ys. f (g x) ∷ ys) (map-map f g xs)
+
+abbrev pub target_with : DescBody → List Pair → Target
+target_with x pairs = record { name = x.name; size = x.size; digest = x.digest; pairs = pairs }
+
+no_slices : (s : ℕ) → slice_count s 0 ≡ 0
+no_slices s = ap (λ q. q + min 1 (0 % s)) (zero-div s) ∙ ap (λ r. 0 + min 1 r) (zero-mod s)
+
+-- a file without bytes has no slices
+no_pairs : (s : ℕ) (text : List ℕ) → length text ≡ 0 → map pair_of (slices s text) ≡ []
+no_pairs s text e = ap (λ n. map pair_of (map (slice_at s text) (range_with_len 0 n))) (ap (slice_count s) e ∙ no_slices s)
+
+-- what is looked up for the File IDs of a Main is looked up for the files
+pub by_ids : {B : Type 0} (look : List ℕ → B) (s : ℕ) (files : List File) → map look (main_of_files s files).ids ≡ map (λ file. look (id_of file)) files
+unfolding main_of_files record_of
+by_ids look s [] = refl
+by_ids look s (file ∷ files) = ap (λ os. look (id_of file) ∷ os) (by_ids look s files)
+
+-- ---- a map of entries
+
+none_of_length : {A : Type 0} (xs : List A) → length xs ≡ 0 → xs ≡ []
+none_of_length [] e = refl
+none_of_length (x ∷ xs) e = absurd (omega (arith, e))
+
+no_entries : map_of.entries (map_of.empty {X = List ℕ} {R = nat_cmp}) ≡ []
+no_entries = none_of_length _ (sym (len-entries map_of.empty) ∙ len-empty nat_cmp (List ℕ))
+
+-- each text is that of its number
+abbrev pub AreTexts : (ℕ → List ℕ) → List (ℕ × List ℕ) → Type 0
+AreTexts text rs = AllByRecursion (λ r. r.1 ≡ text r.0) rs
+
+put_text : (text : ℕ → List ℕ) (k : ℕ) (v : List ℕ) (rs : List (ℕ × List ℕ)) → v ≡ text k → AreTexts text rs → AreTexts text (put nat_cmp k v rs)
+put_text text k v [] e h = (e, tt)
+put_text text k v (r ∷ rs) e h = step (nat_cmp k r.0) refl (put_text text k v rs e h.1)
+  where
+    step : (o : Ordering) → nat_cmp k r.0 ≡ o → AreTexts text (put nat_cmp k v rs) → AreTexts text (by_order o ((k, v) ∷ r ∷ rs) ((r.0, v) ∷ rs) (r ∷ put nat_cmp k v rs))
+    step Less is later = (e, h)
+    step Equal is later = (e ∙ ap text (nat_cmp-IsAntisymmetric k r.0 is), h.1)
+    step Greater is later = (h.0, later)
+
+true_entries : (text : ℕ → List ℕ) (rs : List (ℕ × List ℕ)) → AreTexts text rs → AreTexts text (map_of.entries (map_of.from_entries {R = nat_cmp} rs))
+true_entries text [] h = subst (AreTexts text) (sym no_entries) tt
+true_entries text (r ∷ rs) h = subst (AreTexts text) (sym (entries-insert nat_cmp_total (map_of.from_entries rs) r.0 r.1)) (put_text text r.0 r.1 (map_of.entries (map_of.from_entries rs)) h.0 (true_entries text rs h.1))
+
+-- ---- packets that say what the files do
+
+-- each of them does
+abbrev pub AllSay : ℕ → List File → List Packet → Type 0
+AllSay s files packets = AllByRecursion (λ p. Says s files p.kind p.body) packets
+
+module _ (laws : AreRead) (s : ℕ) (files : List File) (d : AreDescribed s files) (packets : List Packet) (say : AllSay s files packets) where
+  -- the Main, where there is one
+  pub main_is : (id : List ℕ) (m : MainBody) → main_of id packets ≡ Some m → m ≡ main_of_files s files
+  main_is id m e =
+      first_one (λ x. x ≡ main_of_files s files) (filter_map read packets)
+      (all-filter_map (λ p. Says s files p.kind p.body) (λ x. x ≡ main_of_files s files) read each packets say) m e
+    where
+      read : Packet → Option MainBody
+      read p = if bytes_eq (md5 p.body) id then read_main p.kind p.body else None
+
+      each : (p : Packet) → Says s files p.kind p.body → (x : MainBody) → read p ≡ Some x → x ≡ main_of_files s files
+      each p says x h = step (bytes_eq (md5 p.body) id) h
+        where
+          step : (b : Bool) → (if b then read_main p.kind p.body else None) ≡ Some x → x ≡ main_of_files s files
+          step true k = main_said laws s files d p.kind p.body says x k
+          step false k = absurd (no_some x k)
+
+  -- the description of a file, where there is one
+  pub description_is : (file : File) → Contains files file → (x : DescBody) → description_of packets (id_of file) ≡ Some x → x ≡ desc_of_file s file
+  unfolding desc_of_file record_of
+  description_is file i x e =
+      let found = found_one (IsOfOne (desc_of_file s) files) (λ c. bytes_eq c.id (id_of file)) (filter_map (λ p. read_desc p.kind p.body) packets)
+      (all-filter_map (λ p. Says s files p.kind p.body) (IsOfOne (desc_of_file s) files) (λ p. read_desc p.kind p.body) (λ p says. desc_said laws s files d p.kind p.body says) packets say) x e in
+      let named : id_of found.0.0 ≡ id_of file = ap (λ c. c.id) (sym found.0.2) ∙ same_bytes x.id (id_of file) found.1 in
+      found.0.2 ∙ ap (desc_of_file s) (one_by_id files d.ids_once found.0.0 file found.0.1 i named)
+
+  -- its checksums, where they are there
+  pub pairs_are_its : (file : File) → Contains files file → (n : ℕ) (ps : List Pair) → pairs_of packets (id_of file) n ≡ Some ps → ps ≡ (record_of s file).pairs
+  unfolding ifsc_of_file record_of
+  pairs_are_its file i n ps e =
+      let got = mapped (λ (c : IfscBody). c.pairs) (find (λ c. bytes_eq c.id (id_of file) && length c.pairs == n) (filter_map (λ p. read_ifsc p.kind p.body) packets)) ps e in
+      let found = found_one (IsOfOne (ifsc_of_file s) files) (λ c. bytes_eq c.id (id_of file) && length c.pairs == n) (filter_map (λ p. read_ifsc p.kind p.body) packets)
+      (all-filter_map (λ p. Says s files p.kind p.body) (IsOfOne (ifsc_of_file s) files) (λ p. read_ifsc p.kind p.body) (λ p says. ifsc_said laws s files d p.kind p.body says) packets say) got.0 got.1 in
+      let named : id_of found.0.0 ≡ id_of file = ap (λ c. c.id) (sym found.0.2) ∙ same_bytes got.0.id (id_of file) (and_parts (bytes_eq got.0.id (id_of file)) (length got.0.pairs == n) found.1).0 in
+      sym got.2 ∙ ap (λ c. c.pairs) (found.0.2 ∙ ap (ifsc_of_file s) (one_by_id files d.ids_once found.0.0 file found.0.1 i named))
+
+  -- the target of a file
+  pub target_is : (file : File) → Contains files file → (t : Target) → target_of packets s (desc_of_file s file) ≡ Some t → t ≡ target_of_file s file
+  unfolding desc_of_file record_of
+  target_is file i t e =
+      let n = length file.1 in
+      let got = mapped (target_with (desc_of_file s file)) (if n == 0 then Some [] else pairs_of packets (id_of file) (slice_count s n)) t e in
+      sym got.2 ∙ ap (target_with (desc_of_file s file)) (its (n == 0) refl got.0 got.1)
+    where
+      its : (b : Bool) → (length file.1 == 0) ≡ b → (ps : List Pair) → (if b then Some [] else pairs_of packets (id_of file) (slice_count s (length file.1))) ≡ Some ps → ps ≡ (record_of s file).pairs
+      its true z ps k = sym (same_some [] ps k) ∙ sym (no_pairs s file.1 (eqb-true (length file.1) 0 z))
+      its false z ps k = pairs_are_its file i (slice_count s (length file.1)) ps k
+
+  -- what is read of all files
+  pub descriptions_are : (ds : List DescBody) → all_some (map (description_of packets) (main_of_files s files).ids) ≡ Some ds → ds ≡ map (desc_of_file s) files
+  descriptions_are ds e =
+      all_there (λ file. description_of packets (id_of file)) (desc_of_file s) files (all_of_each (Contains files) (λ file. (x : DescBody) → description_of packets (id_of file) ≡ Some x → x ≡ desc_of_file s file) description_is files (all_contained files)) ds
+      (sym (ap all_some (by_ids (description_of packets) s files)) ∙ e)
+
+  pub targets_are : (ts : List Target) → all_some (map (target_of packets s) (map (desc_of_file s) files)) ≡ Some ts → ts ≡ map (target_of_file s) files
+  targets_are ts e =
+      all_there (λ file. target_of packets s (desc_of_file s file)) (target_of_file s) files (all_of_each (Contains files) (λ file. (t : Target) → target_of packets s (desc_of_file s file) ≡ Some t → t ≡ target_of_file s file) target_is files (all_contained files)) ts
+      (sym (ap all_some (map-map (target_of packets s) (desc_of_file s) files)) ∙ e)
+
+  -- each recovery slice is the true one
+  pub recovery_is : AllByRecursion (λ r. r.1 ≡ recovery s (all_slices s files) r.0) (map_of.entries (recovery_of packets s))
+  recovery_is =
+      true_entries (λ e. recovery s (all_slices s files) e) _
+      (all-map (IsTrueSlice s files) (λ r. r.1 ≡ recovery s (all_slices s files) r.0) (λ r. (r.exponent, r.bytes)) (λ r h. h) _
+      (all-filter (IsTrueSlice s files) (λ r. nat_lt r.exponent 65536 && length r.bytes == s) (filter_map (λ p. read_recovery p.kind p.body) packets)
+      (all-filter_map (λ p. Says s files p.kind p.body) (IsTrueSlice s files) (λ p. read_recovery p.kind p.body) (λ p says. recovery_said laws s files p.kind p.body says) packets say)))

@@ -1,0 +1,5 @@
+//! Where sets come from: when the set that a base reads as was made from certain files. Each law is
+//! the contract of a function that does nothing.
+#![tactic(auto)]
+
+pub mod packets;
