@@ -1,11 +1,12 @@
 -- The laws of packets that the proofs are given.
-use Rattle.std.proofs.Common.{◌≡◌, ℕ, ◌<◌, ◌^◌, List, length, map, false, Some}
-use Rattle.std.specs.Prelude.{◌==◌}
+use Rattle.std.proofs.Common.{◌≡◌, ℕ, ◌<◌, ◌^◌, List, [], ◌++◌, ◌%◌, length, map, false, Some}
+use Rattle.std.specs.Prelude.{◌==◌, flat_map, IsPermutation}
 use Rattle.std.specs.List.{AllByRecursion, list_any}
 use Rattle.par2_spec.specs.declared.Kind.TheVariants.{Main, FileDesc, Ifsc, Recovery}
-use Rattle.par2_spec.specs.Packets.{read_main, read_desc, read_ifsc, read_recovery}
-use Rattle.par2_spec.specs.Packing.{IsPair}
-use Rattle.par2_spec.specs.Volumes.{FileRecord, main_bytes, desc_bytes, ifsc_bytes, recovery_bytes}
+use Rattle.par2_spec.specs.Packets.{packet, accepted, read_main, read_desc, read_ifsc, read_recovery}
+use Rattle.par2_spec.specs.Folders.{File}
+use Rattle.par2_spec.specs.Packing.{IsPair, IsFileRecord}
+use Rattle.par2_spec.specs.Volumes.{FileRecord, in_id_order, index_packets, recovery_packets, main_bytes, desc_bytes, ifsc_bytes, recovery_bytes}
 
 -- bodies that were written say what was given
 pub record AreRead : Type 0 where
@@ -26,3 +27,15 @@ pub record AreRead : Type 0 where
       → read_ifsc Ifsc (ifsc_bytes file) ≡ Some (record { id = file.id; pairs = file.pairs })
   pub recovery : (e : ℕ) (bytes : List ℕ) → e < 2 ^ 32
       → read_recovery Recovery (recovery_bytes e bytes) ≡ Some (record { exponent = e; bytes = bytes })
+
+-- packets that were written are read as they are, and the files in the order of their File IDs are the files
+pub record AreKept : Type 0 where
+  pub order : (files : List File) → IsPermutation files (in_id_order files)
+  pub short : (text : List ℕ) → length text < 64 → accepted text ≡ []
+  pub index : (s : ℕ) (files : List FileRecord) (text : List ℕ) → length files < 2 ^ 32
+      → AllByRecursion IsFileRecord files
+      → accepted (flat_map packet (index_packets s files) ++ text) ≡ index_packets s files ++ accepted text
+  pub slices : (s : ℕ) (id : List ℕ) (slices : List (List ℕ)) (e n : ℕ) (text : List ℕ)
+      → length id ≡ 16 → s % 4 ≡ 0 → s < 2 ^ 60
+      → accepted (flat_map packet (recovery_packets s id slices e n) ++ text)
+      ≡ recovery_packets s id slices e n ++ accepted text

@@ -3,3 +3,7 @@ mod Bytes
 mod Said
 mod Reading
 mod Made
+mod Inputs
+mod Written
+mod Present
+mod Kept

@@ -97,28 +97,40 @@ told base others set laws s files d say h =
 
 -- ---- the packets of a folder
 
-kept : (id : List ℕ) (s : ℕ) (files : List File) (ps : List Packet) → AllByRecursion (λ p. p.set_id ≡ id → is_read p.kind ≡ true → IsOf s files p) ps → AllSay s files (packets_with id ps)
+-- a packet of this identifier says what the files do
+abbrev pub SaysIfOurs : List ℕ → ℕ → List File → Packet → Type 0
+SaysIfOurs id s files p = p.set_id ≡ id → Says s files p.kind p.body
+
+kept : (id : List ℕ) (s : ℕ) (files : List File) (ps : List Packet) → AllByRecursion (SaysIfOurs id s files) ps → AllSay s files (packets_with id ps)
 kept id s files [] h = tt
 kept id s files (p ∷ ps) h = step (bytes_eq p.set_id id) refl (packets_with id ps) (kept id s files ps h.1)
   where
     step : (b : Bool) → bytes_eq p.set_id id ≡ b → (rest : List Packet) → AllSay s files rest → AllSay s files (cond b (p ∷ rest) rest)
-    step true e rest k = (packet_says s files p (h.0 (same_bytes p.set_id id e)), k)
+    step true e rest k = (h.0 (same_bytes p.set_id id e), k)
     step false e rest k = k
 
-of_texts : (folder : Folder) (id : List ℕ) (s : ℕ) (files : List File) (names : List (List ℕ)) → AllByRecursion (λ name. AreOf id s files (bytes_of folder name)) names
-    → AllByRecursion (λ p. p.set_id ≡ id → is_read p.kind ≡ true → IsOf s files p) (flat_map accepted (map (bytes_of folder) names))
-of_texts folder id s files [] h = tt
-of_texts folder id s files (name ∷ names) h =
-    all-append (λ p. p.set_id ≡ id → is_read p.kind ≡ true → IsOf s files p) (accepted (bytes_of folder name)) (flat_map accepted (map (bytes_of folder) names)) h.0 (of_texts folder id s files names h.1)
+of_texts : (P : Packet → Type 0) (folder : Folder) (names : List (List ℕ)) → AllByRecursion (λ name. AllByRecursion P (accepted (bytes_of folder name))) names
+    → AllByRecursion P (flat_map accepted (map (bytes_of folder) names))
+of_texts P folder [] h = tt
+of_texts P folder (name ∷ names) h = all-append P (accepted (bytes_of folder name)) (flat_map accepted (map (bytes_of folder) names)) h.0 (of_texts P folder names h.1)
 
--- all packets of the identifier say what the files do
-pub folder_says : (folder : Folder) (base id : List ℕ) (s : ℕ) (files : List File) → AreAllOf folder base id s files
+-- where each packet of the identifier says what the files do in each text, they do together
+pub folder_says : (folder : Folder) (base id : List ℕ) (s : ℕ) (files : List File)
+    → AllByRecursion (λ name. AllByRecursion (SaysIfOurs id s files) (accepted (bytes_of folder name))) (base ∷ other_par_names folder base)
     → AllSay s files (packets_with id (flat_map accepted (bytes_of folder base ∷ map (bytes_of folder) (other_par_names folder base))))
-folder_says folder base id s files h = kept id s files _ (of_texts folder id s files (base ∷ other_par_names folder base) h)
+folder_says folder base id s files h = kept id s files _ (of_texts (SaysIfOurs id s files) folder (base ∷ other_par_names folder base) h)
+
+pub made_if_said : AreRead → (folder : Folder) (base : List ℕ) (set : ParSet) (s : ℕ) (files : List File) → set_of folder base ≡ Ok set → AreDescribed s files
+    → AllByRecursion (λ name. AllByRecursion (SaysIfOurs set.id s files) (accepted (bytes_of folder name))) (base ∷ other_par_names folder base) → MadeFrom folder base files s
+unfolding set_of
+made_if_said laws folder base set s files reads d all =
+    let is = told (bytes_of folder base) (map (bytes_of folder) (other_par_names folder base)) set laws s files d (folder_says folder base set.id s files all) reads in
+    record { set = set; reads = reads; slice_size = is.0; targets = is.1; recovered = is.2 }
 
 pub made_from : AreRead → (folder : Folder) (base : List ℕ) (set : ParSet) (s : ℕ) (files : List File) → set_of folder base ≡ Ok set → AreDescribed s files
     → AreAllOf folder base set.id s files → MadeFrom folder base files s
-unfolding set_of
 made_from laws folder base set s files reads d all =
-    let is = told (bytes_of folder base) (map (bytes_of folder) (other_par_names folder base)) set laws s files d (folder_says folder base set.id s files all) reads in
-    record { set = set; reads = reads; slice_size = is.0; targets = is.1; recovered = is.2 }
+    made_if_said laws folder base set s files reads d
+    (all_of_each (λ name. AreOf set.id s files (bytes_of folder name)) (λ name. AllByRecursion (SaysIfOurs set.id s files) (accepted (bytes_of folder name)))
+    (λ name h. all_of_each (λ p. p.set_id ≡ set.id → is_read p.kind ≡ true → IsOf s files p) (SaysIfOurs set.id s files) (λ p is own. packet_says s files p (is own)) (accepted (bytes_of folder name)) h)
+    (base ∷ other_par_names folder base) all)

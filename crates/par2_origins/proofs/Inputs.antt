@@ -1,0 +1,136 @@
+-- Files that a create takes: in another order, and as what a set says of them.
+use Rattle.std.proofs.Common.{◌≡◌, ℕ, zero, suc, ◌+◌, ◌%◌, ◌^◌, ◌<◌, ◌≤◌, Bool, true, false, not, ◌&&◌, List, [], ◌∷◌, length, map, refl, sym, ap, ◌∙◌, subst, arith}
+use Rattle.std.specs.Prelude.{IsTrue, IsPermutation, sum_by, nat_le, nat_eq, ◌==◌, codes}
+use Rattle.std.specs.List.{AllByRecursion, IsDistinct, list_any, starts_with, range_with_len}
+use Rattle.std.specs.Str.{bytes_eq, is_utf8}
+use Rattle.std.proofs.lemmas.Bool.{and_parts, leb-true, eqb-true}
+use Rattle.std.proofs.lemmas.List.{length-map}
+use Rattle.std.proofs.lemmas.List.Sums.{sum_by-cons}
+use Rattle.std.proofs.lemmas.List.Elements.{All-from_recursion, recursion_from_All}
+use Rattle.std.proofs.lemmas.List.Sorted.{All-permutation, IsPermutation-map, sum_by-IsPermutation, length_permutation}
+use Rattle.std.proofs.lemmas.Map.Keys.{IsDistinct-IsPermutation}
+use Rattle.md5.proofs.StandardFacts.{length-md5}
+use Rattle.par2_spec.specs.Checksums.{pair_of}
+use Rattle.par2_spec.specs.Slices.{slice_count, slice_at, slices}
+use Rattle.par2_spec.specs.Names.{is_name}
+use Rattle.par2_spec.specs.Rank.{AreBytes}
+use Rattle.par2_spec.specs.Folders.{File}
+use Rattle.par2_spec.specs.Packing.{IsFileRecord}
+use Rattle.par2_spec.specs.Volumes.{record_of, id_of}
+use Rattle.par2_spec.specs.Sets.{is_slice_size}
+use Rattle.par2_origins.specs.Packets.{AreDescribed}
+use Rattle.par2_origins.specs.Volumes.{AreInputs}
+use Rattle.par2_origins.proofs.Bytes.{pairs_are}
+use Rattle.par2_origins.proofs.Said.{all_of_each, all-map}
+use Rattle.par2_origins.proofs.Reading.{same_bytes, itself}
+
+-- ---- in another order
+
+either_way : (a b : List ℕ) → bytes_eq a b ≡ bytes_eq b a
+either_way a b = same (bytes_eq a b) (bytes_eq b a) (turned a b) (turned b a)
+  where
+    turned : (x y : List ℕ) → bytes_eq x y ≡ true → bytes_eq y x ≡ true
+    turned x y h = subst (λ z. bytes_eq z x ≡ true) (same_bytes x y h) (itself x)
+
+    same : (p q : Bool) → (p ≡ true → q ≡ true) → (q ≡ true → p ≡ true) → p ≡ q
+    same true q f g = sym (f refl)
+    same false true f g = g refl
+    same false false f g = refl
+
+pub moved-all : {A : Type 0} (P : A → Type 0) (xs ys : List A) → IsPermutation xs ys → AllByRecursion P xs → AllByRecursion P ys
+moved-all P xs ys m h = recursion_from_All P ys (All-permutation P xs ys m (All-from_recursion P xs h))
+
+pub moved : (s : ℕ) (files others : List File) → IsPermutation files others → AreInputs s files → AreInputs s others
+moved s files others m is = record {
+  slice_size = is.slice_size;
+  few = subst (λ n. n < 2 ^ 32) (sym (length_permutation files others m)) is.few;
+  sizes = moved-all (λ file. length file.1 < 2 ^ 64) files others m is.sizes;
+  bytes = moved-all (λ file. AreBytes file.1) files others m is.bytes;
+  names = moved-all (λ file. IsTrue (is_name file.0)) files others m is.names;
+  names_once = IsDistinct-IsPermutation bytes_eq either_way (map (λ file. file.0) files) (map (λ file. file.0) others) (IsPermutation-map (λ file. file.0) files others m) is.names_once;
+  ids_once = IsDistinct-IsPermutation bytes_eq either_way (map id_of files) (map id_of others) (IsPermutation-map id_of files others m) is.ids_once;
+  slices = subst (λ n. n ≤ 32768) (sym (sum_by-IsPermutation (λ file. slice_count s (length file.1)) files others m)) is.slices;
+}
+
+-- ---- what a set says of them
+
+-- a multiple of 4 that is not large
+pub size_parts : (s : ℕ) → is_slice_size s ≡ true → (s % 4 ≡ 0) × (s ≤ 2 ^ 30)
+size_parts s h =
+    let two = and_parts (s % 4 == 0 && nat_le 4 s) (nat_le s (2 ^ 30)) h in
+    (eqb-true (s % 4) 0 (and_parts (s % 4 == 0) (nat_le 4 s) two.0).0, leb-true s (2 ^ 30) two.1)
+
+-- a name is short and has no zero byte
+name_parts : (name : List ℕ) → is_name name ≡ true → (length name ≤ 255) × (list_any (λ b. b == 0) name ≡ false)
+unfolding is_name
+name_parts name h =
+    let a = and_parts _ (not (starts_with nat_eq name (codes ".par2undo"))) h in
+    let b = and_parts _ (not (bytes_eq name (codes ".."))) a.0 in
+    let c = and_parts _ (not (bytes_eq name (codes "."))) b.0 in
+    let d = and_parts _ (not (list_any (λ x. x == 0) name)) c.0 in
+    let e = and_parts _ (not (list_any (λ x. x == 0x2F) name)) d.0 in
+    let f = and_parts (nat_le 1 (length name) && nat_le (length name) 255) (is_utf8 name) e.0 in
+    (leb-true (length name) 255 (and_parts (nat_le 1 (length name)) (nat_le (length name) 255) f.0).1, no_from_not (list_any (λ x. x == 0) name) d.1)
+  where
+    no_from_not : (b : Bool) → not b ≡ true → b ≡ false
+    no_from_not true k = sym k
+    no_from_not false k = refl
+
+-- each part of a sum is at most the sum
+each_below : {A : Type 0} (f : A → ℕ) (xs : List A) (n : ℕ) → sum_by f xs ≤ n → AllByRecursion (λ x. f x ≤ n) xs
+each_below f [] n h = tt
+each_below f (x ∷ xs) n h = let e = sum_by-cons f x xs in (omega (arith, e, h), each_below f xs n (omega (arith, e, h)))
+
+-- one file that a create takes
+record IsInput (s : ℕ) (file : File) : Type 0 where
+  size : length file.1 < 2 ^ 64
+  bytes : AreBytes file.1
+  name : is_name file.0 ≡ true
+  few : slice_count s (length file.1) ≤ 32768
+
+each_input : (s : ℕ) (files : List File) → AllByRecursion (λ file. length file.1 < 2 ^ 64) files → AllByRecursion (λ file. AreBytes file.1) files
+    → AllByRecursion (λ file. IsTrue (is_name file.0)) files → AllByRecursion (λ file. slice_count s (length file.1) ≤ 32768) files → AllByRecursion (IsInput s) files
+each_input s [] a b c d = tt
+each_input s (file ∷ files) a b c d = (record { size = a.0; bytes = b.0; name = c.0; few = d.0 }, each_input s files a.1 b.1 c.1 d.1)
+
+inputs_are : (s : ℕ) (files : List File) → AreInputs s files → AllByRecursion (IsInput s) files
+inputs_are s files is = each_input s files is.sizes is.bytes is.names (each_below (λ file. slice_count s (length file.1)) files 32768 is.slices)
+
+range_length : (a n : ℕ) → length (range_with_len a n) ≡ n
+range_length a zero = refl
+range_length a (suc n) = ap suc (range_length (a + 1) n)
+
+-- as many pairs as slices
+pub pairs_count : (s : ℕ) (text : List ℕ) → length (map pair_of (slices s text)) ≡ slice_count s (length text)
+pairs_count s text = length-map (slices s text) pair_of ∙ length-map (range_with_len 0 (slice_count s (length text))) (slice_at s text) ∙ range_length 0 (slice_count s (length text))
+
+record_fits : (s : ℕ) (file : File) → IsInput s file → IsFileRecord (record_of s file)
+unfolding record_of
+record_fits s file is =
+    let name = name_parts file.0 is.name in
+    let count = pairs_count s file.1 in
+    record {
+      id = length-md5 _;
+      digest = length-md5 _;
+      digest_16k = length-md5 _;
+      size = is.size;
+      name = name.1;
+      name_size = omega (arith, name.0);
+      pairs = pairs_are s file.1 is.bytes;
+      pairs_size = omega (arith, count, is.few);
+    }
+
+pub records_fit : (s : ℕ) (files : List File) → AreInputs s files → AllByRecursion IsFileRecord (map (record_of s) files)
+records_fit s files is = all-map (IsInput s) IsFileRecord (record_of s) (record_fits s) files (inputs_are s files is)
+
+pub described : (s : ℕ) (files : List File) → AreInputs s files → AreDescribed s files
+described s files is =
+    let small = (size_parts s is.slice_size).1 in
+    record {
+      slice_size = omega (arith, small);
+      few = is.few;
+      sizes = is.sizes;
+      bytes = is.bytes;
+      names = all_of_each (λ file. IsTrue (is_name file.0)) (λ file. list_any (λ b. b == 0) file.0 ≡ false) (λ file h. (name_parts file.0 h).1) files is.names;
+      ids_once = is.ids_once;
+    }
