@@ -1,7 +1,7 @@
 -- Files that a create takes: in another order, and as what a set says of them.
 use Rattle.std.proofs.Common.{◌≡◌, ℕ, zero, suc, ◌+◌, ◌%◌, ◌^◌, ◌<◌, ◌≤◌, Bool, true, false, not, ◌&&◌, List, [], ◌∷◌, length, map, refl, sym, ap, ◌∙◌, subst, arith}
 use Rattle.std.specs.Prelude.{IsTrue, IsPermutation, sum_by, nat_le, nat_eq, ◌==◌, codes}
-use Rattle.std.specs.List.{AllByRecursion, IsDistinct, list_any, starts_with, range_with_len}
+use Rattle.std.specs.List.{AllByRecursion, list_any, starts_with, range_with_len}
 use Rattle.std.specs.Str.{bytes_eq, is_utf8}
 use Rattle.std.proofs.lemmas.Bool.{and_parts, leb-true, eqb-true}
 use Rattle.std.proofs.lemmas.List.{length-map}
@@ -26,7 +26,7 @@ use Rattle.par2_origins.proofs.Reading.{same_bytes, itself}
 
 -- ---- in another order
 
-either_way : (a b : List ℕ) → bytes_eq a b ≡ bytes_eq b a
+pub either_way : (a b : List ℕ) → bytes_eq a b ≡ bytes_eq b a
 either_way a b = same (bytes_eq a b) (bytes_eq b a) (turned a b) (turned b a)
   where
     turned : (x y : List ℕ) → bytes_eq x y ≡ true → bytes_eq y x ≡ true

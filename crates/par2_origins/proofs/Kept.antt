@@ -1,12 +1,11 @@
 -- A folder of volumes holds the set that was made from their files.
-use Rattle.std.proofs.Common.{◌≡◌, ℕ, ◌+◌, ◌≤◌, Bool, true, false, not, ◌&&◌, List, [], ◌∷◌, ◌++◌, length, map, Option, Some, None, Result, Ok, Err, refl, sym, ap, ◌∙◌, subst, inl, inr, ◌⊎◌, append_assoc}
-use Rattle.std.specs.Prelude.{IsTrue, flat_map, filter, slice_get, ok_or, nat_le, sum_by, ◌==◌}
+use Rattle.std.proofs.Common.{◌≡◌, ℕ, ◌+◌, ◌≤◌, Bool, true, false, not, List, [], ◌∷◌, ◌++◌, length, map, Some, Ok, refl, sym, ap, ◌∙◌, subst, inl, inr, ◌⊎◌, append_assoc}
+use Rattle.std.specs.Prelude.{flat_map, filter, slice_get, ok_or, sum_by}
 use Rattle.std.specs.List.{AllByRecursion, IsDistinct, list_all}
 use Rattle.std.specs.Str.{bytes_eq}
 use Rattle.std.proofs.lemmas.Bool.{false≢true, and_from, eq-eqb, le-leb}
 use Rattle.std.proofs.lemmas.List.{length-map}
 use Rattle.std.proofs.lemmas.List.Sums.{sum_by-cons}
-use Rattle.par2_spec.specs.declared.Fault.{Fault}
 use Rattle.par2_spec.specs.declared.Fault.TheVariants.{NoPackets, NoMain, NoDescription, NoChecksums, BadSet}
 use Rattle.par2_spec.specs.declared.Kind.TheVariants.{Main}
 use Rattle.par2_spec.specs.Slices.{slice_count}
@@ -15,11 +14,10 @@ use Rattle.par2_spec.specs.Folders.{Folder, File, bytes_of}
 use Rattle.par2_spec.specs.Packets.{Packet, accepted, DescBody}
 use Rattle.par2_spec.specs.Volumes.{record_of, in_id_order, index_packets, packet_of, main_id, main_bytes}
 use Rattle.par2_spec.specs.Sets.{ParSet, MadeFrom, ◌>>=◌, unless, all_some, packets_with, main_of, description_of, target_of, target_of_file, are_in_profile, read_set, other_par_names, set_of}
-use Rattle.par2_origins.specs.Packets.{AreDescribed}
 use Rattle.par2_origins.specs.Volumes.{AreInputs, IsVolume, set_id_of, IsOfOthers, HoldsVolumes}
 use Rattle.par2_origins.proofs.Laws.{AreRead, AreKept}
 use Rattle.par2_origins.proofs.Said.{all_of_each, main_of_files, desc_of_file}
-use Rattle.par2_origins.proofs.Reading.{AllSay, itself, map-map}
+use Rattle.par2_origins.proofs.Reading.{AllSay, itself}
 use Rattle.par2_origins.proofs.Made.{finished, by_checksums, by_profile, by_descriptions, by_size, by_main, set_with, SaysIfOurs, folder_says, made_if_said}
 use Rattle.par2_origins.proofs.Inputs.{moved, described}
 use Rattle.par2_origins.proofs.Written.{index_of, slices_of, IsReadAs, volumes_read, IsOurs, volume_ours}

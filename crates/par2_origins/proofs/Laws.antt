@@ -1,12 +1,18 @@
 -- The laws of packets that the proofs are given.
 use Rattle.std.proofs.Common.{◌≡◌, ℕ, ◌<◌, ◌^◌, List, [], ◌++◌, ◌%◌, length, map, false, Some}
-use Rattle.std.specs.Prelude.{◌==◌, flat_map, IsPermutation}
-use Rattle.std.specs.List.{AllByRecursion, list_any}
+use Rattle.std.specs.Prelude.{◌==◌, ◌↔◌, IsTrue, flat_map, IsPermutation}
+use Rattle.std.specs.FinMap as map_of
+use Rattle.std.specs.List.{AllByRecursion, list_any, list_all}
 use Rattle.par2_spec.specs.declared.Kind.TheVariants.{Main, FileDesc, Ifsc, Recovery}
 use Rattle.par2_spec.specs.Packets.{packet, accepted, read_main, read_desc, read_ifsc, read_recovery}
-use Rattle.par2_spec.specs.Folders.{File}
+use Rattle.par2_spec.specs.Folders.{Folder, File, has}
+use Rattle.par2_spec.specs.Rank.{is_repairable, IsRepairable}
+use Rattle.par2_spec.specs.Sets.{MadeFrom}
+use Rattle.par2_spec.specs.Search.{candidates, known, lost, survivors, NoCollision}
+use Rattle.par2_spec.specs.Repairs.{after_repair, after_repair_and_purge}
+use Rattle.par2_spec.specs.Rules.{AreFew}
 use Rattle.par2_spec.specs.Packing.{IsPair, IsFileRecord}
-use Rattle.par2_spec.specs.Volumes.{FileRecord, in_id_order, index_packets, recovery_packets, main_bytes, desc_bytes, ifsc_bytes, recovery_bytes}
+use Rattle.par2_spec.specs.Volumes.{FileRecord, all_slices, in_id_order, index_packets, recovery_packets, main_bytes, desc_bytes, ifsc_bytes, recovery_bytes}
 
 -- bodies that were written say what was given
 pub record AreRead : Type 0 where
@@ -39,3 +45,16 @@ pub record AreKept : Type 0 where
       → length id ≡ 16 → s % 4 ≡ 0 → s < 2 ^ 60
       → accepted (flat_map packet (recovery_packets s id slices e n) ++ text)
       ≡ recovery_packets s id slices e n ++ accepted text
+
+-- what a repair leaves, and its test in words
+pub record AreRepaired : Type 0 where
+  pub order : (files : List File) → IsPermutation files (in_id_order files)
+  pub words : (lost survivors : List ℕ) → IsTrue (is_repairable lost survivors) ↔ IsRepairable lost survivors
+  pub repaired : (folder : Folder) (base : List ℕ) (extras : List (List ℕ)) (files : List File) (s : ℕ) (m : MadeFrom folder base files s)
+      → IsTrue (list_all (has folder) extras) → AreFew folder m.set → NoCollision folder (candidates folder m.set extras) s (all_slices s files)
+      → AllByRecursion (λ file. AllByRecursion (λ b. b < 256) file.1) files → IsRepairable (lost (known folder m.set (candidates folder m.set extras))) (survivors m.set)
+      → AllByRecursion (λ file. map_of.get (after_repair folder m.set (candidates folder m.set extras)) file.0 ≡ Some file.1) files
+  pub purged : (folder : Folder) (base : List ℕ) (extras : List (List ℕ)) (files : List File) (s : ℕ) (m : MadeFrom folder base files s)
+      → IsTrue (list_all (has folder) extras) → AreFew folder m.set → NoCollision folder (candidates folder m.set extras) s (all_slices s files)
+      → AllByRecursion (λ file. AllByRecursion (λ b. b < 256) file.1) files → IsRepairable (lost (known folder m.set (candidates folder m.set extras))) (survivors m.set)
+      → AllByRecursion (λ file. map_of.get (after_repair_and_purge folder m.set (candidates folder m.set extras)) file.0 ≡ Some file.1) files

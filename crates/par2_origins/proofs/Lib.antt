@@ -7,3 +7,6 @@ mod Inputs
 mod Written
 mod Present
 mod Kept
+mod Accepted
+mod Damaged
+mod Returned

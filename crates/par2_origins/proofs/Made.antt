@@ -1,6 +1,6 @@
 -- A set whose packets are those of certain files was made from them.
 use Rattle.std.proofs.Common.{◌≡◌, ℕ, Bool, true, false, cond, List, [], ◌∷◌, map, Option, Some, None, Result, Ok, Err, refl, sym, ap, ◌∙◌, subst}
-use Rattle.std.specs.Prelude.{filter, flat_map, slice_get, ok_or}
+use Rattle.std.specs.Prelude.{flat_map, slice_get, ok_or}
 use Rattle.std.specs.List.{AllByRecursion}
 use Rattle.std.specs.Str.{bytes_eq}
 use Rattle.std.specs.FinMap as map_of
@@ -14,7 +14,7 @@ use Rattle.par2_spec.specs.Volumes.{all_slices}
 use Rattle.par2_spec.specs.Sets.{ParSet, Target, MadeFrom, ◌>>=◌, unless, all_some, is_slice_size, packets_with, main_of, description_of, target_of, are_in_profile, recovery_of, read_set, other_par_names, set_of, target_of_file}
 use Rattle.par2_origins.specs.Packets.{AreDescribed, is_read, IsOf, AreOf, AreAllOf}
 use Rattle.par2_origins.proofs.Laws.{AreRead}
-use Rattle.par2_origins.proofs.Said.{Says, packet_says, all-append, all_of_each, same_some, no_some, main_of_files, desc_of_file}
+use Rattle.par2_origins.proofs.Said.{Says, packet_says, all-append, all_of_each, main_of_files, desc_of_file}
 use Rattle.par2_origins.proofs.Reading.{AllSay, same_bytes, main_is, descriptions_are, targets_are, recovery_is}
 
 -- ---- the steps of the reading, the last one first

@@ -1,6 +1,6 @@
 -- What the packets of an index let a reader find.
-use Rattle.std.proofs.Common.{◌≡◌, ℕ, zero, suc, ◌+◌, ◌<◌, ◌≤◌, Bool, true, false, cond, ◌&&◌, List, [], ◌∷◌, ◌++◌, length, map, Option, Some, None, refl, sym, ap, ◌∙◌, subst, inl, inr, arith}
-use Rattle.std.specs.Prelude.{is_some, ◌==◌, filter, filter_map, flat_map, find, slice_get, option_map, option_and_then, if◌then◌else◌}
+use Rattle.std.proofs.Common.{◌≡◌, ℕ, zero, suc, ◌<◌, Bool, true, false, cond, ◌&&◌, List, [], ◌∷◌, ◌++◌, length, map, Option, Some, None, refl, sym, ap, ◌∙◌, subst, inl, inr, arith}
+use Rattle.std.specs.Prelude.{is_some, ◌==◌, filter, filter_map, find, slice_get, option_map, option_and_then, if◌then◌else◌}
 use Rattle.std.specs.List.{AllByRecursion, Contains, cons_option, slice_index_or}
 use Rattle.std.specs.Str.{bytes_eq}
 use Rattle.std.proofs.lemmas.Bool.{false≢true, and_from, eq-eqb}
@@ -12,9 +12,9 @@ use Rattle.par2_spec.specs.declared.Kind.TheVariants.{Main, FileDesc, Ifsc, Crea
 use Rattle.par2_spec.specs.Checksums.{Pair}
 use Rattle.par2_spec.specs.Slices.{slice_count}
 use Rattle.par2_spec.specs.Folders.{File}
-use Rattle.par2_spec.specs.Packets.{Packet, MainBody, DescBody, IfscBody, accepted, read_main, read_desc, read_ifsc}
+use Rattle.par2_spec.specs.Packets.{Packet, MainBody, IfscBody, read_main, read_desc, read_ifsc}
 use Rattle.par2_spec.specs.Volumes.{FileRecord, record_of, id_of, index_packets, packet_of, main_id, main_bytes, desc_bytes, ifsc_bytes, creator_bytes}
-use Rattle.par2_spec.specs.Sets.{Target, packets_with, main_of, description_of, pairs_of, target_of, target_of_file, all_some}
+use Rattle.par2_spec.specs.Sets.{packets_with, main_of, description_of, pairs_of, target_of, target_of_file, all_some}
 use Rattle.par2_origins.specs.Packets.{AreDescribed}
 use Rattle.par2_origins.proofs.Laws.{AreRead}
 use Rattle.par2_origins.proofs.Said.{all_of_each, of_contained, all_contained, same_some, IsDescribed, each_described, main_of_files, desc_of_file, ifsc_of_file, main_written, desc_written, ifsc_written}
@@ -32,10 +32,10 @@ index_map g (y ∷ xs) (suc k) x = index_map g xs k x
 contained_map : {A B : Type 0} (g : A → B) (xs : List A) (x : A) → Contains xs x → Contains (map g xs) (g x)
 contained_map g xs x i = (i.0, subst (λ n. i.0 < n) (sym (length-map xs g)) i.1, index_map g xs i.0 x ∙ ap g i.2)
 
-contained_later : {A : Type 0} (y : A) (xs : List A) (x : A) → Contains xs x → Contains (y ∷ xs) x
+pub contained_later : {A : Type 0} (y : A) (xs : List A) (x : A) → Contains xs x → Contains (y ∷ xs) x
 contained_later y xs x i = (suc i.0, omega (arith, i.1), i.2)
 
-contained_first : {A : Type 0} (x : A) (xs : List A) → Contains (x ∷ xs) x
+pub contained_first : {A : Type 0} (x : A) (xs : List A) → Contains (x ∷ xs) x
 contained_first x xs = (0, omega arith, refl)
 
 contained_filter : {A : Type 0} (test : A → Bool) (xs : List A) (x : A) → Contains xs x → test x ≡ true → Contains (filter test xs) x

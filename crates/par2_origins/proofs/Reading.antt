@@ -1,6 +1,6 @@
 -- What a set is read as, where its packets are those of certain files.
-use Rattle.std.proofs.Common.{◌≡◌, ℕ, zero, suc, ◌+◌, ◌%◌, ◌<◌, min, arith, Bool, true, false, cond, List, [], ◌∷◌, ◌++◌, length, map, Option, Some, None, Result, Ok, Err, refl, sym, ap, ◌∙◌, subst, unwrap_or, inl, inr, ◌⊎◌, ◌&&◌}
-use Rattle.std.specs.Prelude.{IsTrue, is_some, ◌==◌, nat_lt, filter, filter_map, flat_map, find, slice_get, option_map, option_and_then, ok_or, if◌then◌else◌}
+use Rattle.std.proofs.Common.{◌≡◌, ℕ, zero, suc, ◌+◌, ◌%◌, ◌<◌, min, arith, Bool, true, false, cond, List, [], ◌∷◌, length, map, Option, Some, None, refl, sym, ap, ◌∙◌, subst, inl, inr, ◌⊎◌, ◌&&◌}
+use Rattle.std.specs.Prelude.{◌==◌, nat_lt, filter, filter_map, flat_map, find, slice_get, option_map, option_and_then, if◌then◌else◌}
 use Rattle.std.specs.List.{AllByRecursion, Contains, IsDistinct, cons_option, range_with_len, slice_index_or}
 use Rattle.std.specs.Str.{bytes_eq}
 use Rattle.std.specs.FinMap as map_of
@@ -14,18 +14,16 @@ use Rattle.std.proofs.lemmas.Slice.Eq.{bytes_eq-Decides}
 use Rattle.std.proofs.lemmas.Bool.{false≢true, and_parts, eqb-true}
 use Rattle.std.proofs.Math.Nat.{zero-div, zero-mod}
 use Rattle.md5.specs.Md5.{md5}
-use Rattle.par2_spec.specs.declared.Fault.{Fault}
-use Rattle.par2_spec.specs.declared.Fault.TheVariants.{NoPackets, NoMain, NoDescription, NoChecksums, BadSet}
 use Rattle.par2_spec.specs.Checksums.{Pair, pair_of}
 use Rattle.par2_spec.specs.Slices.{slice_count, slice_at, slices}
 use Rattle.par2_spec.specs.Recovery.{recovery}
-use Rattle.par2_spec.specs.Folders.{Folder, File, bytes_of}
-use Rattle.par2_spec.specs.Packets.{Packet, accepted, MainBody, DescBody, IfscBody, RecoveryBody, read_main, read_desc, read_ifsc, read_recovery}
-use Rattle.par2_spec.specs.Volumes.{FileRecord, record_of, id_of, all_slices}
-use Rattle.par2_spec.specs.Sets.{ParSet, Target, MadeFrom, ◌>>=◌, unless, all_some, is_slice_size, packets_with, main_of, description_of, pairs_of, target_of, are_in_profile, recovery_of, read_set, other_par_names, set_of, target_of_file}
-use Rattle.par2_origins.specs.Packets.{AreDescribed, is_read, IsOf, AreOf, AreAllOf}
+use Rattle.par2_spec.specs.Folders.{File}
+use Rattle.par2_spec.specs.Packets.{Packet, MainBody, DescBody, IfscBody, read_main, read_desc, read_ifsc, read_recovery}
+use Rattle.par2_spec.specs.Volumes.{record_of, id_of, all_slices}
+use Rattle.par2_spec.specs.Sets.{Target, all_some, main_of, description_of, pairs_of, target_of, recovery_of, target_of_file}
+use Rattle.par2_origins.specs.Packets.{AreDescribed}
 use Rattle.par2_origins.proofs.Laws.{AreRead}
-use Rattle.par2_origins.proofs.Said.{all-append, all-map, all_of_each, of_contained, all_contained, Says, packet_says, same_some, no_some, main_of_files, desc_of_file, ifsc_of_file, main_said, desc_said, ifsc_said, recovery_said, IsOfOne, IsTrueSlice}
+use Rattle.par2_origins.proofs.Said.{all-append, all-map, all_of_each, of_contained, all_contained, Says, same_some, no_some, main_of_files, desc_of_file, ifsc_of_file, main_said, desc_said, ifsc_said, recovery_said, IsOfOne, IsTrueSlice}
 
 -- ---- lists
 

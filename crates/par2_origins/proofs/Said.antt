@@ -1,5 +1,5 @@
 -- What the packets of files say.
-use Rattle.std.proofs.Common.{◌≡◌, ℕ, ◌+◌, ◌<◌, ◌^◌, Bool, true, false, List, [], ◌∷◌, ◌++◌, length, map, Option, Some, None, refl, sym, ap, ◌∙◌, subst, unwrap_or, arith}
+use Rattle.std.proofs.Common.{◌≡◌, ℕ, ◌<◌, ◌^◌, false, List, [], ◌∷◌, ◌++◌, length, map, Option, Some, None, refl, sym, ap, ◌∙◌, subst, unwrap_or, arith}
 use Rattle.std.specs.Prelude.{IsTrue, is_some, ◌==◌}
 use Rattle.std.specs.List.{AllByRecursion, Contains, list_any}
 use Rattle.std.proofs.lemmas.List.{length-map}
@@ -12,8 +12,7 @@ use Rattle.par2_spec.specs.Rank.{AreBytes}
 use Rattle.par2_spec.specs.Recovery.{recovery}
 use Rattle.par2_spec.specs.Folders.{File}
 use Rattle.par2_spec.specs.Packets.{Packet, MainBody, DescBody, IfscBody, RecoveryBody, read_main, read_desc, read_ifsc, read_recovery}
-use Rattle.par2_spec.specs.Packing.{IsPair}
-use Rattle.par2_spec.specs.Volumes.{FileRecord, record_of, id_of, all_slices, main_bytes, desc_bytes, ifsc_bytes, recovery_bytes, packets_of}
+use Rattle.par2_spec.specs.Volumes.{FileRecord, record_of, all_slices, main_bytes, desc_bytes, ifsc_bytes, recovery_bytes, packets_of}
 use Rattle.par2_origins.specs.Packets.{AreDescribed, is_read, IsOf}
 use Rattle.par2_origins.proofs.Laws.{AreRead}
 use Rattle.par2_origins.proofs.Bytes.{pairs_are}

@@ -1,21 +1,20 @@
 -- What is read of a volume: the packets that were written.
-use Rattle.std.proofs.Common.{◌≡◌, ℕ, zero, suc, ◌+◌, ◌-◌, ◌%◌, ◌^◌, ◌<◌, ◌≤◌, min, Bool, true, false, ◌&&◌, List, [], ◌∷◌, ◌++◌, length, map, refl, sym, ap, ◌∙◌, subst, append-nil, arith}
-use Rattle.std.specs.Prelude.{IsTrue, flat_map, nat_le, nat_lt, filter}
-use Rattle.std.specs.List.{AllByRecursion, Contains, range_with_len}
+use Rattle.std.proofs.Common.{◌≡◌, ℕ, zero, suc, ◌+◌, ◌-◌, ◌^◌, ◌<◌, ◌≤◌, min, true, ◌&&◌, List, [], ◌∷◌, ◌++◌, length, map, refl, sym, ap, ◌∙◌, subst, append-nil, arith}
+use Rattle.std.specs.Prelude.{flat_map, nat_le}
+use Rattle.std.specs.List.{AllByRecursion, Contains}
 use Rattle.std.proofs.lemmas.Bool.{and_parts, leb-true}
 use Rattle.std.proofs.lemmas.List.{length-map}
 use Rattle.std.proofs.lemmas.Grind.{flat_map-append}
 use Rattle.md5.proofs.StandardFacts.{length-md5}
 use Rattle.par2_spec.specs.declared.Kind.{Kind}
-use Rattle.par2_spec.specs.declared.Kind.TheVariants.{Main, FileDesc, Ifsc, Recovery, Creator}
-use Rattle.par2_spec.specs.Recovery.{recovery}
+use Rattle.par2_spec.specs.declared.Kind.TheVariants.{Main, FileDesc, Ifsc, Creator}
 use Rattle.par2_spec.specs.Folders.{File}
 use Rattle.par2_spec.specs.Packets.{Packet, packet, accepted}
-use Rattle.par2_spec.specs.Volumes.{FileRecord, record_of, all_slices, in_id_order, volumes, volumes_before, volume_size, volume_numbers, index_packets, recovery_packets, packet_of, main_id, main_bytes, desc_bytes, ifsc_bytes, recovery_bytes, creator_bytes}
+use Rattle.par2_spec.specs.Volumes.{FileRecord, record_of, all_slices, in_id_order, volumes, volumes_before, volume_size, volume_numbers, index_packets, recovery_packets, packet_of, main_id, main_bytes, desc_bytes, ifsc_bytes, creator_bytes}
 use Rattle.par2_spec.specs.Refusals.{are_counts}
-use Rattle.par2_origins.specs.Volumes.{AreInputs, IsVolume, set_id_of}
+use Rattle.par2_origins.specs.Volumes.{AreInputs, IsVolume}
 use Rattle.par2_origins.proofs.Laws.{AreKept}
-use Rattle.par2_origins.proofs.Said.{Says, all-append, all-map, of_contained, all_contained}
+use Rattle.par2_origins.proofs.Said.{Says, all-append, of_contained, all_contained}
 use Rattle.par2_origins.proofs.Inputs.{size_parts, records_fit}
 
 -- the index packets of files in this order

@@ -2,5 +2,6 @@
 //! repair then leaves. Each law is the contract of a function that does nothing.
 #![tactic(auto)]
 
+pub mod creates;
 pub mod packets;
 pub mod volumes;

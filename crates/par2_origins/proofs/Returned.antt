@@ -1,0 +1,195 @@
+-- What an accepted repair gives back.
+use Rattle.std.proofs.Common.{◌≡◌, ℕ, ◌+◌, ◌^◌, ◌<◌, Bool, true, false, not, List, [], ◌∷◌, ◌++◌, length, map, Option, Some, None, Ok, Err, refl, sym, ap, ◌∙◌, subst, length-append}
+use Rattle.std.specs.Prelude.{is_some, nat_lt, filter, position, if◌then◌else◌}
+use Rattle.std.specs.List.{AllByRecursion, list_all, list_any}
+use Rattle.std.specs.Str.{bytes_eq}
+use Rattle.std.specs.FinMap as map_of
+use Rattle.std.proofs.lemmas.Bool.{false≢true, and_from}
+use Rattle.std.proofs.lemmas.List.{length-map}
+use Rattle.std.proofs.lemmas.List.Sorted.{IsPermutation-sym, IsPermutation-map, length_permutation}
+use Rattle.par2_spec.specs.declared.Fault.{Fault}
+use Rattle.par2_spec.specs.declared.Fault.TheVariants.{NoSuchFile, NotRepairable, NameTooLong, RepairFailed}
+use Rattle.md5.specs.Md5.{md5}
+use Rattle.par2_spec.specs.Checksums.{pair_of}
+use Rattle.par2_spec.specs.Windows.{Matches, windows}
+use Rattle.par2_spec.specs.Faults.{then_fault, fault_at, fault_where}
+use Rattle.par2_spec.specs.Slices.{slices}
+use Rattle.par2_spec.specs.Rank.{AreBytes, is_repairable, rank, IsRepairable}
+use Rattle.par2_spec.specs.Names.{distinct}
+use Rattle.par2_spec.specs.Folders.{Folder, File, has, bytes_of, names}
+use Rattle.par2_spec.specs.Volumes.{record_of, all_slices, in_id_order}
+use Rattle.par2_spec.specs.Sets.{ParSet, MadeFrom, set_of, target_of_file}
+use Rattle.par2_spec.specs.Search.{candidates, known, lost, survivors, NoCollision}
+use Rattle.par2_spec.specs.Repairs.{aside, put_aside, rebuilt_targets, after_repair, after_repair_and_purge}
+use Rattle.par2_spec.specs.Commands.{CreateArgs, Create, Repair, files_of}
+use Rattle.par2_spec.specs.Refusals.{refusal, after, set_in, by_set, repair_refusal}
+use Rattle.par2_spec.specs.Rules.{AreFew, target_names}
+use Rattle.par2_origins.specs.Creates.{FitsCreate, FitsSearch}
+use Rattle.par2_origins.proofs.Laws.{AreRepaired}
+use Rattle.par2_origins.proofs.Said.{all-append, all_of_each}
+use Rattle.par2_origins.proofs.Reading.{all-filter}
+use Rattle.par2_origins.proofs.Inputs.{moved-all}
+use Rattle.par2_origins.proofs.Accepted.{all_none, where_none, at_none, from_not, passes, names_of_files}
+use Rattle.par2_origins.proofs.Damaged.{some_bytes}
+
+-- ---- an accepted repair
+
+-- the place of the first name that is not there
+abbrev missing : Folder → List (List ℕ) → Option ℕ
+missing folder words = position (λ word. not (has folder word)) words
+
+in_full : (folder : Folder) (base : List ℕ) (extras : List (List ℕ)) → missing folder (base ∷ extras) ≡ None → set_in folder base extras ≡ set_of folder base
+unfolding set_in
+in_full folder base extras e = rw e refl
+
+in_part : (folder : Folder) (base : List ℕ) (extras : List (List ℕ)) (k : ℕ) → missing folder (base ∷ extras) ≡ Some k → set_in folder base extras ≡ Err (NoSuchFile (0 + k))
+unfolding set_in
+in_part folder base extras k e = rw e refl
+
+all_there : (folder : Folder) (words : List (List ℕ)) → AllByRecursion (λ word. not (has folder word) ≡ false) words → list_all (has folder) words ≡ true
+all_there folder [] h = refl
+all_there folder (word ∷ words) h = and_from (has folder word) (list_all (has folder) words) (from_not (has folder word) h.0) (all_there folder words h.1)
+
+-- what an accepted repair over a set that reads tells
+record IsAccepted (folder : Folder) (base : List ℕ) (extras : List (List ℕ)) (set : ParSet) : Type 0 where
+  reads : set_in folder base extras ≡ Ok set
+  there : list_all (has folder) extras ≡ true
+  passes : repair_refusal folder set (candidates folder set extras) ≡ None
+
+is_accepted : (folder : Folder) (base : List ℕ) (extras : List (List ℕ)) (purge : Bool) (set : ParSet) → refusal folder (Repair base extras purge) ≡ None → set_of folder base ≡ Ok set → IsAccepted folder base extras set
+unfolding refusal
+is_accepted folder base extras purge set h reads = step (missing folder (base ∷ extras)) refl
+  where
+    asks : ParSet → Option Fault
+    asks set = repair_refusal folder set (candidates folder set extras)
+
+    step : (o : Option ℕ) → missing folder (base ∷ extras) ≡ o → IsAccepted folder base extras set
+    step None e =
+        let is : set_in folder base extras ≡ Ok set = in_full folder base extras e ∙ reads in
+        let none : fault_at 0 NoSuchFile (λ word. not (has folder word)) (base ∷ extras) ≡ None = rw e refl in
+        record {
+          reads = is;
+          there = all_there folder extras (at_none 0 NoSuchFile (λ word. not (has folder word)) (base ∷ extras) none).1;
+          passes = ap (λ r. then_fault r asks) (sym is) ∙ h;
+        }
+    step (Some k) e = absurd (false≢true (sym (ap is_some (ap (λ r. then_fault r asks) (sym (in_part folder base extras k e)) ∙ h))))
+
+-- the tests of a repair in their order
+abbrev tests : Folder → ParSet → List (List ℕ) → List (Option Fault)
+tests folder set searched =
+    let missing = lost (known folder set searched) in
+    fault_where (not (is_repairable missing (survivors set))) (NotRepairable (length missing) (rank missing (survivors set)))
+    ∷ fault_where (list_any (λ name. nat_lt 255 (length (aside folder set name))) (put_aside folder set)) NameTooLong
+    ∷ fault_where (not (list_all (λ c. bytes_eq (md5 c.1) c.0.digest) (rebuilt_targets folder set searched))) RepairFailed
+    ∷ []
+
+repairable : AreRepaired → (folder : Folder) (set : ParSet) (searched : List (List ℕ)) → repair_refusal folder set searched ≡ None → IsRepairable (lost (known folder set searched)) (survivors set)
+unfolding repair_refusal
+repairable laws folder set searched h =
+    let missing = lost (known folder set searched) in
+    let is = is_repairable missing (survivors set) in
+    (laws.words missing (survivors set)).0
+    (from_not is (where_none (not is) (NotRepairable (length missing) (rank missing (survivors set))) (all_none (tests folder set searched) h).0))
+
+-- ---- what is searched
+
+all_distinct : (P : List ℕ → Type 0) (xs : List (List ℕ)) → AllByRecursion P xs → AllByRecursion P (distinct xs)
+all_distinct P [] h = tt
+all_distinct P (x ∷ xs) h = (h.0, all-filter P (λ other. not (bytes_eq x other)) (distinct xs) (all_distinct P xs h.1))
+
+front_of : {A : Type 0} (P : A → Type 0) (xs ys : List A) → AllByRecursion P (xs ++ ys) → AllByRecursion P xs × AllByRecursion P ys
+front_of P [] ys h = (tt, h)
+front_of P (x ∷ xs) ys h = let r = front_of P xs ys h.1 in ((h.0, r.0), r.1)
+
+target_names_are : (s : ℕ) (files : List File) → map (λ t. t.name) (map (target_of_file s) files) ≡ map (λ file. file.0) files
+unfolding record_of
+target_names_are s [] = refl
+target_names_are s (file ∷ files) = ap (λ ns. file.0 ∷ ns) (target_names_are s files)
+
+-- what holds of each slice of the files
+to_files : (P : List ℕ → Type 0) (s : ℕ) (files : List File) → AllByRecursion P (all_slices s files) → AllByRecursion (λ file. AllByRecursion P (slices s file.1)) files
+to_files P s [] h = tt
+to_files P s (file ∷ files) h = let r = front_of P (slices s file.1) (all_slices s files) h in (r.0, to_files P s files r.1)
+
+from_files : (P : List ℕ → Type 0) (s : ℕ) (files : List File) → AllByRecursion (λ file. AllByRecursion P (slices s file.1)) files → AllByRecursion P (all_slices s files)
+from_files P s [] h = tt
+from_files P s (file ∷ files) h = all-append P (slices s file.1) (all_slices s files) h.0 (from_files P s files h.1)
+
+-- ---- the files as they were
+
+module _ (laws : AreRepaired) (before damaged : Folder) (a : CreateArgs) (extras : List (List ℕ)) (fits : FitsCreate before a) (search : FitsSearch before damaged a extras) where
+  abbrev s : ℕ
+  s = a.slice_size
+
+  abbrev inputs : List File
+  inputs = files_of before a.inputs
+
+  abbrev ordered : List File
+  ordered = in_id_order inputs
+
+  module _ (m : MadeFrom damaged a.base ordered s) where
+    abbrev searched : List (List ℕ)
+    searched = candidates damaged m.set extras
+
+    names_are : target_names m.set ≡ map (λ file. file.0) ordered
+    names_are = ap (map (λ t. t.name)) m.targets ∙ target_names_are s ordered
+
+    few : AreFew damaged m.set
+    few =
+        let same : length (target_names m.set) ≡ length a.inputs =
+        ap length names_are ∙ length-map ordered (λ file. file.0) ∙ length_permutation inputs ordered (laws.order inputs)
+        ∙ sym (length-map inputs (λ file. file.0)) ∙ ap length (names_of_files before a.inputs) in
+        subst (λ n. n + 1 < 2 ^ 64) (length-append (names damaged) a.inputs ∙ ap (λ n. length (names damaged) + n) (sym same) ∙ sym (length-append (names damaged) (target_names m.set))) search.few
+
+    among_searched : (P : List ℕ → Type 0) → AllByRecursion P (a.inputs ++ extras) → AllByRecursion P searched
+    among_searched P h =
+        let r = front_of P a.inputs extras h in
+        let mine : AllByRecursion P (target_names m.set) =
+        subst (AllByRecursion P) (sym names_are)
+        (moved-all P (map (λ file. file.0) inputs) (map (λ file. file.0) ordered) (IsPermutation-map (λ file. file.0) inputs ordered (laws.order inputs)) (subst (AllByRecursion P) (sym (names_of_files before a.inputs)) r.0)) in
+        all_distinct P (filter (has damaged) (target_names m.set) ++ extras)
+        (all-append P (filter (has damaged) (target_names m.set)) extras (all-filter P (has damaged) (target_names m.set) mine) r.1)
+
+    -- a window of the file that matches the slice is it
+    abbrev IsTold : List ℕ → List ℕ → Type 0
+    IsTold slice name = AllByRecursion (λ w. Matches (pair_of slice) w → w ≡ slice) (windows s (bytes_of damaged name))
+
+    told : NoCollision damaged searched s (all_slices s ordered)
+    told =
+        from_files (λ slice. AllByRecursion (IsTold slice) searched) s ordered
+        (moved-all (λ file. AllByRecursion (λ slice. AllByRecursion (IsTold slice) searched) (slices s file.1)) inputs ordered (laws.order inputs)
+        (to_files (λ slice. AllByRecursion (IsTold slice) searched) s inputs
+        (all_of_each (λ slice. AllByRecursion (IsTold slice) (a.inputs ++ extras)) (λ slice. AllByRecursion (IsTold slice) searched) (λ slice h. among_searched (IsTold slice) h) (all_slices s inputs) search.told)))
+
+    bytes : AllByRecursion (λ file. AreBytes file.1) ordered
+    bytes = moved-all (λ file. AreBytes file.1) inputs ordered (laws.order inputs) fits.bytes
+
+    -- the folder has each of these files
+    abbrev Holds : Folder → List File → Type 0
+    Holds folder files = AllByRecursion (λ file. map_of.get folder file.0 ≡ Some file.1) files
+
+    abbrev repaired : Bool → Folder
+    repaired purge = if purge then after_repair_and_purge damaged m.set searched else after_repair damaged m.set searched
+
+    set_returns : IsAccepted damaged a.base extras m.set → (purge : Bool) → Holds (repaired purge) ordered
+    set_returns is true = laws.purged damaged a.base extras ordered s m is.there few told bytes (repairable laws damaged m.set searched is.passes)
+    set_returns is false = laws.repaired damaged a.base extras ordered s m is.there few told bytes (repairable laws damaged m.set searched is.passes)
+
+    after_is : IsAccepted damaged a.base extras m.set → (purge : Bool) → after damaged (Repair a.base extras purge) ≡ repaired purge
+    unfolding after
+    after_is is purge =
+        ap (by_set damaged (λ set. if purge then after_repair_and_purge damaged set (candidates damaged set extras) else after_repair damaged set (candidates damaged set extras))) is.reads
+
+  as_before : (folder : Folder) (words : List (List ℕ)) → AllByRecursion (λ word. not (has before word) ≡ false) words → AllByRecursion (λ file. map_of.get folder file.0 ≡ Some file.1) (files_of before words)
+      → AllByRecursion (λ name. map_of.get folder name ≡ map_of.get before name) words
+  as_before folder [] there h = tt
+  as_before folder (name ∷ words) there h = (h.0 ∙ sym (some_bytes before name (from_not (has before name) there.0)), as_before folder words there.1 h.1)
+
+  pub gives_back : refusal before (Create a) ≡ None → MadeFrom damaged a.base ordered s → (purge : Bool) → refusal damaged (Repair a.base extras purge) ≡ None
+      → AllByRecursion (λ name. map_of.get (after damaged (Repair a.base extras purge)) name ≡ map_of.get before name) a.inputs
+  gives_back created m purge accepted =
+      let is = is_accepted damaged a.base extras purge m.set accepted m.reads in
+      let back : AllByRecursion (λ file. map_of.get (repaired m purge) file.0 ≡ Some file.1) inputs =
+      moved-all (λ file. map_of.get (repaired m purge) file.0 ≡ Some file.1) ordered inputs (IsPermutation-sym inputs ordered (laws.order inputs)) (set_returns m is purge) in
+      as_before (after damaged (Repair a.base extras purge)) a.inputs (passes before a created).there
+      (subst (λ folder. AllByRecursion (λ file. map_of.get folder file.0 ≡ Some file.1) inputs) (sym (after_is m is purge)) back)
