@@ -1,25 +1,26 @@
 -- What damage leaves of the par files of a create.
-use Rattle.std.proofs.Common.{◌≡◌, ℕ, Bool, true, false, cond, not, ◌&&◌, List, [], ◌∷◌, map, Option, Some, None, refl, sym, ap, ◌∙◌, subst, inl, inr, ◌⊎◌, unwrap_or}
-use Rattle.std.specs.Prelude.{is_some}
-use Rattle.std.specs.List.{Contains}
-use Rattle.std.specs.Str.{bytes_eq}
+use Rattle.std.proofs.Common.{◌≡◌, ℕ, ◌+◌, ◌-◌, arith, length, drop, ◌++◌, length-append, Bool, true, false, cond, not, ◌&&◌, List, [], ◌∷◌, map, Option, Some, None, refl, sym, ap, ◌∙◌, subst, inl, inr, ◌⊎◌, unwrap_or}
+use Rattle.std.specs.Prelude.{is_some, codes}
+use Rattle.std.specs.List.{AllByRecursion, Contains}
+use Rattle.std.specs.Str.{bytes_eq, str_to_ascii_lowercase}
 use Rattle.std.specs.FinMap as map_of
 use Rattle.std.specs.FinMap.{get-insert}
 use Rattle.std.specs.Cmp.Lexicographic.{nat_list_cmp_total}
 use Rattle.std.proofs.lemmas.Map.Text.{is_eq-slice_cmp}
-use Rattle.std.proofs.lemmas.Bool.{false≢true, and_parts, or_from}
+use Rattle.std.proofs.lemmas.Bool.{false≢true, and_parts, or_from, or_cases}
 use Rattle.std.proofs.lemmas.List.Elements.{recursion_from_All, filter_passes}
-use Rattle.par2_spec.specs.Names.{is_name, is_par_name, is_among}
+use Rattle.std.proofs.Math.Seq.{drop-append_seam}
+use Rattle.par2_spec.specs.Names.{is_name, is_par_name, is_among, par2_ending}
 use Rattle.par2_spec.specs.Folders.{Folder, File, has, bytes_of, names, laid_over}
 use Rattle.par2_spec.specs.Packets.{accepted_after}
-use Rattle.par2_spec.specs.Volumes.{volumes}
+use Rattle.par2_spec.specs.Volumes.{volumes, volume_name, volume_numbers, volume_size, volumes_before, stem, five_digits}
 use Rattle.par2_spec.specs.Sets.{other_par_names}
 use Rattle.par2_spec.specs.Commands.{CreateArgs, Create, files_of, outputs_of}
 use Rattle.par2_spec.specs.Refusals.{refusal, after}
 use Rattle.par2_origins.specs.Volumes.{IsVolume, IsVolumeOrOther, IsOfOthers, set_id_of, HoldsVolumes}
-use Rattle.par2_origins.specs.Creates.{FitsCreate, IsDamage}
+use Rattle.par2_origins.specs.Creates.{FitsCreate, IsDamage, output_names}
 use Rattle.par2_origins.proofs.Said.{all_of_each, same_some}
-use Rattle.par2_origins.proofs.Reading.{itself}
+use Rattle.par2_origins.proofs.Reading.{itself, same_bytes}
 use Rattle.par2_origins.proofs.Present.{contained_first, contained_later}
 use Rattle.par2_origins.proofs.Accepted.{passes}
 
@@ -48,17 +49,6 @@ laid_cases (file ∷ files) folder q bytes h =
     step true e out k = inl (subst (Contains (bytes_in (file ∷ files))) (same_some file.1 bytes k) (contained_first file.1 (bytes_in files)))
     step false e out k = inr (or_from (bytes_eq q file.0) (is_among (map (λ f. f.0) files) q) e out, k)
 
--- under the name of the first file stand the bytes of one of them
-first_laid : (file : File) (files : List File) (folder : Folder) (bytes : List ℕ) → map_of.get (laid_over (file ∷ files) folder) file.0 ≡ Some bytes → Contains (bytes_in (file ∷ files)) bytes
-unfolding laid_over
-first_laid file files folder bytes h =
-    elim (laid_cases files (map_of.insert folder file.0 file.1) file.0 bytes h) as (λ _. Contains (bytes_in (file ∷ files)) bytes) [
-      | inl i ↦ contained_later file.1 (bytes_in files) bytes i
-      | inr r ↦ subst (Contains (bytes_in (file ∷ files)))
-          (same_some file.1 bytes (sym (get_put folder file.0 file.1 file.0 ∙ ap (λ t. cond t (Some file.1) (map_of.get folder file.0)) (itself file.0)) ∙ r.1))
-          (contained_first file.1 (bytes_in files))
-    ]
-
 pub some_bytes : (folder : Folder) (name : List ℕ) → has folder name ≡ true → map_of.get folder name ≡ Some (bytes_of folder name)
 some_bytes folder name h = step (map_of.get folder name) h
   where
@@ -66,9 +56,33 @@ some_bytes folder name h = step (map_of.get folder name) h
     step None k = absurd (false≢true k)
     step (Some bytes) k = refl
 
+-- ---- the names of what a create writes
+
+par_volume : (base : List ℕ) (first n : ℕ) → is_par_name (volume_name base first n) ≡ true
+par_volume base first n =
+    let front = stem base ++ codes ".vol" ++ five_digits first ++ codes "+" ++ five_digits n in
+    let place : length (front ++ codes ".par2") - 5 ≡ length front = omega (arith, length-append front (codes ".par2")) in
+    ap (λ xs. bytes_eq (str_to_ascii_lowercase xs) par2_ending) (ap (λ k. drop k (front ++ codes ".par2")) place ∙ drop-append_seam front (codes ".par2"))
+
+par_volumes : (base : List ℕ) (first n : ℕ → ℕ) (texts : ℕ → List ℕ) (is : List ℕ)
+    → AllByRecursion (λ name. is_par_name name ≡ true) (map (λ file. file.0) (map (λ i. let v : File = (volume_name base (first i) (n i), texts i) in v) is))
+par_volumes base first n texts [] = tt
+par_volumes base first n texts (i ∷ is) = (par_volume base (first i) (n i), par_volumes base first n texts is)
+
+par_outputs : (before : Folder) (a : CreateArgs) → is_par_name a.base ≡ true → AllByRecursion (λ name. is_par_name name ≡ true) (output_names before a)
+unfolding volumes
+par_outputs before a h = (h, par_volumes a.base (λ i. a.first + volumes_before i) (volume_size a.count) _ (volume_numbers a.count))
+
+of_among : (P : List ℕ → Type 0) (xs : List (List ℕ)) (q : List ℕ) → AllByRecursion P xs → is_among xs q ≡ true → P q
+of_among P [] q h i = absurd (false≢true i)
+of_among P (x ∷ xs) q h i = elim (or_cases (bytes_eq q x) (is_among xs q) i) as (λ _. P q) [
+  | inl here ↦ subst P (sym (same_bytes q x here)) h.0
+  | inr there ↦ of_among P xs q h.1 there
+]
+
 -- ---- the par files of a damaged folder
 
-module _ (before damaged : Folder) (a : CreateArgs) (accepted : refusal before (Create a) ≡ None) (fits : FitsCreate before a) (damage : IsDamage (after before (Create a)) damaged a.base) where
+module _ (before damaged : Folder) (a : CreateArgs) (base : List ℕ) (accepted : refusal before (Create a) ≡ None) (fits : FitsCreate before a) (damage : IsDamage before damaged a base) where
   abbrev inputs : List File
   inputs = files_of before a.inputs
 
@@ -102,14 +116,18 @@ module _ (before damaged : Folder) (a : CreateArgs) (accepted : refusal before (
       step true e = is_volume_or_other name par e
       step false e = inr (none_there name e)
 
-  base_written : Contains (bytes_in (outputs_of before a)) (bytes_of damaged a.base)
-  unfolding volumes
-  base_written = first_laid _ _ before (bytes_of damaged a.base) (is_there a.base (and_parts (is_name a.base) (is_par_name a.base) (passes before a accepted).base).1 damage.base_is_there)
+  base_written : Contains (bytes_in (outputs_of before a)) (bytes_of damaged base)
+  base_written =
+      let par = of_among (λ name. is_par_name name ≡ true) (output_names before a) base (par_outputs before a (and_parts (is_name a.base) (is_par_name a.base) (passes before a accepted).base).1) damage.written in
+      elim (laid_cases (outputs_of before a) before base (bytes_of damaged base) (is_there base par damage.there)) as (λ _. Contains (bytes_in (outputs_of before a)) (bytes_of damaged base)) [
+        | inl i ↦ i
+        | inr r ↦ absurd (false≢true (sym r.0 ∙ damage.written))
+      ]
 
-  pub holds_volumes : HoldsVolumes damaged a.base a.slice_size inputs
+  pub holds_volumes : HoldsVolumes damaged base a.slice_size inputs
   holds_volumes = record {
-    of_base = written (bytes_of damaged a.base) base_written;
-    of_others = all_of_each (λ name. (is_par_name name && not (bytes_eq name a.base)) ≡ true) (λ name. IsVolumeOrOther a.slice_size inputs (bytes_of damaged name))
-        (λ name h. each_par name (and_parts (is_par_name name) (not (bytes_eq name a.base)) h).0) (other_par_names damaged a.base)
-        (recursion_from_All (λ name. (is_par_name name && not (bytes_eq name a.base)) ≡ true) (other_par_names damaged a.base) (filter_passes (λ name. is_par_name name && not (bytes_eq name a.base)) (names damaged)));
+    of_base = written (bytes_of damaged base) base_written;
+    of_others = all_of_each (λ name. (is_par_name name && not (bytes_eq name base)) ≡ true) (λ name. IsVolumeOrOther a.slice_size inputs (bytes_of damaged name))
+        (λ name h. each_par name (and_parts (is_par_name name) (not (bytes_eq name base)) h).0) (other_par_names damaged base)
+        (recursion_from_All (λ name. (is_par_name name && not (bytes_eq name base)) ≡ true) (other_par_names damaged base) (filter_passes (λ name. is_par_name name && not (bytes_eq name base)) (names damaged)));
   }

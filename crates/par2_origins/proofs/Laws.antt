@@ -2,6 +2,8 @@
 use Rattle.std.proofs.Common.{◌≡◌, ℕ, ◌<◌, ◌^◌, List, [], ◌++◌, ◌%◌, length, map, false, Some}
 use Rattle.std.specs.Prelude.{◌==◌, ◌↔◌, IsTrue, flat_map, IsPermutation}
 use Rattle.std.specs.FinMap as map_of
+use Rattle.std.specs.Str.{bytes_eq}
+use Rattle.md5.specs.Md5.{md5}
 use Rattle.std.specs.List.{AllByRecursion, list_any, list_all}
 use Rattle.par2_spec.specs.declared.Kind.TheVariants.{Main, FileDesc, Ifsc, Recovery}
 use Rattle.par2_spec.specs.Packets.{packet, accepted, read_main, read_desc, read_ifsc, read_recovery}
@@ -9,7 +11,7 @@ use Rattle.par2_spec.specs.Folders.{Folder, File, has}
 use Rattle.par2_spec.specs.Rank.{is_repairable, IsRepairable}
 use Rattle.par2_spec.specs.Sets.{MadeFrom}
 use Rattle.par2_spec.specs.Search.{candidates, known, lost, survivors, NoCollision}
-use Rattle.par2_spec.specs.Repairs.{after_repair, after_repair_and_purge}
+use Rattle.par2_spec.specs.Repairs.{rebuilt_targets, after_repair, after_repair_and_purge}
 use Rattle.par2_spec.specs.Rules.{AreFew}
 use Rattle.par2_spec.specs.Packing.{IsPair, IsFileRecord}
 use Rattle.par2_spec.specs.Volumes.{FileRecord, all_slices, in_id_order, index_packets, recovery_packets, main_bytes, desc_bytes, ifsc_bytes, recovery_bytes}
@@ -58,3 +60,7 @@ pub record AreRepaired : Type 0 where
       → IsTrue (list_all (has folder) extras) → AreFew folder m.set → NoCollision folder (candidates folder m.set extras) s (all_slices s files)
       → AllByRecursion (λ file. AllByRecursion (λ b. b < 256) file.1) files → IsRepairable (lost (known folder m.set (candidates folder m.set extras))) (survivors m.set)
       → AllByRecursion (λ file. map_of.get (after_repair_and_purge folder m.set (candidates folder m.set extras)) file.0 ≡ Some file.1) files
+  pub digests : (folder : Folder) (base : List ℕ) (extras : List (List ℕ)) (files : List File) (s : ℕ) (m : MadeFrom folder base files s)
+      → IsTrue (list_all (has folder) extras) → AreFew folder m.set → NoCollision folder (candidates folder m.set extras) s (all_slices s files)
+      → AllByRecursion (λ file. AllByRecursion (λ b. b < 256) file.1) files → IsRepairable (lost (known folder m.set (candidates folder m.set extras))) (survivors m.set)
+      → IsTrue (list_all (λ c. bytes_eq (md5 c.1) c.0.digest) (rebuilt_targets folder m.set (candidates folder m.set extras)))

@@ -1,5 +1,5 @@
 -- What an accepted repair gives back.
-use Rattle.std.proofs.Common.{◌≡◌, ℕ, ◌+◌, ◌^◌, ◌<◌, Bool, true, false, not, List, [], ◌∷◌, ◌++◌, length, map, Option, Some, None, Ok, Err, refl, sym, ap, ◌∙◌, subst, length-append}
+use Rattle.std.proofs.Common.{◌≡◌, ℕ, ◌+◌, ◌^◌, ◌<◌, Bool, true, false, not, List, [], ◌∷◌, ◌++◌, length, map, Option, Some, None, Ok, Err, refl, sym, ap, ◌∙◌, subst, length-append, inl, inr, ◌⊎◌}
 use Rattle.std.specs.Prelude.{is_some, nat_lt, filter, position, if◌then◌else◌}
 use Rattle.std.specs.List.{AllByRecursion, list_all, list_any}
 use Rattle.std.specs.Str.{bytes_eq}
@@ -12,7 +12,7 @@ use Rattle.par2_spec.specs.declared.Fault.TheVariants.{NoSuchFile, NotRepairable
 use Rattle.md5.specs.Md5.{md5}
 use Rattle.par2_spec.specs.Checksums.{pair_of}
 use Rattle.par2_spec.specs.Windows.{Matches, windows}
-use Rattle.par2_spec.specs.Faults.{then_fault, fault_at, fault_where}
+use Rattle.par2_spec.specs.Faults.{first_fault, then_fault, fault_at, fault_where}
 use Rattle.par2_spec.specs.Slices.{slices}
 use Rattle.par2_spec.specs.Rank.{AreBytes, is_repairable, rank, IsRepairable}
 use Rattle.par2_spec.specs.Names.{distinct}
@@ -24,9 +24,9 @@ use Rattle.par2_spec.specs.Repairs.{aside, put_aside, rebuilt_targets, after_rep
 use Rattle.par2_spec.specs.Commands.{CreateArgs, Create, Repair, files_of}
 use Rattle.par2_spec.specs.Refusals.{refusal, after, set_in, by_set, repair_refusal}
 use Rattle.par2_spec.specs.Rules.{AreFew, target_names}
-use Rattle.par2_origins.specs.Creates.{FitsCreate, FitsSearch}
+use Rattle.par2_origins.specs.Creates.{FitsCreate, FitsSearch, may_refuse}
 use Rattle.par2_origins.proofs.Laws.{AreRepaired}
-use Rattle.par2_origins.proofs.Said.{all-append, all_of_each}
+use Rattle.par2_origins.proofs.Said.{all-append, all_of_each, same_some}
 use Rattle.par2_origins.proofs.Reading.{all-filter}
 use Rattle.par2_origins.proofs.Inputs.{moved-all}
 use Rattle.par2_origins.proofs.Accepted.{all_none, where_none, at_none, from_not, passes, names_of_files}
@@ -50,29 +50,36 @@ all_there : (folder : Folder) (words : List (List ℕ)) → AllByRecursion (λ w
 all_there folder [] h = refl
 all_there folder (word ∷ words) h = and_from (has folder word) (list_all (has folder) words) (from_not (has folder word) h.0) (all_there folder words h.1)
 
--- what an accepted repair over a set that reads tells
-record IsAccepted (folder : Folder) (base : List ℕ) (extras : List (List ℕ)) (set : ParSet) : Type 0 where
+-- a repair over a set that reads: a further file isn't there, or the set's refusal is the answer
+record IsAsked (folder : Folder) (base : List ℕ) (extras : List (List ℕ)) (set : ParSet) (answer : Option Fault) : Type 0 where
   reads : set_in folder base extras ≡ Ok set
   there : list_all (has folder) extras ≡ true
-  passes : repair_refusal folder set (candidates folder set extras) ≡ None
+  passes : repair_refusal folder set (candidates folder set extras) ≡ answer
 
-is_accepted : (folder : Folder) (base : List ℕ) (extras : List (List ℕ)) (purge : Bool) (set : ParSet) → refusal folder (Repair base extras purge) ≡ None → set_of folder base ≡ Ok set → IsAccepted folder base extras set
+is_asked : (folder : Folder) (base : List ℕ) (extras : List (List ℕ)) (purge : Bool) (set : ParSet) (answer : Option Fault) → refusal folder (Repair base extras purge) ≡ answer → set_of folder base ≡ Ok set
+    → IsAsked folder base extras set answer ⊎ ((k : ℕ) × (answer ≡ Some (NoSuchFile k)))
 unfolding refusal
-is_accepted folder base extras purge set h reads = step (missing folder (base ∷ extras)) refl
+is_asked folder base extras purge set answer h reads = step (missing folder (base ∷ extras)) refl
   where
     asks : ParSet → Option Fault
-    asks set = repair_refusal folder set (candidates folder set extras)
+    asks read = repair_refusal folder read (candidates folder read extras)
 
-    step : (o : Option ℕ) → missing folder (base ∷ extras) ≡ o → IsAccepted folder base extras set
+    step : (o : Option ℕ) → missing folder (base ∷ extras) ≡ o → IsAsked folder base extras set answer ⊎ ((k : ℕ) × (answer ≡ Some (NoSuchFile k)))
     step None e =
         let is : set_in folder base extras ≡ Ok set = in_full folder base extras e ∙ reads in
         let none : fault_at 0 NoSuchFile (λ word. not (has folder word)) (base ∷ extras) ≡ None = rw e refl in
-        record {
+        inl (record {
           reads = is;
           there = all_there folder extras (at_none 0 NoSuchFile (λ word. not (has folder word)) (base ∷ extras) none).1;
           passes = ap (λ r. then_fault r asks) (sym is) ∙ h;
-        }
-    step (Some k) e = absurd (false≢true (sym (ap is_some (ap (λ r. then_fault r asks) (sym (in_part folder base extras k e)) ∙ h))))
+        })
+    step (Some k) e = inr (0 + k, sym h ∙ ap (λ r. then_fault r asks) (in_part folder base extras k e))
+
+is_accepted : (folder : Folder) (base : List ℕ) (extras : List (List ℕ)) (purge : Bool) (set : ParSet) → refusal folder (Repair base extras purge) ≡ None → set_of folder base ≡ Ok set → IsAsked folder base extras set None
+is_accepted folder base extras purge set h reads = elim (is_asked folder base extras purge set None h reads) as (λ _. IsAsked folder base extras set None) [
+  | inl is ↦ is
+  | inr other ↦ absurd (false≢true (ap is_some other.1))
+]
 
 -- the tests of a repair in their order
 abbrev tests : Folder → ParSet → List (List ℕ) → List (Option Fault)
@@ -90,6 +97,24 @@ repairable laws folder set searched h =
     let is = is_repairable missing (survivors set) in
     (laws.words missing (survivors set)).0
     (from_not is (where_none (not is) (NotRepairable (length missing) (rank missing (survivors set))) (all_none (tests folder set searched) h).0))
+
+-- the first cause that holds is one of few
+first_cause : (b c d : Bool) (count known : ℕ) (fault : Fault) → (b ≡ false → d ≡ false)
+    → first_fault (fault_where b (NotRepairable count known) ∷ fault_where c NameTooLong ∷ fault_where d RepairFailed ∷ []) ≡ Some fault → may_refuse fault ≡ true
+first_cause true c d m r fault none h = subst (λ f. may_refuse f ≡ true) (same_some (NotRepairable m r) fault h) refl
+first_cause false true d m r fault none h = subst (λ f. may_refuse f ≡ true) (same_some NameTooLong fault h) refl
+first_cause false false true m r fault none h = absurd (false≢true (sym (none refl)))
+first_cause false false false m r fault none h = absurd (false≢true (ap is_some h))
+
+refused_for : AreRepaired → (folder : Folder) (set : ParSet) (searched : List (List ℕ)) (fault : Fault)
+    → (IsRepairable (lost (known folder set searched)) (survivors set) → list_all (λ c. bytes_eq (md5 c.1) c.0.digest) (rebuilt_targets folder set searched) ≡ true)
+    → repair_refusal folder set searched ≡ Some fault → may_refuse fault ≡ true
+unfolding repair_refusal
+refused_for laws folder set searched fault right h =
+    let missing = lost (known folder set searched) in
+    let is = is_repairable missing (survivors set) in
+    first_cause (not is) (list_any (λ name. nat_lt 255 (length (aside folder set name))) (put_aside folder set)) (not (list_all (λ c. bytes_eq (md5 c.1) c.0.digest) (rebuilt_targets folder set searched)))
+    (length missing) (rank missing (survivors set)) fault (λ e. ap not (right ((laws.words missing (survivors set)).0 (from_not is e)))) h
 
 -- ---- what is searched
 
@@ -117,7 +142,7 @@ from_files P s (file ∷ files) h = all-append P (slices s file.1) (all_slices s
 
 -- ---- the files as they were
 
-module _ (laws : AreRepaired) (before damaged : Folder) (a : CreateArgs) (extras : List (List ℕ)) (fits : FitsCreate before a) (search : FitsSearch before damaged a extras) where
+module _ (laws : AreRepaired) (before damaged : Folder) (a : CreateArgs) (base : List ℕ) (extras : List (List ℕ)) (fits : FitsCreate before a) (search : FitsSearch before damaged a extras) where
   abbrev s : ℕ
   s = a.slice_size
 
@@ -127,7 +152,7 @@ module _ (laws : AreRepaired) (before damaged : Folder) (a : CreateArgs) (extras
   abbrev ordered : List File
   ordered = in_id_order inputs
 
-  module _ (m : MadeFrom damaged a.base ordered s) where
+  module _ (m : MadeFrom damaged base ordered s) where
     abbrev searched : List (List ℕ)
     searched = candidates damaged m.set extras
 
@@ -171,11 +196,11 @@ module _ (laws : AreRepaired) (before damaged : Folder) (a : CreateArgs) (extras
     abbrev repaired : Bool → Folder
     repaired purge = if purge then after_repair_and_purge damaged m.set searched else after_repair damaged m.set searched
 
-    set_returns : IsAccepted damaged a.base extras m.set → (purge : Bool) → Holds (repaired purge) ordered
-    set_returns is true = laws.purged damaged a.base extras ordered s m is.there few told bytes (repairable laws damaged m.set searched is.passes)
-    set_returns is false = laws.repaired damaged a.base extras ordered s m is.there few told bytes (repairable laws damaged m.set searched is.passes)
+    set_returns : IsAsked damaged base extras m.set None → (purge : Bool) → Holds (repaired purge) ordered
+    set_returns is true = laws.purged damaged base extras ordered s m is.there few told bytes (repairable laws damaged m.set searched is.passes)
+    set_returns is false = laws.repaired damaged base extras ordered s m is.there few told bytes (repairable laws damaged m.set searched is.passes)
 
-    after_is : IsAccepted damaged a.base extras m.set → (purge : Bool) → after damaged (Repair a.base extras purge) ≡ repaired purge
+    after_is : IsAsked damaged base extras m.set None → (purge : Bool) → after damaged (Repair base extras purge) ≡ repaired purge
     unfolding after
     after_is is purge =
         ap (by_set damaged (λ set. if purge then after_repair_and_purge damaged set (candidates damaged set extras) else after_repair damaged set (candidates damaged set extras))) is.reads
@@ -185,11 +210,18 @@ module _ (laws : AreRepaired) (before damaged : Folder) (a : CreateArgs) (extras
   as_before folder [] there h = tt
   as_before folder (name ∷ words) there h = (h.0 ∙ sym (some_bytes before name (from_not (has before name) there.0)), as_before folder words there.1 h.1)
 
-  pub gives_back : refusal before (Create a) ≡ None → MadeFrom damaged a.base ordered s → (purge : Bool) → refusal damaged (Repair a.base extras purge) ≡ None
-      → AllByRecursion (λ name. map_of.get (after damaged (Repair a.base extras purge)) name ≡ map_of.get before name) a.inputs
+  pub gives_back : refusal before (Create a) ≡ None → MadeFrom damaged base ordered s → (purge : Bool) → refusal damaged (Repair base extras purge) ≡ None
+      → AllByRecursion (λ name. map_of.get (after damaged (Repair base extras purge)) name ≡ map_of.get before name) a.inputs
   gives_back created m purge accepted =
-      let is = is_accepted damaged a.base extras purge m.set accepted m.reads in
+      let is = is_accepted damaged base extras purge m.set accepted m.reads in
       let back : AllByRecursion (λ file. map_of.get (repaired m purge) file.0 ≡ Some file.1) inputs =
       moved-all (λ file. map_of.get (repaired m purge) file.0 ≡ Some file.1) ordered inputs (IsPermutation-sym inputs ordered (laws.order inputs)) (set_returns m is purge) in
-      as_before (after damaged (Repair a.base extras purge)) a.inputs (passes before a created).there
+      as_before (after damaged (Repair base extras purge)) a.inputs (passes before a created).there
       (subst (λ folder. AllByRecursion (λ file. map_of.get folder file.0 ≡ Some file.1) inputs) (sym (after_is m is purge)) back)
+
+  pub few_causes : MadeFrom damaged base ordered s → (purge : Bool) (fault : Fault) → refusal damaged (Repair base extras purge) ≡ Some fault → may_refuse fault ≡ true
+  few_causes m purge fault refused =
+      elim (is_asked damaged base extras purge m.set (Some fault) refused m.reads) as (λ _. may_refuse fault ≡ true) [
+        | inl is ↦ refused_for laws damaged m.set (searched m) fault (λ repairs. laws.digests damaged base extras ordered s m is.there (few m) (told m) (bytes m) repairs) is.passes
+        | inr missed ↦ subst (λ f. may_refuse f ≡ true) (sym (same_some fault (NoSuchFile missed.0) missed.1)) refl
+      ]

@@ -1,5 +1,5 @@
 -- A folder that a create is run in, and one that it left and that was damaged since.
-use Rattle.std.specs.Prelude.{◌≡◌, ℕ, ◌+◌, ◌<◌, ◌^◌, IsTrue, IsFalse, List, ◌++◌, length, map}
+use Rattle.std.specs.Prelude.{◌≡◌, ℕ, ◌+◌, ◌<◌, ◌^◌, Bool, true, false, IsTrue, IsFalse, List, ◌++◌, length, map}
 use Rattle.std.specs.List.{AllByRecursion}
 use Rattle.std.specs.FinMap as map_of
 use Rattle.par2_spec.specs.Rank.{AreBytes}
@@ -7,26 +7,43 @@ use Rattle.par2_spec.specs.Names.{is_par_name, is_among}
 use Rattle.par2_spec.specs.Folders.{Folder, IsFolder, has, bytes_of, names}
 use Rattle.par2_spec.specs.Volumes.{all_slices}
 use Rattle.par2_spec.specs.Search.{NoCollision}
-use Rattle.par2_spec.specs.Commands.{CreateArgs, files_of, outputs_of}
+use Rattle.par2_spec.specs.Commands.{CreateArgs, Create, files_of, outputs_of}
+use Rattle.par2_spec.specs.Refusals.{after}
+use Rattle.par2_spec.specs.declared.Fault.{Fault}
+use Rattle.par2_spec.specs.declared.Fault.TheVariants.{NoSuchFile, NotRepairable, NameTooLong}
 use Rattle.par2_origins.specs.Volumes.{IsVolumeOrOther}
 
--- a folder as a computer holds it. Of the par files that the create does not write, each is a volume of the same
--- files or is of other sets
+-- the names of the files that a create writes
+abbrev pub output_names : Folder → CreateArgs → List (List ℕ)
+output_names before a = map (λ file. file.0) (outputs_of before a)
+
+-- a folder as a computer holds it. Of the par files that the create does not write, each is a volume of the
+-- same files or is of other sets
 pub record FitsCreate (before : Folder) (a : CreateArgs) : Type 0 where
   pub whole : IsFolder before
   pub bytes : AllByRecursion (λ file. AreBytes file.1) (files_of before a.inputs)
   pub other_pars : (name : List ℕ) → IsTrue (is_par_name name) → IsTrue (has before name)
-      → IsFalse (is_among (map (λ file. file.0) (outputs_of before a)) name)
+      → IsFalse (is_among (output_names before a) name)
       → IsVolumeOrOther a.slice_size (files_of before a.inputs) (bytes_of before name)
 
--- damage by another hand: the base is there, and each par file that is there is as the create left it. The other files
--- may be anything, or gone
-pub record IsDamage (created damaged : Folder) (base : List ℕ) : Type 0 where
-  pub base_is_there : IsTrue (has damaged base)
+-- damage by another hand to what a create left: each par file that is there is as the create left it, and the
+-- base, any of those that it wrote, is there. The other files may be anything, or gone
+pub record IsDamage (before damaged : Folder) (a : CreateArgs) (base : List ℕ) : Type 0 where
+  pub written : IsTrue (is_among (output_names before a) base)
+  pub there : IsTrue (has damaged base)
   pub pars : (name : List ℕ) → IsTrue (is_par_name name) → IsTrue (has damaged name)
-      → map_of.get damaged name ≡ map_of.get created name
+      → map_of.get damaged name ≡ map_of.get (after before (Create a)) name
 
 -- what a repair finds of the files is true, and the names are so few that asides can be numbered
 pub record FitsSearch (before damaged : Folder) (a : CreateArgs) (extras : List (List ℕ)) : Type 0 where
-  pub told : NoCollision damaged (a.inputs ++ extras) a.slice_size (all_slices a.slice_size (files_of before a.inputs))
+  pub told : let slices = all_slices a.slice_size (files_of before a.inputs) in
+      NoCollision damaged (a.inputs ++ extras) a.slice_size slices
   pub few : length (names damaged ++ a.inputs) + 1 < 2 ^ 64
+
+-- why a repair of such a folder is refused, if it is: a further file isn't there, too few slices are left, or
+-- the name for a file to be put aside would be too long
+abbrev pub may_refuse : Fault → Bool
+may_refuse (NoSuchFile k) = true
+may_refuse (NotRepairable missing rank) = true
+may_refuse NameTooLong = true
+may_refuse other = false

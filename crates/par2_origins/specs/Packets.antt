@@ -32,11 +32,13 @@ is_read (Other bytes) = false
 abbrev pub IsOf : ℕ → List File → Packet → Type 0
 IsOf s files p = (e : ℕ) × (e < 65536) × Contains (packets_of s files (e ∷ [])) (p.kind, p.body)
 
--- so is each accepted packet of the text that has this set identifier, Creator and unknown kinds aside
+-- so is each accepted packet of the text with this set identifier, Creator and unknown kinds aside
 abbrev pub AreOf : List ℕ → ℕ → List File → List ℕ → Type 0
-AreOf id s files text = AllByRecursion (λ p. p.set_id ≡ id → IsTrue (is_read p.kind) → IsOf s files p) (accepted text)
+AreOf id s files text =
+    AllByRecursion (λ p. p.set_id ≡ id → IsTrue (is_read p.kind) → IsOf s files p) (accepted text)
 
 -- so they are in the base and in each other file whose name ends in `.par2`
 abbrev pub AreAllOf : Folder → List ℕ → List ℕ → ℕ → List File → Type 0
 AreAllOf folder base id s files =
-    AllByRecursion (λ name. AreOf id s files (bytes_of folder name)) (base ∷ other_par_names folder base)
+    let names = base ∷ other_par_names folder base in
+    AllByRecursion (λ name. AreOf id s files (bytes_of folder name)) names

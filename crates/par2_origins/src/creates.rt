@@ -1,6 +1,6 @@
 //! What a create keeps: a later repair that is accepted leaves its files as they were.
 
-ghost use Rattle.std.specs.Prelude.{◌≡◌, ℕ, Bool, List, None};
+ghost use Rattle.std.specs.Prelude.{◌≡◌, ℕ, Bool, List, IsTrue, None, Some};
 ghost use Rattle.std.specs.List.{AllByRecursion};
 ghost use Rattle.std.specs.FinMap as map_of;
 ghost use Rattle.par2_spec.specs.Folders.{Folder};
@@ -9,7 +9,8 @@ ghost use Rattle.par2_spec.specs.Sets.{MadeFrom};
 ghost use Rattle.par2_spec.specs.Commands.{CreateArgs, Create, Repair, files_of};
 ghost use Rattle.par2_spec.specs.Refusals.{refusal, after};
 ghost use Rattle.par2_origins.specs.Volumes.{AreInputs};
-ghost use Rattle.par2_origins.specs.Creates.{FitsCreate, IsDamage, FitsSearch};
+ghost use Rattle.par2_spec.specs.declared.Fault.{Fault};
+ghost use Rattle.par2_origins.specs.Creates.{FitsCreate, IsDamage, FitsSearch, may_refuse};
 
 use crate::volumes::volumes_tell_the_files;
 use par2_spec::create_laws::files_in_order;
@@ -22,12 +23,12 @@ pub fn accepted_create_has_its_inputs()
         → FitsCreate before a → AreInputs a.slice_size (files_of before a.inputs) }
 {}
 
-/// After an accepted create, and after damage that leaves its par files as they are or removes some of
-/// them but the base, the set of the base was made from the files of the create.
+/// After an accepted create, and after damage that leaves its par files as they are or removes some,
+/// the set of each base that is left was made from the files of the create.
 pub fn created_set_is_made_from_its_files()
-    ensures { (before damaged : Folder) (a : CreateArgs) → refusal before (Create a) ≡ None
-        → FitsCreate before a → IsDamage (after before (Create a)) damaged a.base
-        → MadeFrom damaged a.base (in_id_order (files_of before a.inputs)) a.slice_size }
+    ensures { (before damaged : Folder) (a : CreateArgs) (base : List ℕ)
+        → refusal before (Create a) ≡ None → FitsCreate before a → IsDamage before damaged a base
+        → MadeFrom damaged base (in_id_order (files_of before a.inputs)) a.slice_size }
 {
     accepted_create_has_its_inputs();
     volumes_tell_the_files();
@@ -35,12 +36,25 @@ pub fn created_set_is_made_from_its_files()
 
 /// So a repair that is accepted leaves each file as it was at the create, also one that purges.
 pub fn repair_gives_the_created_files_back()
-    ensures { (before damaged : Folder) (a : CreateArgs) (extras : List (List ℕ)) (purge : Bool)
-        → refusal before (Create a) ≡ None → FitsCreate before a
-        → IsDamage (after before (Create a)) damaged a.base → FitsSearch before damaged a extras
-        → refusal damaged (Repair a.base extras purge) ≡ None
-        → let repaired = after damaged (Repair a.base extras purge) in
+    ensures { (before damaged : Folder) (a : CreateArgs) (base : List ℕ) (extras : List (List ℕ))
+        (purge : Bool) → refusal before (Create a) ≡ None → FitsCreate before a
+        → IsDamage before damaged a base → FitsSearch before damaged a extras
+        → refusal damaged (Repair base extras purge) ≡ None
+        → let repaired = after damaged (Repair base extras purge) in
         AllByRecursion (λ name. map_of.get repaired name ≡ map_of.get before name) a.inputs }
+{
+    created_set_is_made_from_its_files();
+    files_in_order();
+    tests_say_the_words();
+    repair_leaves_the_files();
+}
+
+/// A repair of them is refused for few causes: the set is read, and what is rebuilt has its digests.
+pub fn repair_of_created_files_is_refused_for_few_causes()
+    ensures { (before damaged : Folder) (a : CreateArgs) (base : List ℕ) (extras : List (List ℕ))
+        (purge : Bool) (fault : Fault) → refusal before (Create a) ≡ None → FitsCreate before a
+        → IsDamage before damaged a base → FitsSearch before damaged a extras
+        → refusal damaged (Repair base extras purge) ≡ Some fault → IsTrue (may_refuse fault) }
 {
     created_set_is_made_from_its_files();
     files_in_order();

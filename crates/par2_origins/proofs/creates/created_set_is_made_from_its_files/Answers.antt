@@ -3,6 +3,6 @@ use Rattle.par2_origins.proofs.Damaged.{holds_volumes}
 use Rattle.par2_origins.proofs.creates.created_set_is_made_from_its_files.Goals as goal
 
 pub returns : goal.returns
-returns c before damaged a accepted fits damage =
-    c.volumes_tell_the_files.ensures damaged a.base a.slice_size (files_of before a.inputs)
-    (c.accepted_create_has_its_inputs.ensures before a accepted fits) (holds_volumes before damaged a accepted fits damage)
+returns c before damaged a base accepted fits damage =
+    c.volumes_tell_the_files.ensures damaged base a.slice_size (files_of before a.inputs)
+    (c.accepted_create_has_its_inputs.ensures before a accepted fits) (holds_volumes before damaged a base accepted fits damage)
