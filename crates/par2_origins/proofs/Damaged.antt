@@ -20,13 +20,13 @@ use Rattle.par2_spec.specs.Refusals.{refusal, after}
 use Rattle.par2_origins.specs.Volumes.{IsVolume, IsVolumeOrOther, IsOfOthers, set_id_of, HoldsVolumes}
 use Rattle.par2_origins.specs.Creates.{FitsCreate, IsDamage, output_names}
 use Rattle.par2_origins.proofs.Said.{all_of_each, same_some}
-use Rattle.par2_origins.proofs.Reading.{itself, same_bytes}
+use Rattle.par2_origins.proofs.Reading.{same_bytes}
 use Rattle.par2_origins.proofs.Present.{contained_first, contained_later}
 use Rattle.par2_origins.proofs.Accepted.{passes}
 
 -- ---- what stands under a name
 
-get_put : (folder : Folder) (name bytes q : List ℕ) → map_of.get (map_of.insert folder name bytes) q ≡ cond (bytes_eq q name) (Some bytes) (map_of.get folder q)
+pub get_put : (folder : Folder) (name bytes q : List ℕ) → map_of.get (map_of.insert folder name bytes) q ≡ cond (bytes_eq q name) (Some bytes) (map_of.get folder q)
 get_put folder name bytes q = get-insert nat_list_cmp_total folder name bytes q ∙ ap (λ t. cond t (Some bytes) (map_of.get folder q)) (is_eq-slice_cmp q name)
 
 -- the bytes of files

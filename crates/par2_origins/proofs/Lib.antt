@@ -9,4 +9,5 @@ mod Present
 mod Kept
 mod Accepted
 mod Damaged
+mod Removed
 mod Returned

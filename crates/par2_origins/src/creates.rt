@@ -1,16 +1,17 @@
 //! What a create keeps: a later repair that is accepted leaves its files as they were.
 
-ghost use Rattle.std.specs.Prelude.{◌≡◌, ℕ, Bool, List, IsTrue, None, Some};
+ghost use Rattle.std.specs.Prelude.{◌≡◌, ℕ, Bool, List, IsTrue, IsFalse, None, Some};
 ghost use Rattle.std.specs.List.{AllByRecursion};
 ghost use Rattle.std.specs.FinMap as map_of;
-ghost use Rattle.par2_spec.specs.Folders.{Folder};
+ghost use Rattle.par2_spec.specs.Folders.{Folder, without};
+ghost use Rattle.par2_spec.specs.Names.{is_among};
 ghost use Rattle.par2_spec.specs.Volumes.{in_id_order};
 ghost use Rattle.par2_spec.specs.Sets.{MadeFrom};
 ghost use Rattle.par2_spec.specs.Commands.{CreateArgs, Create, Repair, files_of};
 ghost use Rattle.par2_spec.specs.Refusals.{refusal, after};
 ghost use Rattle.par2_origins.specs.Volumes.{AreInputs};
 ghost use Rattle.par2_spec.specs.declared.Fault.{Fault};
-ghost use Rattle.par2_origins.specs.Creates.{FitsCreate, IsDamage, FitsSearch, may_refuse};
+ghost use Rattle.par2_origins.specs.Creates.{output_names, FitsCreate, IsDamage, FitsSearch, may_refuse};
 
 use crate::volumes::volumes_tell_the_files;
 use par2_spec::create_laws::files_in_order;
@@ -21,6 +22,13 @@ use par2_spec::restored_laws::repair_leaves_the_files;
 pub fn accepted_create_has_its_inputs()
     ensures { (before : Folder) (a : CreateArgs) → refusal before (Create a) ≡ None
         → FitsCreate before a → AreInputs a.slice_size (files_of before a.inputs) }
+{}
+
+/// To remove files of what a create left, but for one of those that it wrote, is such damage.
+pub fn removal_is_damage()
+    ensures { (before : Folder) (a : CreateArgs) (base : List ℕ) (gone : List (List ℕ))
+        → IsTrue (is_among (output_names before a) base) → IsFalse (is_among gone base)
+        → IsDamage before (without gone (after before (Create a))) a base }
 {}
 
 /// After an accepted create, and after damage that leaves its par files as they are or removes some,
