@@ -4,6 +4,7 @@
 use crate::rows::{CREATE, answer_of, one_file_after, put, remove, rename, told};
 use anyhow::Result;
 use par2_folder::{FolderStore, MemoryStore};
+use std::alloc::Global;
 
 // Runs a verify, prints what comes of it, and says whether the journal has the bytes that it had.
 fn verified(rt: &HostRuntime, store: &mut MemoryStore, line: &str) -> Result<()> {
@@ -32,12 +33,12 @@ fn two_bases_one_set(rt: &HostRuntime) -> Result<()> {
     verified(rt, &mut store, "verify u.par2")
 }
 
-// A store with a file of three slices, after two creates whose exponents are 0, 21,845 and 21,846.
-fn three_slices(rt: &HostRuntime) -> Result<MemoryStore> {
-    let mut store = MemoryStore::new(rt.alloc());
+/// A store with a file of three slices, after two creates whose exponents are 0, 21,845 and 21,846.
+pub fn three_slices(alloc: Global) -> Result<MemoryStore> {
+    let mut store = MemoryStore::new(alloc);
     put(&mut store, "a", b"abcdefghijkl")?;
     for line in ["create -s4 -c1 t.par2 a", "create -s4 -c2 -f21845 u.par2 a"] {
-        let _answer = answer_of(rt.alloc(), &mut store, line)?;
+        let _answer = answer_of(alloc, &mut store, line)?;
     }
     Ok(store)
 }
@@ -46,7 +47,7 @@ fn three_slices(rt: &HostRuntime) -> Result<MemoryStore> {
 // than one of these slices. With 21,846 both are told.
 fn dependent_exponents(rt: &HostRuntime) -> Result<()> {
     println!(rt; "exponents that depend on each other")?;
-    let mut store = three_slices(rt)?;
+    let mut store = three_slices(rt.alloc())?;
     put(&mut store, "a", b"0000efgh1111")?;
     verified(rt, &mut store, "verify t.par2")?;
     remove(&mut store, "u.vol21846+00001.par2")?;

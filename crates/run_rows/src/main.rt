@@ -8,20 +8,31 @@
 #![tactic(auto)]
 
 mod damaged;
+mod forged;
 mod journals;
+mod purges;
+mod repair_journals;
+mod repairs;
+mod returns;
 mod rows;
 mod sessions;
+mod stopped_repairs;
 mod stops;
 mod verifies;
 mod wanting;
 
 use anyhow::Result;
 use damaged::damaged_stores;
+use forged::forged_sets;
 use journals::found_journals;
 use par2_folder::MemoryStore;
+use purges::purged_stores;
+use repair_journals::journals_of_repairs;
+use repairs::{repaired_names, repaired_stores};
 use rows::{put, row};
 use sessions::{session_on_a_store, undo_that_fails};
 use std::alloc::Global;
+use stopped_repairs::stopped_repairs_and_purges;
 use stops::stopped_runs;
 use verifies::verified_stores;
 use wanting::wanting_stores;
@@ -55,5 +66,11 @@ fn main(rt: HostRuntime) -> Result<()> {
     stopped_runs(&rt)?;
     wanting_stores(&rt)?;
     verified_stores(&rt)?;
-    damaged_stores(&rt)
+    damaged_stores(&rt)?;
+    repaired_stores(&rt)?;
+    repaired_names(&rt)?;
+    forged_sets(&rt)?;
+    purged_stores(&rt)?;
+    stopped_repairs_and_purges(&rt)?;
+    journals_of_repairs(&rt)
 }

@@ -16,6 +16,17 @@ pub struct Answer {
     err: Vec<u8>,
 }
 
+impl Answer {
+    /// What the run wrote. It writes to one of its writers.
+    pub fn text(&self) -> &[u8] {
+        if self.out.is_empty() {
+            &self.err
+        } else {
+            &self.out
+        }
+    }
+}
+
 /// Writes a file.
 pub fn put(store: &mut MemoryStore, text: &str, bytes: &[u8]) -> Result<()> {
     match Name::new(text) {
