@@ -1,6 +1,6 @@
 -- The laws of packets that the proofs are given.
 use Rattle.std.proofs.Common.{◌≡◌, ℕ, ◌<◌, ◌^◌, List, [], ◌++◌, ◌%◌, length, map, false, Some}
-use Rattle.std.specs.Prelude.{◌==◌, ◌↔◌, IsTrue, flat_map, IsPermutation}
+use Rattle.std.specs.Prelude.{Bool, ◌==◌, ◌↔◌, IsTrue, flat_map, IsPermutation}
 use Rattle.std.specs.FinMap as map_of
 use Rattle.std.specs.Str.{bytes_eq}
 use Rattle.md5.specs.Md5.{md5}
@@ -8,10 +8,13 @@ use Rattle.std.specs.List.{AllByRecursion, list_any, list_all}
 use Rattle.par2_spec.specs.declared.Kind.TheVariants.{Main, FileDesc, Ifsc, Recovery}
 use Rattle.par2_spec.specs.Packets.{packet, accepted, read_main, read_desc, read_ifsc, read_recovery}
 use Rattle.par2_spec.specs.Folders.{Folder, File, has}
-use Rattle.par2_spec.specs.Rank.{is_repairable, IsRepairable}
+use Rattle.par2_spec.specs.Rank.{is_repairable, IsRepairable, AreBytes, AnotherAgrees}
 use Rattle.par2_spec.specs.Sets.{MadeFrom}
 use Rattle.par2_spec.specs.Search.{candidates, known, lost, survivors, NoCollision}
 use Rattle.par2_spec.specs.Repairs.{rebuilt_targets, after_repair, after_repair_and_purge}
+use Rattle.par2_spec.specs.Commands.{Repair}
+use Rattle.par2_spec.specs.Refusals.{refusal}
+use Rattle.par2_spec.specs.declared.Fault.TheVariants.{NotRepairable}
 use Rattle.par2_spec.specs.Rules.{AreFew}
 use Rattle.par2_spec.specs.Packing.{IsPair, IsFileRecord}
 use Rattle.par2_spec.specs.Volumes.{FileRecord, all_slices, in_id_order, index_packets, recovery_packets, main_bytes, desc_bytes, ifsc_bytes, recovery_bytes}
@@ -48,19 +51,26 @@ pub record AreKept : Type 0 where
       → accepted (flat_map packet (recovery_packets s id slices e n) ++ text)
       ≡ recovery_packets s id slices e n ++ accepted text
 
+-- what holds of a repair that finds what is true and can rebuild what is lost
+abbrev pub Restores : (folder : Folder) (base : List ℕ) (extras : List (List ℕ)) (files : List File) (s : ℕ) → MadeFrom folder base files s → Type 0 → Type 0
+Restores folder base extras files s m what =
+    let searched = candidates folder m.set extras in
+    IsTrue (list_all (has folder) extras) → AreFew folder m.set → NoCollision folder searched s (all_slices s files)
+    → AllByRecursion (λ file. AreBytes file.1) files → IsRepairable (lost (known folder m.set searched)) (survivors m.set) → what
+
 -- what a repair leaves, and its test in words
 pub record AreRepaired : Type 0 where
-  pub order : (files : List File) → IsPermutation files (in_id_order files)
   pub words : (lost survivors : List ℕ) → IsTrue (is_repairable lost survivors) ↔ IsRepairable lost survivors
   pub repaired : (folder : Folder) (base : List ℕ) (extras : List (List ℕ)) (files : List File) (s : ℕ) (m : MadeFrom folder base files s)
-      → IsTrue (list_all (has folder) extras) → AreFew folder m.set → NoCollision folder (candidates folder m.set extras) s (all_slices s files)
-      → AllByRecursion (λ file. AllByRecursion (λ b. b < 256) file.1) files → IsRepairable (lost (known folder m.set (candidates folder m.set extras))) (survivors m.set)
-      → AllByRecursion (λ file. map_of.get (after_repair folder m.set (candidates folder m.set extras)) file.0 ≡ Some file.1) files
+      → Restores folder base extras files s m (AllByRecursion (λ file. map_of.get (after_repair folder m.set (candidates folder m.set extras)) file.0 ≡ Some file.1) files)
   pub purged : (folder : Folder) (base : List ℕ) (extras : List (List ℕ)) (files : List File) (s : ℕ) (m : MadeFrom folder base files s)
-      → IsTrue (list_all (has folder) extras) → AreFew folder m.set → NoCollision folder (candidates folder m.set extras) s (all_slices s files)
-      → AllByRecursion (λ file. AllByRecursion (λ b. b < 256) file.1) files → IsRepairable (lost (known folder m.set (candidates folder m.set extras))) (survivors m.set)
-      → AllByRecursion (λ file. map_of.get (after_repair_and_purge folder m.set (candidates folder m.set extras)) file.0 ≡ Some file.1) files
+      → Restores folder base extras files s m (AllByRecursion (λ file. map_of.get (after_repair_and_purge folder m.set (candidates folder m.set extras)) file.0 ≡ Some file.1) files)
   pub digests : (folder : Folder) (base : List ℕ) (extras : List (List ℕ)) (files : List File) (s : ℕ) (m : MadeFrom folder base files s)
-      → IsTrue (list_all (has folder) extras) → AreFew folder m.set → NoCollision folder (candidates folder m.set extras) s (all_slices s files)
-      → AllByRecursion (λ file. AllByRecursion (λ b. b < 256) file.1) files → IsRepairable (lost (known folder m.set (candidates folder m.set extras))) (survivors m.set)
-      → IsTrue (list_all (λ c. bytes_eq (md5 c.1) c.0.digest) (rebuilt_targets folder m.set (candidates folder m.set extras)))
+      → Restores folder base extras files s m (IsTrue (list_all (λ c. bytes_eq (md5 c.1) c.0.digest) (rebuilt_targets folder m.set (candidates folder m.set extras))))
+
+-- other slices agree where a repair is refused as not repairable
+abbrev pub OthersAgree : Type 0
+OthersAgree = (folder : Folder) (base : List ℕ) (extras : List (List ℕ)) (purge : Bool) (files : List File) (s missing rank : ℕ) (m : MadeFrom folder base files s)
+    → NoCollision folder (candidates folder m.set extras) s (all_slices s files) → AllByRecursion (λ file. AreBytes file.1) files
+    → refusal folder (Repair base extras purge) ≡ Some (NotRepairable missing rank)
+    → AnotherAgrees s (known folder m.set (candidates folder m.set extras)) (map_of.entries m.set.recovery) (all_slices s files)

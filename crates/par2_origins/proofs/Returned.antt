@@ -1,6 +1,6 @@
 -- What an accepted repair gives back.
 use Rattle.std.proofs.Common.{◌≡◌, ℕ, ◌+◌, ◌^◌, ◌<◌, Bool, true, false, not, List, [], ◌∷◌, ◌++◌, length, map, Option, Some, None, Ok, Err, refl, sym, ap, ◌∙◌, subst, length-append, inl, inr, ◌⊎◌}
-use Rattle.std.specs.Prelude.{is_some, nat_lt, filter, position, if◌then◌else◌}
+use Rattle.std.specs.Prelude.{IsPermutation, is_some, nat_lt, filter, position, if◌then◌else◌}
 use Rattle.std.specs.List.{AllByRecursion, list_all, list_any}
 use Rattle.std.specs.Str.{bytes_eq}
 use Rattle.std.specs.FinMap as map_of
@@ -24,8 +24,8 @@ use Rattle.par2_spec.specs.Repairs.{aside, put_aside, rebuilt_targets, after_rep
 use Rattle.par2_spec.specs.Commands.{CreateArgs, Create, Repair, files_of}
 use Rattle.par2_spec.specs.Refusals.{refusal, after, set_in, by_set, repair_refusal}
 use Rattle.par2_spec.specs.Rules.{AreFew, target_names}
-use Rattle.par2_origins.specs.Creates.{FitsCreate, FitsSearch, may_refuse}
-use Rattle.par2_origins.proofs.Laws.{AreRepaired}
+use Rattle.par2_origins.specs.Creates.{FitsCreate, FitsSearch, may_refuse, HaveAChoice}
+use Rattle.par2_origins.proofs.Laws.{AreRepaired, OthersAgree}
 use Rattle.par2_origins.proofs.Said.{all-append, all_of_each, same_some}
 use Rattle.par2_origins.proofs.Reading.{all-filter}
 use Rattle.par2_origins.proofs.Inputs.{moved-all}
@@ -142,7 +142,7 @@ from_files P s (file ∷ files) h = all-append P (slices s file.1) (all_slices s
 
 -- ---- the files as they were
 
-module _ (laws : AreRepaired) (before damaged : Folder) (a : CreateArgs) (base : List ℕ) (extras : List (List ℕ)) (fits : FitsCreate before a) (search : FitsSearch before damaged a extras) where
+module _ (order : (files : List File) → IsPermutation files (in_id_order files)) (before damaged : Folder) (a : CreateArgs) (base : List ℕ) (extras : List (List ℕ)) (fits : FitsCreate before a) (search : FitsSearch before damaged a extras) where
   abbrev s : ℕ
   s = a.slice_size
 
@@ -162,7 +162,7 @@ module _ (laws : AreRepaired) (before damaged : Folder) (a : CreateArgs) (base :
     few : AreFew damaged m.set
     few =
         let same : length (target_names m.set) ≡ length a.inputs =
-        ap length names_are ∙ length-map ordered (λ file. file.0) ∙ length_permutation inputs ordered (laws.order inputs)
+        ap length names_are ∙ length-map ordered (λ file. file.0) ∙ length_permutation inputs ordered (order inputs)
         ∙ sym (length-map inputs (λ file. file.0)) ∙ ap length (names_of_files before a.inputs) in
         subst (λ n. n + 1 < 2 ^ 64) (length-append (names damaged) a.inputs ∙ ap (λ n. length (names damaged) + n) (sym same) ∙ sym (length-append (names damaged) (target_names m.set))) search.few
 
@@ -171,7 +171,7 @@ module _ (laws : AreRepaired) (before damaged : Folder) (a : CreateArgs) (base :
         let r = front_of P a.inputs extras h in
         let mine : AllByRecursion P (target_names m.set) =
         subst (AllByRecursion P) (sym names_are)
-        (moved-all P (map (λ file. file.0) inputs) (map (λ file. file.0) ordered) (IsPermutation-map (λ file. file.0) inputs ordered (laws.order inputs)) (subst (AllByRecursion P) (sym (names_of_files before a.inputs)) r.0)) in
+        (moved-all P (map (λ file. file.0) inputs) (map (λ file. file.0) ordered) (IsPermutation-map (λ file. file.0) inputs ordered (order inputs)) (subst (AllByRecursion P) (sym (names_of_files before a.inputs)) r.0)) in
         all_distinct P (filter (has damaged) (target_names m.set) ++ extras)
         (all-append P (filter (has damaged) (target_names m.set)) extras (all-filter P (has damaged) (target_names m.set) mine) r.1)
 
@@ -182,12 +182,12 @@ module _ (laws : AreRepaired) (before damaged : Folder) (a : CreateArgs) (base :
     told : NoCollision damaged searched s (all_slices s ordered)
     told =
         from_files (λ slice. AllByRecursion (IsTold slice) searched) s ordered
-        (moved-all (λ file. AllByRecursion (λ slice. AllByRecursion (IsTold slice) searched) (slices s file.1)) inputs ordered (laws.order inputs)
+        (moved-all (λ file. AllByRecursion (λ slice. AllByRecursion (IsTold slice) searched) (slices s file.1)) inputs ordered (order inputs)
         (to_files (λ slice. AllByRecursion (IsTold slice) searched) s inputs
         (all_of_each (λ slice. AllByRecursion (IsTold slice) (a.inputs ++ extras)) (λ slice. AllByRecursion (IsTold slice) searched) (λ slice h. among_searched (IsTold slice) h) (all_slices s inputs) search.told)))
 
     bytes : AllByRecursion (λ file. AreBytes file.1) ordered
-    bytes = moved-all (λ file. AreBytes file.1) inputs ordered (laws.order inputs) fits.bytes
+    bytes = moved-all (λ file. AreBytes file.1) inputs ordered (order inputs) fits.bytes
 
     -- the folder has each of these files
     abbrev Holds : Folder → List File → Type 0
@@ -196,9 +196,9 @@ module _ (laws : AreRepaired) (before damaged : Folder) (a : CreateArgs) (base :
     abbrev repaired : Bool → Folder
     repaired purge = if purge then after_repair_and_purge damaged m.set searched else after_repair damaged m.set searched
 
-    set_returns : IsAsked damaged base extras m.set None → (purge : Bool) → Holds (repaired purge) ordered
-    set_returns is true = laws.purged damaged base extras ordered s m is.there few told bytes (repairable laws damaged m.set searched is.passes)
-    set_returns is false = laws.repaired damaged base extras ordered s m is.there few told bytes (repairable laws damaged m.set searched is.passes)
+    set_returns : AreRepaired → IsAsked damaged base extras m.set None → (purge : Bool) → Holds (repaired purge) ordered
+    set_returns laws is true = laws.purged damaged base extras ordered s m is.there few told bytes (repairable laws damaged m.set searched is.passes)
+    set_returns laws is false = laws.repaired damaged base extras ordered s m is.there few told bytes (repairable laws damaged m.set searched is.passes)
 
     after_is : IsAsked damaged base extras m.set None → (purge : Bool) → after damaged (Repair base extras purge) ≡ repaired purge
     unfolding after
@@ -210,18 +210,22 @@ module _ (laws : AreRepaired) (before damaged : Folder) (a : CreateArgs) (base :
   as_before folder [] there h = tt
   as_before folder (name ∷ words) there h = (h.0 ∙ sym (some_bytes before name (from_not (has before name) there.0)), as_before folder words there.1 h.1)
 
-  pub gives_back : refusal before (Create a) ≡ None → MadeFrom damaged base ordered s → (purge : Bool) → refusal damaged (Repair base extras purge) ≡ None
+  pub gives_back : AreRepaired → refusal before (Create a) ≡ None → MadeFrom damaged base ordered s → (purge : Bool) → refusal damaged (Repair base extras purge) ≡ None
       → AllByRecursion (λ name. map_of.get (after damaged (Repair base extras purge)) name ≡ map_of.get before name) a.inputs
-  gives_back created m purge accepted =
+  gives_back laws created m purge accepted =
       let is = is_accepted damaged base extras purge m.set accepted m.reads in
       let back : AllByRecursion (λ file. map_of.get (repaired m purge) file.0 ≡ Some file.1) inputs =
-      moved-all (λ file. map_of.get (repaired m purge) file.0 ≡ Some file.1) ordered inputs (IsPermutation-sym inputs ordered (laws.order inputs)) (set_returns m is purge) in
+      moved-all (λ file. map_of.get (repaired m purge) file.0 ≡ Some file.1) ordered inputs (IsPermutation-sym inputs ordered (order inputs)) (set_returns m laws is purge) in
       as_before (after damaged (Repair base extras purge)) a.inputs (passes before a created).there
       (subst (λ folder. AllByRecursion (λ file. map_of.get folder file.0 ≡ Some file.1) inputs) (sym (after_is m is purge)) back)
 
-  pub few_causes : MadeFrom damaged base ordered s → (purge : Bool) (fault : Fault) → refusal damaged (Repair base extras purge) ≡ Some fault → may_refuse fault ≡ true
-  few_causes m purge fault refused =
+  pub few_causes : AreRepaired → MadeFrom damaged base ordered s → (purge : Bool) (fault : Fault) → refusal damaged (Repair base extras purge) ≡ Some fault → may_refuse fault ≡ true
+  few_causes laws m purge fault refused =
       elim (is_asked damaged base extras purge m.set (Some fault) refused m.reads) as (λ _. may_refuse fault ≡ true) [
         | inl is ↦ refused_for laws damaged m.set (searched m) fault (λ repairs. laws.digests damaged base extras ordered s m is.there (few m) (told m) (bytes m) repairs) is.passes
         | inr missed ↦ subst (λ f. may_refuse f ≡ true) (sym (same_some fault (NoSuchFile missed.0) missed.1)) refl
       ]
+
+  pub have_a_choice : OthersAgree → MadeFrom damaged base ordered s → (purge : Bool) (missing rank : ℕ) → refusal damaged (Repair base extras purge) ≡ Some (NotRepairable missing rank) → HaveAChoice before damaged a base extras
+  have_a_choice law m purge missing rank refused =
+      record { set = m.set; reads = m.reads; others = law damaged base extras purge ordered s missing rank m (told m) (bytes m) refused }

@@ -1,12 +1,13 @@
 -- A folder that a create is run in, and one that it left and that was damaged since.
-use Rattle.std.specs.Prelude.{◌≡◌, ℕ, ◌+◌, ◌<◌, ◌^◌, Bool, true, false, IsTrue, IsFalse, List, ◌++◌, length, map}
+use Rattle.std.specs.Prelude.{◌≡◌, ℕ, ◌+◌, ◌<◌, ◌^◌, Bool, true, false, IsTrue, IsFalse, List, ◌++◌, length, map, Ok}
 use Rattle.std.specs.List.{AllByRecursion}
 use Rattle.std.specs.FinMap as map_of
-use Rattle.par2_spec.specs.Rank.{AreBytes}
+use Rattle.par2_spec.specs.Rank.{AreBytes, AnotherAgrees}
 use Rattle.par2_spec.specs.Names.{is_par_name, is_among}
 use Rattle.par2_spec.specs.Folders.{Folder, IsFolder, has, bytes_of, names}
-use Rattle.par2_spec.specs.Volumes.{all_slices}
-use Rattle.par2_spec.specs.Search.{NoCollision}
+use Rattle.par2_spec.specs.Volumes.{all_slices, in_id_order}
+use Rattle.par2_spec.specs.Sets.{ParSet, set_of}
+use Rattle.par2_spec.specs.Search.{NoCollision, known, candidates}
 use Rattle.par2_spec.specs.Commands.{CreateArgs, Create, files_of, outputs_of}
 use Rattle.par2_spec.specs.Refusals.{after}
 use Rattle.par2_spec.specs.declared.Fault.{Fault}
@@ -47,3 +48,12 @@ may_refuse (NoSuchFile k) = true
 may_refuse (NotRepairable missing rank) = true
 may_refuse NameTooLong = true
 may_refuse other = false
+
+-- the set of the base is read, and slices other than those of the files, too, agree with all that is found
+pub record HaveAChoice (before damaged : Folder) (a : CreateArgs) (base : List ℕ)
+    (extras : List (List ℕ)) : Type 0 where
+  pub set : ParSet
+  pub reads : set_of damaged base ≡ Ok set
+  pub others : let found = known damaged set (candidates damaged set extras) in
+      let slices = all_slices a.slice_size (in_id_order (files_of before a.inputs)) in
+      AnotherAgrees a.slice_size found (map_of.entries set.recovery) slices

@@ -11,12 +11,13 @@ ghost use Rattle.par2_spec.specs.Commands.{CreateArgs, Create, Repair, files_of}
 ghost use Rattle.par2_spec.specs.Refusals.{refusal, after};
 ghost use Rattle.par2_origins.specs.Volumes.{AreInputs};
 ghost use Rattle.par2_spec.specs.declared.Fault.{Fault};
-ghost use Rattle.par2_origins.specs.Creates.{output_names, FitsCreate, IsDamage, FitsSearch, may_refuse};
+ghost use Rattle.par2_spec.specs.declared.Fault.TheVariants.{NotRepairable};
+ghost use Rattle.par2_origins.specs.Creates.{output_names, FitsCreate, IsDamage, FitsSearch, may_refuse, HaveAChoice};
 
 use crate::volumes::volumes_tell_the_files;
 use par2_spec::create_laws::files_in_order;
 use par2_spec::rank_laws::tests_say_the_words;
-use par2_spec::restored_laws::repair_leaves_the_files;
+use par2_spec::restored_laws::{refused_repair_has_a_choice, repair_leaves_the_files};
 
 /// The files of an accepted create are such as a create takes.
 pub fn accepted_create_has_its_inputs()
@@ -68,4 +69,17 @@ pub fn repair_of_created_files_is_refused_for_few_causes()
     files_in_order();
     tests_say_the_words();
     repair_leaves_the_files();
+}
+
+/// As not repairable it is refused only where other slices, too, agree with all that is found.
+pub fn created_files_not_repairable_have_a_choice()
+    ensures { (before damaged : Folder) (a : CreateArgs) (base : List ℕ) (extras : List (List ℕ))
+        (purge : Bool) (missing rank : ℕ) → refusal before (Create a) ≡ None → FitsCreate before a
+        → IsDamage before damaged a base → FitsSearch before damaged a extras
+        → refusal damaged (Repair base extras purge) ≡ Some (NotRepairable missing rank)
+        → HaveAChoice before damaged a base extras }
+{
+    created_set_is_made_from_its_files();
+    files_in_order();
+    refused_repair_has_a_choice();
 }

@@ -5,11 +5,10 @@ use Rattle.par2_origins.proofs.creates.repair_gives_the_created_files_back.Goals
 pub returns : goal.returns
 returns c before damaged a base extras purge created fits damage search accepted =
     let laws : AreRepaired = record {
-      order = c.files_in_order.ensures.same;
       words = c.tests_say_the_words.ensures.repairable;
       repaired = c.repair_leaves_the_files.ensures.repaired;
       purged = c.repair_leaves_the_files.ensures.purged;
       digests = c.repair_leaves_the_files.ensures.digests;
     } in
-    gives_back laws before damaged a base extras fits search created
-    (c.created_set_is_made_from_its_files.ensures before damaged a base created fits damage) purge accepted
+    let made = c.created_set_is_made_from_its_files.ensures before damaged a base created fits damage in
+    gives_back c.files_in_order.ensures.same before damaged a base extras fits search laws created made purge accepted

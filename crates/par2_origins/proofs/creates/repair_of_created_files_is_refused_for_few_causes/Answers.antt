@@ -5,11 +5,10 @@ use Rattle.par2_origins.proofs.creates.repair_of_created_files_is_refused_for_fe
 pub returns : goal.returns
 returns c before damaged a base extras purge fault created fits damage search refused =
     let laws : AreRepaired = record {
-      order = c.files_in_order.ensures.same;
       words = c.tests_say_the_words.ensures.repairable;
       repaired = c.repair_leaves_the_files.ensures.repaired;
       purged = c.repair_leaves_the_files.ensures.purged;
       digests = c.repair_leaves_the_files.ensures.digests;
     } in
-    few_causes laws before damaged a base extras fits search
-    (c.created_set_is_made_from_its_files.ensures before damaged a base created fits damage) purge fault refused
+    let made = c.created_set_is_made_from_its_files.ensures before damaged a base created fits damage in
+    few_causes c.files_in_order.ensures.same before damaged a base extras fits search laws made purge fault refused
