@@ -21,10 +21,10 @@ use Rattle.par2_spec.specs.Volumes.{record_of, all_slices, in_id_order}
 use Rattle.par2_spec.specs.Sets.{ParSet, MadeFrom, set_of, target_of_file}
 use Rattle.par2_spec.specs.Search.{candidates, known, lost, survivors, NoCollision}
 use Rattle.par2_spec.specs.Repairs.{aside, put_aside, rebuilt_targets, after_repair, after_repair_and_purge}
-use Rattle.par2_spec.specs.Commands.{CreateArgs, Create, Repair, files_of}
+use Rattle.par2_spec.specs.Commands.{CreateArgs, Repair, files_of}
 use Rattle.par2_spec.specs.Refusals.{refusal, after, set_in, by_set, repair_refusal}
 use Rattle.par2_spec.specs.Rules.{AreFew, target_names}
-use Rattle.par2_origins.specs.Creates.{FitsCreate, FitsSearch, may_refuse, HaveAChoice}
+use Rattle.par2_origins.specs.Creates.{FollowsCreate, may_refuse, HaveAChoice}
 use Rattle.par2_origins.proofs.Laws.{AreRepaired, OthersAgree}
 use Rattle.par2_origins.proofs.Said.{all-append, all_of_each, same_some}
 use Rattle.par2_origins.proofs.Reading.{all-filter}
@@ -142,7 +142,7 @@ from_files P s (file ∷ files) h = all-append P (slices s file.1) (all_slices s
 
 -- ---- the files as they were
 
-module _ (order : (files : List File) → IsPermutation files (in_id_order files)) (before damaged : Folder) (a : CreateArgs) (base : List ℕ) (extras : List (List ℕ)) (fits : FitsCreate before a) (search : FitsSearch before damaged a extras) where
+module _ (order : (files : List File) → IsPermutation files (in_id_order files)) (before damaged : Folder) (a : CreateArgs) (base : List ℕ) (extras : List (List ℕ)) (follows : FollowsCreate before damaged a base extras) where
   abbrev s : ℕ
   s = a.slice_size
 
@@ -164,7 +164,7 @@ module _ (order : (files : List File) → IsPermutation files (in_id_order files
         let same : length (target_names m.set) ≡ length a.inputs =
         ap length names_are ∙ length-map ordered (λ file. file.0) ∙ length_permutation inputs ordered (order inputs)
         ∙ sym (length-map inputs (λ file. file.0)) ∙ ap length (names_of_files before a.inputs) in
-        subst (λ n. n + 1 < 2 ^ 64) (length-append (names damaged) a.inputs ∙ ap (λ n. length (names damaged) + n) (sym same) ∙ sym (length-append (names damaged) (target_names m.set))) search.few
+        subst (λ n. n + 1 < 2 ^ 64) (length-append (names damaged) a.inputs ∙ ap (λ n. length (names damaged) + n) (sym same) ∙ sym (length-append (names damaged) (target_names m.set))) follows.few
 
     among_searched : (P : List ℕ → Type 0) → AllByRecursion P (a.inputs ++ extras) → AllByRecursion P searched
     among_searched P h =
@@ -184,10 +184,10 @@ module _ (order : (files : List File) → IsPermutation files (in_id_order files
         from_files (λ slice. AllByRecursion (IsTold slice) searched) s ordered
         (moved-all (λ file. AllByRecursion (λ slice. AllByRecursion (IsTold slice) searched) (slices s file.1)) inputs ordered (order inputs)
         (to_files (λ slice. AllByRecursion (IsTold slice) searched) s inputs
-        (all_of_each (λ slice. AllByRecursion (IsTold slice) (a.inputs ++ extras)) (λ slice. AllByRecursion (IsTold slice) searched) (λ slice h. among_searched (IsTold slice) h) (all_slices s inputs) search.told)))
+        (all_of_each (λ slice. AllByRecursion (IsTold slice) (a.inputs ++ extras)) (λ slice. AllByRecursion (IsTold slice) searched) (λ slice h. among_searched (IsTold slice) h) (all_slices s inputs) follows.told)))
 
     bytes : AllByRecursion (λ file. AreBytes file.1) ordered
-    bytes = moved-all (λ file. AreBytes file.1) inputs ordered (order inputs) fits.bytes
+    bytes = moved-all (λ file. AreBytes file.1) inputs ordered (order inputs) follows.fits.bytes
 
     -- the folder has each of these files
     abbrev Holds : Folder → List File → Type 0
@@ -210,13 +210,13 @@ module _ (order : (files : List File) → IsPermutation files (in_id_order files
   as_before folder [] there h = tt
   as_before folder (name ∷ words) there h = (h.0 ∙ sym (some_bytes before name (from_not (has before name) there.0)), as_before folder words there.1 h.1)
 
-  pub gives_back : AreRepaired → refusal before (Create a) ≡ None → MadeFrom damaged base ordered s → (purge : Bool) → refusal damaged (Repair base extras purge) ≡ None
+  pub gives_back : AreRepaired → MadeFrom damaged base ordered s → (purge : Bool) → refusal damaged (Repair base extras purge) ≡ None
       → AllByRecursion (λ name. map_of.get (after damaged (Repair base extras purge)) name ≡ map_of.get before name) a.inputs
-  gives_back laws created m purge accepted =
+  gives_back laws m purge accepted =
       let is = is_accepted damaged base extras purge m.set accepted m.reads in
       let back : AllByRecursion (λ file. map_of.get (repaired m purge) file.0 ≡ Some file.1) inputs =
       moved-all (λ file. map_of.get (repaired m purge) file.0 ≡ Some file.1) ordered inputs (IsPermutation-sym inputs ordered (order inputs)) (set_returns m laws is purge) in
-      as_before (after damaged (Repair base extras purge)) a.inputs (passes before a created).there
+      as_before (after damaged (Repair base extras purge)) a.inputs (passes before a follows.created).there
       (subst (λ folder. AllByRecursion (λ file. map_of.get folder file.0 ≡ Some file.1) inputs) (sym (after_is m is purge)) back)
 
   pub few_causes : AreRepaired → MadeFrom damaged base ordered s → (purge : Bool) (fault : Fault) → refusal damaged (Repair base extras purge) ≡ Some fault → may_refuse fault ≡ true

@@ -1,5 +1,5 @@
 -- A folder that a create is run in, and one that it left and that was damaged since.
-use Rattle.std.specs.Prelude.{◌≡◌, ℕ, ◌+◌, ◌<◌, ◌^◌, Bool, true, false, IsTrue, IsFalse, List, ◌++◌, length, map, Ok}
+use Rattle.std.specs.Prelude.{◌≡◌, ℕ, ◌+◌, ◌<◌, ◌^◌, Bool, true, false, IsTrue, IsFalse, List, ◌++◌, length, map, Ok, None}
 use Rattle.std.specs.List.{AllByRecursion}
 use Rattle.std.specs.FinMap as map_of
 use Rattle.par2_spec.specs.Rank.{AreBytes, AnotherAgrees}
@@ -9,7 +9,7 @@ use Rattle.par2_spec.specs.Volumes.{all_slices, in_id_order}
 use Rattle.par2_spec.specs.Sets.{ParSet, set_of}
 use Rattle.par2_spec.specs.Search.{NoCollision, known, candidates}
 use Rattle.par2_spec.specs.Commands.{CreateArgs, Create, files_of, outputs_of}
-use Rattle.par2_spec.specs.Refusals.{after}
+use Rattle.par2_spec.specs.Refusals.{refusal, after}
 use Rattle.par2_spec.specs.declared.Fault.{Fault}
 use Rattle.par2_spec.specs.declared.Fault.TheVariants.{NoSuchFile, NotRepairable, NameTooLong}
 use Rattle.par2_origins.specs.Volumes.{IsVolumeOrOther}
@@ -35,8 +35,13 @@ pub record IsDamage (before damaged : Folder) (a : CreateArgs) (base : List ℕ)
   pub pars : (name : List ℕ) → IsTrue (is_par_name name) → IsTrue (has damaged name)
       → map_of.get damaged name ≡ map_of.get (after before (Create a)) name
 
--- what a repair finds of the files is true, and the names are so few that asides can be numbered
-pub record FitsSearch (before damaged : Folder) (a : CreateArgs) (extras : List (List ℕ)) : Type 0 where
+-- an accepted create and such damage since, where what a repair finds of the files is true and the names are so
+-- few that asides can be numbered
+pub record FollowsCreate (before damaged : Folder) (a : CreateArgs) (base : List ℕ)
+    (extras : List (List ℕ)) : Type 0 where
+  pub created : refusal before (Create a) ≡ None
+  pub fits : FitsCreate before a
+  pub damage : IsDamage before damaged a base
   pub told : let slices = all_slices a.slice_size (files_of before a.inputs) in
       NoCollision damaged (a.inputs ++ extras) a.slice_size slices
   pub few : length (names damaged ++ a.inputs) + 1 < 2 ^ 64

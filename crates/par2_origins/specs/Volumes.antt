@@ -40,7 +40,7 @@ IsOfOthers id bytes = AllByRecursion (λ p. bytes_eq p.set_id id ≡ false) (acc
 abbrev pub IsVolumeOrOther : ℕ → List File → List ℕ → Type 0
 IsVolumeOrOther s files bytes = IsVolume s files bytes ⊎ IsOfOthers (set_id_of s files) bytes
 
--- the base is a volume of these files, and each other file whose name ends in `.par2` is one or is of others
+-- the base is a volume of these files, and each other file whose name ends in `.par2` is one or of others
 pub record HoldsVolumes (folder : Folder) (base : List ℕ) (s : ℕ) (files : List File) : Type 0 where
   pub of_base : IsVolume s files (bytes_of folder base)
   pub of_others : let others = other_par_names folder base in

@@ -12,7 +12,7 @@ ghost use Rattle.par2_spec.specs.Refusals.{refusal, after};
 ghost use Rattle.par2_origins.specs.Volumes.{AreInputs};
 ghost use Rattle.par2_spec.specs.declared.Fault.{Fault};
 ghost use Rattle.par2_spec.specs.declared.Fault.TheVariants.{NotRepairable};
-ghost use Rattle.par2_origins.specs.Creates.{output_names, FitsCreate, IsDamage, FitsSearch, may_refuse, HaveAChoice};
+ghost use Rattle.par2_origins.specs.Creates.{output_names, FitsCreate, IsDamage, FollowsCreate, may_refuse, HaveAChoice};
 
 use crate::volumes::volumes_tell_the_files;
 use par2_spec::create_laws::files_in_order;
@@ -32,8 +32,8 @@ pub fn removal_is_damage()
         → IsDamage before (without gone (after before (Create a))) a base }
 {}
 
-/// After an accepted create, and after damage that leaves its par files as they are or removes some,
-/// the set of each base that is left was made from the files of the create.
+/// After an accepted create, and after damage that leaves its par files as they are or removes
+/// some, the set of each base that is left was made from the files of the create.
 pub fn created_set_is_made_from_its_files()
     ensures { (before damaged : Folder) (a : CreateArgs) (base : List ℕ)
         → refusal before (Create a) ≡ None → FitsCreate before a → IsDamage before damaged a base
@@ -46,8 +46,7 @@ pub fn created_set_is_made_from_its_files()
 /// So a repair that is accepted leaves each file as it was at the create, also one that purges.
 pub fn repair_gives_the_created_files_back()
     ensures { (before damaged : Folder) (a : CreateArgs) (base : List ℕ) (extras : List (List ℕ))
-        (purge : Bool) → refusal before (Create a) ≡ None → FitsCreate before a
-        → IsDamage before damaged a base → FitsSearch before damaged a extras
+        (purge : Bool) → FollowsCreate before damaged a base extras
         → refusal damaged (Repair base extras purge) ≡ None
         → let repaired = after damaged (Repair base extras purge) in
         AllByRecursion (λ name. map_of.get repaired name ≡ map_of.get before name) a.inputs }
@@ -58,11 +57,11 @@ pub fn repair_gives_the_created_files_back()
     repair_leaves_the_files();
 }
 
-/// A repair of them is refused for few causes: the set is read, and what is rebuilt has its digests.
+/// A repair of them is refused for few causes: the set is read, and what is rebuilt has its
+/// digests.
 pub fn repair_of_created_files_is_refused_for_few_causes()
     ensures { (before damaged : Folder) (a : CreateArgs) (base : List ℕ) (extras : List (List ℕ))
-        (purge : Bool) (fault : Fault) → refusal before (Create a) ≡ None → FitsCreate before a
-        → IsDamage before damaged a base → FitsSearch before damaged a extras
+        (purge : Bool) (fault : Fault) → FollowsCreate before damaged a base extras
         → refusal damaged (Repair base extras purge) ≡ Some fault → IsTrue (may_refuse fault) }
 {
     created_set_is_made_from_its_files();
@@ -74,8 +73,7 @@ pub fn repair_of_created_files_is_refused_for_few_causes()
 /// As not repairable it is refused only where other slices, too, agree with all that is found.
 pub fn created_files_not_repairable_have_a_choice()
     ensures { (before damaged : Folder) (a : CreateArgs) (base : List ℕ) (extras : List (List ℕ))
-        (purge : Bool) (missing rank : ℕ) → refusal before (Create a) ≡ None → FitsCreate before a
-        → IsDamage before damaged a base → FitsSearch before damaged a extras
+        (purge : Bool) (missing rank : ℕ) → FollowsCreate before damaged a base extras
         → refusal damaged (Repair base extras purge) ≡ Some (NotRepairable missing rank)
         → HaveAChoice before damaged a base extras }
 {

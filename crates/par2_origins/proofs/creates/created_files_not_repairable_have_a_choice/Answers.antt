@@ -2,6 +2,6 @@ use Rattle.par2_origins.proofs.Returned.{have_a_choice}
 use Rattle.par2_origins.proofs.creates.created_files_not_repairable_have_a_choice.Goals as goal
 
 pub returns : goal.returns
-returns c before damaged a base extras purge missing rank created fits damage search refused =
-    let made = c.created_set_is_made_from_its_files.ensures before damaged a base created fits damage in
-    have_a_choice c.files_in_order.ensures.same before damaged a base extras fits search c.refused_repair_has_a_choice.ensures made purge missing rank refused
+returns c before damaged a base extras purge missing rank follows refused =
+    let made = c.created_set_is_made_from_its_files.ensures before damaged a base follows.created follows.fits follows.damage in
+    have_a_choice c.files_in_order.ensures.same before damaged a base extras follows c.refused_repair_has_a_choice.ensures made purge missing rank refused
