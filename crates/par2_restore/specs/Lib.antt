@@ -1,1 +1,4 @@
+pub mod Names
+pub mod Survivors
+pub mod Texts
 pub mod Restoring

@@ -1,6 +1,6 @@
 -- What a repair gives back of a set's files, and why it refuses.
-use Rattle.std.specs.Prelude.{ℕ, not, List, length, map, filter, Option}
-use Rattle.std.specs.List.{list_all}
+use Rattle.std.specs.Prelude.{◌≡◌, ℕ, Bool, not, List, length, take, drop, map, filter, Option}
+use Rattle.std.specs.List.{list_all, concat}
 use Rattle.std.specs.Str.{bytes_eq}
 use Rattle.md5.specs.Md5.{md5}
 use Rattle.par2_spec.specs.Faults.{fault_where}
@@ -32,6 +32,19 @@ targets_among set slices names = filter (λ c. is_among names c.0.name) (files_o
 abbrev pub files_of : List (Target × List ℕ) → List File
 files_of targets = map (λ c. (c.0.name, c.1)) targets
 
+-- a target whose slices begin with that of number `first`, with its bytes
+abbrev pub target_at : List (List ℕ) → ℕ → Target → Target × List ℕ
+target_at slices first t = (t, take t.size (concat (take (length t.pairs) (drop first slices))))
+
+-- the bytes have the digest that the target describes
+abbrev pub has_digest : Target × List ℕ → Bool
+has_digest c = bytes_eq (md5 c.1) c.0.digest
+
 -- why they are refused, if they are: one has another digest than its target
 abbrev pub wrong_digest : List (Target × List ℕ) → Option Fault
-wrong_digest targets = fault_where (not (list_all (λ c. bytes_eq (md5 c.1) c.0.digest) targets)) RepairFailed
+wrong_digest targets = fault_where (not (list_all has_digest targets)) RepairFailed
+
+-- a file has the length and the digest that its target describes
+pub record IsAsDescribed (c : Target × List ℕ) : Type 0 where
+  pub length : length c.1 ≡ c.0.size
+  pub digest : md5 c.1 ≡ c.0.digest

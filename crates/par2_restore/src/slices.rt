@@ -1,30 +1,176 @@
 //! All slices of a set: those that are found, and between them those that are rebuilt.
-ghost use Rattle.std.specs.Prelude.{◌≡◌, ◌⊎◌, None, length, IfOk, IfErr};
-ghost use Rattle.std.specs.List.{AllByRecursion};
+ghost use Rattle.std.specs.Prelude.{◌≡◌, ◌⊎◌, ◌+◌, ◌++◌, ◌≤◌, None, length, map, take, drop, IfOk, IfErr, IsOk, OnOk};
+ghost use Rattle.std.specs.List.{AllByRecursion, concat};
+ghost use Rattle.par2_matrix.specs.Systems.{lists_of};
 ghost use Rattle.par2_spec.specs.Repairs.{rebuilt};
-ghost use Rattle.par2_spec.specs.Search.{all_pairs};
+ghost use Rattle.par2_spec.specs.Search.{all_pairs, lost};
+ghost use Rattle.par2_spec.specs.Slices.{padded};
 ghost use Rattle.par2_search.specs.Texts.{texts_of};
+ghost use Rattle.par2_recovery.specs.Survivors.{exponents_of, IsTrueFault};
 ghost use Rattle.par2_restore.specs.Restoring.{known_in, undetermined};
+ghost use Rattle.par2_restore.specs.Survivors.{known_among, AreSurvivors, AreRebuilt, AreEnough, CanRebuild, fault_of};
+ghost use Rattle.par2_restore.specs.Texts.{merged, text_of};
 
+use par2_gf16::Gf;
+use par2_recovery::{RebuildFault, Survivors, rebuild};
+use par2_search::found_windows;
 use par2_sets::ParSet;
+use par2_slices::Pair;
 use par2_spec::Fault;
-use std::alloc::Global;
+use par2_spec::rank_laws::{rebuilt_slices_agree, tests_say_the_words};
+use std::alloc::{AllocError, Global};
 use std::marker::Model;
+
+// A slice, of which zeros may be missing at the end.
+#[derive(Drop)]
+enum Slice<'a> {
+    Found(&'a [u8]),
+    Rebuilt(Vec<u8>),
+}
+
+impl<'a> Slice<'a> {
+    // Its bytes.
+    fn bytes(&self) -> &[u8]
+        ensures { result.now ≡ text_of self.now }
+    {
+        match self {
+            Slice::Found(window) => window,
+            Slice::Rebuilt(text) => text,
+        }
+    }
+}
 
 /// All slices of a set, in order, with the zeros behind the end of their files. Those that are found stand in the
 /// texts, and none is copied.
 #[derive(Drop)]
 pub struct Slices<'a> {
-    windows: Vec<Option<&'a [u8]>>,
+    slice_size: usize,
+    slices: Vec<Slice<'a>>,
 }
 
 impl<'a> Model for Slices<'a> {
-    ghost use Rattle.std.specs.Prelude.{List, ℕ, [], map};
+    ghost use Rattle.std.specs.Prelude.{List, ℕ};
     ghost use Rattle.std.specs.Coded.{coded_list, coded_ℕ};
+    ghost use Rattle.par2_restore.specs.Texts.{slices_of};
 
     ghost Value = { List (List ℕ) };
 
-    ghost view = { λ slices. map (λ _. []) slices.windows.items };
+    ghost view = { λ a. slices_of a.slice_size a.slices.items };
+}
+
+// Adds a slice to the first bytes of a file, with the zeros that are missing in it, as far as the file goes.
+fn push_slice(
+    file: &mut Vec<u8>,
+    slice: &[u8],
+    slice_size: usize,
+    size: usize,
+) -> Result<(), AllocError>
+    requires { length file.old.items ≤ size }
+    ensures { let longer = file.old.items ++ padded slice_size slice.now in
+        OnOk result (file.new.items ≡ take size longer) }
+{
+    let room = size - file.len();
+    file.extend_from_slice(&slice[..slice.len().min(room)])?;
+    let zeros = slice_size.saturating_sub(slice.len());
+    let room = size - file.len();
+    file.resize(file.len() + zeros.min(room), 0)
+}
+
+impl<'a> Slices<'a> {
+    // The bytes of a file of this size that has so many slices from that of number `first` on.
+    pub(crate) fn file(
+        &self,
+        alloc: Global,
+        first: usize,
+        count: usize,
+        size: u64,
+    ) -> Result<Vec<u8>, AllocError>
+        requires { first + count ≤ length self.now }
+        ensures { let slices = take count (drop first self.now) in
+            IfOk result (λ file. file.items ≡ take size (concat slices)) }
+    {
+        let size = size as usize;
+        let mut file = Vec::with_capacity(alloc, size)?;
+        for slice in &self.slices[first..first + count] {
+            push_slice(&mut file, slice.bytes(), self.slice_size, size)?;
+        }
+        Ok(file)
+    }
+}
+
+// The pairs of all slices of a set.
+fn all_pairs(alloc: Global, set: &ParSet) -> Result<Vec<Pair>, AllocError>
+    ensures { IfOk result (λ pairs. pairs.items ≡ all_pairs set.now) }
+{
+    let mut pairs = Vec::new(alloc);
+    for target in set.targets() {
+        pairs.extend_from_slice(target.pairs())?;
+    }
+    Ok(pairs)
+}
+
+// What survives of a set's slices, which are found in these texts.
+fn survivors_of<'a>(
+    alloc: Global,
+    set: &ParSet<'a>,
+    texts: &[&'a [u8]],
+) -> Result<Survivors<'a>, AllocError>
+    ensures fit { IfOk result CanRebuild }
+    ensures these { let known = known_in set.now (texts_of texts.now) in
+        IfOk result (AreSurvivors set.now known) }
+{
+    let pairs = all_pairs(alloc, set)?;
+    let known = found_windows(alloc, texts, set.slice_size(), &pairs)?;
+    Ok(Survivors {
+        slice: set.slice_size() as usize,
+        known,
+        recovery: Vec::from_slice(alloc, set.recovery())?,
+    })
+}
+
+// The windows, and between them the texts of the lost slices.
+fn merged<'a>(
+    alloc: Global,
+    windows: &[Option<&'a [u8]>],
+    rebuilt: Vec<Vec<u8>>,
+) -> Result<Vec<Slice<'a>>, AllocError>
+    ensures { let texts = merged windows.now (lists_of rebuilt.items) in
+        IfOk result (λ slices. map text_of slices.items ≡ texts) }
+{
+    let mut slices = Vec::with_capacity(alloc, windows.len())?;
+    let mut rebuilt = rebuilt.into_iter();
+    for window in windows {
+        slices.push(match window {
+            Some(bytes) => Slice::Found(bytes),
+            None => Slice::Rebuilt(rebuilt.next().unwrap_or(Vec::new(alloc))),
+        })?;
+    }
+    Ok(slices)
+}
+
+// Why a repair is refused where this is why nothing is rebuilt.
+fn fault_of(fault: RebuildFault) -> Fault
+    ensures { result ≡ fault_of fault }
+{
+    match fault {
+        RebuildFault::NotRepairable { missing, rank } => Fault::NotRepairable { missing, rank },
+        RebuildFault::Memory => Fault::Memory,
+    }
+}
+
+// All slices by what survives of them.
+fn slices_by<'a>(alloc: Global, survivors: &Survivors<'a>) -> Result<Slices<'a>, RebuildFault>
+    requires { CanRebuild survivors.now }
+    ensures rebuilt { IfOk result (AreRebuilt survivors.now) }
+    ensures enough { IsOk result → AreEnough survivors.now }
+    ensures refused { let exponents = exponents_of survivors.now.recovery.items in
+        IfErr result (IsTrueFault (lost (known_among survivors.now)) exponents) }
+{
+    let rebuilt = rebuild(alloc, &Gf::new(alloc)?, survivors)?;
+    Ok(Slices {
+        slice_size: survivors.slice,
+        slices: merged(alloc, &survivors.known, rebuilt)?,
+    })
 }
 
 /// The slices of a set by what of them is found in these texts, and by its recovery slices.
@@ -43,5 +189,9 @@ pub fn restored_slices<'a>(
     ensures sizes { IfOk result (λ slices.
         AllByRecursion (λ slice. length slice ≡ set.now.slice_size) slices) }
 {
-    Err(Fault::Memory)
+    // By these laws what is rebuilt is the one list that agrees.
+    rebuilt_slices_agree();
+    tests_say_the_words();
+    let survivors = survivors_of(alloc, set, texts).map_err(|_| Fault::Memory)?;
+    slices_by(alloc, &survivors).map_err(fault_of)
 }

@@ -1,0 +1,16 @@
+-- Trees of names.
+use Rattle.std.specs.Prelude.{◌≡◌, ℕ, List}
+use Rattle.std.specs.Borrow.{Bor}
+use Rattle.std.specs.BTreeSet.{BTreeSet, contains}
+use Rattle.std.specs.Cmp.Lexicographic.{slice_cmp}
+use Rattle.std.specs.Ordering.{nat_cmp}
+use Rattle.std.specs.declared.cmp.Ordering.{Ordering}
+use Rattle.par2_spec.specs.Names.{is_among}
+
+-- the order of names behind references
+abbrev pub name_cmp : Bor (List ℕ) → Bor (List ℕ) → Ordering
+name_cmp a b = slice_cmp nat_cmp a.now b.now
+
+-- a tree holds exactly these names
+abbrev pub HoldsNames : BTreeSet (Bor (List ℕ)) → List (List ℕ) → Type 0
+HoldsNames tree names = (name : Bor (List ℕ)) → contains name_cmp tree name ≡ is_among names name.now
