@@ -9,7 +9,7 @@ ghost use Rattle.par2_search.specs.Texts.{texts_of};
 ghost use Rattle.par2_recovery.specs.Survivors.{exponents_of, IsTrueFault};
 ghost use Rattle.par2_restore.specs.Restoring.{known_in, undetermined};
 ghost use Rattle.par2_restore.specs.Survivors.{known_among, AreSurvivors, AreRebuilt, AreEnough, CanRebuild, fault_of};
-ghost use Rattle.par2_restore.specs.Texts.{merged, text_of};
+ghost use Rattle.par2_restore.specs.Texts.{merged, slices_of, text_of};
 
 use par2_gf16::Gf;
 use par2_recovery::{RebuildFault, Survivors, rebuild};
@@ -70,10 +70,27 @@ fn push_slice(
         OnOk result (file.new.items ≡ take size longer) }
 {
     let room = size - file.len();
-    file.extend_from_slice(&slice[..slice.len().min(room)])?;
-    let zeros = slice_size.saturating_sub(slice.len());
+    file.extend_from_slice(&slice[..room.min(slice.len())])?;
     let room = size - file.len();
-    file.resize(file.len() + zeros.min(room), 0)
+    let zeros = slice_size.saturating_sub(slice.len());
+    file.resize(file.len() + room.min(zeros), 0)
+}
+
+// The bytes of a file of this size by its slices.
+fn joined(
+    alloc: Global,
+    slices: &[Slice],
+    slice_size: usize,
+    size: usize,
+) -> Result<Vec<u8>, AllocError>
+    ensures { let slices = slices_of slice_size slices.now in
+        IfOk result (λ file. file.items ≡ take size (concat slices)) }
+{
+    let mut file = Vec::with_capacity(alloc, size)?;
+    for slice in slices {
+        push_slice(&mut file, slice.bytes(), slice_size, size)?;
+    }
+    Ok(file)
 }
 
 impl<'a> Slices<'a> {
@@ -89,12 +106,8 @@ impl<'a> Slices<'a> {
         ensures { let slices = take count (drop first self.now) in
             IfOk result (λ file. file.items ≡ take size (concat slices)) }
     {
-        let size = size as usize;
-        let mut file = Vec::with_capacity(alloc, size)?;
-        for slice in &self.slices[first..first + count] {
-            push_slice(&mut file, slice.bytes(), self.slice_size, size)?;
-        }
-        Ok(file)
+        let slices = &self.slices[first..first + count];
+        joined(alloc, slices, self.slice_size, size as usize)
     }
 }
 
@@ -119,11 +132,11 @@ fn survivors_of<'a>(
     ensures these { let known = known_in set.now (texts_of texts.now) in
         IfOk result (AreSurvivors set.now known) }
 {
+    let slice_size = set.slice_size();
     let pairs = all_pairs(alloc, set)?;
-    let known = found_windows(alloc, texts, set.slice_size(), &pairs)?;
     Ok(Survivors {
-        slice: set.slice_size() as usize,
-        known,
+        slice: slice_size as usize,
+        known: found_windows(alloc, texts, slice_size, &pairs)?,
         recovery: Vec::from_slice(alloc, set.recovery())?,
     })
 }
@@ -138,11 +151,11 @@ fn merged<'a>(
         IfOk result (λ slices. map text_of slices.items ≡ texts) }
 {
     let mut slices = Vec::with_capacity(alloc, windows.len())?;
-    let mut rebuilt = rebuilt.into_iter();
+    let mut texts = rebuilt.into_iter();
     for window in windows {
         slices.push(match window {
             Some(bytes) => Slice::Found(bytes),
-            None => Slice::Rebuilt(rebuilt.next().unwrap_or(Vec::new(alloc))),
+            None => Slice::Rebuilt(texts.next().unwrap_or(Vec::new(alloc))),
         })?;
     }
     Ok(slices)
@@ -193,5 +206,8 @@ pub fn restored_slices<'a>(
     rebuilt_slices_agree();
     tests_say_the_words();
     let survivors = survivors_of(alloc, set, texts).map_err(|_| Fault::Memory)?;
-    slices_by(alloc, &survivors).map_err(fault_of)
+    match slices_by(alloc, &survivors) {
+        Ok(slices) => Ok(slices),
+        Err(fault) => Err(fault_of(fault)),
+    }
 }

@@ -1,0 +1,4 @@
+mod Cutting
+mod Merging
+mod Rebuilt
+mod Trees

@@ -1,0 +1,48 @@
+-- Slices that are found and slices that are rebuilt.
+use Rattle.std.proofs.Common.{◌≡◌, ◌∙◌, ◌↔◌, ℕ, suc, ◌+◌, ◌-◌, ◌*◌, ◌%◌, ◌≤◌, List, [], ◌∷◌, ◌++◌, length, map, refl, sym, ap, ap₂, subst, arith, Bool, true, false, not, Bor, inl, inr, ◌⊎◌}
+use Rattle.std.specs.Prelude.{Option, Some, None, IfSome, IsTrue, replicate}
+use Rattle.std.specs.List.{AllByRecursion}
+use Rattle.std.proofs.lemmas.List.{append-nil}
+use Rattle.std.proofs.lemmas.List.Elements.{All-head, All-tail}
+use Rattle.par2_spec.specs.Faults.{fault_where}
+use Rattle.par2_spec.specs.Rank.{IsRepairable, is_repairable, rank}
+use Rattle.par2_spec.specs.Search.{lost, survivors}
+use Rattle.par2_spec.specs.Sets.{ParSet, is_slice_size}
+use Rattle.par2_spec.specs.Slices.{padded}
+use Rattle.par2_spec.specs.declared.Fault.TheVariants.{Memory, NotRepairable}
+use Rattle.par2_recovery.specs.Survivors.{known_of, present, filled, IsTrueFault}
+use Rattle.par2_recovery.specs.declared.rebuild_slices.RebuildFault.{RebuildFault}
+use Rattle.par2_recovery.specs.declared.rebuild_slices.RebuildFault.TheVariants as why
+use Rattle.par2_search.specs.Texts.{Window, AreShort}
+use Rattle.par2_restore.specs.Restoring.{undetermined}
+use Rattle.par2_restore.specs.Survivors.{fault_of}
+use Rattle.par2_restore.specs.Texts.{merged, slices_of, text_of}
+use Rattle.par2_restore.specs.declared.slices.Slice.{Slice}
+
+-- ---- what survives
+
+abbrev IsShort : ℕ → Window → Type 0
+IsShort s window = IfSome window (λ bytes. length bytes.now ≤ s)
+
+pub short_present : (s : ℕ) (windows : List Window) → AreShort s windows → AllByRecursion (λ slice. length slice.now ≤ s) (present windows)
+short_present s [] h = tt
+short_present s (None ∷ windows) h = short_present s windows (All-tail (IsShort s) None windows h)
+short_present s (Some window ∷ windows) h =
+    (All-head (IsShort s) (Some window) windows h, short_present s windows (All-tail (IsShort s) (Some window) windows h))
+
+-- ---- slices with their padding
+
+pub padded_whole : (s : ℕ) (text : List ℕ) → length text ≡ s → padded s text ≡ text
+padded_whole s text h =
+    let none : s - length text ≡ 0 = omega arith in
+    ap (λ n. text ++ replicate n 0) none ∙ append-nil text
+
+pub filled_merged : (s : ℕ) (windows : List Window) (texts : List (List ℕ)) → AllByRecursion (λ slice. length slice ≡ s) (filled (known_of s windows) texts) → filled (known_of s windows) texts ≡ map (padded s) (merged windows texts)
+filled_merged s [] texts h = refl
+filled_merged s (Some window ∷ windows) texts h = ap (λ slices. padded s window.now ∷ slices) (filled_merged s windows texts h.1)
+filled_merged s (None ∷ windows) [] h = ap₂ (λ slice slices. slice ∷ slices) (sym (padded_whole s [] h.0)) (filled_merged s windows [] h.1)
+filled_merged s (None ∷ windows) (text ∷ texts) h = ap₂ (λ slice slices. slice ∷ slices) (sym (padded_whole s text h.0)) (filled_merged s windows texts h.1)
+
+pub slices_of-map : (s : ℕ) (slices : List Slice) → slices_of s slices ≡ map (padded s) (map text_of slices)
+slices_of-map s [] = refl
+slices_of-map s (slice ∷ slices) = ap (λ xs. padded s (text_of slice) ∷ xs) (slices_of-map s slices)

@@ -1,0 +1,62 @@
+-- What is rebuilt by what survives is what is rebuilt of the set.
+use Rattle.std.proofs.Common.{◌≡◌, ◌↔◌, ◌⊎◌, ◌∙◌, ℕ, List, length, map, refl, sym, ap, ap₂, subst, Bool, true, false, not, inl, inr}
+use Rattle.std.specs.Prelude.{Option, Some, None, IsTrue, Result, Ok, Err, IfOk, MatchResult, is_ok}
+use Rattle.std.specs.FinMap.{entries}
+use Rattle.std.proofs.lemmas.Bool.{false≢true}
+use Rattle.par2_spec.specs.Faults.{fault_where}
+use Rattle.par2_spec.specs.Rank.{IsRebuilt, IsRepairable, is_repairable, rank, kept_slices}
+use Rattle.par2_spec.specs.Search.{lost, survivors}
+use Rattle.par2_spec.specs.Sets.{ParSet}
+use Rattle.par2_spec.specs.declared.Fault.TheVariants.{Memory, NotRepairable}
+use Rattle.par2_recovery.specs.Survivors.{recovered_of, exponents_of, IsTrueFault}
+use Rattle.par2_recovery.specs.declared.rebuild_slices.RebuildFault.{RebuildFault}
+use Rattle.par2_recovery.specs.declared.rebuild_slices.RebuildFault.TheVariants as why
+use Rattle.par2_recovery.specs.declared.rebuild_slices.Survivors as code
+use Rattle.par2_restore.specs.Restoring.{undetermined}
+use Rattle.par2_restore.specs.Survivors.{known_among, AreSurvivors, AreRebuilt, AreEnough, fault_of}
+
+pub rebuilt_for : (set : ParSet) (known : List (Option (List ℕ))) (found : code.Survivors) (slices : List (List ℕ)) → AreSurvivors set known found → AreRebuilt found slices
+    → IsRebuilt set.slice_size known (kept_slices (lost known) (survivors set) (entries set.recovery)) slices
+rebuilt_for set known found slices are alone =
+    subst (λ recs. IsRebuilt set.slice_size known (kept_slices (lost known) (map (λ r. r.0) recs) recs) slices) are.recovery
+    (subst (λ kn. IsRebuilt set.slice_size kn (kept_slices (lost kn) (exponents_of found.recovery.items) (recovered_of found.recovery.items)) slices) are.known
+    (subst (λ s. IsRebuilt s (known_among found) (kept_slices (lost (known_among found)) (exponents_of found.recovery.items) (recovered_of found.recovery.items)) slices) are.size alone))
+
+pub enough_for : (set : ParSet) (known : List (Option (List ℕ))) (found : code.Survivors) → AreSurvivors set known found → AreEnough found → IsRepairable (lost known) (survivors set)
+enough_for set known found are enough =
+    subst (λ recs. IsRepairable (lost known) (map (λ r. r.0) recs)) are.recovery
+    (subst (λ kn. IsRepairable (lost kn) (exponents_of found.recovery.items)) are.known enough)
+
+-- ---- why it is refused
+
+refused_where : (b : Bool) (P : Type 0) → (IsTrue b ↔ P) → (P → ⊥) → b ≡ false
+refused_where true P says h = absurd (h (says.0 refl))
+refused_where false P says h = refl
+
+true_fault : (set : ParSet) (known : List (Option (List ℕ))) → (IsTrue (is_repairable (lost known) (survivors set)) ↔ IsRepairable (lost known) (survivors set))
+    → (fault : RebuildFault) → IsTrueFault (lost known) (survivors set) fault → (fault_of fault ≡ Memory) ⊎ (undetermined set known ≡ Some (fault_of fault))
+true_fault set known says why.Memory h = inl refl
+true_fault set known says (why.NotRepairable missing rank) h =
+    let no : is_repairable (lost known) (survivors set) ≡ false = refused_where _ _ says h.2 in
+    let e : undetermined set known ≡ Some (fault_of (why.NotRepairable missing rank)) =
+    ap₂ (λ b f. fault_where (not b) f) no (ap₂ (λ m r. fault_of (why.NotRepairable m r)) (sym h.0) (sym h.1)) in inr e
+
+pub fault_for : (set : ParSet) (known : List (Option (List ℕ))) (found : code.Survivors) → AreSurvivors set known found
+    → (IsTrue (is_repairable (lost known) (survivors set)) ↔ IsRepairable (lost known) (survivors set))
+    → (fault : RebuildFault) → IsTrueFault (lost (known_among found)) (exponents_of found.recovery.items) fault → (fault_of fault ≡ Memory) ⊎ (undetermined set known ≡ Some (fault_of fault))
+fault_for set known found are says fault h =
+    true_fault set known says fault
+    (subst (λ recs. IsTrueFault (lost known) (map (λ r. r.0) recs) fault) are.recovery
+    (subst (λ kn. IsTrueFault (lost kn) (exponents_of found.recovery.items) fault) are.known h))
+
+pub no_fault : (set : ParSet) (known : List (Option (List ℕ))) → (IsTrue (is_repairable (lost known) (survivors set)) ↔ IsRepairable (lost known) (survivors set))
+    → IsRepairable (lost known) (survivors set) → undetermined set known ≡ None
+no_fault set known says h =
+    let yes : is_repairable (lost known) (survivors set) ≡ true = says.1 h in
+    ap (λ b. fault_where (not b) (NotRepairable (length (lost known)) (rank (lost known) (survivors set)))) yes
+
+-- what holds of a value holds of it once the error beside it was changed
+pub kept_by_map_err : {A E F : Type 0} (old : Result A E) (new : Result A F) (x : A) (P : A → Type 0) (Q : E → Type 0) → IfOk old P
+    → MatchResult old (λ y. new ≡ Ok y) Q → is_ok new ≡ is_ok old → new ≡ Ok x → P x
+kept_by_map_err (Ok y) new x P Q holds cases same e = let one : y ≡ x = cc in subst P one holds
+kept_by_map_err (Err d) new x P Q holds cases same e = absurd (false≢true (sym same ∙ ap is_ok e))
