@@ -2,3 +2,4 @@ mod Cutting
 mod Merging
 mod Rebuilt
 mod Trees
+mod Walked

@@ -70,11 +70,11 @@ pub fn restored_files(
 {
     // By this law each file has its length.
     written_files_have_their_length();
-    let names = tree_of(alloc, names).map_err(|_| Fault::Memory)?;
+    let tree = tree_of(alloc, names).map_err(|_| Fault::Memory)?;
     let mut files = Vec::new(alloc);
     let mut first = 0;
     for target in set.targets() {
-        if names.contains(&target.name()) {
+        if tree.contains(&target.name()) {
             let file = restored_file(alloc, target, slices, first)?;
             files.push(file).map_err(|_| Fault::Memory)?;
         }

@@ -1,0 +1,82 @@
+-- The targets one after the other, with their bytes by the slices that are left.
+use Rattle.std.proofs.Common.{◌≡◌, ◌∙◌, ℕ, ◌+◌, ◌-◌, List, [], ◌∷◌, ◌++◌, length, map, take, drop, refl, sym, ap, ap₂, subst, Bool, true, false, cond, ◌&&◌}
+use Rattle.std.specs.Prelude.{filter, zip, not, Some, Result, Err, IfErr}
+use Rattle.std.specs.List.{concat, list_all, AllByRecursion}
+use Rattle.std.proofs.lemmas.List.{append-nil, append_assoc, drop-drop}
+use Rattle.std.proofs.lemmas.Bool.{false≢true}
+use Rattle.std.proofs.lemmas.Slice.Eq.{bytes_eq-Decides}
+use Rattle.md5.specs.Md5.{md5}
+use Rattle.par2_spec.specs.Faults.{fault_where}
+use Rattle.par2_spec.specs.Folders.{File}
+use Rattle.par2_spec.specs.declared.Fault.{Fault}
+use Rattle.par2_spec.specs.declared.Fault.TheVariants.{RepairFailed}
+use Rattle.par2_spec.specs.Names.{is_among}
+use Rattle.par2_spec.specs.Repairs.{cut_into}
+use Rattle.par2_spec.specs.Sets.{Target}
+use Rattle.par2_restore.specs.Restoring.{files_of, target_at, has_digest, wrong_digest, IsAsDescribed}
+
+abbrev pub walked : List Target → List (List ℕ) → List (Target × List ℕ)
+walked ts slices = map (λ z. (z.0, take z.0.size (concat z.1))) (zip ts (cut_into (map (λ t. length t.pairs) ts) slices))
+
+-- those of these names
+abbrev pub among : List (List ℕ) → List Target → List (List ℕ) → List (Target × List ℕ)
+among names ts slices = filter (λ c. is_among names c.0.name) (walked ts slices)
+
+-- the first target, whose slices begin with that of number `first`, and the others
+pub among-cons : (names : List (List ℕ)) (t : Target) (ts : List Target) (slices : List (List ℕ)) (first : ℕ) (b : Bool) → is_among names t.name ≡ b
+    → among names (t ∷ ts) (drop first slices) ≡ cond b (target_at slices first t ∷ among names ts (drop (first + length t.pairs) slices)) (among names ts (drop (first + length t.pairs) slices))
+among-cons names t ts slices first b is =
+    ap₂ (λ d rest. cond d (target_at slices first t ∷ among names ts rest) (among names ts rest)) is (drop-drop (length t.pairs) first slices)
+
+-- one more file before those that are left
+pub files_more : (names : List (List ℕ)) (t : Target) (ts : List Target) (slices : List (List ℕ)) (first : ℕ) (b : Bool) (old new : List File) → is_among names t.name ≡ b
+    → new ≡ old ++ cond b ((t.name, (target_at slices first t).1) ∷ []) []
+    → new ++ files_of (among names ts (drop (first + length t.pairs) slices)) ≡ old ++ files_of (among names (t ∷ ts) (drop first slices))
+files_more names t ts slices first true old new is made =
+    let left : List File = files_of (among names ts (drop (first + length t.pairs) slices)) in
+    ap (λ fs. fs ++ left) made ∙ append_assoc old ((t.name, (target_at slices first t).1) ∷ []) left
+    ∙ ap (λ cs. old ++ files_of cs) (sym (among-cons names t ts slices first true is))
+files_more names t ts slices first false old new is made =
+    let left : List File = files_of (among names ts (drop (first + length t.pairs) slices)) in
+    ap (λ fs. fs ++ left) (made ∙ append-nil old) ∙ ap (λ cs. old ++ files_of cs) (sym (among-cons names t ts slices first false is))
+
+-- ---- digests
+
+pub digests_more : (names : List (List ℕ)) (t : Target) (ts : List Target) (slices : List (List ℕ)) (first : ℕ) (b : Bool) → is_among names t.name ≡ b
+    → (b ≡ true → has_digest (target_at slices first t) ≡ true)
+    → list_all has_digest (among names ts (drop (first + length t.pairs) slices)) ≡ list_all has_digest (among names (t ∷ ts) (drop first slices))
+digests_more names t ts slices first true is right =
+    let left : Bool = list_all has_digest (among names ts (drop (first + length t.pairs) slices)) in
+    ap (λ d. d && left) (sym (right refl)) ∙ ap (list_all has_digest) (sym (among-cons names t ts slices first true is))
+digests_more names t ts slices first false is right = ap (list_all has_digest) (sym (among-cons names t ts slices first false is))
+
+pub wrong_first : (names : List (List ℕ)) (t : Target) (ts : List Target) (slices : List (List ℕ)) (first : ℕ) → is_among names t.name ≡ true
+    → has_digest (target_at slices first t) ≡ false → list_all has_digest (among names (t ∷ ts) (drop first slices)) ≡ false
+wrong_first names t ts slices first is wrong =
+    let left : Bool = list_all has_digest (among names ts (drop (first + length t.pairs) slices)) in
+    ap (list_all has_digest) (among-cons names t ts slices first true is) ∙ ap (λ d. d && left) wrong
+
+both : (a b : Bool) → (a && b) ≡ true → (a ≡ true) × (b ≡ true)
+both true b h = (refl, h)
+both false b h = absurd (false≢true h)
+
+-- targets of the right sizes and digests, chosen by a test
+pub described : (p : Target × List ℕ → Bool) (cs : List (Target × List ℕ)) → AllByRecursion (λ c. length c.1 ≡ c.0.size) cs → list_all has_digest (filter p cs) ≡ true → AllByRecursion IsAsDescribed (filter p cs)
+described p [] sizes digests = tt
+described p (c ∷ cs) sizes digests = step (p c) (described p cs sizes.1) digests
+  where
+    step : (b : Bool) → (list_all has_digest (filter p cs) ≡ true → AllByRecursion IsAsDescribed (filter p cs))
+        → list_all has_digest (cond b (c ∷ filter p cs) (filter p cs)) ≡ true → AllByRecursion IsAsDescribed (cond b (c ∷ filter p cs) (filter p cs))
+    step false others h = others h
+    step true others h =
+        let parts = both (has_digest c) (list_all has_digest (filter p cs)) h in
+        (record { length = sizes.0; digest = (bytes_eq-Decides (md5 c.1) c.0.digest).0 parts.0 }, others parts.1)
+
+-- ---- why they are refused
+
+pub first_wrong : (fault : Fault) (cs : List (Target × List ℕ)) → fault ≡ RepairFailed → list_all has_digest cs ≡ false → wrong_digest cs ≡ Some fault
+first_wrong fault cs failed wrong = ap (λ b. fault_where (not b) RepairFailed) wrong ∙ ap Some (sym failed)
+
+-- the fault that is passed on is true where that of the call is
+pub refused_with : {A : Type 0} (P : Fault → Type 0) (r : Result A Fault) (fault : Fault) → (e : Fault) × (r ≡ Err e) × (e ≡ fault) → P fault → IfErr r P
+refused_with P r fault passed h = subst (λ x. IfErr x P) (sym passed.1) (subst P (sym passed.2) h)
