@@ -3,3 +3,4 @@ pub mod Sorted
 pub mod Lists
 pub mod Steps
 pub mod Filling
+pub mod Below

@@ -29,7 +29,7 @@ second : (a b : Bool) → IsTrue (a && b) → IsTrue b
 second true b h = h
 second false b h = cc
 
-holds : {b : Bool} → IsTrue b → T b
+pub holds : {b : Bool} → IsTrue b → T b
 holds {b} h = subst T (sym h) tt
 
 is_true : (b : Bool) → T b → IsTrue b
@@ -57,7 +57,7 @@ below name [] i h lt = absurd (omega arith)
 below name (e ∷ files) zero h lt = less _ (first _ _ h)
 below name (e ∷ files) (suc i) h lt = below name files i (second _ _ h) (omega arith)
 
-rises : (files : List File) → IsSortedByName files → (i j : ℕ) → i < j → j < length files → name_cmp (file_at files i).0 (file_at files j).0 ≡ Less
+pub rises : (files : List File) → IsSortedByName files → (i j : ℕ) → i < j → j < length files → name_cmp (file_at files i).0 (file_at files j).0 ≡ Less
 rises [] h i j lt in_range = absurd (omega arith)
 rises (e ∷ files) h i zero lt in_range = absurd (omega arith)
 rises (e ∷ files) h zero (suc j) lt in_range = below e.0 files j (first _ _ h) (omega arith)
@@ -101,10 +101,10 @@ module _ (files : List File) (sorted : IsSortedByName files) (name : List ℕ) w
   }
 
 -- a name that comes earlier comes before
-turned : (a b : List ℕ) → name_cmp a b ≡ Less → name_cmp b a ≡ Greater
+pub turned : (a b : List ℕ) → name_cmp a b ≡ Less → name_cmp b a ≡ Greater
 turned a b h = nat_list_cmp_total.antisymm b a ∙ ap ordering_reverse h
 
-turned_back : (a b : List ℕ) → name_cmp a b ≡ Greater → name_cmp b a ≡ Less
+pub turned_back : (a b : List ℕ) → name_cmp a b ≡ Greater → name_cmp b a ≡ Less
 turned_back a b h = nat_list_cmp_total.antisymm b a ∙ ap ordering_reverse h
 
 -- ---- what is found

@@ -3,3 +3,4 @@ pub mod Views
 pub mod Memory
 pub mod Disk
 pub mod Fuse
+pub mod Below

@@ -1,5 +1,6 @@
 //! What can happen to a folder.
 use crate::{Bytes, Name};
+use std::cmp::min;
 
 /// A change of one folder.
 #[derive(Debug, Drop)]
@@ -12,4 +13,22 @@ pub enum Change {
     Rename(Name, Name),
     /// A file is no more.
     Remove(Name),
+}
+
+impl Change {
+    ghost use Rattle.std.specs.Prelude.{◌≡◌};
+    ghost use Rattle.par2_folder.specs.Views.{change_of};
+    ghost use Rattle.par2_folder.specs.Below.{first_name};
+
+    /// The first of the names that it touches, in their order.
+    pub fn first_name(&self) -> Name
+        ensures { result ≡ first_name (change_of self.now) }
+    {
+        match self {
+            Change::Write(name, _) => name.copied(),
+            Change::Replace(name, _) => name.copied(),
+            Change::Rename(from, to) => min(from.copied(), to.copied()),
+            Change::Remove(name) => name.copied(),
+        }
+    }
 }

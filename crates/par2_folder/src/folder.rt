@@ -1,8 +1,5 @@
 //! A flat folder in memory.
-ghost use Rattle.std.specs.Prelude.{ℕ, List, ◌++◌};
-ghost use Rattle.md5.specs.Md5.{Holds};
-ghost use Rattle.par2_spec.specs.Folders.{counted};
-
+use crate::fingerprint::{FingerprintBelow, hash_files};
 use crate::place::{exchange_at, insert_at, remove_at, search};
 use crate::{Bytes, Change, Name};
 use md5::{Digest, Md5};
@@ -15,15 +12,6 @@ use std::mem;
 #[derive(Debug, Drop)]
 pub struct Folder {
     files: Vec<(Name, Bytes)>,
-}
-
-// Adds the bytes behind their length to what is hashed.
-fn hash_counted(hasher: &mut Md5, bytes: &[u8])
-    ensures { (m : List ℕ) → Holds hasher.old m → Holds hasher.new (m ++ counted bytes.now) }
-{
-    let length = bytes.len() as u64;
-    hasher.update(length.to_le_bytes().as_slice());
-    hasher.update(bytes);
 }
 
 impl Model for Folder {
@@ -47,6 +35,7 @@ impl Folder {
     ghost use Rattle.par2_spec.specs.Folders.{has, names, fingerprint, IsFolder};
     ghost use Rattle.par2_spec.specs.Changes.{Rename, change_refusal, state_after, inverse, takes_all, state_after_all, way_back};
     ghost use Rattle.par2_folder.specs.Views.{change_of};
+    ghost use Rattle.par2_folder.specs.Below.{IsBelow, OutlastsFrom};
 
     /// The folder without files. It has no vacant places.
     #[tactic(auto, using(crate::proofs::Sorted::no_files))]
@@ -110,11 +99,25 @@ impl Folder {
         ensures { IfOk result (λ digest. digest ≡ fingerprint self.now.files) }
     {
         let mut hasher = Md5::new();
-        for (name, bytes) in &self.files {
-            hash_counted(&mut hasher, name.as_str().as_bytes());
-            hash_counted(&mut hasher, bytes.as_slice());
-        }
+        hash_files(&mut hasher, &self.files);
         Ok(hasher.finalize())
+    }
+
+    /// The state of the fingerprint behind the files whose names come before the name. It stays that of the folder
+    /// as long as changes touch no name before this one.
+    pub fn fingerprint_below(&self, name: &Name) -> FingerprintBelow
+        ensures below { IsBelow result self.now.files }
+        ensures outlasts { OutlastsFrom result name.now }
+    {
+        FingerprintBelow::of(&self.files, name)
+    }
+
+    /// The fingerprint, of which the state behind the first files is known.
+    pub fn fingerprint_from(&self, below: &FingerprintBelow) -> [u8; 16]
+        requires { IsBelow below.now self.now.files }
+        ensures { result ≡ fingerprint self.now.files }
+    {
+        below.finish(&self.files)
     }
 
     /// Does the change, and leaves in its place the change that takes it back. It takes no memory.

@@ -1,0 +1,146 @@
+-- The files of a folder before a name, which changes from the name on leave as they are, and what is hashed of them.
+use Rattle.std.proofs.Common.{◌≡◌, ℕ, zero, suc, ◌-◌, ◌<◌, ◌≤◌, Bool, true, false, cond, List, [], ◌∷◌, ◌++◌, length, take, drop, Option, Some, None, inl, inr, refl, sym, ap, subst, ◌∙◌, arith, length-drop}
+use Rattle.std.specs.Ordering.{is_lt, is_eq, eq_by_cmp, ord_min}
+use Rattle.std.specs.declared.cmp.Ordering.{Ordering}
+use Rattle.std.specs.declared.cmp.Ordering.TheVariants.{Less, Equal, Greater}
+use Rattle.std.specs.Cmp.{tied_itself}
+use Rattle.std.specs.Cmp.Lexicographic.{nat_list_cmp_total}
+use Rattle.std.specs.FinMap as map_of
+use Rattle.std.specs.FinMap.{entries, same_map, entries-from_sorted, get-from_sorted, get-retain_keys, get-insert, get-remove}
+use Rattle.std.specs.FinMap.Entries.{where_key, find-where_key, is_sorted-where_key}
+use Rattle.std.proofs.lemmas.Bool.{cases_lt}
+use Rattle.std.proofs.lemmas.List.{take-append-drop, take_all}
+use Rattle.std.proofs.lemmas.Grind.{flat_map-append}
+use Rattle.par2_spec.specs.Folders.{File, Folder, bytes_of, counted}
+use Rattle.par2_spec.specs.Changes.{Change, Write, Replace, Rename, Remove, effect}
+use Rattle.par2_folder.specs.View.{name_cmp, IsSortedByName, folder_of, file_at, IsAt, IsGapFor, IsKept}
+use Rattle.par2_folder.specs.Below.{is_below, folder_below, hashed, first_name, IsBelow, IsFrom}
+use Rattle.par2_folder.specs.declared.fingerprint.FingerprintBelow.{FingerprintBelow}
+use Rattle.par2_folder.proofs.Sorted.{same_names, holds, rises, turned, turned_back}
+
+-- ---- the files before a place
+
+-- a test that holds of the names before a place alone
+front_only : (p : List ℕ → Bool) (files : List File) (at : ℕ) → at ≤ length files → ((j : ℕ) → j < at → p (file_at files j).0 ≡ true)
+    → ((j : ℕ) → at ≤ j → j < length files → p (file_at files j).0 ≡ false) → where_key name_cmp p files ≡ take at files
+front_only p [] zero le before after = refl
+front_only p [] (suc at) le before after = absurd (omega (arith, le))
+front_only p (f ∷ files) zero le before after =
+    ap (λ t. cond t (f ∷ where_key name_cmp p files) (where_key name_cmp p files)) (after 0 (omega arith) (omega arith))
+    ∙ front_only p files zero (omega arith) (λ j lt. absurd (omega arith)) (λ j ge lt. after (suc j) (omega arith) (omega arith))
+front_only p (f ∷ files) (suc at) le before after =
+    ap (λ t. cond t (f ∷ where_key name_cmp p files) (where_key name_cmp p files)) (before 0 (omega arith))
+    ∙ ap (λ l. f ∷ l) (front_only p files at (omega (arith, le)) (λ j lt. before (suc j) (omega arith)) (λ j ge lt. after (suc j) (omega arith) (omega arith)))
+
+-- a test counts for a name as for one that is equal to it
+alike : (p : List ℕ → Bool) (q x : List ℕ) → name_cmp q x ≡ Equal → p x ≡ p q
+alike p q x e = ap p (sym (same_names q x e))
+
+kept_where : (p : List ℕ → Bool) (files : List File) → IsSortedByName files → entries (map_of.retain_keys (folder_of files) p) ≡ where_key name_cmp p files
+kept_where p files h =
+    let sorted = is_sorted-where_key name_cmp p files (holds h) in
+    ap entries (same_map nat_list_cmp_total same_names _ (folder_of (where_key name_cmp p files)) (λ q.
+        get-retain_keys (folder_of files) p q (alike p q)
+        ∙ ap (λ o. cond (p q) o None) (get-from_sorted name_cmp files q (holds h))
+        ∙ sym (find-where_key name_cmp p q (alike p q) files)
+        ∙ sym (get-from_sorted name_cmp _ q sorted)))
+    ∙ entries-from_sorted name_cmp _ sorted
+
+module _ (files : List File) (kept : IsKept files) (name : List ℕ) (at : ℕ) where
+  pub below_gap : IsGapFor files name at → entries (folder_below name (folder_of files)) ≡ take at files
+  below_gap gap =
+      kept_where (is_below name) files kept.sorted
+      ∙ front_only (is_below name) files at gap.in_range (λ j lt. ap is_lt (gap.smaller_before j lt)) (λ j le lt. ap is_lt (gap.greater_after j le lt))
+
+  pub below_at : IsAt files name at → entries (folder_below name (folder_of files)) ≡ take at files
+  below_at here = kept_where (is_below name) files kept.sorted ∙ front_only (is_below name) files at (omega (arith, here.in_range)) before after
+    where
+      before : (j : ℕ) → j < at → is_below name (file_at files j).0 ≡ true
+      before j lt = ap is_lt (subst (λ n. name_cmp (file_at files j).0 n ≡ Less) here.has_name (rises files kept.sorted j at lt here.in_range))
+
+      after : (j : ℕ) → at ≤ j → j < length files → is_below name (file_at files j).0 ≡ false
+      after j le lt =
+          elim (cases_lt at j) [
+            | inl later ↦ ap is_lt (turned name (file_at files j).0 (subst (λ n. name_cmp n (file_at files j).0 ≡ Less) here.has_name (rises files kept.sorted at j later lt)))
+            | inr ge ↦ let same : at ≡ j = omega arith in
+                subst (λ i. is_below name (file_at files i).0 ≡ false) same (ap is_lt (ap (λ n. name_cmp n name) here.has_name ∙ tied_itself nat_list_cmp_total name))
+          ]
+
+-- ---- what is hashed
+
+hashed-append : (xs ys : List File) → hashed (xs ++ ys) ≡ hashed xs ++ hashed ys
+hashed-append xs ys = flat_map-append (λ file. counted file.0 ++ counted file.1) xs ys
+
+-- what is hashed of the files before a place and of those from it on
+pub hashed_whole : (files : List File) (at : ℕ) → hashed (take at files) ++ hashed (take (length files - at) (drop at files)) ≡ hashed files
+hashed_whole files at =
+    ap (λ l. hashed (take at files) ++ hashed l) (take_all (length files - at) (drop at files) (omega (arith, length-drop at files)))
+    ∙ sym (hashed-append (take at files) (drop at files))
+    ∙ ap hashed (take-append-drop at files)
+
+-- ---- changes
+
+-- where a name is not before another, which is not before a third, it is not before the third
+pub not_before : (name a b : List ℕ) → is_below a b ≡ false → is_below name a ≡ false → is_below name b ≡ false
+not_before name a b h k = by_case (name_cmp b a) (name_cmp b name) refl refl h
+  where
+    by_case : (r s : Ordering) → name_cmp b a ≡ r → name_cmp b name ≡ s → is_lt r ≡ false → is_lt s ≡ false
+    by_case r Equal e f h = refl
+    by_case r Greater e f h = refl
+    by_case Less Less e f h = h
+    by_case Equal Less e f h = ap is_lt (sym f) ∙ ap (is_below name) (same_names b a e) ∙ k
+    by_case Greater Less e f h = ap is_lt (sym (nat_list_cmp_total.trans a b name (turned_back b a e) f)) ∙ k
+
+not_after : (a b : List ℕ) (r : Ordering) → name_cmp b a ≡ r → is_lt r ≡ true → is_below b a ≡ false
+not_after a b Less e h = ap is_lt (turned b a e)
+not_after a b Equal e h = cc
+not_after a b Greater e h = cc
+
+both_from : (name a b : List ℕ) → is_below name (ord_min name_cmp a b) ≡ false → (is_below name a ≡ false) × (is_below name b ≡ false)
+both_from name a b = by_case (is_below a b) refl
+  where
+    by_case : (t : Bool) → is_below a b ≡ t → is_below name (cond t b a) ≡ false → (is_below name a ≡ false) × (is_below name b ≡ false)
+    by_case true e h = (not_before name b a (not_after a b _ refl e) h, h)
+    by_case false e h = (h, not_before name a b e h)
+
+get_below : (name : List ℕ) (folder : Folder) (q : List ℕ) → map_of.get (folder_below name folder) q ≡ cond (is_below name q) (map_of.get folder q) None
+get_below name folder q = get-retain_keys folder (is_below name) q (alike (is_below name) q)
+
+-- what stands at a name that is not before another doesn't count among the names before that
+elsewhere : (name n q : List ℕ) (o g : Option (List ℕ)) → is_below name n ≡ false → cond (is_below name q) (cond (eq_by_cmp name_cmp q n) o g) None ≡ cond (is_below name q) g None
+elsewhere name n q o g h = by_case (name_cmp q n) refl
+  where
+    by_case : (r : Ordering) → name_cmp q n ≡ r → cond (is_below name q) (cond (is_eq r) o g) None ≡ cond (is_below name q) g None
+    by_case Less e = refl
+    by_case Greater e = refl
+    by_case Equal e =
+        let off : is_below name q ≡ false = ap (is_below name) (same_names q n e) ∙ h in
+        ap (λ t. cond t o None) off ∙ sym (ap (λ t. cond t g None) off)
+
+module _ (name n : List ℕ) (folder : Folder) (h : is_below name n ≡ false) where
+  put_from : (bytes : List ℕ) → folder_below name (map_of.insert folder n bytes) ≡ folder_below name folder
+  put_from bytes = same_map nat_list_cmp_total same_names _ _ (λ q.
+      get_below name _ q
+      ∙ ap (λ o. cond (is_below name q) o None) (get-insert nat_list_cmp_total folder n bytes q)
+      ∙ elsewhere name n q (Some bytes) (map_of.get folder q) h
+      ∙ sym (get_below name folder q))
+
+  gone_from : folder_below name (map_of.remove folder n) ≡ folder_below name folder
+  gone_from = same_map nat_list_cmp_total same_names _ _ (λ q.
+      get_below name _ q
+      ∙ ap (λ o. cond (is_below name q) o None) (get-remove nat_list_cmp_total folder n q)
+      ∙ elsewhere name n q None (map_of.get folder q) h
+      ∙ sym (get_below name folder q))
+
+-- a change from the name on leaves what is before it
+effect_below : (name : List ℕ) (folder : Folder) (change : Change) → IsFrom name change → folder_below name (effect folder change) ≡ folder_below name folder
+unfolding effect
+effect_below name folder (Write n bytes) h = put_from name n folder h bytes
+effect_below name folder (Replace n bytes) h = put_from name n folder h bytes
+effect_below name folder (Rename a b) h =
+    let from = both_from name a b h in
+    put_from name b (map_of.remove folder a) from.1 (bytes_of folder a) ∙ gone_from name a folder from.0
+effect_below name folder (Remove n) h = gone_from name n folder h
+
+pub stays_below : (below : FingerprintBelow) (folder : Folder) (change : Change) → IsFrom below.name change → IsBelow below folder → IsBelow below (effect folder change)
+stays_below below folder change h is = rw (effect_below below.name folder change h) is
