@@ -5,4 +5,5 @@ pub mod Matches
 pub mod Outputs
 pub mod Parts
 pub mod Readings
+pub mod Repairing
 pub mod Views

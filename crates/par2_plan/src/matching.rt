@@ -16,8 +16,8 @@ use par2_sets::{ParSet, Target};
 use std::alloc::{AllocError, Global};
 use std::collections::BTreeSet;
 
-// Whether the file of the target's name is absent or not intact.
-fn is_needing(folder: &Folder, set: &ParSet, target: &Target) -> bool
+/// Whether the file of the target's name is absent or not intact.
+pub fn is_needing(folder: &Folder, set: &ParSet, target: &Target) -> bool
     ensures { result ≡ search.is_needing folder.now.files set.now target.now }
 {
     match folder.get(target.name()) {

@@ -1,14 +1,160 @@
 //! What a repair changes.
-ghost use Rattle.std.specs.Prelude.{◌≡◌, ◌⊎◌, Some, None, map, string_bytes, IsTrue, IfOk, IfErr};
+ghost use Rattle.std.specs.Prelude.{◌≡◌, ◌⊎◌, ◌++◌, ℕ, List, length, Some, None, map, string_bytes, IsTrue, IfOk, IfErr, IfSome, OnOk};
 ghost use Rattle.par2_spec.specs.Changes.{effects, are_applicable};
 ghost use Rattle.par2_spec.specs.Commands.{Repair};
+ghost use Rattle.par2_spec.specs.Folders.{bytes_of};
 ghost use Rattle.par2_spec.specs.Plans as plans;
-ghost use Rattle.par2_spec.specs.Refusals.{refusal, after};
+ghost use Rattle.par2_spec.specs.Refusals.{refusal, after, repair_refusal};
+ghost use Rattle.par2_spec.specs.Repairs.{aside, par_files};
+ghost use Rattle.par2_spec.specs.Rules.{AreFew};
+ghost use Rattle.par2_spec.specs.Search as search;
+ghost use Rattle.par2_spec.specs.Search.{all_pairs};
+ghost use Rattle.par2_restore.specs.Restoring.{known_in, undetermined, wrong_digest, files_of};
+ghost use Rattle.par2_plan.specs.Repairing.{IsWholeWhereMatched, AreRestoredFor, targets_by, changes_by, removals_by, with_removals, repair_by};
 
 use crate::Changes;
-use par2_folder::Folder;
+use crate::candidates::{candidates, texts_of};
+use crate::moves::{
+    asides_by_name, matching_names, push_matches, push_renames, push_writes, remove_asides,
+    remove_files,
+};
+use crate::needing::{Needing, needing_of};
+use crate::reading::read;
+use par2_asides::{asides, par_files};
+use par2_folder::{Bytes, Folder, Name};
+use par2_restore::{Slices, restored_files, restored_slices};
+use par2_sets::ParSet;
 use par2_spec::Fault;
-use std::alloc::Global;
+use std::alloc::{AllocError, Global};
+
+// All slices of a set, where a target is without a match.
+fn slices_for<'a>(
+    alloc: Global,
+    folder: &'a Folder,
+    set: &ParSet<'a>,
+    candidates: &[Name],
+    unmatched: &[Name],
+) -> Result<Option<Slices<'a>>, Fault>
+    ensures refused { let known = known_in set.now (map (bytes_of folder.now.files) candidates.now) in
+        IfErr result (λ fault. (fault ≡ Fault.Memory) ⊎ (undetermined set.now known ≡ Some fault)) }
+    ensures slices { let known = known_in set.now (map (bytes_of folder.now.files) candidates.now) in
+        IfOk result (AreRestoredFor set.now known unmatched.now) }
+{
+    if unmatched.is_empty() {
+        return Ok(None);
+    }
+    let texts = texts_of(alloc, folder, candidates).map_err(|_| Fault::Memory)?;
+    let slices = restored_slices(alloc, set, &texts)?;
+    Ok(Some(slices))
+}
+
+// The files of the targets without a match.
+fn files_for(
+    alloc: Global,
+    set: &ParSet,
+    slices: &Option<Slices>,
+    unmatched: &[Name],
+) -> Result<Vec<(Name, Bytes)>, Fault>
+    requires { IfSome slices.now (λ all. length all ≡ length (all_pairs set.now)) }
+    ensures refused { let targets = targets_by set.now slices.now unmatched.now in
+        IfErr result (λ fault. (fault ≡ Fault.Memory) ⊎ (wrong_digest targets ≡ Some fault)) }
+    ensures digests { let targets = targets_by set.now slices.now unmatched.now in
+        IfOk result (λ _. wrong_digest targets ≡ None) }
+    ensures files { let targets = targets_by set.now slices.now unmatched.now in
+        IfOk result (λ files. files.items ≡ files_of targets) }
+{
+    match slices {
+        Some(slices) => restored_files(alloc, set, slices, unmatched),
+        None => Ok(Vec::new(alloc)),
+    }
+}
+
+// The changes of a repair that doesn't purge.
+fn repair_changes(
+    alloc: Global,
+    needing: &Needing,
+    asides: &[Name],
+    files: Vec<(Name, Bytes)>,
+) -> Result<Changes, AllocError>
+    ensures { (aside : List ℕ → List ℕ) → asides.now ≡ map aside needing.now.put_aside.items →
+        IfOk result (λ changes. changes ≡ changes_by aside needing.now files.items) }
+{
+    let mut changes = Changes::new(alloc);
+    push_renames(&mut changes, &needing.put_aside, asides)?;
+    let places = asides_by_name(alloc, &needing.put_aside, asides)?;
+    push_matches(&mut changes, &needing.names, &needing.matches, &places)?;
+    push_writes(&mut changes, files)?;
+    Ok(changes)
+}
+
+// Then the asides that are left are removed, and the par files.
+fn push_removals(
+    alloc: Global,
+    changes: &mut Changes,
+    needing: &Needing,
+    asides: &[Name],
+    par_files: &[Name],
+) -> Result<(), AllocError>
+    ensures { (aside : List ℕ → List ℕ) → asides.now ≡ map aside needing.now.put_aside.items →
+        let removals = removals_by aside needing.now par_files.now in
+        OnOk result (changes.new ≡ changes.old ++ removals) }
+{
+    let matching = matching_names(alloc, &needing.matches)?;
+    remove_asides(changes, &needing.put_aside, asides, &matching)?;
+    remove_files(changes, par_files, &matching)
+}
+
+// The changes of a repair, which may purge.
+fn changes_with(
+    alloc: Global,
+    folder: &Folder,
+    set: &ParSet,
+    needing: &Needing,
+    asides: &[Name],
+    files: Vec<(Name, Bytes)>,
+    purge: bool,
+) -> Result<Changes, AllocError>
+    requires { asides.now ≡ map (aside folder.now.files set.now) needing.now.put_aside.items }
+    ensures { let aside = aside folder.now.files set.now in
+        let removals = removals_by aside needing.now (par_files folder.now.files set.now) in
+        let all = with_removals purge (changes_by aside needing.now files.items) removals in
+        IfOk result (λ changes. changes ≡ all) }
+{
+    let mut changes = repair_changes(alloc, needing, asides, files)?;
+    if purge {
+        let par_files = par_files(alloc, folder, set)?;
+        push_removals(alloc, &mut changes, needing, asides, &par_files)?;
+    }
+    Ok(changes)
+}
+
+// The changes of a repair of this set, with further files.
+fn repair_of(
+    alloc: Global,
+    folder: &Folder,
+    set: &ParSet,
+    extras: &[Name],
+    purge: bool,
+) -> Result<Changes, Fault>
+    requires { let searched = search.candidates folder.now.files set.now extras.now in
+        IsWholeWhereMatched folder.now.files set.now searched }
+    ensures refused { let searched = search.candidates folder.now.files set.now extras.now in
+        let reason = repair_refusal folder.now.files set.now searched in
+        IfErr result (λ fault. (fault ≡ Fault.Memory) ⊎ (reason ≡ Some fault)) }
+    ensures accepted { let searched = search.candidates folder.now.files set.now extras.now in
+        IfOk result (λ _. repair_refusal folder.now.files set.now searched ≡ None) }
+    ensures changes { let searched = search.candidates folder.now.files set.now extras.now in
+        let all = repair_by purge folder.now.files set.now searched in
+        IfOk result (λ changes. changes ≡ all) }
+    ensures few { IfOk result (λ _. AreFew folder.now.files set.now) }
+{
+    let candidates = candidates(alloc, folder, set, extras).map_err(|_| Fault::Memory)?;
+    let needing = needing_of(alloc, folder, set, &candidates).map_err(|_| Fault::Memory)?;
+    let slices = slices_for(alloc, folder, set, &candidates, &needing.unmatched)?;
+    let asides = asides(alloc, folder, set, &needing.put_aside)?;
+    let files = files_for(alloc, set, &slices, &needing.unmatched)?;
+    changes_with(alloc, folder, set, &needing, &asides, files, purge).map_err(|_| Fault::Memory)
+}
 
 /// The changes of a repair: the files of needing targets are put aside, targets that have a match take it, and the others
 /// are written from slices that are found or rebuilt. A repair that purges then removes the asides that are left and the
@@ -32,5 +178,6 @@ pub fn plan_repair(
         let left = after folder.now.files command in
         IfOk result (λ changes. effects folder.now.files changes ≡ left) }
 {
-    Err(Fault::Memory)
+    let reading = read(alloc, folder, base, extras)?;
+    repair_of(alloc, folder, &reading.set, &reading.extras, purge)
 }

@@ -1,0 +1,100 @@
+-- The parts of a repair, by names of needing targets, their matches and asides in lists of the same order.
+use Rattle.std.specs.Prelude.{◌≡◌, ℕ, ◌++◌, Bool, not, List, [], length, map, filter, filter_map, zip, Option, Some, None, is_none, option_map, if◌then◌else◌}
+use Rattle.std.specs.Borrow.{Bor}
+use Rattle.std.specs.BTreeMap.{BTreeMap, get}
+use Rattle.std.specs.Option.{MatchOption}
+use Rattle.par2_spec.specs.Changes.{Change, Write, Rename, Remove}
+use Rattle.par2_spec.specs.Folders.{Folder, File}
+use Rattle.par2_spec.specs.Names.{is_among}
+use Rattle.par2_spec.specs.Plans.{repair_changes, repair_removals}
+use Rattle.par2_spec.specs.Repairs.{names_without_match, rebuilt}
+use Rattle.par2_spec.specs.Search.{all_pairs, known, lost, matches}
+use Rattle.par2_spec.specs.Sets.{ParSet, Target}
+use Rattle.par2_restore.specs.Restoring.{targets_among, undetermined}
+use Rattle.par2_plan.specs.Matches.{name_cmp}
+use Rattle.par2_plan.specs.declared.needing.Needing.{Needing}
+
+-- ---- needing targets
+
+-- the names that have no match
+abbrev pub unmatched_names : List (List ℕ) → List (Option (List ℕ)) → List (List ℕ)
+unmatched_names names given = map (λ z. z.0) (filter (λ z. is_none z.1) (zip names given))
+
+-- the names of the matches
+abbrev pub names_given : List (Option (List ℕ)) → List (List ℕ)
+names_given given = filter_map (λ name. name) given
+
+-- where each needing target has a match, nothing is lost
+abbrev pub IsWholeWhereMatched : Folder → ParSet → List (List ℕ) → Type 0
+IsWholeWhereMatched folder set searched = names_without_match (matches folder set searched) ≡ [] → lost (known folder set searched) ≡ []
+
+-- ---- slices and files
+
+-- all slices of a set, of which the lost ones are rebuilt
+pub record AreRestored (set : ParSet) (known : List (Option (List ℕ))) (slices : List (List ℕ)) : Type 0 where
+  pub determined : undetermined set known ≡ None
+  pub are_rebuilt : slices ≡ rebuilt set known
+  pub count : length slices ≡ length (all_pairs set)
+
+-- there are slices, unless none of these names wants any
+abbrev pub AreRestoredFor : ParSet → List (Option (List ℕ)) → List (List ℕ) → Option (List (List ℕ)) → Type 0
+AreRestoredFor set known names slices = MatchOption slices (names ≡ []) (AreRestored set known)
+
+-- the targets of these names with their bytes, where there are slices
+abbrev pub targets_by : ParSet → Option (List (List ℕ)) → List (List ℕ) → List (Target × List ℕ)
+targets_by set None names = []
+targets_by set (Some slices) names = targets_among set slices names
+
+-- ---- changes
+
+-- files take other names
+abbrev pub renames : List (List ℕ) → List (List ℕ) → List Change
+renames names others = map (λ z. Rename z.0 z.1) (zip names others)
+
+-- each target that has a match takes it, from the place where it stands
+abbrev pub matches_taken : (List ℕ → List ℕ) → List (List ℕ) → List (Option (List ℕ)) → List Change
+matches_taken place names given = filter_map (λ z. option_map (λ name. Rename (place name) z.0) z.1) (zip names given)
+
+-- files are written
+abbrev pub writes : List File → List Change
+writes files = map (λ file. Write file.0 file.1) files
+
+-- the asides of files that are nobody's match are removed
+abbrev pub asides_removed : List (List ℕ) → List (List ℕ) → List (List ℕ) → List Change
+asides_removed matching names asides = map (λ z. Remove z.1) (filter (λ z. not (is_among matching z.0)) (zip names asides))
+
+-- files that are nobody's match are removed
+abbrev pub files_removed : List (List ℕ) → List (List ℕ) → List Change
+files_removed matching names = map Remove (filter (λ name. not (is_among matching name)) names)
+
+-- where a file stands once those of these names are put aside
+abbrev pub place_by : (List ℕ → List ℕ) → List (List ℕ) → List ℕ → List ℕ
+place_by aside names name = if is_among names name then aside name else name
+
+-- the changes of a repair by its needing targets, their asides and the files that are written
+abbrev pub changes_by : (List ℕ → List ℕ) → Needing → List File → List Change
+changes_by aside needing files =
+    renames needing.put_aside.items (map aside needing.put_aside.items)
+    ++ matches_taken (place_by aside needing.put_aside.items) needing.names.items needing.matches.items
+    ++ writes files
+
+-- the removals of a repair that purges
+abbrev pub removals_by : (List ℕ → List ℕ) → Needing → List (List ℕ) → List Change
+removals_by aside needing par_files =
+    asides_removed (names_given needing.matches.items) needing.put_aside.items (map aside needing.put_aside.items)
+    ++ files_removed (names_given needing.matches.items) par_files
+
+-- with the removals, where the repair purges
+abbrev pub with_removals : Bool → List Change → List Change → List Change
+with_removals purge changes removals = if purge then changes ++ removals else changes
+
+-- the changes of a repair, which may purge
+abbrev pub repair_by : Bool → Folder → ParSet → List (List ℕ) → List Change
+repair_by purge folder set searched = with_removals purge (repair_changes folder set searched) (repair_removals folder set searched)
+
+-- ---- trees
+
+-- a tree holds for exactly these names their asides
+abbrev pub HoldsAsides : (List ℕ → List ℕ) → List (List ℕ) → BTreeMap (Bor (List ℕ)) (Bor (List ℕ)) → Type 0
+HoldsAsides aside names tree =
+    (name : Bor (List ℕ)) → option_map (λ found. found.now) (get name_cmp tree name) ≡ (if is_among names name.now then Some (aside name.now) else None)

@@ -1,0 +1,103 @@
+//! The needing targets of a set.
+ghost use Rattle.std.specs.Prelude.{◌≡◌, map, filter, IfOk};
+ghost use Rattle.std.specs.List.{IsDistinct};
+ghost use Rattle.std.specs.Str.{bytes_eq};
+ghost use Rattle.par2_spec.specs.Folders.{has};
+ghost use Rattle.par2_spec.specs.Repairs.{put_aside, names_without_match};
+ghost use Rattle.par2_spec.specs.Rules.{needing_names};
+ghost use Rattle.par2_spec.specs.Search as search;
+ghost use Rattle.par2_plan.specs.Findings.{matches_given};
+ghost use Rattle.par2_plan.specs.Matches.{chosen};
+ghost use Rattle.par2_plan.specs.Repairing.{unmatched_names};
+
+use crate::matching::{matches, needs};
+use par2_folder::{Folder, Name};
+use par2_sets::ParSet;
+use std::alloc::{AllocError, Global};
+
+/// The needing targets of a set, in target order.
+#[derive(Drop)]
+pub struct Needing {
+    /// Their names.
+    pub names: Vec<Name>,
+    /// The match of each.
+    pub matches: Vec<Option<Name>>,
+    /// The names of those whose files are there, and are put aside.
+    pub put_aside: Vec<Name>,
+    /// The names of those that have no match.
+    pub unmatched: Vec<Name>,
+}
+
+// The names of the targets that are needing.
+fn needing_names(alloc: Global, set: &ParSet, needing: &[bool]) -> Result<Vec<Name>, AllocError>
+    ensures { let targets = chosen needing.now set.now.targets in
+        IfOk result (λ names. names.items ≡ map (λ t. t.name) targets) }
+{
+    let mut names = Vec::new(alloc);
+    for (target, needs) in set.targets().iter().zip(needing) {
+        if *needs {
+            names.push(target.name().copied())?;
+        }
+    }
+    Ok(names)
+}
+
+// The names of files that are in the folder.
+fn present(alloc: Global, folder: &Folder, names: &[Name]) -> Result<Vec<Name>, AllocError>
+    ensures { let there = filter (has folder.now.files) names.now in
+        IfOk result (λ list. list.items ≡ there) }
+{
+    names
+        .iter()
+        .filter(|name| folder.get(name).is_some())
+        .map(|name| name.copied())
+        .collect(alloc)
+}
+
+// The names of targets that have no match.
+fn unmatched(
+    alloc: Global,
+    names: &[Name],
+    matches: &[Option<Name>],
+) -> Result<Vec<Name>, AllocError>
+    ensures { let without = unmatched_names names.now matches.now in
+        IfOk result (λ list. list.items ≡ without) }
+{
+    let mut list = Vec::new(alloc);
+    for (name, found) in names.iter().zip(matches) {
+        if found.is_none() {
+            list.push(name.copied())?;
+        }
+    }
+    Ok(list)
+}
+
+/// The needing targets of a set, with their matches among the files of these names.
+pub fn needing_of(
+    alloc: Global,
+    folder: &Folder,
+    set: &ParSet,
+    candidates: &[Name],
+) -> Result<Needing, AllocError>
+    requires { IsDistinct bytes_eq candidates.now }
+    ensures names { let names = needing_names folder.now.files set.now in
+        IfOk result (λ needing. needing.names.items ≡ names) }
+    ensures matches { let given = matches_given folder.now.files set.now candidates.now in
+        IfOk result (λ needing. needing.matches.items ≡ given) }
+    ensures put_aside { let there = put_aside folder.now.files set.now in
+        IfOk result (λ needing. needing.put_aside.items ≡ there) }
+    ensures unmatched { let all = search.matches folder.now.files set.now candidates.now in
+        IfOk result (λ needing. needing.unmatched.items ≡ names_without_match all) }
+{
+    let flags = needs(alloc, folder, set)?;
+    let matches = matches(alloc, folder, set, &flags, candidates)?;
+    let names = needing_names(alloc, set, &flags)?;
+    let put_aside = present(alloc, folder, &names)?;
+    let unmatched = unmatched(alloc, &names, &matches)?;
+    Ok(Needing {
+        names,
+        matches,
+        put_aside,
+        unmatched,
+    })
+}
