@@ -65,7 +65,7 @@ Describe-more (y ∷ xs) (u ∷ ts) x t h d = (h.0, Describe-more xs ts x t h.1 
 
 -- ---- each once
 
-same_either_way : (a b : List ℕ) → bytes_eq a b ≡ bytes_eq b a
+pub same_either_way : (a b : List ℕ) → bytes_eq a b ≡ bytes_eq b a
 same_either_way a b = same_from_decides _ _ (λ h. (bytes_eq-Decides a b).0 h, λ e. (bytes_eq-Decides a b).1 e) (λ h. sym ((bytes_eq-Decides b a).0 h), λ e. (bytes_eq-Decides b a).1 (sym e))
 
 filter-append : (p : List ℕ → Bool) (xs ys : List (List ℕ)) → filter p (xs ++ ys) ≡ filter p xs ++ filter p ys

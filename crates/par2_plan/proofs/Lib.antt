@@ -8,10 +8,13 @@ mod Listed
 mod Lost
 mod Numbered
 mod Ordered
+mod Paired
 mod Passed
+mod Passing
 mod Places
 mod Present
 mod Refused
+mod Repaired
 mod Standing
 mod VolumeNames
 mod Written

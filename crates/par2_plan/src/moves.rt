@@ -39,7 +39,7 @@ pub fn asides_by_name<'a>(
 }
 
 // Where a file stands once others are put aside.
-fn now_at(asides: &BTreeMap<&Name, &Name>, name: &Name) -> Name
+fn now_at<'n>(asides: &BTreeMap<&'n Name, &'n Name>, name: &'n Name) -> Name
     ensures { (aside : List ℕ → List ℕ) (names : List (List ℕ)) →
         HoldsAsides aside names asides.now → result ≡ place_by aside names name.now }
 {
@@ -50,11 +50,11 @@ fn now_at(asides: &BTreeMap<&Name, &Name>, name: &Name) -> Name
 }
 
 /// Each target that has a match takes it. A match that was put aside is taken from there.
-pub fn push_matches(
+pub fn push_matches<'n>(
     changes: &mut Changes,
     names: &[Name],
-    matches: &[Option<Name>],
-    asides: &BTreeMap<&Name, &Name>,
+    matches: &'n [Option<Name>],
+    asides: &BTreeMap<&'n Name, &'n Name>,
 ) -> Result<(), AllocError>
     ensures { (aside : List ℕ → List ℕ) (put_aside : List (List ℕ)) →
         HoldsAsides aside put_aside asides.now →
@@ -96,11 +96,11 @@ pub fn matching_names<'m>(
 }
 
 /// The asides of files that are nobody's match are removed.
-pub fn remove_asides(
+pub fn remove_asides<'n>(
     changes: &mut Changes,
-    names: &[Name],
+    names: &'n [Name],
     asides: &[Name],
-    matching: &BTreeSet<&Name>,
+    matching: &BTreeSet<&'n Name>,
 ) -> Result<(), AllocError>
     ensures { (given : List (List ℕ)) → HoldsNames matching.now given →
         let removed = asides_removed given names.now asides.now in
@@ -115,10 +115,10 @@ pub fn remove_asides(
 }
 
 /// Files that are nobody's match are removed.
-pub fn remove_files(
+pub fn remove_files<'n>(
     changes: &mut Changes,
-    names: &[Name],
-    matching: &BTreeSet<&Name>,
+    names: &'n [Name],
+    matching: &BTreeSet<&'n Name>,
 ) -> Result<(), AllocError>
     ensures { (given : List (List ℕ)) → HoldsNames matching.now given →
         let removed = files_removed given names.now in

@@ -88,12 +88,12 @@ fn repair_changes(
 }
 
 // Then the asides that are left are removed, and the par files.
-fn push_removals(
+fn push_removals<'n>(
     alloc: Global,
     changes: &mut Changes,
-    needing: &Needing,
+    needing: &'n Needing,
     asides: &[Name],
-    par_files: &[Name],
+    par_files: &'n [Name],
 ) -> Result<(), AllocError>
     ensures { (aside : List ℕ → List ℕ) → asides.now ≡ map aside needing.now.put_aside.items →
         let removals = removals_by aside needing.now par_files.now in

@@ -1,0 +1,191 @@
+-- The parts of a repair are those of the definitions.
+use Rattle.std.proofs.Common.{◌≡◌, ℕ, List, [], ◌∷◌, ◌++◌, length, map, refl, sym, ap, ap₂, ◌∙◌, subst, Bool, true, false, not, cond, ◌&&◌, ◌+◌, ◌==◌, Ok}
+use Rattle.std.specs.Prelude.{Option, Some, None, is_none, filter, filter_map, flat_map, option_map, zip, if◌then◌else◌}
+use Rattle.std.specs.List.{AllByRecursion, enumerate_from, list_any}
+use Rattle.std.proofs.lemmas.Simd.{map-map}
+use Rattle.par2_spec.specs.Changes.{Change, Write, Rename, Remove}
+use Rattle.par2_spec.specs.Checksums.{Pair}
+use Rattle.par2_spec.specs.Faults.{first_fault, fault_where}
+use Rattle.par2_spec.specs.Folders.{Folder, File, bytes_of}
+use Rattle.par2_spec.specs.Names.{is_among}
+use Rattle.par2_spec.specs.Plans.{matching, now_at, repair_changes, repair_removals}
+use Rattle.par2_spec.specs.Rank.{is_repairable, rank}
+use Rattle.par2_spec.specs.Refusals.{repair_refusal}
+use Rattle.par2_spec.specs.Repairs.{aside, put_aside, names_without_match, rebuilt, rebuilt_targets, par_files, files_of_slices}
+use Rattle.par2_spec.specs.Rules.{needing_names, lost_of_unmatched, slices_by_target}
+use Rattle.par2_spec.specs.Search.{matches, known, lost, survivors, candidates}
+use Rattle.par2_spec.specs.Sets.{ParSet, Target, set_of}
+use Rattle.par2_spec.specs.Windows.{found}
+use Rattle.par2_spec.specs.declared.Fault.{Fault}
+use Rattle.par2_spec.specs.declared.Fault.TheVariants.{NotRepairable}
+use Rattle.par2_spec.proofs.ListsLaws.{all-append}
+use Rattle.par2_spec.proofs.RankLaws.{repairable-iff}
+use Rattle.par2_spec.proofs.ReadLaws.{lost_of}
+use Rattle.par2_spec.proofs.SearchLaws.{matches_of_needing}
+use Rattle.par2_sets.proofs.Lists.{filter_map-map}
+use Rattle.par2_asides.specs.Asides.{long_aside}
+use Rattle.par2_restore.specs.Restoring.{known_in, undetermined, wrong_digest, files_of}
+use Rattle.par2_plan.specs.Findings.{matches_given}
+use Rattle.par2_plan.specs.Repairing.{unmatched_names, names_given, IsWholeWhereMatched, AreRestored, AreRestoredFor, targets_by, renames, matches_taken, writes, asides_removed, files_removed, place_by, changes_by, removals_by, with_removals, repair_by}
+use Rattle.par2_plan.specs.declared.needing.Needing.{Needing}
+
+abbrev Pairs : Type 0
+Pairs = List (Target × Option (List ℕ))
+
+-- ---- lists in pairs
+
+pub unmatched_of : (ms : Pairs) → unmatched_names (map (λ m. m.0.name) ms) (map (λ m. m.1) ms) ≡ names_without_match ms
+unmatched_of [] = refl
+unmatched_of ((t, None) ∷ ms) = ap (λ names. t.name ∷ names) (unmatched_of ms)
+unmatched_of ((t, Some name) ∷ ms) = unmatched_of ms
+
+taken_of : (place : List ℕ → List ℕ) (ms : Pairs) → matches_taken place (map (λ m. m.0.name) ms) (map (λ m. m.1) ms) ≡ filter_map (λ m. option_map (λ name. Rename (place name) m.0.name) m.1) ms
+taken_of place [] = refl
+taken_of place ((t, None) ∷ ms) = taken_of place ms
+taken_of place ((t, Some name) ∷ ms) = ap (λ changes. Rename (place name) t.name ∷ changes) (taken_of place ms)
+
+renames_of : (other : List ℕ → List ℕ) (names : List (List ℕ)) → renames names (map other names) ≡ map (λ name. Rename name (other name)) names
+renames_of other [] = refl
+renames_of other (name ∷ names) = ap (λ changes. Rename name (other name) ∷ changes) (renames_of other names)
+
+removed_of : (given : List (List ℕ)) (other : List ℕ → List ℕ) (names : List (List ℕ)) → asides_removed given names (map other names) ≡ map (λ name. Remove (other name)) (filter (λ name. not (is_among given name)) names)
+removed_of given other [] = refl
+removed_of given other (name ∷ names) = step (not (is_among given name)) (removed_of given other names)
+  where
+    later : List (List ℕ × List ℕ)
+    later = filter (λ z. not (is_among given z.0)) (zip names (map other names))
+
+    rest : List (List ℕ)
+    rest = filter (λ n. not (is_among given n)) names
+
+    step : (b : Bool) → map (λ (z : List ℕ × List ℕ). Remove z.1) later ≡ map (λ (n : List ℕ). Remove (other n)) rest
+        → map (λ (z : List ℕ × List ℕ). Remove z.1) (cond b ((name, other name) ∷ later) later) ≡ map (λ (n : List ℕ). Remove (other n)) (cond b (name ∷ rest) rest)
+    step true h = ap (λ (changes : List Change). Remove (other name) ∷ changes) h
+    step false h = h
+
+-- ---- nothing is lost where each needing target has a match
+
+quiet : (n : ℕ) (xs : List (Bool × Option (List ℕ))) → AllByRecursion (λ x. x.0 ≡ false) xs → filter (λ (z : ℕ × (Bool × Option (List ℕ))). z.1.0 && is_none z.1.1) (enumerate_from n xs) ≡ []
+quiet n [] h = refl
+quiet n ((true, slice) ∷ xs) h = absurd (let no : ⊥ = cc in no)
+quiet n ((false, slice) ∷ xs) h = quiet (n + 1) xs h.1
+
+none_wanted : (f : Pair → Option (List ℕ)) (pairs : List Pair) → AllByRecursion (λ (x : Bool × Option (List ℕ)). x.0 ≡ false) (map (λ pair. (false, f pair)) pairs)
+none_wanted f [] = tt
+none_wanted f (pair ∷ pairs) = (refl, none_wanted f pairs)
+
+all_quiet : (f : Pair → Option (List ℕ)) (ts : List Target) → AllByRecursion (λ (x : Bool × Option (List ℕ)). x.0 ≡ false) (flat_map (λ t. map (λ pair. (is_among [] t.name, f pair)) t.pairs) ts)
+all_quiet f [] = tt
+all_quiet f (t ∷ ts) = all-append _ (map (λ pair. (false, f pair)) t.pairs) _ (none_wanted f t.pairs) (all_quiet f ts)
+
+pub whole_where_matched : (folder : Folder) (base : List ℕ) (set : ParSet) (extras : List (List ℕ)) → set_of folder base ≡ Ok set → IsWholeWhereMatched folder set (candidates folder set extras)
+whole_where_matched folder base set extras reads = λ none.
+    let searched = candidates folder set extras in
+    let f = found set.slice_size (map (bytes_of folder) searched) in
+    let of_names = λ (names : List (List ℕ)). flat_map (λ (t : Target). map (λ (pair : Pair). (is_among names t.name, f pair)) t.pairs) set.targets in
+    lost_of folder base set extras reads
+    ∙ ap (λ names. map (λ (z : ℕ × (Bool × Option (List ℕ))). z.0) (filter (λ z. z.1.0 && is_none z.1.1) (enumerate_from 0 (of_names names)))) none
+    ∙ ap (map (λ (z : ℕ × (Bool × Option (List ℕ))). z.0)) (quiet 0 (of_names []) (all_quiet f set.targets))
+
+-- no slice is repairable
+none_to_repair : (survivors : List ℕ) → is_repairable [] survivors ≡ true
+none_to_repair survivors = (repairable-iff [] survivors).1 (λ v h k. no_element v h.0)
+  where
+    no_element : (v : List ℕ) → length v ≡ 0 → AllByRecursion (λ x. x ≡ 0) v
+    no_element [] h = tt
+    no_element (x ∷ v) h = absurd (let no : ⊥ = cc in no)
+
+determined_without : (set : ParSet) (slices : List (Option (List ℕ))) → lost slices ≡ [] → undetermined set slices ≡ None
+determined_without set slices h =
+    ap (λ (missing : List ℕ). fault_where (not (is_repairable missing (survivors set))) (NotRepairable (length missing) (rank missing (survivors set)))) h
+    ∙ ap (λ b. fault_where (not b) (NotRepairable 0 (rank [] (survivors set)))) (none_to_repair (survivors set))
+
+-- ---- of a folder, a set and the names that are searched
+
+module _ (folder : Folder) (set : ParSet) (searched : List (List ℕ)) where
+  abbrev ms : Pairs
+  ms = matches folder set searched
+
+  abbrev pub slices_known : List (Option (List ℕ))
+  slices_known = known_in set (map (bytes_of folder) searched)
+
+  pub names_in_pairs : needing_names folder set ≡ map (λ m. m.0.name) ms
+  names_in_pairs =
+      ap (map (λ (t : Target). t.name)) (sym (matches_of_needing folder set searched))
+      ∙ map-map (λ (t : Target). t.name) (λ (m : Target × Option (List ℕ)). m.0) ms
+
+  -- ---- refusals
+
+  by_parts : repair_refusal folder set searched ≡ first_fault (undetermined set slices_known ∷ long_aside folder set (put_aside folder set) ∷ wrong_digest (rebuilt_targets folder set searched) ∷ [])
+  unfolding repair_refusal known
+  by_parts = refl
+
+  pub not_repairable : (fault : Fault) → undetermined set slices_known ≡ Some fault → repair_refusal folder set searched ≡ Some fault
+  not_repairable fault h = by_parts ∙ ap (λ f. first_fault (f ∷ long_aside folder set (put_aside folder set) ∷ wrong_digest (rebuilt_targets folder set searched) ∷ [])) h
+
+  module _ (told : undetermined set slices_known ≡ None) where
+    pub too_long : (fault : Fault) → long_aside folder set (put_aside folder set) ≡ Some fault → repair_refusal folder set searched ≡ Some fault
+    too_long fault h =
+        by_parts ∙ ap₂ (λ f g. first_fault (f ∷ g ∷ wrong_digest (rebuilt_targets folder set searched) ∷ [])) told h
+
+    module _ (short : long_aside folder set (put_aside folder set) ≡ None) where
+      pub by_digests : repair_refusal folder set searched ≡ first_fault (wrong_digest (rebuilt_targets folder set searched) ∷ [])
+      by_digests = by_parts ∙ ap₂ (λ f g. first_fault (f ∷ g ∷ wrong_digest (rebuilt_targets folder set searched) ∷ [])) told short
+
+      pub failed : (fault : Fault) → wrong_digest (rebuilt_targets folder set searched) ≡ Some fault → repair_refusal folder set searched ≡ Some fault
+      failed fault h = by_digests ∙ ap (λ f. first_fault (f ∷ [])) h
+
+      pub accepted : wrong_digest (rebuilt_targets folder set searched) ≡ None → repair_refusal folder set searched ≡ None
+      accepted h = by_digests ∙ ap (λ f. first_fault (f ∷ [])) h
+
+  -- ---- slices and files
+
+  pub told_by : (names : List (List ℕ)) (slices : Option (List (List ℕ))) → names ≡ names_without_match ms → IsWholeWhereMatched folder set searched → AreRestoredFor set slices_known names slices
+      → undetermined set slices_known ≡ None
+  unfolding known
+  told_by names None e whole h = determined_without set slices_known (whole (sym e ∙ h))
+  told_by names (Some slices) e whole h = h.determined
+
+  none_among : (files : List (Target × List ℕ)) → filter (λ c. is_among [] c.0.name) files ≡ []
+  none_among [] = refl
+  none_among (file ∷ files) = none_among files
+
+  pub targets_are : (names : List (List ℕ)) (slices : Option (List (List ℕ))) → names ≡ names_without_match ms → AreRestoredFor set slices_known names slices
+      → targets_by set slices names ≡ rebuilt_targets folder set searched
+  unfolding rebuilt_targets known
+  targets_are names None e h =
+      sym (none_among (files_of_slices set (rebuilt set slices_known)))
+      ∙ ap (λ ns. filter (λ (c : Target × List ℕ). is_among ns c.0.name) (files_of_slices set (rebuilt set slices_known))) (sym h ∙ e)
+  targets_are names (Some slices) e h =
+      ap₂ (λ (ns all : List (List ℕ)). filter (λ (c : Target × List ℕ). is_among ns c.0.name) (files_of_slices set all)) e h.are_rebuilt
+
+  -- ---- changes
+
+  module _ (needing : Needing) (names : needing.names.items ≡ needing_names folder set) (given : needing.matches.items ≡ matches_given folder set searched) (there : needing.put_aside.items ≡ put_aside folder set) where
+    abbrev off : List ℕ → List ℕ
+    off = aside folder set
+
+    changes_are : (files : List File) → files ≡ files_of (rebuilt_targets folder set searched) → changes_by off needing files ≡ repair_changes folder set searched
+    unfolding repair_changes
+    changes_are files e =
+        let aside_first : renames needing.put_aside.items (map off needing.put_aside.items) ≡ map (λ name. Rename name (off name)) (put_aside folder set) =
+        ap (λ (ns : List (List ℕ)). renames ns (map off ns)) there ∙ renames_of off (put_aside folder set) in
+        let then_taken : matches_taken (place_by off needing.put_aside.items) needing.names.items needing.matches.items ≡ filter_map (λ m. option_map (λ name. Rename (now_at folder set name) m.0.name) m.1) ms =
+        ap (λ (ns : List (List ℕ)). matches_taken (place_by off ns) needing.names.items needing.matches.items) there
+        ∙ ap₂ (λ (ns : List (List ℕ)) (os : List (Option (List ℕ))). matches_taken (now_at folder set) ns os) (names ∙ names_in_pairs) given
+        ∙ taken_of (now_at folder set) ms in
+        let then_written : writes files ≡ map (λ c. Write c.0.name c.1) (rebuilt_targets folder set searched) =
+        ap writes e ∙ map-map (λ (file : File). Write file.0 file.1) (λ (c : Target × List ℕ). (c.0.name, c.1)) (rebuilt_targets folder set searched) in
+        ap₂ (λ (a b : List Change). a ++ b) (ap₂ (λ (a b : List Change). a ++ b) aside_first then_taken) then_written
+
+    removals_are : removals_by off needing (par_files folder set) ≡ repair_removals folder set searched
+    unfolding repair_removals
+    removals_are =
+        let used : names_given needing.matches.items ≡ matching folder set searched = ap names_given given ∙ filter_map-map (λ (o : Option (List ℕ)). o) (λ (m : Target × Option (List ℕ)). m.1) ms in
+        ap₂ (λ (a b : List Change). a ++ b)
+        (ap₂ (λ (ns os : List (List ℕ)). asides_removed ns os (map off os)) used there ∙ removed_of (matching folder set searched) off (put_aside folder set))
+        (ap (λ (ns : List (List ℕ)). files_removed ns (par_files folder set)) used)
+
+    pub all_changes : (purge : Bool) (files : List File) → files ≡ files_of (rebuilt_targets folder set searched)
+        → with_removals purge (changes_by off needing files) (removals_by off needing (par_files folder set)) ≡ repair_by purge folder set searched
+    all_changes purge files e = ap₂ (λ (a b : List Change). with_removals purge a b) (changes_are files e) removals_are

@@ -1,0 +1,10 @@
+use Rattle.std.proofs.Common.{◌≡◌, ◌++◌}
+use Rattle.std.specs.Iterator.Adapters.{zip_first, zip_second}
+use Rattle.std.specs.Slice.Iter.{iter_rest}
+use Rattle.par2_plan.specs.Repairing.{renames}
+use Rattle.par2_plan.proofs.moves.push_renames.Given as goal
+
+abbrev pub invariant-loop-name : goal.invariant-loop-name
+invariant-loop-name l =
+    l.changes ++ renames (iter_rest (zip_first l.name-iterator)) (iter_rest (zip_second l.name-iterator))
+    ≡ l.initial.changes ++ renames l.names l.others

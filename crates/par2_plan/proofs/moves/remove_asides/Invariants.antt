@@ -1,0 +1,12 @@
+use Rattle.std.proofs.Common.{◌≡◌, ◌++◌, ℕ, List}
+use Rattle.std.specs.Iterator.Adapters.{zip_first, zip_second}
+use Rattle.std.specs.Slice.Iter.{iter_rest}
+use Rattle.par2_plan.specs.Matches.{HoldsNames}
+use Rattle.par2_plan.specs.Repairing.{asides_removed}
+use Rattle.par2_plan.proofs.moves.remove_asides.Given as goal
+
+abbrev pub invariant-loop-name : goal.invariant-loop-name
+invariant-loop-name l =
+    (given : List (List ℕ)) → HoldsNames l.matching given
+    → l.changes ++ asides_removed given (iter_rest (zip_first l.name-iterator)) (iter_rest (zip_second l.name-iterator))
+    ≡ l.initial.changes ++ asides_removed given l.names l.asides

@@ -1,0 +1,11 @@
+use Rattle.std.proofs.Common.{map, refl}
+use Rattle.std.specs.Prelude.{filter, is_none}
+use Rattle.std.proofs.lemmas.Slice.Zip.{either_empty_from_Zip}
+use Rattle.par2_plan.proofs.Paired.{all_done}
+use Rattle.par2_plan.proofs.needing.unmatched.Goals as goal
+
+pub returns : goal.returns
+returns c =
+    let it = c.loop-name.name-iterator in
+    all_done (λ zs. map (λ z. z.0) (filter (λ z. is_none z.1) zs)) _ _ c.loop-name.list.items _
+    (either_empty_from_Zip it c.next.new.self _ c.in-None.is c.next.ensures.steps) refl c.loop-name.invariant

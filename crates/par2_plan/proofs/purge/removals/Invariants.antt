@@ -1,0 +1,6 @@
+use Rattle.std.proofs.Common.{◌≡◌, map, take}
+use Rattle.par2_spec.specs.Changes.{Remove}
+use Rattle.par2_plan.proofs.purge.removals.Given as goal
+
+abbrev pub invariant-loop-name : goal.invariant-loop-name
+invariant-loop-name l = l.changes ≡ map Remove (take l.name-index l.name-items)
