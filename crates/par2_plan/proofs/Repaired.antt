@@ -1,7 +1,8 @@
 -- The parts of a repair are those of the definitions.
-use Rattle.std.proofs.Common.{◌≡◌, ℕ, List, [], ◌∷◌, ◌++◌, length, map, refl, sym, ap, ap₂, ◌∙◌, subst, Bool, true, false, not, cond, ◌&&◌, ◌+◌, ◌==◌, Ok}
+use Rattle.std.proofs.Common.{◌≡◌, ℕ, List, [], ◌∷◌, ◌++◌, length, map, refl, sym, ap, ap₂, ◌∙◌, subst, Bool, true, false, not, cond, ◌&&◌, ◌||◌, ◌+◌, ◌==◌, suc, arith, Ok}
 use Rattle.std.specs.Prelude.{Option, Some, None, is_none, filter, filter_map, flat_map, option_map, zip, if◌then◌else◌}
 use Rattle.std.specs.List.{AllByRecursion, enumerate_from, list_any}
+use Rattle.std.proofs.lemmas.Bool.{ne_eqb}
 use Rattle.std.proofs.lemmas.Simd.{map-map}
 use Rattle.par2_spec.specs.Changes.{Change, Write, Rename, Remove}
 use Rattle.par2_spec.specs.Checksums.{Pair}
@@ -26,7 +27,7 @@ use Rattle.par2_sets.proofs.Lists.{filter_map-map}
 use Rattle.par2_asides.specs.Asides.{long_aside}
 use Rattle.par2_restore.specs.Restoring.{known_in, undetermined, wrong_digest, files_of}
 use Rattle.par2_plan.specs.Findings.{matches_given}
-use Rattle.par2_plan.specs.Repairing.{unmatched_names, names_given, IsWholeWhereMatched, AreRestored, AreRestoredFor, targets_by, renames, matches_taken, writes, asides_removed, files_removed, place_by, changes_by, removals_by, with_removals, repair_by}
+use Rattle.par2_plan.specs.Repairing.{unmatched_names, names_given, AreNeeding, IsWholeWhereMatched, AreRestored, AreRestoredFor, targets_by, renames, matches_taken, writes, asides_removed, files_removed, place_by, changes_by, removals_by, with_removals, repair_by}
 use Rattle.par2_plan.specs.declared.needing.Needing.{Needing}
 
 abbrev Pairs : Type 0
@@ -161,7 +162,7 @@ module _ (folder : Folder) (set : ParSet) (searched : List (List ℕ)) where
 
   -- ---- changes
 
-  module _ (needing : Needing) (names : needing.names.items ≡ needing_names folder set) (given : needing.matches.items ≡ matches_given folder set searched) (there : needing.put_aside.items ≡ put_aside folder set) where
+  module _ (needing : Needing) (are : AreNeeding folder set searched needing) where
     abbrev off : List ℕ → List ℕ
     off = aside folder set
 
@@ -169,10 +170,10 @@ module _ (folder : Folder) (set : ParSet) (searched : List (List ℕ)) where
     unfolding repair_changes
     changes_are files e =
         let aside_first : renames needing.put_aside.items (map off needing.put_aside.items) ≡ map (λ name. Rename name (off name)) (put_aside folder set) =
-        ap (λ (ns : List (List ℕ)). renames ns (map off ns)) there ∙ renames_of off (put_aside folder set) in
+        ap (λ (ns : List (List ℕ)). renames ns (map off ns)) are.put_aside ∙ renames_of off (put_aside folder set) in
         let then_taken : matches_taken (place_by off needing.put_aside.items) needing.names.items needing.matches.items ≡ filter_map (λ m. option_map (λ name. Rename (now_at folder set name) m.0.name) m.1) ms =
-        ap (λ (ns : List (List ℕ)). matches_taken (place_by off ns) needing.names.items needing.matches.items) there
-        ∙ ap₂ (λ (ns : List (List ℕ)) (os : List (Option (List ℕ))). matches_taken (now_at folder set) ns os) (names ∙ names_in_pairs) given
+        ap (λ (ns : List (List ℕ)). matches_taken (place_by off ns) needing.names.items needing.matches.items) are.put_aside
+        ∙ ap₂ (λ (ns : List (List ℕ)) (os : List (Option (List ℕ))). matches_taken (now_at folder set) ns os) (are.names ∙ names_in_pairs) are.matches
         ∙ taken_of (now_at folder set) ms in
         let then_written : writes files ≡ map (λ c. Write c.0.name c.1) (rebuilt_targets folder set searched) =
         ap writes e ∙ map-map (λ (file : File). Write file.0 file.1) (λ (c : Target × List ℕ). (c.0.name, c.1)) (rebuilt_targets folder set searched) in
@@ -181,11 +182,22 @@ module _ (folder : Folder) (set : ParSet) (searched : List (List ℕ)) where
     removals_are : removals_by off needing (par_files folder set) ≡ repair_removals folder set searched
     unfolding repair_removals
     removals_are =
-        let used : names_given needing.matches.items ≡ matching folder set searched = ap names_given given ∙ filter_map-map (λ (o : Option (List ℕ)). o) (λ (m : Target × Option (List ℕ)). m.1) ms in
+        let used : names_given needing.matches.items ≡ matching folder set searched = ap names_given are.matches ∙ filter_map-map (λ (o : Option (List ℕ)). o) (λ (m : Target × Option (List ℕ)). m.1) ms in
         ap₂ (λ (a b : List Change). a ++ b)
-        (ap₂ (λ (ns os : List (List ℕ)). asides_removed ns os (map off os)) used there ∙ removed_of (matching folder set searched) off (put_aside folder set))
+        (ap₂ (λ (ns os : List (List ℕ)). asides_removed ns os (map off os)) used are.put_aside ∙ removed_of (matching folder set searched) off (put_aside folder set))
         (ap (λ (ns : List (List ℕ)). files_removed ns (par_files folder set)) used)
 
     pub all_changes : (purge : Bool) (files : List File) → files ≡ files_of (rebuilt_targets folder set searched)
         → with_removals purge (changes_by off needing files) (removals_by off needing (par_files folder set)) ≡ repair_by purge folder set searched
     all_changes purge files e = ap₂ (λ (a b : List Change). with_removals purge a b) (changes_are files e) removals_are
+
+-- ---- purges
+
+-- some targets are needing where one is
+pub any_needing : (test : Target → Bool) (ts : List Target) → not (length (filter test ts) == 0) ≡ list_any test ts
+any_needing test [] = refl
+any_needing test (t ∷ ts) = step (test t) (any_needing test ts)
+  where
+    step : (b : Bool) → not (length (filter test ts) == 0) ≡ list_any test ts → not (length (cond b (t ∷ filter test ts) (filter test ts)) == 0) ≡ (b || list_any test ts)
+    step true h = ap not (ne_eqb (suc (length (filter test ts))) 0 (λ e. absurd (omega (arith, e))))
+    step false h = h

@@ -7,10 +7,13 @@ use Rattle.par2_spec.specs.Changes.{Change, Write, Rename, Remove}
 use Rattle.par2_spec.specs.Folders.{Folder, File}
 use Rattle.par2_spec.specs.Names.{is_among}
 use Rattle.par2_spec.specs.Plans.{repair_changes, repair_removals}
-use Rattle.par2_spec.specs.Repairs.{names_without_match, rebuilt}
-use Rattle.par2_spec.specs.Search.{all_pairs, known, lost, matches}
+use Rattle.par2_spec.specs.Repairs.{names_without_match, put_aside, rebuilt}
+use Rattle.par2_spec.specs.Rules.{needing_names}
+use Rattle.par2_spec.specs.Search as search
+use Rattle.par2_spec.specs.Search.{all_pairs, known, lost}
 use Rattle.par2_spec.specs.Sets.{ParSet, Target}
 use Rattle.par2_restore.specs.Restoring.{targets_among, undetermined}
+use Rattle.par2_plan.specs.Findings.{matches_given}
 use Rattle.par2_plan.specs.Matches.{name_cmp}
 use Rattle.par2_plan.specs.declared.needing.Needing.{Needing}
 
@@ -24,9 +27,16 @@ unmatched_names names given = map (λ z. z.0) (filter (λ z. is_none z.1) (zip n
 abbrev pub names_given : List (Option (List ℕ)) → List (List ℕ)
 names_given given = filter_map (λ name. name) given
 
+-- what is needing in a folder, by the names that are searched
+pub record AreNeeding (folder : Folder) (set : ParSet) (searched : List (List ℕ)) (needing : Needing) : Type 0 where
+  pub names : needing.names.items ≡ needing_names folder set
+  pub matches : needing.matches.items ≡ matches_given folder set searched
+  pub put_aside : needing.put_aside.items ≡ put_aside folder set
+  pub unmatched : needing.unmatched.items ≡ names_without_match (search.matches folder set searched)
+
 -- where each needing target has a match, nothing is lost
 abbrev pub IsWholeWhereMatched : Folder → ParSet → List (List ℕ) → Type 0
-IsWholeWhereMatched folder set searched = names_without_match (matches folder set searched) ≡ [] → lost (known folder set searched) ≡ []
+IsWholeWhereMatched folder set searched = names_without_match (search.matches folder set searched) ≡ [] → lost (known folder set searched) ≡ []
 
 -- ---- slices and files
 

@@ -3,12 +3,8 @@ ghost use Rattle.std.specs.Prelude.{◌≡◌, map, filter, IfOk};
 ghost use Rattle.std.specs.List.{IsDistinct};
 ghost use Rattle.std.specs.Str.{bytes_eq};
 ghost use Rattle.par2_spec.specs.Folders.{has};
-ghost use Rattle.par2_spec.specs.Repairs.{put_aside, names_without_match};
-ghost use Rattle.par2_spec.specs.Rules.{needing_names};
-ghost use Rattle.par2_spec.specs.Search as search;
-ghost use Rattle.par2_plan.specs.Findings.{matches_given};
 ghost use Rattle.par2_plan.specs.Matches.{chosen};
-ghost use Rattle.par2_plan.specs.Repairing.{unmatched_names};
+ghost use Rattle.par2_plan.specs.Repairing.{unmatched_names, AreNeeding};
 
 use crate::matching::{matches, needs};
 use par2_folder::{Folder, Name};
@@ -80,14 +76,7 @@ pub fn needing_of(
     candidates: &[Name],
 ) -> Result<Needing, AllocError>
     requires { IsDistinct bytes_eq candidates.now }
-    ensures names { let names = needing_names folder.now.files set.now in
-        IfOk result (λ needing. needing.names.items ≡ names) }
-    ensures matches { let given = matches_given folder.now.files set.now candidates.now in
-        IfOk result (λ needing. needing.matches.items ≡ given) }
-    ensures put_aside { let there = put_aside folder.now.files set.now in
-        IfOk result (λ needing. needing.put_aside.items ≡ there) }
-    ensures unmatched { let all = search.matches folder.now.files set.now candidates.now in
-        IfOk result (λ needing. needing.unmatched.items ≡ names_without_match all) }
+    ensures { IfOk result (AreNeeding folder.now.files set.now candidates.now) }
 {
     let flags = needs(alloc, folder, set)?;
     let matches = matches(alloc, folder, set, &flags, candidates)?;

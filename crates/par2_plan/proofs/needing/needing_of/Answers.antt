@@ -10,29 +10,21 @@ use Rattle.par2_plan.proofs.Given.{chosen_needing}
 use Rattle.par2_plan.proofs.Repaired.{names_in_pairs, unmatched_of}
 use Rattle.par2_plan.proofs.needing.needing_of.Goals as goal
 
-pub returns-clause-names : goal.returns-clause-names
-returns-clause-names c =
-    let folder = c.args.folder.now.files in
-    let set = c.args.set.now in
-    let flags = c.deref-2.ensures.value ∙ c.in_ok-flags.ensures in
-    c.in_ok-names.ensures
-    ∙ ap (λ (bs : List Bool). map (λ (t : Target). t.name) (chosen bs set.targets)) flags
-    ∙ ap (map (λ (t : Target). t.name)) (chosen_needing folder set c.args.candidates.now)
-
-pub returns-clause-put_aside : goal.returns-clause-put_aside
-returns-clause-put_aside c =
-    let folder = c.args.folder.now.files in
-    let set = c.args.set.now in
-    let names : c.in_ok-names.names.items ≡ needing_names folder set = returns-clause-names c in
-    c.in_ok-put_aside.ensures ∙ ap (filter (has folder)) (c.deref-3.ensures.value ∙ names)
-
-pub returns-clause-unmatched : goal.returns-clause-unmatched
-returns-clause-unmatched c =
+pub returns : goal.returns
+returns c =
     let folder = c.args.folder.now.files in
     let set = c.args.set.now in
     let searched : List (List ℕ) = c.args.candidates.now in
-    let names : c.in_ok-names.names.items ≡ needing_names folder set = returns-clause-names c in
-    c.in_ok-unmatched.ensures
-    ∙ ap₂ (λ (ns : List (List ℕ)) (os : List (Option (List ℕ))). unmatched_names ns os)
-    (c.deref-4.ensures.value ∙ names ∙ names_in_pairs folder set searched) (c.deref-5.ensures.value ∙ c.in_ok-matches.ensures)
-    ∙ unmatched_of (matches folder set searched)
+    let flags = c.deref-2.ensures.value ∙ c.in_ok-flags.ensures in
+    let own : c.in_ok-names.names.items ≡ needing_names folder set =
+    c.in_ok-names.ensures
+    ∙ ap (λ (bs : List Bool). map (λ (t : Target). t.name) (chosen bs set.targets)) flags
+    ∙ ap (map (λ (t : Target). t.name)) (chosen_needing folder set searched) in record {
+      names = own;
+      matches = c.in_ok-matches.ensures;
+      put_aside = c.in_ok-put_aside.ensures ∙ ap (filter (has folder)) (c.deref-3.ensures.value ∙ own);
+      unmatched = c.in_ok-unmatched.ensures
+          ∙ ap₂ (λ (ns : List (List ℕ)) (os : List (Option (List ℕ))). unmatched_names ns os)
+          (c.deref-4.ensures.value ∙ own ∙ names_in_pairs folder set searched) (c.deref-5.ensures.value ∙ c.in_ok-matches.ensures)
+          ∙ unmatched_of (matches folder set searched);
+    }
