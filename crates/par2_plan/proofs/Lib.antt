@@ -12,6 +12,7 @@ mod Paired
 mod Passed
 mod Passing
 mod Places
+mod Planned
 mod Present
 mod Refused
 mod Repaired

@@ -32,3 +32,8 @@ refused_by P Q r fault p why cause = subst (λ x. IfErr x (λ y. (y ≡ Memory) 
     step : (fault ≡ Memory) ⊎ P fault → (fault ≡ Memory) ⊎ Q fault
     step (inl memory) = inl memory
     step (inr h) = inr (cause h)
+
+-- what follows from two things that hold of a value
+pub joined : {A E : Type 0} (P Q R : A → Type 0) (r : Result A E) → ((x : A) → P x → Q x → R x) → IfOk r P → IfOk r Q → IfOk r R
+joined P Q R (Ok x) f h k = f x h k
+joined P Q R (Err e) f h k = tt

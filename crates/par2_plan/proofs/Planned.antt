@@ -1,0 +1,57 @@
+-- What a repair and a purge are by the set that they read.
+use Rattle.std.proofs.Common.{◌≡◌, ◌∙◌, ℕ, List, [], sym, ap, subst, Bool, Option, Some, Result, Ok, Err}
+use Rattle.par2_spec.specs.Changes.{Change}
+use Rattle.par2_spec.specs.Commands.{Repair, Purge}
+use Rattle.par2_spec.specs.Faults.{then_fault}
+use Rattle.par2_spec.specs.Folders.{Folder}
+use Rattle.par2_spec.specs.Plans.{changes_of, purge_changes}
+use Rattle.par2_spec.specs.Refusals.{set_in, refusal, repair_refusal, purge_refusal, by_set}
+use Rattle.par2_spec.specs.Rules.{AreFew, LeadsToAfter}
+use Rattle.par2_spec.specs.Search.{candidates}
+use Rattle.par2_spec.specs.Sets.{ParSet, set_of}
+use Rattle.par2_spec.specs.declared.Fault.{Fault}
+use Rattle.par2_spec.proofs.AcceptedCommands.{command_leads, set_in_reads}
+use Rattle.par2_plan.specs.Repairing.{IsWholeWhereMatched, repair_by}
+use Rattle.par2_plan.proofs.Repaired.{whole_where_matched}
+
+same_set : (set other : ParSet) → ◌≡◌ {A = Result ParSet Fault} (Ok set) (Ok other) → set ≡ other
+same_set set other e = cc
+
+module _ (folder : Folder) (base : List ℕ) (extras : List (List ℕ)) (purge : Bool) where
+  pub repair_unread : (fault : Fault) → set_in folder base extras ≡ Err fault → refusal folder (Repair base extras purge) ≡ Some fault
+  unfolding refusal
+  repair_unread fault e = ap (λ r. then_fault r (λ (set : ParSet). repair_refusal folder set (candidates folder set extras))) e
+
+  module _ (set : ParSet) (reads : set_in folder base extras ≡ Ok set) where
+    pub whole_if_matched : IsWholeWhereMatched folder set (candidates folder set extras)
+    whole_if_matched = whole_where_matched folder base set extras (set_in_reads folder base extras set reads).0
+
+    pub repair_refused : refusal folder (Repair base extras purge) ≡ repair_refusal folder set (candidates folder set extras)
+    unfolding refusal
+    repair_refused = ap (λ r. then_fault r (λ (set : ParSet). repair_refusal folder set (candidates folder set extras))) reads
+
+    pub repair_changes : changes_of folder (Repair base extras purge) ≡ repair_by purge folder set (candidates folder set extras)
+    unfolding changes_of
+    repair_changes = ap (by_set [] (λ (set : ParSet). repair_by purge folder set (candidates folder set extras))) reads
+
+    pub repair_leads : AreFew folder set → LeadsToAfter folder (Repair base extras purge)
+    repair_leads few =
+        command_leads folder (Repair base extras purge)
+        (λ other h. subst (AreFew folder) (same_set set other (sym (set_in_reads folder base extras set reads).0 ∙ h)) few)
+
+module _ (folder : Folder) (base : List ℕ) where
+  pub purge_unread : (fault : Fault) → set_in folder base [] ≡ Err fault → refusal folder (Purge base) ≡ Some fault
+  unfolding refusal
+  purge_unread fault e = ap (λ r. then_fault r (purge_refusal folder)) e
+
+  pub purge_leads : LeadsToAfter folder (Purge base)
+  purge_leads = command_leads folder (Purge base) tt
+
+  module _ (set : ParSet) (reads : set_in folder base [] ≡ Ok set) where
+    pub purge_refused : refusal folder (Purge base) ≡ purge_refusal folder set
+    unfolding refusal
+    purge_refused = ap (λ r. then_fault r (purge_refusal folder)) reads
+
+    pub purge_by_set : changes_of folder (Purge base) ≡ purge_changes folder set
+    unfolding changes_of
+    purge_by_set = ap (by_set [] (purge_changes folder)) reads

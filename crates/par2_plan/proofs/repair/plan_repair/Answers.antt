@@ -1,0 +1,83 @@
+use Rattle.std.proofs.Common.{◌≡◌, ◌⊎◌, ◌∙◌, List, ℕ, map, sym, ap, subst, Option, Some, None, Err, string_bytes, IsTrue}
+use Rattle.std.specs.Prelude.{IfOk, IfErr}
+use Rattle.std.proofs.lemmas.Result.{err_from_is_err_and, IfOk-weaker}
+use Rattle.par2_spec.specs.Changes.{Change, effects, are_applicable}
+use Rattle.par2_spec.specs.Commands.{Repair}
+use Rattle.par2_spec.specs.Plans.{changes_of}
+use Rattle.par2_spec.specs.Refusals.{set_in, refusal, repair_refusal, after}
+use Rattle.par2_spec.specs.Rules.{AreFew}
+use Rattle.par2_spec.specs.Search.{candidates}
+use Rattle.par2_spec.specs.declared.Fault.{Fault}
+use Rattle.par2_spec.specs.declared.Fault.TheVariants.{Memory}
+use Rattle.par2_plan.specs.Repairing.{IsWholeWhereMatched, repair_by}
+use Rattle.par2_plan.proofs.Passing.{refused_by, joined}
+use Rattle.par2_plan.proofs.Planned.{repair_unread, whole_if_matched, repair_refused, repair_changes, repair_leads}
+use Rattle.par2_plan.proofs.repair.plan_repair.Goals as goal
+
+pub returns-in_err-reading-clause-refused : goal.returns-in_err-reading-clause-refused
+returns-in_err-reading-clause-refused c =
+    let folder = c.args.folder.now.files in
+    let base = c.args.base.now in
+    let extras : List (List ℕ) = map string_bytes c.args.extras.now in
+    let fault = c.in_err-reading.field-0.0 in
+    refused_by (λ y. set_in folder base extras ≡ Err y) (λ y. refusal folder (Repair base extras c.args.purge) ≡ Some y) c.from_residual.result fault
+    (err_from_is_err_and c.from_residual.result c.from_residual.ensures.1) c.in_err-reading.ensures.set
+    (repair_unread folder base extras c.args.purge fault)
+
+pub repair_of-requires : goal.repair_of-requires
+repair_of-requires c =
+    let folder = c.args.folder.now.files in
+    let extras : List (List ℕ) = map string_bytes c.args.extras.now in
+    let set = c.in_ok-reading.reading.set in
+    subst (λ words. IsWholeWhereMatched folder set (candidates folder set words)) (sym (c.deref.ensures.value ∙ c.in_ok-reading.ensures.extras))
+    (whole_if_matched folder c.args.base.now extras c.args.purge set c.in_ok-reading.ensures.set)
+
+pub returns-clause-refused : goal.returns-clause-refused
+returns-clause-refused c =
+    let folder = c.args.folder.now.files in
+    let extras : List (List ℕ) = map string_bytes c.args.extras.now in
+    let set = c.in_ok-reading.reading.set in
+    let reason : refusal folder (Repair c.args.base.now extras c.args.purge) ≡ repair_refusal folder set (candidates folder set c.deref.result.now) =
+    repair_refused folder c.args.base.now extras c.args.purge set c.in_ok-reading.ensures.set
+    ∙ ap (λ words. repair_refusal folder set (candidates folder set words)) (sym (c.deref.ensures.value ∙ c.in_ok-reading.ensures.extras)) in
+    subst (λ (o : Option Fault). IfErr c.repair_of.result (λ y. (y ≡ Memory) ⊎ (o ≡ Some y))) (sym reason) c.repair_of.ensures.refused
+
+pub returns-clause-accepted : goal.returns-clause-accepted
+returns-clause-accepted c =
+    let folder = c.args.folder.now.files in
+    let extras : List (List ℕ) = map string_bytes c.args.extras.now in
+    let set = c.in_ok-reading.reading.set in
+    let reason : refusal folder (Repair c.args.base.now extras c.args.purge) ≡ repair_refusal folder set (candidates folder set c.deref.result.now) =
+    repair_refused folder c.args.base.now extras c.args.purge set c.in_ok-reading.ensures.set
+    ∙ ap (λ words. repair_refusal folder set (candidates folder set words)) (sym (c.deref.ensures.value ∙ c.in_ok-reading.ensures.extras)) in
+    subst (λ (o : Option Fault). IfOk c.repair_of.result (λ _. o ≡ None)) (sym reason) c.repair_of.ensures.accepted
+
+pub returns-clause-changes : goal.returns-clause-changes
+returns-clause-changes c =
+    let folder = c.args.folder.now.files in
+    let extras : List (List ℕ) = map string_bytes c.args.extras.now in
+    let set = c.in_ok-reading.reading.set in
+    let all : changes_of folder (Repair c.args.base.now extras c.args.purge) ≡ repair_by c.args.purge folder set (candidates folder set c.deref.result.now) =
+    repair_changes folder c.args.base.now extras c.args.purge set c.in_ok-reading.ensures.set
+    ∙ ap (λ words. repair_by c.args.purge folder set (candidates folder set words)) (sym (c.deref.ensures.value ∙ c.in_ok-reading.ensures.extras)) in
+    subst (λ (changes : List Change). IfOk c.repair_of.result (λ made. made ≡ changes)) (sym all) c.repair_of.ensures.changes
+
+pub returns-clause-applies : goal.returns-clause-applies
+returns-clause-applies c =
+    let folder = c.args.folder.now.files in
+    let base = c.args.base.now in
+    let extras : List (List ℕ) = map string_bytes c.args.extras.now in
+    let set = c.in_ok-reading.reading.set in
+    joined (λ changes. changes ≡ changes_of folder (Repair base extras c.args.purge)) (λ _. AreFew folder set) (λ changes. IsTrue (are_applicable folder changes)) c.repair_of.result
+    (λ changes is few. subst (λ (cs : List Change). IsTrue (are_applicable folder cs)) (sym is) (repair_leads folder base extras c.args.purge set c.in_ok-reading.ensures.set few).0)
+    (returns-clause-changes c) c.repair_of.ensures.few
+
+pub returns-clause-leads : goal.returns-clause-leads
+returns-clause-leads c =
+    let folder = c.args.folder.now.files in
+    let base = c.args.base.now in
+    let extras : List (List ℕ) = map string_bytes c.args.extras.now in
+    let set = c.in_ok-reading.reading.set in
+    joined (λ changes. changes ≡ changes_of folder (Repair base extras c.args.purge)) (λ _. AreFew folder set) (λ changes. effects folder changes ≡ after folder (Repair base extras c.args.purge)) c.repair_of.result
+    (λ changes is few. ap (effects folder) is ∙ (repair_leads folder base extras c.args.purge set c.in_ok-reading.ensures.set few).1)
+    (returns-clause-changes c) c.repair_of.ensures.few
