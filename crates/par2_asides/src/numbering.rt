@@ -50,6 +50,7 @@ fn is_taken(folder: &Folder, targets: &BTreeSet<Name>, name: &Name) -> bool
 fn taken_are_names(folder: &Folder, set: &ParSet)
     ensures { IsTrue (list_all is_name (taken_for folder.now.files set.now)) }
 {
+    // Both contracts say so.
     let _ = folder.vacant();
     let _ = set.targets();
 }
