@@ -1,21 +1,12 @@
 -- Slices that are found and slices that are rebuilt.
-use Rattle.std.proofs.Common.{◌≡◌, ◌∙◌, ◌↔◌, ℕ, suc, ◌+◌, ◌-◌, ◌*◌, ◌%◌, ◌≤◌, List, [], ◌∷◌, ◌++◌, length, map, refl, sym, ap, ap₂, subst, arith, Bool, true, false, not, Bor, inl, inr, ◌⊎◌}
-use Rattle.std.specs.Prelude.{Option, Some, None, IfSome, IsTrue, replicate}
+use Rattle.std.proofs.Common.{◌≡◌, ◌∙◌, ℕ, ◌-◌, ◌≤◌, List, [], ◌∷◌, ◌++◌, length, map, refl, sym, ap, ap₂, arith}
+use Rattle.std.specs.Prelude.{Some, None, IfSome, replicate}
 use Rattle.std.specs.List.{AllByRecursion}
 use Rattle.std.proofs.lemmas.List.{append-nil}
 use Rattle.std.proofs.lemmas.List.Elements.{All-head, All-tail}
-use Rattle.par2_spec.specs.Faults.{fault_where}
-use Rattle.par2_spec.specs.Rank.{IsRepairable, is_repairable, rank}
-use Rattle.par2_spec.specs.Search.{lost, survivors}
-use Rattle.par2_spec.specs.Sets.{ParSet, is_slice_size}
 use Rattle.par2_spec.specs.Slices.{padded}
-use Rattle.par2_spec.specs.declared.Fault.TheVariants.{Memory, NotRepairable}
-use Rattle.par2_recovery.specs.Survivors.{known_of, present, filled, IsTrueFault}
-use Rattle.par2_recovery.specs.declared.rebuild_slices.RebuildFault.{RebuildFault}
-use Rattle.par2_recovery.specs.declared.rebuild_slices.RebuildFault.TheVariants as why
+use Rattle.par2_recovery.specs.Survivors.{known_of, present, filled}
 use Rattle.par2_search.specs.Texts.{Window, AreShort}
-use Rattle.par2_restore.specs.Restoring.{undetermined}
-use Rattle.par2_restore.specs.Survivors.{fault_of}
 use Rattle.par2_restore.specs.Texts.{merged, slices_of, text_of}
 use Rattle.par2_restore.specs.declared.slices.Slice.{Slice}
 

@@ -1,5 +1,5 @@
 -- The targets one after the other, with their bytes by the slices that are left.
-use Rattle.std.proofs.Common.{◌≡◌, ◌∙◌, ℕ, ◌+◌, ◌-◌, List, [], ◌∷◌, ◌++◌, length, map, take, drop, refl, sym, ap, ap₂, subst, Bool, true, false, cond, ◌&&◌}
+use Rattle.std.proofs.Common.{◌≡◌, ◌∙◌, ℕ, ◌+◌, List, [], ◌∷◌, ◌++◌, length, map, take, drop, refl, sym, ap, ap₂, subst, Bool, true, false, cond, ◌&&◌}
 use Rattle.std.specs.Prelude.{filter, zip, not, Some, Result, Err, IfErr}
 use Rattle.std.specs.List.{concat, list_all, AllByRecursion}
 use Rattle.std.proofs.lemmas.List.{append-nil, append_assoc, drop-drop}

@@ -1,6 +1,6 @@
-use Rattle.std.proofs.Common.{◌≡◌, ◌∙◌, ◌+◌, ◌++◌, ◌∷◌, [], ◌⊎◌, List, ℕ, Bool, true, false, Bor, cond, length, map, take, drop, get_or, refl, sym, ap, ap₂, subst, rules, arith, inl, inr, append_assoc}
-use Rattle.std.specs.Prelude.{flat_map, filter, IsTrue, IsFalse}
-use Rattle.std.specs.List.{list_all, AllByRecursion}
+use Rattle.std.proofs.Common.{◌≡◌, ◌∙◌, ◌+◌, ◌++◌, ◌∷◌, [], List, ℕ, true, cond, length, drop, sym, ap, rules, arith, inl, inr}
+use Rattle.std.specs.Prelude.{flat_map}
+use Rattle.std.specs.List.{list_all}
 use Rattle.std.proofs.lemmas.List.{drop_more, drop_all, append-nil, length-append}
 use Rattle.std.proofs.lemmas.Bool.{false≢true}
 use Rattle.std.proofs.lemmas.Result.{err_from_is_err_and}
@@ -10,7 +10,7 @@ use Rattle.par2_spec.specs.Names.{is_among}
 use Rattle.par2_spec.specs.Sets.{Target}
 use Rattle.par2_spec.specs.Repairs.{files_of_slices}
 use Rattle.par2_restore.specs.Names.{HoldsNames}
-use Rattle.par2_restore.specs.Restoring.{targets_among, target_at, files_of, has_digest, wrong_digest}
+use Rattle.par2_restore.specs.Restoring.{targets_among, target_at, files_of, has_digest}
 use Rattle.par2_restore.proofs.Rebuilt.{kept_by_map_err}
 use Rattle.par2_restore.proofs.Walked.{among, files_more, digests_more, wrong_first, described, refused_with, first_wrong}
 use Rattle.par2_restore.proofs.files.restored_files.Goals as goal

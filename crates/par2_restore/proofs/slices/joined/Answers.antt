@@ -1,10 +1,9 @@
-use Rattle.std.proofs.Common.{◌≡◌, ◌∙◌, ◌++◌, ◌+◌, ◌∷◌, [], List, ℕ, map, take, get_or, sym, ap}
+use Rattle.std.proofs.Common.{◌≡◌, ◌∙◌, ◌++◌, ◌+◌, ◌∷◌, [], List, ℕ, take, sym, ap}
 use Rattle.std.specs.List.{concat}
 use Rattle.std.proofs.lemmas.List.{take_more, map-append}
 use Rattle.par2_spec.specs.Slices.{padded}
 use Rattle.par2_restore.specs.Texts.{text_of, slices_of}
 use Rattle.par2_restore.specs.declared.slices.Slice.{Slice}
-use Rattle.par2_restore.specs.declared.slices.Slice.TheVariants.{Rebuilt}
 use Rattle.par2_restore.proofs.Cutting.{take-again, concat_push}
 use Rattle.par2_restore.proofs.slices.joined.Goals as goal
 

@@ -1,6 +1,5 @@
-use Rattle.std.proofs.Common.{◌≡◌, ◌∙◌, ◌++◌, ◌+◌, ◌-◌, ◌*◌, List, ℕ, length, take, cond, min, rules, arith, ap, ap₂, refl}
+use Rattle.std.proofs.Common.{◌≡◌, ◌∙◌, ◌++◌, ◌+◌, ◌-◌, List, ℕ, length, take, cond, min, rules, ap, ap₂}
 use Rattle.std.specs.Prelude.{Result, Ok, Err, OnOk, is_ok, replicate, vec_len}
-use Rattle.par2_spec.specs.Slices.{padded}
 use Rattle.par2_restore.proofs.Cutting.{one_more_slice}
 use Rattle.par2_restore.proofs.slices.push_slice.Goals as goal
 

@@ -1,11 +1,9 @@
-use Rattle.std.proofs.Common.{◌≡◌, ◌∙◌, List, ℕ, map, sym, ap, subst, rules}
+use Rattle.std.proofs.Common.{◌≡◌, ◌∙◌, List, ℕ, map, sym, ap, subst}
 use Rattle.par2_matrix.specs.Systems.{lists_of}
-use Rattle.par2_spec.specs.Rank.{IsRebuilt, kept_slices}
-use Rattle.par2_spec.specs.Search.{lost}
 use Rattle.par2_spec.specs.Slices.{padded}
-use Rattle.par2_recovery.specs.Survivors.{known_of, recovered_of, exponents_of, filled}
+use Rattle.par2_recovery.specs.Survivors.{known_of, filled}
 use Rattle.par2_search.specs.Texts.{Window}
-use Rattle.par2_restore.specs.Survivors.{known_among, AreRebuilt}
+use Rattle.par2_restore.specs.Survivors.{AreRebuilt}
 use Rattle.par2_restore.specs.Texts.{merged, slices_of, text_of}
 use Rattle.par2_restore.specs.declared.slices.Slice.{Slice}
 use Rattle.par2_restore.proofs.Merging.{filled_merged, slices_of-map}

@@ -1,7 +1,4 @@
-use Rattle.std.proofs.Common.{◌≡◌, ◌∙◌, ◌%◌, ◌≤◌, List, ℕ, length, map, sym, ap, subst, arith, rules}
-use Rattle.std.specs.Prelude.{IfSome}
-use Rattle.std.specs.Borrow.{Bor}
-use Rattle.std.specs.FinMap.{entries}
+use Rattle.std.proofs.Common.{◌≡◌, ◌∙◌, ◌%◌, List, length, map, sym, ap, subst, arith}
 use Rattle.std.specs.List.{AllByRecursion}
 use Rattle.std.specs.List.Sorted.{IsStrictlyIncreasing}
 use Rattle.std.proofs.lemmas.List.{length-map}
@@ -9,10 +6,9 @@ use Rattle.par2_spec.specs.Checksums.{Pair}
 use Rattle.par2_spec.specs.Search.{all_pairs}
 use Rattle.par2_spec.specs.Windows.{found}
 use Rattle.par2_spec.proofs.FilesLaws.{size_even}
-use Rattle.par2_search.specs.Texts.{Window, padded_window, padded_windows, texts_of}
+use Rattle.par2_search.specs.Texts.{Window, padded_window, texts_of}
 use Rattle.par2_recovery.specs.Survivors.{known_of, recovered_of, exponents_of}
 use Rattle.par2_restore.specs.Restoring.{known_in}
-use Rattle.par2_restore.specs.Survivors.{CanRebuild, AreSurvivors}
 use Rattle.par2_restore.proofs.Merging.{short_present}
 use Rattle.par2_restore.proofs.slices.survivors_of.Goals as goal
 
