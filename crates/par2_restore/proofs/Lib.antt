@@ -1,4 +1,5 @@
 mod Cutting
+mod Found
 mod Merging
 mod Rebuilt
 mod Trees

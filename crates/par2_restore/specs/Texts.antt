@@ -1,5 +1,5 @@
 -- Slices as they lie in memory: zeros may be missing at the end of each.
-use Rattle.std.specs.Prelude.{ℕ, List, [], ◌∷◌, map, Some, None}
+use Rattle.std.specs.Prelude.{ℕ, ◌<◌, ◌^◌, List, [], ◌∷◌, map, slice_index, Some, None}
 use Rattle.par2_spec.specs.Slices.{padded}
 use Rattle.par2_search.specs.Texts.{Window}
 use Rattle.par2_restore.specs.declared.slices.Slice.{Slice}
@@ -19,3 +19,8 @@ merged [] texts = []
 merged (Some window ∷ windows) texts = window.now ∷ merged windows texts
 merged (None ∷ windows) [] = [] ∷ merged windows []
 merged (None ∷ windows) (text ∷ texts) = text ∷ merged windows texts
+
+-- a window that is there, of bytes
+abbrev pub IsFound : Window → Type 0
+IsFound None = ⊥
+IsFound (Some window) = (k : ℕ) → slice_index window.now k < 2 ^ 8

@@ -1,15 +1,15 @@
 //! All slices of a set: those that are found, and between them those that are rebuilt.
-ghost use Rattle.std.specs.Prelude.{◌≡◌, ◌⊎◌, ◌+◌, ◌++◌, ◌≤◌, None, length, map, take, drop, IfOk, IfErr, IsOk, OnOk};
-ghost use Rattle.std.specs.List.{AllByRecursion, concat};
+ghost use Rattle.std.specs.Prelude.{◌≡◌, ◌⊎◌, ◌+◌, ◌^◌, ◌++◌, ◌<◌, ◌≤◌, ℕ, None, length, map, take, drop, IfOk, slice_index, IfErr, IsOk, IsTrue, OnOk};
+ghost use Rattle.std.specs.List.{All, AllByRecursion, concat};
 ghost use Rattle.par2_matrix.specs.Systems.{lists_of};
 ghost use Rattle.par2_spec.specs.Repairs.{rebuilt};
 ghost use Rattle.par2_spec.specs.Search.{all_pairs, lost};
 ghost use Rattle.par2_spec.specs.Slices.{padded};
 ghost use Rattle.par2_search.specs.Texts.{texts_of};
-ghost use Rattle.par2_recovery.specs.Survivors.{exponents_of, IsTrueFault};
+ghost use Rattle.par2_recovery.specs.Survivors.{exponents_of, filled, IsTrueFault};
 ghost use Rattle.par2_restore.specs.Restoring.{known_in, undetermined};
 ghost use Rattle.par2_restore.specs.Survivors.{known_among, AreSurvivors, AreRebuilt, AreEnough, CanRebuild, fault_of};
-ghost use Rattle.par2_restore.specs.Texts.{merged, slices_of, text_of};
+ghost use Rattle.par2_restore.specs.Texts.{merged, slices_of, text_of, IsFound};
 
 use par2_gf16::Gf;
 use par2_recovery::{RebuildFault, Survivors, rebuild};
@@ -171,6 +171,42 @@ fn fault_of(fault: RebuildFault) -> Fault
     }
 }
 
+// What the type says of each byte, for proofs.
+#[inline(always)]
+fn fit_bytes(bytes: &[u8])
+    ensures { (k : ℕ) → slice_index bytes.now k < 2 ^ 8 }
+{
+    let _ = bytes.len();
+}
+
+// Whether no slice is lost.
+fn are_found(windows: &[Option<&[u8]>]) -> bool
+    ensures { IsTrue result → All IsFound windows.now }
+{
+    for window in windows {
+        let Some(bytes) = window else {
+            return false;
+        };
+        fit_bytes(bytes);
+    }
+    true
+}
+
+// The lost slices in order. No table is made where none is lost.
+fn lost_slices(alloc: Global, survivors: &Survivors) -> Result<Vec<Vec<u8>>, RebuildFault>
+    requires { CanRebuild survivors.now }
+    ensures rebuilt { let known = known_among survivors.now in
+        IfOk result (λ texts. AreRebuilt survivors.now (filled known (lists_of texts.items))) }
+    ensures enough { IsOk result → AreEnough survivors.now }
+    ensures refused { let exponents = exponents_of survivors.now.recovery.items in
+        IfErr result (IsTrueFault (lost (known_among survivors.now)) exponents) }
+{
+    if are_found(&survivors.known) {
+        return Ok(Vec::new(alloc));
+    }
+    rebuild(alloc, &Gf::new(alloc)?, survivors)
+}
+
 // All slices by what survives of them.
 fn slices_by<'a>(alloc: Global, survivors: &Survivors<'a>) -> Result<Slices<'a>, RebuildFault>
     requires { CanRebuild survivors.now }
@@ -179,7 +215,7 @@ fn slices_by<'a>(alloc: Global, survivors: &Survivors<'a>) -> Result<Slices<'a>,
     ensures refused { let exponents = exponents_of survivors.now.recovery.items in
         IfErr result (IsTrueFault (lost (known_among survivors.now)) exponents) }
 {
-    let rebuilt = rebuild(alloc, &Gf::new(alloc)?, survivors)?;
+    let rebuilt = lost_slices(alloc, survivors)?;
     Ok(Slices {
         slice_size: survivors.slice,
         slices: merged(alloc, &survivors.known, rebuilt)?,

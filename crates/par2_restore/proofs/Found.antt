@@ -1,0 +1,78 @@
+-- Where no slice is lost, nothing is rebuilt.
+use Rattle.std.proofs.Common.{◌≡◌, ◌∙◌, ℕ, zero, suc, ◌+◌, ◌%◌, ◌<◌, ◌≤◌, List, [], ◌∷◌, length, map, refl, sym, ap, subst, arith, Bool, true, false, not, cond, ◌&&◌, ◌||◌, ◌==◌, get_or}
+use Rattle.std.specs.Prelude.{Option, Some, None, filter}
+use Rattle.std.specs.List.{All, AllByRecursion, list_all, list_any}
+use Rattle.std.proofs.lemmas.List.{nil_from_length}
+use Rattle.std.proofs.lemmas.List.Elements.{All-head, All-tail}
+use Rattle.par2_spec.specs.Lists.{all_lists}
+use Rattle.par2_spec.specs.Rank.{IsRebuilt, IsRepairable, is_independent, kept, kept_slices, kills, smaller}
+use Rattle.par2_spec.specs.Recovery.{dot, coefficients}
+use Rattle.par2_spec.specs.Search.{lost}
+use Rattle.par2_matrix.specs.Echelon.{list_at}
+use Rattle.par2_recovery.specs.Products.{AreBytes}
+use Rattle.par2_recovery.specs.Survivors.{known_of, present, filled, lost_from, recovered_of, exponents_of}
+use Rattle.par2_recovery.specs.Views.{texts_of}
+use Rattle.par2_recovery.specs.declared.rebuild_slices.Survivors as code
+use Rattle.par2_recovery.proofs.Rebuilding.{lost_is, lost_of_map, rebuilt_from}
+use Rattle.par2_recovery.proofs.Standing.{are_known}
+use Rattle.par2_spec.specs.Slices.{padded}
+use Rattle.par2_search.specs.Texts.{Window}
+use Rattle.par2_restore.specs.Survivors.{CanRebuild, AreRebuilt, AreEnough, known_among}
+use Rattle.par2_restore.specs.Texts.{IsFound}
+
+found_bytes : (windows : List Window) → All IsFound windows → AreBytes (texts_of (present windows))
+found_bytes [] h r k = omega arith
+found_bytes (None ∷ windows) h r k = absurd (All-head IsFound None windows h)
+found_bytes (Some window ∷ windows) h zero k = All-head IsFound (Some window) windows h k
+found_bytes (Some window ∷ windows) h (suc r) k = found_bytes windows (All-tail IsFound (Some window) windows h) r k
+
+none_lost : (a : ℕ) (windows : List Window) → All IsFound windows → lost_from a windows ≡ []
+none_lost a [] h = refl
+none_lost a (None ∷ windows) h = absurd (All-head IsFound None windows h)
+none_lost a (Some window ∷ windows) h = none_lost (a + 1) windows (All-tail IsFound (Some window) windows h)
+
+-- ---- no exponent is kept where no slice is lost
+
+nothing_told : (before : List (List ℕ)) → is_independent 0 before [] ≡ false
+unfolding is_independent dot all_lists
+nothing_told before = step (list_all (kills []) before)
+  where
+    step : (b : Bool) → ((b && false) || false) ≡ false
+    step true = refl
+    step false = refl
+
+none_pass : {A : Type 0} (p : A → Bool) (xs : List A) → ((x : A) → p x ≡ false) → filter p xs ≡ []
+none_pass p [] no_one = refl
+none_pass p (x ∷ xs) no_one = ap (λ b. cond b (x ∷ filter p xs) (filter p xs)) (no_one x) ∙ none_pass p xs no_one
+
+none_kept : (exponents : List ℕ) → kept [] exponents ≡ []
+none_kept exponents = none_pass _ exponents (λ e. nothing_told (map (coefficients []) (smaller e exponents)))
+
+no_slice_kept : (exponents : List ℕ) (recovery : List (ℕ × List ℕ)) → kept_slices [] exponents recovery ≡ []
+no_slice_kept exponents recovery = none_pass _ recovery (λ r. ap (list_any (λ e. e == r.0)) (none_kept exponents))
+
+pub nothing_lost : (survivors : code.Survivors) → All IsFound survivors.known.items → lost (known_among survivors) ≡ []
+nothing_lost survivors all =
+    lost_is (known_among survivors) ∙ lost_of_map (λ slice. padded survivors.slice slice.now) 0 survivors.known.items ∙ none_lost 0 survivors.known.items all
+
+pub found_are_rebuilt : (survivors : code.Survivors) → CanRebuild survivors → All IsFound survivors.known.items → AreRebuilt survivors (filled (known_among survivors) [])
+found_are_rebuilt survivors can all =
+    let s = survivors.slice in
+    let windows : List Window = survivors.known.items in
+    let known : List (Option (List ℕ)) = known_among survivors in
+    let exponents = exponents_of survivors.recovery.items in
+    let recovery = recovered_of survivors.recovery.items in
+    let nothing : lost known ≡ [] = nothing_lost survivors all in
+    let kept_none : kept_slices (lost known) exponents recovery ≡ [] = ap (λ l. kept_slices l exponents recovery) nothing ∙ no_slice_kept exponents recovery in
+    let count : 0 ≡ length (lost_from 0 known) = sym (ap length (sym (lost_is known) ∙ nothing)) in
+    let alone : IsRebuilt s known [] (filled known []) =
+    rebuilt_from s known [] [] can.even (are_known s windows (present windows) can.known refl (found_bytes windows all)) (tt, tt) count tt tt
+    (λ others sized number met. nil_from_length others (number ∙ sym count)) in
+    subst (λ found. IsRebuilt s known found (filled known [])) (sym kept_none) alone
+
+pub found_are_enough : (survivors : code.Survivors) → All IsFound survivors.known.items → AreEnough survivors
+found_are_enough survivors all = subst (λ l. IsRepairable l (exponents_of survivors.recovery.items)) (sym (nothing_lost survivors all)) none_unknown
+  where
+    none_unknown : IsRepairable [] (exponents_of survivors.recovery.items)
+    none_unknown [] is killed = tt
+    none_unknown (x ∷ v) is killed = absurd (omega (arith, is.0))
