@@ -1,16 +1,15 @@
 -- Where no slice is lost, nothing is rebuilt.
-use Rattle.std.proofs.Common.{◌≡◌, ◌∙◌, ℕ, zero, suc, ◌+◌, ◌%◌, ◌<◌, ◌≤◌, List, [], ◌∷◌, length, map, refl, sym, ap, subst, arith, Bool, true, false, not, cond, ◌&&◌, ◌||◌, ◌==◌, get_or}
+use Rattle.std.proofs.Common.{◌≡◌, ◌∙◌, ℕ, zero, suc, ◌+◌, List, [], ◌∷◌, length, map, refl, sym, ap, subst, arith, Bool, true, false, cond, ◌&&◌, ◌||◌, ◌==◌}
 use Rattle.std.specs.Prelude.{Option, Some, None, filter}
-use Rattle.std.specs.List.{All, AllByRecursion, list_all, list_any}
+use Rattle.std.specs.List.{All, list_all, list_any}
 use Rattle.std.proofs.lemmas.List.{nil_from_length}
 use Rattle.std.proofs.lemmas.List.Elements.{All-head, All-tail}
 use Rattle.par2_spec.specs.Lists.{all_lists}
 use Rattle.par2_spec.specs.Rank.{IsRebuilt, IsRepairable, is_independent, kept, kept_slices, kills, smaller}
 use Rattle.par2_spec.specs.Recovery.{dot, coefficients}
 use Rattle.par2_spec.specs.Search.{lost}
-use Rattle.par2_matrix.specs.Echelon.{list_at}
 use Rattle.par2_recovery.specs.Products.{AreBytes}
-use Rattle.par2_recovery.specs.Survivors.{known_of, present, filled, lost_from, recovered_of, exponents_of}
+use Rattle.par2_recovery.specs.Survivors.{present, filled, lost_from, recovered_of, exponents_of}
 use Rattle.par2_recovery.specs.Views.{texts_of}
 use Rattle.par2_recovery.specs.declared.rebuild_slices.Survivors as code
 use Rattle.par2_recovery.proofs.Rebuilding.{lost_is, lost_of_map, rebuilt_from}

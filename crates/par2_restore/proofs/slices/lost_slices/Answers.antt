@@ -1,4 +1,4 @@
-use Rattle.std.proofs.Common.{List, ℕ, sym, ap, subst}
+use Rattle.std.proofs.Common.{List, sym, ap, subst}
 use Rattle.std.specs.List.{All}
 use Rattle.par2_matrix.specs.Systems.{lists_of}
 use Rattle.par2_recovery.specs.Survivors.{filled}
