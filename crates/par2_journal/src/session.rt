@@ -227,7 +227,7 @@ impl Session {
                 changes,
             );
         }
-        // An entry stands in the journal as it is and turned, so that a copy is turned.
+        // The journal spells an entry both as it is and turned, so it is a copy that is turned.
         let mut changes = copies_of(alloc, self.changes(prepared))?;
         spell_action(
             alloc,
