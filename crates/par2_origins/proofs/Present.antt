@@ -84,7 +84,7 @@ all_are g f (x ∷ xs) h =
 
 -- ---- a Main in front
 
-pub main_first : (id : List ℕ) (p : Packet) (rest : List Packet) (m : MainBody) → bytes_eq p.set_id id ≡ true → bytes_eq (md5 p.body) id ≡ true → read_main p.kind p.body ≡ Some m → main_of id (packets_with id (p ∷ rest)) ≡ Some m
+main_first : (id : List ℕ) (p : Packet) (rest : List Packet) (m : MainBody) → bytes_eq p.set_id id ≡ true → bytes_eq (md5 p.body) id ≡ true → read_main p.kind p.body ≡ Some m → main_of id (packets_with id (p ∷ rest)) ≡ Some m
 main_first id p rest m own digest reads =
     let others = filter_map (λ q. if bytes_eq (md5 q.body) id then read_main q.kind q.body else None) (packets_with id rest) in
     ap (λ b. main_of id (cond b (p ∷ packets_with id rest) (packets_with id rest))) own

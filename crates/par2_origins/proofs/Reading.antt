@@ -54,7 +54,7 @@ all_flat P g [] h = tt
 all_flat P g (x ∷ xs) h = all-append P (g x) (flat_map g xs) h.0 (all_flat P g xs h.1)
 
 -- what is found is one of them and passes
-pub found_one : {A : Type 0} (P : A → Type 0) (test : A → Bool) (xs : List A) → AllByRecursion P xs → (x : A) → find test xs ≡ Some x → P x × (test x ≡ true)
+found_one : {A : Type 0} (P : A → Type 0) (test : A → Bool) (xs : List A) → AllByRecursion P xs → (x : A) → find test xs ≡ Some x → P x × (test x ≡ true)
 found_one P test [] h x e = absurd (no_some x e)
 found_one {A = A} P test (y ∷ xs) h x e = step (test y) refl e (found_one P test xs h.1 x)
   where
@@ -111,7 +111,7 @@ one_by_id (x ∷ files) d a b i j e = elim (contained_cases x files a i) as (λ 
 
 -- ---- steps of the reading
 
-pub mapped : {A B : Type 0} (f : A → B) (o : Option A) (b : B) → option_map f o ≡ Some b → (a : A) × (o ≡ Some a) × (f a ≡ b)
+mapped : {A B : Type 0} (f : A → B) (o : Option A) (b : B) → option_map f o ≡ Some b → (a : A) × (o ≡ Some a) × (f a ≡ b)
 mapped f None b h = absurd (no_some b h)
 mapped f (Some a) b h = (a, refl, same_some (f a) b h)
 
