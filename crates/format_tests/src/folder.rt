@@ -101,6 +101,9 @@ fn fingerprints_of_files(rt: HostRuntime) -> Result<(), Fail> {
     let two = folder_of(&rt, &[("b", b""), ("a", b"bc")], 0)?;
     assert!(rt; one.fingerprint(rt.alloc())? == ONE_FILE);
     assert!(rt; two.fingerprint(rt.alloc())? == TWO_FILES);
+    let change = Change::Rename(name(&rt, "c"), name(&rt, "b"));
+    let below = two.fingerprint_below(&change.first_name());
+    assert!(rt; two.fingerprint_from(&below) == TWO_FILES);
     Ok(())
 }
 

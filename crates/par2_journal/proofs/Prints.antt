@@ -1,11 +1,15 @@
 -- The fingerprints after each of some changes.
-use Rattle.std.proofs.Common.{◌≡◌, ℕ, ◌+◌, ◌<◌, ◌≤◌, List, [], ◌∷◌, ◌++◌, length, map, take, get_or, Result, Ok, Err, refl, sym, ap, ◌∙◌, arith}
+use Rattle.std.proofs.Common.{◌≡◌, ℕ, ◌+◌, ◌<◌, ◌≤◌, List, [], ◌∷◌, ◌++◌, length, map, take, get_or, set, Result, Ok, Err, refl, sym, ap, subst, ◌∙◌, arith}
 use Rattle.std.specs.Prelude.{reverse, IfOk, IsOkAnd}
-use Rattle.std.proofs.lemmas.List.{take_more, take_all, map-append, length-map}
+use Rattle.std.specs.List.{AllWithin}
+use Rattle.std.proofs.lemmas.List.{take_more, take_all, map-append, length-map, length-set, get_or-set_other}
 use Rattle.par2_spec.specs.Folders.{Folder, fingerprint}
-use Rattle.par2_spec.specs.Changes.{Change, Remove, FolderState, effect, effects, folders_after, state_after_all, way_back}
+use Rattle.par2_spec.specs.Changes.{Change, Remove, FolderState, effect, effects, folders_after, state_after, state_after_all, way_back}
 use Rattle.par2_spec.proofs.FolderLaws.{state_files, effects-append}
+use Rattle.par2_folder.specs.Below.{IsBelow}
+use Rattle.par2_folder.specs.declared.fingerprint.FingerprintBelow.{FingerprintBelow}
 use Rattle.par2_journal.proofs.Tried.{AreTurned, whole_turned}
+use Rattle.par2_journal.proofs.Ways.{after_none, back_none}
 
 folders_more : (f : Folder) (cs : List Change) (c : Change) → folders_after f (cs ++ c ∷ []) ≡ folders_after f cs ++ effect (effects f cs) c ∷ []
 unfolding folders_after effects
@@ -40,7 +44,35 @@ prints_on items before (Err e) print was now h k same = tt
 prints_on items (Ok list) (Ok more) print was now h k same = k ∙ ap (λ l. l ++ print ∷ []) h ∙ same
 prints_on items (Err e) (Ok more) print was now h k same = absurd k
 
--- at the end
+-- ---- the state of the fingerprint, along changes that leave it that of the folder
+
+abbrev pub Outlasts : FingerprintBelow → Change → Type 0
+Outlasts below change = (folder : Folder) → IsBelow below folder → IsBelow below (effect folder change)
+
+module _ {A : Type 0} (v : A → Change) (below : FingerprintBelow) (items : List A) (i : ℕ) (to_come : AllWithin (λ a. Outlasts below (v a)) items i (length items)) where
+  pub outlasted : (state next : FolderState) (a : A) → i < length items → a ≡ get_or items i a → next ≡ state_after state (v a) → IsBelow below state.files → IsBelow below next.files
+  outlasted state next a lt is moved now =
+      let outlasts : Outlasts below (v a) = subst (λ x. Outlasts below (v x)) (sym is) (to_come i a (omega arith) lt) in
+      subst (IsBelow below) (sym (ap (λ (s : FolderState). s.files) moved)) (outlasts state.files now)
+
+  pub still_to_come : (b : A) → AllWithin (λ a. Outlasts below (v a)) (set items i b) (i + 1) (length (set items i b))
+  still_to_come b k d later lt =
+      subst (λ a. Outlasts below (v a)) (sym (get_or-set_other items i k b d (omega (arith, later)))) (to_come k d (omega (arith, later)) (omega (arith, lt, length-set items i b)))
+
+-- ---- without a change
+
+module _ {A : Type 0} (v : A → Change) (start : FolderState) (given : List A) (none : given ≡ []) where
+  pub none_passed : start ≡ state_after_all start (map v given)
+  none_passed = sym (after_none start) ∙ ap (λ l. state_after_all start (map v l)) (sym none)
+
+  pub none_back : map v given ≡ way_back start.files (map v given)
+  none_back = ap (map v) none ∙ sym (back_none start) ∙ ap (λ l. way_back start.files (map v l)) (sym none)
+
+  pub none_printed : [] ≡ map fingerprint (folders_after start.files (map v given))
+  none_printed = no_prints start.files ∙ ap (λ l. map fingerprint (folders_after start.files (map v l))) (sym none)
+
+-- ---- at the end
+
 module _ {A : Type 0} (v : A → Change) (start state : FolderState) (given now : List A) (i : ℕ) (so_far : AreTurned start state (map v given) (map v now) i) (le : i ≤ length given) (all : length given ≤ i) where
   over : length (map v given) ≤ i
   over = omega (arith, all, length-map given v)

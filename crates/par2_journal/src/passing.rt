@@ -1,28 +1,40 @@
 //! The fingerprints of the folders that changes pass through.
-ghost use Rattle.std.specs.Prelude.{◌≡◌, ◌++◌, ◌∷◌, [], map, IsTrue, IfOk, IsOkAnd};
+ghost use Rattle.std.specs.Prelude.{◌≡◌, ◌++◌, ◌∷◌, [], map, IsTrue, IsNone, IfSome, IfOk, IsOkAnd};
+ghost use Rattle.std.specs.List.{All};
 ghost use Rattle.par2_spec.specs.Folders.{fingerprint};
 ghost use Rattle.par2_spec.specs.Changes.{takes_all, state_after_all, way_back, folders_after};
 ghost use Rattle.par2_folder.specs.Views.{change_of};
+ghost use Rattle.par2_folder.specs.Below.{IsBelow, IsFrom};
 ghost use Rattle.par2_journal_bytes.specs.Views.{changes_of};
 
-use par2_folder::{Bytes, Change, Folder};
+use par2_folder::{Bytes, Change, FingerprintBelow, Folder, Name};
 use std::alloc::{AllocError, Global};
+
+// The first of the names that the changes touch, unless there is no change.
+fn first_name(changes: &[Change]) -> Option<Name>
+    ensures none { IsNone result → changes.now ≡ [] }
+    ensures some { IfSome result (λ name. All (λ change. IsFrom name (change_of change)) changes.now) }
+{
+    changes.iter().map(|change| change.first_name()).min()
+}
 
 // The fingerprints and that of the folder, unless memory ran out before or now.
 fn with_fingerprint(
-    alloc: Global,
     folder: &Folder,
+    below: &FingerprintBelow,
     fingerprints: Result<Vec<[u8; 16]>, AllocError>,
 ) -> Result<Vec<[u8; 16]>, AllocError>
+    requires { IsBelow below.now folder.now.files }
     ensures { IfOk result (λ more. IsOkAnd fingerprints (λ list. more.items ≡ list.items ++ fingerprint folder.now.files ∷ [])) }
 {
     let mut list = fingerprints?;
-    list.push(folder.fingerprint(alloc)?)?;
+    list.push(folder.fingerprint_from(below))?;
     Ok(list)
 }
 
 // Applies the changes in order, so that they become the way back, and answers the fingerprint after each. Where
-// memory runs out for these, the changes are applied all the same.
+// memory runs out for these, the changes are applied all the same. What the changes leave as it is before their
+// names is hashed once.
 pub(crate) fn pass_through(
     alloc: Global,
     folder: &mut Folder,
@@ -33,10 +45,14 @@ pub(crate) fn pass_through(
     ensures way_back { changes_of changes.new ≡ way_back folder.old.files (changes_of changes.old) }
     ensures fingerprints { IfOk result (λ list. list.items ≡ map fingerprint (folders_after folder.old.files (changes_of changes.old))) }
 {
+    let Some(name) = first_name(changes) else {
+        return Ok(Vec::new(alloc));
+    };
+    let below = folder.fingerprint_below(&name);
     let mut fingerprints = Ok(Vec::new(alloc));
     for change in changes.iter_mut() {
         match folder.apply(change) {
-            Ok(()) => fingerprints = with_fingerprint(alloc, folder, fingerprints),
+            Ok(()) => fingerprints = with_fingerprint(folder, &below, fingerprints),
             Err(_) => unreachable!(),
         }
     }

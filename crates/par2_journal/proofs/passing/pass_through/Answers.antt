@@ -1,11 +1,11 @@
-use Rattle.std.proofs.Common.{ℕ, List, Vec, ◌<◌, ◌≤◌, length, ap, ◌∙◌, arith}
+use Rattle.std.proofs.Common.{ℕ, List, Vec, ◌<◌, ◌≤◌, length, refl, ap, ◌∙◌, arith}
 use Rattle.std.proofs.lemmas.List.{length-map}
 use Rattle.std.specs.declared.alloc.Global.{Global}
 use Rattle.par2_spec.specs.Folders.{fingerprint}
 use Rattle.par2_folder.specs.Views.{change_of}
 use Rattle.par2_journal_bytes.specs.Views.{changes_of}
 use Rattle.par2_journal.proofs.Tried.{changes_set_out, change_turned, change_refused}
-use Rattle.par2_journal.proofs.Prints.{no_prints, print_next, prints_on, passed_back}
+use Rattle.par2_journal.proofs.Prints.{no_prints, print_next, prints_on, outlasted, still_to_come, none_passed, none_back, none_printed, passed_back}
 use Rattle.par2_journal.proofs.passing.pass_through.Goals as goal
 
 pub unreachable-requires : goal.unreachable-requires
@@ -18,7 +18,9 @@ unreachable-requires c =
 pub loop-change-init : goal.loop-change-init
 loop-change-init c = record {
   so_far = changes_set_out c.args.folder.now (changes_of c.args.changes.now);
-  fingerprints = c.new.ensures.items ∙ no_prints c.args.folder.now.files;
+  fingerprints = c.new-2.ensures.items ∙ no_prints c.args.folder.now.files;
+  below = c.fingerprint_below-below.ensures.below;
+  to_come = λ k d from lt folder is. c.fingerprint_below-below.ensures.outlasts folder _ (c.in-Some.ensures.some k d lt) is;
 }
 
 pub loop-change-preserved : goal.loop-change-preserved
@@ -34,7 +36,25 @@ loop-change-preserved c =
       fingerprints = prints_on (λ (list : Vec (List ℕ) Global). list.items) c.loop-change.fingerprints c.with_fingerprint-fingerprints.result (fingerprint c.apply.new.self.files) _ _
           c.loop-change.invariant.fingerprints c.with_fingerprint-fingerprints.ensures
           (print_next c.args.folder.now c.apply.new.self (changes_of c.args.changes.now) c.loop-change.change-index lt so_far.after_them);
+      below = outlasted change_of c.fingerprint_below-below.result c.loop-change.changes c.loop-change.change-index c.loop-change.invariant.to_come c.loop-change.folder c.apply.new.self c.change-item.result
+          (omega arith) c.change-item.is folder c.loop-change.invariant.below;
+      to_come = still_to_come change_of c.fingerprint_below-below.result c.loop-change.changes c.loop-change.change-index c.loop-change.invariant.to_come c.apply.new.change;
     }
+
+pub with_fingerprint-fingerprints-requires : goal.with_fingerprint-fingerprints-requires
+with_fingerprint-fingerprints-requires c =
+    let folder = rw (← c.change-item.is) at c.in-Ok.ensures.folder in
+    outlasted change_of c.fingerprint_below-below.result c.loop-change.changes c.loop-change.change-index c.loop-change.invariant.to_come c.loop-change.folder c.apply.new.self c.change-item.result
+    (omega arith) c.change-item.is folder c.loop-change.invariant.below
+
+pub returns-in_default-clause-folder : goal.returns-in_default-clause-folder
+returns-in_default-clause-folder c = none_passed change_of c.args.folder.now c.args.changes.now (c.in_default.ensures.none refl)
+
+pub returns-in_default-clause-way_back : goal.returns-in_default-clause-way_back
+returns-in_default-clause-way_back c = none_back change_of c.args.folder.now c.args.changes.now (c.in_default.ensures.none refl)
+
+pub returns-in_default-clause-fingerprints : goal.returns-in_default-clause-fingerprints
+returns-in_default-clause-fingerprints c = c.new.ensures.items ∙ none_printed change_of c.args.folder.now c.args.changes.now (c.in_default.ensures.none refl)
 
 pub returns-clause-way_back : goal.returns-clause-way_back
 returns-clause-way_back c =
