@@ -1,15 +1,15 @@
 -- Lists that are gone over in pairs, and trees of asides.
 use Rattle.std.proofs.Common.{◌≡◌, ℕ, List, [], ◌∷◌, ◌++◌, map, Bor, refl, sym, ap, ◌∙◌, ◌||◌, ◌⊎◌, inl, inr, Bool, true, false, cond, append-nil}
-use Rattle.std.specs.Prelude.{Option, Some, None, option_map, option_to_list, filter, filter_map, not, zip, is_none}
+use Rattle.std.specs.Prelude.{Option, Some, None, option_map, option_to_list, filter, not, zip}
 use Rattle.std.specs.BTreeMap.{BTreeMap, get, is_at}
 use Rattle.std.specs.Str.{bytes_eq}
 use Rattle.std.proofs.lemmas.List.{map-append}
 use Rattle.std.proofs.lemmas.Map.Text.{is_eq-slice_cmp}
-use Rattle.par2_spec.specs.Changes.{Change, Rename, Remove}
+use Rattle.par2_spec.specs.Changes.{Remove}
 use Rattle.par2_spec.specs.Names.{is_among}
 use Rattle.par2_spec.proofs.NamesLaws.{same_name}
 use Rattle.par2_plan.specs.Matches.{name_cmp}
-use Rattle.par2_plan.specs.Repairing.{unmatched_names, names_given, renames, matches_taken, asides_removed, files_removed}
+use Rattle.par2_plan.specs.Repairing.{names_given, asides_removed, files_removed}
 use Rattle.par2_plan.proofs.Choices.{same_either_way, filter_push}
 
 -- there is no pair where one of two lists is empty

@@ -1,6 +1,5 @@
 -- What a repair and a purge are by the set that they read.
-use Rattle.std.proofs.Common.{◌≡◌, ◌∙◌, ℕ, List, [], sym, ap, subst, Bool, Option, Some, Result, Ok, Err}
-use Rattle.par2_spec.specs.Changes.{Change}
+use Rattle.std.proofs.Common.{◌≡◌, ◌∙◌, ℕ, List, [], sym, ap, subst, Bool, Some, Result, Ok, Err}
 use Rattle.par2_spec.specs.Commands.{Repair, Purge}
 use Rattle.par2_spec.specs.Faults.{then_fault}
 use Rattle.par2_spec.specs.Folders.{Folder}
@@ -8,7 +7,7 @@ use Rattle.par2_spec.specs.Plans.{changes_of, purge_changes}
 use Rattle.par2_spec.specs.Refusals.{set_in, refusal, repair_refusal, purge_refusal, by_set}
 use Rattle.par2_spec.specs.Rules.{AreFew, LeadsToAfter}
 use Rattle.par2_spec.specs.Search.{candidates}
-use Rattle.par2_spec.specs.Sets.{ParSet, set_of}
+use Rattle.par2_spec.specs.Sets.{ParSet}
 use Rattle.par2_spec.specs.declared.Fault.{Fault}
 use Rattle.par2_spec.proofs.AcceptedCommands.{command_leads, set_in_reads}
 use Rattle.par2_plan.specs.Repairing.{IsWholeWhereMatched, repair_by}

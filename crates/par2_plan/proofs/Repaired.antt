@@ -1,6 +1,6 @@
 -- The parts of a repair are those of the definitions.
-use Rattle.std.proofs.Common.{◌≡◌, ℕ, List, [], ◌∷◌, ◌++◌, length, map, refl, sym, ap, ap₂, ◌∙◌, subst, Bool, true, false, not, cond, ◌&&◌, ◌||◌, ◌+◌, ◌==◌, suc, arith, Ok}
-use Rattle.std.specs.Prelude.{Option, Some, None, is_none, filter, filter_map, flat_map, option_map, zip, if◌then◌else◌}
+use Rattle.std.proofs.Common.{◌≡◌, ℕ, List, [], ◌∷◌, ◌++◌, length, map, refl, sym, ap, ap₂, ◌∙◌, Bool, true, false, not, cond, ◌&&◌, ◌||◌, ◌+◌, ◌==◌, suc, arith, Ok}
+use Rattle.std.specs.Prelude.{Option, Some, None, is_none, filter, filter_map, flat_map, option_map, zip}
 use Rattle.std.specs.List.{AllByRecursion, enumerate_from, list_any}
 use Rattle.std.proofs.lemmas.Bool.{ne_eqb}
 use Rattle.std.proofs.lemmas.Simd.{map-map}
@@ -13,7 +13,7 @@ use Rattle.par2_spec.specs.Plans.{matching, now_at, repair_changes, repair_remov
 use Rattle.par2_spec.specs.Rank.{is_repairable, rank}
 use Rattle.par2_spec.specs.Refusals.{repair_refusal}
 use Rattle.par2_spec.specs.Repairs.{aside, put_aside, names_without_match, rebuilt, rebuilt_targets, par_files, files_of_slices}
-use Rattle.par2_spec.specs.Rules.{needing_names, lost_of_unmatched, slices_by_target}
+use Rattle.par2_spec.specs.Rules.{needing_names}
 use Rattle.par2_spec.specs.Search.{matches, known, lost, survivors, candidates}
 use Rattle.par2_spec.specs.Sets.{ParSet, Target, set_of}
 use Rattle.par2_spec.specs.Windows.{found}
@@ -26,8 +26,7 @@ use Rattle.par2_spec.proofs.SearchLaws.{matches_of_needing}
 use Rattle.par2_sets.proofs.Lists.{filter_map-map}
 use Rattle.par2_asides.specs.Asides.{long_aside}
 use Rattle.par2_restore.specs.Restoring.{known_in, undetermined, wrong_digest, files_of}
-use Rattle.par2_plan.specs.Findings.{matches_given}
-use Rattle.par2_plan.specs.Repairing.{unmatched_names, names_given, AreNeeding, IsWholeWhereMatched, AreRestored, AreRestoredFor, targets_by, renames, matches_taken, writes, asides_removed, files_removed, place_by, changes_by, removals_by, with_removals, repair_by}
+use Rattle.par2_plan.specs.Repairing.{unmatched_names, names_given, AreNeeding, IsWholeWhereMatched, AreRestoredFor, targets_by, renames, matches_taken, writes, asides_removed, files_removed, place_by, changes_by, removals_by, with_removals, repair_by}
 use Rattle.par2_plan.specs.declared.needing.Needing.{Needing}
 
 abbrev Pairs : Type 0

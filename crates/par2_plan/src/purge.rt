@@ -34,7 +34,11 @@ fn purge_of(alloc: Global, folder: &Folder, set: &ParSet) -> Result<Changes, Fau
     ensures changes { let all = plans.purge_changes folder.now.files set.now in
         IfOk result (λ changes. changes ≡ all) }
 {
-    if set.targets().iter().any(|target| is_needing(folder, set, target)) {
+    if set
+        .targets()
+        .iter()
+        .any(|target| is_needing(folder, set, target))
+    {
         return Err(Fault::NotComplete);
     }
     removals(alloc, folder, set).map_err(|_| Fault::Memory)

@@ -1,4 +1,4 @@
-use Rattle.std.proofs.Common.{◌≡◌, ◌∙◌, ◌∷◌, List, ℕ, Bor, map, sym, ap}
+use Rattle.std.proofs.Common.{◌∙◌, List, ℕ, Bor, map, sym, ap}
 use Rattle.std.specs.Prelude.{Some, option_map, if◌then◌else◌}
 use Rattle.std.specs.BTreeMap.{get}
 use Rattle.std.specs.Iterator.Adapters.{zip_first, zip_second}

@@ -1,5 +1,5 @@
 use Rattle.std.proofs.Common.{◌≡◌, ◌∙◌, ◌+◌, ◌++◌, ◌∷◌, [], List, ℕ, Bor, sym, ap, subst, take, get_or, append-nil}
-use Rattle.std.specs.Prelude.{Option, Some, None, option_to_list}
+use Rattle.std.specs.Prelude.{Option, None, option_to_list}
 use Rattle.std.proofs.lemmas.List.{take_more, get_or_default}
 use Rattle.par2_plan.specs.Matches.{HoldsNames}
 use Rattle.par2_plan.specs.Repairing.{names_given}

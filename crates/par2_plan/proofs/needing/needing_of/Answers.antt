@@ -1,4 +1,4 @@
-use Rattle.std.proofs.Common.{◌≡◌, ◌∙◌, List, ℕ, Bool, map, sym, ap, ap₂}
+use Rattle.std.proofs.Common.{◌≡◌, ◌∙◌, List, ℕ, Bool, map, ap, ap₂}
 use Rattle.std.specs.Prelude.{Option, filter}
 use Rattle.par2_spec.specs.Folders.{has}
 use Rattle.par2_spec.specs.Rules.{needing_names}

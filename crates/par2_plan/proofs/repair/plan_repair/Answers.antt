@@ -1,6 +1,6 @@
 use Rattle.std.proofs.Common.{◌≡◌, ◌⊎◌, ◌∙◌, List, ℕ, map, sym, ap, subst, Option, Some, None, Err, string_bytes, IsTrue}
 use Rattle.std.specs.Prelude.{IfOk, IfErr}
-use Rattle.std.proofs.lemmas.Result.{err_from_is_err_and, IfOk-weaker}
+use Rattle.std.proofs.lemmas.Result.{err_from_is_err_and}
 use Rattle.par2_spec.specs.Changes.{Change, effects, are_applicable}
 use Rattle.par2_spec.specs.Commands.{Repair}
 use Rattle.par2_spec.specs.Plans.{changes_of}

@@ -4,9 +4,8 @@ use Rattle.std.specs.Str.{bytes_eq}
 use Rattle.std.proofs.lemmas.Result.{err_from_is_err_and, IfOk-weaker}
 use Rattle.par2_spec.specs.Folders.{bytes_of}
 use Rattle.par2_spec.specs.Refusals.{repair_refusal}
-use Rattle.par2_spec.specs.Repairs.{put_aside, rebuilt_targets}
+use Rattle.par2_spec.specs.Repairs.{rebuilt_targets}
 use Rattle.par2_spec.specs.Search.{candidates}
-use Rattle.par2_spec.specs.declared.Fault.{Fault}
 use Rattle.par2_spec.proofs.NamesLaws.{std_from_distinct}
 use Rattle.par2_asides.specs.Asides.{long_aside}
 use Rattle.par2_restore.specs.Restoring.{known_in, undetermined, wrong_digest, files_of}
