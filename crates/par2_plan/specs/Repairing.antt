@@ -2,6 +2,7 @@
 use Rattle.std.specs.Prelude.{◌≡◌, ℕ, ◌++◌, Bool, not, List, [], length, map, filter, filter_map, zip, Option, Some, None, is_none, option_map, if◌then◌else◌}
 use Rattle.std.specs.Borrow.{Bor}
 use Rattle.std.specs.BTreeMap.{BTreeMap, get}
+use Rattle.std.specs.List.{AllByRecursion}
 use Rattle.std.specs.Option.{MatchOption}
 use Rattle.par2_spec.specs.Changes.{Change, Write, Rename, Remove}
 use Rattle.par2_spec.specs.Folders.{Folder, File}
@@ -45,6 +46,7 @@ pub record AreRestored (set : ParSet) (known : List (Option (List ℕ))) (slices
   pub determined : undetermined set known ≡ None
   pub are_rebuilt : slices ≡ rebuilt set known
   pub count : length slices ≡ length (all_pairs set)
+  pub sizes : AllByRecursion (λ slice. length slice ≡ set.slice_size) slices
 
 -- there are slices, unless none of these names wants any
 abbrev pub AreRestoredFor : ParSet → List (Option (List ℕ)) → List (List ℕ) → Option (List (List ℕ)) → Type 0

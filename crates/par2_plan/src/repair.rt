@@ -1,5 +1,6 @@
 //! What a repair changes.
 ghost use Rattle.std.specs.Prelude.{◌≡◌, ◌⊎◌, ◌++◌, ℕ, List, length, Some, None, map, string_bytes, IsTrue, IfOk, IfErr, IfSome, OnOk};
+ghost use Rattle.std.specs.List.{AllByRecursion};
 ghost use Rattle.par2_spec.specs.Changes.{effects, are_applicable};
 ghost use Rattle.par2_spec.specs.Commands.{Repair};
 ghost use Rattle.par2_spec.specs.Folders.{bytes_of};
@@ -55,7 +56,9 @@ fn files_for(
     slices: &Option<Slices>,
     unmatched: &[Name],
 ) -> Result<Vec<(Name, Bytes)>, Fault>
-    requires { IfSome slices.now (λ all. length all ≡ length (all_pairs set.now)) }
+    requires count { IfSome slices.now (λ all. length all ≡ length (all_pairs set.now)) }
+    requires sizes { IfSome slices.now (λ all.
+        AllByRecursion (λ slice. length slice ≡ set.now.slice_size) all) }
     ensures refused { let targets = targets_by set.now slices.now unmatched.now in
         IfErr result (λ fault. (fault ≡ Fault.Memory) ⊎ (wrong_digest targets ≡ Some fault)) }
     ensures digests { let targets = targets_by set.now slices.now unmatched.now in

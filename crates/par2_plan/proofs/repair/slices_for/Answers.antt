@@ -33,4 +33,5 @@ returns-clause-slices c =
       determined = c.in_ok-slices.ensures.determined;
       are_rebuilt = c.in_ok-slices.ensures.slices;
       count = c.in_ok-slices.ensures.count;
+      sizes = c.in_ok-slices.ensures.sizes;
     })
