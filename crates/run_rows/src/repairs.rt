@@ -17,6 +17,9 @@ pub const REPAIR: &str = "repair t.par2";
 /// The words of a repair that purges.
 pub const REPAIR_AND_PURGE: &str = "repair -p t.par2";
 
+/// The words of a repair that purges and searches a further file.
+pub const REPAIR_AND_PURGE_BY_X: &str = "repair -p t.par2 x";
+
 // A name of as many bytes as a name has at most is made of so many letters.
 const LONGEST: usize = 255;
 
@@ -136,8 +139,8 @@ fn intact_twin(rt: &HostRuntime) -> Result<()> {
     Ok(())
 }
 
-// A store whose file has another name, while a damaged one has its own.
-fn other_file(alloc: Global) -> Result<MemoryStore> {
+/// A store whose file has another name, while a damaged one has its own.
+pub fn other_file(alloc: Global) -> Result<MemoryStore> {
     let mut store = one_file_after(alloc, &[CREATE])?;
     rename(&mut store, "a", "x")?;
     put(&mut store, "a", b"damaged")?;
@@ -147,7 +150,7 @@ fn other_file(alloc: Global) -> Result<MemoryStore> {
 // The damaged file is put aside, and the other one takes its name. It is searched only where it is named.
 fn other_name(rt: &HostRuntime) -> Result<()> {
     println!(rt; "a file under another name, and a damaged one under its own")?;
-    for line in ["repair t.par2 x", "repair -p t.par2 x"] {
+    for line in ["repair t.par2 x", REPAIR_AND_PURGE_BY_X] {
         there_and_back(rt, &mut other_file(rt.alloc())?, line)?;
     }
     refused(rt, &mut other_file(rt.alloc())?, REPAIR)

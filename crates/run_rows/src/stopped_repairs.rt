@@ -1,14 +1,14 @@
 //! Repairs and purges that are stopped at each of their calls in turn, and the runs that come next.
 
 use crate::purges::PURGE;
-use crate::repairs::{CREATE_WITH_VOLUME, REPAIR, REPAIR_AND_PURGE, cut_file};
+use crate::repairs::{CREATE_WITH_VOLUME, REPAIR, REPAIR_AND_PURGE_BY_X, cut_file, other_file};
 use crate::returns::{copy_of, fingerprint_of};
 use crate::rows::{Answer, answer_of, one_file_after};
 use anyhow::Result;
 use par2_folder::{FuseStore, MemoryStore};
 use std::alloc::Global;
 
-// The calls of an opening over three files, of the halfway journal and of the two changes of a repair.
+/// The calls of an opening over three files, of the halfway journal and of the two changes of a repair or a purge.
 pub const CALLS_OF_CHANGES: u64 = 8;
 
 // More calls than a run below makes of its store.
@@ -16,11 +16,21 @@ const MANY_CALLS: u64 = 20;
 
 const STORE_FAILED: u8 = 6;
 
+// What a run leaves of a store that fails once this many calls were made.
+fn stopped(alloc: Global, store: MemoryStore, passed: u64, line: &str) -> Result<MemoryStore> {
+    let mut store = FuseStore::new(store, passed, false);
+    let _answer = answer_of(alloc, &mut store, line)?;
+    Ok(store.into_inner())
+}
+
 /// A store with a repair that was stopped once this many calls were made.
 pub fn stopped_repair(alloc: Global, passed: u64) -> Result<MemoryStore> {
-    let mut store = FuseStore::new(cut_file(alloc)?, passed, false);
-    let _answer = answer_of(alloc, &mut store, REPAIR)?;
-    Ok(store.into_inner())
+    stopped(alloc, cut_file(alloc)?, passed, REPAIR)
+}
+
+// A store with an index and a volume of its file.
+fn protected(alloc: Global) -> Result<MemoryStore> {
+    one_file_after(alloc, &[CREATE_WITH_VOLUME])
 }
 
 // Prints the words of a line, the status of its run and what the run wrote.
@@ -78,20 +88,28 @@ fn stop_at_each(rt: &HostRuntime, store: &mut MemoryStore, line: &str) -> Result
     Ok(())
 }
 
-// Repairs, the undo of one, and openings that take one back.
+// Repairs, and the undo of one.
 fn stopped_repairs(rt: &HostRuntime) -> Result<()> {
     let alloc = rt.alloc();
     println!(rt; "a repair that is stopped")?;
     stop_at_each(rt, &mut cut_file(alloc)?, REPAIR)?;
-    println!(rt;
-        "a repair that is stopped, after one that was stopped once its changes were made"
-    )?;
-    stop_at_each(rt, &mut stopped_repair(alloc, CALLS_OF_CHANGES)?, REPAIR)?;
     println!(rt; "a repair that purges and is stopped")?;
-    stop_at_each(rt, &mut cut_file(alloc)?, REPAIR_AND_PURGE)?;
+    stop_at_each(rt, &mut other_file(alloc)?, REPAIR_AND_PURGE_BY_X)?;
     println!(rt; "an undo of a repair that is stopped")?;
     let mut store = cut_file(alloc)?;
     let _answer = answer_of(alloc, &mut store, REPAIR)?;
+    stop_at_each(rt, &mut store, "undo")
+}
+
+// Openings that take a repair and a purge back, whose changes were made. Before the repair there is nothing to undo,
+// before the purge a create.
+fn stopped_openings(rt: &HostRuntime) -> Result<()> {
+    let alloc = rt.alloc();
+    println!(rt; "an undo that is stopped, after a repair that was stopped")?;
+    let mut store = stopped_repair(alloc, CALLS_OF_CHANGES)?;
+    stop_at_each(rt, &mut store, "undo")?;
+    println!(rt; "an undo that is stopped, after a purge that was stopped")?;
+    let mut store = stopped(alloc, protected(alloc)?, CALLS_OF_CHANGES, PURGE)?;
     stop_at_each(rt, &mut store, "undo")
 }
 
@@ -99,6 +117,6 @@ fn stopped_repairs(rt: &HostRuntime) -> Result<()> {
 pub fn stopped_repairs_and_purges(rt: &HostRuntime) -> Result<()> {
     stopped_repairs(rt)?;
     println!(rt; "a purge that is stopped")?;
-    let mut store = one_file_after(rt.alloc(), &[CREATE_WITH_VOLUME])?;
-    stop_at_each(rt, &mut store, PURGE)
+    stop_at_each(rt, &mut protected(rt.alloc())?, PURGE)?;
+    stopped_openings(rt)
 }
