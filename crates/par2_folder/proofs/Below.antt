@@ -40,10 +40,10 @@ kept_where : (p : List ℕ → Bool) (files : List File) → IsSortedByName file
 kept_where p files h =
     let sorted = is_sorted-where_key name_cmp p files (holds h) in
     ap entries (same_map nat_list_cmp_total same_names _ (folder_of (where_key name_cmp p files)) (λ q.
-        get-retain_keys (folder_of files) p q (alike p q)
-        ∙ ap (λ o. cond (p q) o None) (get-from_sorted name_cmp files q (holds h))
-        ∙ sym (find-where_key name_cmp p q (alike p q) files)
-        ∙ sym (get-from_sorted name_cmp _ q sorted)))
+    get-retain_keys (folder_of files) p q (alike p q)
+    ∙ ap (λ o. cond (p q) o None) (get-from_sorted name_cmp files q (holds h))
+    ∙ sym (find-where_key name_cmp p q (alike p q) files)
+    ∙ sym (get-from_sorted name_cmp _ q sorted)))
     ∙ entries-from_sorted name_cmp _ sorted
 
 module _ (files : List File) (kept : IsKept files) (name : List ℕ) (at : ℕ) where
