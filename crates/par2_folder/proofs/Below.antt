@@ -14,7 +14,7 @@ use Rattle.std.proofs.lemmas.Grind.{flat_map-append}
 use Rattle.par2_spec.specs.Folders.{File, Folder, bytes_of, counted}
 use Rattle.par2_spec.specs.Changes.{Change, Write, Replace, Rename, Remove, effect}
 use Rattle.par2_folder.specs.View.{name_cmp, IsSortedByName, folder_of, file_at, IsAt, IsGapFor, IsKept}
-use Rattle.par2_folder.specs.Below.{is_below, folder_below, hashed, first_name, IsBelow, IsFrom}
+use Rattle.par2_folder.specs.Below.{is_below, folder_below, hashed, IsBelow, IsFrom}
 use Rattle.par2_folder.specs.declared.fingerprint.FingerprintBelow.{FingerprintBelow}
 use Rattle.par2_folder.proofs.Sorted.{same_names, holds, rises, turned, turned_back}
 

@@ -37,4 +37,6 @@ IsFrom name change = is_below name (first_name change) ≡ false
 
 -- a change that touches no name before the name leaves the state that of the folder
 abbrev pub OutlastsFrom : FingerprintBelow → List ℕ → Type 0
-OutlastsFrom below name = (folder : Folder) (change : Change) → IsFrom name change → IsBelow below folder → IsBelow below (effect folder change)
+OutlastsFrom below name =
+    (folder : Folder) (change : Change) → IsFrom name change → IsBelow below folder
+    → IsBelow below (effect folder change)

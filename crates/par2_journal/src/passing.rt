@@ -33,8 +33,8 @@ fn with_fingerprint(
 }
 
 // Applies the changes in order, so that they become the way back, and answers the fingerprint after each. Where
-// memory runs out for these, the changes are applied all the same. What the changes leave as it is before their
-// names is hashed once.
+// memory runs out for these, the changes are applied all the same. The files before the first name that the changes
+// touch are hashed once.
 pub(crate) fn pass_through(
     alloc: Global,
     folder: &mut Folder,
