@@ -1,10 +1,10 @@
 //! Runs the words of each line of its input, all on one store in memory, and prints what comes of each run, the files
 //! with their lengths and the journal's length. Then it performs a create and two undos on one session, finds journals
 //! that others left, runs words on stores that fail or want memory at the first of their calls, at the second, and so
-//! on until none is refused, and verifies folders that others changed.
+//! on until none is refused, and verifies, repairs and purges folders that others changed.
 //!
 //! Memory is ample but where a store answers otherwise, so the stored output also refuses a `run` that always
-//! answers want of memory.
+//! answers want of memory. `rt try` needs more seconds than it has by itself: `rt try --seconds 300 < stdin`.
 #![tactic(auto)]
 
 mod damaged;
