@@ -13,7 +13,7 @@ use Rattle.par2_spec.proofs.AcceptedCommands.{command_leads, set_in_reads}
 use Rattle.par2_plan.specs.Repairing.{IsWholeWhereMatched, repair_by}
 use Rattle.par2_plan.proofs.Repaired.{whole_where_matched}
 
-same_set : (set other : ParSet) → ◌≡◌ {A = Result ParSet Fault} (Ok set) (Ok other) → set ≡ other
+pub same_set : (set other : ParSet) → ◌≡◌ {A = Result ParSet Fault} (Ok set) (Ok other) → set ≡ other
 same_set set other e = cc
 
 module _ (folder : Folder) (base : List ℕ) (extras : List (List ℕ)) (purge : Bool) where

@@ -1,5 +1,5 @@
 -- The parts of a repair, by names of needing targets, their matches and asides in lists of the same order.
-use Rattle.std.specs.Prelude.{◌≡◌, ℕ, ◌++◌, Bool, not, List, [], length, map, filter, filter_map, zip, Option, Some, None, is_none, option_map, if◌then◌else◌}
+use Rattle.std.specs.Prelude.{◌≡◌, ℕ, ◌++◌, Bool, not, List, [], length, map, filter, filter_map, zip, Option, Some, None, is_none, option_map, Ok, if◌then◌else◌}
 use Rattle.std.specs.Borrow.{Bor}
 use Rattle.std.specs.BTreeMap.{BTreeMap, get}
 use Rattle.std.specs.List.{AllByRecursion}
@@ -8,12 +8,13 @@ use Rattle.par2_spec.specs.Changes.{Change, Write, Rename, Remove}
 use Rattle.par2_spec.specs.Folders.{Folder, File}
 use Rattle.par2_spec.specs.Names.{is_among}
 use Rattle.par2_spec.specs.Plans.{repair_changes, repair_removals}
-use Rattle.par2_spec.specs.Repairs.{names_without_match, put_aside, rebuilt}
+use Rattle.par2_spec.specs.Refusals.{set_in}
+use Rattle.par2_spec.specs.Repairs.{names_without_match, put_aside, rebuilt, rebuilt_targets}
 use Rattle.par2_spec.specs.Rules.{needing_names}
 use Rattle.par2_spec.specs.Search as search
 use Rattle.par2_spec.specs.Search.{all_pairs, known, lost}
 use Rattle.par2_spec.specs.Sets.{ParSet, Target}
-use Rattle.par2_restore.specs.Restoring.{targets_among, undetermined}
+use Rattle.par2_restore.specs.Restoring.{targets_among, undetermined, IsAsDescribed}
 use Rattle.par2_plan.specs.Findings.{matches_given}
 use Rattle.par2_plan.specs.Matches.{name_cmp}
 use Rattle.par2_plan.specs.declared.needing.Needing.{Needing}
@@ -56,6 +57,11 @@ AreRestoredFor set known names slices = MatchOption slices (names ≡ []) (AreRe
 abbrev pub targets_by : ParSet → Option (List (List ℕ)) → List (List ℕ) → List (Target × List ℕ)
 targets_by set None names = []
 targets_by set (Some slices) names = targets_among set slices names
+
+-- each file that a repair writes from slices has the length and the MD5 that its target describes
+abbrev pub WritesAsDescribed : Folder → List ℕ → List (List ℕ) → Type 0
+WritesAsDescribed folder base extras =
+    (set : ParSet) → set_in folder base extras ≡ Ok set → AllByRecursion IsAsDescribed (rebuilt_targets folder set (search.candidates folder set extras))
 
 -- ---- changes
 

@@ -6,12 +6,12 @@ ghost use Rattle.par2_spec.specs.Commands.{Repair};
 ghost use Rattle.par2_spec.specs.Folders.{bytes_of};
 ghost use Rattle.par2_spec.specs.Plans as plans;
 ghost use Rattle.par2_spec.specs.Refusals.{refusal, after, repair_refusal};
-ghost use Rattle.par2_spec.specs.Repairs.{aside, par_files};
+ghost use Rattle.par2_spec.specs.Repairs.{aside, par_files, rebuilt_targets};
 ghost use Rattle.par2_spec.specs.Rules.{AreFew};
 ghost use Rattle.par2_spec.specs.Search as search;
 ghost use Rattle.par2_spec.specs.Search.{all_pairs};
-ghost use Rattle.par2_restore.specs.Restoring.{known_in, undetermined, wrong_digest, files_of};
-ghost use Rattle.par2_plan.specs.Repairing.{IsWholeWhereMatched, AreRestoredFor, targets_by, changes_by, removals_by, with_removals, repair_by};
+ghost use Rattle.par2_restore.specs.Restoring.{known_in, undetermined, wrong_digest, files_of, IsAsDescribed};
+ghost use Rattle.par2_plan.specs.Repairing.{IsWholeWhereMatched, AreRestoredFor, targets_by, changes_by, removals_by, with_removals, repair_by, WritesAsDescribed};
 
 use crate::Changes;
 use crate::candidates::{candidates, texts_of};
@@ -65,6 +65,8 @@ fn files_for(
         IfOk result (λ _. wrong_digest targets ≡ None) }
     ensures files { let targets = targets_by set.now slices.now unmatched.now in
         IfOk result (λ files. files.items ≡ files_of targets) }
+    ensures described { let targets = targets_by set.now slices.now unmatched.now in
+        IfOk result (λ _. AllByRecursion IsAsDescribed targets) }
 {
     match slices {
         Some(slices) => restored_files(alloc, set, slices, unmatched),
@@ -150,6 +152,9 @@ fn repair_of(
         let all = repair_by purge folder.now.files set.now searched in
         IfOk result (λ changes. changes ≡ all) }
     ensures few { IfOk result (λ _. AreFew folder.now.files set.now) }
+    ensures described { let searched = search.candidates folder.now.files set.now extras.now in
+        let written = rebuilt_targets folder.now.files set.now searched in
+        IfOk result (λ _. AllByRecursion IsAsDescribed written) }
 {
     let candidates = candidates(alloc, folder, set, extras).map_err(|_| Fault::Memory)?;
     let needing = needing_of(alloc, folder, set, &candidates).map_err(|_| Fault::Memory)?;
@@ -180,6 +185,8 @@ pub fn plan_repair(
     ensures leads { let command = Repair base.now (map string_bytes extras.now) purge in
         let left = after folder.now.files command in
         IfOk result (λ changes. effects folder.now.files changes ≡ left) }
+    ensures written { let words = map string_bytes extras.now in
+        IfOk result (λ _. WritesAsDescribed folder.now.files base.now words) }
 {
     let reading = read(alloc, folder, base, extras)?;
     repair_of(alloc, folder, &reading.set, &reading.extras, purge)

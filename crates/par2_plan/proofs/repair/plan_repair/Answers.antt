@@ -1,17 +1,20 @@
 use Rattle.std.proofs.Common.{◌≡◌, ◌⊎◌, ◌∙◌, List, ℕ, map, sym, ap, subst, Option, Some, None, Err, string_bytes, IsTrue}
+use Rattle.std.specs.List.{AllByRecursion}
 use Rattle.std.specs.Prelude.{IfOk, IfErr}
-use Rattle.std.proofs.lemmas.Result.{err_from_is_err_and}
+use Rattle.std.proofs.lemmas.Result.{err_from_is_err_and, IfOk-weaker}
 use Rattle.par2_spec.specs.Changes.{Change, effects, are_applicable}
 use Rattle.par2_spec.specs.Commands.{Repair}
 use Rattle.par2_spec.specs.Plans.{changes_of}
 use Rattle.par2_spec.specs.Refusals.{set_in, refusal, repair_refusal, after}
+use Rattle.par2_spec.specs.Repairs.{rebuilt_targets}
 use Rattle.par2_spec.specs.Rules.{AreFew}
 use Rattle.par2_spec.specs.Search.{candidates}
 use Rattle.par2_spec.specs.declared.Fault.{Fault}
 use Rattle.par2_spec.specs.declared.Fault.TheVariants.{Memory}
-use Rattle.par2_plan.specs.Repairing.{IsWholeWhereMatched, repair_by}
+use Rattle.par2_restore.specs.Restoring.{IsAsDescribed}
+use Rattle.par2_plan.specs.Repairing.{WritesAsDescribed, IsWholeWhereMatched, repair_by}
 use Rattle.par2_plan.proofs.Passing.{refused_by, joined}
-use Rattle.par2_plan.proofs.Planned.{repair_unread, whole_if_matched, repair_refused, repair_changes, repair_leads}
+use Rattle.par2_plan.proofs.Planned.{repair_unread, whole_if_matched, repair_refused, repair_changes, repair_leads, same_set}
 use Rattle.par2_plan.proofs.repair.plan_repair.Goals as goal
 
 pub returns-in_err-reading-clause-refused : goal.returns-in_err-reading-clause-refused
@@ -81,3 +84,14 @@ returns-clause-leads c =
     joined (λ changes. changes ≡ changes_of folder (Repair base extras c.args.purge)) (λ _. AreFew folder set) (λ changes. effects folder changes ≡ after folder (Repair base extras c.args.purge)) c.repair_of.result
     (λ changes is few. ap (effects folder) is ∙ (repair_leads folder base extras c.args.purge set c.in_ok-reading.ensures.set few).1)
     (returns-clause-changes c) c.repair_of.ensures.few
+
+pub returns-clause-written : goal.returns-clause-written
+returns-clause-written c =
+    let folder = c.args.folder.now.files in
+    let extras : List (List ℕ) = map string_bytes c.args.extras.now in
+    let set = c.in_ok-reading.reading.set in
+    IfOk-weaker c.repair_of.result (λ _. AllByRecursion IsAsDescribed (rebuilt_targets folder set (candidates folder set c.deref.result.now))) (λ _. WritesAsDescribed folder c.args.base.now extras)
+    (λ changes h. λ other e.
+    subst (λ s. AllByRecursion IsAsDescribed (rebuilt_targets folder s (candidates folder s extras))) (same_set set other (sym c.in_ok-reading.ensures.set ∙ e))
+    (subst (λ words. AllByRecursion IsAsDescribed (rebuilt_targets folder set (candidates folder set words))) (c.deref.ensures.value ∙ c.in_ok-reading.ensures.extras) h))
+    c.repair_of.ensures.described

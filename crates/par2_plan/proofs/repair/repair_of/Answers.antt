@@ -1,5 +1,5 @@
 use Rattle.std.proofs.Common.{◌≡◌, ◌∙◌, List, ℕ, map, sym, ap, subst, Some, None}
-use Rattle.std.specs.List.{IsDistinct}
+use Rattle.std.specs.List.{IsDistinct, AllByRecursion}
 use Rattle.std.specs.Str.{bytes_eq}
 use Rattle.std.proofs.lemmas.Result.{err_from_is_err_and, IfOk-weaker}
 use Rattle.par2_spec.specs.Folders.{bytes_of}
@@ -8,7 +8,7 @@ use Rattle.par2_spec.specs.Repairs.{rebuilt_targets}
 use Rattle.par2_spec.specs.Search.{candidates}
 use Rattle.par2_spec.proofs.NamesLaws.{std_from_distinct}
 use Rattle.par2_asides.specs.Asides.{long_aside}
-use Rattle.par2_restore.specs.Restoring.{known_in, undetermined, wrong_digest, files_of}
+use Rattle.par2_restore.specs.Restoring.{known_in, undetermined, wrong_digest, files_of, IsAsDescribed}
 use Rattle.par2_plan.specs.Repairing.{AreNeeding, AreRestoredFor, targets_by, repair_by}
 use Rattle.par2_plan.proofs.Choices.{distinct_once}
 use Rattle.par2_plan.proofs.Passing.{passed, all_passed, held, refused_by}
@@ -116,3 +116,21 @@ returns-clause-changes c =
     let all = all_changes folder set searched needing are c.args.purge c.in_ok-files.files.items (c.in_ok-files.ensures.files ∙ ap files_of targets) in
     all_passed (λ changes. changes ≡ repair_by c.args.purge folder set searched) c.changes_with.result c.map_err-3.result _ c.map_err-3.ensures.cases c.map_err-3.ensures.variant
     (IfOk-weaker c.changes_with.result _ _ (λ changes e. e ∙ all) c.changes_with.ensures)
+
+pub returns-clause-described : goal.returns-clause-described
+returns-clause-described c =
+    let folder = c.args.folder.now.files in
+    let set = c.args.set.now in
+    let searched : List (List ℕ) = candidates folder set c.args.extras.now in
+    let found = passed (λ found. found.items ≡ searched) c.candidates.result c.map_err.result _ c.in_ok-candidates.candidates c.map_err.ensures.cases c.map_err.ensures.variant c.in_ok-candidates.was c.candidates.ensures in
+    let needing = c.in_ok-needing.needing in
+    let are : AreNeeding folder set searched needing =
+    subst (λ ns. AreNeeding folder set ns needing) (c.deref.ensures.value ∙ found)
+    (passed (AreNeeding folder set c.deref.result.now) c.needing_of.result c.map_err-2.result _ needing c.map_err-2.ensures.cases c.map_err-2.ensures.variant c.in_ok-needing.was c.needing_of.ensures) in
+    let slices = c.in_ok-slices.slices in
+    let restored : AreRestoredFor set (slices_known folder set searched) needing.unmatched.items slices =
+    subst (λ ns. AreRestoredFor set (slices_known folder set searched) ns slices) c.deref-3.ensures.value
+    (subst (λ ns. AreRestoredFor set (known_in set (map (bytes_of folder) ns)) c.deref-3.result.now slices) (c.deref-2.ensures.value ∙ found) c.in_ok-slices.ensures.slices) in
+    let targets : targets_by set slices c.deref-5.result.now ≡ rebuilt_targets folder set searched =
+    ap (targets_by set slices) c.deref-5.ensures.value ∙ targets_are folder set searched needing.unmatched.items slices are.unmatched restored in
+    held c.map_err-3.result _ (subst (AllByRecursion IsAsDescribed) targets c.in_ok-files.ensures.described)
