@@ -66,7 +66,7 @@ pub fn shown(rt: &HostRuntime, store: &mut MemoryStore, line: &str) -> Result<()
     show_bytes(rt, store)
 }
 
-// Runs the words of a line, and says whether the folder is another one then.
+// Runs the words of a line, and says whether the folder has this fingerprint then, which it had before or after a run.
 fn leads_to(
     rt: &HostRuntime,
     store: &mut MemoryStore,
