@@ -1,6 +1,6 @@
 -- The fingerprints after each of some changes.
 use Rattle.std.proofs.Common.{◌≡◌, ℕ, ◌+◌, ◌<◌, ◌≤◌, List, [], ◌∷◌, ◌++◌, length, map, take, get_or, set, Result, Ok, Err, refl, sym, ap, subst, ◌∙◌, arith}
-use Rattle.std.specs.Prelude.{reverse, IfOk, IsOkAnd}
+use Rattle.std.specs.Prelude.{reverse, slice_get, unwrap_or, Some, IfOk, IsOkAnd}
 use Rattle.std.specs.List.{AllWithin}
 use Rattle.std.proofs.lemmas.List.{take_more, take_all, map-append, length-map, length-set, get_or-set_other}
 use Rattle.par2_spec.specs.Folders.{Folder, fingerprint}
@@ -85,3 +85,17 @@ module _ {A : Type 0} (v : A → Change) (start state : FolderState) (given now 
 
   pub passed_back : map v (reverse now) ≡ way_back start.files (map v given)
   passed_back = whole_turned v start state given now i le so_far.taken so_far.after_them so_far.items all
+
+-- ---- after all changes
+
+-- of the fingerprints before changes and after each, the one at the end is that after all
+print_at_end : (f : Folder) (cs : List Change) → slice_get (fingerprint f ∷ map fingerprint (folders_after f cs)) (length (map fingerprint (folders_after f cs))) ≡ Some (fingerprint (effects f cs))
+unfolding folders_after effects
+print_at_end f [] = refl
+print_at_end f (c ∷ cs) = print_at_end (effect f c) cs
+
+pub print_after : (start : FolderState) (cs : List Change) (before print : List ℕ) (each : List (List ℕ)) → before ≡ fingerprint start.files → each ≡ map fingerprint (folders_after start.files cs)
+    → slice_get (before ∷ each) (length each) ≡ Some print → print ≡ fingerprint (state_after_all start cs).files
+print_after start cs before print each b es is =
+    let at_end : Some print ≡ Some (fingerprint (effects start.files cs)) = sym is ∙ (λ i. slice_get (b i ∷ es i) (length (es i))) ∙ print_at_end start.files cs in
+    ap (λ o. unwrap_or o print) at_end ∙ ap fingerprint (sym (state_files start cs))

@@ -1,8 +1,8 @@
 //! The fingerprints of the folders that changes pass through.
-ghost use Rattle.std.specs.Prelude.{◌≡◌, ◌++◌, ◌∷◌, [], map, IsTrue, IsNone, IfSome, IfOk, IsOkAnd};
+ghost use Rattle.std.specs.Prelude.{◌≡◌, ◌++◌, ◌∷◌, [], Some, length, map, slice_get, IsTrue, IsNone, IfSome, IfOk, IsOkAnd};
 ghost use Rattle.std.specs.List.{All};
-ghost use Rattle.par2_spec.specs.Folders.{fingerprint};
-ghost use Rattle.par2_spec.specs.Changes.{takes_all, state_after_all, way_back, folders_after};
+ghost use Rattle.par2_spec.specs.Folders.{Folder as Files, fingerprint};
+ghost use Rattle.par2_spec.specs.Changes.{takes_all, effect, state_after_all, way_back, folders_after};
 ghost use Rattle.par2_folder.specs.Views.{change_of};
 ghost use Rattle.par2_folder.specs.Below.{IsBelow, IsFrom};
 ghost use Rattle.par2_journal_bytes.specs.Views.{changes_of};
@@ -33,8 +33,36 @@ fn with_fingerprint(
 }
 
 // Applies the changes in order, so that they become the way back, and answers the fingerprint after each. Where
-// memory runs out for these, the changes are applied all the same. The files before the first name that the changes
-// touch are hashed once.
+// memory runs out for these, the changes are applied all the same.
+fn pass_from(
+    alloc: Global,
+    folder: &mut Folder,
+    changes: &mut [Change],
+    below: &FingerprintBelow,
+) -> Result<Vec<[u8; 16]>, AllocError>
+    requires applies { IsTrue (takes_all folder.old (changes_of changes.old)) }
+    requires below { IsBelow below.now folder.old.files }
+    // the changes leave the state that of the folder
+    requires outlasts {
+        All (λ change. (files : Files) → IsBelow below.now files
+            → IsBelow below.now (effect files (change_of change))) changes.old
+    }
+    ensures folder { folder.new ≡ state_after_all folder.old (changes_of changes.old) }
+    ensures way_back { changes_of changes.new ≡ way_back folder.old.files (changes_of changes.old) }
+    ensures fingerprints { IfOk result (λ list. list.items ≡ map fingerprint (folders_after folder.old.files (changes_of changes.old))) }
+{
+    let mut fingerprints = Ok(Vec::new(alloc));
+    for change in changes.iter_mut() {
+        match folder.apply(change) {
+            Ok(()) => fingerprints = with_fingerprint(folder, below, fingerprints),
+            Err(_) => unreachable!(),
+        }
+    }
+    changes.reverse();
+    fingerprints
+}
+
+// Applies the changes as `pass_from` does. The files before the first name that the changes touch are hashed once.
 pub(crate) fn pass_through(
     alloc: Global,
     folder: &mut Folder,
@@ -49,15 +77,47 @@ pub(crate) fn pass_through(
         return Ok(Vec::new(alloc));
     };
     let below = folder.fingerprint_below(&name);
-    let mut fingerprints = Ok(Vec::new(alloc));
-    for change in changes.iter_mut() {
-        match folder.apply(change) {
-            Ok(()) => fingerprints = with_fingerprint(folder, &below, fingerprints),
-            Err(_) => unreachable!(),
-        }
+    pass_from(alloc, folder, changes, &below)
+}
+
+// The fingerprints of a folder along some changes.
+#[derive(Debug, Drop)]
+pub struct Fingerprints {
+    pub before: [u8; 16],
+    pub after_each: Vec<[u8; 16]>,
+}
+
+impl Fingerprints {
+    // Applies the changes as `pass_through` does, and answers the fingerprint before them too.
+    pub(crate) fn along(
+        alloc: Global,
+        folder: &mut Folder,
+        changes: &mut [Change],
+    ) -> Result<Fingerprints, AllocError>
+        requires { IsTrue (takes_all folder.old (changes_of changes.old)) }
+        ensures folder { folder.new ≡ state_after_all folder.old (changes_of changes.old) }
+        ensures way_back { changes_of changes.new ≡ way_back folder.old.files (changes_of changes.old) }
+        ensures before { IfOk result (λ prints. prints.before ≡ fingerprint folder.old.files) }
+        ensures after_each { IfOk result (λ prints. prints.after_each.items ≡ map fingerprint (folders_after folder.old.files (changes_of changes.old))) }
+    {
+        let Some(name) = first_name(changes) else {
+            return Ok(Fingerprints {
+                before: folder.fingerprint(alloc)?,
+                after_each: Vec::new(alloc),
+            });
+        };
+        let below = folder.fingerprint_below(&name);
+        let before = folder.fingerprint_from(&below);
+        let after_each = pass_from(alloc, folder, changes, &below)?;
+        Ok(Fingerprints { before, after_each })
     }
-    changes.reverse();
-    fingerprints
+
+    // That after the last change, or before where there is none.
+    pub(crate) fn after_all(&self) -> [u8; 16]
+        ensures { slice_get (self.now.before ∷ self.now.after_each.items) (length self.now.after_each.items) ≡ Some result }
+    {
+        self.after_each.last().copied().unwrap_or(self.before)
+    }
 }
 
 fn copy_of(alloc: Global, change: &Change) -> Result<Change, AllocError>

@@ -7,7 +7,7 @@ ghost use Rattle.par2_journal_bytes.specs.Views.{changes_of, lent_entries_of};
 ghost use Rattle.par2_journal.specs.Written.{SpellsWhere, HasNext, entries_with, halfway_with, settled_with};
 
 use crate::Changes;
-use crate::passing::pass_through;
+use crate::passing::Fingerprints;
 use par2_folder::{Change, Folder};
 use par2_journal_bytes::{HalfwayParts, JournalParts, Version, encode};
 use std::alloc::{AllocError, Global};
@@ -50,20 +50,20 @@ pub enum Turn {
 #[derive(Clone, Copy, Debug, Drop)]
 struct Passed<'a> {
     turn: Turn,
-    folder: &'a Folder,
     entries: &'a [Changes],
     cursor: usize,
-    // The fingerprint before the changes, and those after each.
+    // The fingerprints before the changes, after each and after all of them.
     before: [u8; 16],
-    fingerprints: &'a [[u8; 16]],
+    after_each: &'a [[u8; 16]],
+    after_all: [u8; 16],
     back: &'a [Change],
 }
 
 impl<'a> Passed<'a> {
     fn halfway(self, alloc: Global) -> Result<Option<Vec<u8>>, AllocError>
         requires cursor { self.cursor ≤ length self.entries.now }
-        requires each { length self.fingerprints.now ≡ length self.back.now }
-        ensures { IfOk result (λ text. SpellsWhere text (halfway_with self.entry.before self.entry.cursor self.entry.entries.now self.entry.fingerprints.now (changes_of self.entry.back.now))) }
+        requires each { length self.after_each.now ≡ length self.back.now }
+        ensures { IfOk result (λ text. SpellsWhere text (halfway_with self.entry.before self.entry.cursor self.entry.entries.now self.entry.after_each.now (changes_of self.entry.back.now))) }
     {
         if self.back.is_empty() {
             return Ok(None);
@@ -77,7 +77,7 @@ impl<'a> Passed<'a> {
                 cursor: self.cursor,
                 entries: &entries,
                 halfway: Some(HalfwayParts {
-                    fingerprints: self.fingerprints,
+                    fingerprints: self.after_each,
                     back: self.back,
                 }),
             },
@@ -113,15 +113,14 @@ impl<'a> Passed<'a> {
 
     fn after(self, alloc: Global) -> Result<Vec<u8>, AllocError>
         requires { HasNext self.turn self.cursor (length self.entries.now) }
-        ensures { IfOk result (λ text. Spells text.items (settled_with (fingerprint self.entry.folder.now.files) (entries_with self.entry.turn self.entry.cursor self.entry.entries.now (changes_of self.entry.back.now)))) }
+        ensures { IfOk result (λ text. Spells text.items (settled_with self.entry.after_all (entries_with self.entry.turn self.entry.cursor self.entry.entries.now (changes_of self.entry.back.now)))) }
     {
-        let fingerprint = self.folder.fingerprint(alloc)?;
         let (entries, cursor) = self.turned(alloc)?;
         encode(
             alloc,
             &JournalParts {
                 version: Version::Two,
-                fingerprint,
+                fingerprint: self.after_all,
                 cursor,
                 entries: &entries,
                 halfway: None,
@@ -132,9 +131,9 @@ impl<'a> Passed<'a> {
     // Both journals.
     fn spell(self, alloc: Global) -> Result<Journals, AllocError>
         requires next { HasNext self.turn self.cursor (length self.entries.now) }
-        requires each { length self.fingerprints.now ≡ length self.back.now }
-        ensures halfway { IfOk result (λ journals. SpellsWhere journals.halfway (halfway_with self.entry.before self.entry.cursor self.entry.entries.now self.entry.fingerprints.now (changes_of self.entry.back.now))) }
-        ensures after { IfOk result (λ journals. Spells journals.after.items (settled_with (fingerprint self.entry.folder.now.files) (entries_with self.entry.turn self.entry.cursor self.entry.entries.now (changes_of self.entry.back.now)))) }
+        requires each { length self.after_each.now ≡ length self.back.now }
+        ensures halfway { IfOk result (λ journals. SpellsWhere journals.halfway (halfway_with self.entry.before self.entry.cursor self.entry.entries.now self.entry.after_each.now (changes_of self.entry.back.now))) }
+        ensures after { IfOk result (λ journals. Spells journals.after.items (settled_with self.entry.after_all (entries_with self.entry.turn self.entry.cursor self.entry.entries.now (changes_of self.entry.back.now)))) }
     {
         let halfway = self.halfway(alloc)?;
         let after = self.after(alloc)?;
@@ -159,8 +158,7 @@ pub(crate) fn spell_action(
     ensures halfway { IfOk result (λ journals. SpellsWhere journals.halfway (halfway_with (fingerprint folder.old.files) cursor entries.now (map fingerprint (folders_after folder.old.files (changes_of changes.old))) (way_back folder.old.files (changes_of changes.old)))) }
     ensures after { IfOk result (λ journals. Spells journals.after.items (settled_with (fingerprint (state_after_all folder.old (changes_of changes.old)).files) (entries_with turn cursor entries.now (way_back folder.old.files (changes_of changes.old))))) }
 {
-    let before = folder.fingerprint(alloc)?;
-    let fingerprints = match pass_through(alloc, folder, changes) {
+    let fingerprints = match Fingerprints::along(alloc, folder, changes) {
         Ok(fingerprints) => fingerprints,
         Err(fault) => {
             folder.apply_all(changes);
@@ -169,11 +167,11 @@ pub(crate) fn spell_action(
     };
     let passed = Passed {
         turn,
-        folder: &*folder,
         entries,
         cursor,
-        before,
-        fingerprints: &fingerprints,
+        before: fingerprints.before,
+        after_each: &fingerprints.after_each,
+        after_all: fingerprints.after_all(),
         back: &*changes,
     };
     let answer = passed.spell(alloc);
