@@ -1,6 +1,6 @@
 -- What a journal opens as.
-use Rattle.std.proofs.Common.{◌≡◌, ◌⊎◌, inl, inr, ℕ, ◌+◌, ◌-◌, ◌≤◌, Bool, true, false, ◌&&◌, List, [], ◌∷◌, length, map, take, drop, Some, None, Result, Ok, Err, refl, sym, ap, subst, ◌∙◌, arith}
-use Rattle.std.specs.Prelude.{reverse, position, IfOk, IfErr, if◌then◌else◌}
+use Rattle.std.proofs.Common.{◌≡◌, ◌⊎◌, inl, inr, ℕ, ◌+◌, ◌-◌, ◌≤◌, Bool, true, false, not, ◌&&◌, List, [], ◌∷◌, length, map, take, drop, Option, Some, None, Result, Ok, Err, refl, sym, ap, subst, ◌∙◌, arith}
+use Rattle.std.specs.Prelude.{reverse, position, is_some, IfOk, IfErr, if◌then◌else◌}
 use Rattle.std.specs.Cmp.Lexicographic.{pointwise}
 use Rattle.std.specs.Str.{bytes_eq}
 use Rattle.par2_spec.specs.Folders.{Folder, fingerprint}
@@ -10,8 +10,8 @@ use Rattle.par2_spec.specs.Journals.{Journal, Halfway, Spells}
 use Rattle.par2_spec.specs.Opening as defined
 use Rattle.par2_spec.specs.Opening.{leads_through, is_valid}
 use Rattle.par2_spec.specs.declared.JournalFault.{JournalFault}
-use Rattle.par2_spec.specs.declared.JournalFault.TheVariants.{JournalInvalid, Memory}
-use Rattle.par2_journal.specs.Opened.{session_at, journal_with, begun_as}
+use Rattle.par2_spec.specs.declared.JournalFault.TheVariants.{JournalInvalid, Memory, FolderChanged}
+use Rattle.par2_journal.specs.Opened.{session_at, journal_with, begun_as, OpensAsIs}
 use Rattle.par2_spec.proofs.FolderLaws.{takes_applicable, taken_are_applicable, both_first, both_second, more_room_all, state_files}
 use Rattle.par2_spec.proofs.StopLaws.{through_applies}
 
@@ -111,3 +111,20 @@ all_refused (Err e) view f text j spells h = one_or (λ same. inl (j, spells, sy
 pub no_journal : (f : Folder) (text : List ℕ) → ((j : Journal) → Spells text j → ⊥) → defined.Opens f text (Err JournalInvalid)
 unfolding defined.Opens
 no_journal f text none = inr (none, refl)
+
+-- ---- of a folder as it is
+
+pub none_if : {A : Type 0} (o : Option A) → is_some o ≡ false → o ≡ None
+none_if None h = refl
+none_if (Some x) h = let no : ⊥ = cc h in absurd no
+
+-- a settled journal whose entries lead opens on the folder, whatever its fingerprint says
+pub settled_as_is : (f : Folder) (text : List ℕ) (j : Journal) → Spells text j → j.halfway ≡ None → is_valid (session_at f j.cursor j.entries) ≡ true → OpensAsIs f text
+unfolding defined.OpensAs defined.Opens
+settled_as_is f text j spells settled valid = by_print (bytes_eq (fingerprint f) j.fingerprint) (opened_settled f j settled)
+  where
+    by_print : (b : Bool) → defined.opened f j ≡ (if not b then Err (FolderChanged false) else if is_valid (session_at f j.cursor j.entries) then Ok (defined.Settled (session_at f j.cursor j.entries)) else Err JournalInvalid) → OpensAsIs f text
+    by_print false e = (record { session = defined.new_session f; dropped = true }, (Err (FolderChanged false), inl (j, spells, sym e), refl), refl)
+    by_print true e =
+        let is = e ∙ ap (λ b. if b then Ok (defined.Settled (session_at f j.cursor j.entries)) else Err JournalInvalid) valid in
+        (record { session = session_at f j.cursor j.entries; dropped = false }, (Ok (defined.Settled (session_at f j.cursor j.entries)), inl (j, spells, sym is), refl), refl)

@@ -1,5 +1,5 @@
 -- What a session opens as.
-use Rattle.std.specs.Prelude.{ℕ, List, ◌∷◌, take, drop, reverse, position, Result, None}
+use Rattle.std.specs.Prelude.{◌≡◌, ℕ, List, ◌∷◌, take, drop, reverse, position, Result, Ok, Some, None}
 use Rattle.std.specs.Str.{bytes_eq}
 use Rattle.par2_spec.specs.Folders.{Folder, fingerprint}
 use Rattle.par2_spec.specs.Changes.{Change}
@@ -37,3 +37,8 @@ opened_of (Begun halfway) = defined.ToTakeBack (session_of_kept (session_before 
 abbrev pub begun_as : Folder → List ℕ → ℕ → List (List Change) → List (List ℕ) → List Change → Result defined.Opened JournalFault
 begun_as folder print n entries prints back =
     defined.opened_at folder (journal_with print n entries) (record { fingerprints = prints; back = back }) (position (bytes_eq (fingerprint folder)) (print ∷ prints))
+
+-- a folder with this journal opens as a session on the folder as it is, with the history or with a new one
+abbrev pub OpensAsIs : Folder → List ℕ → Type 0
+OpensAsIs folder text =
+    (started : defined.Started) × defined.OpensAs folder (Some text) (Ok started) × (started.session.folder ≡ folder)

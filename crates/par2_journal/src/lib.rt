@@ -2,6 +2,7 @@
 //! inverses.
 #![tactic(auto)]
 
+mod as_is;
 mod asking;
 mod commands;
 mod history;
@@ -14,6 +15,7 @@ mod spelling;
 mod step;
 mod trying;
 
+pub use as_is::opens_as_is;
 pub use history::{NothingToRedo, NothingToUndo};
 pub use opening::{Halfway, Opened};
 pub use par2_plan::{Changes, CreateArgs, Fault, Report, State, TargetReport};

@@ -1,6 +1,7 @@
 -- What a store is opened as, and what opening does to it; or why it isn't opened.
 use Rattle.std.specs.Prelude.{◌≡◌, ◌⊎◌, ◌≤◌, ℕ, List, length, take, Some, Ok, Err, true}
 use Rattle.par2_spec.specs.Changes.{Change}
+use Rattle.par2_spec.specs.Commands.{Action}
 use Rattle.par2_spec.specs.Folders.{Folder}
 use Rattle.par2_spec.specs.Journals.{Spells}
 use Rattle.par2_spec.specs.Opening as defined
@@ -12,7 +13,7 @@ use Rattle.par2_spec.specs.declared.Version.TheVariants.{Two}
 use Rattle.par2_folder.specs.declared.store.ReadFault.{ReadFault}
 use Rattle.par2_folder.specs.declared.store.ReadFault.TheVariants as read
 use Rattle.par2_tool.specs.Held.{IsOpening, Holds}
-use Rattle.par2_tool.specs.Performed.{all_changed}
+use Rattle.par2_tool.specs.Performed.{all_changed, IsVerify}
 use Rattle.par2_tool.specs.declared.opening.OpenFault.{OpenFault}
 use Rattle.par2_tool.specs.declared.opening.OpenFault.TheVariants.{Store, Memory, JournalInvalid, FolderChanged}
 use Rattle.par2_tool.specs.declared.opening.Started.{Started}
@@ -64,3 +65,8 @@ pub record IsOpened (old new : Contents) (started : defined.Started) : Type 0 wh
   pub opens : IsOpening old (Ok started)
   pub holds : Holds new started
   pub left : OnlyTakesBack old new
+
+-- an action has the same answer on both: they are equal, or it is a verify and they are on the same folder
+abbrev pub StandsFor : Action → defined.Started → defined.Started → Type 0
+StandsFor action opened started =
+    (opened ≡ started) ⊎ (IsVerify action × (opened.session.folder ≡ started.session.folder))

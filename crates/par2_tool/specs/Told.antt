@@ -40,6 +40,10 @@ pub record IsDone (action : Action) (old new : Contents) (dropped : Bool) (outco
   pub leads : LeadsToAfterAsked session.folder action
   pub written : IsWritten action after between new
 
+-- the outcome is printed alike, the history having been dropped or not
+abbrev pub SameOutput : Bool → Bool → Outcome → Type 0
+SameOutput dropped other outcome = output_of dropped outcome ≡ output_of other outcome
+
 -- the store is as it was, or as opening it left it
 abbrev pub IsLeft : Contents → Contents → Type 0
 IsLeft old new = (new ≡ old) ⊎ ((started : Started) × IsOpened old new started)

@@ -2,14 +2,16 @@
 ghost use Rattle.std.specs.Prelude.{◌≡◌, ◌<◌, ◌≤◌, IfOk, IfErr, OnErr, IsErrOf, OnOk, Ok};
 ghost use Rattle.par2_journal.specs.Opened.{session_before, way_left};
 ghost use Rattle.par2_spec.specs.Sessions.{session_of_kept};
-ghost use Rattle.par2_tool.specs.Held.{IsOpening, Holds, OpensAsBefore, TellsApartBack};
-ghost use Rattle.par2_tool.specs.Opened.{started_of, unread_as, IsRead, IsUnopened, IsTakenBack, IsStillBegun, OnlyTakesBack};
+ghost use Rattle.par2_tool.specs.Held.{kept, IsOpening, Holds, OpensAsBefore, TellsApartBack};
+ghost use Rattle.par2_spec.specs.Opening.{Started as Opening, new_session};
+ghost use Rattle.par2_spec.specs.Views.{command_of};
+ghost use Rattle.par2_tool.specs.Opened.{started_of, unread_as, IsOpened, IsRead, IsUnopened, IsTakenBack, IsStillBegun, OnlyTakesBack, StandsFor};
 
 use crate::writing::write_down;
 use par2_folder::{Folder, FolderStore, ReadFault, read_folder};
-use par2_journal::{Halfway, Journals, Opened, Session};
-use par2_spec::JournalFault;
-use std::alloc::Global;
+use par2_journal::{Halfway, Journals, Opened, Session, opens_as_is};
+use par2_spec::{Command, JournalFault};
+use std::alloc::{AllocError, Global};
 use thiserror::Error;
 
 /// A store that was opened.
@@ -32,6 +34,16 @@ pub enum OpenFault {
     /// A command was begun in another folder than this one, so that it can't be taken back.
     #[error("the folder is not as the journal left it")]
     FolderChanged,
+}
+
+// A store that opens on this folder without a history.
+fn without_history(alloc: Global, folder: Folder) -> Started
+    ensures { started_of result ≡ kept (new_session folder.files) }
+{
+    Started {
+        session: Session::new(alloc, folder),
+        dropped: false,
+    }
 }
 
 // Why a store can't be read.
@@ -152,5 +164,59 @@ pub fn open_store<S: FolderStore>(alloc: Global, store: &mut S) -> Result<Starte
             dropped: false,
         }),
         Err(fault) => Err(unread(fault)),
+    }
+}
+
+// Opens a store for a verify, which asks for the folder alone: where the folder opens as it is, its history is not
+// looked at, and the session is a new one.
+fn open_for_verify<S: FolderStore>(alloc: Global, store: &mut S) -> Result<Started, OpenFault>
+    ensures honest { S.honest store.old → S.honest store.new }
+    ensures opened { IfOk result (λ started. (opened : Opening)
+        × (opened.session.folder ≡ (started_of started).session.folder)
+        × (S.honest store.old → IsOpened (S.contents store.old) (S.contents store.new) opened)) }
+    ensures refused { S.honest store.old
+        → IfErr result (IsUnopened (S.contents store.old) (S.contents store.new)) }
+    ensures stopped { S.honest store.old → TellsApartBack (S.contents store.old)
+        → OnErr result (OpensAsBefore (S.contents store.old) (S.contents store.new)) }
+    ensures later { S.failures store.old ≤ S.failures store.new }
+    ensures cause { IsErrOf result OpenFault.Store → S.failures store.old < S.failures store.new }
+{
+    let mut folder = match read_folder(alloc, store) {
+        Ok(folder) => folder,
+        Err(fault) => return Err(unread(fault)),
+    };
+    let text = match store.read_journal(alloc) {
+        Ok(Some(text)) => text,
+        Ok(None) => return Ok(without_history(alloc, folder)),
+        Err(fault) => return Err(unread(fault)),
+    };
+    match opens_as_is(alloc, &mut folder, &text) {
+        Ok(true) => Ok(without_history(alloc, folder)),
+        Ok(false) => open_with(alloc, store, folder, &text),
+        Err(AllocError) => Err(OpenFault::Memory),
+    }
+}
+
+/// Opens a store for a command, as [`open_store`] does; for a verify, on the same folder, but maybe without the
+/// history, nor is it told then whether one was given up.
+pub(crate) fn open_for<S: FolderStore>(
+    alloc: Global,
+    store: &mut S,
+    command: &Command,
+) -> Result<Started, OpenFault>
+    ensures honest { S.honest store.old → S.honest store.new }
+    ensures opened { IfOk result (λ started. (opened : Opening)
+        × StandsFor (command_of command.now) opened (started_of started)
+        × (S.honest store.old → IsOpened (S.contents store.old) (S.contents store.new) opened)) }
+    ensures refused { S.honest store.old
+        → IfErr result (IsUnopened (S.contents store.old) (S.contents store.new)) }
+    ensures stopped { S.honest store.old → TellsApartBack (S.contents store.old)
+        → OnErr result (OpensAsBefore (S.contents store.old) (S.contents store.new)) }
+    ensures later { S.failures store.old ≤ S.failures store.new }
+    ensures cause { IsErrOf result OpenFault.Store → S.failures store.old < S.failures store.new }
+{
+    match command {
+        Command::Verify { .. } => open_for_verify(alloc, store),
+        Command::Act(_) => open_store(alloc, store),
     }
 }

@@ -1,12 +1,12 @@
 //! A run of the program.
-ghost use Rattle.std.specs.Prelude.{◌≡◌, ◌≤◌, IfOk, IfErr, IsTrue, map, string_bytes};
+ghost use Rattle.std.specs.Prelude.{◌≡◌, ◌≤◌, Bool, IfOk, IfErr, IsTrue, map, string_bytes};
 ghost use Rattle.par2_spec.specs.Sessions.{Session};
 ghost use Rattle.par2_spec.specs.Views.{command_of};
 ghost use Rattle.par2_tool.specs.Refused.{failed, unopened_as, unread_as};
 ghost use Rattle.par2_tool.specs.Performed.{outcome_of, IsAnswer};
-ghost use Rattle.par2_tool.specs.Told.{Told, IsBack, IsCause, IsDone, IsFailed, IsTold, Leaves, Shown};
+ghost use Rattle.par2_tool.specs.Told.{Told, IsBack, IsCause, IsDone, IsFailed, IsTold, Leaves, SameOutput, Shown};
 
-use crate::opening::{OpenFault, Started, open_store};
+use crate::opening::{OpenFault, Started, open_for};
 use crate::performing::{Outcome, PerformFault, perform};
 use crate::printing::{fail, tell};
 use par2_folder::FolderStore;
@@ -65,7 +65,8 @@ fn is_back(command: &Command) -> bool
     matches!(command, Command::Act(Action::Undo | Action::Redo))
 }
 
-// Opens a store and performs a command on it. There is nothing to go back to where the history was dropped.
+// Opens a store and performs a command on it. There is nothing to go back to where the history was dropped. Of a
+// verify it isn't looked at whether it was: that is not printed.
 fn carry_out<S: FolderStore>(
     alloc: Global,
     store: &mut S,
@@ -76,8 +77,10 @@ fn carry_out<S: FolderStore>(
         × IsAnswer session (command_of command.now) (outcome_of accepted.outcome)) }
     ensures cause { IfErr result (IsCause (command_of command.now)
         (S.failures store.old) (S.failures store.new)) }
-    ensures done { S.honest store.old → IfOk result (λ accepted. IsDone (command_of command.now)
-        (S.contents store.old) (S.contents store.new) accepted.dropped (outcome_of accepted.outcome)) }
+    ensures done { IfOk result (λ accepted. (dropped : Bool)
+        × SameOutput dropped accepted.dropped (outcome_of accepted.outcome)
+        × (S.honest store.old → IsDone (command_of command.now)
+        (S.contents store.old) (S.contents store.new) dropped (outcome_of accepted.outcome))) }
     ensures failed { S.honest store.old → IfErr result (IsFailed (command_of command.now)
         (S.contents store.old) (S.contents store.new)) }
     ensures later { S.failures store.old ≤ S.failures store.new }
@@ -85,7 +88,7 @@ fn carry_out<S: FolderStore>(
     let Started {
         mut session,
         dropped,
-    } = match open_store(alloc, store) {
+    } = match open_for(alloc, store, command) {
         Ok(started) => started,
         Err(fault) => return Err(unopened(fault)),
     };
