@@ -3,5 +3,6 @@ mod Verified
 mod Reopened
 mod Stopping
 mod Carried
+mod AsIs
 mod History
 mod Unread

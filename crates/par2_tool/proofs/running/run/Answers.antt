@@ -2,10 +2,11 @@ use Rattle.std.specs.Prelude.{map, string_bytes}
 use Rattle.std.proofs.Common.{inl, inr, [], refl, sym, subst}
 use Rattle.par2_spec.specs.Views.{command_of}
 use Rattle.par2_spec.specs.declared.Failure.{Failure}
+use Rattle.par2_spec.specs.Texts.{status_of}
 use Rattle.par2_printing.specs.Printed.{words_asked}
 use Rattle.par2_tool.specs.Asked.{AskFor}
 use Rattle.par2_tool.specs.Performed.{outcome_of}
-use Rattle.par2_tool.specs.Told.{Answered, Failed, IsUnread}
+use Rattle.par2_tool.specs.Told.{Answered, Failed, IsUnread, Printed}
 use Rattle.par2_tool.proofs.Unread.{unread_words}
 use Rattle.par2_tool.proofs.running.run.Goals as goal
 
@@ -24,11 +25,15 @@ pub returns-in-Ok-carry_out-clause-told : goal.returns-in-Ok-carry_out-clause-to
 returns-in-Ok-carry_out-clause-told g c =
     let accepted = c.in-Ok-carry_out.accepted in
     let action = command_of c.in-Ok.command in
-    let asked : AskFor (map string_bytes c.args.words.now) action = record { asked = c.in-Ok.ensures.command; faultless = c.in-Ok.ensures.faultless } in (
-      Answered accepted.dropped (outcome_of accepted.outcome),
+    let asked : AskFor (map string_bytes c.args.words.now) action = record { asked = c.in-Ok.ensures.command; faultless = c.in-Ok.ensures.faultless } in
+    let outcome = outcome_of accepted.outcome in
+    let done = c.in-Ok-carry_out.ensures.done in
+    let before = g.O.Write.contents c.args.out.now in
+    let after = g.O.Write.contents c.tell.new.out in (
+      Answered done.0 outcome,
       (action, asked, c.in-Ok-carry_out.ensures.answer.0, c.in-Ok-carry_out.ensures.answer.1),
-      (c.tell.ensures, refl),
-      λ honest. (action, asked, c.in-Ok-carry_out.ensures.done honest),
+      (subst (λ text. Printed before after text (status_of outcome) c.tell.result) (sym done.1) c.tell.ensures, refl),
+      λ honest. (action, asked, done.2 honest),
     )
 
 pub returns-clause-told : goal.returns-clause-told

@@ -1,0 +1,139 @@
+-- What a store is opened as for a command, and what comes of it.
+use Rattle.std.proofs.Common.{◌≡◌, ◌⊎◌, inl, inr, ℕ, Bool, List, Some, None, Result, Ok, Err, refl, sym, ap, subst, ◌∙◌}
+use Rattle.std.specs.Prelude.{IfOk, OnOk}
+use Rattle.par2_spec.specs.Commands.{Action, Command, Do, Undo, Redo, Create, Verify, Repair, Purge}
+use Rattle.par2_spec.specs.Folders.{Folder}
+use Rattle.par2_spec.specs.Opening.{Started, OpensAs, new_session}
+use Rattle.par2_spec.specs.Plans.{changes_of}
+use Rattle.par2_spec.specs.Refusals.{refusal}
+use Rattle.par2_spec.specs.Reports.{report_in}
+use Rattle.par2_spec.specs.Rules.{LeadsToAfterAsked}
+use Rattle.par2_spec.specs.Sessions.{Session, KeptSession, changes_asked, planned, session_after, session_of_kept}
+use Rattle.par2_spec.specs.Stores.{Contents}
+use Rattle.par2_spec.specs.Texts.{Outcome, Reported, output_of}
+use Rattle.par2_tool.specs.Held.{Holds, IsOpening, kept}
+use Rattle.par2_tool.specs.Opened.{IsOpened, IsRead, OnlyTakesBack, StandsFor, started_of}
+use Rattle.par2_tool.specs.Performed.{IsAnswer, IsReport, IsVerify, IsWritten}
+use Rattle.par2_tool.specs.Refused.{IsRefused, failed}
+use Rattle.par2_tool.specs.Told.{IsBack, IsDone, IsFailed, SameOutput}
+use Rattle.par2_tool.specs.declared.opening.Started as program
+use Rattle.par2_tool.specs.declared.performing.PerformFault.{PerformFault}
+use Rattle.par2_tool.specs.declared.performing.PerformFault.TheVariants.{Session as Refusing, Store}
+use Rattle.par2_tool.proofs.Carried.{perform_failed}
+use Rattle.par2_tool.proofs.Reopened.{opens_new}
+use Rattle.par2_tool.proofs.Verified.{as_it_was, verify_leaves}
+
+-- ---- opening
+
+-- a store that is left alone, and opens on its own folder, is opened
+pub opened_on : (contents : Contents) (started : Started) → IsOpening contents (Ok started) → contents.files ≡ started.session.folder → IsOpened contents contents started
+opened_on contents started opens files = record { opens = opens; holds = record { files = files; opens = opens }; left = inl refl }
+
+pub opened_as_is : (contents : Contents) (files : Folder) (text : List ℕ) (started : Started) → IsRead contents files text → OpensAs files (Some text) (Ok started) → started.session.folder ≡ files → IsOpened contents contents started
+opened_as_is contents files text started read opens on =
+    opened_on contents started (subst (λ k. IsOpening k (Ok started)) (sym read) opens) (ap (λ (k : Contents). k.files) read ∙ sym on)
+
+pub opened_new : (contents : Contents) (files : Folder) → contents.journal ≡ None → files ≡ contents.files → IsOpened contents contents (kept (new_session files))
+opened_new contents files none same = opened_on contents (kept (new_session files)) (opens_new contents (new_session files) none (ap new_session same)) (sym same)
+
+-- what a store was opened as stands for itself
+pub stands : {E : Type 0} (action : Action) (honest : Type 0) (result : Result program.Started E) (old new : Contents)
+    → (honest → IfOk result (λ s. IsOpening old (Ok (started_of s)))) → (honest → IfOk result (λ s. Holds new (started_of s))) → (honest → OnOk result (OnlyTakesBack old new))
+    → IfOk result (λ s. (o : Started) × StandsFor action o (started_of s) × (honest → IsOpened old new o))
+stands action honest (Err e) old new opens holds left = tt
+stands action honest (Ok s) old new opens holds left = (started_of s, inl refl, λ h. record { opens = opens h; holds = holds h; left = left h })
+
+-- so does it for a verify
+pub stands_on : {E : Type 0} (honest : Type 0) (result : Result program.Started E) (old new : Contents)
+    → (honest → IfOk result (λ s. IsOpening old (Ok (started_of s)))) → (honest → IfOk result (λ s. Holds new (started_of s))) → (honest → OnOk result (OnlyTakesBack old new))
+    → IfOk result (λ s. (o : Started) × (o.session.folder ≡ (started_of s).session.folder) × (honest → IsOpened old new o))
+stands_on honest (Err e) old new opens holds left = tt
+stands_on honest (Ok s) old new opens holds left = (started_of s, refl, λ h. record { opens = opens h; holds = holds h; left = left h })
+
+pub stands_for_verify : {E : Type 0} (action : Action) (honest : Type 0) (result : Result program.Started E) (old new : Contents) → IsVerify action
+    → IfOk result (λ s. (o : Started) × (o.session.folder ≡ (started_of s).session.folder) × (honest → IsOpened old new o))
+    → IfOk result (λ s. (o : Started) × StandsFor action o (started_of s) × (honest → IsOpened old new o))
+stands_for_verify action honest (Err e) old new is on = tt
+stands_for_verify action honest (Ok s) old new is on = (on.0, inr (is, on.1), on.2)
+
+-- ---- what a verify does on a folder
+
+pub no_way_back : (action : Action) → IsVerify action → IsBack action → ⊥
+no_way_back (Do command) is back = back
+no_way_back Undo is back = is
+no_way_back Redo is back = is
+
+same_asked : (s t : Session) (command : Command) → s.folder ≡ t.folder → changes_asked s (Do command) ≡ changes_asked t (Do command)
+unfolding changes_asked
+same_asked s t command on = ap (λ f. planned (refusal f command) (changes_of f command)) on
+
+-- a session that is kept, without room
+standing : Session → KeptSession
+standing s = record { folder = record { files = s.folder; vacant = 0 }; undos = s.undos; redos = s.redos; room = 0 }
+
+-- a verify that is refused on one session is refused on another one on the same folder
+pub verify_failed : (action : Action) (old mid new : Contents) (o : Started) (s later : KeptSession) → IsVerify action → o.session.folder ≡ s.folder.files → IsOpened old mid o → new ≡ mid
+    → (before after : ℕ) (fault : PerformFault) → IsRefused action s later before after fault → IsFailed action old new (failed fault)
+unfolding standing
+verify_failed (Do (Verify base extras)) old mid new o s later is on opening same before after fault refused =
+    perform_failed (Do (Verify base extras)) old mid new (standing o.session) (standing o.session) o.dropped opening (λ back. absurd back) before after fault (refused_on fault refused) (λ _. same) (λ _. inl same)
+  where
+    refused_on : (f : PerformFault) → IsRefused (Do (Verify base extras)) s later before after f → IsRefused (Do (Verify base extras)) (standing o.session) (standing o.session) before after f
+    refused_on Store r = r
+    refused_on (Refusing reason) r =
+        elim r.0 [
+          | inl memory ↦ (inl memory, as_it_was (standing o.session))
+          | inr asked ↦ (inr (same_asked o.session (session_of_kept s) (Verify base extras) on ∙ asked), as_it_was (standing o.session))
+        ]
+verify_failed (Do (Create args)) old mid new o s later is on opening same before after fault refused = absurd is
+verify_failed (Do (Repair base extras purge)) old mid new o s later is on opening same before after fault refused = absurd is
+verify_failed (Do (Purge base)) old mid new o s later is on opening same before after fault refused = absurd is
+verify_failed Undo old mid new o s later is on opening same before after fault refused = absurd is
+verify_failed Redo old mid new o s later is on opening same before after fault refused = absurd is
+
+-- ---- an accepted action
+
+module _ (honest : Type 0) (old mid new : Contents) (o : Started) (s later : Session) (dropped : Bool) (outcome : Outcome) (opening : honest → IsOpened old mid o) where
+  abbrev Is : Action → Type 0
+  Is action = (d : Bool) × SameOutput d dropped outcome × (honest → IsDone action old new d outcome)
+
+  reported : (base : List ℕ) (extras : List (List ℕ)) → o.session.folder ≡ s.folder → IsReport s base extras outcome → LeadsToAfterAsked s.folder (Do (Verify base extras)) → (honest → mid.files ≡ s.folder → new ≡ mid) → Is (Do (Verify base extras))
+  unfolding output_of
+  reported base extras on answer leads written =
+      let report = answer.0 in
+      let same = ap (λ f. report_in f base extras) on ∙ answer.1 in (
+        o.dropped,
+        ap (output_of o.dropped) answer.2 ∙ sym (ap (output_of dropped) answer.2),
+        λ h. record {
+          session = o.session;
+          between = mid;
+          opened = opening h;
+          answer = (report, same, answer.2);
+          after = o.session;
+          accepted = verify_leaves o.session base extras report same;
+          leads = subst (λ f. LeadsToAfterAsked f (Do (Verify base extras))) (sym on) leads;
+          written = written h ((opening h).holds.files ∙ on);
+        },
+      )
+
+  verified : (action : Action) → IsVerify action → o.session.folder ≡ s.folder → IsAnswer s action outcome → LeadsToAfterAsked s.folder action → (honest → mid.files ≡ s.folder → IsWritten action later mid new) → Is action
+  verified (Do (Verify base extras)) is on answer leads written = reported base extras on answer leads written
+  verified (Do (Create args)) is on answer leads written = absurd is
+  verified (Do (Repair base extras purge)) is on answer leads written = absurd is
+  verified (Do (Purge base)) is on answer leads written = absurd is
+  verified Undo is on answer leads written = absurd is
+  verified Redo is on answer leads written = absurd is
+
+  pub done_for : (action : Action) → StandsFor action o (record { session = s; dropped = dropped }) → IsAnswer s action outcome → session_after s action ≡ Ok later → LeadsToAfterAsked s.folder action
+      → (honest → mid.files ≡ s.folder → IsWritten action later mid new) → Is action
+  done_for action (inr verify) answer accepted leads written = verified action verify.0 verify.1 answer leads written
+  done_for action (inl same) answer accepted leads written = (dropped, refl, λ h. record {
+    session = s;
+    between = mid;
+    opened = subst (λ t. IsOpened old mid t) same (opening h);
+    answer = answer;
+    after = later;
+    accepted = accepted;
+    leads = leads;
+    written = written h ((opening h).holds.files ∙ ap (λ (t : Started). t.session.folder) same);
+  })
