@@ -1,5 +1,5 @@
 -- What a store is opened as for a command, and what comes of it.
-use Rattle.std.proofs.Common.{◌≡◌, ◌⊎◌, inl, inr, ℕ, Bool, List, Some, None, Result, Ok, Err, refl, sym, ap, subst, ◌∙◌}
+use Rattle.std.proofs.Common.{◌≡◌, inl, inr, ℕ, Bool, List, Some, None, Result, Ok, Err, refl, sym, ap, subst, ◌∙◌}
 use Rattle.std.specs.Prelude.{IfOk, OnOk}
 use Rattle.par2_spec.specs.Commands.{Action, Command, Do, Undo, Redo, Create, Verify, Repair, Purge}
 use Rattle.par2_spec.specs.Folders.{Folder}
@@ -10,7 +10,7 @@ use Rattle.par2_spec.specs.Reports.{report_in}
 use Rattle.par2_spec.specs.Rules.{LeadsToAfterAsked}
 use Rattle.par2_spec.specs.Sessions.{Session, KeptSession, changes_asked, planned, session_after, session_of_kept}
 use Rattle.par2_spec.specs.Stores.{Contents}
-use Rattle.par2_spec.specs.Texts.{Outcome, Reported, output_of}
+use Rattle.par2_spec.specs.Texts.{Outcome, output_of}
 use Rattle.par2_tool.specs.Held.{Holds, IsOpening, kept}
 use Rattle.par2_tool.specs.Opened.{IsOpened, IsRead, OnlyTakesBack, StandsFor, started_of}
 use Rattle.par2_tool.specs.Performed.{IsAnswer, IsReport, IsVerify, IsWritten}

@@ -3,7 +3,7 @@ use Rattle.std.specs.Prelude.{IfOk, OnErr, OnOk, Vec, ℕ, option_map}
 use Rattle.std.specs.declared.alloc.Global.{Global}
 use Rattle.par2_spec.specs.Opening.{Started, new_session}
 use Rattle.par2_spec.specs.Stores.{Contents}
-use Rattle.par2_tool.specs.Held.{Holds, IsOpening, OpensAsBefore, TellsApartBack, kept}
+use Rattle.par2_tool.specs.Held.{IsOpening, OpensAsBefore, TellsApartBack, kept}
 use Rattle.par2_tool.specs.Opened.{started_of, IsOpened, OnlyTakesBack}
 use Rattle.par2_tool.proofs.AsIs.{opened_as_is, opened_new, stands_on}
 use Rattle.par2_tool.proofs.Reopened.{is_read}
