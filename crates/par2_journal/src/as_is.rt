@@ -10,11 +10,7 @@ use std::alloc::{AllocError, Global};
 /// Whether a folder with the bytes of a journal opens as a session on this very folder. No digest of its files is
 /// taken, so that it isn't told whether the session has the history of the journal or a new one. An answer of false
 /// says nothing: the folder is then to be opened. The entries are applied and taken back, and the folder may get room.
-pub fn opens_as_is(
-    alloc: Global,
-    folder: &mut Folder,
-    bytes: &[u8],
-) -> Result<bool, AllocError>
+pub fn opens_as_is(alloc: Global, folder: &mut Folder, bytes: &[u8]) -> Result<bool, AllocError>
     ensures files { folder.new.files ≡ folder.old.files }
     ensures opens { result ≡ Ok true → OpensAsIs folder.old.files bytes.now }
 {

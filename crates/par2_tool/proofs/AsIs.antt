@@ -127,13 +127,17 @@ module _ (honest : Type 0) (old mid new : Contents) (o : Started) (s later : Ses
   pub done_for : (action : Action) → StandsFor action o (record { session = s; dropped = dropped }) → IsAnswer s action outcome → session_after s action ≡ Ok later → LeadsToAfterAsked s.folder action
       → (honest → mid.files ≡ s.folder → IsWritten action later mid new) → Is action
   done_for action (inr verify) answer accepted leads written = verified action verify.0 verify.1 answer leads written
-  done_for action (inl same) answer accepted leads written = (dropped, refl, λ h. record {
-    session = s;
-    between = mid;
-    opened = subst (λ t. IsOpened old mid t) same (opening h);
-    answer = answer;
-    after = later;
-    accepted = accepted;
-    leads = leads;
-    written = written h ((opening h).holds.files ∙ ap (λ (t : Started). t.session.folder) same);
-  })
+  done_for action (inl same) answer accepted leads written = (
+    dropped,
+    refl,
+    λ h. record {
+      session = s;
+      between = mid;
+      opened = subst (λ t. IsOpened old mid t) same (opening h);
+      answer = answer;
+      after = later;
+      accepted = accepted;
+      leads = leads;
+      written = written h ((opening h).holds.files ∙ ap (λ (t : Started). t.session.folder) same);
+    },
+  )

@@ -17,12 +17,12 @@ returns-in-Ok-None-clause-opened g c =
       opened,
       sym (ap (λ (t : Started). t.session.folder) c.without_history.ensures),
       λ honest.
-        let read_on = c.read_folder.ensures.honest honest in
-        let same = c.read_journal.ensures.same read_on ∙ c.read_folder.ensures.same honest in
-        let none =
-        ap (λ (k : Contents). k.journal) (sym (c.read_folder.ensures.same honest)) ∙ sym (c.in-Ok-None.ensures.journal read_on)
-        ∙ ap (option_map (λ (bytes : Vec ℕ Global). bytes.items)) c.in-Ok-None.field-0-is in
-        subst (λ k. IsOpened old k opened) (sym same) (opened_new old files none (c.in-Ok.ensures.files honest)),
+          let read_on = c.read_folder.ensures.honest honest in
+          let same = c.read_journal.ensures.same read_on ∙ c.read_folder.ensures.same honest in
+          let none =
+          ap (λ (k : Contents). k.journal) (sym (c.read_folder.ensures.same honest)) ∙ sym (c.in-Ok-None.ensures.journal read_on)
+          ∙ ap (option_map (λ (bytes : Vec ℕ Global). bytes.items)) c.in-Ok-None.field-0-is in
+          subst (λ k. IsOpened old k opened) (sym same) (opened_new old files none (c.in-Ok.ensures.files honest)),
     )
 
 pub returns-in-Ok-true-clause-opened : goal.returns-in-Ok-true-clause-opened
@@ -35,14 +35,14 @@ returns-in-Ok-true-clause-opened g c =
       found.0,
       found.2 ∙ sym standing,
       λ honest.
-        let read_on = c.read_folder.ensures.honest honest in
-        let before = c.read_folder.ensures.same honest in
-        let same = c.read_journal.ensures.same read_on ∙ before in
-        let of_journal =
-        ap Some c.deref.ensures.value ∙ ap (option_map (λ (bytes : Vec ℕ Global). bytes.items)) (sym c.in-Ok-Some.field-0-is)
-        ∙ c.in-Ok-Some.ensures.journal read_on ∙ ap (λ (k : Contents). k.journal) before in
-        let read = is_read old files text (c.in-Ok.ensures.files honest) of_journal in
-        subst (λ k. IsOpened old k found.0) (sym same) (opened_as_is old files text found.0 read found.1 found.2),
+          let read_on = c.read_folder.ensures.honest honest in
+          let before = c.read_folder.ensures.same honest in
+          let same = c.read_journal.ensures.same read_on ∙ before in
+          let of_journal =
+          ap Some c.deref.ensures.value ∙ ap (option_map (λ (bytes : Vec ℕ Global). bytes.items)) (sym c.in-Ok-Some.field-0-is)
+          ∙ c.in-Ok-Some.ensures.journal read_on ∙ ap (λ (k : Contents). k.journal) before in
+          let read = is_read old files text (c.in-Ok.ensures.files honest) of_journal in
+          subst (λ k. IsOpened old k found.0) (sym same) (opened_as_is old files text found.0 read found.1 found.2),
     )
 
 pub returns-in-Ok-false-clause-opened : goal.returns-in-Ok-false-clause-opened
@@ -55,12 +55,12 @@ returns-in-Ok-false-clause-opened g c =
     let result = c.open_with.result in
     let same = (λ (honest : g.S.FolderStore.honest c.args.store.now). c.read_journal.ensures.same (c.read_folder.ensures.honest honest) ∙ c.read_folder.ensures.same honest) in
     let read = (λ (honest : g.S.FolderStore.honest c.args.store.now).
-      let read_on = c.read_folder.ensures.honest honest in
-      let again = c.read_journal.ensures.same read_on in
-      is_read mid folder.files text
-      (c.opens_as_is.ensures.files ∙ c.in-Ok.ensures.files honest ∙ ap (λ (k : Contents). k.files) (sym (same honest)))
-      (ap Some c.deref-in-Ok-false.ensures.value ∙ ap (option_map (λ (bytes : Vec ℕ Global). bytes.items)) (sym c.in-Ok-Some.field-0-is)
-      ∙ c.in-Ok-Some.ensures.journal read_on ∙ ap (λ (k : Contents). k.journal) (sym again))) in
+    let read_on = c.read_folder.ensures.honest honest in
+    let again = c.read_journal.ensures.same read_on in
+    is_read mid folder.files text
+    (c.opens_as_is.ensures.files ∙ c.in-Ok.ensures.files honest ∙ ap (λ (k : Contents). k.files) (sym (same honest)))
+    (ap Some c.deref-in-Ok-false.ensures.value ∙ ap (option_map (λ (bytes : Vec ℕ Global). bytes.items)) (sym c.in-Ok-Some.field-0-is)
+    ∙ c.in-Ok-Some.ensures.journal read_on ∙ ap (λ (k : Contents). k.journal) (sym again))) in
     let still = (λ (honest : g.S.FolderStore.honest c.args.store.now). c.read_journal.ensures.honest (c.read_folder.ensures.honest honest)) in
     stands_on (g.S.FolderStore.honest c.args.store.now) result old new
     (λ honest. subst (λ k. IfOk result (λ s. IsOpening k (Ok (started_of s)))) (same honest) (c.open_with.ensures.opened (still honest) (read honest)))

@@ -78,9 +78,9 @@ returns-clause-failed g c honest =
     ]) in
     let failing : IsFailed action old new (failed fault) = (elim found.1 as (λ _. IsFailed action old new (failed fault)) [
       | inl same ↦ (
-        let opened : IsOpened old mid (started_of c.in-Ok.started) = subst (λ (t : Started). IsOpened old mid t) same (found.2 honest) in
-        perform_failed action old mid new session c.perform.new.session c.in-Ok.started.dropped opened back middle after
-        fault refused (c.in-Err-perform.ensures.unchanged kept_honest) (c.in-Err-perform.ensures.stopped kept_honest opened.holds.files))
+          let opened : IsOpened old mid (started_of c.in-Ok.started) = subst (λ (t : Started). IsOpened old mid t) same (found.2 honest) in
+          perform_failed action old mid new session c.perform.new.session c.in-Ok.started.dropped opened back middle after
+          fault refused (c.in-Err-perform.ensures.unchanged kept_honest) (c.in-Err-perform.ensures.stopped kept_honest opened.holds.files))
       | inr verify ↦ verify_failed action old mid new found.0 session c.perform.new.session verify.0 verify.1 (found.2 honest)
           (ap g.S.FolderStore.contents (c.perform.ensures.verify verify.0).0) middle after fault refused
     ]) in
