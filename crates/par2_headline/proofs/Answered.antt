@@ -1,0 +1,49 @@
+-- What a session's answer to a repair says of its folder.
+use Rattle.std.proofs.Common.{◌≡◌, ◌∙◌, ℕ, List, Bool, Result, Ok, Err, refl, sym, ap}
+use Rattle.std.specs.Prelude.{Option, Some, None, OnOk, IfErr}
+use Rattle.par2_spec.specs.Changes.{effects}
+use Rattle.par2_spec.specs.Commands.{Command, Repair, Do}
+use Rattle.par2_spec.specs.Folders.{Folder}
+use Rattle.par2_spec.specs.Plans.{changes_of}
+use Rattle.par2_spec.specs.Refusals.{refusal, after}
+use Rattle.par2_spec.specs.Rules.{LeadsToAfter, LeadsToAfterAsked}
+use Rattle.par2_spec.specs.Sessions.{Session, session_with, session_after, changes_asked, applied, planned}
+use Rattle.par2_spec.specs.declared.Fault.{Fault}
+
+-- the repair is accepted, and the new folder is the one after it
+pub record IsRepaired (old new : Folder) (command : Command) : Type 0 where
+  pub accepted : refusal old command ≡ None
+  pub left : new ≡ after old command
+
+module _ (s t : Session) (base : List ℕ) (extras : List (List ℕ)) (purge : Bool) where
+  abbrev command : Command
+  command = Repair base extras purge
+
+  -- by what the definitions answer
+  by_refusal : (refused : Option Fault) → applied s (Do command) (planned refused (changes_of s.folder command)) ≡ Ok t
+      → (refused ≡ None → LeadsToAfter s.folder command) → (refused ≡ None) × (t.folder ≡ after s.folder command)
+  unfolding session_with
+  by_refusal None step leads =
+      let same : session_with s (Do command) (changes_of s.folder command) ≡ t = cc in
+      (refl, ap (λ (u : Session). u.folder) (sym same) ∙ (leads refl).1)
+  by_refusal (Some fault) step leads = absurd (cc)
+
+  is_repaired : session_after s (Do command) ≡ Ok t → LeadsToAfterAsked s.folder (Do command) → IsRepaired s.folder t.folder command
+  unfolding session_after changes_asked
+  is_repaired step leads =
+      let both = by_refusal (refusal s.folder command) step leads in
+      record { accepted = both.0; left = both.1 }
+
+  pub answered : {A E : Type 0} (r : Result A E) → OnOk r (session_after s (Do command) ≡ Ok t)
+      → OnOk r (LeadsToAfterAsked s.folder (Do command)) → OnOk r (IsRepaired s.folder t.folder command)
+  answered (Ok a) step leads = is_repaired step leads
+  answered (Err e) step leads = tt
+
+-- what follows from an answer follows where that answer comes
+pub on_ok : {A E P Q : Type 0} (r : Result A E) → OnOk r P → (P → Q) → OnOk r Q
+on_ok (Ok a) h next = next h
+on_ok (Err e) h next = tt
+
+pub if_err : {A E : Type 0} {P Q : E → Type 0} (r : Result A E) → IfErr r P → ((e : E) → P e → Q e) → IfErr r Q
+if_err (Ok a) h next = tt
+if_err (Err e) h next = next e h
