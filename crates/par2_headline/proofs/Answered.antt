@@ -1,14 +1,22 @@
 -- What a session's answer to a repair says of its folder.
-use Rattle.std.proofs.Common.{◌≡◌, ◌∙◌, ℕ, List, Bool, Result, Ok, Err, refl, sym, ap}
-use Rattle.std.specs.Prelude.{Option, Some, None, OnOk, IfErr}
-use Rattle.par2_spec.specs.Changes.{effects}
-use Rattle.par2_spec.specs.Commands.{Command, Repair, Do}
+use Rattle.std.proofs.Common.{◌≡◌, ◌∙◌, ℕ, List, ◌∷◌, map, Bool, Result, Ok, Err, refl, sym, ap, subst}
+use Rattle.std.specs.Prelude.{Option, Some, None, IsTrue, OnOk, IfOk, IfErr}
+use Rattle.par2_spec.specs.Commands.{Command, Repair, Action, Do}
 use Rattle.par2_spec.specs.Folders.{Folder}
+use Rattle.par2_spec.specs.History.{History, folders, history_after, in_front, unless_refused}
+use Rattle.par2_spec.specs.Opening.{is_valid}
 use Rattle.par2_spec.specs.Plans.{changes_of}
 use Rattle.par2_spec.specs.Refusals.{refusal, after}
 use Rattle.par2_spec.specs.Rules.{LeadsToAfter, LeadsToAfterAsked}
-use Rattle.par2_spec.specs.Sessions.{Session, session_with, session_after, changes_asked, applied, planned}
+use Rattle.par2_spec.specs.Sessions.{Session, session_with, session_after, changes_asked, applied, planned, history_of}
+use Rattle.par2_spec.specs.Texts.{Step, step_of}
 use Rattle.par2_spec.specs.declared.Fault.{Fault}
+
+-- the law that the history goes along with the session
+abbrev pub GoesAlong : Type 0
+GoesAlong =
+    (s t : Session) (action : Action) → IsTrue (is_valid s) → LeadsToAfterAsked s.folder action → session_after s action ≡ Ok t
+    → history_after (history_of s) action ≡ Ok (history_of t)
 
 -- the repair is accepted, and the new folder is the one after it
 pub record IsRepaired (old new : Folder) (command : Command) : Type 0 where
@@ -38,6 +46,29 @@ module _ (s t : Session) (base : List ℕ) (extras : List (List ℕ)) (purge : B
       → OnOk r (LeadsToAfterAsked s.folder (Do command)) → OnOk r (IsRepaired s.folder t.folder command)
   answered (Ok a) step leads = is_repaired step leads
   answered (Err e) step leads = tt
+
+  -- the steps that are told are the command's
+  pub told : {E : Type 0} (r : Result (List Step) E) → OnOk r (IsRepaired s.folder t.folder command)
+      → IfOk r (λ steps. IfOk (changes_asked s (Do command)) (λ changes. steps ≡ map step_of changes))
+      → IfOk r (λ steps. steps ≡ map step_of (changes_of s.folder command))
+  unfolding changes_asked
+  told (Ok steps) is asked =
+      let Tells : Option Fault → Type 0 = λ refused. IfOk (planned refused (changes_of s.folder command)) (λ changes. steps ≡ map step_of changes) in
+      subst Tells is.accepted asked
+  told (Err e) is asked = tt
+
+  -- the folder stands in front of the older ones
+  put_in_front : (h next : History) (refused : Option Fault) → unless_refused refused (in_front (after h.now command) h) ≡ Ok next → folders next ≡ next.now ∷ folders h
+  put_in_front h next None e =
+      let same : in_front (after h.now command) h ≡ next = cc in
+      ap (λ (k : History). next.now ∷ k.older) (sym same)
+  put_in_front h next (Some fault) e = absurd (cc)
+
+  pub stands_in_front : {A E : Type 0} (r : Result A E) (law : GoesAlong) → IsTrue (is_valid s) → OnOk r (session_after s (Do command) ≡ Ok t)
+      → OnOk r (LeadsToAfterAsked s.folder (Do command)) → OnOk r (folders (history_of t) ≡ t.folder ∷ folders (history_of s))
+  unfolding history_after history_of
+  stands_in_front (Ok a) law valid step leads = put_in_front (history_of s) (history_of t) (refusal s.folder command) (law s t (Do command) valid leads step)
+  stands_in_front (Err e) law valid step leads = tt
 
 -- what follows from an answer follows where that answer comes
 pub on_ok : {A E P Q : Type 0} (r : Result A E) → OnOk r P → (P → Q) → OnOk r Q

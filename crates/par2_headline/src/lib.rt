@@ -2,7 +2,7 @@
 //! over a session. Their bodies call the session, and the laws that say it of the definitions.
 #![tactic(auto)]
 
-ghost use Rattle.std.specs.Prelude.{◌≡◌, ◌≢◌, ◌≤◌, ◌⊎◌, ℕ, List, Some, Ok, length, map, string_bytes, OnOk, OnErr, IfErr, IsTrue};
+ghost use Rattle.std.specs.Prelude.{◌≡◌, ◌≢◌, ◌≤◌, ◌⊎◌, ◌∷◌, ℕ, List, Some, Ok, length, map, string_bytes, OnOk, OnErr, IfOk, IfErr, IsTrue};
 ghost use Rattle.std.specs.List.{AllByRecursion};
 ghost use Rattle.std.specs.FinMap as map_of;
 ghost use Rattle.md5.specs.Md5.{md5};
@@ -16,6 +16,8 @@ ghost use Rattle.par2_spec.specs.Commands.{CreateArgs, Repair};
 ghost use Rattle.par2_spec.specs.Refusals.{set_in, refusal, after};
 ghost use Rattle.par2_spec.specs.History.{History, Run, IsChanging, folders};
 ghost use Rattle.par2_spec.specs.Sessions.{OnlyGrew, session_of_kept, history_of};
+ghost use Rattle.par2_spec.specs.Plans.{changes_of};
+ghost use Rattle.par2_spec.specs.Texts.{step_of};
 ghost use Rattle.par2_spec.specs.Views.{action_of};
 ghost use Rattle.par2_spec.specs.declared.Fault.TheVariants.{Memory, NotRepairable, RepairFailed};
 ghost use Rattle.par2_promises.specs.Premises.{IsTrueTo, HoldsBytes};
@@ -31,7 +33,9 @@ use par2_promises::restored_files::{
 };
 use par2_promises::written_files::written_files_are_as_described;
 use par2_spec::Action;
-use par2_spec::session_laws::kept_session_is_a_session;
+use par2_spec::session_laws::{
+    kept_session_is_a_session, kept_session_keeps_its_room, session_is_a_history,
+};
 use std::alloc::Global;
 
 /// Performs the actions in order, then undoes as often as one was accepted, and answers how often.
@@ -110,9 +114,15 @@ pub fn repair(
         → let searched = candidates session.old.folder.files set (map string_bytes extras.now) in
         OnOk result (AllByRecursion (λ c. md5 c.1 ≡ c.0.digest)
         (rebuilt_targets session.old.folder.files set searched)) }
-    // the folder afterwards is that of the definitions,
+    // the folder afterwards is that of the definitions, the older ones stand behind it,
     ensures done { let command = Repair base.now (map string_bytes extras.now) purge in
         OnOk result (session.new.folder.files ≡ after session.old.folder.files command) }
+    ensures undoable { OnOk result (folders (history_of (session_of_kept session.new))
+        ≡ session.new.folder.files ∷ folders (history_of (session_of_kept session.old))) }
+    // the steps are its changes,
+    ensures steps { let command = Repair base.now (map string_bytes extras.now) purge in
+        let changes = changes_of session.old.folder.files command in
+        IfOk result (λ steps. steps ≡ map step_of changes) }
     // and a refusal is theirs, or memory ran out. It leaves names, bytes and history as they were.
     ensures refused { let command = Repair base.now (map string_bytes extras.now) purge in
         IfErr result (λ fault.
@@ -126,5 +136,8 @@ pub fn repair(
     repair_of_created_files_is_refused_for_few_causes();
     created_files_not_repairable_have_a_choice();
     written_files_are_as_described();
+    session_is_a_history();
+    kept_session_keeps_its_room();
+    let _folder = session.folder();
     session.repair(alloc, base, extras, purge)
 }
