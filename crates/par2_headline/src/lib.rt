@@ -2,7 +2,7 @@
 //! over a session. Their bodies call the session, and the laws that say it of the definitions.
 #![tactic(auto)]
 
-ghost use Rattle.std.specs.Prelude.{◌≡◌, ◌≢◌, ◌≤◌, ◌⊎◌, ◌∷◌, ℕ, List, Some, Ok, length, map, string_bytes, OnOk, OnErr, IfOk, IfErr, IsTrue};
+ghost use Rattle.std.specs.Prelude.{◌≡◌, ◌≢◌, ◌⊎◌, ◌∷◌, ℕ, List, Some, Ok, length, map, replicate, string_bytes, OnOk, OnErr, IfOk, IfErr, IsTrue};
 ghost use Rattle.std.specs.List.{AllByRecursion};
 ghost use Rattle.std.specs.FinMap as map_of;
 ghost use Rattle.md5.specs.Md5.{md5};
@@ -12,7 +12,7 @@ ghost use Rattle.par2_spec.specs.Rank.{AnotherAgrees};
 ghost use Rattle.par2_spec.specs.Sets.{ParSet};
 ghost use Rattle.par2_spec.specs.Search.{candidates, known};
 ghost use Rattle.par2_spec.specs.Repairs.{rebuilt_targets};
-ghost use Rattle.par2_spec.specs.Commands.{CreateArgs, Repair};
+ghost use Rattle.par2_spec.specs.Commands.{CreateArgs, Repair, Undo};
 ghost use Rattle.par2_spec.specs.Refusals.{set_in, refusal, after};
 ghost use Rattle.par2_spec.specs.History.{History, Run, IsChanging, folders};
 ghost use Rattle.par2_spec.specs.Sessions.{OnlyGrew, session_of_kept, history_of};
@@ -47,12 +47,17 @@ pub fn play_and_take_back(session: &mut Session, alloc: Global, actions: &[Actio
     ensures back { AllByRecursion IsChanging (map action_of actions.now)
         → folders (history_of (session_of_kept session.new))
         ≡ folders (history_of (session_of_kept session.old)) }
-    // and each undo was accepted: so many can be done again
-    ensures undone { AllByRecursion IsChanging (map action_of actions.now)
-        → result ≤ length session.new.redos }
+    // and as many undos, each accepted, lead there from where the actions ended
+    ensures undone { AllByRecursion IsChanging (map action_of actions.now) → (end : History)
+        × Run (history_of (session_of_kept session.old)) (map action_of actions.now) result end
+        × Run end (replicate result Undo) result (history_of (session_of_kept session.new)) }
 {
     kept_session_is_a_session();
+    kept_session_keeps_its_room();
+    session_is_a_history();
     let accepted = session.play(alloc, actions);
+    // A session can walk each way of its history.
+    let _folder = session.folder();
     for _ in 0..accepted {
         // Where actions were undos, nothing may be left to undo.
         let _undone = session.undo();
@@ -138,6 +143,7 @@ pub fn repair(
     written_files_are_as_described();
     session_is_a_history();
     kept_session_keeps_its_room();
+    // A session can walk each way of its history.
     let _folder = session.folder();
     session.repair(alloc, base, extras, purge)
 }
