@@ -43,10 +43,8 @@ fn pass_from(
     requires applies { IsTrue (takes_all folder.old (changes_of changes.old)) }
     requires below { IsBelow below.now folder.old.files }
     // the changes leave the state that of the folder
-    requires outlasts {
-        All (λ change. (files : Files) → IsBelow below.now files
-            → IsBelow below.now (effect files (change_of change))) changes.old
-    }
+    requires outlasts { All (λ change. (files : Files) → IsBelow below.now files
+        → IsBelow below.now (effect files (change_of change))) changes.old }
     ensures folder { folder.new ≡ state_after_all folder.old (changes_of changes.old) }
     ensures way_back { changes_of changes.new ≡ way_back folder.old.files (changes_of changes.old) }
     ensures fingerprints { IfOk result (λ list. list.items ≡ map fingerprint (folders_after folder.old.files (changes_of changes.old))) }

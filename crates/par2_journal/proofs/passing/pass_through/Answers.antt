@@ -14,4 +14,3 @@ returns-in_default-clause-way_back c = none_back change_of c.args.folder.now c.a
 
 pub returns-in_default-clause-fingerprints : goal.returns-in_default-clause-fingerprints
 returns-in_default-clause-fingerprints c = c.new.ensures.items ∙ none_printed change_of c.args.folder.now c.args.changes.now (c.in_default.ensures.none refl)
-
