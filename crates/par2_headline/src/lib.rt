@@ -95,17 +95,17 @@ pub fn repair(
         IfErr result (λ fault. fault ≡ NotRepairable missing rank
         → AnotherAgrees s found (map_of.entries set.recovery) (all_slices s originals)) }
     // Where a create left the folder, and another hand damaged it since: each input is as it was;
-    ensures created { (before : Folder) (a : CreateArgs) → FollowsCreate before
-        session.old.folder.files a base.now (map string_bytes extras.now)
+    ensures inputs_restored { (before : Folder) (a : CreateArgs)
+        → FollowsCreate before session.old.folder.files a base.now (map string_bytes extras.now)
         → OnOk result (AllByRecursion (λ name. map_of.get session.new.folder.files name
         ≡ map_of.get before name) a.inputs) }
     // the set is read, and no rebuilt file has another digest;
-    ensures few_causes { (before : Folder) (a : CreateArgs) → FollowsCreate before
-        session.old.folder.files a base.now (map string_bytes extras.now)
+    ensures inputs_right { (before : Folder) (a : CreateArgs)
+        → FollowsCreate before session.old.folder.files a base.now (map string_bytes extras.now)
         → IfErr result (λ fault. (fault ≡ Memory) ⊎ IsTrue (may_refuse fault)) }
     // and where too few slices are left, other slices, too, agree with all that is found.
-    ensures choice { (before : Folder) (a : CreateArgs) (missing rank : ℕ) → FollowsCreate before
-        session.old.folder.files a base.now (map string_bytes extras.now)
+    ensures inputs_undetermined { (before : Folder) (a : CreateArgs) (missing rank : ℕ)
+        → FollowsCreate before session.old.folder.files a base.now (map string_bytes extras.now)
         → IfErr result (λ fault. fault ≡ NotRepairable missing rank
         → HaveAChoice before session.old.folder.files a base.now (map string_bytes extras.now)) }
     // Whatever the set: each file written from slices has the described length and MD5,

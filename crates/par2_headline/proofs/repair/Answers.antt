@@ -21,8 +21,8 @@ returns-clause-restored c originals s original =
     let left = c.accepted_repair_leaves_the_files.ensures _ _ _ c.args.purge originals s original in
     on_ok c.repair.result (repaired c) (λ (is : Is c). subst (λ (folder : Folder). AllByRecursion (λ file. map_of.get folder file.0 ≡ Some file.1) originals) (sym is.left) (left is.accepted))
 
-pub returns-clause-created : goal.returns-clause-created
-returns-clause-created c before a follows =
+pub returns-clause-inputs_restored : goal.returns-clause-inputs_restored
+returns-clause-inputs_restored c before a follows =
     let left = c.repair_gives_the_created_files_back.ensures before _ a _ _ c.args.purge follows in
     on_ok c.repair.result (repaired c) (λ (is : Is c). subst (λ (folder : Folder). AllByRecursion (λ name. map_of.get folder name ≡ map_of.get before name) a.inputs) (sym is.left) (left is.accepted))
 
