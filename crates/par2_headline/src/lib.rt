@@ -2,7 +2,7 @@
 //! over a session. Their bodies call the session, and the laws that say it of the definitions.
 #![tactic(auto)]
 
-ghost use Rattle.std.specs.Prelude.{◌≡◌, ◌≢◌, ◌⊎◌, ◌∷◌, ℕ, List, Some, Ok, length, map, replicate, string_bytes, OnOk, OnErr, IfOk, IfErr, IsTrue};
+ghost use Rattle.std.specs.Prelude.{◌≡◌, ◌≢◌, ◌⊎◌, ◌∷◌, ℕ, List, Some, Ok, length, map, replicate, string_bytes, OnOk, OnErr, IfOk, IfErr, IsTrue, IsFalse};
 ghost use Rattle.std.specs.List.{AllByRecursion};
 ghost use Rattle.std.specs.FinMap as map_of;
 ghost use Rattle.md5.specs.Md5.{md5};
@@ -12,6 +12,7 @@ ghost use Rattle.par2_spec.specs.Rank.{AnotherAgrees};
 ghost use Rattle.par2_spec.specs.Sets.{ParSet};
 ghost use Rattle.par2_spec.specs.Search.{candidates, known};
 ghost use Rattle.par2_spec.specs.Repairs.{rebuilt_targets};
+ghost use Rattle.par2_spec.specs.Rules.{AreFew, HoldsRepaired};
 ghost use Rattle.par2_spec.specs.Commands.{CreateArgs, Repair, Undo};
 ghost use Rattle.par2_spec.specs.Refusals.{set_in, refusal, after};
 ghost use Rattle.par2_spec.specs.History.{History, Run, IsChanging, folders};
@@ -28,11 +29,13 @@ use par2_origins::creates::{
     created_files_not_repairable_have_a_choice, repair_gives_the_created_files_back,
     repair_of_created_files_is_refused_for_few_causes,
 };
+use par2_promises::reading::{folder_is_that_of_the_set, set_is_of_the_base};
 use par2_promises::restored_files::{
     accepted_repair_leaves_the_files, refused_repair_leaves_a_choice, repair_never_fails,
 };
 use par2_promises::written_files::written_files_are_as_described;
 use par2_spec::Action;
+use par2_spec::repair_laws::{candidates_fit, repaired_folder_holds};
 use par2_spec::session_laws::{
     kept_session_is_a_session, kept_session_keeps_its_room, session_is_a_history,
 };
@@ -119,6 +122,11 @@ pub fn repair(
         → let searched = candidates session.old.folder.files set (map string_bytes extras.now) in
         OnOk result (AllByRecursion (λ c. md5 c.1 ≡ c.0.digest)
         (rebuilt_targets session.old.folder.files set searched)) }
+    // without a purge each file is told of: matches, written files, asides, all others as they were,
+    ensures holds { (set : ParSet) → IsFalse purge → AreFew session.old.folder.files set
+        → set_in session.old.folder.files base.now (map string_bytes extras.now) ≡ Ok set
+        → let searched = candidates session.old.folder.files set (map string_bytes extras.now) in
+        OnOk result (HoldsRepaired session.old.folder.files set searched session.new.folder.files) }
     // the folder afterwards is that of the definitions, the older ones stand behind it,
     ensures done { let command = Repair base.now (map string_bytes extras.now) purge in
         OnOk result (session.new.folder.files ≡ after session.old.folder.files command) }
@@ -141,6 +149,10 @@ pub fn repair(
     repair_of_created_files_is_refused_for_few_causes();
     created_files_not_repairable_have_a_choice();
     written_files_are_as_described();
+    set_is_of_the_base();
+    folder_is_that_of_the_set();
+    candidates_fit();
+    repaired_folder_holds();
     session_is_a_history();
     kept_session_keeps_its_room();
     // A session can walk each way of its history.

@@ -3,6 +3,9 @@ use Rattle.std.specs.List.{AllByRecursion}
 use Rattle.std.specs.FinMap as map_of
 use Rattle.par2_spec.specs.Commands.{Repair}
 use Rattle.par2_spec.specs.Folders.{Folder}
+use Rattle.par2_spec.specs.Refusals.{after}
+use Rattle.par2_spec.specs.Rules.{HoldsRepaired}
+use Rattle.par2_spec.specs.Search.{candidates}
 use Rattle.par2_spec.specs.Sessions.{session_of_kept}
 use Rattle.par2_spec.specs.declared.Fault.TheVariants.{Memory, RepairFailed}
 use Rattle.par2_headline.proofs.Answered.{IsRepaired, answered, told, stands_in_front, on_ok, if_err}
@@ -33,6 +36,17 @@ returns-clause-lengths c set held read =
 pub returns-clause-digests : goal.returns-clause-digests
 returns-clause-digests c set read =
     on_ok c.repair.result (repaired c) (λ (is : Is c). c.written_files_are_as_described.ensures.digests _ _ _ c.args.purge set read is.accepted)
+
+pub returns-clause-holds : goal.returns-clause-holds
+returns-clause-holds c set without_purge few read =
+    let old = c.args.session.now.folder.files in
+    let base = c.args.base.now in
+    let extras = map string_bytes c.args.extras.now in
+    let searched = candidates old set extras in
+    let of_base = c.set_is_of_the_base.ensures in
+    let fits = c.candidates_fit.ensures old base set extras (of_base.set old base extras set read) (of_base.there old base extras set read) few in
+    let same = ap (λ purge. after old (Repair base extras purge)) without_purge ∙ c.folder_is_that_of_the_set.ensures.repaired old base extras set read in
+    on_ok c.repair.result (repaired c) (λ (is : Is c). subst (HoldsRepaired old set searched) (sym (is.left ∙ same)) (c.repaired_folder_holds.ensures old set searched fits))
 
 pub returns-clause-done : goal.returns-clause-done
 returns-clause-done c = on_ok c.repair.result (repaired c) (λ (is : Is c). is.left)
