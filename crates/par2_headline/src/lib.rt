@@ -122,7 +122,7 @@ pub fn repair(
         → let searched = candidates session.old.folder.files set (map string_bytes extras.now) in
         OnOk result (AllByRecursion (λ c. md5 c.1 ≡ c.0.digest)
         (rebuilt_targets session.old.folder.files set searched)) }
-    // without a purge each file is told of: matches, written files, asides, all others as they were,
+    // without a purge the folder is told file by file: targets, asides, all others as they were,
     ensures holds { (set : ParSet) → IsFalse purge → AreFew session.old.folder.files set
         → set_in session.old.folder.files base.now (map string_bytes extras.now) ≡ Ok set
         → let searched = candidates session.old.folder.files set (map string_bytes extras.now) in
