@@ -150,7 +150,7 @@ next_entry : (folder : FolderState) (entries : List (List Change)) → walks fol
 next_entry folder [] h some = absurd (some refl)
 next_entry folder (entry ∷ entries) h some = (next_taken folder (entry ∷ entries) entry entries h refl).0
 
-kind_taken : (kind : Kind) (s : KeptSession) → CanWalk s → CanBe kind s → takes_all s.folder (changes_of kind s) ≡ true
+pub kind_taken : (kind : Kind) (s : KeptSession) → CanWalk s → CanBe kind s → takes_all s.folder (changes_of kind s) ≡ true
 kind_taken (Changing cs) s h can = can.0
 kind_taken Undoing s h can = next_entry s.folder s.undos h.back can
 kind_taken Redoing s h can = next_entry s.folder s.redos h.forth can
