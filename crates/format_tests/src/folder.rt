@@ -4,6 +4,7 @@ use par2_folder::{
     BadName, Bytes, Change, ChangeFault, Folder, FolderStore, FuseStore, MemoryStore, Name,
     ReadFault, StoreFault, read_folder,
 };
+use std::alloc::{AllocError, Global};
 use std::process::Abort;
 use std::test::Fail;
 
@@ -11,80 +12,205 @@ fn name(rt: &impl Abort, text: &str) -> Name {
     Name::new(text).expect(rt, "a name")
 }
 
-fn write<R: Abort + AllocGlobal>(rt: &R, text: &str, bytes: &[u8]) -> Result<Change, Fail> {
-    Ok(Change::Write(name(rt, text), Bytes::copy_of(rt.alloc(), bytes)?))
+// A change, in plain texts.
+#[derive(Clone, Copy)]
+enum PlainChange {
+    Write(&'static str, &'static [u8]),
+    Replace(&'static str, &'static [u8]),
+    Rename(&'static str, &'static str),
+    Remove(&'static str),
+}
+
+// Files by their names and bytes.
+type Files = &'static [(&'static str, &'static [u8])];
+
+// What a folder answers to a change.
+type Answer = Result<(), ChangeFault>;
+
+fn change_of<R: Abort + AllocGlobal>(rt: &R, plain: PlainChange) -> Result<Change, AllocError> {
+    Ok(match plain {
+        PlainChange::Write(text, bytes) => {
+            Change::Write(name(rt, text), Bytes::copy_of(rt.alloc(), bytes)?)
+        }
+        PlainChange::Replace(text, bytes) => {
+            Change::Replace(name(rt, text), Bytes::copy_of(rt.alloc(), bytes)?)
+        }
+        PlainChange::Rename(from, to) => Change::Rename(name(rt, from), name(rt, to)),
+        PlainChange::Remove(text) => Change::Remove(name(rt, text)),
+    })
+}
+
+fn applied(folder: &mut Folder, change: &mut Change) -> Answer {
+    folder.apply(change)
+}
+
+// A folder without files, with this many vacant places.
+fn vacant(alloc: Global, places: usize) -> Result<Folder, AllocError> {
+    let mut folder = Folder::new(alloc);
+    folder.reserve(places)?;
+    Ok(folder)
+}
+
+// What the folder answers to the change.
+fn answer<R: Abort + AllocGlobal>(
+    rt: &R,
+    folder: &mut Folder,
+    plain: PlainChange,
+) -> Result<Answer, AllocError> {
+    Ok(applied(folder, &mut change_of(rt, plain)?))
 }
 
 // A folder of these files, with this many vacant places.
 fn folder_of<R: Abort + AllocGlobal>(
     rt: &R,
-    files: &[(&str, &[u8])],
-    vacant: usize,
-) -> Result<Folder, Fail> {
-    let mut folder = Folder::new(rt.alloc());
-    folder.reserve(files.len().saturating_add(vacant))?;
+    files: Files,
+    places: usize,
+) -> Result<Folder, AllocError> {
+    let mut folder = vacant(rt.alloc(), files.len().saturating_add(places))?;
     for (text, bytes) in files {
-        let answer = folder.apply(&mut write(rt, text, bytes)?);
-        assert!(rt; answer.is_ok());
+        assert!(rt; answer(rt, &mut folder, PlainChange::Write(text, bytes))?.is_ok());
     }
     Ok(folder)
 }
 
 // The names of a folder, one after the other.
-fn listed<R: Abort + AllocGlobal>(rt: &R, folder: &Folder) -> Result<String, Fail> {
-    let mut text = String::new(rt.alloc());
-    for name in &folder.names(rt.alloc())? {
+fn listed(alloc: Global, folder: &Folder) -> Result<String, AllocError> {
+    let mut text = String::new(alloc);
+    for name in &folder.names(alloc)? {
         text.push_str(name.as_str())?;
         text.push(' ')?;
     }
     Ok(text)
 }
 
-fn applied(folder: &mut Folder, change: &mut Change) -> Result<(), ChangeFault> {
-    folder.apply(change)
+// Whether a folder has these names, one after the other, and so many vacant places.
+fn is_listed(
+    alloc: Global,
+    folder: &Folder,
+    names: &str,
+    vacant: usize,
+) -> Result<bool, AllocError> {
+    Ok(listed(alloc, folder)?.as_str() == names && folder.vacant() == vacant)
+}
+
+// Whether a folder gives these bytes for the name.
+fn gives(rt: &impl Abort, folder: &Folder, text: &str, bytes: Option<&[u8]>) -> bool {
+    folder.get(&name(rt, text)) == bytes
+}
+
+fn fingerprint(alloc: Global, folder: &Folder) -> Result<[u8; 16], AllocError> {
+    folder.fingerprint(alloc)
+}
+
+// Files and vacant places, changes and the answer to each, and what is seen behind them.
+#[derive(Clone, Copy)]
+struct Case {
+    files: Files,
+    vacant: usize,
+    changes: &'static [(PlainChange, Answer)],
+    names_then: &'static str,
+    vacant_then: usize,
+    read_then: (&'static str, Option<&'static [u8]>),
+}
+
+const ACCEPTED: &[(PlainChange, Answer)] = &[
+    (PlainChange::Rename("a", "c"), Ok(())),
+    (PlainChange::Write("a", b"11"), Ok(())),
+    (PlainChange::Replace("b", b"22"), Ok(())),
+    (PlainChange::Remove("c"), Ok(())),
+];
+
+const CASES: [Case; 5] = [
+    Case {
+        files: &[],
+        vacant: 1,
+        changes: &[],
+        names_then: "",
+        vacant_then: 1,
+        read_then: ("b", None),
+    },
+    Case {
+        files: &[],
+        vacant: 1,
+        changes: &[(PlainChange::Write("a", b"abcdefgh"), Ok(()))],
+        names_then: "a ",
+        vacant_then: 0,
+        read_then: ("a", Some(b"abcdefgh")),
+    },
+    Case {
+        files: &[("a", b"abcdefgh")],
+        vacant: 0,
+        changes: &[
+            (PlainChange::Write("b", b""), Err(ChangeFault::NoRoom)),
+            (PlainChange::Write("a", b""), Err(ChangeFault::NameTaken)),
+            (PlainChange::Rename("a", "a"), Err(ChangeFault::NameTaken)),
+            (PlainChange::Remove("b"), Err(ChangeFault::NoSuchName)),
+        ],
+        names_then: "a ",
+        vacant_then: 0,
+        read_then: ("a", Some(b"abcdefgh")),
+    },
+    Case {
+        files: &[("b", b"2"), ("a", b"1")],
+        vacant: 1,
+        changes: &[
+            (PlainChange::Write("a", b"x"), Err(ChangeFault::NameTaken)),
+            (
+                PlainChange::Replace("c", b"x"),
+                Err(ChangeFault::NoSuchName),
+            ),
+            (PlainChange::Rename("c", "a"), Err(ChangeFault::NoSuchName)),
+            (PlainChange::Rename("b", "a"), Err(ChangeFault::NameTaken)),
+            (PlainChange::Remove("c"), Err(ChangeFault::NoSuchName)),
+        ],
+        names_then: "a b ",
+        vacant_then: 1,
+        read_then: ("a", Some(b"1")),
+    },
+    Case {
+        files: &[("a", b"1"), ("b", b"2")],
+        vacant: 1,
+        changes: ACCEPTED,
+        names_then: "a b ",
+        vacant_then: 1,
+        read_then: ("b", Some(b"22")),
+    },
+];
+
+// Whether each change in turn has the answer beside it.
+fn are_answered<R: Abort + AllocGlobal>(
+    rt: &R,
+    folder: &mut Folder,
+    changes: &[(PlainChange, Answer)],
+) -> Result<bool, AllocError> {
+    for (plain, wanted) in changes {
+        if answer(rt, folder, *plain)? != *wanted {
+            return Ok(false);
+        }
+    }
+    Ok(true)
+}
+
+fn is_as_wanted<R: Abort + AllocGlobal>(rt: &R, case: Case) -> Result<bool, AllocError> {
+    let mut folder = folder_of(rt, case.files, case.vacant)?;
+    Ok(
+        are_answered(rt, &mut folder, case.changes)?
+            && is_listed(rt.alloc(), &folder, case.names_then, case.vacant_then)?
+            && gives(rt, &folder, case.read_then.0, case.read_then.1),
+    )
+}
+
+#[test]
+fn changes_of_folders(rt: HostRuntime) -> Result<(), Fail> {
+    for (k, case) in CASES.iter().enumerate() {
+        assert!(rt; is_as_wanted(&rt, *case)?, "case {k}");
+    }
+    Ok(())
 }
 
 const NO_FILES: [u8; 16] = [
     0xd4, 0x1d, 0x8c, 0xd9, 0x8f, 0x00, 0xb2, 0x04, 0xe9, 0x80, 0x09, 0x98, 0xec, 0xf8, 0x42, 0x7e,
 ];
-
-#[test]
-fn empty_folder(rt: HostRuntime) -> Result<(), Fail> {
-    let mut folder = Folder::new(rt.alloc());
-    assert!(rt; folder.fingerprint(rt.alloc())? == NO_FILES);
-    folder.reserve(1)?;
-    assert!(rt; folder.vacant() == 1);
-    assert!(rt; folder.get(&name(&rt, "b")).is_none());
-    Ok(())
-}
-
-#[test]
-fn small_folder(rt: HostRuntime) -> Result<(), Fail> {
-    let mut folder = folder_of(&rt, &[], 1)?;
-    assert!(rt; applied(&mut folder, &mut write(&rt, "a", b"abcdefgh")?).is_ok());
-    assert!(rt; listed(&rt, &folder)?.as_str() == "a ");
-    assert!(rt; folder.vacant() == 0);
-    assert!(rt; folder.get(&name(&rt, "a")) == Some(b"abcdefgh".as_slice()));
-    Ok(())
-}
-
-#[test]
-fn full_folder(rt: HostRuntime) -> Result<(), Fail> {
-    let mut folder = folder_of(&rt, &[("a", b"abcdefgh")], 0)?;
-    let refused = [
-        (write(&rt, "b", b"")?, ChangeFault::NoRoom),
-        (write(&rt, "a", b"")?, ChangeFault::NameTaken),
-        (
-            Change::Rename(name(&rt, "a"), name(&rt, "a")),
-            ChangeFault::NameTaken,
-        ),
-        (Change::Remove(name(&rt, "b")), ChangeFault::NoSuchName),
-    ];
-    for (mut change, fault) in refused {
-        assert!(rt; applied(&mut folder, &mut change) == Err(fault));
-    }
-    Ok(())
-}
 
 const ONE_FILE: [u8; 16] = [
     0xe1, 0x8e, 0x3d, 0x90, 0x79, 0x78, 0xaa, 0x4e, 0x80, 0xee, 0x2e, 0x69, 0x0c, 0x64, 0xe1, 0x95,
@@ -94,98 +220,98 @@ const TWO_FILES: [u8; 16] = [
     0x77, 0x08, 0x56, 0x50, 0x42, 0xc3, 0x29, 0xb4, 0x65, 0x12, 0xee, 0x4a, 0x16, 0x50, 0xe4, 0x84,
 ];
 
-// MD5 of 01 00 00 00 00 00 00 00 `a` 02 00 00 00 00 00 00 00 `bc`, and of 01 .. `b` 00 .. behind it.
+// MD5 of nothing, of 01 00 00 00 00 00 00 00 `a` 02 00 00 00 00 00 00 00 `bc`, and of 01 .. `b` 00 .. behind it.
+const FINGERPRINTS: [(Files, [u8; 16]); 3] = [
+    (&[], NO_FILES),
+    (&[("a", b"bc")], ONE_FILE),
+    (&[("b", b""), ("a", b"bc")], TWO_FILES),
+];
+
 #[test]
 fn fingerprints_of_files(rt: HostRuntime) -> Result<(), Fail> {
-    let one = folder_of(&rt, &[("a", b"bc")], 0)?;
-    let two = folder_of(&rt, &[("b", b""), ("a", b"bc")], 0)?;
-    assert!(rt; one.fingerprint(rt.alloc())? == ONE_FILE);
-    assert!(rt; two.fingerprint(rt.alloc())? == TWO_FILES);
-    let change = Change::Rename(name(&rt, "c"), name(&rt, "b"));
-    let below = two.fingerprint_below(&change.first_name());
-    assert!(rt; two.fingerprint_from(&below) == TWO_FILES);
+    for (files, digest) in FINGERPRINTS {
+        let folder = folder_of(&rt, files, 0)?;
+        assert!(rt; fingerprint(rt.alloc(), &folder)? == digest);
+    }
     Ok(())
 }
+
+// The fingerprint, of which the state below the names of this change is kept.
+fn fingerprint_in_parts(folder: &Folder, change: &Change) -> [u8; 16] {
+    folder.fingerprint_from(&folder.fingerprint_below(&change.first_name()))
+}
+
+#[test]
+fn fingerprint_from_below_a_change(rt: HostRuntime) -> Result<(), Fail> {
+    let folder = folder_of(&rt, &[("b", b""), ("a", b"bc")], 0)?;
+    let change = change_of(&rt, PlainChange::Rename("c", "b"))?;
+    assert!(rt; fingerprint_in_parts(&folder, &change) == TWO_FILES);
+    Ok(())
+}
+
+const TEXTS: [(&str, bool); 11] = [
+    ("a", true),
+    (".", false),
+    ("..", false),
+    ("", false),
+    ("a/b", false),
+    ("a\0", false),
+    (".par2undo", false),
+    (".par2undo.tmp", false),
+    (".par2und", true),
+    ("...", true),
+    ("ä", true),
+];
 
 #[test]
 fn texts_that_are_names(rt: HostRuntime) {
-    let texts = [
-        "a",
-        ".",
-        "..",
-        "",
-        "a/b",
-        "a\0",
-        ".par2undo",
-        ".par2undo.tmp",
-        ".par2und",
-        "...",
-        "ä",
-    ];
-    let wanted = [
-        true, false, false, false, false, false, false, false, true, true, true,
-    ];
-    for (text, is_name) in texts.iter().zip(wanted.iter()) {
-        assert!(rt; Name::new(text).is_ok() == *is_name, "{text}");
+    for (text, is_name) in TEXTS {
+        assert!(rt; Name::new(text).is_ok() == is_name, "{text}");
     }
-    let longest = "nnnnnnnnnnnnnnnnnnnnnnnnnnnnnnnnnnnnnnnnnnnnnnnnnnnnnnnnnnnnnnn\
-        nnnnnnnnnnnnnnnnnnnnnnnnnnnnnnnnnnnnnnnnnnnnnnnnnnnnnnnnnnnnnnnn\
-        nnnnnnnnnnnnnnnnnnnnnnnnnnnnnnnnnnnnnnnnnnnnnnnnnnnnnnnnnnnnnnnn\
-        nnnnnnnnnnnnnnnnnnnnnnnnnnnnnnnnnnnnnnnnnnnnnnnnnnnnnnnnnnnnnnnnn";
-    assert!(rt; longest.len() == 256);
-    assert!(rt; matches!(Name::new(longest), Err(BadName)));
-    assert!(rt; name(&rt, &longest[..255]).as_str() == &longest[..255]);
 }
 
 #[test]
-fn refused_changes(rt: HostRuntime) -> Result<(), Fail> {
-    let mut folder = folder_of(&rt, &[("b", b"2"), ("a", b"1")], 1)?;
-    let refused = [
-        (write(&rt, "a", b"x")?, ChangeFault::NameTaken),
-        (
-            Change::Replace(name(&rt, "c"), Bytes::copy_of(rt.alloc(), b"x")?),
-            ChangeFault::NoSuchName,
-        ),
-        (
-            Change::Rename(name(&rt, "c"), name(&rt, "a")),
-            ChangeFault::NoSuchName,
-        ),
-        (
-            Change::Rename(name(&rt, "b"), name(&rt, "a")),
-            ChangeFault::NameTaken,
-        ),
-        (Change::Remove(name(&rt, "c")), ChangeFault::NoSuchName),
-    ];
-    for (mut change, fault) in refused {
-        assert!(rt; applied(&mut folder, &mut change) == Err(fault));
-    }
-    assert!(rt; listed(&rt, &folder)?.as_str() == "a b ");
-    assert!(rt; folder.vacant() == 1);
+fn longest_name(rt: HostRuntime) -> Result<(), Fail> {
+    let longest = "n".repeat(rt.alloc(), 255)?;
+    assert!(rt; name(&rt, &longest).as_str() == longest.as_str());
     Ok(())
+}
+
+#[test]
+fn longer_name(rt: HostRuntime) -> Result<(), Fail> {
+    let longer = "n".repeat(rt.alloc(), 256)?;
+    assert!(rt; matches!(Name::new(&longer), Err(BadName)));
+    Ok(())
+}
+
+// The changes of the last case.
+fn accepted<R: Abort + AllocGlobal>(rt: &R) -> Result<Vec<Change>, AllocError> {
+    let mut changes = Vec::new(rt.alloc());
+    for (plain, _) in ACCEPTED {
+        changes.push(change_of(rt, *plain)?)?;
+    }
+    Ok(changes)
+}
+
+// Does the changes, and then their way back, where each is accepted.
+fn does_and_takes_back(folder: &mut Folder, changes: &mut [Change]) -> bool {
+    let are_done = are_accepted(folder, changes);
+    changes.reverse();
+    are_done && are_accepted(folder, changes)
+}
+
+fn are_accepted(folder: &mut Folder, changes: &mut [Change]) -> bool {
+    changes
+        .iter_mut()
+        .all(|change| applied(folder, change).is_ok())
 }
 
 #[test]
 fn changes_and_their_way_back(rt: HostRuntime) -> Result<(), Fail> {
     let mut folder = folder_of(&rt, &[("a", b"1"), ("b", b"2")], 1)?;
-    let before = folder.fingerprint(rt.alloc())?;
-    let mut changes = vec![in rt.alloc();
-        Change::Rename(name(&rt, "a"), name(&rt, "c")),
-        write(&rt, "a", b"11")?,
-        Change::Replace(name(&rt, "b"), Bytes::copy_of(rt.alloc(), b"22")?),
-        Change::Remove(name(&rt, "c")),
-    ]?;
-    for change in changes.iter_mut() {
-        assert!(rt; applied(&mut folder, change).is_ok());
-    }
-    assert!(rt; listed(&rt, &folder)?.as_str() == "a b ");
-    assert!(rt; folder.get(&name(&rt, "b")) == Some(b"22".as_slice()));
-    assert!(rt; folder.vacant() == 1);
-    changes.reverse();
-    for change in changes.iter_mut() {
-        assert!(rt; applied(&mut folder, change).is_ok());
-    }
-    assert!(rt; folder.fingerprint(rt.alloc())? == before);
-    assert!(rt; folder.vacant() == 1);
+    let before = fingerprint(rt.alloc(), &folder)?;
+    assert!(rt; does_and_takes_back(&mut folder, &mut accepted(&rt)?));
+    assert!(rt; folder.vacant() == 1 && fingerprint(rt.alloc(), &folder)? == before);
     Ok(())
 }
 
@@ -203,16 +329,20 @@ fn calls<S: FolderStore, R: Abort + AllocGlobal>(rt: &R, store: &mut S) -> [bool
     ]
 }
 
+// The store with the file `a` and the journal `j`.
 fn started<R: Abort + AllocGlobal>(rt: &R) -> MemoryStore {
     let mut store = MemoryStore::new(rt.alloc());
-    assert!(rt; store.put(&name(rt, "a"), b"1") == Ok(()));
-    assert!(rt; store.put_journal(b"j") == Ok(()));
+    let (file, journal) = (store.put(&name(rt, "a"), b"1"), store.put_journal(b"j"));
+    assert!(rt; file.is_ok() && journal.is_ok());
     store
 }
 
 // The names, one after the other, and the journal.
 fn held<S: FolderStore, R: Abort + AllocGlobal>(rt: &R, store: &mut S) -> Result<String, Fail> {
-    let mut text = listed(rt, &read_folder(rt.alloc(), store).expect(rt, "a folder"))?;
+    let mut text = listed(
+        rt.alloc(),
+        &read_folder(rt.alloc(), store).expect(rt, "a folder"),
+    )?;
     if let Some(journal) = store.read_journal(rt.alloc()).expect(rt, "a journal") {
         let tail = if journal.as_slice() == b"j".as_slice() {
             "old"
@@ -224,34 +354,69 @@ fn held<S: FolderStore, R: Abort + AllocGlobal>(rt: &R, store: &mut S) -> Result
     Ok(text)
 }
 
+// Whether the store gives these bytes for the name, or None where it fails.
+fn reads<S: FolderStore, R: Abort + AllocGlobal>(
+    rt: &R,
+    store: &mut S,
+    text: &str,
+    wanted: Option<&[u8]>,
+) -> bool {
+    match store.read(rt.alloc(), &name(rt, text)) {
+        Ok(bytes) => wanted == Some(bytes.as_slice()),
+        Err(fault) => wanted.is_none() && fault == ReadFault::Store,
+    }
+}
+
+fn without_files(alloc: Global) -> MemoryStore {
+    MemoryStore::new(alloc)
+}
+
+// Whether the store has this text of its names and the journal.
+fn holds<S: FolderStore, R: Abort + AllocGlobal>(
+    rt: &R,
+    store: &mut S,
+    wanted: &str,
+) -> Result<bool, Fail> {
+    Ok(held(rt, store)?.as_str() == wanted)
+}
+
+#[test]
+fn store_without_files(rt: HostRuntime) -> Result<(), Fail> {
+    let mut store = without_files(rt.alloc());
+    assert!(rt; holds(&rt, &mut store, "")?);
+    Ok(())
+}
+
 #[test]
 fn store_in_memory(rt: HostRuntime) -> Result<(), Fail> {
-    let mut store = MemoryStore::new(rt.alloc());
-    assert!(rt; held(&rt, &mut store)?.as_str() == "");
     let mut store = started(&rt);
-    assert!(rt; held(&rt, &mut store)?.as_str() == "a old");
+    assert!(rt; holds(&rt, &mut store, "a old")?);
     assert!(rt; calls(&rt, &mut store) == [true; 7]);
-    assert!(rt; held(&rt, &mut store)?.as_str() == "c new");
-    let bytes = store.read(rt.alloc(), &name(&rt, "c")).expect(&rt, "c");
-    assert!(rt; bytes.as_slice() == b"1".as_slice());
+    assert!(rt; holds(&rt, &mut store, "c new")? && reads(&rt, &mut store, "c", Some(b"1")));
     Ok(())
+}
+
+// The answers to calls that no store can do that has the files `a` and `b` alone.
+fn impossible<S: FolderStore>(rt: &impl Abort, store: &mut S) -> [Result<(), StoreFault>; 4] {
+    let (a, b, c) = (name(rt, "a"), name(rt, "b"), name(rt, "c"));
+    [
+        store.rename(&c, &name(rt, "d")),
+        store.rename(&a, &b),
+        store.rename(&a, &a),
+        store.remove(&c),
+    ]
+}
+
+fn put<S: FolderStore>(rt: &impl Abort, store: &mut S, text: &str, bytes: &[u8]) -> bool {
+    store.put(&name(rt, text), bytes).is_ok()
 }
 
 #[test]
 fn impossible_calls_fail(rt: HostRuntime) -> Result<(), Fail> {
     let mut store = started(&rt);
-    assert!(rt; store.put(&name(&rt, "b"), b"2") == Ok(()));
-    assert!(rt;
-        matches!(
-            store.read(rt.alloc(), &name(&rt, "c")),
-            Err(ReadFault::Store)
-        )
-    );
-    assert!(rt; store.rename(&name(&rt, "c"), &name(&rt, "d")) == Err(StoreFault));
-    assert!(rt; store.rename(&name(&rt, "a"), &name(&rt, "b")) == Err(StoreFault));
-    assert!(rt; store.rename(&name(&rt, "a"), &name(&rt, "a")) == Err(StoreFault));
-    assert!(rt; store.remove(&name(&rt, "c")) == Err(StoreFault));
-    assert!(rt; held(&rt, &mut store)?.as_str() == "a b old");
+    assert!(rt; put(&rt, &mut store, "b", b"2") && reads(&rt, &mut store, "c", None));
+    assert!(rt; impossible(&rt, &mut store) == [Err(StoreFault); 4]);
+    assert!(rt; holds(&rt, &mut store, "a b old")?);
     Ok(())
 }
 

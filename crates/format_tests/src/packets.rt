@@ -80,6 +80,10 @@ const KINDS: [Kind; 5] = [
     Kind::Recovery,
 ];
 
+const KINDS_OF_INDEX: [Kind; 4] = [Kind::Main, Kind::FileDesc, Kind::Ifsc, Kind::Creator];
+
+const KINDS_WITHOUT_CREATOR: [Kind; 4] = [Kind::Main, Kind::FileDesc, Kind::Ifsc, Kind::Recovery];
+
 fn index(alloc: Global) -> Result<Vec<u8>, FromHexError> {
     hex::decode(alloc, INDEX)
 }
@@ -101,11 +105,18 @@ fn fox_volume(alloc: Global) -> Result<Vec<u8>, FromHexError> {
     hex::decode(alloc, FOX_VOLUME)
 }
 
+// The index, and behind it the recovery slices of these exponents.
+fn volume_of(alloc: Global, exponents: &[u32]) -> Result<Vec<u8>, FromHexError> {
+    let mut text = index(alloc)?;
+    for exponent in exponents {
+        text.extend_from_slice(&recovery(alloc, *exponent)?)?;
+    }
+    Ok(text)
+}
+
 // The volume of 492 bytes.
 fn volume(alloc: Global) -> Result<Vec<u8>, FromHexError> {
-    let mut text = index(alloc)?;
-    text.extend_from_slice(&recovery(alloc, 0)?)?;
-    Ok(text)
+    volume_of(alloc, &[0])
 }
 
 fn kinds_of(alloc: Global, text: &[u8]) -> Result<Vec<Kind>, AllocError> {
@@ -120,6 +131,14 @@ fn exponents_of(alloc: Global, text: &[u8]) -> Result<Vec<u32>, AllocError> {
         }
     }
     Ok(exponents)
+}
+
+fn has_kinds(alloc: Global, text: &[u8], kinds: &[Kind]) -> Result<bool, AllocError> {
+    Ok(kinds_of(alloc, text)?.as_slice() == kinds)
+}
+
+fn has_exponents(alloc: Global, text: &[u8], exponents: &[u32]) -> Result<bool, AllocError> {
+    Ok(exponents_of(alloc, text)?.as_slice() == exponents)
 }
 
 fn packet(kind: Kind, body: &[u8]) -> Packet<'_> {
@@ -167,30 +186,27 @@ fn record_of_a(alloc: Global) -> Result<FileRecord, AllocError> {
 
 #[test]
 fn packets_of_a_volume(rt: HostRuntime) -> Result<(), Fail> {
-    let alloc = rt.alloc();
-    let mut text = volume(alloc)?;
-    assert!(rt; text.len() == 492);
-    assert!(rt; kinds_of(alloc, &text)?.as_slice() == KINDS.as_slice());
+    let text = volume(rt.alloc())?;
+    assert!(rt; text.len() == 492 && has_kinds(rt.alloc(), &text, &KINDS)?);
+    Ok(())
+}
+
+#[test]
+fn packets_of_a_volume_cut_short(rt: HostRuntime) -> Result<(), Fail> {
+    let mut text = volume(rt.alloc())?;
     text.pop();
-    assert!(rt;
-        kinds_of(alloc, &text)?.as_slice()
-            == [Kind::Main, Kind::FileDesc, Kind::Ifsc, Kind::Creator].as_slice()
-    );
+    assert!(rt; has_kinds(rt.alloc(), &text, &KINDS_OF_INDEX)?);
     Ok(())
 }
 
 #[test]
 fn packets_of_a_volume_with_one_bit_flipped(rt: HostRuntime) -> Result<(), Fail> {
-    let alloc = rt.alloc();
-    let mut text = volume(alloc)?;
+    let mut text = volume(rt.alloc())?;
     // The first byte of the Creator's body.
     if let Some(byte) = text.get_mut(400) {
         *byte ^= 1;
     }
-    assert!(rt;
-        kinds_of(alloc, &text)?.as_slice()
-            == [Kind::Main, Kind::FileDesc, Kind::Ifsc, Kind::Recovery].as_slice()
-    );
+    assert!(rt; has_kinds(rt.alloc(), &text, &KINDS_WITHOUT_CREATOR)?);
     Ok(())
 }
 
@@ -231,20 +247,24 @@ fn written_volume(alloc: Global, slices: &[(u32, [u8; 4])]) -> Result<Vec<u8>, F
     Ok(text)
 }
 
+// Recovery slices by their exponents, those exponents, and the length of the volume.
+type VolumeRow = (&'static [(u32, [u8; 4])], &'static [u32], usize);
+
+const VOLUMES: [VolumeRow; 2] = [
+    (&[(0, *b"\x04\x04\x04\x0c")], &[0], 492),
+    (
+        &[(1, *b"\x5d\x4d\x51\x79"), (2, *b"\xe5\x9f\xcd\x67")],
+        &[1, 2],
+        564,
+    ),
+];
+
 #[test]
 fn volumes_are_written(rt: HostRuntime) -> Result<(), Fail> {
-    let alloc = rt.alloc();
-    let first = written_volume(alloc, &[(0, *b"\x04\x04\x04\x0c")])?;
-    assert!(rt; first == volume(alloc)?);
-    assert!(rt; first.len() == 492);
-
-    let slices = [(1, *b"\x5d\x4d\x51\x79"), (2, *b"\xe5\x9f\xcd\x67")];
-    let second = written_volume(alloc, &slices)?;
-    let mut expected = index(alloc)?;
-    expected.extend_from_slice(&recovery(alloc, 1)?)?;
-    expected.extend_from_slice(&recovery(alloc, 2)?)?;
-    assert!(rt; second == expected);
-    assert!(rt; second.len() == 564);
+    for (slices, exponents, length) in VOLUMES {
+        let text = written_volume(rt.alloc(), slices)?;
+        assert!(rt; text == volume_of(rt.alloc(), exponents)? && text.len() == length);
+    }
     Ok(())
 }
 
@@ -287,60 +307,78 @@ fn recovery_agrees(packet: &Packet<'_>) -> bool {
     }
 }
 
+// Whether a packet is one of the volume of this file.
+fn agrees(packet: &Packet<'_>, file: &FileRecord) -> bool {
+    main_agrees(packet, file)
+        && desc_agrees(packet, file)
+        && ifsc_agrees(packet, file)
+        && recovery_agrees(packet)
+}
+
 #[test]
 fn bodies_of_a_volume(rt: HostRuntime) -> Result<(), Fail> {
     let text = volume(rt.alloc())?;
     let file = record_of_a(rt.alloc())?;
     for packet in Packets::new(&text) {
-        assert!(rt; main_agrees(&packet, &file) && desc_agrees(&packet, &file));
-        assert!(rt; ifsc_agrees(&packet, &file) && recovery_agrees(&packet));
+        assert!(rt; agrees(&packet, &file));
     }
     Ok(())
 }
 
+// The recovery slices of exponents 1 and 0, between heads of no packet that claim this length.
+fn slices_between_heads(alloc: Global, claim: u64) -> Result<Vec<u8>, FromHexError> {
+    let head = false_head(alloc, claim)?;
+    let mut text = Vec::from_slice(alloc, b"PAR2\0PKPAR2\0PKT")?;
+    for exponent in [1, 0] {
+        text.extend_from_slice(&head)?;
+        text.extend_from_slice(&recovery(alloc, exponent)?)?;
+    }
+    text.extend_from_slice(&head)?;
+    Ok(text)
+}
+
 #[test]
 fn packets_between_other_bytes(rt: HostRuntime) -> Result<(), Fail> {
-    let alloc = rt.alloc();
     for claim in [68, 144, 1_000_000, u64::MAX - 3] {
-        let head = false_head(alloc, claim)?;
-        let mut text = Vec::from_slice(alloc, b"PAR2\0PKPAR2\0PKT")?;
-        text.extend_from_slice(&head)?;
-        text.extend_from_slice(&recovery(alloc, 1)?)?;
-        text.extend_from_slice(&head)?;
-        text.extend_from_slice(&recovery(alloc, 0)?)?;
-        text.extend_from_slice(&head)?;
-        assert!(rt;
-            exponents_of(alloc, &text)?.as_slice() == [1, 0].as_slice(),
-            "at {claim}"
-        );
+        let text = slices_between_heads(rt.alloc(), claim)?;
+        assert!(rt; has_exponents(rt.alloc(), &text, &[1, 0])?, "at {claim}");
     }
     Ok(())
 }
 
 #[test]
 fn heads_at_the_end(rt: HostRuntime) -> Result<(), Fail> {
-    let alloc = rt.alloc();
-    let mut text = recovery(alloc, 2)?;
-    text.extend_from_slice(&false_head(alloc, 64)?)?;
+    let mut text = recovery(rt.alloc(), 2)?;
+    text.extend_from_slice(&false_head(rt.alloc(), 64)?)?;
     // The last head is cut at each place.
     for _ in 0..64 {
-        assert!(rt; exponents_of(alloc, &text)?.as_slice() == [2].as_slice());
+        assert!(rt; has_exponents(rt.alloc(), &text, &[2])?);
         text.pop();
     }
     Ok(())
 }
 
-#[test]
-fn main_without_room_for_its_claim(rt: HostRuntime) {
-    let listed = b"\x04\0\0\0\0\0\0\0\x01\0\0\0sixteen bytes id";
-    let claimed = b"\x04\0\0\0\0\0\0\0\xff\xff\xff\xffsixteen bytes id";
-    let fewer = b"\x04\0\0\0\0\0\0\0\0\0\0\0sixteen bytes id";
-    assert!(rt; matches!(read_main(&packet(Kind::Main, listed)), Some(main) if main.count() == 1));
-    assert!(rt; matches!(read_main(&packet(Kind::Main, fewer)), Some(main) if main.count() == 0));
-    assert!(rt; read_main(&packet(Kind::Main, claimed)).is_none());
+// How many files a Main of this body lists, or None where it is none.
+fn count_listed(body: &[u8]) -> Option<usize> {
+    match read_main(&packet(Kind::Main, body)) {
+        Some(main) => Some(main.count()),
+        None => None,
+    }
 }
 
-// Which of the four readers take a body of zeros of this length.
+const MAINS: [(&[u8], Option<usize>); 3] = [
+    (b"\x04\0\0\0\0\0\0\0\x01\0\0\0sixteen bytes id", Some(1)),
+    (b"\x04\0\0\0\0\0\0\0\0\0\0\0sixteen bytes id", Some(0)),
+    (b"\x04\0\0\0\0\0\0\0\xff\xff\xff\xffsixteen bytes id", None),
+];
+
+#[test]
+fn main_without_room_for_its_claim(rt: HostRuntime) {
+    for (body, count) in MAINS {
+        assert!(rt; count_listed(body) == count);
+    }
+}
+
 fn read_by(alloc: Global, len: usize) -> Result<[bool; 4], AllocError> {
     let mut zeros = Vec::new(alloc);
     zeros.resize(len, 0)?;
@@ -352,65 +390,76 @@ fn read_by(alloc: Global, len: usize) -> Result<[bool; 4], AllocError> {
     ])
 }
 
+// Which of the four readers take a body of zeros, by its length.
+const READERS: [(usize, [bool; 4]); 11] = [
+    (0, [false, false, false, false]),
+    (3, [false, false, false, false]),
+    (4, [false, false, false, true]),
+    (11, [false, false, false, true]),
+    (12, [true, false, false, true]),
+    (16, [false, false, true, true]),
+    (28, [true, false, false, true]),
+    (36, [false, false, true, true]),
+    (55, [false, false, false, true]),
+    (56, [false, true, true, true]),
+    (76, [true, true, true, true]),
+];
+
 #[test]
 fn bodies_of_each_length(rt: HostRuntime) -> Result<(), Fail> {
-    for (len, read) in [
-        (0, [false, false, false, false]),
-        (3, [false, false, false, false]),
-        (4, [false, false, false, true]),
-        (11, [false, false, false, true]),
-        (12, [true, false, false, true]),
-        (16, [false, false, true, true]),
-        (28, [true, false, false, true]),
-        (36, [false, false, true, true]),
-        (55, [false, false, false, true]),
-        (56, [false, true, true, true]),
-        (76, [true, true, true, true]),
-    ] {
+    for (len, read) in READERS {
         assert!(rt; read_by(rt.alloc(), len)? == read, "at {len}");
     }
     Ok(())
 }
 
-#[test]
-fn packets_of_other_kinds(rt: HostRuntime) {
-    let other = packet(
-        Kind::Other(*b"PAR 2.0\0Other\0\0\0"),
-        b"\x04\0\0\0\0\0\0\0\0\0\0\0",
-    );
-    assert!(rt; read_main(&other).is_none() && read_desc(&other).is_none());
-    assert!(rt; read_ifsc(&other).is_none() && read_recovery(&other).is_none());
+// Whether one of the four readers takes the packet.
+fn is_read(packet: &Packet<'_>) -> bool {
+    read_main(packet).is_some()
+        || read_desc(packet).is_some()
+        || read_ifsc(packet).is_some()
+        || read_recovery(packet).is_some()
 }
 
 #[test]
+fn packets_of_other_kinds(rt: HostRuntime) {
+    let kind = Kind::Other(*b"PAR 2.0\0Other\0\0\0");
+    assert!(rt; !is_read(&packet(kind, b"\x04\0\0\0\0\0\0\0\0\0\0\0")));
+}
+
+// What the sorting of records with these identifiers answers, and their identifiers behind it.
+fn sorted(
+    alloc: Global,
+    ids: &[[u8; 16]],
+) -> Result<(Result<(), DuplicateId>, Vec<[u8; 16]>), AllocError> {
+    let mut files = Vec::new(alloc);
+    for id in ids {
+        files.push(record(alloc, *id))?;
+    }
+    let answer = sort_ids(&mut files);
+    Ok((answer, files.iter().map(|file| file.id).collect(alloc)?))
+}
+
+const HIGH: [u8; 16] = *b"\0\0\0\0\0\0\0\0\0\0\0\0\0\0\0\x01";
+
+const LOW: [u8; 16] = *b"\xff\0\0\0\0\0\0\0\0\0\0\0\0\0\0\0";
+
+#[test]
 fn identifiers_rise_as_little_endian_numbers(rt: HostRuntime) -> Result<(), Fail> {
-    let alloc = rt.alloc();
-    let high = *b"\0\0\0\0\0\0\0\0\0\0\0\0\0\0\0\x01";
-    let low = *b"\xff\0\0\0\0\0\0\0\0\0\0\0\0\0\0\0";
-    let mut files = Vec::from_array(alloc, [record(alloc, high), record(alloc, low)])?;
-    assert!(rt; sort_ids(&mut files) == Ok(()));
-    let ids = files
-        .iter()
-        .map(|file| file.id)
-        .collect::<Vec<[u8; 16]>>(alloc)?;
-    assert!(rt; ids.as_slice() == [low, high].as_slice());
-    assert!(rt; sort_ids(&mut []) == Ok(()));
+    let (answer, ids) = sorted(rt.alloc(), &[HIGH, LOW])?;
+    assert!(rt; answer == Ok(()) && ids.as_slice() == [LOW, HIGH].as_slice());
     Ok(())
 }
 
 #[test]
+fn no_records_are_sorted(rt: HostRuntime) {
+    assert!(rt; sort_ids(&mut []) == Ok(()));
+}
+
+#[test]
 fn two_records_with_one_identifier(rt: HostRuntime) -> Result<(), Fail> {
-    let alloc = rt.alloc();
-    let mut files = Vec::from_array(
-        alloc,
-        [
-            record(alloc, [9; 16]),
-            record(alloc, [1; 16]),
-            record(alloc, [9; 16]),
-        ],
-    )?;
-    assert!(rt; sort_ids(&mut files) == Err(DuplicateId));
-    assert!(rt; files.len() == 3);
+    let (answer, ids) = sorted(rt.alloc(), &[[9; 16], [1; 16], [9; 16]])?;
+    assert!(rt; answer == Err(DuplicateId) && ids.len() == 3);
     Ok(())
 }
 
@@ -432,21 +481,16 @@ fn is_fox(desc: &DescView<'_>) -> bool {
 
 #[test]
 fn index_of_par2cmdline(rt: HostRuntime) -> Result<(), Fail> {
-    let alloc = rt.alloc();
-    let text = fox_index(alloc)?;
-    assert!(rt;
-        kinds_of(alloc, &text)?.as_slice()
-            == [Kind::Main, Kind::FileDesc, Kind::Ifsc, Kind::Creator].as_slice()
-    );
+    let text = fox_index(rt.alloc())?;
+    assert!(rt; has_kinds(rt.alloc(), &text, &KINDS_OF_INDEX)?);
     assert!(rt; Packets::new(&text).all(|packet| is_of_fox(&packet)));
     Ok(())
 }
 
 #[test]
 fn volume_of_par2cmdline(rt: HostRuntime) -> Result<(), Fail> {
-    let alloc = rt.alloc();
-    let text = fox_volume(alloc)?;
-    assert!(rt; kinds_of(alloc, &text)?.len() == 9);
-    assert!(rt; exponents_of(alloc, &text)?.as_slice() == [0, 1].as_slice());
+    let text = fox_volume(rt.alloc())?;
+    assert!(rt; kinds_of(rt.alloc(), &text)?.len() == 9);
+    assert!(rt; has_exponents(rt.alloc(), &text, &[0, 1])?);
     Ok(())
 }
