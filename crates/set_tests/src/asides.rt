@@ -1,9 +1,8 @@
 //! The names under which files are put aside, and a set's par files.
 
-use crate::packets::{Parts, name, parts_of, put, record, recovery};
+use crate::packets::{Files, Part, Parts, folder_of, name, parts_of, parts_of_f, record, set_in};
 use par2_asides::{asides, par_files};
 use par2_folder::{Folder, Name};
-use par2_sets::{ParSet, set_of};
 use par2_spec::Fault;
 use std::alloc::{AllocError, Global};
 use std::process::Abort;
@@ -24,70 +23,65 @@ fn parts_for(alloc: Global, target: &str) -> Result<Parts, AllocError> {
     parts_of(alloc, 4, record(alloc, 7, target, 8)?)
 }
 
-// A folder with the set in `m.par2`.
-fn folder_with<R: Abort + AllocGlobal>(rt: &R, set: &Parts) -> Result<Folder, Fail> {
-    let mut folder = Folder::new(rt.alloc());
-    put(
-        rt,
-        &mut folder,
-        "m.par2",
-        &[&set.main, &set.description, &set.checksums],
-    )?;
-    Ok(folder)
+// The asides of these names, as one text, in a folder whose base is `m.par2`.
+fn asides_of<R: Abort + AllocGlobal>(
+    rt: &R,
+    folder: &Folder,
+    names: &[Name],
+) -> Result<String, Fault> {
+    let found = asides(rt.alloc(), folder, &set_in(rt, folder), names)?;
+    text_of(rt.alloc(), &found).map_err(|_| Fault::Memory)
 }
 
-// The set in `m.par2`.
-fn set_in<'a, R: Abort + AllocGlobal>(rt: &R, folder: &'a Folder) -> ParSet<'a> {
-    match set_of(rt.alloc(), folder, &name(rt, "m.par2")) {
-        Ok(set) => set,
-        Err(_) => panic!(rt; "the set does not read"),
-    }
-}
+// A base with the whole set, and files beside it.
+const NUMBERED: Files = &[
+    ("m.par2", &[Part::Main, Part::Description, Part::Checksums]),
+    ("f.1", &[Part::Noise(b"one")]),
+    ("g.2", &[Part::Noise(b"two")]),
+];
 
 #[test]
 fn the_least_free_numbers(rt: HostRuntime) -> Result<(), Fail> {
-    let alloc = rt.alloc();
-    let mut folder = folder_with(&rt, &parts_for(alloc, "f.2")?)?;
-    put(&rt, &mut folder, "f.1", &[b"one"])?;
-    put(&rt, &mut folder, "g.2", &[b"two"])?;
-    let set = set_in(&rt, &folder);
-    let names = [name(&rt, "f"), name(&rt, "g")];
-    let Ok(found) = asides(alloc, &folder, &set, &names) else {
-        panic!(rt; "there are asides");
-    };
-    assert_eq!(rt; text_of(alloc, &found)?.as_str(), "f.3 g.1 ");
+    let folder = folder_of(&rt, &parts_for(rt.alloc(), "f.2")?, NUMBERED)?;
+    let found = asides_of(&rt, &folder, &[name(&rt, "f"), name(&rt, "g")]);
+    assert!(rt; found.is_ok_and(|text| text.as_str() == "f.3 g.1 "));
     Ok(())
+}
+
+// Why a name of so many bytes has no aside beside the set of `f`, or None where it has one.
+fn fault_at<R: Abort + AllocGlobal>(rt: &R, bytes: usize) -> Result<Option<Fault>, AllocError> {
+    let files: Files = &[("m.par2", &[Part::Main, Part::Description, Part::Checksums])];
+    let folder = folder_of(rt, &parts_of_f(rt.alloc())?, files)?;
+    let text = "n".repeat(rt.alloc(), bytes)?;
+    Ok(asides_of(rt, &folder, &[name(rt, &text)]).err())
 }
 
 #[test]
 fn an_aside_of_256_bytes(rt: HostRuntime) -> Result<(), Fail> {
-    let alloc = rt.alloc();
-    let folder = folder_with(&rt, &parts_for(alloc, "f")?)?;
-    let set = set_in(&rt, &folder);
-    let text = "n".repeat(alloc, 254)?;
-    let short = [name(&rt, &text[1..])];
-    let long = [name(&rt, &text)];
-    assert!(rt; asides(alloc, &folder, &set, &short).is_ok());
-    assert_eq!(rt;
-        asides(alloc, &folder, &set, &long).err(),
-        Some(Fault::NameTooLong)
-    );
+    let faults = (fault_at(&rt, 253)?, fault_at(&rt, 254)?);
+    assert!(rt; faults == (None, Some(Fault::NameTooLong)));
     Ok(())
 }
 
+const PAR_FILES: Files = &[
+    ("m.par2", &[Part::Main, Part::Description, Part::Checksums]),
+    (
+        "m.vol0+1.PAR2",
+        &[Part::Noise(b"noise"), Part::Recovery(0, b"aaaa")],
+    ),
+    (
+        "mixed.par2",
+        &[Part::Recovery(0, b"aaaa"), Part::Stranger(0, b"aaaa")],
+    ),
+    ("none.par2", &[Part::Noise(b"no packet")]),
+    ("other.txt", &[Part::Recovery(0, b"aaaa")]),
+    ("target.par2", &[Part::Recovery(0, b"aaaa")]),
+];
+
 #[test]
 fn files_with_packets_of_the_set_alone(rt: HostRuntime) -> Result<(), Fail> {
-    let alloc = rt.alloc();
-    let set = parts_for(alloc, "target.par2")?;
-    let own = recovery(alloc, &set.id, 0, b"aaaa")?;
-    let other = recovery(alloc, &[1; 16], 0, b"aaaa")?;
-    let mut folder = folder_with(&rt, &set)?;
-    put(&rt, &mut folder, "m.vol0+1.PAR2", &[b"noise", &own])?;
-    put(&rt, &mut folder, "mixed.par2", &[&own, &other])?;
-    put(&rt, &mut folder, "none.par2", &[b"no packet"])?;
-    put(&rt, &mut folder, "other.txt", &[&own])?;
-    put(&rt, &mut folder, "target.par2", &[&own])?;
-    let found = par_files(alloc, &folder, &set_in(&rt, &folder))?;
-    assert_eq!(rt; text_of(alloc, &found)?.as_str(), "m.par2 m.vol0+1.PAR2 ");
+    let folder = folder_of(&rt, &parts_for(rt.alloc(), "target.par2")?, PAR_FILES)?;
+    let found = par_files(rt.alloc(), &folder, &set_in(&rt, &folder))?;
+    assert!(rt; text_of(rt.alloc(), &found)?.as_str() == "m.par2 m.vol0+1.PAR2 ");
     Ok(())
 }

@@ -3,15 +3,15 @@
 use md5::{Digest, Md5};
 use par2_folder::{Bytes, Change, Folder, Name};
 use par2_packets::{FileRecord, Pair, append_desc, append_ifsc, append_main, main_id};
+use par2_sets::{ParSet, set_of};
 use std::alloc::{AllocError, Global};
 use std::process::Abort;
-use std::test::Fail;
 
 pub const MAIN: &[u8; 16] = b"PAR 2.0\0Main\0\0\0\0";
 
 pub const DESCRIPTION: &[u8; 16] = b"PAR 2.0\0FileDesc";
 
-pub const RECOVERY: &[u8; 16] = b"PAR 2.0\0RecvSlic";
+const RECOVERY: &[u8; 16] = b"PAR 2.0\0RecvSlic";
 
 /// The packets of a set of one file.
 #[derive(Drop)]
@@ -39,22 +39,40 @@ pub fn record(alloc: Global, id: u8, name: &str, length: u64) -> Result<FileReco
     })
 }
 
+// The Main of these files.
+fn main_of(alloc: Global, s: u64, files: &[FileRecord; 1]) -> Result<Vec<u8>, AllocError> {
+    let mut text = Vec::new(alloc);
+    append_main(alloc, &mut text, s, files)?;
+    Ok(text)
+}
+
+fn description_of(alloc: Global, id: &[u8; 16], file: &FileRecord) -> Result<Vec<u8>, AllocError> {
+    let mut text = Vec::new(alloc);
+    append_desc(alloc, &mut text, id, file)?;
+    Ok(text)
+}
+
+fn checksums_of(alloc: Global, id: &[u8; 16], file: &FileRecord) -> Result<Vec<u8>, AllocError> {
+    let mut text = Vec::new(alloc);
+    append_ifsc(alloc, &mut text, id, file)?;
+    Ok(text)
+}
+
 /// The packets of a set of slice size `s` and one file.
 pub fn parts_of(alloc: Global, s: u64, file: FileRecord) -> Result<Parts, AllocError> {
     let files = [file];
     let id = main_id(s, &files);
-    let mut main = Vec::new(alloc);
-    append_main(alloc, &mut main, s, &files)?;
-    let mut description = Vec::new(alloc);
-    append_desc(alloc, &mut description, &id, &files[0])?;
-    let mut checksums = Vec::new(alloc);
-    append_ifsc(alloc, &mut checksums, &id, &files[0])?;
     Ok(Parts {
         id,
-        main,
-        description,
-        checksums,
+        main: main_of(alloc, s, &files)?,
+        description: description_of(alloc, &id, &files[0])?,
+        checksums: checksums_of(alloc, &id, &files[0])?,
     })
+}
+
+/// The packets of a set of slice size 4 and the file `f` of 8 bytes.
+pub fn parts_of_f(alloc: Global) -> Result<Parts, AllocError> {
+    parts_of(alloc, 4, record(alloc, 7, "f", 8)?)
 }
 
 /// A packet of this type and body, by the format alone.
@@ -64,19 +82,19 @@ pub fn packet(
     kind: &[u8; 16],
     body: &[u8],
 ) -> Result<Vec<u8>, AllocError> {
-    let mut digested = Vec::from_slice(alloc, id)?;
-    digested.extend_from_slice(kind)?;
-    digested.extend_from_slice(body)?;
+    let digested = [id.as_slice(), kind, body].concat(alloc)?;
     let length = (body.len() as u64).saturating_add(64);
-    let mut text = Vec::from_slice(alloc, b"PAR2\0PKT")?;
-    text.extend_from_slice(&length.to_le_bytes())?;
-    text.extend_from_slice(&Md5::digest(&digested))?;
-    text.extend_from_slice(&digested)?;
-    Ok(text)
+    [
+        b"PAR2\0PKT".as_slice(),
+        &length.to_le_bytes(),
+        &Md5::digest(&digested),
+        &digested,
+    ]
+    .concat(alloc)
 }
 
-/// The recovery slice of an exponent.
-pub fn recovery(alloc: Global, id: &[u8; 16], e: u32, bytes: &[u8]) -> Result<Vec<u8>, AllocError> {
+// The recovery slice of an exponent.
+fn recovery(alloc: Global, id: &[u8; 16], e: u32, bytes: &[u8]) -> Result<Vec<u8>, AllocError> {
     let mut body = Vec::from_slice(alloc, &e.to_le_bytes())?;
     body.extend_from_slice(bytes)?;
     packet(alloc, id, RECOVERY, &body)
@@ -86,19 +104,90 @@ pub fn name(rt: &impl Abort, text: &str) -> Name {
     Name::new(text).expect(rt, "a name")
 }
 
-/// Puts a file made of parts into the folder.
+/// A part of a file: a packet of a set, or other bytes.
+#[derive(Clone, Copy)]
+pub enum Part {
+    Main,
+    Description,
+    Checksums,
+    /// A Main of no file, whose digest isn't the set's identifier.
+    FalseMain,
+    /// A description whose name is no text.
+    FalseDescription,
+    /// A recovery slice of the set, by its exponent and its bytes.
+    Recovery(u32, &'static [u8]),
+    /// One of another set.
+    Stranger(u32, &'static [u8]),
+    Noise(&'static [u8]),
+}
+
+/// Files by their names and parts.
+pub type Files = &'static [(&'static str, &'static [Part])];
+
+fn false_description(alloc: Global, id: &[u8; 16]) -> Result<Vec<u8>, AllocError> {
+    let mut body = Vec::from_slice(alloc, &[7; 48])?;
+    body.extend_from_slice(b"\x08\0\0\0\0\0\0\0\xff\xff\0\0")?;
+    packet(alloc, id, DESCRIPTION, &body)
+}
+
+fn bytes_of(alloc: Global, set: &Parts, part: Part) -> Result<Vec<u8>, AllocError> {
+    match part {
+        Part::Main => set.main.clone(),
+        Part::Description => set.description.clone(),
+        Part::Checksums => set.checksums.clone(),
+        Part::FalseMain => packet(alloc, &set.id, MAIN, b"\x04\0\0\0\0\0\0\0\0\0\0\0"),
+        Part::FalseDescription => false_description(alloc, &set.id),
+        Part::Recovery(e, bytes) => recovery(alloc, &set.id, e, bytes),
+        Part::Stranger(e, bytes) => recovery(alloc, &[1; 16], e, bytes),
+        Part::Noise(bytes) => Vec::from_slice(alloc, bytes),
+    }
+}
+
+/// Puts a file into the folder.
 pub fn put<R: Abort + AllocGlobal>(
     rt: &R,
     folder: &mut Folder,
     text: &str,
-    parts: &[&[u8]],
-) -> Result<(), Fail> {
-    let mut bytes = Vec::new(rt.alloc());
-    for part in parts {
-        bytes.extend_from_slice(part)?;
-    }
+    bytes: Vec<u8>,
+) -> Result<(), AllocError> {
     folder.reserve(1)?;
     let answer = folder.apply(&mut Change::Write(name(rt, text), Bytes::from(bytes)));
     assert!(rt; answer.is_ok());
     Ok(())
+}
+
+/// Puts a file of these parts into the folder.
+pub fn put_parts<R: Abort + AllocGlobal>(
+    rt: &R,
+    folder: &mut Folder,
+    set: &Parts,
+    text: &str,
+    parts: &[Part],
+) -> Result<(), AllocError> {
+    let mut bytes = Vec::new(rt.alloc());
+    for part in parts {
+        bytes.extend_from_slice(&bytes_of(rt.alloc(), set, *part)?)?;
+    }
+    put(rt, folder, text, bytes)
+}
+
+/// A folder with these files.
+pub fn folder_of<R: Abort + AllocGlobal>(
+    rt: &R,
+    set: &Parts,
+    files: Files,
+) -> Result<Folder, AllocError> {
+    let mut folder = Folder::new(rt.alloc());
+    for (text, parts) in files {
+        put_parts(rt, &mut folder, set, text, parts)?;
+    }
+    Ok(folder)
+}
+
+/// The set of the base `m.par2`.
+pub fn set_in<'a, R: Abort + AllocGlobal>(rt: &R, folder: &'a Folder) -> ParSet<'a> {
+    match set_of(rt.alloc(), folder, &name(rt, "m.par2")) {
+        Ok(set) => set,
+        Err(_) => panic!(rt; "the set does not read"),
+    }
 }

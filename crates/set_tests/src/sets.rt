@@ -1,9 +1,12 @@
 //! What is read of a folder whose base is `m.par2`.
 
-use crate::packets::{DESCRIPTION, MAIN, name, packet, pair, parts_of, put, record, recovery};
+use crate::packets::{
+    DESCRIPTION, Files, MAIN, Part, Parts, folder_of, name, packet, pair, parts_of, parts_of_f,
+    put, put_parts, record, set_in,
+};
 use md5::{Digest, Md5};
 use par2_folder::Folder;
-use par2_sets::{ParSet, set_of};
+use par2_sets::{ParSet, Target, set_of};
 use par2_spec::Fault;
 use std::alloc::{AllocError, Global};
 use std::process::Abort;
@@ -14,10 +17,14 @@ fn fault_of<R: Abort + AllocGlobal>(rt: &R, folder: &Folder) -> Option<Fault> {
     set_of(rt.alloc(), folder, &name(rt, "m.par2")).err()
 }
 
-// Why the set of a base made of these packets is refused.
-fn fault_in<R: Abort + AllocGlobal>(rt: &R, base: &[&[u8]]) -> Result<Option<Fault>, Fail> {
+// Why the set of a base made of these parts is refused.
+fn fault_in<R: Abort + AllocGlobal>(
+    rt: &R,
+    set: &Parts,
+    base: &[Part],
+) -> Result<Option<Fault>, AllocError> {
     let mut folder = Folder::new(rt.alloc());
-    put(rt, &mut folder, "m.par2", base)?;
+    put_parts(rt, &mut folder, set, "m.par2", base)?;
     Ok(fault_of(rt, &folder))
 }
 
@@ -31,189 +38,203 @@ fn recovery_text(alloc: Global, set: &ParSet) -> Result<String, AllocError> {
     Ok(text)
 }
 
+// Whether the target is the file `f` of 8 bytes.
+fn is_f(target: &Target) -> bool {
+    let is_named = target.name().as_str() == "f";
+    let is_sized = target.size() == 8 && target.digest() == [8; 16];
+    is_named && is_sized && target.pairs() == [pair(1), pair(2)].as_slice()
+}
+
+// Whether the set has the file `f` alone.
+fn is_of_f(read: &ParSet) -> bool {
+    match read.targets() {
+        [target] => is_f(target),
+        _ => false,
+    }
+}
+
+// Whether the set has this identifier and slices of 4 bytes.
+fn is_headed(read: &ParSet, id: [u8; 16]) -> bool {
+    read.id() == id && read.slice_size() == 4
+}
+
+const TWO_FILES: Files = &[
+    (
+        "m.par2",
+        &[Part::Main, Part::Description, Part::Recovery(3, b"dddd")],
+    ),
+    (
+        "m.vol0+1.PAR2",
+        &[Part::Recovery(0, b"aaaa"), Part::Checksums],
+    ),
+    ("other", &[Part::Recovery(1, b"bbbb")]),
+];
+
 #[test]
 fn a_set_in_two_files(rt: HostRuntime) -> Result<(), Fail> {
-    let alloc = rt.alloc();
-    let set = parts_of(alloc, 4, record(alloc, 7, "f", 8)?)?;
-    let third = recovery(alloc, &set.id, 3, b"dddd")?;
-    let first = recovery(alloc, &set.id, 0, b"aaaa")?;
-    let elsewhere = recovery(alloc, &set.id, 1, b"bbbb")?;
-    let mut folder = Folder::new(alloc);
-    put(
-        &rt,
-        &mut folder,
-        "m.par2",
-        &[&set.main, &set.description, &third],
-    )?;
-    put(&rt, &mut folder, "m.vol0+1.PAR2", &[&first, &set.checksums])?;
-    put(&rt, &mut folder, "other", &[&elsewhere])?;
-    let Ok(read) = set_of(alloc, &folder, &name(&rt, "m.par2")) else {
-        panic!(rt; "the set does not read");
-    };
-    assert_eq!(rt; read.id(), set.id);
-    assert_eq!(rt; read.slice_size(), 4);
-    let [target] = read.targets() else {
-        panic!(rt; "one target");
-    };
-    assert_eq!(rt; target.name().as_str(), "f");
-    assert_eq!(rt; target.size(), 8);
-    assert_eq!(rt; target.digest(), [8; 16]);
-    assert_eq!(rt; target.pairs(), [pair(1), pair(2)].as_slice());
-    assert_eq!(rt; recovery_text(alloc, &read)?.as_str(), "0=aaaa 3=dddd ");
+    let set = parts_of_f(rt.alloc())?;
+    let folder = folder_of(&rt, &set, TWO_FILES)?;
+    let read = set_in(&rt, &folder);
+    assert!(rt; is_headed(&read, set.id) && is_of_f(&read));
+    assert!(rt; recovery_text(rt.alloc(), &read)?.as_str() == "0=aaaa 3=dddd ");
     Ok(())
 }
 
 #[test]
-fn parts_that_are_absent(rt: HostRuntime) -> Result<(), Fail> {
-    let alloc = rt.alloc();
-    let set = parts_of(alloc, 4, record(alloc, 7, "f", 8)?)?;
-    assert_eq!(rt; fault_of(&rt, &Folder::new(alloc)), Some(Fault::NoPackets));
-    assert_eq!(rt; fault_in(&rt, &[b"no packet"])?, Some(Fault::NoPackets));
-    assert_eq!(rt;
-        fault_in(&rt, &[&set.description, &set.checksums])?,
-        Some(Fault::NoMain)
-    );
-    assert_eq!(rt;
-        fault_in(&rt, &[&set.main, &set.checksums])?,
-        Some(Fault::NoDescription)
-    );
-    assert_eq!(rt;
-        fault_in(&rt, &[&set.main, &set.description])?,
-        Some(Fault::NoChecksums)
-    );
-    Ok(())
+fn no_file(rt: HostRuntime) {
+    assert!(rt; fault_of(&rt, &Folder::new(rt.alloc())) == Some(Fault::NoPackets));
 }
 
-#[test]
-fn main_of_another_digest(rt: HostRuntime) -> Result<(), Fail> {
-    let alloc = rt.alloc();
-    let set = parts_of(alloc, 4, record(alloc, 7, "f", 8)?)?;
-    let body = b"\x04\0\0\0\0\0\0\0\0\0\0\0";
-    let false_main = packet(alloc, &set.id, MAIN, body)?;
-    assert_eq!(rt;
-        fault_in(&rt, &[&false_main, &set.description, &set.checksums])?,
-        Some(Fault::NoMain)
-    );
-    assert_eq!(rt;
-        fault_in(
-            &rt,
-            &[&false_main, &set.description, &set.checksums, &set.main]
-        )?,
-        None
-    );
-    Ok(())
-}
+const BASES: [(&[Part], Option<Fault>); 8] = [
+    (&[Part::Noise(b"no packet")], Some(Fault::NoPackets)),
+    (&[Part::Description, Part::Checksums], Some(Fault::NoMain)),
+    (&[Part::Main, Part::Checksums], Some(Fault::NoDescription)),
+    (&[Part::Main, Part::Description], Some(Fault::NoChecksums)),
+    (
+        &[Part::FalseMain, Part::Description, Part::Checksums],
+        Some(Fault::NoMain),
+    ),
+    (
+        &[
+            Part::FalseMain,
+            Part::Description,
+            Part::Checksums,
+            Part::Main,
+        ],
+        None,
+    ),
+    (
+        &[Part::Main, Part::FalseDescription, Part::Checksums],
+        Some(Fault::BadSet),
+    ),
+    (&[Part::Main, Part::Description, Part::Checksums], None),
+];
 
 #[test]
-fn files_beyond_the_profile(rt: HostRuntime) -> Result<(), Fail> {
-    let alloc = rt.alloc();
-    for (s, file, length, want) in [
-        (6, "f", 8, Fault::BadSet),
-        (4, ".par2undo", 8, Fault::BadSet),
-        (4, "a/b", 8, Fault::BadSet),
-        (4, "f", 131_072, Fault::NoChecksums),
-        (4, "f", 131_073, Fault::BadSet),
-        (4, "f", u64::MAX, Fault::BadSet),
-    ] {
-        let set = parts_of(alloc, s, record(alloc, 7, file, length)?)?;
-        let fault = fault_in(&rt, &[&set.main, &set.description, &set.checksums])?;
-        assert_eq!(rt; fault, Some(want), "at {file} of {length}");
+fn parts_that_are_absent_or_false(rt: HostRuntime) -> Result<(), Fail> {
+    let set = parts_of_f(rt.alloc())?;
+    for (k, (base, fault)) in BASES.iter().enumerate() {
+        assert!(rt; fault_in(&rt, &set, base)? == *fault, "base {k}");
     }
     Ok(())
 }
 
+const WHOLE: &[Part] = &[Part::Main, Part::Description, Part::Checksums];
+
+// Slice size, name and length of a file, and the parts of the base.
+const PROFILE: [(u64, &str, u64, &[Part], Option<Fault>); 7] = [
+    (6, "f", 8, WHOLE, Some(Fault::BadSet)),
+    (4, ".par2undo", 8, WHOLE, Some(Fault::BadSet)),
+    (4, "a/b", 8, WHOLE, Some(Fault::BadSet)),
+    (4, "f", 131_072, WHOLE, Some(Fault::NoChecksums)),
+    (4, "f", 131_073, WHOLE, Some(Fault::BadSet)),
+    (4, "f", u64::MAX, WHOLE, Some(Fault::BadSet)),
+    // An empty file has no checksums.
+    (4, "f", 0, &[Part::Main, Part::Description], None),
+];
+
 #[test]
-fn name_that_is_no_text(rt: HostRuntime) -> Result<(), Fail> {
-    let alloc = rt.alloc();
-    let set = parts_of(alloc, 4, record(alloc, 7, "f", 8)?)?;
-    let mut body = Vec::from_slice(alloc, &[7; 48])?;
-    body.extend_from_slice(b"\x08\0\0\0\0\0\0\0\xff\xff\0\0")?;
-    let description = packet(alloc, &set.id, DESCRIPTION, &body)?;
-    assert_eq!(rt;
-        fault_in(&rt, &[&set.main, &description, &set.checksums])?,
-        Some(Fault::BadSet)
-    );
+fn files_beyond_the_profile(rt: HostRuntime) -> Result<(), Fail> {
+    for (s, file, length, base, fault) in PROFILE {
+        let set = parts_of(rt.alloc(), s, record(rt.alloc(), 7, file, length)?)?;
+        assert!(rt;
+            fault_in(&rt, &set, base)? == fault,
+            "at {file} of {length}"
+        );
+    }
     Ok(())
 }
 
-#[test]
-fn one_name_twice(rt: HostRuntime) -> Result<(), Fail> {
-    let alloc = rt.alloc();
+// A description of no more than a File ID and a name.
+fn described(alloc: Global, id: &[u8; 16], file: &[u8; 16]) -> Result<Vec<u8>, AllocError> {
+    let body = [file.as_slice(), &[0; 40], b"name"].concat(alloc)?;
+    packet(alloc, id, DESCRIPTION, &body)
+}
+
+// A Main of two files, and the descriptions that give both one name.
+fn twice_named(alloc: Global) -> Result<Vec<u8>, AllocError> {
     let body = b"\x04\0\0\0\0\0\0\0\x02\0\0\0sixteen bytes id sixteen bytes i";
     let id = Md5::digest(body);
     let mut base = packet(alloc, &id, MAIN, body)?;
     for file in [b"sixteen bytes id", b" sixteen bytes i"] {
-        let mut described = Vec::from_slice(alloc, file)?;
-        described.extend_from_slice(&[0; 40])?;
-        described.extend_from_slice(b"name")?;
-        base.extend_from_slice(&packet(alloc, &id, DESCRIPTION, &described)?)?;
+        base.extend_from_slice(&described(alloc, &id, file)?)?;
     }
-    assert_eq!(rt; fault_in(&rt, &[&base])?, Some(Fault::BadSet));
-    Ok(())
+    Ok(base)
 }
 
 #[test]
-fn empty_file_without_checksums(rt: HostRuntime) -> Result<(), Fail> {
-    let alloc = rt.alloc();
-    let set = parts_of(alloc, 4, record(alloc, 7, "f", 0)?)?;
-    assert_eq!(rt; fault_in(&rt, &[&set.main, &set.description])?, None);
+fn one_name_twice(rt: HostRuntime) -> Result<(), Fail> {
+    let mut folder = Folder::new(rt.alloc());
+    put(&rt, &mut folder, "m.par2", twice_named(rt.alloc())?)?;
+    assert!(rt; fault_of(&rt, &folder) == Some(Fault::BadSet));
     Ok(())
+}
+
+// A folder with the Main and the description of one set, and a description and the checksums of another.
+fn described_twice<R: Abort + AllocGlobal>(
+    rt: &R,
+    first: &Parts,
+    last: &Parts,
+) -> Result<Folder, AllocError> {
+    let mut folder = Folder::new(rt.alloc());
+    put_parts(
+        rt,
+        &mut folder,
+        first,
+        "m.par2",
+        &[Part::Main, Part::Description],
+    )?;
+    put_parts(
+        rt,
+        &mut folder,
+        last,
+        "a.par2",
+        &[Part::Description, Part::Checksums],
+    )?;
+    Ok(folder)
+}
+
+// Whether the set has one file, of this name.
+fn is_of(read: &ParSet, name: &str) -> bool {
+    match read.targets() {
+        [target] => target.name().as_str() == name,
+        _ => false,
+    }
 }
 
 #[test]
 fn first_description_wins(rt: HostRuntime) -> Result<(), Fail> {
-    let alloc = rt.alloc();
-    let first = parts_of(alloc, 4, record(alloc, 7, "f", 8)?)?;
-    let last = parts_of(alloc, 4, record(alloc, 7, "g", 7)?)?;
-    assert_eq!(rt; first.id, last.id);
-    let mut folder = Folder::new(alloc);
-    put(
-        &rt,
-        &mut folder,
-        "m.par2",
-        &[&first.main, &first.description],
-    )?;
-    put(
-        &rt,
-        &mut folder,
-        "a.par2",
-        &[&last.description, &last.checksums],
-    )?;
-    let Ok(read) = set_of(alloc, &folder, &name(&rt, "m.par2")) else {
-        panic!(rt; "the set does not read");
-    };
-    let [target] = read.targets() else {
-        panic!(rt; "one target");
-    };
-    assert_eq!(rt; target.name().as_str(), "f");
+    let first = parts_of_f(rt.alloc())?;
+    let last = parts_of(rt.alloc(), 4, record(rt.alloc(), 7, "g", 7)?)?;
+    assert!(rt; first.id == last.id);
+    let folder = described_twice(&rt, &first, &last)?;
+    assert!(rt; is_of(&set_in(&rt, &folder), "f"));
     Ok(())
 }
 
+const SLICES: Files = &[
+    (
+        "m.par2",
+        &[
+            Part::Main,
+            Part::Description,
+            Part::Checksums,
+            Part::Recovery(65536, b"ffff"),
+            Part::Recovery(1, b"of other length."),
+            Part::Recovery(65535, b"eeee"),
+            Part::Recovery(65535, b"gggg"),
+            Part::Stranger(0, b"hhhh"),
+        ],
+    ),
+    ("z.par2", &[Part::Recovery(1, b"zzzz")]),
+    ("a.par2", &[Part::Recovery(1, b"aaaa")]),
+];
+
 #[test]
 fn recovery_slices_that_count(rt: HostRuntime) -> Result<(), Fail> {
-    let alloc = rt.alloc();
-    let set = parts_of(alloc, 4, record(alloc, 7, "f", 8)?)?;
-    let mut base = Vec::from_slice(alloc, &set.main)?;
-    base.extend_from_slice(&set.description)?;
-    base.extend_from_slice(&set.checksums)?;
-    for (e, bytes) in [
-        (65536, b"ffff".as_slice()),
-        (1, b"of other length.".as_slice()),
-        (65535, b"eeee".as_slice()),
-        (65535, b"gggg".as_slice()),
-    ] {
-        base.extend_from_slice(&recovery(alloc, &set.id, e, bytes)?)?;
-    }
-    base.extend_from_slice(&recovery(alloc, &[1; 16], 0, b"hhhh")?)?;
-    let mut folder = Folder::new(alloc);
-    put(&rt, &mut folder, "m.par2", &[&base])?;
-    for (file, bytes) in [("z.par2", b"zzzz"), ("a.par2", b"aaaa")] {
-        let slice = recovery(alloc, &set.id, 1, bytes)?;
-        put(&rt, &mut folder, file, &[&slice])?;
-    }
-    let Ok(read) = set_of(alloc, &folder, &name(&rt, "m.par2")) else {
-        panic!(rt; "the set does not read");
-    };
-    assert_eq!(rt; recovery_text(alloc, &read)?.as_str(), "1=aaaa 65535=eeee ");
+    let set = parts_of_f(rt.alloc())?;
+    let folder = folder_of(&rt, &set, SLICES)?;
+    let text = recovery_text(rt.alloc(), &set_in(&rt, &folder))?;
+    assert!(rt; text.as_str() == "1=aaaa 65535=eeee ");
     Ok(())
 }
