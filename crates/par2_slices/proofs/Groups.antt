@@ -1,11 +1,12 @@
 -- Sets of groups of checksums.
-use Rattle.std.proofs.Common.{◌≡◌, ◌≢◌, ℕ, ◌+◌, ◌-◌, ◌*◌, ◌^◌, ◌<◌, ◌%◌, ◌/◌, List, length, get_or, set, replicate, subst, sym, ap, ◌∙◌, get_or-set_same, get_or-set_other, arith}
+use Rattle.std.proofs.Common.{◌≡◌, ◌≢◌, ℕ, ◌+◌, ◌-◌, ◌*◌, ◌^◌, ◌<◌, ◌≤◌, ◌%◌, ◌/◌, List, length, get_or, set, replicate, subst, sym, ap, ◌∙◌, get_or-set_same, get_or-set_other, arith}
 use Rattle.std.specs.Prelude.{◌⊎◌, bit_and, bit_or}
 use Rattle.std.specs.Int.{w64, bit_at, bit_not}
 use Rattle.std.proofs.lemmas.Bool.{cases_eq, cases_lt}
 use Rattle.std.proofs.lemmas.List.{get_or-replicate, get_or_past, length-replicate}
 use Rattle.std.proofs.Common.{inl, inr}
-use Rattle.std.proofs.lemmas.Nat.{shr_below}
+use Rattle.std.proofs.Math.Nat.{div-div-eq-div-mul}
+use Rattle.std.proofs.lemmas.Nat.{pow-add, shr_below}
 use Rattle.std.proofs.lemmas.Nat.Bits.{bit_at-zero, bit_at_set_same, bit_at_set_other, bit_at_clear_same, bit_at_clear_other}
 use Rattle.par2_slices.specs.Filters.{Bits, Marks}
 
@@ -140,4 +141,25 @@ only_by_remove shift crc words place other is =
           record { bit = ap (λ i. bit_at (get_or words i 0) (other % 64)) same ∙ sym (bit_at_clear_other w64 word (crc % 64) (omega arith) (other % 64) (omega arith) apart) ∙ here }
           )
       | inr apart ↦ record { bit = ap (λ w. bit_at w (other % 64)) (sym (get_or-set_other words group (its) new 0 apart)) ∙ is.bit }
+    ]
+
+-- a word with the bit of a checksum
+abbrev with_bit : ℕ → ℕ → List ℕ → List ℕ
+with_bit shift crc words = set words (crc / 2 ^ shift) (bit_or (get_or words (crc / 2 ^ shift) 0) (1 * 2 ^ (crc % 64) % 2 ^ 64))
+
+coarser : (crc shift : ℕ) → shift ≤ 19 → crc / 2 ^ shift / 2 ^ (19 - shift) ≡ crc / 2 ^ 19
+coarser crc shift above =
+    div-div-eq-div-mul crc (2 ^ shift) (2 ^ (19 - shift))
+    ∙ ap (λ n. crc / n) (sym (pow-add 2 shift (19 - shift)) ∙ ap (λ k. 2 ^ k) (let e : shift + (19 - shift) ≡ 19 = omega (arith, above) in e))
+
+-- the coarse words cover what is added
+pub covered_by_insert : (shift crc : ℕ) (words coarse : List ℕ) → shift ≤ 19 → crc / 2 ^ shift < length words → crc / 2 ^ 19 < length coarse → ((other : ℕ) → Marks (record { shift = shift; words = words }) other → Marks (record { shift = 19; words = coarse }) other) → (other : ℕ) → Marks (record { shift = shift; words = with_bit shift crc words }) other → Marks (record { shift = 19; words = with_bit 19 crc coarse }) other
+covered_by_insert shift crc words coarse above place coarse_place all other is =
+    elim (only_by_insert shift crc words place other is) [
+      | inl same ↦ (
+          let group : other / 2 ^ 19 ≡ crc / 2 ^ 19 = sym (coarser other shift above) ∙ ap (λ g. g / 2 ^ (19 - shift)) same.0 ∙ coarser crc shift above in
+          let new : List ℕ = with_bit 19 crc coarse in
+          record { bit = ap (λ i. bit_at (get_or new i 0) (other % 64)) group ∙ ap (bit_at (get_or new (crc / 2 ^ 19) 0)) same.1 ∙ (marked 19 crc coarse coarse_place).bit }
+          )
+      | inr old ↦ kept_by_insert 19 crc coarse coarse_place other (all other old)
     ]

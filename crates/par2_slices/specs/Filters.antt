@@ -1,5 +1,5 @@
 -- Sets of groups of checksums, as bits.
-use Rattle.std.specs.Prelude.{◌≡◌, ℕ, ◌-◌, ◌/◌, ◌%◌, ◌^◌, ◌<◌, List, length, slice_index}
+use Rattle.std.specs.Prelude.{◌≡◌, ℕ, ◌-◌, ◌/◌, ◌%◌, ◌^◌, ◌<◌, ◌≤◌, List, length, slice_index}
 use Rattle.std.specs.Int.{bit_at}
 
 -- checksums that have the same bits from `shift` on share a word; those that have the same low six bits too are of
@@ -12,7 +12,11 @@ pub record Bits : Type 0 where
 pub record Marks (bits : Bits) (crc : ℕ) : Type 0 where
   pub bit : bit_at (slice_index bits.words (crc / 2 ^ bits.shift)) (crc % 64) ≡ 1
 
--- there is a word for each value of the high bits
-pub record IsSized (shift : ℕ) (words : List ℕ) : Type 0 where
+-- there is a word for each value of the high bits; the coarse words have a bit for each checksum of a group in the set,
+-- and their groups are unions of the others
+pub record IsSized (shift : ℕ) (words coarse : List ℕ) : Type 0 where
   pub low : shift < 32
   pub len : length words ≡ 2 ^ (32 - shift)
+  pub above : shift ≤ 19
+  pub coarse_len : length coarse ≡ 2 ^ 13
+  pub covered : (crc : ℕ) → Marks (record { shift = shift; words = words }) crc → Marks (record { shift = 19; words = coarse }) crc

@@ -12,14 +12,20 @@ ghost use Rattle.par2_slices.specs.Filters.{Marks};
 use std::alloc::{AllocError, Global};
 use std::marker::Model;
 
-// At most 2^20 words of 64 bits.
+// At least 2^13 words of 64 bits, and at most 2^20.
+const LEAST_WORD_BITS: u32 = 13;
+
 const MOST_WORD_BITS: u32 = 20;
+
+// The shift of 2^13 words.
+const COARSE_SHIFT: u32 = 32 - LEAST_WORD_BITS;
 
 /// A set of groups of checksums; a group is those that have the same bits from `shift` on and the same low six bits.
 #[derive(Drop)]
 pub(crate) struct Filter {
     shift: u32,
     words: Vec<u64>,
+    coarse: Vec<u64>,
 }
 
 impl Model for Filter {
@@ -29,18 +35,20 @@ impl Model for Filter {
 
     ghost view = { λ a. record { shift = a.shift; words = a.words.items } };
 
-    ghost invariant = { λ a. IsSized a.shift a.words.items };
+    ghost invariant = { λ a. IsSized a.shift a.words.items a.coarse.items };
 }
 
 impl Filter {
-    /// No group, with some 256 groups for each of `count` checksums: few others fall into one of theirs.
+    /// No group, with some 1,024 groups for each of `count` checksums: few others fall into one of theirs.
     pub(crate) fn new(alloc: Global, count: usize) -> Result<Filter, AllocError>
         ensures { IfOk result (λ filter. (crc : ℕ) → ¬ (Marks filter crc)) }
     {
-        let word_bits = (usize::BITS - count.leading_zeros() + 2).min(MOST_WORD_BITS);
+        let wanted_bits = usize::BITS - count.leading_zeros() + 4;
+        let word_bits = wanted_bits.max(LEAST_WORD_BITS).min(MOST_WORD_BITS);
         Ok(Filter {
             shift: 32 - word_bits,
             words: vec![in alloc; 0u64; 1 << word_bits]?,
+            coarse: vec![in alloc; 0u64; 1 << LEAST_WORD_BITS]?,
         })
     }
 
@@ -60,6 +68,7 @@ impl Filter {
         ensures only { (other : ℕ) → Marks self.new other → (other / 2 ^ self.old.shift ≡ crc / 2 ^ self.old.shift) × (other % 64 ≡ crc % 64) ⊎ Marks self.old other }
     {
         self.words[(crc >> self.shift) as usize] |= 1 << (crc % 64);
+        self.coarse[(crc >> COARSE_SHIFT) as usize] |= 1 << (crc % 64);
     }
 
     /// Takes the group of `crc` away.
@@ -70,6 +79,13 @@ impl Filter {
         ensures only { (other : ℕ) → Marks self.new other → Marks self.old other }
     {
         self.words[(crc >> self.shift) as usize] &= !(1 << (crc % 64));
+    }
+
+    /// Whether the group of `crc` may be in the set. This takes fewer steps than `contains`, and is wrong for few.
+    pub(crate) fn may_contain(&self, crc: u32) -> bool
+        ensures { Marks self.now crc → IsTrue result }
+    {
+        (self.coarse[(crc >> COARSE_SHIFT) as usize] >> (crc % 64)) % 2 == 1
     }
 
     /// Whether the group of `crc` is in the set.

@@ -193,7 +193,7 @@ impl Search {
         }
     }
 
-    /// Looks at the window at `offset`, whose CRC-32 `crc` is marked.
+    /// Looks at the window at `offset`, whose CRC-32 `crc` may be marked.
     // Few are, and the loop over all offsets is faster without these lines in it.
     #[cold]
     #[inline(never)]
@@ -203,6 +203,9 @@ impl Search {
         requires crc { crc ≡ crc32 (window s bytes.now offset) }
         ensures { IsAt s bytes.now (offset + 1) wanted.now self.new.found.items self.new.left self.new.filter self.new.batch.items }
     {
+        if !self.filter.contains(crc) {
+            return;
+        }
         self.make_room(wanted, bytes, s, offset, crc);
         let group = wanted.group(crc, self.filter.shift());
         let pairs = awaited(group, crc, &self.found);
@@ -221,7 +224,7 @@ impl Search {
         requires crc { crc ≡ crc32 (window s bytes.now offset) }
         ensures { IsAt s bytes.now (offset + 1) wanted.now self.new.found.items self.new.left self.new.filter self.new.batch.items }
     {
-        if self.filter.contains(crc) {
+        if self.filter.may_contain(crc) {
             self.look(wanted, bytes, s, offset, crc);
         }
     }

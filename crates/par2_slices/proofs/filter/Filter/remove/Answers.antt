@@ -1,4 +1,4 @@
-use Rattle.std.proofs.Common.{ℕ, ◌≡◌, ◌∙◌, get_or, ◌*◌, ◌/◌, ◌%◌, ◌^◌, ◌<◌, length, set, sym, ap, subst, arith}
+use Rattle.std.proofs.Common.{ℕ, ◌≡◌, ◌∙◌, get_or, ◌*◌, ◌/◌, ◌%◌, ◌^◌, ◌<◌, length, length-set, set, sym, ap, subst, arith}
 use Rattle.std.specs.Prelude.{bit_and}
 use Rattle.std.specs.Int.{w64, bit_not}
 use Rattle.std.proofs.lemmas.List.{get_or_read}
@@ -36,3 +36,20 @@ returns-clause-only c other is =
     let Has : Bits → Type 0 = λ bits. Marks bits other in
     let After : ℕ → Type 0 = λ word. Marks (record { shift = c.self.inside.shift; words = set items place (bit_and word (bit_not w64 (1 * 2 ^ (c.args.crc % 64) % 2 ^ 64))) }) other in
     subst Has c.self.view_is (only_by_remove c.self.inside.shift c.args.crc items held other (subst After read is))
+
+pub invariant_of-self : goal.invariant_of-self
+invariant_of-self c =
+    let items = c.self.inside.words.items in
+    let place = c.args.crc / 2 ^ c.self.inside.shift in
+    let held : place < length items = omega (arith, within c.args.crc c.self.inside.shift c.ranges.crc.fits c.self.invariant.low, c.self.invariant.len) in
+    let read : c.index_mut.result.now ≡ get_or items place 0 = get_or_read items place c.index_mut.result.now held c.index_mut.ensures.value 0 in
+    let mask = bit_not w64 (1 * 2 ^ (c.args.crc % 64) % 2 ^ 64) in
+    record {
+      low = c.self.invariant.low;
+      len = length-set items place (bit_and c.index_mut.result.now mask) ∙ c.self.invariant.len;
+      above = c.self.invariant.above;
+      coarse_len = c.self.invariant.coarse_len;
+      covered = λ other is.
+          let After : ℕ → Type 0 = λ word. Marks (record { shift = c.self.inside.shift; words = set items place (bit_and word mask) }) other in
+          c.self.invariant.covered other (only_by_remove c.self.inside.shift c.args.crc items held other (subst After read is));
+    }

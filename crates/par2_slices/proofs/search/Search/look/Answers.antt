@@ -6,7 +6,7 @@ use Rattle.par2_slices.specs.declared.search.Search.{Search}
 use Rattle.par2_slices.specs.declared.wanted.Place.{Place}
 use Rattle.par2_slices.specs.Filters.{Bits}
 use Rattle.par2_slices.specs.Searches.{is_awaited, offset_at, place_at, IsAt}
-use Rattle.par2_slices.proofs.Searching.{unawaited, unmark}
+use Rattle.par2_slices.proofs.Searching.{unawaited, unmark, unmarked}
 use Rattle.par2_slices.proofs.search.Search.look.Goals as goal
 use Rattle.par2_slices.proofs.search.Search.look.Goals.{then-pairs-gt0, else-pairs-gt0}
 
@@ -62,3 +62,8 @@ returns-else-not-is_waiting c =
     ]
     in
     after
+
+pub returns-then-not-contains : goal.returns-then-not-contains
+returns-then-not-contains c =
+    unmarked c.args.s c.args.bytes.now c.args.offset c.args.wanted.now c.args.self.now.found.items c.args.self.now.left c.args.self.now.filter c.args.self.now.batch.items c.args.crc c.requires.at c.requires.crc
+    (λ is. let both : true ≡ false = sym (c.contains.ensures.1 is) ∙ c.if-not-contains.true in cc)
