@@ -1,6 +1,6 @@
 //! The names under which files are put aside, and a set's par files.
 
-use crate::packets::{Files, Part, Parts, folder_of, name, parts_of, parts_of_f, record, set_in};
+use crate::packets::{Files, Part, folder_for, name, set_in};
 use par2_asides::{asides, par_files};
 use par2_folder::{Folder, Name};
 use par2_spec::Fault;
@@ -16,11 +16,6 @@ fn text_of(alloc: Global, names: &[Name]) -> Result<String, AllocError> {
         text.push_str(" ")?;
     }
     Ok(text)
-}
-
-// The packets of a set whose one target has this name.
-fn parts_for(alloc: Global, target: &str) -> Result<Parts, AllocError> {
-    parts_of(alloc, 4, record(alloc, 7, target, 8)?)
 }
 
 // The asides of these names, as one text, in a folder whose base is `m.par2`.
@@ -42,16 +37,17 @@ const NUMBERED: Files = &[
 
 #[test]
 fn the_least_free_numbers(rt: HostRuntime) -> Result<(), Fail> {
-    let folder = folder_of(&rt, &parts_for(rt.alloc(), "f.2")?, NUMBERED)?;
+    let folder = folder_for(&rt, "f.2", NUMBERED)?;
     let found = asides_of(&rt, &folder, &[name(&rt, "f"), name(&rt, "g")]);
     assert!(rt; found.is_ok_and(|text| text.as_str() == "f.3 g.1 "));
     Ok(())
 }
 
+const WHOLE: Files = &[("m.par2", &[Part::Main, Part::Description, Part::Checksums])];
+
 // Why a name of so many bytes has no aside beside the set of `f`, or None where it has one.
 fn fault_at<R: Abort + AllocGlobal>(rt: &R, bytes: usize) -> Result<Option<Fault>, AllocError> {
-    let files: Files = &[("m.par2", &[Part::Main, Part::Description, Part::Checksums])];
-    let folder = folder_of(rt, &parts_of_f(rt.alloc())?, files)?;
+    let folder = folder_for(rt, "f", WHOLE)?;
     let text = "n".repeat(rt.alloc(), bytes)?;
     Ok(asides_of(rt, &folder, &[name(rt, &text)]).err())
 }
@@ -78,10 +74,17 @@ const PAR_FILES: Files = &[
     ("target.par2", &[Part::Recovery(0, b"aaaa")]),
 ];
 
+// The set's par files, as one text.
+fn par_files_in<R: Abort + AllocGlobal>(rt: &R, folder: &Folder) -> Result<String, AllocError> {
+    text_of(
+        rt.alloc(),
+        &par_files(rt.alloc(), folder, &set_in(rt, folder))?,
+    )
+}
+
 #[test]
 fn files_with_packets_of_the_set_alone(rt: HostRuntime) -> Result<(), Fail> {
-    let folder = folder_of(&rt, &parts_for(rt.alloc(), "target.par2")?, PAR_FILES)?;
-    let found = par_files(rt.alloc(), &folder, &set_in(&rt, &folder))?;
-    assert!(rt; text_of(rt.alloc(), &found)?.as_str() == "m.par2 m.vol0+1.PAR2 ");
+    let folder = folder_for(&rt, "target.par2", PAR_FILES)?;
+    assert!(rt; par_files_in(&rt, &folder)?.as_str() == "m.par2 m.vol0+1.PAR2 ");
     Ok(())
 }

@@ -4,6 +4,7 @@ use md5::{Digest, Md5};
 use par2_folder::{Bytes, Change, Folder, Name};
 use par2_packets::{FileRecord, Pair, append_desc, append_ifsc, append_main, main_id};
 use par2_sets::{ParSet, set_of};
+use par2_spec::Fault;
 use std::alloc::{AllocError, Global};
 use std::process::Abort;
 
@@ -70,9 +71,9 @@ pub fn parts_of(alloc: Global, s: u64, file: FileRecord) -> Result<Parts, AllocE
     })
 }
 
-/// The packets of a set of slice size 4 and the file `f` of 8 bytes.
-pub fn parts_of_f(alloc: Global) -> Result<Parts, AllocError> {
-    parts_of(alloc, 4, record(alloc, 7, "f", 8)?)
+/// The packets of a set of slice size 4 and a file of this name and of 8 bytes.
+pub fn parts_for(alloc: Global, name: &str) -> Result<Parts, AllocError> {
+    parts_of(alloc, 4, record(alloc, 7, name, 8)?)
 }
 
 /// A packet of this type and body, by the format alone.
@@ -184,9 +185,26 @@ pub fn folder_of<R: Abort + AllocGlobal>(
     Ok(folder)
 }
 
+/// A folder with these files, whose packets are of the set of a file of this name.
+pub fn folder_for<R: Abort + AllocGlobal>(
+    rt: &R,
+    target: &str,
+    files: Files,
+) -> Result<Folder, AllocError> {
+    folder_of(rt, &parts_for(rt.alloc(), target)?, files)
+}
+
+/// The set of the base `m.par2`, or why there is none.
+pub fn read_set<'a, R: Abort + AllocGlobal>(
+    rt: &R,
+    folder: &'a Folder,
+) -> Result<ParSet<'a>, Fault> {
+    set_of(rt.alloc(), folder, &name(rt, "m.par2"))
+}
+
 /// The set of the base `m.par2`.
 pub fn set_in<'a, R: Abort + AllocGlobal>(rt: &R, folder: &'a Folder) -> ParSet<'a> {
-    match set_of(rt.alloc(), folder, &name(rt, "m.par2")) {
+    match read_set(rt, folder) {
         Ok(set) => set,
         Err(_) => panic!(rt; "the set does not read"),
     }

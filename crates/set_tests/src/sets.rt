@@ -1,12 +1,12 @@
 //! What is read of a folder whose base is `m.par2`.
 
 use crate::packets::{
-    DESCRIPTION, Files, MAIN, Part, Parts, folder_of, name, packet, pair, parts_of, parts_of_f,
-    put, put_parts, record, set_in,
+    DESCRIPTION, Files, MAIN, Part, Parts, folder_for, packet, pair, parts_for, parts_of, put,
+    put_parts, read_set, record, set_in,
 };
 use md5::{Digest, Md5};
 use par2_folder::Folder;
-use par2_sets::{ParSet, Target, set_of};
+use par2_sets::{ParSet, Target};
 use par2_spec::Fault;
 use std::alloc::{AllocError, Global};
 use std::process::Abort;
@@ -14,7 +14,7 @@ use std::test::Fail;
 
 // Why the set of the base is refused, or None where it reads.
 fn fault_of<R: Abort + AllocGlobal>(rt: &R, folder: &Folder) -> Option<Fault> {
-    set_of(rt.alloc(), folder, &name(rt, "m.par2")).err()
+    read_set(rt, folder).err()
 }
 
 // Why the set of a base made of these parts is refused.
@@ -53,9 +53,14 @@ fn is_of_f(read: &ParSet) -> bool {
     }
 }
 
-// Whether the set has this identifier and slices of 4 bytes.
-fn is_headed(read: &ParSet, id: [u8; 16]) -> bool {
-    read.id() == id && read.slice_size() == 4
+// Whether the set has the identifier of that of `f`, and slices of 4 bytes.
+fn is_headed(alloc: Global, read: &ParSet) -> Result<bool, AllocError> {
+    Ok(read.id() == parts_for(alloc, "f")?.id && read.slice_size() == 4)
+}
+
+// The recovery slices of the set in a folder.
+fn recovery_in<R: Abort + AllocGlobal>(rt: &R, folder: &Folder) -> Result<String, AllocError> {
+    recovery_text(rt.alloc(), &set_in(rt, folder))
 }
 
 const TWO_FILES: Files = &[
@@ -72,11 +77,16 @@ const TWO_FILES: Files = &[
 
 #[test]
 fn a_set_in_two_files(rt: HostRuntime) -> Result<(), Fail> {
-    let set = parts_of_f(rt.alloc())?;
-    let folder = folder_of(&rt, &set, TWO_FILES)?;
+    let folder = folder_for(&rt, "f", TWO_FILES)?;
     let read = set_in(&rt, &folder);
-    assert!(rt; is_headed(&read, set.id) && is_of_f(&read));
-    assert!(rt; recovery_text(rt.alloc(), &read)?.as_str() == "0=aaaa 3=dddd ");
+    assert!(rt; is_of_f(&read) && is_headed(rt.alloc(), &read)?);
+    Ok(())
+}
+
+#[test]
+fn recovery_slices_in_two_files(rt: HostRuntime) -> Result<(), Fail> {
+    let folder = folder_for(&rt, "f", TWO_FILES)?;
+    assert!(rt; recovery_in(&rt, &folder)?.as_str() == "0=aaaa 3=dddd ");
     Ok(())
 }
 
@@ -112,7 +122,7 @@ const BASES: [(&[Part], Option<Fault>); 8] = [
 
 #[test]
 fn parts_that_are_absent_or_false(rt: HostRuntime) -> Result<(), Fail> {
-    let set = parts_of_f(rt.alloc())?;
+    let set = parts_for(rt.alloc(), "f")?;
     for (k, (base, fault)) in BASES.iter().enumerate() {
         assert!(rt; fault_in(&rt, &set, base)? == *fault, "base {k}");
     }
@@ -122,25 +132,33 @@ fn parts_that_are_absent_or_false(rt: HostRuntime) -> Result<(), Fail> {
 const WHOLE: &[Part] = &[Part::Main, Part::Description, Part::Checksums];
 
 // Slice size, name and length of a file, and the parts of the base.
-const PROFILE: [(u64, &str, u64, &[Part], Option<Fault>); 7] = [
-    (6, "f", 8, WHOLE, Some(Fault::BadSet)),
-    (4, ".par2undo", 8, WHOLE, Some(Fault::BadSet)),
-    (4, "a/b", 8, WHOLE, Some(Fault::BadSet)),
-    (4, "f", 131_072, WHOLE, Some(Fault::NoChecksums)),
-    (4, "f", 131_073, WHOLE, Some(Fault::BadSet)),
-    (4, "f", u64::MAX, WHOLE, Some(Fault::BadSet)),
+type Profile = (u64, &'static str, u64, &'static [Part]);
+
+const PROFILES: [(Profile, Option<Fault>); 7] = [
+    ((6, "f", 8, WHOLE), Some(Fault::BadSet)),
+    ((4, ".par2undo", 8, WHOLE), Some(Fault::BadSet)),
+    ((4, "a/b", 8, WHOLE), Some(Fault::BadSet)),
+    ((4, "f", 131_072, WHOLE), Some(Fault::NoChecksums)),
+    ((4, "f", 131_073, WHOLE), Some(Fault::BadSet)),
+    ((4, "f", u64::MAX, WHOLE), Some(Fault::BadSet)),
     // An empty file has no checksums.
-    (4, "f", 0, &[Part::Main, Part::Description], None),
+    ((4, "f", 0, &[Part::Main, Part::Description]), None),
 ];
+
+fn fault_beyond<R: Abort + AllocGlobal>(
+    rt: &R,
+    profile: Profile,
+) -> Result<Option<Fault>, AllocError> {
+    let (s, name, length, base) = profile;
+    let set = parts_of(rt.alloc(), s, record(rt.alloc(), 7, name, length)?)?;
+    fault_in(rt, &set, base)
+}
 
 #[test]
 fn files_beyond_the_profile(rt: HostRuntime) -> Result<(), Fail> {
-    for (s, file, length, base, fault) in PROFILE {
-        let set = parts_of(rt.alloc(), s, record(rt.alloc(), 7, file, length)?)?;
-        assert!(rt;
-            fault_in(&rt, &set, base)? == fault,
-            "at {file} of {length}"
-        );
+    for (profile, fault) in PROFILES {
+        let length = profile.2;
+        assert!(rt; fault_beyond(&rt, profile)? == fault, "at {length}");
     }
     Ok(())
 }
@@ -151,7 +169,7 @@ fn described(alloc: Global, id: &[u8; 16], file: &[u8; 16]) -> Result<Vec<u8>, A
     packet(alloc, id, DESCRIPTION, &body)
 }
 
-// A Main of two files, and the descriptions that give both one name.
+// A base of a Main of two files, and the descriptions that give both one name.
 fn twice_named(alloc: Global) -> Result<Vec<u8>, AllocError> {
     let body = b"\x04\0\0\0\0\0\0\0\x02\0\0\0sixteen bytes id sixteen bytes i";
     let id = Md5::digest(body);
@@ -162,36 +180,43 @@ fn twice_named(alloc: Global) -> Result<Vec<u8>, AllocError> {
     Ok(base)
 }
 
+fn folder_twice_named<R: Abort + AllocGlobal>(rt: &R) -> Result<Folder, AllocError> {
+    let mut folder = Folder::new(rt.alloc());
+    put(rt, &mut folder, "m.par2", twice_named(rt.alloc())?)?;
+    Ok(folder)
+}
+
 #[test]
 fn one_name_twice(rt: HostRuntime) -> Result<(), Fail> {
-    let mut folder = Folder::new(rt.alloc());
-    put(&rt, &mut folder, "m.par2", twice_named(rt.alloc())?)?;
+    let folder = folder_twice_named(&rt)?;
     assert!(rt; fault_of(&rt, &folder) == Some(Fault::BadSet));
     Ok(())
 }
 
-// A folder with the Main and the description of one set, and a description and the checksums of another.
-fn described_twice<R: Abort + AllocGlobal>(
-    rt: &R,
-    first: &Parts,
-    last: &Parts,
-) -> Result<Folder, AllocError> {
-    let mut folder = Folder::new(rt.alloc());
+// Puts the Main and a description of the set of `f` of 8 bytes into the folder.
+fn put_first<R: Abort + AllocGlobal>(rt: &R, folder: &mut Folder) -> Result<[u8; 16], AllocError> {
+    let first = parts_for(rt.alloc(), "f")?;
     put_parts(
         rt,
-        &mut folder,
-        first,
+        folder,
+        &first,
         "m.par2",
         &[Part::Main, Part::Description],
     )?;
+    Ok(first.id)
+}
+
+// Puts a description and the checksums of the set of `g` of 7 bytes into the folder.
+fn put_last<R: Abort + AllocGlobal>(rt: &R, folder: &mut Folder) -> Result<[u8; 16], AllocError> {
+    let last = parts_of(rt.alloc(), 4, record(rt.alloc(), 7, "g", 7)?)?;
     put_parts(
         rt,
-        &mut folder,
-        last,
+        folder,
+        &last,
         "a.par2",
         &[Part::Description, Part::Checksums],
     )?;
-    Ok(folder)
+    Ok(last.id)
 }
 
 // Whether the set has one file, of this name.
@@ -204,10 +229,8 @@ fn is_of(read: &ParSet, name: &str) -> bool {
 
 #[test]
 fn first_description_wins(rt: HostRuntime) -> Result<(), Fail> {
-    let first = parts_of_f(rt.alloc())?;
-    let last = parts_of(rt.alloc(), 4, record(rt.alloc(), 7, "g", 7)?)?;
-    assert!(rt; first.id == last.id);
-    let folder = described_twice(&rt, &first, &last)?;
+    let mut folder = Folder::new(rt.alloc());
+    assert!(rt; put_first(&rt, &mut folder)? == put_last(&rt, &mut folder)?);
     assert!(rt; is_of(&set_in(&rt, &folder), "f"));
     Ok(())
 }
@@ -232,9 +255,7 @@ const SLICES: Files = &[
 
 #[test]
 fn recovery_slices_that_count(rt: HostRuntime) -> Result<(), Fail> {
-    let set = parts_of_f(rt.alloc())?;
-    let folder = folder_of(&rt, &set, SLICES)?;
-    let text = recovery_text(rt.alloc(), &set_in(&rt, &folder))?;
-    assert!(rt; text.as_str() == "1=aaaa 65535=eeee ");
+    let folder = folder_for(&rt, "f", SLICES)?;
+    assert!(rt; recovery_in(&rt, &folder)?.as_str() == "1=aaaa 65535=eeee ");
     Ok(())
 }
