@@ -5,37 +5,48 @@ use par2_digests::{LANES, window_digests};
 
 const TEXT: &[u8] = b"The quick brown fox jumps over the lazy dog";
 
+// Whether these are the digests, by the numbers that their hexadecimal digits spell.
+fn are_spelled(digests: &[[u8; 16]; LANES], numbers: &[u128; LANES]) -> bool {
+    for (digest, number) in digests.iter().zip(numbers.iter()) {
+        if u128::from_be_bytes(*digest) != *number {
+            return false;
+        }
+    }
+    true
+}
+
 // Values of md5sum.
+const EXPECTED: [u128; LANES] = [
+    0xb9b9_2654_4b8e_cd5c_3ef5_53a8_7170_b726,
+    0x442c_ffd0_4438_a9d6_e6de_8607_b7fd_5509,
+    0x352f_edc7_6fd6_9d79_d776_c8fb_be7d_87c6,
+    0x5839_ae27_5936_ecbd_1ff6_a4e5_421d_bd8b,
+    0x2620_9f23_b95e_5dc4_0ac9_ea67_85de_cf8c,
+    0x2620_9f23_b95e_5dc4_0ac9_ea67_85de_cf8c,
+    0x2532_7c35_b4c8_c824_3fcc_e1e6_17f7_ea79,
+    0x4dab_19db_799e_70f1_123a_1f94_ac3c_45fb,
+];
+
+const WHOLE: u128 = 0x9e10_7d9d_372b_b682_6bd8_1d35_42a4_19d6;
+
+const NOTHING: u128 = 0xd41d_8cd9_8f00_b204_e980_0998_ecf8_427e;
+
 #[test]
 fn windows_of_a_sentence(rt: HostRuntime) {
     let digests = window_digests(TEXT, &[0, 1, 4, 10, 16, 16, 31, 35], 8);
-    let expected = [
-        0xb9b9_2654_4b8e_cd5c_3ef5_53a8_7170_b726,
-        0x442c_ffd0_4438_a9d6_e6de_8607_b7fd_5509,
-        0x352f_edc7_6fd6_9d79_d776_c8fb_be7d_87c6,
-        0x5839_ae27_5936_ecbd_1ff6_a4e5_421d_bd8b,
-        0x2620_9f23_b95e_5dc4_0ac9_ea67_85de_cf8c,
-        0x2620_9f23_b95e_5dc4_0ac9_ea67_85de_cf8c,
-        0x2532_7c35_b4c8_c824_3fcc_e1e6_17f7_ea79,
-        0x4dab_19db_799e_70f1_123a_1f94_ac3c_45fb,
-    ];
-    for k in 0..LANES {
-        assert!(rt; u128::from_be_bytes(digests[k]) == expected[k]);
-    }
+    assert!(rt; are_spelled(&digests, &EXPECTED));
 }
 
 #[test]
 fn the_whole_text_eight_times(rt: HostRuntime) {
-    for digest in window_digests(TEXT, &[0; LANES], TEXT.len()) {
-        assert!(rt; u128::from_be_bytes(digest) == 0x9e10_7d9d_372b_b682_6bd8_1d35_42a4_19d6);
-    }
+    let digests = window_digests(TEXT, &[0; LANES], TEXT.len());
+    assert!(rt; are_spelled(&digests, &[WHOLE; LANES]));
 }
 
 #[test]
 fn empty_windows(rt: HostRuntime) {
-    for digest in window_digests(TEXT, &[0, 1, 2, 3, 40, 41, 42, 43], 0) {
-        assert!(rt; u128::from_be_bytes(digest) == 0xd41d_8cd9_8f00_b204_e980_0998_ecf8_427e);
-    }
+    let digests = window_digests(TEXT, &[0, 1, 2, 3, 40, 41, 42, 43], 0);
+    assert!(rt; are_spelled(&digests, &[NOTHING; LANES]));
 }
 
 // About the edges of a block and of the padding.

@@ -1,4 +1,4 @@
-ghost use Rattle.std.specs.Prelude.{◌≡◌, length};
+ghost use Rattle.std.specs.Prelude.{◌≡◌, ◌≤◌, ◌%◌, length, IfOk};
 
 use par2_gf16::{Factor, Gf};
 use std::alloc::{AllocError, Global};
@@ -35,7 +35,9 @@ fn plain_mul_add(c: u16, src: &[u8], dst: &mut [u8])
 }
 
 // n bytes that repeat after many
-fn mixed_bytes(alloc: Global, n: usize, seed: u32) -> Result<Vec<u8>, AllocError> {
+fn mixed_bytes(alloc: Global, n: usize, seed: u32) -> Result<Vec<u8>, AllocError>
+    ensures { IfOk result (λ bytes. length bytes.items ≡ n) }
+{
     let mut bytes = vec![in alloc; 0u8; n]?;
     let mut state = seed;
     for byte in bytes.iter_mut() {
@@ -47,36 +49,38 @@ fn mixed_bytes(alloc: Global, n: usize, seed: u32) -> Result<Vec<u8>, AllocError
     Ok(bytes)
 }
 
+const PRODUCTS: [(u16, u16, u16); 6] = [
+    (0x8000, 2, 0x100B),
+    (2, 0xFFFF, 0xEFF5),
+    (2, 0x8805, 1),
+    (1, 0xFFFF, 0xFFFF),
+    (0, 7, 0),
+    (7, 0, 0),
+];
+
 #[test]
 fn field_products(rt: HostRuntime) -> Result<(), AllocError> {
     let gf = Gf::new(rt.alloc())?;
-    let products = [
-        (0x8000, 2, 0x100B),
-        (2, 0xFFFF, 0xEFF5),
-        (2, 0x8805, 1),
-        (1, 0xFFFF, 0xFFFF),
-        (0, 7, 0),
-        (7, 0, 0),
-    ];
-    for (a, b, product) in &products {
-        assert!(rt; gf.mul(*a, *b) == *product, "{a} times {b}");
+    for (a, b, product) in PRODUCTS {
+        assert!(rt; gf.mul(a, b) == product, "{a} times {b}");
     }
     Ok(())
 }
 
+const POWERS: [(u16, u32, u16); 6] = [
+    (2, 65535, 1),
+    (2, 65534, 0x8805),
+    (0, 0, 1),
+    (0, 3, 0),
+    (3, 1, 3),
+    (2, 4294967295, 1),
+];
+
 #[test]
 fn field_powers(rt: HostRuntime) -> Result<(), AllocError> {
     let gf = Gf::new(rt.alloc())?;
-    let powers = [
-        (2, 65535, 1),
-        (2, 65534, 0x8805),
-        (0, 0, 1),
-        (0, 3, 0),
-        (3, 1, 3),
-        (2, 4294967295, 1),
-    ];
-    for (a, e, power) in &powers {
-        assert!(rt; gf.pow(*a, *e) == *power, "{a} to the power of {e}");
+    for (a, e, power) in POWERS {
+        assert!(rt; gf.pow(a, e) == power, "{a} to the power of {e}");
     }
     Ok(())
 }
@@ -84,57 +88,95 @@ fn field_powers(rt: HostRuntime) -> Result<(), AllocError> {
 #[test]
 fn field_inverses(rt: HostRuntime) -> Result<(), AllocError> {
     let gf = Gf::new(rt.alloc())?;
-    assert!(rt; gf.inv(2) == Some(0x8805));
-    assert!(rt; gf.inv(1) == Some(1));
-    assert!(rt; gf.inv(0).is_none());
+    assert!(rt; [gf.inv(2), gf.inv(1), gf.inv(0)] == [Some(0x8805), Some(1), None]);
     Ok(())
 }
+
+const CONSTANTS: [(u32, Option<u16>); 13] = [
+    (0, Some(2)),
+    (1, Some(4)),
+    (2, Some(16)),
+    (3, Some(128)),
+    (4, Some(256)),
+    (5, Some(2048)),
+    (6, Some(8192)),
+    (7, Some(16384)),
+    (8, Some(4107)),
+    (9, Some(32856)),
+    (10, Some(17132)),
+    (32767, Some(0x8805)),
+    (32768, None),
+];
 
 #[test]
 fn slice_constants(rt: HostRuntime) -> Result<(), AllocError> {
     let gf = Gf::new(rt.alloc())?;
-    let first = [2, 4, 16, 128, 256, 2048, 8192, 16384, 4107, 32856, 17132];
-    for (k, constant) in first.iter().enumerate() {
-        assert!(rt; gf.constant(k as u32) == Some(*constant), "constant {k}");
+    for (k, constant) in CONSTANTS {
+        assert!(rt; gf.constant(k) == constant, "constant {k}");
     }
-    assert!(rt; gf.constant(32767) == Some(0x8805));
-    assert!(rt; gf.constant(32768).is_none());
     Ok(())
+}
+
+// The word after the product of 2 and 0x8000 is added to it.
+fn added(gf: &Gf, word: [u8; 2]) -> [u8; 2] {
+    let mut sum = word;
+    gf.mul_add(2, &[0x00, 0x80], &mut sum);
+    sum
 }
 
 #[test]
 fn products_are_added_and_taken_back(rt: HostRuntime) -> Result<(), AllocError> {
     let gf = Gf::new(rt.alloc())?;
-    let src = [0x00, 0x80];
-    let mut dst = [0, 0];
-    gf.mul_add(2, &src, &mut dst);
-    assert_eq!(rt; dst, [0x0B, 0x10]);
-    gf.mul_add(2, &src, &mut dst);
-    assert_eq!(rt; dst, [0, 0]);
+    let once = added(&gf, [0, 0]);
+    assert!(rt; once == [0x0B, 0x10] && added(&gf, once) == [0, 0]);
     gf.mul_add(2, &[], &mut []);
     Ok(())
+}
+
+// Whether a copy of `dst` becomes by the tables, and by the factor, what it becomes word by word.
+fn is_as_word_by_word(
+    alloc: Global,
+    gf: &Gf,
+    c: u16,
+    src: &[u8],
+    dst: &[u8],
+) -> Result<bool, AllocError>
+    requires same { length src.now ≡ length dst.now }
+    requires even { length dst.now % 2 ≡ 0 }
+{
+    let mut by_steps = Vec::from_slice(alloc, dst)?;
+    gf.mul_add(c, src, &mut by_steps);
+    let mut by_factor = Vec::from_slice(alloc, dst)?;
+    gf.mul_add_by(&Factor::new(c), src, &mut by_factor);
+    let mut wanted = Vec::from_slice(alloc, dst)?;
+    plain_mul_add(c, src, &mut wanted);
+    Ok(by_steps == wanted && by_factor == wanted)
+}
+
+// The last four are random.
+const FACTORS: [u16; 12] = [
+    0, 1, 2, 3, 0x100B, 0x8000, 0x8805, 0xFFFF, 0x5A3C, 0xC6E9, 0x1D47, 0x93B2,
+];
+
+// The first factor by which so many words become something else, if there is one.
+fn first_other(alloc: Global, gf: &Gf, words: usize) -> Result<Option<u16>, AllocError>
+    requires { words ≤ 65 }
+{
+    let src = mixed_bytes(alloc, 2 * words, 1)?;
+    let old = mixed_bytes(alloc, 2 * words, 2)?;
+    for c in FACTORS {
+        if !is_as_word_by_word(alloc, gf, c, &src, &old)? {
+            return Ok(Some(c));
+        }
+    }
+    Ok(None)
 }
 
 #[test]
 fn every_length_as_word_by_word(rt: HostRuntime) -> Result<(), AllocError> {
     let gf = Gf::new(rt.alloc())?;
-    for half in 0..=65usize {
-        let src = mixed_bytes(rt.alloc(), 2 * half, 1)?;
-        let old = mixed_bytes(rt.alloc(), 2 * half, 2)?;
-        // The last four are random.
-        for c in [
-            0, 1, 2, 3, 0x100B, 0x8000, 0x8805, 0xFFFF, 0x5A3C, 0xC6E9, 0x1D47, 0x93B2,
-        ] {
-            let mut by_steps = old.clone()?;
-            let mut by_factor = old.clone()?;
-            let mut wanted = old.clone()?;
-            assert!(rt; src.len() == old.len() && src.len() % 2 == 0);
-            gf.mul_add(c, &src, &mut by_steps);
-            gf.mul_add_by(&Factor::new(c), &src, &mut by_factor);
-            plain_mul_add(c, &src, &mut wanted);
-            assert_eq!(rt; by_steps, wanted, "{half} words by {c}");
-            assert_eq!(rt; by_factor, wanted, "{half} words by the factor {c}");
-        }
+    for words in 0..=65usize {
+        assert_eq!(rt; first_other(rt.alloc(), &gf, words)?, None, "{words} words");
     }
     Ok(())
 }

@@ -27,33 +27,36 @@ fn is_pair(pair: &Pair, md5: u128, crc: u32) -> bool {
     number(pair.0) == md5 && pair.1 == crc
 }
 
+// Whether the record is that of `abcde`, with slices of four bytes.
+fn is_padded(record: &FileRecord) -> bool {
+    let md5 = 0xab56_b4d9_2b40_713a_cc5a_f899_85d4_b786;
+    number(record.id) == 0x0536_3d63_a48f_2a62_9008_5369_f9b6_5ce9
+        && number(record.md5) == md5
+        && number(record.md5_16k) == md5
+        && record.length == 5
+        && record.name.as_str() == "a"
+}
+
+// Whether the pairs are those of its two slices.
+fn are_pairs(pairs: &[Pair]) -> bool {
+    let [first, second] = pairs else {
+        return false;
+    };
+    is_pair(
+        first,
+        0xe2fc_714c_4727_ee93_95f3_24cd_2e7f_331f,
+        0xed82_cd11,
+    ) && is_pair(
+        second,
+        0x3fd8_5f9e_e7ca_8882_c8ca_a747_d0ee_f0b3,
+        0x2dbc_d82d,
+    )
+}
+
 #[test]
 fn record_of_a_padded_file(rt: HostRuntime) -> Result<(), Fail> {
-    let Some(record) = record_of(rt.alloc(), "a", b"abcde", 4)? else {
-        panic!(rt; "no record");
-    };
-    let id = 0x0536_3d63_a48f_2a62_9008_5369_f9b6_5ce9;
-    let md5 = 0xab56_b4d9_2b40_713a_cc5a_f899_85d4_b786;
-    assert!(rt; number(record.id) == id);
-    assert!(rt; number(record.md5) == md5 && number(record.md5_16k) == md5);
-    assert!(rt; record.length == 5 && record.name.as_str() == "a");
-    let [first, second] = record.pairs.as_slice() else {
-        panic!(rt; "not two pairs");
-    };
-    assert!(rt;
-        is_pair(
-            first,
-            0xe2fc_714c_4727_ee93_95f3_24cd_2e7f_331f,
-            0xed82_cd11
-        )
-    );
-    assert!(rt;
-        is_pair(
-            second,
-            0x3fd8_5f9e_e7ca_8882_c8ca_a747_d0ee_f0b3,
-            0x2dbc_d82d
-        )
-    );
+    let record = record_of(rt.alloc(), "a", b"abcde", 4)?;
+    assert!(rt; matches!(&record, Some(it) if is_padded(it) && are_pairs(&it.pairs)));
     Ok(())
 }
 
@@ -68,15 +71,17 @@ fn rising_bytes(alloc: Global, len: usize) -> Result<Vec<u8>, AllocError> {
     Ok(bytes)
 }
 
+// Whether the record is that of 20000 rising bytes, with slices of 16000 bytes.
+fn is_long(record: &FileRecord) -> bool {
+    number(record.id) == 0x27e5_c72b_3bdb_8404_dc8b_e959_311c_1979
+        && number(record.md5_16k) == 0xea13_f524_a784_b8f6_3d95_a883_7432_53e7
+        && record.pairs.len() == 2
+}
+
 #[test]
 fn record_of_a_long_file(rt: HostRuntime) -> Result<(), Fail> {
     let bytes = rising_bytes(rt.alloc(), 20000)?;
-    let Some(record) = record_of(rt.alloc(), "long", &bytes, 16000)? else {
-        panic!(rt; "no record");
-    };
-    let id = 0x27e5_c72b_3bdb_8404_dc8b_e959_311c_1979;
-    let first = 0xea13_f524_a784_b8f6_3d95_a883_7432_53e7;
-    assert!(rt; number(record.id) == id && number(record.md5_16k) == first);
-    assert!(rt; record.pairs.len() == 2);
+    let record = record_of(rt.alloc(), "long", &bytes, 16000)?;
+    assert!(rt; matches!(&record, Some(it) if is_long(it)));
     Ok(())
 }

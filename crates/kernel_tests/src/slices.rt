@@ -6,47 +6,57 @@ use par2_slices::{
 };
 use std::alloc::{AllocError, Global};
 
+const DIGEST: [u8; 16] = [
+    0xe2, 0xfc, 0x71, 0x4c, 0x47, 0x27, 0xee, 0x93, 0x95, 0xf3, 0x24, 0xcd, 0x2e, 0x7f, 0x33, 0x1f,
+];
+
 #[test]
-fn checksums_and_rolling(rt: HostRuntime) {
-    assert!(rt; crc32(b"123456789") == 0xcbf4_3926);
-    assert!(rt; crc32(b"") == 0);
-    assert!(rt; crc32(b"abcd") == 0xed82_cd11);
-    let digest = [
-        0xe2, 0xfc, 0x71, 0x4c, 0x47, 0x27, 0xee, 0x93, 0x95, 0xf3, 0x24, 0xcd, 0x2e, 0x7f, 0x33,
-        0x1f,
-    ];
-    assert!(rt; padded_md5(b"abcd", 4) == digest);
+fn checksums(rt: HostRuntime) {
+    let sums = [crc32(b"123456789"), crc32(b""), crc32(b"abcd")];
+    assert!(rt; sums == [0xcbf4_3926, 0, 0xed82_cd11]);
+    assert!(rt; padded_md5(b"abcd", 4) == DIGEST);
+}
+
+#[test]
+fn rolling_checksums(rt: HostRuntime) {
     let mut rolling = Rolling::new(rt.alloc(), 4).expect(&rt, "memory");
     rolling.start(b"abcd");
-    assert!(rt; rolling.value() == 0xed82_cd11);
+    let first = rolling.value();
     rolling.slide(b'a', b'e');
-    assert!(rt; rolling.value() == crc32(b"bcde"));
+    assert!(rt; first == 0xed82_cd11 && rolling.value() == crc32(b"bcde"));
 }
 
 #[test]
 fn slices_of_a_file(rt: HostRuntime) {
-    assert!(rt; slice_count(0, 4) == 0);
-    assert!(rt; slice_count(8, 4) == 2);
-    assert!(rt; slice_count(9, 4) == 3);
+    let counts = [slice_count(0, 4), slice_count(8, 4), slice_count(9, 4)];
+    assert!(rt; counts == [0, 2, 3]);
     assert!(rt; slice_bytes(b"abcdef", 4, 1) == b"ef".as_slice());
+}
+
+#[test]
+fn slices_over_other_bytes(rt: HostRuntime) {
     let mut slice = [9u8; 4];
     slice_into(b"abcdef", 4, 0, &mut slice);
-    assert!(rt; slice == *b"abcd");
+    let first = slice;
     slice_into(b"abcdef", 4, 1, &mut slice);
-    assert!(rt; slice == *b"ef\0\0");
+    assert!(rt; first == *b"abcd" && slice == *b"ef\0\0");
 }
 
 #[test]
 fn checksums_with_padding(rt: HostRuntime) {
-    assert!(rt; padded_crc32(b"ab", 4) == crc32(b"ab\0\0"));
-    assert!(rt; padded_crc32(b"", 0) == 0);
+    let sums = [padded_crc32(b"ab", 4), padded_crc32(b"", 0)];
+    assert!(rt; sums == [crc32(b"ab\0\0"), 0]);
     assert!(rt; padded_md5(b"ab", 4) == padded_md5(b"ab\0\0", 4));
+}
+
+#[test]
+fn rolling_over_padding(rt: HostRuntime) {
     let mut rolling = Rolling::new(rt.alloc(), 1 << 30).expect(&rt, "memory");
     rolling.start(b"ab");
     let whole = rolling.value();
     rolling.slide(b'a', 0);
-    assert!(rt; rolling.value() == padded_crc32(b"b", 1 << 30));
-    assert!(rt; rolling.value() != whole);
+    let next = rolling.value();
+    assert!(rt; next == padded_crc32(b"b", 1 << 30) && next != whole);
 }
 
 // What `find` answers, for slices of at least one byte.
@@ -78,30 +88,42 @@ fn offsets(
     found(alloc, bytes, s, &pairs)
 }
 
-#[test]
-fn shifted_by_one_byte(rt: HostRuntime) {
-    let found = offsets(rt.alloc(), b"Xabcdefgh", 4, &[b"abcd", b"efgh"]).expect(&rt, "memory");
-    assert!(rt; found.as_slice() == [Some(1), Some(5)].as_slice());
-}
+// A text, the size of a slice, slices and where each is found.
+type Row = (
+    &'static [u8],
+    u64,
+    &'static [&'static [u8]],
+    &'static [Option<usize>],
+);
+
+const OFFSETS: [Row; 6] = [
+    // Shifted by one byte.
+    (b"Xabcdefgh", 4, &[b"abcd", b"efgh"], &[Some(1), Some(5)]),
+    // The first of several offsets.
+    (
+        b"aaaaaaaa",
+        4,
+        &[b"aaaa", b"aa", b"aaaa"],
+        &[Some(0), Some(6), Some(0)],
+    ),
+    (b"ab", 4, &[b"ab", b"abc"], &[Some(0), None]),
+    (b"", 4, &[b"", b"ab"], &[None, None]),
+    (b"aaaa", 4, &[], &[]),
+    // A slice larger than the file.
+    (
+        b"abc",
+        1 << 20,
+        &[b"bc", b"abc", b"ab"],
+        &[Some(1), Some(0), None],
+    ),
+];
 
 #[test]
-fn first_offsets(rt: HostRuntime) {
-    let found = offsets(rt.alloc(), b"aaaaaaaa", 4, &[b"aaaa", b"aa", b"aaaa"]).expect(
-        &rt, "memory",
-    );
-    assert!(rt; found.as_slice() == [Some(0), Some(6), Some(0)].as_slice());
-    let found = offsets(rt.alloc(), b"ab", 4, &[b"ab", b"abc"]).expect(&rt, "memory");
-    assert!(rt; found.as_slice() == [Some(0), None].as_slice());
-    let found = offsets(rt.alloc(), b"", 4, &[b"", b"ab"]).expect(&rt, "memory");
-    assert!(rt; found.as_slice() == [None, None].as_slice());
-    let found = offsets(rt.alloc(), b"aaaa", 4, &[]).expect(&rt, "memory");
-    assert!(rt; found.is_empty());
-}
-
-#[test]
-fn slice_larger_than_the_file(rt: HostRuntime) {
-    let found = offsets(rt.alloc(), b"abc", 1 << 20, &[b"bc", b"abc", b"ab"]).expect(&rt, "memory");
-    assert!(rt; found.as_slice() == [Some(1), Some(0), None].as_slice());
+fn offsets_of_slices(rt: HostRuntime) {
+    for (text, s, slices, wanted) in OFFSETS {
+        let found = offsets(rt.alloc(), text, s, slices).expect(&rt, "memory");
+        assert!(rt; found.as_slice() == wanted);
+    }
 }
 
 // The pair of the same CRC-32 with another MD5 is nowhere.
