@@ -1,5 +1,5 @@
 //! The expected texts were made by another program, from the format alone.
-ghost use Rattle.std.specs.Prelude.{◌≡◌, ◌≤◌, length, IfSome, None};
+ghost use Rattle.std.specs.Prelude.{◌≡◌, ◌≤◌, length, IfSome};
 ghost use Rattle.par2_spec.specs.Journals.{IsCursor};
 
 use md5::{Digest, Md5};
@@ -108,61 +108,68 @@ fn text_of<R: Abort + AllocGlobal>(rt: &R, parts: &JournalParts<'_>) -> Result<V
     Ok(text)
 }
 
-// The parts of a journal without entries.
-fn settled(version: Version) -> JournalParts<'static>
-    ensures version { result.version ≡ version }
-    ensures cursor { result.cursor ≡ 0 }
-    ensures entries { length result.entries.now ≡ 0 }
-    ensures halfway { result.halfway ≡ None }
+// The text of a journal of these entries, with no command halfway.
+fn settled_text<R: Abort + AllocGlobal>(
+    rt: &R,
+    version: Version,
+    cursor: usize,
+    entries: &[&[Change]],
+) -> Result<Vec<u8>, Fail>
+    requires { IsCursor version cursor (length entries.now) }
 {
-    JournalParts {
+    let parts = JournalParts {
         version,
         fingerprint: FINGERPRINT,
-        cursor: 0,
-        entries: &[],
+        cursor,
+        entries,
         halfway: None,
-    }
+    };
+    text_of(rt, &parts)
 }
 
 #[test]
 fn journals_of_an_undo(rt: HostRuntime) -> Result<(), Fail> {
     let undo = [Change::Remove(name(&rt, "t.par2"))];
-    let undos = [undo.as_slice()];
-    let one = JournalParts {
-        cursor: 1,
-        entries: &undos,
-        ..settled(Version::One)
-    };
-    assert_eq!(rt; text_of(&rt, &one)?.as_slice(), UNDO_ONE);
-    let two = JournalParts {
-        version: Version::Two,
-        ..one
-    };
-    assert_eq!(rt; text_of(&rt, &two)?.as_slice(), UNDO_TWO);
+    assert!(rt; settled_text(&rt, Version::One, 1, &[&undo])?.as_slice() == UNDO_ONE);
+    assert!(rt; settled_text(&rt, Version::Two, 1, &[&undo])?.as_slice() == UNDO_TWO);
     Ok(())
 }
 
 #[test]
 fn journal_without_entries(rt: HostRuntime) -> Result<(), Fail> {
-    assert_eq!(rt;
-        text_of(&rt, &settled(Version::One))?.as_slice(),
-        NOTHING_ONE
-    );
+    assert!(rt; settled_text(&rt, Version::One, 0, &[])?.as_slice() == NOTHING_ONE);
     Ok(())
 }
 
 #[test]
 fn journal_of_a_redo(rt: HostRuntime) -> Result<(), Fail> {
     let redo = [Change::Write(name(&rt, "t.par2"), Bytes::copy_of(rt.alloc(), &[0; 420])?)];
-    let redos = [redo.as_slice()];
-    let parts = JournalParts {
-        entries: &redos,
-        ..settled(Version::Two)
-    };
-    let text = text_of(&rt, &parts)?;
+    let text = settled_text(&rt, Version::Two, 0, &[&redo])?;
     assert!(rt; text.len() == 501 && text.ends_with(&REDO_DIGEST));
     Ok(())
 }
+
+// The text of a journal without entries, with a command halfway.
+fn halfway_text<R: Abort + AllocGlobal>(
+    rt: &R,
+    version: Version,
+    fingerprints: &[[u8; 16]],
+    back: &[Change],
+) -> Result<Vec<u8>, Fail>
+    requires some { 1 ≤ length back.now }
+    requires each { length fingerprints.now ≡ length back.now }
+{
+    let parts = JournalParts {
+        version,
+        fingerprint: FINGERPRINT,
+        cursor: 0,
+        entries: &[],
+        halfway: Some(HalfwayParts { fingerprints, back }),
+    };
+    text_of(rt, &parts)
+}
+
+const FINGERPRINTS: [[u8; 16]; 2] = [*b"aaaaaaaaaaaaaaaa", *b"bbbbbbbbbbbbbbbb"];
 
 #[test]
 fn halfway_journals(rt: HostRuntime) -> Result<(), Fail> {
@@ -170,20 +177,8 @@ fn halfway_journals(rt: HostRuntime) -> Result<(), Fail> {
         Change::Remove(name(&rt, "a")),
         Change::Rename(name(&rt, "a.1"), name(&rt, "a")),
     ];
-    let fingerprints = [*b"aaaaaaaaaaaaaaaa", *b"bbbbbbbbbbbbbbbb"];
-    let halfway = Some(HalfwayParts {
-        fingerprints: &fingerprints,
-        back: &back,
-    });
     for (version, wanted) in [(Version::One, HALFWAY_ONE), (Version::Two, HALFWAY_TWO)] {
-        let parts = JournalParts {
-            version,
-            fingerprint: FINGERPRINT,
-            cursor: 0,
-            entries: &[],
-            halfway,
-        };
-        assert_eq!(rt; text_of(&rt, &parts)?.as_slice(), wanted);
+        assert!(rt; halfway_text(&rt, version, &FINGERPRINTS, &back)?.as_slice() == wanted);
     }
     Ok(())
 }
@@ -238,15 +233,25 @@ const FALSE_BODIES: [&[u8]; 8] = [
     b"P2UNDO1\n0123456789abcdef\x01\0\0\0\0\0\0\0\x01\0\0\0\0\0\0\0\x04\x03a/b\0",
 ];
 
+// Whether the bytes are refused with one more behind them.
+fn is_longer_refused(alloc: Global, text: &[u8]) -> Result<bool, AllocError> {
+    let mut longer = Vec::from_slice(alloc, text)?;
+    longer.push(0)?;
+    Ok(is_refused(alloc, &longer))
+}
+
+fn is_journal(alloc: Global, text: &[u8]) -> bool {
+    decode(alloc, text).is_ok()
+}
+
+const JOURNALS: [&[u8]; 5] = [UNDO_ONE, UNDO_TWO, NOTHING_ONE, HALFWAY_ONE, HALFWAY_TWO];
+
 #[test]
 fn damaged_journals(rt: HostRuntime) -> Result<(), Fail> {
     let alloc = rt.alloc();
-    for text in [UNDO_ONE, UNDO_TWO, NOTHING_ONE, HALFWAY_ONE, HALFWAY_TWO] {
-        assert!(rt; decode(alloc, text).is_ok());
-        assert!(rt; are_prefixes_refused(alloc, text) && are_changes_refused(alloc, text)?);
-        let mut longer = Vec::from_slice(alloc, text)?;
-        longer.push(0)?;
-        assert!(rt; is_refused(alloc, &longer));
+    for text in JOURNALS {
+        assert!(rt; is_journal(alloc, text) && are_prefixes_refused(alloc, text));
+        assert!(rt; are_changes_refused(alloc, text)? && is_longer_refused(alloc, text)?);
     }
     Ok(())
 }

@@ -2,8 +2,8 @@
 ghost use Rattle.std.specs.Prelude.{Some};
 
 use par2_printing::{
-    PrintedState, PrintedStep, PrintedTarget, write_done, write_failure, write_note, write_set,
-    write_step, write_target, write_verdict,
+    PrintedState, PrintedStep, PrintedTarget, WriteFault, write_done, write_failure, write_note,
+    write_set, write_step, write_target, write_verdict,
 };
 use par2_spec::{Action, Command, CreateArgs, Failure, Fault, Verdict};
 use std::alloc::{AllocError, Global};
@@ -36,69 +36,99 @@ impl Write for Stopping {
     }
 }
 
+// What a writer holds that takes five bytes, and whether both writes to it failed.
+fn after_five_bytes(alloc: Global, fails: bool) -> (bool, Vec<u8>) {
+    let mut out = Stopping {
+        held: Vec::new(alloc),
+        left: 5,
+        fails,
+    };
+    let step = write_step(&mut out, PrintedStep::Write("t.par2"));
+    let failure = write_failure(&mut out, None, Failure::Arguments);
+    (step.is_err() && failure.is_err(), out.held)
+}
+
 #[test]
-fn stops_after_five_bytes(rt: HostRuntime) -> Result<(), Fail> {
+fn stops_after_five_bytes(rt: HostRuntime) {
     for fails in [false, true] {
-        let mut out = Stopping {
-            held: Vec::new(rt.alloc()),
-            left: 5,
-            fails,
-        };
-        assert!(rt; write_step(&mut out, PrintedStep::Write("t.par2")).is_err());
-        assert!(rt; write_failure(&mut out, None, Failure::Arguments).is_err());
-        assert_eq!(rt; out.held.as_slice(), b"write".as_slice());
+        let (is_told, held) = after_five_bytes(rt.alloc(), fails);
+        assert!(rt; is_told && held.as_slice() == b"write".as_slice());
     }
-    Ok(())
 }
 
-#[test]
-fn step_lines(rt: HostRuntime) -> Result<(), Fail> {
-    let mut out = Vec::new(rt.alloc());
-    write_note(&mut out, false)?;
-    write_note(&mut out, true)?;
-    write_step(&mut out, PrintedStep::Rename("a", "a.1"))?;
-    write_step(&mut out, PrintedStep::Write("b"))?;
-    write_step(&mut out, PrintedStep::Replace("c"))?;
-    write_step(&mut out, PrintedStep::Remove("d e"))?;
-    write_done(&mut out, 120)?;
-    let expected =
-        "note: history dropped\nrename a to a.1\nwrite b\nreplace c\nremove d e\ndone: 120\n";
-    assert_eq!(rt; out.as_slice(), expected.as_bytes());
-    Ok(())
+// What one of the calls writes.
+#[derive(Clone, Copy)]
+enum Line {
+    Note(bool),
+    Step(PrintedStep<'static>),
+    Done(usize),
+    Set([u8; 16]),
+    Target(PrintedState<'static>),
+    Verdict(Verdict, usize, usize),
 }
 
-#[test]
-fn report_lines(rt: HostRuntime) -> Result<(), Fail> {
-    let mut out = Vec::new(rt.alloc());
-    write_set(
-        &mut out,
-        &[0x0a, 0xff, 2, 3, 4, 5, 6, 7, 8, 9, 10, 11, 12, 13, 14, 15],
-    )?;
-    for state in [
-        PrintedState::Complete,
-        PrintedState::Misplaced("x"),
-        PrintedState::Damaged,
-        PrintedState::Missing,
-    ] {
-        write_target(
-            &mut out,
-            PrintedTarget {
-                name: "a",
-                state,
-                found: 1,
-                total: 20,
-            },
-        )?;
+fn write_line(out: &mut Vec<u8>, line: Line) -> Result<(), WriteFault> {
+    match line {
+        Line::Note(dropped) => write_note(out, dropped),
+        Line::Step(step) => write_step(out, step),
+        Line::Done(count) => write_done(out, count),
+        Line::Set(id) => write_set(out, &id),
+        Line::Target(state) => write_target(out, a_as(state)),
+        Line::Verdict(verdict, lost, rank) => write_verdict(out, verdict, lost, rank),
     }
-    write_verdict(&mut out, Verdict::Complete, 0, 0)?;
-    write_verdict(&mut out, Verdict::Repairable, 1, 1)?;
-    write_verdict(&mut out, Verdict::NotRepairable, 2, 1)?;
-    let set = "set 0aff02030405060708090a0b0c0d0e0f\n";
-    let targets = "complete a\nmisplaced a as x\ndamaged a 1/20\nmissing a 1/20\n";
-    let verdicts =
-        "result: complete\nresult: repairable, lost 1, rank 1\nresult: not repairable, lost 2, rank 1\n";
-    let expected = format!(in rt.alloc(); "{set}{targets}{verdicts}")?;
-    assert_eq!(rt; out.as_slice(), expected.as_bytes());
+}
+
+// The target `a` in this state, one of whose 20 slices is found.
+fn a_as(state: PrintedState<'static>) -> PrintedTarget<'static> {
+    PrintedTarget {
+        name: "a",
+        state,
+        found: 1,
+        total: 20,
+    }
+}
+
+const SET_ID: [u8; 16] = [0x0a, 0xff, 2, 3, 4, 5, 6, 7, 8, 9, 10, 11, 12, 13, 14, 15];
+
+const LINES: [(Line, &str); 15] = [
+    (Line::Note(false), ""),
+    (Line::Note(true), "note: history dropped\n"),
+    (
+        Line::Step(PrintedStep::Rename("a", "a.1")),
+        "rename a to a.1\n",
+    ),
+    (Line::Step(PrintedStep::Write("b")), "write b\n"),
+    (Line::Step(PrintedStep::Replace("c")), "replace c\n"),
+    (Line::Step(PrintedStep::Remove("d e")), "remove d e\n"),
+    (Line::Done(120), "done: 120\n"),
+    (Line::Set(SET_ID), "set 0aff02030405060708090a0b0c0d0e0f\n"),
+    (Line::Target(PrintedState::Complete), "complete a\n"),
+    (
+        Line::Target(PrintedState::Misplaced("x")),
+        "misplaced a as x\n",
+    ),
+    (Line::Target(PrintedState::Damaged), "damaged a 1/20\n"),
+    (Line::Target(PrintedState::Missing), "missing a 1/20\n"),
+    (Line::Verdict(Verdict::Complete, 0, 0), "result: complete\n"),
+    (
+        Line::Verdict(Verdict::Repairable, 1, 1),
+        "result: repairable, lost 1, rank 1\n",
+    ),
+    (
+        Line::Verdict(Verdict::NotRepairable, 2, 1),
+        "result: not repairable, lost 2, rank 1\n",
+    ),
+];
+
+// Each line is written behind those before it.
+#[test]
+fn lines_of_a_report(rt: HostRuntime) -> Result<(), Fail> {
+    let (mut out, mut expected) = (Vec::new(rt.alloc()), String::new(rt.alloc()));
+    for (line, text) in LINES {
+        write_line(&mut out, line)?;
+        expected.push_str(text)?;
+        assert!(rt; out.as_slice() == expected.as_bytes(), "at {text}");
+    }
     Ok(())
 }
 
@@ -158,37 +188,50 @@ const FAULTS: [(Fault, &str); 23] = [
     (Fault::Memory, "out of memory"),
 ];
 
+// Whether a failure is told by this text.
+fn is_told(
+    alloc: Global,
+    command: Option<&Command>,
+    failure: Failure,
+    text: &str,
+) -> Result<bool, Fail> {
+    let mut out = Vec::new(alloc);
+    write_failure(&mut out, command, failure)?;
+    let expected = format!(in alloc; "par2: {text}\n")?;
+    Ok(out.as_slice() == expected.as_bytes())
+}
+
 #[test]
 fn fault_lines(rt: HostRuntime) -> Result<(), Fail> {
     let command = create(rt.alloc())?;
     for (fault, text) in FAULTS {
-        let mut out = Vec::new(rt.alloc());
-        write_failure(&mut out, Some(&command), Failure::Refused(fault))?;
-        let expected = format!(in rt.alloc(); "par2: {text}\n")?;
-        assert_eq!(rt; out.as_slice(), expected.as_bytes());
+        assert!(rt;
+            is_told(rt.alloc(), Some(&command), Failure::Refused(fault), text)?,
+            "{text}"
+        );
     }
     Ok(())
 }
 
+const USAGE: &str =
+    "usage: par2 create -sN -cN [-fN] [--overwrite] BASE.par2 FILE.. | verify BASE [FILE..] | repair [-p] BASE [FILE..] | purge BASE | undo | redo";
+
+const FAILURES: [(Failure, &str); 6] = [
+    (Failure::Store, "a file could not be read or written"),
+    (Failure::Arguments, USAGE),
+    (Failure::JournalInvalid, "the journal is not valid"),
+    (
+        Failure::FolderChanged,
+        "the folder is not as the journal left it",
+    ),
+    (Failure::NothingToUndo, "nothing to undo"),
+    (Failure::NothingToRedo, "nothing to redo"),
+];
+
 #[test]
 fn failure_lines(rt: HostRuntime) -> Result<(), Fail> {
-    let usage =
-        "usage: par2 create -sN -cN [-fN] [--overwrite] BASE.par2 FILE.. | verify BASE [FILE..] | repair [-p] BASE [FILE..] | purge BASE | undo | redo";
-    for (failure, text) in [
-        (Failure::Store, "a file could not be read or written"),
-        (Failure::Arguments, usage),
-        (Failure::JournalInvalid, "the journal is not valid"),
-        (
-            Failure::FolderChanged,
-            "the folder is not as the journal left it",
-        ),
-        (Failure::NothingToUndo, "nothing to undo"),
-        (Failure::NothingToRedo, "nothing to redo"),
-    ] {
-        let mut out = Vec::new(rt.alloc());
-        write_failure(&mut out, None, failure)?;
-        let expected = format!(in rt.alloc(); "par2: {text}\n")?;
-        assert_eq!(rt; out.as_slice(), expected.as_bytes());
+    for (failure, text) in FAILURES {
+        assert!(rt; is_told(rt.alloc(), None, failure, text)?, "{text}");
     }
     Ok(())
 }
