@@ -45,11 +45,13 @@ fn one_byte_is_another(rt: HostRuntime) -> Result<(), Fail> {
 }
 
 // Zeros behind the text have the checksums of the padding.
+const LENGTHS: [(&[u8], &[u8]); 3] = [(b"ab", b"ab\0"), (b"ab\0", b"ab"), (b"", b"a")];
+
 #[test]
 fn another_length(rt: HostRuntime) -> Result<(), Fail> {
-    assert!(rt; !is_like(rt.alloc(), b"ab", b"ab\0")?);
-    assert!(rt; !is_like(rt.alloc(), b"ab\0", b"ab")?);
-    assert!(rt; !is_like(rt.alloc(), b"", b"a")?);
+    for (bytes, other) in LENGTHS {
+        assert!(rt; !is_like(rt.alloc(), bytes, other)?);
+    }
     Ok(())
 }
 
@@ -58,17 +60,23 @@ fn another_length(rt: HostRuntime) -> Result<(), Fail> {
 fn another_number_of_pairs(rt: HostRuntime) -> Result<(), Fail> {
     let many = pairs_of(rt.alloc(), TEXT, 4)?;
     let few = pairs_of(rt.alloc(), &TEXT[..32], 4)?;
-    assert!(rt; is_intact(&TEXT[..33], 4, 33, &few));
-    assert!(rt; is_intact(&TEXT[..32], 4, 32, &many));
-    assert!(rt; is_intact(b"", 4, 0, &many));
-    assert!(rt; is_intact(b"abc", 4, 3, &[]));
+    let are_intact = [
+        is_intact(&TEXT[..33], 4, 33, &few),
+        is_intact(&TEXT[..32], 4, 32, &many),
+        is_intact(b"", 4, 0, &many),
+        is_intact(b"abc", 4, 3, &[]),
+    ];
+    assert!(rt; are_intact == [true; 4]);
     Ok(())
 }
 
 #[test]
 fn one_checksum_is_another(rt: HostRuntime) {
     let (md5, crc) = pair_of(b"abcd", 4);
-    assert!(rt; is_intact(b"abcd", 4, 4, &[(md5, crc)]));
-    assert!(rt; !is_intact(b"abcd", 4, 4, &[([7; 16], crc)]));
-    assert!(rt; !is_intact(b"abcd", 4, 4, &[(md5, crc ^ 1)]));
+    let are_intact = [
+        is_intact(b"abcd", 4, 4, &[(md5, crc)]),
+        is_intact(b"abcd", 4, 4, &[([7; 16], crc)]),
+        is_intact(b"abcd", 4, 4, &[(md5, crc ^ 1)]),
+    ];
+    assert!(rt; are_intact == [true, false, false]);
 }

@@ -25,27 +25,35 @@ fn is_matched(
     Ok(matched(alloc, texts, 4, &targets)?.as_slice() == numbers)
 }
 
-// Two targets of equal content, and two texts that have it.
-#[test]
-fn twin_files(rt: HostRuntime) -> Result<(), Fail> {
-    let twins: [&[u8]; 2] = [b"abcde", b"abcde"];
-    let texts: [&[u8]; 3] = [b"abcd", b"abcde", b"abcde"];
-    assert!(rt; is_matched(rt.alloc(), &twins, &texts, &[Some(1), Some(2)])?);
-    Ok(())
-}
+// The bytes of two targets, texts, and which text each target has.
+type Row = (
+    &'static [&'static [u8]; 2],
+    &'static [&'static [u8]],
+    &'static [Option<usize>],
+);
+
+const ROWS: [Row; 4] = [
+    // Two targets of equal content, and two texts that have it.
+    (
+        &[b"abcde", b"abcde"],
+        &[b"abcd", b"abcde", b"abcde"],
+        &[Some(1), Some(2)],
+    ),
+    // Two files that have exchanged their names.
+    (
+        &[b"abcde", b"fghij"],
+        &[b"fghij", b"abcde"],
+        &[Some(1), Some(0)],
+    ),
+    // A text is given once.
+    (&[b"abcde", b"abcde"], &[b"xyz", b"abcde"], &[Some(1), None]),
+    (&[b"abcde", b"abcde"], &[], &[None, None]),
+];
 
 #[test]
-fn swapped_files(rt: HostRuntime) -> Result<(), Fail> {
-    let files: [&[u8]; 2] = [b"abcde", b"fghij"];
-    let texts: [&[u8]; 2] = [b"fghij", b"abcde"];
-    assert!(rt; is_matched(rt.alloc(), &files, &texts, &[Some(1), Some(0)])?);
-    Ok(())
-}
-
-#[test]
-fn a_text_is_given_once(rt: HostRuntime) -> Result<(), Fail> {
-    let twins: [&[u8]; 2] = [b"abcde", b"abcde"];
-    assert!(rt; is_matched(rt.alloc(), &twins, &[b"xyz", b"abcde"], &[Some(1), None])?);
-    assert!(rt; is_matched(rt.alloc(), &twins, &[], &[None, None])?);
+fn texts_of_two_targets(rt: HostRuntime) -> Result<(), Fail> {
+    for (k, (bytes, texts, numbers)) in ROWS.iter().enumerate() {
+        assert!(rt; is_matched(rt.alloc(), bytes, texts, numbers)?, "row {k}");
+    }
     Ok(())
 }

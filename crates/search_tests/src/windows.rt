@@ -14,47 +14,48 @@ fn is_found_as(
     Ok(found.as_slice() == windows)
 }
 
-#[test]
-fn shifted_by_one_byte(rt: HostRuntime) -> Result<(), Fail> {
-    let windows = [Some(b"abcd".as_slice()), Some(b"efgh".as_slice())];
-    assert!(rt; is_found_as(rt.alloc(), b"abcdefgh", &[b"Xabcdefgh"], &windows)?);
-    Ok(())
-}
+// Bytes, texts, and the window in which each slice of the bytes is found.
+type Row = (
+    &'static [u8],
+    &'static [&'static [u8]],
+    &'static [Option<&'static [u8]>],
+);
 
-// The zeros behind the end of a text are left out, those in it are not.
-#[test]
-fn last_slice_is_padded(rt: HostRuntime) -> Result<(), Fail> {
-    let windows = [Some(b"abcd".as_slice()), Some(b"ef".as_slice())];
-    assert!(rt; is_found_as(rt.alloc(), b"abcdef", &[b"abcdef"], &windows)?);
-    let windows = [Some(b"abcd".as_slice()), Some(b"ef\0\0".as_slice())];
-    assert!(rt; is_found_as(rt.alloc(), b"abcdef", &[b"abcdef\0\0g"], &windows)?);
-    Ok(())
-}
+const ROWS: [Row; 7] = [
+    // Shifted by one byte.
+    (
+        b"abcdefgh",
+        &[b"Xabcdefgh"],
+        &[Some(b"abcd"), Some(b"efgh")],
+    ),
+    // The zeros behind the end of a text are left out, those in it are not.
+    (b"abcdef", &[b"abcdef"], &[Some(b"abcd"), Some(b"ef")]),
+    (
+        b"abcdef",
+        &[b"abcdef\0\0g"],
+        &[Some(b"abcd"), Some(b"ef\0\0")],
+    ),
+    // Equal slices.
+    (
+        b"aaaabbbbaaaa",
+        &[b"xaaaa"],
+        &[Some(b"aaaa"), None, Some(b"aaaa")],
+    ),
+    // The first text has the slice behind the end, the second one as it stands.
+    (
+        b"ab\0\0efghijklmnop",
+        &[b"xxab", b"ab\0\0efgh", b"efghijkl"],
+        &[Some(b"ab"), Some(b"efgh"), Some(b"ijkl"), None],
+    ),
+    // No text, and no pair.
+    (b"abcde", &[], &[None, None]),
+    (b"", &[b"abcd", b""], &[]),
+];
 
 #[test]
-fn equal_slices(rt: HostRuntime) -> Result<(), Fail> {
-    let windows = [Some(b"aaaa".as_slice()), None, Some(b"aaaa".as_slice())];
-    assert!(rt; is_found_as(rt.alloc(), b"aaaabbbbaaaa", &[b"xaaaa"], &windows)?);
-    Ok(())
-}
-
-// The first text has the slice behind the end, the second one as it stands.
-#[test]
-fn window_of_the_first_text(rt: HostRuntime) -> Result<(), Fail> {
-    let texts: [&[u8]; 3] = [b"xxab", b"ab\0\0efgh", b"efghijkl"];
-    let windows = [
-        Some(b"ab".as_slice()),
-        Some(b"efgh".as_slice()),
-        Some(b"ijkl".as_slice()),
-        None,
-    ];
-    assert!(rt; is_found_as(rt.alloc(), b"ab\0\0efghijklmnop", &texts, &windows)?);
-    Ok(())
-}
-
-#[test]
-fn no_text_and_no_pair(rt: HostRuntime) -> Result<(), Fail> {
-    assert!(rt; is_found_as(rt.alloc(), b"abcde", &[], &[None, None])?);
-    assert!(rt; is_found_as(rt.alloc(), b"", &[b"abcd", b""], &[])?);
+fn windows_of_slices(rt: HostRuntime) -> Result<(), Fail> {
+    for (k, (bytes, texts, windows)) in ROWS.iter().enumerate() {
+        assert!(rt; is_found_as(rt.alloc(), bytes, texts, windows)?, "row {k}");
+    }
     Ok(())
 }

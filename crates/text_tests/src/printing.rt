@@ -90,7 +90,7 @@ fn a_as(state: PrintedState<'static>) -> PrintedTarget<'static> {
 
 const SET_ID: [u8; 16] = [0x0a, 0xff, 2, 3, 4, 5, 6, 7, 8, 9, 10, 11, 12, 13, 14, 15];
 
-const LINES: [(Line, &str); 15] = [
+const LINES: &[(Line, &str)] = &[
     (Line::Note(false), ""),
     (Line::Note(true), "note: history dropped\n"),
     (
@@ -125,7 +125,7 @@ const LINES: [(Line, &str); 15] = [
 fn lines_of_a_report(rt: HostRuntime) -> Result<(), Fail> {
     let (mut out, mut expected) = (Vec::new(rt.alloc()), String::new(rt.alloc()));
     for (line, text) in LINES {
-        write_line(&mut out, line)?;
+        write_line(&mut out, *line)?;
         expected.push_str(text)?;
         assert!(rt; out.as_slice() == expected.as_bytes(), "at {text}");
     }
@@ -147,7 +147,7 @@ fn create(alloc: Global) -> Result<Command, AllocError> {
     })))
 }
 
-const FAULTS: [(Fault, &str); 23] = [
+const FAULTS: &[(Fault, &str)] = &[
     (
         Fault::BadSliceSize,
         "block size must be a multiple of 4 from 4 to 1073741824",
@@ -206,7 +206,7 @@ fn fault_lines(rt: HostRuntime) -> Result<(), Fail> {
     let command = create(rt.alloc())?;
     for (fault, text) in FAULTS {
         assert!(rt;
-            is_told(rt.alloc(), Some(&command), Failure::Refused(fault), text)?,
+            is_told(rt.alloc(), Some(&command), Failure::Refused(*fault), text)?,
             "{text}"
         );
     }
