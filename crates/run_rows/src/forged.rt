@@ -1,8 +1,6 @@
-//! Sets that no create makes: of a file with another digest, and of a file that is a par file by its name and bytes.
+//! Sets that no create makes: of a file with another digest, and of a file whose bytes are a packet.
 
-use crate::repairs::{REPAIR, REPAIR_AND_PURGE};
-use crate::returns::{refused, there_and_back};
-use crate::rows::{put, rename};
+use crate::files::put;
 use anyhow::Result;
 use par2_folder::MemoryStore;
 use par2_packets::{FileRecord, append_creator, append_desc, append_ifsc, append_main, main_id};
@@ -24,15 +22,11 @@ fn packets_of(alloc: Global, record: FileRecord) -> Result<Vec<u8>, AllocError> 
     Ok(packets)
 }
 
-// Both slices are found, and what they make isn't what the set says.
-fn another_digest(rt: &HostRuntime) -> Result<()> {
-    println!(rt; "a set that tells another digest")?;
-    let mut record = file_record(rt.alloc(), "a", b"abcdefgh", SLICE)?;
+/// Writes a set of the file `a` that tells another digest than the file has.
+pub fn set_of_another_digest(alloc: Global, store: &mut MemoryStore) -> Result<()> {
+    let mut record = file_record(alloc, "a", b"abcdefgh", SLICE)?;
     record.md5[0] ^= 1;
-    let mut store = MemoryStore::new(rt.alloc());
-    put(&mut store, "t.par2", &packets_of(rt.alloc(), record)?)?;
-    put(&mut store, "a", b"Xabcdefgh")?;
-    refused(rt, &mut store, REPAIR)
+    put(store, "t.par2", &packets_of(alloc, record)?)
 }
 
 // What a set says of a file of this name and these bytes, under an identifier of its own.
@@ -44,39 +38,12 @@ fn record_of(alloc: Global, name: &str, bytes: &[u8]) -> Result<FileRecord, Allo
     })
 }
 
-// A store with the set of one file, whose bytes are a packet of that set.
-fn packets_as_target(alloc: Global, name: &str) -> Result<MemoryStore> {
+/// Writes the set of one file, whose bytes are a packet of that set, and the file.
+pub fn set_of_packets(alloc: Global, store: &mut MemoryStore, name: &str) -> Result<()> {
     let id = main_id(SLICE, &[record_of(alloc, name, b"")?]);
     let mut bytes = Vec::new(alloc);
     append_creator(alloc, &mut bytes, &id)?;
     let record = record_of(alloc, name, &bytes)?;
-    let mut store = MemoryStore::new(alloc);
-    put(&mut store, name, &bytes)?;
-    put(&mut store, "t.par2", &packets_of(alloc, record)?)?;
-    Ok(store)
-}
-
-// A file of the set isn't taken away, whatever its name and its bytes.
-fn target_by_its_name(rt: &HostRuntime) -> Result<()> {
-    println!(rt; "a file of the set with a name and with bytes of a par file")?;
-    for line in ["purge t.par2", REPAIR_AND_PURGE] {
-        let mut store = packets_as_target(rt.alloc(), "x.par2")?;
-        there_and_back(rt, &mut store, line)?;
-    }
-    Ok(())
-}
-
-// A par file that takes the name of a file of the set isn't taken away.
-fn match_that_is_a_par_file(rt: &HostRuntime) -> Result<()> {
-    println!(rt; "a par file with the bytes of a file of the set")?;
-    let mut store = packets_as_target(rt.alloc(), "x")?;
-    rename(&mut store, "x", "x.par2")?;
-    there_and_back(rt, &mut store, "repair -p t.par2 x.par2")
-}
-
-/// Repairs and purges of such sets.
-pub fn forged_sets(rt: &HostRuntime) -> Result<()> {
-    another_digest(rt)?;
-    target_by_its_name(rt)?;
-    match_that_is_a_par_file(rt)
+    put(store, name, &bytes)?;
+    put(store, "t.par2", &packets_of(alloc, record)?)
 }

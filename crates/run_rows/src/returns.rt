@@ -1,6 +1,7 @@
-//! Runs that are undone and redone, and runs that are refused, with the bytes of the files.
+//! Runs that are undone and redone, runs that are refused and runs that keep the journal, with the bytes of the files.
 
-use crate::rows::{put, told};
+use crate::files::files_of;
+use crate::rows::{row, told};
 use anyhow::Result;
 use par2_folder::{FolderStore, MemoryStore, Name, read_folder};
 use std::alloc::Global;
@@ -16,28 +17,11 @@ pub fn fingerprint_of(alloc: Global, store: &mut MemoryStore) -> Result<[u8; 16]
 
 /// A store with the same files and the same journal.
 pub fn copy_of(alloc: Global, store: &mut MemoryStore) -> Result<MemoryStore> {
-    let mut copy = MemoryStore::new(alloc);
-    for name in &store.names(alloc)? {
-        copy.put(name, &store.read(alloc, name)?)?;
-    }
+    let mut copy = files_of(alloc, store)?;
     if let Some(journal) = store.read_journal(alloc)? {
         copy.put_journal(&journal)?;
     }
     Ok(copy)
-}
-
-/// The bytes of a file.
-pub fn bytes_of(alloc: Global, store: &mut MemoryStore, text: &str) -> Result<Vec<u8>> {
-    match Name::new(text) {
-        Ok(name) => Ok(store.read(alloc, &name)?),
-        Err(fault) => Err(fault.into()),
-    }
-}
-
-/// Gives a file the bytes of another one.
-pub fn copy_file(alloc: Global, store: &mut MemoryStore, from: &str, to: &str) -> Result<()> {
-    let bytes = bytes_of(alloc, store, from)?;
-    put(store, to, &bytes)
 }
 
 // Prints the name of a file, and its bytes where they are few.
@@ -51,19 +35,13 @@ fn show_file(rt: &HostRuntime, name: &Name, bytes: &[u8]) -> Result<()> {
     Ok(())
 }
 
-// Prints the files.
-fn show_bytes(rt: &HostRuntime, store: &mut MemoryStore) -> Result<()> {
-    for name in &store.names(rt.alloc())? {
-        let bytes = store.read(rt.alloc(), name)?;
-        show_file(rt, name, &bytes)?;
-    }
-    Ok(())
-}
-
 /// Runs the words of a line on a store, prints what comes of it and the files.
 pub fn shown(rt: &HostRuntime, store: &mut MemoryStore, line: &str) -> Result<()> {
-    let _status = told(rt, store, line)?;
-    show_bytes(rt, store)
+    told(rt, store, line)?;
+    for name in &store.names(rt.alloc())? {
+        show_file(rt, name, &store.read(rt.alloc(), name)?)?;
+    }
+    Ok(())
 }
 
 // Runs the words of a line, and says whether the folder has this fingerprint then, which it had before or after a run.
@@ -74,7 +52,7 @@ fn leads_to(
     wanted: [u8; 16],
     when: &str,
 ) -> Result<()> {
-    let _status = told(rt, store, line)?;
+    told(rt, store, line)?;
     let is_there = fingerprint_of(rt.alloc(), store)? == wanted;
     println!(rt; "  files as {when}: {is_there}")?;
     Ok(())
@@ -89,12 +67,32 @@ pub fn there_and_back(rt: &HostRuntime, store: &mut MemoryStore, line: &str) -> 
     leads_to(rt, store, "redo", after, "after")
 }
 
+// Says whether the journal has the bytes that it had.
+fn show_kept(rt: &HostRuntime, store: &mut MemoryStore, before: &Option<Vec<u8>>) -> Result<()> {
+    let is_kept = &store.read_journal(rt.alloc())? == before;
+    println!(rt; "  journal as before: {is_kept}")?;
+    Ok(())
+}
+
+/// Runs the words of a line, prints what comes of it, and says whether the journal is as before.
+pub fn kept(rt: &HostRuntime, store: &mut MemoryStore, line: &str) -> Result<()> {
+    let before = store.read_journal(rt.alloc())?;
+    told(rt, store, line)?;
+    show_kept(rt, store, &before)
+}
+
+/// Runs the words of a line, prints what comes of it and what the store holds then, and says whether the journal is as
+/// before.
+pub fn row_kept(rt: &HostRuntime, store: &mut MemoryStore, line: &str) -> Result<()> {
+    let before = store.read_journal(rt.alloc())?;
+    row(rt, store, line)?;
+    show_kept(rt, store, &before)
+}
+
 /// Runs the words of a line that is refused, and says whether files and journal are as before.
 pub fn refused(rt: &HostRuntime, store: &mut MemoryStore, line: &str) -> Result<()> {
     let journal = store.read_journal(rt.alloc())?;
     let before = fingerprint_of(rt.alloc(), store)?;
     leads_to(rt, store, line, before, "before")?;
-    let is_kept = store.read_journal(rt.alloc())? == journal;
-    println!(rt; "  journal as before: {is_kept}")?;
-    Ok(())
+    show_kept(rt, store, &journal)
 }

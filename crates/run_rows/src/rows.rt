@@ -1,15 +1,13 @@
 //! Runs on a store, and what comes of them.
 
+use crate::files::bytes_of;
 use anyhow::Result;
-use par2_folder::{FolderStore, MemoryStore, Name};
+use par2_folder::{FolderStore, MemoryStore};
 use par2_tool::run;
 use std::alloc::{AllocError, Global};
 
-/// A create of an index over the file `a`.
-pub const CREATE: &str = "create -s4 -c0 t.par2 a";
-
 /// What came of a run.
-#[derive(Debug, Drop)]
+#[derive(Drop)]
 pub struct Answer {
     pub status: u8,
     out: Vec<u8>,
@@ -25,44 +23,6 @@ impl Answer {
             &self.out
         }
     }
-}
-
-/// Writes a file.
-pub fn put(store: &mut MemoryStore, text: &str, bytes: &[u8]) -> Result<()> {
-    match Name::new(text) {
-        Ok(name) => Ok(store.put(&name, bytes)?),
-        Err(fault) => Err(fault.into()),
-    }
-}
-
-/// Takes a file away.
-pub fn remove(store: &mut MemoryStore, text: &str) -> Result<()> {
-    match Name::new(text) {
-        Ok(name) => Ok(store.remove(&name)?),
-        Err(fault) => Err(fault.into()),
-    }
-}
-
-/// Gives a file another name.
-pub fn rename(store: &mut MemoryStore, from: &str, to: &str) -> Result<()> {
-    match (Name::new(from), Name::new(to)) {
-        (Ok(from), Ok(to)) => Ok(store.rename(&from, &to)?),
-        (Err(fault), _) | (_, Err(fault)) => Err(fault.into()),
-    }
-}
-
-/// A store with one file and no journal.
-pub fn one_file(alloc: Global) -> Result<MemoryStore> {
-    let mut store = MemoryStore::new(alloc);
-    put(&mut store, "a", b"abcdefgh")?;
-    Ok(store)
-}
-
-/// A store with two files and no journal.
-pub fn two_files(alloc: Global) -> Result<MemoryStore> {
-    let mut store = one_file(alloc)?;
-    put(&mut store, "b", b"abc")?;
-    Ok(store)
 }
 
 // The words of a line, which are parted by spaces.
@@ -83,15 +43,6 @@ pub fn answer_of<S: FolderStore>(alloc: Global, store: &mut S, line: &str) -> Re
     Ok(Answer { status, out, err })
 }
 
-/// A store with one file, after these runs.
-pub fn one_file_after(alloc: Global, lines: &[&str]) -> Result<MemoryStore> {
-    let mut store = one_file(alloc)?;
-    for line in lines {
-        let _answer = answer_of(alloc, &mut store, line)?;
-    }
-    Ok(store)
-}
-
 // Prints what a writer got, if anything.
 fn show_text(rt: &HostRuntime, writer: &str, text: &[u8]) -> Result<()> {
     if text.is_empty() {
@@ -103,12 +54,18 @@ fn show_text(rt: &HostRuntime, writer: &str, text: &[u8]) -> Result<()> {
 }
 
 /// Runs the words of a line on a store, and prints the status and what the writers got. Gives the status.
-pub fn told<S: FolderStore>(rt: &HostRuntime, store: &mut S, line: &str) -> Result<u8> {
+pub fn status_told<S: FolderStore>(rt: &HostRuntime, store: &mut S, line: &str) -> Result<u8> {
     let answer = answer_of(rt.alloc(), store, line)?;
     println!(rt; "[{line}] {}", answer.status)?;
     show_text(rt, "output", &answer.out)?;
     show_text(rt, "error", &answer.err)?;
     Ok(answer.status)
+}
+
+/// Runs the words of a line on a store, and prints the status and what the writers got.
+pub fn told<S: FolderStore>(rt: &HostRuntime, store: &mut S, line: &str) -> Result<()> {
+    let _status = status_told(rt, store, line)?;
+    Ok(())
 }
 
 // Prints the files with their lengths, as far as the store answers.
@@ -140,9 +97,16 @@ pub fn show<S: FolderStore>(rt: &HostRuntime, store: &mut S) -> Result<()> {
     Ok(())
 }
 
-/// Runs the words of a line on a store, and prints what comes of it and what the store holds then. Gives the status.
-pub fn row<S: FolderStore>(rt: &HostRuntime, store: &mut S, line: &str) -> Result<u8> {
-    let status = told(rt, store, line)?;
-    show(rt, store)?;
-    Ok(status)
+/// Runs the words of a line on a store, and prints what comes of it and what the store holds then.
+pub fn row(rt: &HostRuntime, store: &mut MemoryStore, line: &str) -> Result<()> {
+    told(rt, store, line)?;
+    show(rt, store)
+}
+
+/// Prints the bytes of the index that hold the identifier of its set.
+pub fn show_set(rt: &HostRuntime, store: &mut MemoryStore) -> Result<()> {
+    let bytes = bytes_of(rt.alloc(), store, "t.par2")?;
+    let id = hex::encode(rt.alloc(), bytes.get(32..48).unwrap_or(&[]))?;
+    println!(rt; "  bytes 32 to 47 of t.par2: {id}")?;
+    Ok(())
 }

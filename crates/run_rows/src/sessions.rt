@@ -1,8 +1,9 @@
 //! Actions that are performed on one session.
 
-use crate::rows::{one_file, row, show};
+use crate::rows::show;
+use crate::stops::failing;
 use anyhow::Result;
-use par2_folder::{FolderStore, FuseStore};
+use par2_folder::{FolderStore, MemoryStore};
 use par2_tool::{Action, Command, CreateArgs, Outcome, Session, open_store, perform};
 use std::alloc::{AllocError, Global};
 
@@ -58,23 +59,15 @@ fn create_then_undo<S: FolderStore>(rt: &HostRuntime, store: &mut S) -> Result<(
     step(rt, store, &mut session, &Command::Act(Action::Undo))
 }
 
-/// A create and two undos, the second of which has nothing to undo.
-pub fn session_on_a_store(rt: &HostRuntime) -> Result<()> {
-    println!(rt; "one session")?;
-    create_then_undo(rt, &mut one_file(rt.alloc())?)
+/// A create and two undos.
+pub fn session(rt: &HostRuntime, store: &mut MemoryStore) -> Result<()> {
+    create_then_undo(rt, store)
 }
 
-/// The store fails at the call by which the first undo takes the index away, and the session stays as it was. The next
-/// run takes back what was begun, and undoes.
-pub fn undo_that_fails(rt: &HostRuntime) -> Result<()> {
-    for works in [false, true] {
-        println!(rt; "a failure at an undo, work done first: {works}")?;
-        let mut store = FuseStore::new(one_file(rt.alloc())?, CALLS_BEFORE_REMOVAL, works);
-        create_then_undo(rt, &mut store)?;
-        println!(rt; "afterwards")?;
-        let mut left = store.into_inner();
-        show(rt, &mut left)?;
-        let _status = row(rt, &mut left, "undo")?;
-    }
+/// A create and two undos on a store that fails at the call by which the first undo takes the index away.
+pub fn failing_session(rt: &HostRuntime, store: &mut MemoryStore, works: bool) -> Result<()> {
+    let mut failing = failing(rt.alloc(), store, CALLS_BEFORE_REMOVAL, works)?;
+    create_then_undo(rt, &mut failing)?;
+    *store = failing.into_inner();
     Ok(())
 }

@@ -1,48 +1,66 @@
-//! Runs that are stopped at each of their calls in turn, and the run that comes next.
+//! Runs that are stopped, since the store fails from some call on, and the runs that come next.
 
-use crate::rows::{answer_of, one_file_after, row, show, told};
+use crate::returns::{copy_of, fingerprint_of};
+use crate::rows::{Answer, answer_of, row, show, status_told, told};
 use anyhow::Result;
 use par2_folder::{FuseStore, MemoryStore};
 use std::alloc::Global;
 
-// Creates of an index and a volume.
-const CREATE_OF_TWO: &str = "create -s4 -c1 t.par2 a";
-
-const OTHER_OF_TWO: &str = "create -s4 -c1 u.par2 a";
-
-// The calls of an opening over one file, of the halfway journal and of two changes.
-const CALLS_OF_CHANGES: u64 = 6;
-
-// More calls than a run below makes of its store.
+// More calls than a run makes of its store.
 const MANY_CALLS: u64 = 20;
 
 const STORE_FAILED: u8 = 6;
 
-// Runs words on a store that fails from some call on, and the next words on what it leaves. Says whether the first run
-// was stopped.
-fn stop(
-    rt: &HostRuntime,
-    store: MemoryStore,
+/// A copy of a store that fails once this many calls were made, with or without doing its work first.
+pub fn failing(
+    alloc: Global,
+    store: &mut MemoryStore,
     passed: u64,
     works: bool,
+) -> Result<FuseStore<MemoryStore>> {
+    Ok(FuseStore::new(copy_of(alloc, store)?, passed, works))
+}
+
+/// Runs the words of a line, before which a number says how many calls the store answers.
+pub fn stop(rt: &HostRuntime, store: &mut MemoryStore, rest: &str) -> Result<()> {
+    let (passed, line) = rest.split_once(' ').unwrap_or(("0", rest));
+    let mut failing = failing(rt.alloc(), store, passed.parse()?, false)?;
+    let _answer = answer_of(rt.alloc(), &mut failing, line)?;
+    *store = failing.into_inner();
+    Ok(())
+}
+
+/// Runs words as `stop` does, and prints what comes of it.
+pub fn told_stop(rt: &HostRuntime, store: &mut MemoryStore, rest: &str) -> Result<()> {
+    let (passed, line) = rest.split_once(' ').unwrap_or(("0", rest));
+    let mut failing = failing(rt.alloc(), store, passed.parse()?, false)?;
+    told(rt, &mut failing, line)?;
+    *store = failing.into_inner();
+    Ok(())
+}
+
+// Runs words on a store that fails, and the next words on what it leaves. Says whether the first run was stopped.
+fn is_stopped(
+    rt: &HostRuntime,
+    mut store: FuseStore<MemoryStore>,
     line: &str,
     next: &str,
 ) -> Result<bool> {
-    println!(rt; "{passed} calls, then failures, work done first: {works}")?;
-    let mut store = FuseStore::new(store, passed, works);
-    let status = told(rt, &mut store, line)?;
+    let status = status_told(rt, &mut store, line)?;
     let mut left = store.into_inner();
     show(rt, &mut left)?;
-    let _status = row(rt, &mut left, next)?;
+    row(rt, &mut left, next)?;
     Ok(status == STORE_FAILED)
 }
 
-// Stops a run at each of its calls. The undo that comes next shows whether it opened as before or as after.
-fn stopped_actions(rt: &HostRuntime, before: &[&str], line: &str) -> Result<()> {
+/// Stops a run at each of its calls. After it and a semicolon stands the run that comes next.
+pub fn stop_each(rt: &HostRuntime, store: &mut MemoryStore, rest: &str) -> Result<()> {
+    let (line, next) = rest.split_once("; ").unwrap_or((rest, ""));
     for works in [false, true] {
         for passed in 0..MANY_CALLS {
-            let store = one_file_after(rt.alloc(), before)?;
-            if !stop(rt, store, passed, works, line, "undo")? {
+            println!(rt; "{passed} calls, then failures, work done first: {works}")?;
+            let failing = failing(rt.alloc(), store, passed, works)?;
+            if !is_stopped(rt, failing, line, next)? {
                 break;
             }
         }
@@ -50,36 +68,57 @@ fn stopped_actions(rt: &HostRuntime, before: &[&str], line: &str) -> Result<()> 
     Ok(())
 }
 
-// A store with a create that was undone, and with another one that was stopped once its changes were made.
-fn begun(alloc: Global) -> Result<MemoryStore> {
-    let store = one_file_after(alloc, &[CREATE_OF_TWO, "undo"])?;
-    let mut store = FuseStore::new(store, CALLS_OF_CHANGES, false);
-    let _answer = answer_of(alloc, &mut store, OTHER_OF_TWO)?;
-    Ok(store.into_inner())
+// Prints the words of a line, the status of its run and what the run wrote.
+fn say(rt: &HostRuntime, line: &str, answer: &Answer) -> Result<()> {
+    let text = String::from_utf8_lossy(rt.alloc(), answer.text())?;
+    println!(rt; "  [{line}] {} {:?}", answer.status, text.as_str())?;
+    Ok(())
 }
 
-// Stops a redo at each of its calls, those by which a create is taken back first. The redo that comes next shows
-// whether it opened as before or as after.
-fn stopped_openings(rt: &HostRuntime) -> Result<()> {
+// Runs the same words again, which lead to the same folder whether they were performed before or not. Then undoes one
+// command.
+fn go_on(rt: &HostRuntime, left: &mut MemoryStore, line: &str, wanted: [u8; 16]) -> Result<()> {
+    say(rt, line, &answer_of(rt.alloc(), left, line)?)?;
+    if fingerprint_of(rt.alloc(), left)? != wanted {
+        println!(rt; "  and the files are others")?;
+    }
+    say(rt, "undo", &answer_of(rt.alloc(), left, "undo")?)
+}
+
+// Runs words on a store that fails, and goes on with what it leaves. Says whether the run was stopped.
+fn is_repeated(
+    rt: &HostRuntime,
+    mut store: FuseStore<MemoryStore>,
+    line: &str,
+    wanted: [u8; 16],
+) -> Result<bool> {
+    let answer = answer_of(rt.alloc(), &mut store, line)?;
+    println!(rt; "{}", answer.status)?;
+    if answer.status != STORE_FAILED {
+        return Ok(false);
+    }
+    go_on(rt, &mut store.into_inner(), line, wanted)?;
+    Ok(true)
+}
+
+// The folder after the words of a line were run on a copy of the store.
+fn folder_after(alloc: Global, store: &mut MemoryStore, line: &str) -> Result<[u8; 16]> {
+    let mut copy = copy_of(alloc, store)?;
+    let _answer = answer_of(alloc, &mut copy, line)?;
+    fingerprint_of(alloc, &mut copy)
+}
+
+/// Stops a run at each of its calls, until it isn't stopped any more, and runs it again.
+pub fn stop_and_repeat(rt: &HostRuntime, store: &mut MemoryStore, line: &str) -> Result<()> {
+    let wanted = folder_after(rt.alloc(), store, line)?;
     for works in [false, true] {
         for passed in 0..MANY_CALLS {
-            let store = begun(rt.alloc())?;
-            if !stop(rt, store, passed, works, "redo", "redo")? {
+            print!(rt; "{passed} calls, then failures, work done first: {works}: ")?;
+            let failing = failing(rt.alloc(), store, passed, works)?;
+            if !is_repeated(rt, failing, line, wanted)? {
                 break;
             }
         }
     }
     Ok(())
-}
-
-/// A create, an undo, a redo and an opening, each stopped at each call.
-pub fn stopped_runs(rt: &HostRuntime) -> Result<()> {
-    println!(rt; "a create that is stopped")?;
-    stopped_actions(rt, &[], CREATE_OF_TWO)?;
-    println!(rt; "an undo that is stopped")?;
-    stopped_actions(rt, &[CREATE_OF_TWO], "undo")?;
-    println!(rt; "a redo that is stopped")?;
-    stopped_actions(rt, &[CREATE_OF_TWO, "undo"], "redo")?;
-    println!(rt; "a redo that is stopped, after a create that was stopped")?;
-    stopped_openings(rt)
 }

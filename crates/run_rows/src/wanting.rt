@@ -1,7 +1,8 @@
 //! Runs on a store that has memory for some reading calls alone.
 ghost use Rattle.std.specs.Prelude.{◌≡◌};
 
-use crate::rows::{CREATE, show, told, two_files};
+use crate::returns::copy_of;
+use crate::rows::{show, status_told};
 use anyhow::Result;
 use par2_folder::{FolderStore, MemoryStore, Name, ReadFault, StoreFault};
 use std::alloc::Global;
@@ -13,7 +14,7 @@ const OUT_OF_MEMORY: u8 = 8;
 
 // A store in memory whose first reading calls have memory, and whose later ones want it. Nothing is promised of its
 // contents, since it wants memory for a name that no file has, too.
-#[derive(Debug, Drop)]
+#[derive(Drop)]
 struct WantingStore {
     inner: MemoryStore,
     left: u64,
@@ -91,22 +92,17 @@ impl FolderStore for WantingStore {
     }
 }
 
-// The store wants memory from each of its reading calls on in turn.
-fn wanting(rt: &HostRuntime, line: &str) -> Result<()> {
+/// Runs words on a copy of the store that wants memory from the first of its reading calls on, from the second, and so
+/// on until none is refused.
+pub fn want_memory(rt: &HostRuntime, store: &mut MemoryStore, line: &str) -> Result<()> {
     for passed in 0..MANY_CALLS {
         println!(rt; "{passed} reading calls, then want of memory")?;
-        let mut store = WantingStore::new(two_files(rt.alloc())?, passed);
-        let status = told(rt, &mut store, line)?;
-        show(rt, &mut store.into_inner())?;
+        let mut wanting = WantingStore::new(copy_of(rt.alloc(), store)?, passed);
+        let status = status_told(rt, &mut wanting, line)?;
+        show(rt, &mut wanting.into_inner())?;
         if status != OUT_OF_MEMORY {
             break;
         }
     }
     Ok(())
-}
-
-/// A create and a redo that want memory.
-pub fn wanting_stores(rt: &HostRuntime) -> Result<()> {
-    wanting(rt, CREATE)?;
-    wanting(rt, "redo")
 }

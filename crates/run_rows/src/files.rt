@@ -1,0 +1,94 @@
+//! Changes of the files and the journal of a store, as another hand makes them.
+
+use crate::forged::{set_of_another_digest, set_of_packets};
+use anyhow::{Error, Result};
+use par2_folder::{FolderStore, MemoryStore, Name};
+use std::alloc::Global;
+
+// One byte more than 32,768 slices of 4 bytes have.
+const LARGE: usize = 131_073;
+
+fn name_of(text: &str) -> Result<Name> {
+    match Name::new(text) {
+        Ok(name) => Ok(name),
+        Err(fault) => Err(fault.into()),
+    }
+}
+
+/// Writes a file.
+pub fn put(store: &mut MemoryStore, text: &str, bytes: &[u8]) -> Result<()> {
+    Ok(store.put(&name_of(text)?, bytes)?)
+}
+
+/// The bytes of a file.
+pub fn bytes_of(alloc: Global, store: &mut MemoryStore, text: &str) -> Result<Vec<u8>> {
+    Ok(store.read(alloc, &name_of(text)?)?)
+}
+
+/// A store with the same files.
+pub fn files_of(alloc: Global, store: &mut MemoryStore) -> Result<MemoryStore> {
+    let mut copy = MemoryStore::new(alloc);
+    for name in &store.names(alloc)? {
+        copy.put(name, &store.read(alloc, name)?)?;
+    }
+    Ok(copy)
+}
+
+// Takes a file away.
+fn remove(store: &mut MemoryStore, text: &str) -> Result<()> {
+    Ok(store.remove(&name_of(text)?)?)
+}
+
+// Gives a file another name.
+fn rename(store: &mut MemoryStore, from: &str, to: &str) -> Result<()> {
+    Ok(store.rename(&name_of(from)?, &name_of(to)?)?)
+}
+
+// Gives a file the bytes of another one.
+fn copy(alloc: Global, store: &mut MemoryStore, from: &str, to: &str) -> Result<()> {
+    let bytes = bytes_of(alloc, store, from)?;
+    put(store, to, &bytes)
+}
+
+// Writes the bytes of a file at the end of another one.
+fn append(alloc: Global, store: &mut MemoryStore, from: &str, to: &str) -> Result<()> {
+    let mut bytes = bytes_of(alloc, store, to)?;
+    bytes.extend_from_slice(&bytes_of(alloc, store, from)?)?;
+    put(store, to, &bytes)
+}
+
+// Puts the journal of these digits.
+fn put_journal(alloc: Global, store: &mut MemoryStore, digits: &str) -> Result<()> {
+    Ok(store.put_journal(&hex::decode(alloc, digits)?)?)
+}
+
+// Takes all files and the journal away.
+fn clear(alloc: Global, store: &mut MemoryStore) -> Result<()> {
+    *store = MemoryStore::new(alloc);
+    Ok(())
+}
+
+// Takes the journal away.
+fn remove_journal(alloc: Global, store: &mut MemoryStore) -> Result<()> {
+    *store = files_of(alloc, store)?;
+    Ok(())
+}
+
+/// Makes the change of a word.
+pub fn change(alloc: Global, store: &mut MemoryStore, word: &str, rest: &str) -> Result<()> {
+    let (first, second) = rest.split_once(' ').unwrap_or((rest, ""));
+    match word {
+        "new" => clear(alloc, store),
+        "put" => put(store, first, second.as_bytes()),
+        "large" => put(store, "large", &vec![in alloc; 7u8; LARGE]?),
+        "remove" => remove(store, first),
+        "rename" => rename(store, first, second),
+        "copy" => copy(alloc, store, first, second),
+        "append" => append(alloc, store, first, second),
+        "journal" => put_journal(alloc, store, rest),
+        "no-journal" => remove_journal(alloc, store),
+        "set-of-another-digest" => set_of_another_digest(alloc, store),
+        "set-of-packets" => set_of_packets(alloc, store, rest),
+        _ => Err(Error::msg("no such word")),
+    }
+}

@@ -1,0 +1,56 @@
+//! The lines of the input: a word, a space and what the word is about.
+
+use crate::files::change;
+use crate::returns::{kept, refused, row_kept, shown, there_and_back};
+use crate::rows::{answer_of, row, show, show_set, told};
+use crate::sessions::{failing_session, session};
+use crate::stops::{stop, stop_and_repeat, stop_each, told_stop};
+use crate::wanting::want_memory;
+use anyhow::Result;
+use par2_folder::MemoryStore;
+
+// Prints a text.
+fn say(rt: &HostRuntime, text: &str) -> Result<()> {
+    println!(rt; "{text}")?;
+    Ok(())
+}
+
+// Runs the words of a line.
+fn run(rt: &HostRuntime, store: &mut MemoryStore, line: &str) -> Result<()> {
+    let _answer = answer_of(rt.alloc(), store, line)?;
+    Ok(())
+}
+
+// Sessions, and runs on stores that fail or want memory.
+fn fail(rt: &HostRuntime, store: &mut MemoryStore, word: &str, rest: &str) -> Result<()> {
+    match word {
+        "session" => session(rt, store),
+        "session-failing" => failing_session(rt, store, rest == "after"),
+        "stop" => stop(rt, store, rest),
+        "stop-told" => told_stop(rt, store, rest),
+        "stop-each" => stop_each(rt, store, rest),
+        "stop-and-repeat" => stop_and_repeat(rt, store, rest),
+        "want-memory" => want_memory(rt, store, rest),
+        _ => change(rt.alloc(), store, word, rest),
+    }
+}
+
+/// Carries out a line. An empty one, and one that begins with `#`, is read over.
+pub fn carry_out(rt: &HostRuntime, store: &mut MemoryStore, line: &str) -> Result<()> {
+    let (word, rest) = line.split_once(' ').unwrap_or((line, ""));
+    match word {
+        "" | "#" => Ok(()),
+        "say" => say(rt, rest),
+        "run" => run(rt, store, rest),
+        "told" => told(rt, store, rest),
+        "row" => row(rt, store, rest),
+        "shown" => shown(rt, store, rest),
+        "return" => there_and_back(rt, store, rest),
+        "refused" => refused(rt, store, rest),
+        "kept" => kept(rt, store, rest),
+        "row-kept" => row_kept(rt, store, rest),
+        "show" => show(rt, store),
+        "set" => show_set(rt, store),
+        _ => fail(rt, store, word, rest),
+    }
+}
