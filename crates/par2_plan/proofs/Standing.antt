@@ -1,5 +1,5 @@
 -- The standings of targets, one after the other.
-use Rattle.std.proofs.Common.{◌≡◌, ℕ, suc, List, [], ◌∷◌, ◌++◌, length, map, take, drop, refl, sym, ap, ◌∙◌, Bool, true, false, ◌⊎◌, inl, inr, Bor, append_assoc}
+use Rattle.std.proofs.Common.{◌≡◌, ℕ, suc, List, [], ◌∷◌, ◌++◌, length, map, take, drop, refl, sym, ap, ◌∙◌, Bool, true, false, ◌⊎◌, inl, inr, Bor, append_assoc, arith}
 use Rattle.std.specs.Prelude.{Option, Some, None, is_some, filter, slice_index_or}
 use Rattle.std.proofs.lemmas.List.{map-append, length-map, take-map, drop-map}
 use Rattle.std.proofs.Math.Seq.{drop-append_seam, take-append_seam}
@@ -25,6 +25,11 @@ standings_end f (true ∷ needing) [] given h = refl
 standings_end f (false ∷ needing) [] given h = refl
 standings_end f (b ∷ needing) (t ∷ ts) given (inl h) = absurd (let no : ⊥ = cc in no)
 standings_end f (b ∷ needing) (t ∷ ts) given (inr h) = absurd (let no : ⊥ = cc in no)
+
+-- behind the last match there is none
+pub given_out : (given later : List (Option (List ℕ))) → length given ≡ 0 → later ≡ given → (slice_index_or given 0 None ≡ None) × (later ≡ drop 1 given)
+given_out [] later h same = (refl, same)
+given_out (o ∷ given) later h same = absurd (let no : ⊥ = grind arith in no)
 
 -- each target without a match has a place for each of its slices
 pub sized_by : (f : Pair → Option (List ℕ)) (needing : List Bool) (ts : List Target) (given : List (Option (List ℕ))) → AreSized ts (standings_by f needing ts given)

@@ -1,6 +1,6 @@
-use Rattle.std.proofs.Common.{◌≡◌, ◌∙◌, ◌++◌, ◌∷◌, [], List, ℕ, Bool, Bor, length, map, take, drop, true, sym, ap, ap₂, append-nil, arith}
+use Rattle.std.proofs.Common.{◌≡◌, ◌∙◌, ◌++◌, ◌∷◌, [], List, ℕ, Bool, Bor, length, map, take, drop, true, sym, ap, ap₂, append-nil, rules}
 use Rattle.std.proofs.lemmas.List.{drop-drop}
-use Rattle.std.proofs.lemmas.Grind.{common_steps}
+use Rattle.std.proofs.lemmas.Option.{MatchOption-at_some, MatchOption-at_none}
 use Rattle.std.specs.Prelude.{Option, None, slice_index_or}
 use Rattle.std.specs.Iterator.Adapters.{zip_first, zip_second}
 use Rattle.std.specs.Slice.Iter.{iter_rest}
@@ -12,8 +12,9 @@ use Rattle.par2_plan.specs.Findings.{Standing, Unmatched, needing_standing, pair
 use Rattle.par2_plan.specs.Views.{standings_of}
 use Rattle.par2_plan.specs.declared.finding.Standing as code
 use Rattle.par2_plan.specs.declared.finding.Standing.TheVariants as variants
-use Rattle.par2_plan.proofs.Standing.{standings_end, own_windows, standing_more}
+use Rattle.par2_plan.proofs.Standing.{standings_end, own_windows, standing_more, given_out}
 use Rattle.par2_plan.proofs.finding.standings_with.Goals as goal
+use Rattle.par2_plan.proofs.finding.standings_with.Goals.{in_default-via-in-Some+in_default, in_default-via-in_default}
 
 pub loop-target-preserved : goal.loop-target-preserved
 loop-target-preserved c =
@@ -26,8 +27,19 @@ loop-target-preserved c =
     let given : List (Option (List ℕ)) = iter_rest c.loop-target.given in
     let later : List (Option (List ℕ)) = iter_rest c.next-else-not-needs.new.self in
     let flag : c.in-Some.needs.now ≡ true = c.if-not-needs.false in
-    let none : slice_index_or given 0 None ≡ None = grind (arith, common_steps) in
-    let next : later ≡ drop 1 given = grind (arith, common_steps) in
+    let step : (slice_index_or given 0 None ≡ None) × (later ≡ drop 1 given) =
+    elim c.in_default.branch as (λ _. (slice_index_or given 0 None ≡ None) × (later ≡ drop 1 given)) [
+      | in_default-via-in-Some+in_default w ↦
+          let inner : ◌≡◌ {A = Option (List ℕ)} w.in_default.field-0.now None = search rules in
+          let front : ◌≡◌ {A = List (Option (List ℕ))} given (w.in_default.field-0.now ∷ later) =
+          MatchOption-at_some _ _ w.in_default.field-0 w.in_default.is c.next-else-not-needs.ensures.steps in
+          (ap (λ (os : List (Option (List ℕ))). slice_index_or os 0 None) front ∙ inner, sym (ap (λ (os : List (Option (List ℕ))). drop 1 os) front))
+      | in_default-via-in_default w ↦
+          let end = MatchOption-at_none _ _ w.in_default.is c.next-else-not-needs.ensures.steps in
+          given_out given later end.0 (ap iter_rest end.1)
+    ] in
+    let none = step.0 in
+    let next = step.1 in
     let windows : List (Option (Bor (List ℕ))) = c.args.windows.now in
     let rest : List (Option (Bor (List ℕ))) = drop c.loop-target.first windows in
     let count : length c.pairs.result.now ≡ length t.pairs = ap (λ (ps : List Pair). length ps) c.pairs.ensures in

@@ -1,0 +1,14 @@
+use Rattle.std.proofs.Common.{◌≡◌, ◌∙◌, ◌<◌, ◌++◌, ◌∷◌, [], List, ℕ, length, map, take, sym, ap, ap₂}
+use Rattle.std.specs.Prelude.{Option, None, option_map, IfSome}
+use Rattle.std.proofs.lemmas.List.{map_more}
+use Rattle.par2_search.specs.Matching.{text_at}
+use Rattle.par2_plan.proofs.Listed.{all_get}
+use Rattle.par2_plan.proofs.matching.names_at.Goals as goal
+
+pub name_at-requires : goal.name_at-requires
+name_at-requires c = all_get (λ number. IfSome number (λ i. i < length c.args.names.now)) c.args.numbers.now c.loop-number.number-index None c.loop-number-test.true c.requires
+
+pub loop-number-preserved : goal.loop-number-preserved
+loop-number-preserved c =
+    let name = option_map (text_at c.args.names.now) in
+    c.in_ok-push.ensures.items ∙ ap₂ (λ (names : List (Option (List ℕ))) given. names ++ given ∷ []) c.loop-number.invariant c.name_at.ensures ∙ sym (map_more name c.args.numbers.now c.loop-number.number-index None c.loop-number-test.true)
