@@ -1,3 +1,4 @@
 pub mod Digests
 pub mod Lanes
+pub mod Messages
 pub mod Tails

@@ -9,11 +9,13 @@ ghost use Rattle.par2_digests.specs.Lanes.{lane};
 
 mod blocks;
 mod lanes;
+mod midstate;
 mod padding;
 mod steps;
 
 use blocks::absorbed;
 use lanes::splat;
+pub use midstate::{Message, Midstate, Part};
 use padding::{tail_blocks, tails_of_windows};
 use std::simd::prelude::*;
 use steps::State;
