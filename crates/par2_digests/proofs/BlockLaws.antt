@@ -1,10 +1,9 @@
 -- The blocks of a message and their words.
 use Rattle.std.proofs.Common.{◌≡◌, ℕ, zero, suc, ◌+◌, ◌*◌, ◌<◌, ◌≤◌, List, [], ◌∷◌, length, take, drop, get_or, inl, inr, ap, refl, sym, ◌∙◌, arith}
 use Rattle.std.proofs.lemmas.Bool.{cases_lt}
-use Rattle.std.proofs.lemmas.List.{same_lists, get_or-take, get_or-drop, drop-take, take-take, length-append, length-map, get_or_default, get_or_append_left, get_or_at, drop-drop}
+use Rattle.std.proofs.lemmas.List.{same_lists, get_or-take, get_or-drop, drop-take, take-take, length-append, length-map, get_or-map, get_or_append_left, get_or_at, drop-drop}
 use Rattle.md5.specs.Md5.{block_words, compress, hash_after, word_at}
 use Rattle.par2_digests.specs.Lanes.{lane_words}
-use Rattle.par2_digests.proofs.LaneLaws.{word_of_lane}
 
 -- ---- words
 
@@ -38,18 +37,19 @@ word_in_text text at i h =
     rw (first, byte_of_block text at i 1 (omega arith), byte_of_block text at i 2 (omega arith), byte_of_block text at i 3 (omega arith)) refl
 
 -- sixteen vectors hold the words of such a block in a lane
-pub words_of_lane : (words : List (List ℕ)) (text : List ℕ) (k start offset : ℕ) → length words ≡ 16
-    → ((i : ℕ) → i < 16 → get_or (get_or words i []) k 0 ≡ word_at text (start + (offset + 4 * i)))
-    → lane_words k words ≡ block_words (take 64 (drop (start + offset) text)) 16
-words_of_lane words text k start offset count each =
+pub words_of_lane : {V : Type 0} (at : V → ℕ → ℕ) (words : List V) (text : List ℕ) (k start offset : ℕ) → length words ≡ 16
+    → ((i : ℕ) (none : V) → i < 16 → at (get_or words i none) k ≡ word_at text (start + (offset + 4 * i)))
+    → lane_words at k words ≡ block_words (take 64 (drop (start + offset) text)) 16
+words_of_lane at [] text k start offset count each = absurd (omega arith)
+words_of_lane at (first ∷ others) text k start offset count each =
+    let words : List _ = first ∷ others in
     let block = take 64 (drop (start + offset) text) in
-    let len : length (lane_words k words) ≡ 16 = length-map words _ ∙ count in
-    same_lists (lane_words k words) (block_words block 16) (len ∙ sym (count_of_words block 16)) (λ i d h.
+    let len : length (lane_words at k words) ≡ 16 = length-map words _ ∙ count in
+    same_lists (lane_words at k words) (block_words block 16) (len ∙ sym (count_of_words block 16)) (λ i d h.
     let low : i < 16 = omega arith in
     let place : start + (offset + 4 * i) ≡ start + offset + 4 * i = omega arith in
-    get_or_default (lane_words k words) i d 0 h
-    ∙ word_of_lane words k i [] (omega arith)
-    ∙ each i low
+    get_or-map (λ word. at word k) words i first d (omega arith)
+    ∙ each i first low
     ∙ ap (word_at text) place
     ∙ sym (word_in_text text (start + offset) (4 * i) (omega arith))
     ∙ sym (word_of_block block 16 i d low))

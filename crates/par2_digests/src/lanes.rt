@@ -1,57 +1,99 @@
-//! The functions of a step (RFC 1321, 3.4) on eight messages at once, each in a lane of its own.
+//! The functions of a step (RFC 1321, 3.4) on several messages at once, each in a lane of its own.
 
-ghost use Rattle.std.specs.Prelude.{◌≡◌, ◌<◌, ℕ, slice_index};
+ghost use Rattle.std.specs.Prelude.{◌≡◌, ◌≤◌, ◌<◌, ◌+◌, ℕ, length, slice_index};
 ghost use Rattle.std.specs.Int.{w32, rotate_left};
-ghost use Rattle.md5.specs.Md5.{add32, f_fn, g_fn, h_fn, i_fn};
+ghost use Rattle.md5.specs.Md5.{add32, f_fn, g_fn, h_fn, i_fn, word_at};
 
+use crate::words::{f_words, g_words, gathered_words, h_words, i_words, rotated_words};
 use std::simd::prelude::*;
 
-#[inline(always)]
-pub(crate) fn f_lanes(x: u32x8, y: u32x8, z: u32x8) -> u32x8
-    ensures { (k : ℕ) → k < 8 → slice_index result k ≡ f_fn (slice_index x k) (slice_index y k) (slice_index z k) }
-{
-    (x & y) | (!x & z)
+/// A word of each of several messages.
+pub(crate) trait Lanes: Copy {
+    // How many messages.
+    ghost count: { ℕ };
+
+    // The word in a lane.
+    ghost at: { Self → ℕ → ℕ };
+
+    fn f(x: Self, y: Self, z: Self) -> Self
+        ensures { (k : ℕ) → k < count → at result k ≡ f_fn (at x k) (at y k) (at z k) };
+
+    fn g(x: Self, y: Self, z: Self) -> Self
+        ensures { (k : ℕ) → k < count → at result k ≡ g_fn (at x k) (at y k) (at z k) };
+
+    fn h(x: Self, y: Self, z: Self) -> Self
+        ensures { (k : ℕ) → k < count → at result k ≡ h_fn (at x k) (at y k) (at z k) };
+
+    fn i(x: Self, y: Self, z: Self) -> Self
+        ensures { (k : ℕ) → k < count → at result k ≡ i_fn (at x k) (at y k) (at z k) };
+
+    fn plus(x: Self, y: Self) -> Self
+        ensures { (k : ℕ) → k < count → at result k ≡ add32 (at x k) (at y k) };
+
+    fn splat(x: u32) -> Self
+        ensures { (k : ℕ) → k < count → at result k ≡ x };
+
+    fn rotated(x: Self, shift: u32) -> Self
+        ensures { (k : ℕ) → k < count → at result k ≡ rotate_left w32 (at x k) shift };
+
+    /// The words that stand `offset` bytes behind each start.
+    fn gathered(bytes: &[u8], starts: &[usize], offset: usize) -> Self
+        requires enough { count ≤ length starts.now }
+        requires within { (k : ℕ) → k < count → slice_index starts.now k + offset + 4 ≤ length bytes.now }
+        ensures { (k : ℕ) → k < count → at result k ≡ word_at bytes.now (slice_index starts.now k + offset) };
+
+    fn word(self, k: usize) -> u32
+        requires { k < count }
+        ensures { result ≡ at self k };
 }
 
-#[inline(always)]
-pub(crate) fn g_lanes(x: u32x8, y: u32x8, z: u32x8) -> u32x8
-    ensures { (k : ℕ) → k < 8 → slice_index result k ≡ g_fn (slice_index x k) (slice_index y k) (slice_index z k) }
-{
-    (x & z) | (y & !z)
-}
+impl<const N: usize> Lanes for Simd<u32, N> {
+    ghost count = { N };
 
-#[inline(always)]
-pub(crate) fn h_lanes(x: u32x8, y: u32x8, z: u32x8) -> u32x8
-    ensures { (k : ℕ) → k < 8 → slice_index result k ≡ h_fn (slice_index x k) (slice_index y k) (slice_index z k) }
-{
-    x ^ y ^ z
-}
+    ghost at = { slice_index };
 
-#[inline(always)]
-pub(crate) fn i_lanes(x: u32x8, y: u32x8, z: u32x8) -> u32x8
-    ensures { (k : ℕ) → k < 8 → slice_index result k ≡ i_fn (slice_index x k) (slice_index y k) (slice_index z k) }
-{
-    y ^ (x | !z)
-}
+    #[inline(always)]
+    fn f(x: Self, y: Self, z: Self) -> Self {
+        f_words(x, y, z)
+    }
 
-#[inline(always)]
-pub(crate) fn plus(x: u32x8, y: u32x8) -> u32x8
-    ensures { (k : ℕ) → k < 8 → slice_index result k ≡ add32 (slice_index x k) (slice_index y k) }
-{
-    x + y
-}
+    #[inline(always)]
+    fn g(x: Self, y: Self, z: Self) -> Self {
+        g_words(x, y, z)
+    }
 
-#[inline(always)]
-pub(crate) fn splat(x: u32) -> u32x8
-    ensures { (k : ℕ) → k < 8 → slice_index result k ≡ x }
-{
-    u32x8::splat(x)
-}
+    #[inline(always)]
+    fn h(x: Self, y: Self, z: Self) -> Self {
+        h_words(x, y, z)
+    }
 
-#[inline(always)]
-pub(crate) fn rotated(x: u32x8, shift: u32) -> u32x8
-    ensures { (k : ℕ) → k < 8 → slice_index result k ≡ rotate_left w32 (slice_index x k) shift }
-{
-    let left = shift % 32;
-    (x << u32x8::splat(left)) | (x >> u32x8::splat((32 - left) % 32))
+    #[inline(always)]
+    fn i(x: Self, y: Self, z: Self) -> Self {
+        i_words(x, y, z)
+    }
+
+    #[inline(always)]
+    fn plus(x: Self, y: Self) -> Self {
+        x + y
+    }
+
+    #[inline(always)]
+    fn splat(x: u32) -> Self {
+        Simd::splat(x)
+    }
+
+    #[inline(always)]
+    fn rotated(x: Self, shift: u32) -> Self {
+        rotated_words(x, shift)
+    }
+
+    #[inline(always)]
+    fn gathered(bytes: &[u8], starts: &[usize], offset: usize) -> Self {
+        gathered_words(bytes, starts, offset)
+    }
+
+    #[inline(always)]
+    fn word(self, k: usize) -> u32 {
+        self[k]
+    }
 }

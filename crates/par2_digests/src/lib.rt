@@ -12,56 +12,46 @@ mod lanes;
 mod midstate;
 mod padding;
 mod steps;
+mod words;
 
 use blocks::absorbed;
-use lanes::splat;
+use lanes::Lanes;
 pub use midstate::{Message, Midstate, Part};
 use padding::{tail_blocks, tails_of_windows};
 use std::simd::prelude::*;
-use steps::State;
+use steps::{State, in_each_lane};
 
 /// How many windows are digested side by side.
 pub const LANES: usize = 8;
 
 // The initial hash value (RFC 1321, 3.3).
-fn initial_state() -> State
-    ensures { (k : ℕ) → k < 8 → lane k result ≡ initial_hash }
+fn initial_state() -> State<u32x8>
+    ensures { (k : ℕ) → k < 8 → lane slice_index k result ≡ initial_hash }
 {
-    State {
-        a: splat(0x6745_2301),
-        b: splat(0xefcd_ab89),
-        c: splat(0x98ba_dcfe),
-        d: splat(0x1032_5476),
-    }
+    in_each_lane(0x6745_2301, 0xefcd_ab89, 0x98ba_dcfe, 0x1032_5476)
 }
 
 /// The hash values of the windows, after all blocks of each and its padding.
-fn hash_values(bytes: &[u8], starts: &[usize; LANES], len: usize) -> State
+fn hash_values(bytes: &[u8], starts: &[usize; LANES], len: usize) -> State<u32x8>
     requires within { (k : ℕ) → k < 8 → slice_index starts.now k + len ≤ length bytes.now }
-    ensures { (k : ℕ) → k < 8 → let p = padded_message (take len (drop (slice_index starts.now k) bytes.now)) in lane k result ≡ hash_after p (length p / 64) }
+    ensures { (k : ℕ) → k < 8 → let p = padded_message (take len (drop (slice_index starts.now k) bytes.now)) in lane slice_index k result ≡ hash_after p (length p / 64) }
 {
     let tails = tails_of_windows(bytes, starts, len);
     let tail_starts = [0, 128, 256, 384, 512, 640, 768, 896];
-    let state = absorbed(initial_state(), bytes, starts, len / 64);
-    absorbed(state, &tails, &tail_starts, tail_blocks(len))
-}
-
-fn bytes_of_lane(v: u32x8, k: usize) -> [u8; 4]
-    requires { k < 8 }
-    ensures { result ≡ to_le_bytes w32 (slice_index v k) }
-{
-    v[k].to_le_bytes()
+    let mut words = [u32x8::splat(0); 16];
+    let state = absorbed(initial_state(), &mut words, bytes, starts, len / 64);
+    absorbed(state, &mut words, &tails, &tail_starts, tail_blocks(len))
 }
 
 /// The digest in a lane, low byte first.
-fn digest_of_lane(state: &State, k: usize) -> [u8; 16]
-    requires { k < 8 }
-    ensures { result ≡ digest_bytes (lane k state.now) 4 }
+fn digest_of_lane<V: Lanes>(state: &State<V>, k: usize) -> [u8; 16]
+    requires { k < V.count }
+    ensures { result ≡ digest_bytes (lane V.at k state.now) 4 }
 {
-    let [a0, a1, a2, a3] = bytes_of_lane(state.a, k);
-    let [b0, b1, b2, b3] = bytes_of_lane(state.b, k);
-    let [c0, c1, c2, c3] = bytes_of_lane(state.c, k);
-    let [d0, d1, d2, d3] = bytes_of_lane(state.d, k);
+    let [a0, a1, a2, a3] = state.a.word(k).to_le_bytes();
+    let [b0, b1, b2, b3] = state.b.word(k).to_le_bytes();
+    let [c0, c1, c2, c3] = state.c.word(k).to_le_bytes();
+    let [d0, d1, d2, d3] = state.d.word(k).to_le_bytes();
     [
         a0, a1, a2, a3, b0, b1, b2, b3, c0, c1, c2, c3, d0, d1, d2, d3,
     ]

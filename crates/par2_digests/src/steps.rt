@@ -1,11 +1,10 @@
-//! The 64 steps of a block (RFC 1321, 3.4) on eight messages at once.
+//! The 64 steps of a block (RFC 1321, 3.4) on several messages at once.
 
-ghost use Rattle.std.specs.Prelude.{◌≡◌, ◌≤◌, ◌<◌, ◌+◌, ℕ, List, slice_index};
+ghost use Rattle.std.specs.Prelude.{◌≡◌, ◌≤◌, ◌<◌, ◌+◌, ℕ, List, [], ◌∷◌, slice_index};
 ghost use Rattle.md5.specs.Md5.{add_state, round, rounds, step_constants, step_shifts};
 ghost use Rattle.par2_digests.specs.Lanes.{lane, lane_words};
 
-use crate::lanes::{f_lanes, g_lanes, h_lanes, i_lanes, plus, rotated, splat};
-use std::simd::prelude::*;
+use crate::lanes::Lanes;
 
 // T, the constants of the steps.
 const CONSTANTS: [u32; 64] = [
@@ -82,85 +81,92 @@ const SHIFTS: [u32; 64] = [
     21, 6, 10, 15, 21, 6, 10, 15, 21, 6, 10, 15, 21,
 ];
 
-/// The four variables of eight messages: each a vector that has a lane for each message.
+/// The four variables of several messages.
 #[derive(Clone, Copy)]
-pub(crate) struct State {
-    pub(crate) a: u32x8,
-    pub(crate) b: u32x8,
-    pub(crate) c: u32x8,
-    pub(crate) d: u32x8,
+pub(crate) struct State<V> {
+    pub(crate) a: V,
+    pub(crate) b: V,
+    pub(crate) c: V,
+    pub(crate) d: V,
 }
 
 /// The sixteen words of a block of each message.
-pub(crate) type Words = [u32x8; 16];
+pub(crate) type Words<V> = [V; 16];
+
+/// The same four variables in each lane.
+pub(crate) fn in_each_lane<V: Lanes>(a: u32, b: u32, c: u32, d: u32) -> State<V>
+    ensures { (k : ℕ) → k < V.count → lane V.at k result ≡ a ∷ b ∷ c ∷ d ∷ [] }
+{
+    State {
+        a: V::splat(a),
+        b: V::splat(b),
+        c: V::splat(c),
+        d: V::splat(d),
+    }
+}
 
 #[inline(always)]
-fn stepped(state: State, f: u32x8, word: u32x8, t: usize) -> State
+fn stepped<V: Lanes>(state: State<V>, f: V, word: V, t: usize) -> State<V>
     requires { t < 64 }
-    ensures { (k : ℕ) → k < 8 → lane k result ≡ round (lane k state) (slice_index f k) (slice_index step_constants t) (slice_index word k) (slice_index step_shifts t) }
+    ensures { (k : ℕ) → k < V.count → lane V.at k result ≡ round (lane V.at k state) (V.at f k) (slice_index step_constants t) (V.at word k) (slice_index step_shifts t) }
 {
     // `f` comes last, since it hangs on the step before.
-    let sum = plus(plus(plus(state.a, word), splat(CONSTANTS[t])), f);
+    let sum = V::plus(V::plus(V::plus(state.a, word), V::splat(CONSTANTS[t])), f);
     State {
         a: state.d,
-        b: plus(state.b, rotated(sum, SHIFTS[t])),
+        b: V::plus(state.b, V::rotated(sum, SHIFTS[t])),
         c: state.b,
         d: state.c,
     }
 }
 
 #[inline(always)]
-fn f_step(state: State, words: &Words, t: usize) -> State
+fn f_step<V: Lanes>(state: State<V>, words: &Words<V>, t: usize) -> State<V>
     requires { t < 16 }
-    ensures { (k : ℕ) (h : List ℕ) → k < 8 → lane k state ≡ rounds h (lane_words k words.now) t → lane k result ≡ rounds h (lane_words k words.now) (t + 1) }
+    ensures { (k : ℕ) (h : List ℕ) → k < V.count → lane V.at k state ≡ rounds h (lane_words V.at k words.now) t → lane V.at k result ≡ rounds h (lane_words V.at k words.now) (t + 1) }
 {
-    stepped(state, f_lanes(state.b, state.c, state.d), words[t], t)
+    stepped(state, V::f(state.b, state.c, state.d), words[t], t)
 }
 
 #[inline(always)]
-fn g_step(state: State, words: &Words, t: usize) -> State
+fn g_step<V: Lanes>(state: State<V>, words: &Words<V>, t: usize) -> State<V>
     requires from { 16 ≤ t }
     requires to { t < 32 }
-    ensures { (k : ℕ) (h : List ℕ) → k < 8 → lane k state ≡ rounds h (lane_words k words.now) t → lane k result ≡ rounds h (lane_words k words.now) (t + 1) }
+    ensures { (k : ℕ) (h : List ℕ) → k < V.count → lane V.at k state ≡ rounds h (lane_words V.at k words.now) t → lane V.at k result ≡ rounds h (lane_words V.at k words.now) (t + 1) }
 {
     stepped(
         state,
-        g_lanes(state.b, state.c, state.d),
+        V::g(state.b, state.c, state.d),
         words[(5 * t + 1) % 16],
         t,
     )
 }
 
 #[inline(always)]
-fn h_step(state: State, words: &Words, t: usize) -> State
+fn h_step<V: Lanes>(state: State<V>, words: &Words<V>, t: usize) -> State<V>
     requires from { 32 ≤ t }
     requires to { t < 48 }
-    ensures { (k : ℕ) (h : List ℕ) → k < 8 → lane k state ≡ rounds h (lane_words k words.now) t → lane k result ≡ rounds h (lane_words k words.now) (t + 1) }
+    ensures { (k : ℕ) (h : List ℕ) → k < V.count → lane V.at k state ≡ rounds h (lane_words V.at k words.now) t → lane V.at k result ≡ rounds h (lane_words V.at k words.now) (t + 1) }
 {
     stepped(
         state,
-        h_lanes(state.b, state.c, state.d),
+        V::h(state.b, state.c, state.d),
         words[(3 * t + 5) % 16],
         t,
     )
 }
 
 #[inline(always)]
-fn i_step(state: State, words: &Words, t: usize) -> State
+fn i_step<V: Lanes>(state: State<V>, words: &Words<V>, t: usize) -> State<V>
     requires from { 48 ≤ t }
     requires to { t < 64 }
-    ensures { (k : ℕ) (h : List ℕ) → k < 8 → lane k state ≡ rounds h (lane_words k words.now) t → lane k result ≡ rounds h (lane_words k words.now) (t + 1) }
+    ensures { (k : ℕ) (h : List ℕ) → k < V.count → lane V.at k state ≡ rounds h (lane_words V.at k words.now) t → lane V.at k result ≡ rounds h (lane_words V.at k words.now) (t + 1) }
 {
-    stepped(
-        state,
-        i_lanes(state.b, state.c, state.d),
-        words[7 * t % 16],
-        t,
-    )
+    stepped(state, V::i(state.b, state.c, state.d), words[7 * t % 16], t)
 }
 
-fn first_round(state: State, words: &Words) -> State
-    ensures { (k : ℕ) (h : List ℕ) → k < 8 → lane k state ≡ rounds h (lane_words k words.now) 0 → lane k result ≡ rounds h (lane_words k words.now) 16 }
+fn first_round<V: Lanes>(state: State<V>, words: &Words<V>) -> State<V>
+    ensures { (k : ℕ) (h : List ℕ) → k < V.count → lane V.at k state ≡ rounds h (lane_words V.at k words.now) 0 → lane V.at k result ≡ rounds h (lane_words V.at k words.now) 16 }
 {
     let state = f_step(state, words, 0);
     let state = f_step(state, words, 1);
@@ -180,8 +186,8 @@ fn first_round(state: State, words: &Words) -> State
     f_step(state, words, 15)
 }
 
-fn second_round(state: State, words: &Words) -> State
-    ensures { (k : ℕ) (h : List ℕ) → k < 8 → lane k state ≡ rounds h (lane_words k words.now) 16 → lane k result ≡ rounds h (lane_words k words.now) 32 }
+fn second_round<V: Lanes>(state: State<V>, words: &Words<V>) -> State<V>
+    ensures { (k : ℕ) (h : List ℕ) → k < V.count → lane V.at k state ≡ rounds h (lane_words V.at k words.now) 16 → lane V.at k result ≡ rounds h (lane_words V.at k words.now) 32 }
 {
     let state = g_step(state, words, 16);
     let state = g_step(state, words, 17);
@@ -201,8 +207,8 @@ fn second_round(state: State, words: &Words) -> State
     g_step(state, words, 31)
 }
 
-fn third_round(state: State, words: &Words) -> State
-    ensures { (k : ℕ) (h : List ℕ) → k < 8 → lane k state ≡ rounds h (lane_words k words.now) 32 → lane k result ≡ rounds h (lane_words k words.now) 48 }
+fn third_round<V: Lanes>(state: State<V>, words: &Words<V>) -> State<V>
+    ensures { (k : ℕ) (h : List ℕ) → k < V.count → lane V.at k state ≡ rounds h (lane_words V.at k words.now) 32 → lane V.at k result ≡ rounds h (lane_words V.at k words.now) 48 }
 {
     let state = h_step(state, words, 32);
     let state = h_step(state, words, 33);
@@ -222,8 +228,8 @@ fn third_round(state: State, words: &Words) -> State
     h_step(state, words, 47)
 }
 
-fn fourth_round(state: State, words: &Words) -> State
-    ensures { (k : ℕ) (h : List ℕ) → k < 8 → lane k state ≡ rounds h (lane_words k words.now) 48 → lane k result ≡ rounds h (lane_words k words.now) 64 }
+fn fourth_round<V: Lanes>(state: State<V>, words: &Words<V>) -> State<V>
+    ensures { (k : ℕ) (h : List ℕ) → k < V.count → lane V.at k state ≡ rounds h (lane_words V.at k words.now) 48 → lane V.at k result ≡ rounds h (lane_words V.at k words.now) 64 }
 {
     let state = i_step(state, words, 48);
     let state = i_step(state, words, 49);
@@ -244,17 +250,17 @@ fn fourth_round(state: State, words: &Words) -> State
 }
 
 /// The hash values after a block more.
-pub(crate) fn compressed(state: State, words: &Words) -> State
-    ensures { (k : ℕ) → k < 8 → lane k result ≡ add_state (lane k state) (rounds (lane k state) (lane_words k words.now) 64) }
+pub(crate) fn compressed<V: Lanes>(state: State<V>, words: &Words<V>) -> State<V>
+    ensures { (k : ℕ) → k < V.count → lane V.at k result ≡ add_state (lane V.at k state) (rounds (lane V.at k state) (lane_words V.at k words.now) 64) }
 {
     let after = first_round(state, words);
     let after = second_round(after, words);
     let after = third_round(after, words);
     let after = fourth_round(after, words);
     State {
-        a: plus(state.a, after.a),
-        b: plus(state.b, after.b),
-        c: plus(state.c, after.c),
-        d: plus(state.d, after.d),
+        a: V::plus(state.a, after.a),
+        b: V::plus(state.b, after.b),
+        c: V::plus(state.c, after.c),
+        d: V::plus(state.d, after.d),
     }
 }

@@ -4,4 +4,5 @@ use Rattle.par2_digests.proofs.digest_of_lane.Goals as goal
 
 pub returns : goal.returns
 unfolding digest_bytes
-returns c = rw (c.bytes_of_lane.ensures, c.bytes_of_lane-2.ensures, c.bytes_of_lane-3.ensures, c.bytes_of_lane-4.ensures) refl
+returns g c =
+    rw (c.to_le_bytes.ensures, c.to_le_bytes-2.ensures, c.to_le_bytes-3.ensures, c.to_le_bytes-4.ensures, c.word.ensures, c.word-2.ensures, c.word-3.ensures, c.word-4.ensures) refl

@@ -4,5 +4,5 @@ use Rattle.par2_digests.specs.Lanes.{lane}
 use Rattle.par2_digests.proofs.blocks.absorbed.Given as goal
 
 abbrev pub invariant-loop-block : goal.invariant-loop-block
-invariant-loop-block l = (k n : ℕ) (p : List ℕ) → k < 8 → lane k l.fn.state ≡ hash_after p n
-    → take (l.count * 64) (drop (n * 64) p) ≡ take (l.count * 64) (drop (slice_index l.starts k) l.bytes) → lane k l.after ≡ hash_after p (n + l.block)
+invariant-loop-block g l = (k n : ℕ) (p : List ℕ) → k < g.V.Lanes.count → lane g.V.Lanes.at k l.fn.state ≡ hash_after p n
+    → take (l.count * 64) (drop (n * 64) p) ≡ take (l.count * 64) (drop (slice_index l.starts k) l.bytes) → lane g.V.Lanes.at k l.after ≡ hash_after p (n + l.block)

@@ -5,8 +5,8 @@ use Rattle.par2_digests.proofs.steps.compressed.Goals as goal
 
 pub returns : goal.returns
 unfolding rounds
-returns c = λ k low.
-    let h = lane k c.args.state in
+returns g c = λ k low.
+    let h = lane g.V.Lanes.at k c.args.state in
     let after =
     c.fourth_round-after.ensures k h low
     (c.third_round-after.ensures k h low (c.second_round-after.ensures k h low (c.first_round-after.ensures k h low refl))) in

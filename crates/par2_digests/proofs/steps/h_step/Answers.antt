@@ -1,13 +1,15 @@
-use Rattle.std.proofs.Common.{◌+◌, ◌*◌, ◌%◌, [], ap, sym, arith, ◌∙◌, slice_index}
+use Rattle.std.proofs.Common.{◌+◌, ◌*◌, ◌%◌, ap, arith, ◌∙◌, slice_index}
 use Rattle.par2_digests.specs.Lanes.{lane_words}
 use Rattle.par2_digests.proofs.LaneLaws.{word_of_lane}
 use Rattle.par2_digests.proofs.RoundLaws.{after_step, third_function, third_place}
 use Rattle.par2_digests.proofs.steps.h_step.Goals as goal
 
 pub returns : goal.returns
-returns c = λ k h low held.
+returns g c = λ k h low held.
     let t = c.args.t in
-    let words = lane_words k c.args.words.now in
-    let value = c.h_lanes.ensures k low ∙ third_function t (slice_index c.args.state.b k) (slice_index c.args.state.c k) (slice_index c.args.state.d k) c.requires.from c.requires.to in
-    let read = sym (word_of_lane c.args.words.now k ((3 * t + 5) % 16) [] (omega (arith, c.told-words))) ∙ ap (slice_index words) (third_place t c.requires.from c.requires.to) in
+    let at = g.V.Lanes.at in
+    let state = c.args.state in
+    let words = lane_words at k c.args.words.now in
+    let value = c.h.ensures k low ∙ third_function t (at state.b k) (at state.c k) (at state.d k) c.requires.from c.requires.to in
+    let read = word_of_lane at c.args.words.now k ((3 * t + 5) % 16) c.index-words-t.result (omega (arith, c.told-words)) ∙ ap (slice_index words) (third_place t c.requires.from c.requires.to) in
     c.stepped.ensures k low ∙ after_step h words _ t _ _ held value read
