@@ -45,7 +45,7 @@ fn one_byte_is_another(rt: HostRuntime) -> Result<(), Fail> {
 }
 
 // Zeros behind the text have the checksums of the padding.
-const LENGTHS: [(&[u8], &[u8]); 3] = [(b"ab", b"ab\0"), (b"ab\0", b"ab"), (b"", b"a")];
+const LENGTHS: &[(&[u8], &[u8])] = &[(b"ab", b"ab\0"), (b"ab\0", b"ab"), (b"", b"a")];
 
 #[test]
 fn another_length(rt: HostRuntime) -> Result<(), Fail> {

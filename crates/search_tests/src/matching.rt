@@ -32,7 +32,7 @@ type Row = (
     &'static [Option<usize>],
 );
 
-const ROWS: [Row; 4] = [
+const ROWS: &[Row] = &[
     // Two targets of equal content, and two texts that have it.
     (
         &[b"abcde", b"abcde"],

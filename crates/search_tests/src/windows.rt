@@ -21,7 +21,7 @@ type Row = (
     &'static [Option<&'static [u8]>],
 );
 
-const ROWS: [Row; 7] = [
+const ROWS: &[Row] = &[
     // Shifted by one byte.
     (
         b"abcdefgh",
