@@ -215,7 +215,7 @@ fn are_changes_refused(alloc: Global, text: &[u8]) -> Result<bool, AllocError> {
 }
 
 // Bodies of no journal, to which their digests are added.
-const FALSE_BODIES: [&[u8]; 8] = [
+const FALSE_BODIES: &[&[u8]] = &[
     // Claims of 2^64 - 1 entries, changes, bytes and fingerprints.
     b"P2UNDO1\n0123456789abcdef\xff\xff\xff\xff\xff\xff\xff\xff\0",
     b"P2UNDO1\n0123456789abcdef\x01\0\0\0\0\0\0\0\xff\xff\xff\xff\xff\xff\xff\xff\x04\x01a\0",
@@ -244,7 +244,7 @@ fn is_journal(alloc: Global, text: &[u8]) -> bool {
     decode(alloc, text).is_ok()
 }
 
-const JOURNALS: [&[u8]; 5] = [UNDO_ONE, UNDO_TWO, NOTHING_ONE, HALFWAY_ONE, HALFWAY_TWO];
+const JOURNALS: &[&[u8]] = &[UNDO_ONE, UNDO_TWO, NOTHING_ONE, HALFWAY_ONE, HALFWAY_TWO];
 
 #[test]
 fn damaged_journals(rt: HostRuntime) -> Result<(), Fail> {

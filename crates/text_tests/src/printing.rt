@@ -147,7 +147,7 @@ fn create(alloc: Global) -> Result<Command, AllocError> {
     })))
 }
 
-const FAULTS: &[(Fault, &str)] = &[
+const FAULTS_OF_A_CREATE: &[(Fault, &str)] = &[
     (
         Fault::BadSliceSize,
         "block size must be a multiple of 4 from 4 to 1073741824",
@@ -171,6 +171,9 @@ const FAULTS: &[(Fault, &str)] = &[
         "a file name would be longer than 255 bytes",
     ),
     (Fault::Exists, "an output file exists"),
+];
+
+const FAULTS_OF_A_SET: &[(Fault, &str)] = &[
     (Fault::NoPackets, "no packets in the base"),
     (Fault::NoMain, "no main packet"),
     (Fault::NoDescription, "a file description is missing"),
@@ -201,22 +204,36 @@ fn is_told(
     Ok(out.as_slice() == expected.as_bytes())
 }
 
-#[test]
-fn fault_lines(rt: HostRuntime) -> Result<(), Fail> {
-    let command = create(rt.alloc())?;
-    for (fault, text) in FAULTS {
-        assert!(rt;
-            is_told(rt.alloc(), Some(&command), Failure::Refused(*fault), text)?,
-            "{text}"
-        );
+// The text by which a refusal is not told that stands beside it, if there is one. The command has two inputs.
+fn first_untold(
+    alloc: Global,
+    faults: &[(Fault, &'static str)],
+) -> Result<Option<&'static str>, Fail> {
+    let command = create(alloc)?;
+    for (fault, text) in faults {
+        if !is_told(alloc, Some(&command), Failure::Refused(*fault), text)? {
+            return Ok(Some(*text));
+        }
     }
+    Ok(None)
+}
+
+#[test]
+fn fault_lines_of_a_create(rt: HostRuntime) -> Result<(), Fail> {
+    assert_eq!(rt; first_untold(rt.alloc(), FAULTS_OF_A_CREATE)?, None);
+    Ok(())
+}
+
+#[test]
+fn fault_lines_of_a_set(rt: HostRuntime) -> Result<(), Fail> {
+    assert_eq!(rt; first_untold(rt.alloc(), FAULTS_OF_A_SET)?, None);
     Ok(())
 }
 
 const USAGE: &str =
     "usage: par2 create -sN -cN [-fN] [--overwrite] BASE.par2 FILE.. | verify BASE [FILE..] | repair [-p] BASE [FILE..] | purge BASE | undo | redo";
 
-const FAILURES: [(Failure, &str); 6] = [
+const FAILURES: &[(Failure, &str)] = &[
     (Failure::Store, "a file could not be read or written"),
     (Failure::Arguments, USAGE),
     (Failure::JournalInvalid, "the journal is not valid"),
@@ -231,7 +248,7 @@ const FAILURES: [(Failure, &str); 6] = [
 #[test]
 fn failure_lines(rt: HostRuntime) -> Result<(), Fail> {
     for (failure, text) in FAILURES {
-        assert!(rt; is_told(rt.alloc(), None, failure, text)?, "{text}");
+        assert!(rt; is_told(rt.alloc(), None, *failure, text)?, "{text}");
     }
     Ok(())
 }
