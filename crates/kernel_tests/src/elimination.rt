@@ -49,7 +49,7 @@ type Row = (
     Option<(&'static [(Offer, usize)], &'static [u8])>,
 );
 
-const SYSTEMS: [Row; 5] = [
+const SYSTEMS: &[Row] = &[
     (2, 2, &[(&[1, 1], &[3, 0]), (&[1, 1], &[3, 0])], None),
     (
         2,

@@ -49,7 +49,7 @@ fn mixed_bytes(alloc: Global, n: usize, seed: u32) -> Result<Vec<u8>, AllocError
     Ok(bytes)
 }
 
-const PRODUCTS: [(u16, u16, u16); 6] = [
+const PRODUCTS: &[(u16, u16, u16)] = &[
     (0x8000, 2, 0x100B),
     (2, 0xFFFF, 0xEFF5),
     (2, 0x8805, 1),
@@ -62,12 +62,12 @@ const PRODUCTS: [(u16, u16, u16); 6] = [
 fn field_products(rt: HostRuntime) -> Result<(), AllocError> {
     let gf = Gf::new(rt.alloc())?;
     for (a, b, product) in PRODUCTS {
-        assert!(rt; gf.mul(a, b) == product, "{a} times {b}");
+        assert!(rt; gf.mul(*a, *b) == *product, "{a} times {b}");
     }
     Ok(())
 }
 
-const POWERS: [(u16, u32, u16); 6] = [
+const POWERS: &[(u16, u32, u16)] = &[
     (2, 65535, 1),
     (2, 65534, 0x8805),
     (0, 0, 1),
@@ -80,7 +80,7 @@ const POWERS: [(u16, u32, u16); 6] = [
 fn field_powers(rt: HostRuntime) -> Result<(), AllocError> {
     let gf = Gf::new(rt.alloc())?;
     for (a, e, power) in POWERS {
-        assert!(rt; gf.pow(a, e) == power, "{a} to the power of {e}");
+        assert!(rt; gf.pow(*a, *e) == *power, "{a} to the power of {e}");
     }
     Ok(())
 }
@@ -92,7 +92,7 @@ fn field_inverses(rt: HostRuntime) -> Result<(), AllocError> {
     Ok(())
 }
 
-const CONSTANTS: [(u32, Option<u16>); 13] = [
+const CONSTANTS: &[(u32, Option<u16>)] = &[
     (0, Some(2)),
     (1, Some(4)),
     (2, Some(16)),
@@ -112,7 +112,7 @@ const CONSTANTS: [(u32, Option<u16>); 13] = [
 fn slice_constants(rt: HostRuntime) -> Result<(), AllocError> {
     let gf = Gf::new(rt.alloc())?;
     for (k, constant) in CONSTANTS {
-        assert!(rt; gf.constant(k) == constant, "constant {k}");
+        assert!(rt; gf.constant(*k) == *constant, "constant {k}");
     }
     Ok(())
 }
@@ -154,7 +154,7 @@ fn is_as_word_by_word(
 }
 
 // The last four are random.
-const FACTORS: [u16; 12] = [
+const FACTORS: &[u16] = &[
     0, 1, 2, 3, 0x100B, 0x8000, 0x8805, 0xFFFF, 0x5A3C, 0xC6E9, 0x1D47, 0x93B2,
 ];
 
@@ -165,8 +165,8 @@ fn first_other(alloc: Global, gf: &Gf, words: usize) -> Result<Option<u16>, Allo
     let src = mixed_bytes(alloc, 2 * words, 1)?;
     let old = mixed_bytes(alloc, 2 * words, 2)?;
     for c in FACTORS {
-        if !is_as_word_by_word(alloc, gf, c, &src, &old)? {
-            return Ok(Some(c));
+        if !is_as_word_by_word(alloc, gf, *c, &src, &old)? {
+            return Ok(Some(*c));
         }
     }
     Ok(None)

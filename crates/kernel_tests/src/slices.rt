@@ -96,7 +96,7 @@ type Row = (
     &'static [Option<usize>],
 );
 
-const OFFSETS: [Row; 6] = [
+const OFFSETS: &[Row] = &[
     // Shifted by one byte.
     (b"Xabcdefgh", 4, &[b"abcd", b"efgh"], &[Some(1), Some(5)]),
     // The first of several offsets.
@@ -121,8 +121,8 @@ const OFFSETS: [Row; 6] = [
 #[test]
 fn offsets_of_slices(rt: HostRuntime) {
     for (text, s, slices, wanted) in OFFSETS {
-        let found = offsets(rt.alloc(), text, s, slices).expect(&rt, "memory");
-        assert!(rt; found.as_slice() == wanted);
+        let found = offsets(rt.alloc(), text, *s, slices).expect(&rt, "memory");
+        assert!(rt; found.as_slice() == *wanted);
     }
 }
 
