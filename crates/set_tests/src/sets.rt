@@ -95,7 +95,7 @@ fn no_file(rt: HostRuntime) {
     assert!(rt; fault_of(&rt, &Folder::new(rt.alloc())) == Some(Fault::NoPackets));
 }
 
-const BASES: [(&[Part], Option<Fault>); 8] = [
+const BASES: &[(&[Part], Option<Fault>)] = &[
     (&[Part::Noise(b"no packet")], Some(Fault::NoPackets)),
     (&[Part::Description, Part::Checksums], Some(Fault::NoMain)),
     (&[Part::Main, Part::Checksums], Some(Fault::NoDescription)),
@@ -134,7 +134,7 @@ const WHOLE: &[Part] = &[Part::Main, Part::Description, Part::Checksums];
 // Slice size, name and length of a file, and the parts of the base.
 type Profile = (u64, &'static str, u64, &'static [Part]);
 
-const PROFILES: [(Profile, Option<Fault>); 7] = [
+const PROFILES: &[(Profile, Option<Fault>)] = &[
     ((6, "f", 8, WHOLE), Some(Fault::BadSet)),
     ((4, ".par2undo", 8, WHOLE), Some(Fault::BadSet)),
     ((4, "a/b", 8, WHOLE), Some(Fault::BadSet)),
@@ -158,7 +158,7 @@ fn fault_beyond<R: Abort + AllocGlobal>(
 fn files_beyond_the_profile(rt: HostRuntime) -> Result<(), Fail> {
     for (profile, fault) in PROFILES {
         let length = profile.2;
-        assert!(rt; fault_beyond(&rt, profile)? == fault, "at {length}");
+        assert!(rt; fault_beyond(&rt, *profile)? == *fault, "at {length}");
     }
     Ok(())
 }
