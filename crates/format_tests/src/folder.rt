@@ -120,7 +120,7 @@ const ACCEPTED: &[(PlainChange, Answer)] = &[
     (PlainChange::Remove("c"), Ok(())),
 ];
 
-const CASES: [Case; 5] = [
+const CASES: &[Case] = &[
     Case {
         files: &[],
         vacant: 1,
@@ -221,7 +221,7 @@ const TWO_FILES: [u8; 16] = [
 ];
 
 // MD5 of nothing, of 01 00 00 00 00 00 00 00 `a` 02 00 00 00 00 00 00 00 `bc`, and of 01 .. `b` 00 .. behind it.
-const FINGERPRINTS: [(Files, [u8; 16]); 3] = [
+const FINGERPRINTS: &[(Files, [u8; 16])] = &[
     (&[], NO_FILES),
     (&[("a", b"bc")], ONE_FILE),
     (&[("b", b""), ("a", b"bc")], TWO_FILES),
@@ -231,7 +231,7 @@ const FINGERPRINTS: [(Files, [u8; 16]); 3] = [
 fn fingerprints_of_files(rt: HostRuntime) -> Result<(), Fail> {
     for (files, digest) in FINGERPRINTS {
         let folder = folder_of(&rt, files, 0)?;
-        assert!(rt; fingerprint(rt.alloc(), &folder)? == digest);
+        assert!(rt; fingerprint(rt.alloc(), &folder)? == *digest);
     }
     Ok(())
 }
@@ -249,7 +249,7 @@ fn fingerprint_from_below_a_change(rt: HostRuntime) -> Result<(), Fail> {
     Ok(())
 }
 
-const TEXTS: [(&str, bool); 11] = [
+const TEXTS: &[(&str, bool)] = &[
     ("a", true),
     (".", false),
     ("..", false),
@@ -266,7 +266,7 @@ const TEXTS: [(&str, bool); 11] = [
 #[test]
 fn texts_that_are_names(rt: HostRuntime) {
     for (text, is_name) in TEXTS {
-        assert!(rt; Name::new(text).is_ok() == is_name, "{text}");
+        assert!(rt; Name::new(text).is_ok() == *is_name, "{text}");
     }
 }
 
@@ -421,23 +421,33 @@ fn impossible_calls_fail(rt: HostRuntime) -> Result<(), Fail> {
 }
 
 // What the store holds after so many of these calls.
-const AFTER: [&str; 8] = [
+const AFTER: &[&str; 8] = &[
     "a old", "a old", "a old", "a old", "a b old", "b c old", "c old", "c new",
 ];
+
+// The answers of the calls on a store whose fuse blows at the k-th, and what it holds then.
+fn fused<R: Abort + AllocGlobal>(rt: &R, k: u64, works: bool) -> Result<([bool; 7], String), Fail> {
+    let mut fuse = FuseStore::new(started(rt), k, works);
+    let answers = calls(rt, &mut fuse);
+    Ok((answers, held(rt, &mut fuse.into_inner())?))
+}
+
+// Whether the first `k` calls have an answer, and no other.
+fn are_first(answers: &[bool; 7], k: usize) -> bool {
+    answers
+        .iter()
+        .enumerate()
+        .all(|(place, answer)| *answer == (place < k))
+}
 
 #[test]
 fn fuse_fails_before_or_after_its_work(rt: HostRuntime) -> Result<(), Fail> {
     for k in 0..8usize {
         for works in [false, true] {
-            let mut fuse = FuseStore::new(started(&rt), k as u64, works);
-            let answers = calls(&rt, &mut fuse);
-            for (place, answer) in answers.iter().enumerate() {
-                assert!(rt; *answer == (place < k), "call {place} of {k}");
-            }
+            let (answers, text) = fused(&rt, k as u64, works)?;
             let done = if works && k < 7 { k + 1 } else { k };
-            let mut store = fuse.into_inner();
             assert!(rt;
-                held(&rt, &mut store)?.as_str() == AFTER[done],
+                are_first(&answers, k) && text.as_str() == AFTER[done],
                 "{k} {works}"
             );
         }

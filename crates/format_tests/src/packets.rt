@@ -250,7 +250,7 @@ fn written_volume(alloc: Global, slices: &[(u32, [u8; 4])]) -> Result<Vec<u8>, F
 // Recovery slices by their exponents, those exponents, and the length of the volume.
 type VolumeRow = (&'static [(u32, [u8; 4])], &'static [u32], usize);
 
-const VOLUMES: [VolumeRow; 2] = [
+const VOLUMES: &[VolumeRow] = &[
     (&[(0, *b"\x04\x04\x04\x0c")], &[0], 492),
     (
         &[(1, *b"\x5d\x4d\x51\x79"), (2, *b"\xe5\x9f\xcd\x67")],
@@ -263,7 +263,7 @@ const VOLUMES: [VolumeRow; 2] = [
 fn volumes_are_written(rt: HostRuntime) -> Result<(), Fail> {
     for (slices, exponents, length) in VOLUMES {
         let text = written_volume(rt.alloc(), slices)?;
-        assert!(rt; text == volume_of(rt.alloc(), exponents)? && text.len() == length);
+        assert!(rt; text == volume_of(rt.alloc(), exponents)? && text.len() == *length);
     }
     Ok(())
 }
@@ -366,7 +366,7 @@ fn count_listed(body: &[u8]) -> Option<usize> {
     }
 }
 
-const MAINS: [(&[u8], Option<usize>); 3] = [
+const MAINS: &[(&[u8], Option<usize>)] = &[
     (b"\x04\0\0\0\0\0\0\0\x01\0\0\0sixteen bytes id", Some(1)),
     (b"\x04\0\0\0\0\0\0\0\0\0\0\0sixteen bytes id", Some(0)),
     (b"\x04\0\0\0\0\0\0\0\xff\xff\xff\xffsixteen bytes id", None),
@@ -375,7 +375,7 @@ const MAINS: [(&[u8], Option<usize>); 3] = [
 #[test]
 fn main_without_room_for_its_claim(rt: HostRuntime) {
     for (body, count) in MAINS {
-        assert!(rt; count_listed(body) == count);
+        assert!(rt; count_listed(body) == *count);
     }
 }
 
@@ -391,7 +391,7 @@ fn read_by(alloc: Global, len: usize) -> Result<[bool; 4], AllocError> {
 }
 
 // Which of the four readers take a body of zeros, by its length.
-const READERS: [(usize, [bool; 4]); 11] = [
+const READERS: &[(usize, [bool; 4])] = &[
     (0, [false, false, false, false]),
     (3, [false, false, false, false]),
     (4, [false, false, false, true]),
@@ -408,7 +408,7 @@ const READERS: [(usize, [bool; 4]); 11] = [
 #[test]
 fn bodies_of_each_length(rt: HostRuntime) -> Result<(), Fail> {
     for (len, read) in READERS {
-        assert!(rt; read_by(rt.alloc(), len)? == read, "at {len}");
+        assert!(rt; read_by(rt.alloc(), *len)? == *read, "at {len}");
     }
     Ok(())
 }
