@@ -1,0 +1,15 @@
+use Rattle.std.proofs.Common.{◌∙◌, ◌++◌, ◌∷◌, [], List, ℕ, Bor, sym, ap, ap₂}
+use Rattle.std.proofs.lemmas.List.{map-append, map_more}
+use Rattle.par2_spec.specs.Folders.{bytes_of}
+use Rattle.par2_search.specs.Texts.{texts_of}
+use Rattle.par2_plan.proofs.candidates.texts_of.Goals as goal
+
+pub loop-name-preserved : goal.loop-name-preserved
+loop-name-preserved c =
+    let bytes = bytes_of c.args.folder.now.files in
+    let names : List (List ℕ) = c.args.names.now in
+    let name : List ℕ = c.name-item.result in
+    ap (λ (texts : List (Bor (List ℕ))). texts_of texts) c.in_ok-push.ensures.items
+    ∙ map-append (λ (text : Bor (List ℕ)). text.now) c.loop-name.texts.items (c.bytes_of.result ∷ [])
+    ∙ ap₂ (λ (texts : List (List ℕ)) text. texts ++ text ∷ []) c.loop-name.invariant (c.bytes_of.ensures ∙ ap bytes c.name-item.is)
+    ∙ sym (map_more bytes names c.loop-name.name-index name c.loop-name-test.true)

@@ -1,0 +1,17 @@
+use Rattle.std.proofs.Common.{◌≡◌, ◌∙◌, ◌<◌, ◌++◌, ◌∷◌, [], List, Bool, length, get_or, sym, ap, ap₂, subst}
+use Rattle.std.proofs.lemmas.List.{map_more}
+use Rattle.par2_spec.specs.Search.{is_needing}
+use Rattle.par2_spec.specs.Sets.{Target}
+use Rattle.par2_plan.proofs.matching.needs.Goals as goal
+
+pub loop-target-preserved : goal.loop-target-preserved
+loop-target-preserved c =
+    let needs = is_needing c.args.folder.now.files c.args.set.now in
+    let targets : List Target = c.args.set.now.targets in
+    let target : Target = c.target-item.result in
+    let i = c.loop-target.target-index in
+    let same : ◌≡◌ {A = List Target} c.targets-target-items.result.now targets = c.targets-target-items.ensures.value in
+    let low : i < length targets = subst (λ (ts : List Target). i < length ts) same c.loop-target-test.true in
+    let is : target ≡ get_or targets i target = c.target-item.is ∙ ap (λ (ts : List Target). get_or ts i target) same in
+    c.in_ok-push.ensures.items ∙ ap₂ (λ (flags : List Bool) flag. flags ++ flag ∷ []) c.loop-target.invariant (c.is_needing.ensures ∙ ap needs is)
+    ∙ sym (map_more needs targets i target low)
