@@ -1,10 +1,10 @@
 use Rattle.std.proofs.Common.{Some, Ok, sym, ap, subst, ◌∙◌}
-use Rattle.std.specs.Prelude.{IfOk, OnErr, OnOk, Vec, ℕ, option_map}
+use Rattle.std.specs.Prelude.{IfErr, IfOk, OnErr, OnOk, Vec, ℕ, option_map}
 use Rattle.std.specs.declared.alloc.Global.{Global}
 use Rattle.par2_spec.specs.Opening.{Started, new_session}
 use Rattle.par2_spec.specs.Stores.{Contents}
 use Rattle.par2_tool.specs.Held.{IsOpening, OpensAsBefore, TellsApartBack, kept}
-use Rattle.par2_tool.specs.Opened.{started_of, IsOpened, OnlyTakesBack}
+use Rattle.par2_tool.specs.Opened.{started_of, IsOpened, IsUnopened, OnlyTakesBack}
 use Rattle.par2_tool.proofs.AsIs.{opened_as_is, opened_new, stands_on}
 use Rattle.par2_tool.proofs.Reopened.{is_read}
 use Rattle.par2_tool.proofs.opening.open_for_verify.Goals as goal
@@ -82,3 +82,19 @@ returns-in-Ok-false-clause-stopped g c honest =
     ∙ c.in-Ok-Some.ensures.journal read_on ∙ ap (λ (k : Contents). k.journal) (sym again) in
     subst (λ k. TellsApartBack k → OnErr c.open_with.result (OpensAsBefore k new)) same
     (c.open_with.ensures.stopped (c.read_journal.ensures.honest read_on) (is_read mid folder.files text of_files of_journal))
+
+pub returns-in-Ok-false-clause-refused : goal.returns-in-Ok-false-clause-refused
+returns-in-Ok-false-clause-refused g c honest =
+    let mid = g.S.FolderStore.contents c.read_journal.new.self in
+    let new = g.S.FolderStore.contents c.open_with.new.store in
+    let folder = c.opens_as_is.new.folder in
+    let text = c.deref-in-Ok-false.result.now in
+    let read_on = c.read_folder.ensures.honest honest in
+    let again = c.read_journal.ensures.same read_on in
+    let same = again ∙ c.read_folder.ensures.same honest in
+    let of_files = c.opens_as_is.ensures.files ∙ c.in-Ok.ensures.files honest ∙ ap (λ (k : Contents). k.files) (sym same) in
+    let of_journal =
+    ap Some c.deref-in-Ok-false.ensures.value ∙ ap (option_map (λ (bytes : Vec ℕ Global). bytes.items)) (sym c.in-Ok-Some.field-0-is)
+    ∙ c.in-Ok-Some.ensures.journal read_on ∙ ap (λ (k : Contents). k.journal) (sym again) in
+    subst (λ k. IfErr c.open_with.result (IsUnopened k new)) same
+    (c.open_with.ensures.refused (c.read_journal.ensures.honest read_on) (is_read mid folder.files text of_files of_journal))

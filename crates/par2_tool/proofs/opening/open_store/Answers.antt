@@ -1,11 +1,11 @@
-use Rattle.std.proofs.Common.{Some, sym, ap, subst, ◌∙◌}
-use Rattle.std.specs.Prelude.{OnErr, OnOk, Vec, ℕ, option_map}
+use Rattle.std.proofs.Common.{Some, Ok, sym, ap, subst, ◌∙◌}
+use Rattle.std.specs.Prelude.{IfErr, IfOk, OnErr, OnOk, Vec, ℕ, option_map}
 use Rattle.std.specs.declared.alloc.Global.{Global}
 use Rattle.par2_spec.specs.Changes.{FolderState}
 use Rattle.par2_spec.specs.Sessions.{session_of_kept}
 use Rattle.par2_spec.specs.Stores.{Contents}
-use Rattle.par2_tool.specs.Held.{Holds, OpensAsBefore, TellsApartBack, kept}
-use Rattle.par2_tool.specs.Opened.{OnlyTakesBack}
+use Rattle.par2_tool.specs.Held.{Holds, IsOpening, OpensAsBefore, TellsApartBack, kept}
+use Rattle.par2_tool.specs.Opened.{started_of, IsUnopened, OnlyTakesBack}
 use Rattle.par2_tool.proofs.Made.{is_new}
 use Rattle.par2_tool.proofs.Reopened.{is_read, opens_new}
 use Rattle.par2_tool.proofs.opening.open_store.Goals as goal
@@ -37,6 +37,45 @@ returns-in-Ok-Some-clause-left g c honest =
     ∙ c.in-Ok-Some.ensures.journal read_on ∙ ap (λ (k : Contents). k.journal) (sym again) in
     subst (λ k. OnOk c.open_with.result (OnlyTakesBack k new)) same
     (c.open_with.ensures.left (c.read_journal.ensures.honest read_on) (is_read mid c.in-Ok.folder.files c.deref.result.now of_files of_journal))
+
+pub returns-in-Ok-Some-clause-opened : goal.returns-in-Ok-Some-clause-opened
+returns-in-Ok-Some-clause-opened g c honest =
+    let read_on = c.read_folder.ensures.honest honest in
+    let mid = g.S.FolderStore.contents c.read_journal.new.self in
+    let again = c.read_journal.ensures.same read_on in
+    let same = again ∙ c.read_folder.ensures.same honest in
+    let of_files = c.in-Ok.ensures.files honest ∙ ap (λ (k : Contents). k.files) (sym same) in
+    let of_journal =
+    ap Some c.deref.ensures.value ∙ ap (option_map (λ (bytes : Vec ℕ Global). bytes.items)) (sym c.in-Ok-Some.field-0-is)
+    ∙ c.in-Ok-Some.ensures.journal read_on ∙ ap (λ (k : Contents). k.journal) (sym again) in
+    subst (λ k. IfOk c.open_with.result (λ started. IsOpening k (Ok (started_of started)))) same
+    (c.open_with.ensures.opened (c.read_journal.ensures.honest read_on) (is_read mid c.in-Ok.folder.files c.deref.result.now of_files of_journal))
+
+pub returns-in-Ok-Some-clause-holds : goal.returns-in-Ok-Some-clause-holds
+returns-in-Ok-Some-clause-holds g c honest =
+    let read_on = c.read_folder.ensures.honest honest in
+    let mid = g.S.FolderStore.contents c.read_journal.new.self in
+    let again = c.read_journal.ensures.same read_on in
+    let same = again ∙ c.read_folder.ensures.same honest in
+    let of_files = c.in-Ok.ensures.files honest ∙ ap (λ (k : Contents). k.files) (sym same) in
+    let of_journal =
+    ap Some c.deref.ensures.value ∙ ap (option_map (λ (bytes : Vec ℕ Global). bytes.items)) (sym c.in-Ok-Some.field-0-is)
+    ∙ c.in-Ok-Some.ensures.journal read_on ∙ ap (λ (k : Contents). k.journal) (sym again) in
+    c.open_with.ensures.holds (c.read_journal.ensures.honest read_on) (is_read mid c.in-Ok.folder.files c.deref.result.now of_files of_journal)
+
+pub returns-in-Ok-Some-clause-refused : goal.returns-in-Ok-Some-clause-refused
+returns-in-Ok-Some-clause-refused g c honest =
+    let read_on = c.read_folder.ensures.honest honest in
+    let mid = g.S.FolderStore.contents c.read_journal.new.self in
+    let new = g.S.FolderStore.contents c.open_with.new.store in
+    let again = c.read_journal.ensures.same read_on in
+    let same = again ∙ c.read_folder.ensures.same honest in
+    let of_files = c.in-Ok.ensures.files honest ∙ ap (λ (k : Contents). k.files) (sym same) in
+    let of_journal =
+    ap Some c.deref.ensures.value ∙ ap (option_map (λ (bytes : Vec ℕ Global). bytes.items)) (sym c.in-Ok-Some.field-0-is)
+    ∙ c.in-Ok-Some.ensures.journal read_on ∙ ap (λ (k : Contents). k.journal) (sym again) in
+    subst (λ k. IfErr c.open_with.result (IsUnopened k new)) same
+    (c.open_with.ensures.refused (c.read_journal.ensures.honest read_on) (is_read mid c.in-Ok.folder.files c.deref.result.now of_files of_journal))
 
 pub returns-in-Ok-None-clause-opened : goal.returns-in-Ok-None-clause-opened
 returns-in-Ok-None-clause-opened g c honest =
