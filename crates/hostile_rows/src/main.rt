@@ -8,6 +8,7 @@ mod large;
 mod names;
 mod packets;
 mod parts;
+mod rivals;
 mod sets;
 mod sizes;
 mod sweeps;
@@ -16,6 +17,7 @@ use anyhow::Result;
 use large::large_texts;
 use names::forged_names;
 use parts::{forged_digests, forged_headers, forged_mains};
+use rivals::rival_packets;
 use sizes::{empty_files, forged_sizes};
 use sweeps::damaged_volumes;
 
@@ -26,6 +28,7 @@ fn main(rt: HostRuntime) -> Result<()> {
     forged_mains(&rt)?;
     forged_headers(&rt)?;
     forged_digests(&rt)?;
+    rival_packets(&rt)?;
     damaged_volumes(&rt)?;
     large_texts(&rt)
 }

@@ -1,52 +1,34 @@
 //! Texts of packets that no create puts together so.
 
 use crate::attacks::{COMMANDS, attack};
-use crate::packets::{Forged, Pair, Part, set_id, text_of};
-use crate::sets::{A, NONE, PAIRS, R0, R1, SECOND, SLICE, forged, lie, like_a};
+use crate::packets::{Forged, Part, set_id, text_of};
+use crate::sets::{A, SLICE, forged, like_a};
 use anyhow::Result;
 use md5::{Digest, Md5};
 
 // The identifier of no set.
 const FOREIGN: [u8; 16] = [9; 16];
 
-// Names and bytes.
-type Files<'a> = &'a [(&'a str, &'a [u8])];
+/// Names and bytes.
+pub type Files<'a> = &'a [(&'a str, &'a [u8])];
 
 // Beside the base.
 const WITH_A: [(&str, &[u8]); 1] = [("a", A)];
 
 const WITHOUT_A: [(&str, &[u8]); 0] = [];
 
-const WITH_HALF: [(&str, &[u8]); 1] = [("a", b"abcd")];
-
 const WITH_SHIFTED: [(&str, &[u8]); 1] = [("a", b"Xabcdefgh")];
 
-// Checksums of another first slice.
-const FALSE_PAIRS: [Pair; 2] = [NONE, SECOND];
-
-// Runs the commands on a base of this text beside other files.
-fn attack_by_text(rt: &HostRuntime, title: &str, text: &[u8], others: Files<'_>) -> Result<()> {
+/// Runs the commands on a base of this text beside other files.
+pub fn attack_by_text(rt: &HostRuntime, title: &str, text: &[u8], others: Files<'_>) -> Result<()> {
     let mut files = Vec::from_slice(rt.alloc(), others)?;
     files.push(("t.par2", text))?;
     attack(rt, title, &files, &COMMANDS)
 }
 
-// The identifier of the set of a file with this File ID.
-fn id_of_one(rt: &HostRuntime) -> Result<[u8; 16]> {
+/// The identifier of the set of one file like `a`.
+pub fn id_of_one(rt: &HostRuntime) -> Result<[u8; 16]> {
     Ok(set_id(rt.alloc(), SLICE, 1, &[like_a(1, b"a")])?)
-}
-
-// Runs the commands on bases of parts of one set.
-fn attack_by_parts(
-    rt: &HostRuntime,
-    rows: &[(&str, &[Part<'_>])],
-    others: Files<'_>,
-) -> Result<()> {
-    let id = id_of_one(rt)?;
-    for (title, parts) in rows {
-        attack_by_text(rt, title, &text_of(rt.alloc(), &id, parts)?, others)?;
-    }
-    Ok(())
 }
 
 /// Mains that claim more files or fewer than they list, and one under another identifier.
