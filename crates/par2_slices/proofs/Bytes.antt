@@ -1,9 +1,9 @@
 -- Bytes taken in by eights.
-use Rattle.std.proofs.Common.{◌≡◌, ℕ, zero, suc, ◌+◌, ◌*◌, ◌^◌, ◌<◌, ◌%◌, ◌/◌, List, [], ◌∷◌, ◌++◌, length, take, drop, get_or, sym, ap, ◌∙◌, arith}
+use Rattle.std.proofs.Common.{◌≡◌, ℕ, zero, suc, ◌+◌, ◌*◌, ◌^◌, ◌<◌, ◌%◌, ◌/◌, List, [], ◌∷◌, ◌++◌, length, take, drop, get_or, refl, sym, ap, ◌∙◌, arith}
 use Rattle.std.specs.Prelude.{bit_xor, fold}
 use Rattle.std.specs.List.{concat}
 use Rattle.std.specs.Simd.{first_chunks}
-use Rattle.std.specs.Int.{w32, w64, from_le_bytes}
+use Rattle.std.specs.Int.{w64, from_le_bytes}
 use Rattle.std.specs.Int.Bits.{xor_assoc, xor_zero_r}
 use Rattle.std.proofs.lemmas.Nat.{shr-shr}
 use Rattle.std.proofs.Math.Seq.{take-add}
@@ -16,6 +16,10 @@ use Rattle.par2_slices.specs.Steps.{steps}
 split : (m x : ℕ) → steps (8 + m) x ≡ bit_xor (steps (8 + m) (x % 256)) (steps m (x / 256))
 unfolding steps
 split m x = crc_steps-split m 8 x
+
+no_steps : (x : ℕ) → steps 0 x ≡ x
+unfolding steps
+no_steps x = refl
 
 -- a byte goes to a table of its own
 next : (m k sum w : ℕ) → bit_xor sum (steps (8 + m) (w / 2 ^ k)) ≡ bit_xor (bit_xor sum (steps (8 + m) (w / 2 ^ k % 256))) (steps m (w / 2 ^ (k + 8)))
@@ -34,12 +38,11 @@ by_tables w =
     let f : ℕ = bit_xor e (steps 24 (w / 2 ^ 40 % 256)) in
     split 56 w ∙ next 48 8 a w ∙ next 40 16 b w ∙ next 32 24 c w ∙ next 24 32 d w ∙ next 16 40 e w ∙ next 8 48 f w
 
--- a word of four bytes
-pub by_four_tables : (w : ℕ) → steps 32 w ≡ bit_xor (bit_xor (bit_xor (steps 32 (w % 256)) (steps 24 (w / 2 ^ 8 % 256))) (steps 16 (w / 2 ^ 16 % 256))) (steps 8 (w / 2 ^ 24))
-by_four_tables w =
-    let a : ℕ = steps 32 (w % 256) in
-    let b : ℕ = bit_xor a (steps 24 (w / 2 ^ 8 % 256)) in
-    split 24 w ∙ next 16 8 a w ∙ next 8 16 b w
+-- a word, a table for each of its two low bytes
+pub by_two_tables : (w : ℕ) → steps 16 w ≡ bit_xor (bit_xor (steps 16 (w % 256)) (steps 8 (w / 2 ^ 8 % 256))) (w / 2 ^ 16)
+by_two_tables w =
+    let a : ℕ = steps 16 (w % 256) in
+    split 8 w ∙ next 0 8 a w ∙ ap (bit_xor (bit_xor a (steps 8 (w / 2 ^ 8 % 256)))) (no_steps (w / 2 ^ 16))
 
 -- a number and the byte above it
 taken : (n c x byte sum : ℕ) → x < 2 ^ n → sum ≡ steps n (bit_xor c x) → crc_byte sum byte ≡ steps (n + 8) (bit_xor c (x + byte * 2 ^ n))
@@ -87,29 +90,12 @@ eight_bytes c bytes len small =
     let s8 : fold crc_byte c (take 8 bytes) ≡ steps 64 (bit_xor c (x7 + at 7 * 2 ^ 56)) = further c bytes 7 56 x7 (omega (arith, len)) (omega arith) s7 in
     ap (fold crc_byte c) (sym (take_all 8 bytes (omega (arith, len)))) ∙ s8
 
-pub four_bytes : (c : ℕ) (bytes : List ℕ) → length bytes ≡ 4 → ((i : ℕ) → get_or bytes i 0 < 256) → fold crc_byte c bytes ≡ steps 32 (bit_xor c (from_le_bytes w32 bytes))
-four_bytes c bytes len small =
-    let at : ℕ → ℕ = λ i. get_or bytes i 0 in
-    let b0 : at 0 < 256 = small 0 in
-    let b1 : at 1 < 256 = small 1 in
-    let b2 : at 2 < 256 = small 2 in
-    let x1 : ℕ = at 0 in
-    let x2 : ℕ = x1 + at 1 * 2 ^ 8 in
-    let x3 : ℕ = x2 + at 2 * 2 ^ 16 in
-    let s1 : fold crc_byte c (take 1 bytes) ≡ steps 8 (bit_xor c x1) = further c bytes 0 0 0 (omega (arith, len)) (omega arith) (none_taken c) ∙ ap (λ t. steps 8 (bit_xor c t)) (let e : 0 + at 0 * 1 ≡ x1 = omega arith in e) in
-    let s2 : fold crc_byte c (take 2 bytes) ≡ steps 16 (bit_xor c x2) = further c bytes 1 8 x1 (omega (arith, len)) (omega arith) s1 in
-    let s3 : fold crc_byte c (take 3 bytes) ≡ steps 24 (bit_xor c x3) = further c bytes 2 16 x2 (omega (arith, len)) (omega arith) s2 in
-    let s4 : fold crc_byte c (take 4 bytes) ≡ steps 32 (bit_xor c (x3 + at 3 * 2 ^ 24)) = further c bytes 3 24 x3 (omega (arith, len)) (omega arith) s3 in
-    ap (fold crc_byte c) (sym (take_all 4 bytes (omega (arith, len)))) ∙ s4
-
--- four bytes, one by one
-pub fold_four : (c : ℕ) (bytes : List ℕ) → length bytes ≡ 4 → fold crc_byte c bytes ≡ crc_byte (crc_byte (crc_byte (crc_byte c (get_or bytes 0 0)) (get_or bytes 1 0)) (get_or bytes 2 0)) (get_or bytes 3 0)
-fold_four c bytes len =
-    let at : ℕ → ℕ = λ i. get_or bytes i 0 in
-    let s1 : fold crc_byte c (take 1 bytes) ≡ crc_byte c (at 0) = fold_more bytes c 0 (omega (arith, len)) in
-    let s2 : fold crc_byte c (take 2 bytes) ≡ crc_byte (crc_byte c (at 0)) (at 1) = fold_more bytes c 1 (omega (arith, len)) ∙ ap (λ t. crc_byte t (at 1)) s1 in
-    let s3 : fold crc_byte c (take 3 bytes) ≡ crc_byte (crc_byte (crc_byte c (at 0)) (at 1)) (at 2) = fold_more bytes c 2 (omega (arith, len)) ∙ ap (λ t. crc_byte t (at 2)) s2 in
-    ap (fold crc_byte c) (sym (take_all 4 bytes (omega (arith, len)))) ∙ fold_more bytes c 3 (omega (arith, len)) ∙ ap (λ t. crc_byte t (at 3)) s3
+pub two_bytes : (c first second : ℕ) → first < 256 → crc_byte (crc_byte c first) second ≡ steps 16 (bit_xor c (first + second * 2 ^ 8))
+two_bytes c first second small =
+    let one : crc_byte c first ≡ steps 8 (bit_xor c first) = (
+    taken 0 c 0 first c (omega arith) (none_taken c) ∙ ap (λ t. steps 8 (bit_xor c t)) (let e : 0 + first * 1 ≡ first = omega arith in e)
+    ) in
+    taken 8 c first second (crc_byte c first) (omega (arith, small)) one
 
 pub one_byte : (c byte : ℕ) → crc_byte c byte ≡ bit_xor (steps 8 (bit_xor c byte % 256)) (bit_xor c byte / 256)
 unfolding steps

@@ -14,7 +14,7 @@ leaving s byte = bit_xor (steps (8 * s) (crc32 (byte ∷ []))) (crc32 (0 ∷ [])
 
 -- table k has for each byte what this becomes when k bytes more have come in
 pub record IsLeaving (s : ℕ) (tables : List (List ℕ)) : Type 0 where
-  pub entry : (none : List ℕ) (k byte : ℕ) → k < 4 → byte < 256 → slice_index (slice_index_or tables k none) byte ≡ steps (8 * k) (leaving s byte)
+  pub entry : (none : List ℕ) (k byte : ℕ) → k < 2 → byte < 256 → slice_index (slice_index_or tables k none) byte ≡ steps (8 * k) (leaving s byte)
 
 -- a checksum of a window of s bytes, after `out` has left it and `next` has come in
 unfoldable pub after_slide : ℕ → ℕ → ℕ → ℕ → ℕ

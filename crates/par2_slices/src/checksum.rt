@@ -24,15 +24,12 @@ pub(crate) fn after_byte(remainder: u32, byte: u8) -> u32
     entry(0, (mixed % 256) as usize) ^ mixed >> 8
 }
 
-/// The remainder after four more bytes.
-pub(crate) fn after_four(remainder: u32, bytes: &[u8; 4]) -> u32
-    ensures { result ≡ fold spec.crc_byte remainder bytes.now }
+/// The remainder after two more bytes.
+pub(crate) fn after_two(remainder: u32, first: u8, second: u8) -> u32
+    ensures { result ≡ spec.crc_byte (spec.crc_byte remainder first) second }
 {
-    let word = (u32::from_le_bytes(*bytes) ^ remainder) as usize;
-    entry(3, word % 256)
-        ^ entry(2, (word >> 8) % 256)
-        ^ entry(1, (word >> 16) % 256)
-        ^ entry(0, word >> 24)
+    let mixed = remainder ^ u16::from_le_bytes([first, second]) as u32;
+    entry(1, (mixed % 256) as usize) ^ entry(0, ((mixed >> 8) % 256) as usize) ^ mixed >> 16
 }
 
 /// The remainder after eight more bytes.

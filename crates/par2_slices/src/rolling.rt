@@ -6,7 +6,7 @@ ghost use Rattle.par2_spec.specs.Slices.{padded};
 ghost use Rattle.par2_slices.specs.Rolls.{after_slide, leaving};
 ghost use Rattle.par2_slices.specs.Steps.{steps};
 
-use crate::checksum::{after_byte, after_four, crc32};
+use crate::checksum::{after_byte, after_two, crc32};
 use crate::zeros::{multiply, padded_crc32, power};
 use std::alloc::{AllocError, Global};
 use std::marker::Model;
@@ -15,7 +15,7 @@ use std::marker::Model;
 #[derive(Drop)]
 pub struct Rolling {
     size: u64,
-    leaving: Box<[[u32; 256]; 4]>,
+    leaving: Box<[[u32; 256]; 2]>,
     value: u32,
 }
 
@@ -61,11 +61,9 @@ impl Rolling {
     {
         let first = leaving_table(s);
         let second = behind(&first);
-        let third = behind(&second);
-        let fourth = behind(&third);
         Ok(Rolling {
             size: s,
-            leaving: Box::new(alloc, [first, second, third, fourth])?,
+            leaving: Box::new(alloc, [first, second])?,
             value: 0,
         })
     }
@@ -90,7 +88,7 @@ impl Rolling {
 
     /// What the byte that left adds when `later` bytes more have come in.
     fn leaves(&self, later: usize, byte: u8) -> u32
-        requires { later < 4 }
+        requires { later < 2 }
         ensures { result ≡ steps (8 * later) (leaving self.now.size byte) }
     {
         self.leaving[later][byte as usize]
@@ -103,25 +101,25 @@ impl Rolling {
         after_byte(value, next) ^ self.leaves(0, out)
     }
 
+    /// The value after two slides. It hangs on the value before them by one look at the tables, and not by two.
+    fn slid_twice(&self, value: u32, out: [u8; 2], next: [u8; 2]) -> u32
+        ensures { result ≡ after_slide self.now.size (after_slide self.now.size value (slice_index out 0) (slice_index next 0)) (slice_index out 1) (slice_index next 1) }
+    {
+        self.leaves(1, out[0]) ^ self.leaves(0, out[1]) ^ after_two(value, next[0], next[1])
+    }
+
     /// Moves the window on by four bytes, and gives the value before each of the four slides.
-    ///
-    /// The value after them hangs on the one before by one look at the tables, and not by four.
     pub(crate) fn slide_four(&mut self, out: &[u8; 4], next: &[u8; 4]) -> [u32; 4]
         ensures size { self.new.size ≡ self.old.size }
         ensures first { slice_index result 0 ≡ self.old.value }
         ensures others { (k : ℕ) → k < 3 → slice_index result (k + 1) ≡ after_slide self.old.size (slice_index result k) (slice_index out.now k) (slice_index next.now k) }
         ensures value { self.new.value ≡ after_slide self.old.size (slice_index result 3) (slice_index out.now 3) (slice_index next.now 3) }
     {
-        let adds = self.leaves(3, out[0])
-            ^ self.leaves(2, out[1])
-            ^ self.leaves(1, out[2])
-            ^ self.leaves(0, out[3]);
         let first = self.value;
-        let last = adds ^ after_four(first, next);
         let second = self.slid(first, out[0], next[0]);
-        let third = self.slid(second, out[1], next[1]);
+        let third = self.slid_twice(first, [out[0], out[1]], [next[0], next[1]]);
         let fourth = self.slid(third, out[2], next[2]);
-        self.value = last;
+        self.value = self.slid_twice(third, [out[2], out[3]], [next[2], next[3]]);
         [first, second, third, fourth]
     }
 

@@ -1,6 +1,6 @@
 use Rattle.std.proofs.Common.{ℕ, List, sym, subst}
 use Rattle.par2_slices.specs.Rolls.{IsLeaving}
-use Rattle.par2_slices.proofs.Sliding.{four_tables}
+use Rattle.par2_slices.proofs.Sliding.{two_tables}
 use Rattle.par2_slices.proofs.rolling.Rolling.new.Goals as goal
 
 pub invariant_of-result : goal.invariant_of-result
@@ -8,7 +8,5 @@ invariant_of-result c =
     let Its : List (List ℕ) → Type 0 = IsLeaving c.args.s in
     let first : List ℕ = c.leaving_table-first.result in
     let second : List ℕ = c.behind-second.result in
-    let third : List ℕ = c.behind-third.result in
-    let fourth : List ℕ = c.behind-fourth.result in
     subst Its (sym c.in_ok-new.ensures.ok)
-    (record { entry = four_tables c.args.s first second third fourth c.leaving_table-first.ensures c.behind-second.ensures c.behind-third.ensures c.behind-fourth.ensures })
+    (record { entry = two_tables c.args.s first second c.leaving_table-first.ensures c.behind-second.ensures })
