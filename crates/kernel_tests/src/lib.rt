@@ -8,6 +8,8 @@ mod elimination;
 #[cfg(test)]
 mod field;
 #[cfg(test)]
+mod midstates;
+#[cfg(test)]
 mod records;
 #[cfg(test)]
 mod slices;
