@@ -14,8 +14,7 @@ use Rattle.std.proofs.lemmas.Grind.{flat_map-append}
 use Rattle.par2_spec.specs.Folders.{File, Folder, bytes_of, counted}
 use Rattle.par2_spec.specs.Changes.{Change, Write, Replace, Rename, Remove, effect}
 use Rattle.par2_folder.specs.View.{name_cmp, IsSortedByName, folder_of, file_at, IsAt, IsGapFor, IsKept}
-use Rattle.par2_folder.specs.Below.{is_below, folder_below, hashed, IsBelow, IsFrom}
-use Rattle.par2_folder.specs.declared.fingerprint.FingerprintBelow.{FingerprintBelow}
+use Rattle.par2_folder.specs.Below.{is_below, folder_below, hashed, IsFrom}
 use Rattle.par2_folder.proofs.Sorted.{same_names, holds, rises, turned, turned_back}
 
 -- ---- the files before a place
@@ -68,7 +67,7 @@ module _ (files : List File) (kept : IsKept files) (name : List ℕ) (at : ℕ) 
 
 -- ---- what is hashed
 
-hashed-append : (xs ys : List File) → hashed (xs ++ ys) ≡ hashed xs ++ hashed ys
+pub hashed-append : (xs ys : List File) → hashed (xs ++ ys) ≡ hashed xs ++ hashed ys
 hashed-append xs ys = flat_map-append (λ file. counted file.0 ++ counted file.1) xs ys
 
 -- what is hashed of the files before a place and of those from it on
@@ -133,7 +132,7 @@ module _ (name n : List ℕ) (folder : Folder) (h : is_below name n ≡ false) w
       ∙ sym (get_below name folder q))
 
 -- a change from the name on leaves what is before it
-effect_below : (name : List ℕ) (folder : Folder) (change : Change) → IsFrom name change → folder_below name (effect folder change) ≡ folder_below name folder
+pub effect_below : (name : List ℕ) (folder : Folder) (change : Change) → IsFrom name change → folder_below name (effect folder change) ≡ folder_below name folder
 unfolding effect
 effect_below name folder (Write n bytes) h = put_from name n folder h bytes
 effect_below name folder (Replace n bytes) h = put_from name n folder h bytes
@@ -141,6 +140,3 @@ effect_below name folder (Rename a b) h =
     let from = both_from name a b h in
     put_from name b (map_of.remove folder a) from.1 (bytes_of folder a) ∙ gone_from name a folder from.0
 effect_below name folder (Remove n) h = gone_from name n folder h
-
-pub stays_below : (below : FingerprintBelow) (folder : Folder) (change : Change) → IsFrom below.name change → IsBelow below folder → IsBelow below (effect folder change)
-stays_below below folder change h is = rw (effect_below below.name folder change h) is

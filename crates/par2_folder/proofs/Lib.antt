@@ -4,3 +4,5 @@ pub mod Lists
 pub mod Steps
 pub mod Filling
 pub mod Below
+pub mod Snapshots
+pub mod Walks

@@ -1,12 +1,10 @@
--- The files of a folder before a name, and the state of the fingerprint behind them.
+-- The files of a folder before a name, and the changes that leave them.
 use Rattle.std.specs.Prelude.{◌≡◌, ℕ, Bool, false, List, ◌++◌, flat_map}
 use Rattle.std.specs.FinMap as map_of
 use Rattle.std.specs.Ordering.{is_lt, ord_min}
-use Rattle.md5.specs.Md5.{Holds}
 use Rattle.par2_spec.specs.Folders.{Folder, File, counted}
-use Rattle.par2_spec.specs.Changes.{Change, Write, Replace, Rename, Remove, effect}
+use Rattle.par2_spec.specs.Changes.{Change, Write, Replace, Rename, Remove}
 use Rattle.par2_folder.specs.View.{name_cmp}
-use Rattle.par2_folder.specs.declared.fingerprint.FingerprintBelow.{FingerprintBelow}
 
 -- whether another name comes before the name
 abbrev pub is_below : List ℕ → List ℕ → Bool
@@ -20,10 +18,6 @@ folder_below name folder = map_of.retain_keys folder (is_below name)
 abbrev pub hashed : List File → List ℕ
 hashed files = flat_map (λ file. counted file.0 ++ counted file.1) files
 
--- the state of the folder's fingerprint behind the files whose names come before its own
-abbrev pub IsBelow : FingerprintBelow → Folder → Type 0
-IsBelow below folder = Holds below.hasher (hashed (map_of.entries (folder_below below.name folder)))
-
 -- the first of the names that a change touches
 abbrev pub first_name : Change → List ℕ
 first_name (Write name bytes) = name
@@ -34,9 +28,3 @@ first_name (Remove name) = name
 -- the change touches no name before the name
 abbrev pub IsFrom : List ℕ → Change → Type 0
 IsFrom name change = is_below name (first_name change) ≡ false
-
--- a change that touches no name before the name leaves the state that of the folder
-abbrev pub OutlastsFrom : FingerprintBelow → List ℕ → Type 0
-OutlastsFrom below name =
-    (folder : Folder) (change : Change) → IsFrom name change → IsBelow below folder
-    → IsBelow below (effect folder change)

@@ -4,3 +4,5 @@ pub mod Memory
 pub mod Disk
 pub mod Fuse
 pub mod Below
+pub mod Snapshots
+pub mod Walks

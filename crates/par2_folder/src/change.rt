@@ -20,8 +20,8 @@ impl Change {
     ghost use Rattle.par2_folder.specs.Views.{change_of};
     ghost use Rattle.par2_folder.specs.Below.{first_name};
 
-    /// The first of the names that it touches, in their order.
-    pub fn first_name(&self) -> Name
+    // The first of the names that it touches, in their order.
+    pub(crate) fn first_name(&self) -> Name
         ensures { result ≡ first_name (change_of self.now) }
     {
         match self {

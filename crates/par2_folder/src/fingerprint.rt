@@ -1,21 +1,15 @@
-//! What tells folders apart, and its state behind a folder's first files.
-ghost use Rattle.std.specs.Prelude.{◌≡◌, ℕ, ◌≤◌, List, ◌++◌, length, take};
-ghost use Rattle.std.specs.FinMap.{entries};
+//! What tells folders apart.
+ghost use Rattle.std.specs.Prelude.{◌≡◌, ℕ, List, ◌++◌, ◌∷◌, map, IfOk, IsTrue};
 ghost use Rattle.md5.specs.Md5.{Holds};
 ghost use Rattle.par2_spec.specs.Folders.{counted, fingerprint};
-ghost use Rattle.par2_folder.specs.View.{IsKept, folder_of};
-ghost use Rattle.par2_folder.specs.Below.{folder_below, hashed, IsBelow, OutlastsFrom};
+ghost use Rattle.par2_spec.specs.Changes.{takes_all, folders_after};
+ghost use Rattle.par2_folder.specs.Views.{change_of};
+ghost use Rattle.par2_folder.specs.Below.{hashed};
 
-use crate::place::search;
-use crate::{Bytes, Name};
+use crate::walk::{Walk, first_name};
+use crate::{Bytes, Change, Folder, Name};
 use md5::{Digest, Md5};
-
-/// The state of a folder's fingerprint behind the files whose names come before a name.
-#[derive(Drop)]
-pub struct FingerprintBelow {
-    name: Name,
-    hasher: Md5,
-}
+use std::alloc::{AllocError, Global};
 
 // Adds the bytes behind their length to what is hashed.
 fn hash_counted(hasher: &mut Md5, bytes: &[u8])
@@ -36,43 +30,21 @@ pub(crate) fn hash_files(hasher: &mut Md5, files: &[(Name, Bytes)])
     }
 }
 
-// How many files have names that come before the name.
-fn count_below(files: &[(Name, Bytes)], name: &Name) -> usize
-    requires { IsKept files.now }
-    ensures within { result ≤ length files.now }
-    ensures below { entries (folder_below name.now (folder_of files.now)) ≡ take result files.now }
+/// The fingerprints of a folder and of those that changes lead it through, one after the other.
+pub fn fingerprints_along(
+    alloc: Global,
+    folder: &Folder,
+    changes: &[Change],
+) -> Result<Vec<[u8; 16]>, AllocError>
+    requires { IsTrue (takes_all folder.now (map change_of changes.now)) }
+    ensures { let after = folders_after folder.now.files (map change_of changes.now) in
+        IfOk result (λ list. list.items ≡ map fingerprint (folder.now.files ∷ after)) }
 {
-    match search(files, name) {
-        Ok(at) => at,
-        Err(at) => at,
-    }
-}
-
-impl FingerprintBelow {
-    // The state behind those of the files whose names come before the name.
-    pub(crate) fn of(files: &[(Name, Bytes)], name: &Name) -> Self
-        requires { IsKept files.now }
-        ensures below { IsBelow result (folder_of files.now) }
-        ensures outlasts { OutlastsFrom result name.now }
-    {
-        let mut hasher = Md5::new();
-        hash_files(&mut hasher, &files[..count_below(files, name)]);
-        FingerprintBelow {
-            name: name.copied(),
-            hasher,
-        }
-    }
-
-    // The fingerprint of a folder of which this is the state.
-    pub(crate) fn finish(&self, files: &[(Name, Bytes)]) -> [u8; 16]
-        requires kept { IsKept files.now }
-        requires below { IsBelow self.now (folder_of files.now) }
-        ensures { result ≡ fingerprint (folder_of files.now) }
-    {
-        let Ok(mut hasher) = self.hasher.clone() else {
-            unreachable!()
-        };
-        hash_files(&mut hasher, &files[count_below(files, &self.name)..]);
-        hasher.finalize()
-    }
+    let Some(name) = first_name(changes) else {
+        return Ok(vec![in alloc; folder.fingerprint(alloc)?]?);
+    };
+    let mut walk = Walk::new(alloc, folder.snapshot(alloc)?, name)?;
+    walk.add(alloc)?;
+    walk.go_along(alloc, changes)?;
+    walk.finish()
 }

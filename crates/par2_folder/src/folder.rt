@@ -1,6 +1,7 @@
 //! A flat folder in memory.
-use crate::fingerprint::{FingerprintBelow, hash_files};
+use crate::fingerprint::hash_files;
 use crate::place::{exchange_at, insert_at, remove_at, search};
+use crate::snapshot::Snapshot;
 use crate::{Bytes, Change, Name};
 use md5::{Digest, Md5};
 use par2_spec::ChangeFault;
@@ -35,7 +36,8 @@ impl Folder {
     ghost use Rattle.par2_spec.specs.Folders.{has, names, fingerprint, IsFolder};
     ghost use Rattle.par2_spec.specs.Changes.{Rename, change_refusal, state_after, inverse, takes_all, state_after_all, way_back};
     ghost use Rattle.par2_folder.specs.Views.{change_of};
-    ghost use Rattle.par2_folder.specs.Below.{IsBelow, OutlastsFrom};
+    ghost use Rattle.par2_folder.specs.View.{IsKept};
+    ghost use Rattle.par2_folder.specs.Snapshots.{files_in, folder_in};
 
     /// The folder without files. It has no vacant places.
     #[tactic(auto, using(crate::proofs::Sorted::no_files))]
@@ -103,21 +105,12 @@ impl Folder {
         Ok(hasher.finalize())
     }
 
-    /// The state of the fingerprint behind the files whose names come before the name. It stays that of the folder
-    /// as long as changes touch no name before this one.
-    pub fn fingerprint_below(&self, name: &Name) -> FingerprintBelow
-        ensures below { IsBelow result self.now.files }
-        ensures outlasts { OutlastsFrom result name.now }
+    // The files where they lie.
+    pub(crate) fn snapshot(&self, alloc: Global) -> Result<Snapshot<'_>, AllocError>
+        ensures kept { IfOk result (λ snapshot. IsKept (files_in snapshot)) }
+        ensures folder { IfOk result (λ snapshot. folder_in snapshot ≡ self.now.files) }
     {
-        FingerprintBelow::of(&self.files, name)
-    }
-
-    /// The fingerprint, of which the state behind the first files is known.
-    pub fn fingerprint_from(&self, below: &FingerprintBelow) -> [u8; 16]
-        requires { IsBelow below.now self.now.files }
-        ensures { result ≡ fingerprint self.now.files }
-    {
-        below.finish(&self.files)
+        Snapshot::of(alloc, &self.files)
     }
 
     /// Does the change, and leaves in its place the change that takes it back. It takes no memory.

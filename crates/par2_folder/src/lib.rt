@@ -13,13 +13,15 @@ mod memory;
 mod name;
 mod place;
 mod reading;
+mod snapshot;
 mod store;
+mod walk;
 
 pub use bytes::Bytes;
 pub use change::Change;
 pub use disk::DiskStore;
 pub use failures::Failures;
-pub use fingerprint::FingerprintBelow;
+pub use fingerprint::fingerprints_along;
 pub use folder::Folder;
 pub use fuse::FuseStore;
 pub use loading::read_folder;

@@ -1,5 +1,5 @@
 use Rattle.par2_folder.proofs.Below.{below_at, below_gap}
-use Rattle.par2_folder.proofs.fingerprint.count_below.Goals as goal
+use Rattle.par2_folder.proofs.snapshot.count_below.Goals as goal
 
 pub returns-in-Ok-clause-below : goal.returns-in-Ok-clause-below
 returns-in-Ok-clause-below c = below_at _ c.requires _ _ c.in-Ok.ensures.found
