@@ -1,82 +1,12 @@
 //! The fingerprints of the folders that changes pass through.
-ghost use Rattle.std.specs.Prelude.{◌≡◌, ◌++◌, ◌∷◌, [], Some, length, map, slice_get, IsTrue, IsNone, IfSome, IfOk, IsOkAnd};
-ghost use Rattle.std.specs.List.{All};
-ghost use Rattle.par2_spec.specs.Folders.{Folder as Files, fingerprint};
-ghost use Rattle.par2_spec.specs.Changes.{takes_all, effect, state_after_all, way_back, folders_after};
+ghost use Rattle.std.specs.Prelude.{◌≡◌, ◌∷◌, Some, length, map, slice_get, IsTrue, IfOk};
+ghost use Rattle.par2_spec.specs.Folders.{fingerprint};
+ghost use Rattle.par2_spec.specs.Changes.{takes_all, state_after_all, way_back, folders_after};
 ghost use Rattle.par2_folder.specs.Views.{change_of};
-ghost use Rattle.par2_folder.specs.Below.{IsBelow, IsFrom};
 ghost use Rattle.par2_journal_bytes.specs.Views.{changes_of};
 
-use par2_folder::{Bytes, Change, FingerprintBelow, Folder, Name};
+use par2_folder::{Bytes, Change, Folder, fingerprints_along};
 use std::alloc::{AllocError, Global};
-
-// The first of the names that the changes touch, unless there is no change.
-fn first_name(changes: &[Change]) -> Option<Name>
-    ensures none { IsNone result → changes.now ≡ [] }
-    ensures some { IfSome result (λ name. All (λ change. IsFrom name (change_of change)) changes.now) }
-{
-    changes.iter().map(|change| change.first_name()).min()
-}
-
-// The fingerprints and that of the folder, unless memory ran out before or now.
-fn with_fingerprint(
-    folder: &Folder,
-    below: &FingerprintBelow,
-    fingerprints: Result<Vec<[u8; 16]>, AllocError>,
-) -> Result<Vec<[u8; 16]>, AllocError>
-    requires { IsBelow below.now folder.now.files }
-    ensures { IfOk result (λ more. IsOkAnd fingerprints (λ list. more.items ≡ list.items ++ fingerprint folder.now.files ∷ [])) }
-{
-    let mut list = fingerprints?;
-    list.push(folder.fingerprint_from(below))?;
-    Ok(list)
-}
-
-// Applies the changes in order, so that they become the way back, and answers the fingerprint after each. Where
-// memory runs out for these, the changes are applied all the same.
-fn pass_from(
-    alloc: Global,
-    folder: &mut Folder,
-    changes: &mut [Change],
-    below: &FingerprintBelow,
-) -> Result<Vec<[u8; 16]>, AllocError>
-    requires applies { IsTrue (takes_all folder.old (changes_of changes.old)) }
-    requires below { IsBelow below.now folder.old.files }
-    // the changes leave the state that of the folder
-    requires outlasts { All (λ change. (files : Files) → IsBelow below.now files
-        → IsBelow below.now (effect files (change_of change))) changes.old }
-    ensures folder { folder.new ≡ state_after_all folder.old (changes_of changes.old) }
-    ensures way_back { changes_of changes.new ≡ way_back folder.old.files (changes_of changes.old) }
-    ensures fingerprints { IfOk result (λ list. list.items ≡ map fingerprint (folders_after folder.old.files (changes_of changes.old))) }
-{
-    let mut fingerprints = Ok(Vec::new(alloc));
-    for change in changes.iter_mut() {
-        match folder.apply(change) {
-            Ok(()) => fingerprints = with_fingerprint(folder, below, fingerprints),
-            Err(_) => unreachable!(),
-        }
-    }
-    changes.reverse();
-    fingerprints
-}
-
-// Applies the changes as `pass_from` does. The files before the first name that the changes touch are hashed once.
-pub(crate) fn pass_through(
-    alloc: Global,
-    folder: &mut Folder,
-    changes: &mut [Change],
-) -> Result<Vec<[u8; 16]>, AllocError>
-    requires { IsTrue (takes_all folder.old (changes_of changes.old)) }
-    ensures folder { folder.new ≡ state_after_all folder.old (changes_of changes.old) }
-    ensures way_back { changes_of changes.new ≡ way_back folder.old.files (changes_of changes.old) }
-    ensures fingerprints { IfOk result (λ list. list.items ≡ map fingerprint (folders_after folder.old.files (changes_of changes.old))) }
-{
-    let Some(name) = first_name(changes) else {
-        return Ok(Vec::new(alloc));
-    };
-    let below = folder.fingerprint_below(&name);
-    pass_from(alloc, folder, changes, &below)
-}
 
 // The fingerprints of a folder along some changes.
 #[derive(Debug, Drop)]
@@ -86,7 +16,8 @@ pub struct Fingerprints {
 }
 
 impl Fingerprints {
-    // Applies the changes as `pass_through` does, and answers the fingerprint before them too.
+    // Applies the changes in order, so that they become the way back, and answers the fingerprint before them and
+    // after each. Where memory runs out for these, the changes are applied all the same.
     pub(crate) fn along(
         alloc: Global,
         folder: &mut Folder,
@@ -98,15 +29,10 @@ impl Fingerprints {
         ensures before { IfOk result (λ prints. prints.before ≡ fingerprint folder.old.files) }
         ensures after_each { IfOk result (λ prints. prints.after_each.items ≡ map fingerprint (folders_after folder.old.files (changes_of changes.old))) }
     {
-        let Some(name) = first_name(changes) else {
-            return Ok(Fingerprints {
-                before: folder.fingerprint(alloc)?,
-                after_each: Vec::new(alloc),
-            });
-        };
-        let below = folder.fingerprint_below(&name);
-        let before = folder.fingerprint_from(&below);
-        let after_each = pass_from(alloc, folder, changes, &below)?;
+        let fingerprints = fingerprints_along(alloc, folder, changes);
+        folder.apply_all(changes);
+        let mut after_each = fingerprints?;
+        let before = after_each.remove(0);
         Ok(Fingerprints { before, after_each })
     }
 
@@ -116,6 +42,20 @@ impl Fingerprints {
     {
         self.after_each.last().copied().unwrap_or(self.before)
     }
+}
+
+// Applies the changes as `Fingerprints::along` does, and answers the fingerprint after each.
+pub(crate) fn pass_through(
+    alloc: Global,
+    folder: &mut Folder,
+    changes: &mut [Change],
+) -> Result<Vec<[u8; 16]>, AllocError>
+    requires { IsTrue (takes_all folder.old (changes_of changes.old)) }
+    ensures folder { folder.new ≡ state_after_all folder.old (changes_of changes.old) }
+    ensures way_back { changes_of changes.new ≡ way_back folder.old.files (changes_of changes.old) }
+    ensures fingerprints { IfOk result (λ list. list.items ≡ map fingerprint (folders_after folder.old.files (changes_of changes.old))) }
+{
+    Ok(Fingerprints::along(alloc, folder, changes)?.after_each)
 }
 
 fn copy_of(alloc: Global, change: &Change) -> Result<Change, AllocError>
