@@ -1,5 +1,5 @@
 //! The journals of a session.
-use crate::session::{create, create_of, fingerprint_of, session_of, undo};
+use crate::session::{Row, create_of, fingerprint_of, session_after, session_of};
 use par2_folder::Change;
 use par2_journal::{Action, Journals, Session};
 use par2_journal_bytes::{Halfway, Journal, decode};
@@ -14,6 +14,10 @@ const NEW_JOURNAL: &[u8] = b"P2UNDO2\n\
     \xd3\x68\x83\xb6\x33\x05\xc2\x0b\x65\xe4\x20\x6a\x90\x61\x28\xc1\
     \0\0\0\0\0\0\0\0\0\0\0\0\0\0\0\0\0\
     \x7b\xb9\x8c\xe5\xe8\xbd\xf9\x9b\x57\x22\xce\xe5\xcd\x5c\x96\xcd";
+
+const CREATE: &[Row] = &[Row::Create("t.par2")];
+
+pub const UNDONE_CREATE: &[Row] = &[Row::Create("t.par2"), Row::Undo];
 
 pub fn journal_of<R: Abort + AllocGlobal>(rt: &R, session: &Session) -> Result<Vec<u8>, Fail> {
     Ok(session.encode(rt.alloc())?)
@@ -65,8 +69,7 @@ fn journal_of_a_new_session(rt: HostRuntime) -> Result<(), Fail> {
 
 #[test]
 fn journal_of_a_create(rt: HostRuntime) -> Result<(), Fail> {
-    let mut session = session_of(&rt)?;
-    create(&rt, &mut session, "t.par2")?;
+    let session = session_after(&rt, CREATE)?;
     let text = journal_of(&rt, &session)?;
     let journal = decoded(&rt, &text);
     let counts = (text.len(), journal.cursor, journal.entries.len());
@@ -77,10 +80,7 @@ fn journal_of_a_create(rt: HostRuntime) -> Result<(), Fail> {
 
 #[test]
 fn journal_of_an_undo(rt: HostRuntime) -> Result<(), Fail> {
-    let mut session = session_of(&rt)?;
-    create(&rt, &mut session, "t.par2")?;
-    undo(&rt, &mut session);
-    let text = journal_of(&rt, &session)?;
+    let text = journal_of(&rt, &session_after(&rt, UNDONE_CREATE)?)?;
     assert!(rt; text.len() == 501 && text.starts_with(FRONT));
     Ok(())
 }

@@ -1,7 +1,7 @@
 //! Folders that are opened with a journal.
 use crate::fixtures::folder_of;
-use crate::journal::{halfway_of, is_removal_of, journal_of};
-use crate::session::{assert_stands, create, redo, session_of, undo};
+use crate::journal::{UNDONE_CREATE, halfway_of, is_removal_of, journal_of};
+use crate::session::{assert_stands, redo, session_after, session_of};
 use par2_folder::{Folder, Name};
 use par2_journal::{Halfway, Opened, Session};
 use par2_spec::JournalFault;
@@ -30,17 +30,9 @@ fn assert_refused<R: Abort + AllocGlobal>(
     Ok(())
 }
 
-// The journal of a create that was taken back.
-fn undone_create<R: Abort + AllocGlobal>(rt: &R) -> Result<Vec<u8>, Fail> {
-    let mut session = session_of(rt)?;
-    create(rt, &mut session, "t.par2")?;
-    undo(rt, &mut session);
-    journal_of(rt, &session)
-}
-
 #[test]
 fn opens_its_journal(rt: HostRuntime) -> Result<(), Fail> {
-    let text = undone_create(&rt)?;
+    let text = journal_of(&rt, &session_after(&rt, UNDONE_CREATE)?)?;
     let folder = folder_of(&rt, &[("a", b"abcdefgh")])?;
     let Ok(Opened::Settled(mut again)) = open(rt.alloc(), folder, &text) else {
         panic!(rt; "not opened");
@@ -53,7 +45,7 @@ fn opens_its_journal(rt: HostRuntime) -> Result<(), Fail> {
 
 #[test]
 fn foreign_journals(rt: HostRuntime) -> Result<(), Fail> {
-    let text = undone_create(&rt)?;
+    let text = journal_of(&rt, &session_after(&rt, UNDONE_CREATE)?)?;
     assert_refused(
         &rt,
         "b",

@@ -63,108 +63,137 @@ pub fn redo<R: Abort>(rt: &R, session: &mut Session) {
     assert_eq!(rt; session.redo(), Ok(()));
 }
 
-#[test]
-fn create_then_undo(rt: HostRuntime) -> Result<(), Fail> {
-    let mut session = session_of(&rt)?;
-    let before = fingerprint_of(rt.alloc(), &session)?;
-    create(&rt, &mut session, "t.par2")?;
-    assert_stands(&rt, &session, "t.par2", (1, 0, Some(420)));
-    undo(&rt, &mut session);
-    assert_stands(&rt, &session, "t.par2", (0, 1, None));
-    assert_eq!(rt; fingerprint_of(rt.alloc(), &session)?, before);
-    Ok(())
-}
-
-#[test]
-fn redo_after_undo(rt: HostRuntime) -> Result<(), Fail> {
-    let mut session = session_of(&rt)?;
-    create(&rt, &mut session, "t.par2")?;
-    undo(&rt, &mut session);
-    redo(&rt, &mut session);
-    assert_stands(&rt, &session, "t.par2", (1, 0, Some(420)));
-    Ok(())
-}
-
-#[test]
-fn create_after_undo(rt: HostRuntime) -> Result<(), Fail> {
-    let mut session = session_of(&rt)?;
-    create(&rt, &mut session, "t.par2")?;
-    undo(&rt, &mut session);
-    create(&rt, &mut session, "u.par2")?;
-    assert_stands(&rt, &session, "t.par2", (1, 0, None));
-    assert_stands(&rt, &session, "u.par2", (1, 0, Some(420)));
-    Ok(())
-}
-
-#[test]
-fn nothing_to_go_to(rt: HostRuntime) -> Result<(), Fail> {
-    let mut session = session_of(&rt)?;
-    let answers = (session.undo(), session.redo());
-    assert_eq!(rt; answers, (Err(NothingToUndo), Err(NothingToRedo)));
-    Ok(())
-}
-
 // Makes a create ready, and does it then.
 fn prepare_and_commit<R: Abort + AllocGlobal>(
     rt: &R,
     session: &mut Session,
     base: &str,
 ) -> Result<(), Fail> {
-    let action = Action::Create(args_of(rt.alloc(), 4, base, &["a"])?);
+    let action = create_of(rt.alloc(), base)?;
     let Ok(prepared) = session.prepare(rt.alloc(), &action) else {
         panic!(rt; "refused");
     };
     let counts = (session.changes(&prepared).len(), prepared.steps().len());
-    assert_eq!(rt; counts, (1, 1));
     assert_stands(rt, session, base, (0, 0, None));
-    assert_eq!(rt; session.commit(prepared).len(), 1);
+    let done = session.commit(prepared).len();
+    assert_eq!(rt; (counts, done), ((1, 1), 1));
     Ok(())
 }
 
+// A create of this index is refused.
 fn assert_refused<R: Abort + AllocGlobal>(
     rt: &R,
     session: &mut Session,
     base: &str,
     wanted: SessionFault,
 ) -> Result<(), Fail> {
-    let action = Action::Create(args_of(rt.alloc(), 4, base, &["a"])?);
-    let Err(fault) = session.prepare(rt.alloc(), &action) else {
-        panic!(rt; "accepted");
-    };
-    assert_eq!(rt; fault, wanted);
+    let action = create_of(rt.alloc(), base)?;
+    let fault = session.prepare(rt.alloc(), &action).err();
+    assert_eq!(rt; fault, Some(wanted));
     Ok(())
 }
 
-#[test]
-fn prepared_and_committed(rt: HostRuntime) -> Result<(), Fail> {
-    let mut session = session_of(&rt)?;
-    prepare_and_commit(&rt, &mut session, "t.par2")?;
-    assert_stands(&rt, &session, "t.par2", (1, 0, Some(420)));
-    assert_refused(
-        &rt,
-        &mut session,
-        "t.par2",
-        SessionFault::Plan(Fault::Exists),
-    )
-}
-
 // The second create and the second undo are refused.
-fn play_five<R: Abort + AllocGlobal>(rt: &R, session: &mut Session) -> Result<usize, Fail> {
+fn play_five<R: Abort + AllocGlobal>(rt: &R, session: &mut Session) -> Result<(), Fail> {
     let actions = [
-        Action::Create(args_of(rt.alloc(), 4, "t.par2", &["a"])?),
-        Action::Create(args_of(rt.alloc(), 4, "t.par2", &["a"])?),
+        create_of(rt.alloc(), "t.par2")?,
+        create_of(rt.alloc(), "t.par2")?,
         Action::Undo,
         Action::Undo,
         Action::Redo,
     ];
-    Ok(session.play(rt.alloc(), &actions))
+    assert_eq!(rt; session.play(rt.alloc(), &actions), 3);
+    Ok(())
 }
 
+// There is nothing to undo and nothing to redo.
+fn assert_ends<R: Abort>(rt: &R, session: &mut Session) {
+    let answers = (session.undo(), session.redo());
+    assert_eq!(rt; answers, (Err(NothingToUndo), Err(NothingToRedo)));
+}
+
+// The session has the folder of a new one.
+fn assert_as_new<R: Abort + AllocGlobal>(rt: &R, session: &Session) -> Result<(), Fail> {
+    let new = session_of(rt)?;
+    let wanted = fingerprint_of(rt.alloc(), &new)?;
+    assert_eq!(rt; fingerprint_of(rt.alloc(), session)?, wanted);
+    Ok(())
+}
+
+/// What is done with a session, and what holds of it then.
+pub enum Row {
+    Create(&'static str),
+    PrepareAndCommit(&'static str),
+    Refused(&'static str, SessionFault),
+    PlayFive,
+    Undo,
+    Redo,
+    /// There is nothing to undo and nothing to redo.
+    Ends,
+    /// A file, the depths of undo and redo, and the file's length, where it is there.
+    Stands(&'static str, (usize, usize, Option<usize>)),
+    /// The folder is that of a new session.
+    AsNew,
+}
+
+fn carry_out<R: Abort + AllocGlobal>(rt: &R, session: &mut Session, row: &Row) -> Result<(), Fail> {
+    match row {
+        Row::Create(base) => return create(rt, session, base),
+        Row::PrepareAndCommit(base) => return prepare_and_commit(rt, session, base),
+        Row::Refused(base, wanted) => return assert_refused(rt, session, base, *wanted),
+        Row::PlayFive => return play_five(rt, session),
+        Row::Undo => undo(rt, session),
+        Row::Redo => redo(rt, session),
+        Row::Ends => assert_ends(rt, session),
+        Row::Stands(name, wanted) => assert_stands(rt, session, name, *wanted),
+        Row::AsNew => return assert_as_new(rt, session),
+    }
+    Ok(())
+}
+
+/// A session of which these rows hold in turn.
+pub fn session_after<R: Abort + AllocGlobal>(rt: &R, rows: &[Row]) -> Result<Session, Fail> {
+    let mut session = session_of(rt)?;
+    for row in rows {
+        carry_out(rt, &mut session, row)?;
+    }
+    Ok(session)
+}
+
+const EXAMPLES: &[&[Row]] = &[
+    &[
+        Row::Create("t.par2"),
+        Row::Stands("t.par2", (1, 0, Some(420))),
+        Row::Undo,
+        Row::Stands("t.par2", (0, 1, None)),
+        Row::AsNew,
+    ],
+    &[
+        Row::Create("t.par2"),
+        Row::Undo,
+        Row::Redo,
+        Row::Stands("t.par2", (1, 0, Some(420))),
+    ],
+    &[
+        Row::Create("t.par2"),
+        Row::Undo,
+        Row::Create("u.par2"),
+        Row::Stands("t.par2", (1, 0, None)),
+        Row::Stands("u.par2", (1, 0, Some(420))),
+    ],
+    &[Row::Ends],
+    &[
+        Row::PrepareAndCommit("t.par2"),
+        Row::Stands("t.par2", (1, 0, Some(420))),
+        Row::Refused("t.par2", SessionFault::Plan(Fault::Exists)),
+    ],
+    &[Row::PlayFive, Row::Stands("t.par2", (1, 0, Some(420)))],
+];
+
 #[test]
-fn plays_on_after_a_refusal(rt: HostRuntime) -> Result<(), Fail> {
-    let mut session = session_of(&rt)?;
-    let accepted = play_five(&rt, &mut session)?;
-    assert_eq!(rt; accepted, 3);
-    assert_stands(&rt, &session, "t.par2", (1, 0, Some(420)));
+fn worked_examples(rt: HostRuntime) -> Result<(), Fail> {
+    for rows in EXAMPLES {
+        let _session = session_after(&rt, rows)?;
+    }
     Ok(())
 }
