@@ -59,128 +59,118 @@ fn protected<R: Abort + AllocGlobal>(rt: &R) -> Result<Folder, Fail> {
     Ok(folder)
 }
 
-// The same folder with other bytes in `a`.
-fn with_bytes<R: Abort + AllocGlobal>(rt: &R, bytes: &[u8]) -> Result<Folder, Fail> {
+// What another hand makes of `a`.
+enum Damage {
+    None,
+    Bytes(&'static [u8]),
+    // The file gets the name `x`.
+    Renamed,
+}
+
+// The same folder after this damage.
+fn damaged<R: Abort + AllocGlobal>(rt: &R, damage: &Damage) -> Result<Folder, Fail> {
     let mut folder = protected(rt)?;
-    let bytes = Bytes::copy_of(rt.alloc(), bytes)?;
-    apply(rt, &mut folder, Change::Replace(name_of(rt, "a"), bytes));
+    let change = match damage {
+        Damage::None => return Ok(folder),
+        Damage::Bytes(bytes) => {
+            Change::Replace(name_of(rt, "a"), Bytes::copy_of(rt.alloc(), bytes)?)
+        }
+        Damage::Renamed => Change::Rename(name_of(rt, "a"), name_of(rt, "x")),
+    };
+    apply(rt, &mut folder, change);
     Ok(folder)
 }
 
-// The same folder with `a` under the name `x`.
-fn renamed<R: Abort + AllocGlobal>(rt: &R) -> Result<Folder, Fail> {
-    let mut folder = protected(rt)?;
-    apply(
-        rt,
-        &mut folder,
-        Change::Rename(name_of(rt, "a"), name_of(rt, "x")),
-    );
-    Ok(folder)
+// What a state says.
+#[derive(Clone, Copy, PartialEq, Eq)]
+enum Kind {
+    Complete,
+    Missing,
+    Damaged,
+    Misplaced,
 }
 
-// The report on the set, with these further files.
-fn report_of<R: Abort + AllocGlobal>(
-    rt: &R,
-    folder: &Folder,
-    extras: &[&str],
-) -> Result<Report, Fail> {
-    let extras = words_of(rt.alloc(), extras)?;
-    match check(rt.alloc(), folder, "t.par2", &extras) {
-        Ok(report) => Ok(report),
-        Err(fault) => panic!(rt; "refused: {fault}"),
+// What a state says, and of a file that is found elsewhere its name.
+fn told(state: &State) -> (Kind, &str) {
+    match state {
+        State::Complete => (Kind::Complete, ""),
+        State::Missing => (Kind::Missing, ""),
+        State::Damaged => (Kind::Damaged, ""),
+        State::Misplaced(name) => (Kind::Misplaced, name.as_str()),
     }
 }
 
-// What is said of `a`, and what follows.
-fn assert_said<R: Abort>(
-    rt: &R,
-    report: &Report,
-    state: &State,
-    found: usize,
-    lost: usize,
-    rank: usize,
-    verdict: Verdict,
-) {
+// The damage and the further files; then what is said of `a`: its state, how many slices are found, lost and can be
+// rebuilt, and what follows.
+type Row = (
+    Damage,
+    &'static [&'static str],
+    (Kind, &'static str),
+    usize,
+    usize,
+    usize,
+    Verdict,
+);
+
+#[rattlefmt::skip]
+const ROWS: &[Row] = &[
+    (Damage::None, &[], (Kind::Complete, ""), 2, 0, 0, Verdict::Complete),
+    (Damage::Renamed, &[], (Kind::Missing, ""), 0, 2, 1, Verdict::NotRepairable),
+    (Damage::Renamed, &["x"], (Kind::Misplaced, "x"), 2, 0, 0, Verdict::Repairable),
+    (Damage::Renamed, &["x", "x"], (Kind::Misplaced, "x"), 2, 0, 0, Verdict::Repairable),
+    (Damage::Bytes(b"abcdef"), &[], (Kind::Damaged, ""), 1, 1, 1, Verdict::Repairable),
+    // Shifted by one byte.
+    (Damage::Bytes(b"xabcdefgh"), &[], (Kind::Damaged, ""), 2, 0, 0, Verdict::Repairable),
+    (Damage::Bytes(b"efgh"), &["a"], (Kind::Damaged, ""), 1, 1, 1, Verdict::Repairable),
+];
+
+// Whether a report says this of the file `a` alone.
+fn says(report: &Report, row: &Row) -> bool {
     let [target] = report.targets.as_slice() else {
-        panic!(rt; "not one target");
+        return false;
     };
-    assert_eq!(rt; target.name.as_str(), "a");
-    assert_eq!(rt; &target.state, state);
-    assert_eq!(rt; target.found, found);
-    assert_eq!(rt; target.total, 2);
-    assert_eq!(rt; report.lost, lost);
-    assert_eq!(rt; report.rank, rank);
-    assert_eq!(rt; report.verdict(), verdict);
+    target.name.as_str() == "a"
+        && told(&target.state) == row.2
+        && (target.found, target.total) == (row.3, 2)
+        && (report.lost, report.rank) == (row.4, row.5)
+        && report.verdict() == row.6
+}
+
+// The report on the set, with these further files.
+fn report_of(
+    alloc: Global,
+    folder: &Folder,
+    base: &str,
+    extras: &[&str],
+) -> Result<Result<Report, Fault>, AllocError> {
+    let extras = words_of(alloc, extras)?;
+    Ok(check(alloc, folder, base, &extras))
 }
 
 #[test]
-fn complete(rt: HostRuntime) -> Result<(), Fail> {
-    let report = report_of(&rt, &protected(&rt)?, &[])?;
-    assert_said(&rt, &report, &State::Complete, 2, 0, 0, Verdict::Complete);
+fn reports(rt: HostRuntime) -> Result<(), Fail> {
+    for row in ROWS {
+        let folder = damaged(&rt, &row.0)?;
+        let report = report_of(rt.alloc(), &folder, "t.par2", row.1)?;
+        assert!(rt; matches!(&report, Ok(report) if says(report, row)));
+    }
     Ok(())
 }
 
-#[test]
-fn renamed_and_not_searched(rt: HostRuntime) -> Result<(), Fail> {
-    let report = report_of(&rt, &renamed(&rt)?, &[])?;
-    assert_said(
-        &rt,
-        &report,
-        &State::Missing,
-        0,
-        2,
-        1,
-        Verdict::NotRepairable,
-    );
-    Ok(())
-}
-
-#[test]
-fn renamed_and_searched(rt: HostRuntime) -> Result<(), Fail> {
-    let state = State::Misplaced(name_of(&rt, "x"));
-    let report = report_of(&rt, &renamed(&rt)?, &["x"])?;
-    assert_said(&rt, &report, &state, 2, 0, 0, Verdict::Repairable);
-    let report = report_of(&rt, &renamed(&rt)?, &["x", "x"])?;
-    assert_said(&rt, &report, &state, 2, 0, 0, Verdict::Repairable);
-    Ok(())
-}
-
-#[test]
-fn cut(rt: HostRuntime) -> Result<(), Fail> {
-    let report = report_of(&rt, &with_bytes(&rt, b"abcdef")?, &[])?;
-    assert_said(&rt, &report, &State::Damaged, 1, 1, 1, Verdict::Repairable);
-    Ok(())
-}
-
-#[test]
-fn shifted_by_one_byte(rt: HostRuntime) -> Result<(), Fail> {
-    let report = report_of(&rt, &with_bytes(&rt, b"xabcdefgh")?, &[])?;
-    assert_said(&rt, &report, &State::Damaged, 2, 0, 0, Verdict::Repairable);
-    Ok(())
-}
-
-#[test]
-fn target_as_further_file(rt: HostRuntime) -> Result<(), Fail> {
-    let report = report_of(&rt, &with_bytes(&rt, b"efgh")?, &["a"])?;
-    assert_said(&rt, &report, &State::Damaged, 1, 1, 1, Verdict::Repairable);
-    Ok(())
-}
+// The base, the further files and the fault.
+const REFUSED: &[(&str, &[&str], Fault)] = &[
+    ("u.par2", &["zz"], Fault::NoSuchFile(0)),
+    ("../t.par2", &[], Fault::NoSuchFile(0)),
+    ("t.par2", &["a", "zz", "yy"], Fault::NoSuchFile(2)),
+    ("a", &[], Fault::NoPackets),
+];
 
 #[test]
 fn absent_files(rt: HostRuntime) -> Result<(), Fail> {
     let folder = protected(&rt)?;
-    let none: &[&str] = &[];
-    for (base, extras, wanted) in [
-        ("u.par2", ["zz"].as_slice(), Fault::NoSuchFile(0)),
-        ("../t.par2", none, Fault::NoSuchFile(0)),
-        ("t.par2", ["a", "zz", "yy"].as_slice(), Fault::NoSuchFile(2)),
-        ("a", none, Fault::NoPackets),
-    ] {
-        let extras = words_of(rt.alloc(), extras)?;
-        match check(rt.alloc(), &folder, base, &extras) {
-            Ok(_) => panic!(&rt; "accepted in place of {wanted:?}"),
-            Err(fault) => assert_eq!(rt; fault, wanted),
-        }
+    for (base, extras, wanted) in REFUSED {
+        let fault = report_of(rt.alloc(), &folder, base, extras)?.err();
+        assert_eq!(rt; fault, Some(*wanted));
     }
     Ok(())
 }
