@@ -3,7 +3,9 @@
 use crate::attacks::attack;
 use crate::damage::attack_by_damaged;
 use crate::settled::SET;
-use crate::spelling::{Files, Part, append, append_journals, fingerprint, front_of, journals};
+use crate::spelling::{
+    Files, Part, append, append_fingerprints, append_journals, fingerprint, front_of, journals,
+};
 use anyhow::Result;
 use std::alloc::{AllocError, Global};
 
@@ -114,9 +116,7 @@ fn front_of_back(
         append(&mut front, part)?;
     }
     front.extend_from_slice(b"\x01\x02\0\0\0\0\0\0\0")?;
-    for print in prints {
-        front.extend_from_slice(print)?;
-    }
+    append_fingerprints(&mut front, prints)?;
     Ok(front)
 }
 

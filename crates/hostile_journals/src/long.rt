@@ -2,7 +2,7 @@
 
 use crate::attacks::{attack, run_line, store_of};
 use crate::settled::{FILES, SET};
-use crate::spelling::{Part, append, count_in, front_of, seal};
+use crate::spelling::{Part, append, append_fingerprints, count_in, front_of, seal};
 use anyhow::Result;
 use md5::{Digest, Md5};
 use par2_folder::MemoryStore;
@@ -68,38 +68,47 @@ fn append_writes(alloc: Global, text: &mut Vec<u8>) -> Result<(), AllocError> {
     Ok(())
 }
 
-// The fingerprints of the folders with none of those files, with the first one, and so on to all of them.
-fn fingerprints_of_many(alloc: Global) -> Result<Vec<[u8; 16]>, AllocError> {
+// The fingerprint of a folder, once the set is there too.
+fn with_set(hasher: &Md5) -> Result<[u8; 16], AllocError> {
+    let mut whole = hasher.clone()?;
+    count_in(&mut whole, b"s.par2");
+    count_in(&mut whole, SET);
+    Ok(whole.finalize())
+}
+
+// The fingerprints of the folders with none of those files, with the first one, and so on, and that of the folder with
+// all of them.
+fn fingerprints_of_many(alloc: Global) -> Result<(Vec<[u8; 16]>, [u8; 16]), AllocError> {
     let mut hasher = Md5::new();
     for bytes in [b"a".as_slice(), b"abcdefgh", b"b", b"xyz"] {
         count_in(&mut hasher, bytes);
     }
-    let mut prints = Vec::new(alloc);
-    for k in 0..=MANY {
-        let mut whole = hasher.clone()?;
-        count_in(&mut whole, b"s.par2");
-        count_in(&mut whole, SET);
-        prints.push(whole.finalize())?;
+    let mut of_fewer = Vec::new(alloc);
+    for k in 0..MANY {
+        of_fewer.push(with_set(&hasher)?)?;
         count_in(
             &mut hasher,
             format!(in alloc; "f{}", 10_000 + k)?.as_bytes(),
         );
         count_in(&mut hasher, b"");
     }
-    Ok(prints)
+    Ok((of_fewer, with_set(&hasher)?))
 }
 
 // The journal of a command that took all those files away, the last one first.
 fn removal_of_many(alloc: Global) -> Result<Vec<u8>, AllocError> {
-    let mut prints = fingerprints_of_many(alloc)?;
-    prints.reverse();
+    let (mut after_each, before) = fingerprints_of_many(alloc)?;
+    after_each.reverse();
     let mut text = Vec::from_slice(alloc, b"P2UNDO2\n")?;
-    let mut counts = Part::Bytes(b"\0\0\0\0\0\0\0\0\0\0\0\0\0\0\0\0\x01\x04\x10\0\0\0\0\0\0");
-    for print in &prints {
-        append(&mut text, &Part::Bytes(print))?;
-        append(&mut text, &counts)?;
-        counts = Part::Bytes(b"");
+    for part in [
+        Part::Fingerprint(before),
+        Part::Numbers(&[0, 0]),
+        Part::Bytes(b"\x01"),
+        Part::Numbers(&[MANY]),
+    ] {
+        append(&mut text, &part)?;
     }
+    append_fingerprints(&mut text, &after_each)?;
     append_writes(alloc, &mut text)?;
     seal(&mut text)?;
     Ok(text)

@@ -79,6 +79,14 @@ pub fn append(out: &mut Vec<u8>, part: &Part<'_>) -> Result<(), AllocError> {
     }
 }
 
+/// Adds fingerprints to a text.
+pub fn append_fingerprints(out: &mut Vec<u8>, fingerprints: &[[u8; 16]]) -> Result<(), AllocError> {
+    for fingerprint in fingerprints {
+        out.extend_from_slice(fingerprint)?;
+    }
+    Ok(())
+}
+
 /// Adds the digest of all that is there.
 pub fn seal(text: &mut Vec<u8>) -> Result<(), AllocError> {
     let digest = Md5::digest(text.as_slice());
