@@ -1,7 +1,8 @@
 //! Which checksums may be wanted still, one bit for all those that have the same high bits and the same low six bits.
 //!
-//! The high bits give the word, and the low ones the bit in it, which takes fewer steps than to cut both from one number:
-//! each offset of a search looks here.
+//! The high bits give the word, and the low ones the bit in it, which takes fewer steps than to cut both from one number.
+//! Each offset of a search looks at the coarse words first: there are always as many, so that the shift is known when
+//! they are compiled, and they stay near the processor where the others don't. Few offsets look further.
 //!
 //! A filter is exactly the set of groups that were added and not taken away. That a search keeps no group longer than a
 //! pair of it is open, no clause says: a group too many costs time and changes no answer.
@@ -81,7 +82,8 @@ impl Filter {
         self.words[(crc >> self.shift) as usize] &= !(1 << (crc % 64));
     }
 
-    /// Whether the group of `crc` may be in the set. This takes fewer steps than `contains`, and is wrong for few.
+    /// Whether the group of `crc` may be in the set. This takes fewer steps than `contains`, and says yes for few
+    /// others.
     pub(crate) fn may_contain(&self, crc: u32) -> bool
         ensures { Marks self.now crc → IsTrue result }
     {
