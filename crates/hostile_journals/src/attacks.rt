@@ -145,8 +145,8 @@ fn held(
     })
 }
 
-/// Runs the words of a line on a store. Gives the status and what it wrote, on one of its two writers, or how many bytes
-/// where they are many.
+/// Runs the words of a line on a store. Gives the status and what it wrote, on one of its two writers, or how many
+/// bytes where they are many.
 pub fn run_line(alloc: Global, store: &mut MemoryStore, line: &str) -> Result<(u8, String)> {
     let words = words_of(alloc, line)?;
     let (mut text, mut err) = (Vec::new(alloc), Vec::new(alloc));
