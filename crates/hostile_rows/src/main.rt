@@ -1,9 +1,10 @@
 //! Forged sets, each under verify, repair and purge on a store in memory: with true digests, as an attacker would
 //! write them. Prints what the commands answer, and whether they change files. A verify changes none, and what a
-//! repair or a purge changes is undone.
+//! repair or a purge changes is undone. Then forged journals (`journals`).
 #![tactic(auto)]
 
 mod attacks;
+mod journals;
 mod large;
 mod names;
 mod packets;
@@ -14,6 +15,7 @@ mod sizes;
 mod sweeps;
 
 use anyhow::Result;
+use journals::all_journals;
 use large::large_texts;
 use names::forged_names;
 use parts::{forged_digests, forged_headers, forged_mains};
@@ -30,5 +32,6 @@ fn main(rt: HostRuntime) -> Result<()> {
     forged_digests(&rt)?;
     rival_packets(&rt)?;
     damaged_volumes(&rt)?;
-    large_texts(&rt)
+    large_texts(&rt)?;
+    all_journals(&rt)
 }

@@ -1,8 +1,8 @@
 //! A journal that is cut at each place, or has one of its bytes changed, with the digest that it had and with a true
 //! one.
 
-use crate::attacks::attack;
-use crate::spelling::{Files, seal};
+use crate::journals::attacks::attack;
+use crate::journals::spelling::{Files, seal};
 use anyhow::Result;
 use std::alloc::{AllocError, Global};
 

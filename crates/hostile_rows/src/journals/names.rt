@@ -1,8 +1,8 @@
 //! Changes of files whose names are none.
 
-use crate::attacks::attack;
-use crate::settled::FILES;
-use crate::spelling::{Part, append_journals, front_of};
+use crate::journals::attacks::attack;
+use crate::journals::settled::FILES;
+use crate::journals::spelling::{Part, append_journals, front_of};
 use anyhow::Result;
 use std::alloc::{AllocError, Global};
 

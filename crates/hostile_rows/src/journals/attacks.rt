@@ -1,6 +1,6 @@
 //! A store with a forged journal, what it opens as, and what commands make of it.
 
-use crate::spelling::Files;
+use crate::journals::spelling::Files;
 use anyhow::Result;
 use hex::encode;
 use md5::{Digest, Md5};

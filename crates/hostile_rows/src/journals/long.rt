@@ -1,8 +1,8 @@
 //! A history of many commands, and entries and ways back of many files.
 
-use crate::attacks::{attack, run_line, store_of};
-use crate::settled::{FILES, SET};
-use crate::spelling::{Part, append, append_fingerprints, count_in, front_of, seal};
+use crate::journals::attacks::{attack, run_line, store_of};
+use crate::journals::settled::{FILES, SET};
+use crate::journals::spelling::{Part, append, append_fingerprints, count_in, front_of, seal};
 use anyhow::Result;
 use md5::{Digest, Md5};
 use par2_folder::MemoryStore;

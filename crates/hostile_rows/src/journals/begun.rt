@@ -1,9 +1,9 @@
 //! Journals of a command that was begun: two files gave way to two others in four changes.
 
-use crate::attacks::attack;
-use crate::damage::attack_by_damaged;
-use crate::settled::SET;
-use crate::spelling::{
+use crate::journals::attacks::attack;
+use crate::journals::damage::attack_by_damaged;
+use crate::journals::settled::SET;
+use crate::journals::spelling::{
     Files, Part, append, append_fingerprints, append_journals, fingerprint, front_of, journals,
 };
 use anyhow::Result;

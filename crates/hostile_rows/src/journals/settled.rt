@@ -1,8 +1,8 @@
 //! Journals without a command that was begun.
 
-use crate::attacks::attack;
-use crate::damage::{DIGEST, attack_by_damaged};
-use crate::spelling::{Part, append_journals, fingerprint, journals, seal};
+use crate::journals::attacks::attack;
+use crate::journals::damage::{DIGEST, attack_by_damaged};
+use crate::journals::spelling::{Part, append_journals, fingerprint, journals, seal};
 use anyhow::Result;
 use std::alloc::{AllocError, Global};
 
