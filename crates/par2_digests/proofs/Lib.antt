@@ -2,3 +2,5 @@ pub mod LaneLaws
 pub mod RoundLaws
 pub mod BlockLaws
 pub mod TailLaws
+pub mod FeedLaws
+pub mod TaskLaws

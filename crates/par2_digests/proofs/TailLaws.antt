@@ -56,6 +56,13 @@ tail_is rest first last end j len size ends fits first_is last_is =
     ∙ append_assoc rest (0x80 ∷ zero_bytes) last
     ∙ ap (λ (xs : List ℕ). rest ++ 0x80 ∷ (zero_bytes ++ xs)) last_is
 
+-- the byte 0x80 and the zeros of the padding, from 64 bytes
+pub marks_are : (n : ℕ) → n ≤ 63 → let marks : List ℕ = 0x80 ∷ replicate 63 0 in take (n + 1) marks ≡ 0x80 ∷ replicate n 0
+marks_are n low =
+    let marks : List ℕ = 0x80 ∷ replicate 63 0 in
+    let more : n + 1 ≡ suc n = omega arith in
+    ap (λ (k : ℕ). take k marks) more ∙ ap (λ (xs : List ℕ). 0x80 ∷ xs) (take-replicate n 63 0 low)
+
 -- ---- the tails of eight messages, one behind the other
 
 -- a tail at `at` in the room of all
@@ -110,3 +117,8 @@ all_blocks m pad p len count p_is size whole = omega (arith, ap length p_is, len
 pub tail_fits : (len : ℕ) → tail_len len ≤ 128
 unfolding zeros
 tail_fits len = omega (arith, padding_len len)
+
+-- a padded message is whole blocks
+pub whole_padded : (m : List ℕ) → length (m ++ padding (length m)) % 64 ≡ 0
+unfolding zeros
+whole_padded m = omega (arith, padding_len (length m), length-append m (padding (length m)))

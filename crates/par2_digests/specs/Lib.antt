@@ -1,4 +1,6 @@
 pub mod Digests
+pub mod Feeds
 pub mod Lanes
 pub mod Messages
 pub mod Tails
+pub mod Tasks

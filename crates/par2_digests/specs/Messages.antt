@@ -1,7 +1,7 @@
 -- Messages by their parts.
-use Rattle.std.specs.Prelude.{ℕ, List, [], flat_map, map, slice_index_or}
+use Rattle.std.specs.Prelude.{◌≡◌, ◌%◌, ◌^◌, ℕ, List, [], length, flat_map, map, slice_index_or}
 use Rattle.std.specs.Int.{w64, to_le_bytes}
-use Rattle.md5.specs.Md5.{Holds}
+use Rattle.md5.specs.Md5.{IsAbsorbed}
 use Rattle.par2_digests.specs.declared.midstate.Part.{Part}
 use Rattle.par2_digests.specs.declared.midstate.Part.TheVariants as parts
 use Rattle.par2_digests.specs.declared.midstate.Message.{Message}
@@ -9,7 +9,7 @@ use Rattle.par2_digests.specs.declared.midstate.Midstate.{Midstate}
 
 -- the bytes of a part
 abbrev pub part_bytes : Part → List ℕ
-part_bytes (parts.Length length) = to_le_bytes w64 length
+part_bytes (parts.Length n) = to_le_bytes w64 n
 part_bytes (parts.Bytes bytes) = bytes.now
 
 -- the bytes of some parts, one behind the other
@@ -22,4 +22,4 @@ message_at messages k = slice_index_or (map (λ message. message_of message.part
 
 -- the state has absorbed these bytes
 abbrev pub HasAbsorbed : Midstate → List ℕ → Type 0
-HasAbsorbed state bytes = Holds state.hasher bytes
+HasAbsorbed state bytes = (state.length ≡ length bytes % 2 ^ 64) × IsAbsorbed state.hash state.rest bytes

@@ -1,7 +1,7 @@
 //! The blocks of several messages at once.
 
 ghost use Rattle.std.specs.Prelude.{◌≡◌, ◌≤◌, ◌<◌, ◌+◌, ◌*◌, ℕ, List, length, take, drop, slice_index};
-ghost use Rattle.md5.specs.Md5.{block_words, hash_after, word_at};
+ghost use Rattle.md5.specs.Md5.{block_words, compress, hash_after};
 ghost use Rattle.par2_digests.specs.Lanes.{lane, lane_words};
 
 use crate::lanes::Lanes;
@@ -41,4 +41,20 @@ pub(crate) fn absorbed<V: Lanes>(
         after = compressed(after, words);
     }
     after
+}
+
+/// The hash values after a block more of each message, which begins at its start.
+pub(crate) fn after_block<V: Lanes>(
+    state: State<V>,
+    words: &mut Words<V>,
+    bytes: &[u8],
+    starts: &[usize],
+) -> State<V>
+    requires enough { V.count ≤ length starts.now }
+    requires room { 64 ≤ length bytes.now }
+    requires within { (k : ℕ) → k < V.count → slice_index starts.now k + 64 ≤ length bytes.now }
+    ensures { (k : ℕ) → k < V.count → lane V.at k result ≡ compress (lane V.at k state) (take 64 (drop (slice_index starts.now k) bytes.now)) }
+{
+    read_words(words, bytes, starts, 0);
+    compressed(state, words)
 }

@@ -8,10 +8,12 @@ ghost use Rattle.par2_digests.specs.Digests.{digest_at};
 ghost use Rattle.par2_digests.specs.Lanes.{lane};
 
 mod blocks;
+mod feeds;
 mod lanes;
 mod midstate;
 mod padding;
 mod steps;
+mod tasks;
 mod words;
 
 use blocks::absorbed;

@@ -1,0 +1,16 @@
+use Rattle.std.proofs.Common.{◌≡◌, ◌≤◌, ◌<◌, ◌+◌, [], length, take, drop}
+use Rattle.par2_digests.specs.Feeds.{left}
+use Rattle.par2_digests.specs.Messages.{part_bytes}
+use Rattle.par2_digests.proofs.feeds.Feed.fill.Given as goal
+
+abbrev pub invariant-loop-filled : goal.invariant-loop-filled
+invariant-loop-filled l = record {
+  room : l.filled ≤ 64;
+  within : l.filled ≤ length (left l.fn.self);
+  bytes : take l.filled l.block ≡ take l.filled (left l.fn.self);
+  rest : left l.self ≡ drop l.filled (left l.fn.self);
+  done : l.filled < 64 → drop l.self.at (part_bytes l.self.part) ≡ [];
+}
+
+abbrev pub decreases-loop-filled : goal.decreases-loop-filled
+decreases-loop-filled l = length l.self.parts.now + length l.self.ending.now

@@ -1,0 +1,6 @@
+use Rattle.std.proofs.Common.{◌≡◌, ◌%◌, ◌^◌, length, take}
+use Rattle.par2_digests.specs.Messages.{message_of}
+use Rattle.par2_digests.proofs.midstate.length_of.Given as goal
+
+abbrev pub invariant-loop-part : goal.invariant-loop-part
+invariant-loop-part l = l.length ≡ length (message_of (take l.part-index l.parts)) % 2 ^ 64

@@ -1,0 +1,61 @@
+use Rattle.std.proofs.Common.{◌≡◌, ◌≢◌, ◌≤◌, ◌<◌, ◌+◌, ◌*◌, ◌-◌, ◌∙◌, ℕ, ap, take, drop, length, length-drop, length-set, get_or, get_or-set_other, get_or-set_same, inl, inr, arith}
+use Rattle.std.proofs.lemmas.Bool.{cases_lt}
+use Rattle.std.proofs.lemmas.List.{get_or_default, length-take-le}
+use Rattle.std.proofs.Math.ListN.{set}
+use Rattle.par2_digests.specs.Lanes.{lane}
+use Rattle.par2_digests.specs.Tasks.{work}
+use Rattle.par2_digests.specs.declared.tasks.Task.{Task}
+use borrow.Rule.Slice.PartMut.{put_mid}
+use Rattle.par2_digests.proofs.TailLaws.{tail_before}
+use Rattle.par2_digests.proofs.TaskLaws.{block_at, blocks_len, leads_alike, leads_same, shrink_same, works_at}
+use Rattle.par2_digests.proofs.tasks.turn_all.Goals as goal
+
+pub loop-k-preserved : goal.loop-k-preserved
+loop-k-preserved g c =
+    let k = c.loop-k.k in
+    let held = c.loop-k.invariant in
+    let tasks = c.loop-k.tasks in
+    let blocks = c.loop-k.blocks in
+    let new = c.turn.new.self in
+    let block = c.turn.new.block in
+    let within : k < length tasks = omega (arith, held.tasks) in
+    let room : 64 * k + 64 ≤ length blocks = omega (arith, held.blocks) in
+    let wide : length (drop (64 * k) blocks) ≡ length blocks - 64 * k = length-drop (64 * k) blocks in
+    let part : length (take (64 * k + 64 - 64 * k) (drop (64 * k) blocks)) ≡ 64 * k + 64 - 64 * k = length-take-le (64 * k + 64 - 64 * k) (drop (64 * k) blocks) (omega arith) in
+    let size : length block ≡ 64 = omega (arith, c.turn.auto.block) in
+    let here : (none : Task) → get_or tasks k none ≡ get_or c.args.tasks.now k none = λ none. held.kept k none (omega arith) in
+    record {
+      tasks = length-set tasks k new ∙ held.tasks;
+      blocks = blocks_len blocks block (64 * k) _ room size (omega arith) ∙ held.blocks;
+      leads = λ j none last h leads.
+          elim (cases_lt j k) [
+            | inl below ↦
+                let other : j ≢ k = omega arith in
+                leads_alike _ _ _ _ (lane g.V.Lanes.at j c.args.state.now) last (get_or-set_other tasks k j new none other)
+                (tail_before blocks block (64 * k) _ (64 * j) 64 (omega arith) (omega arith)) (held.leads j none last below leads)
+            | inr above ↦
+                let same : j ≡ k = omega arith in
+                let task : get_or (set tasks k new) j none ≡ new = ap (λ (n : ℕ). get_or (set tasks k new) n none) same ∙ get_or-set_same tasks k new none within in
+                let bytes : take 64 (drop (64 * j) (put_mid (64 * k) (64 * k + 64 - 64 * k) blocks block)) ≡ block =
+                ap (λ (n : ℕ). take 64 (drop (64 * n) (put_mid (64 * k) (64 * k + 64 - 64 * k) blocks block))) same ∙ block_at blocks block (64 * k) _ room size in
+                let started = rw same at leads in
+                rw (task, bytes, same) (c.turn.ensures.leads last (leads_same _ _ _ last (get_or_default tasks k _ none within ∙ here none) started))
+          ];
+      shrinks = λ j h.
+          elim (cases_lt j k) [
+            | inl below ↦
+                let other : j ≢ k = omega arith in
+                let after = works_at (set tasks k new) j new (omega (arith, length-set tasks k new)) in
+                let before = works_at tasks j new (omega arith) in
+                let kept = ap work (get_or-set_other tasks k j new new other) in
+                omega (arith, after, before, kept, held.shrinks j below)
+            | inr above ↦
+                let same : j ≡ k = omega arith in
+                let after = works_at (set tasks k new) k new (omega (arith, length-set tasks k new)) in
+                let taken = ap work (get_or-set_same tasks k new new within) in
+                let before = works_at c.args.tasks.now k new (omega (arith, c.told-tasks)) in
+                let turned = shrink_same (get_or tasks k) new (get_or c.args.tasks.now k new) (λ d. get_or_default tasks k d new within ∙ here new) _ c.turn.ensures.shrinks in
+                rw same (omega (arith, after, taken, before, turned))
+          ];
+      kept = λ j none h. let other : j ≢ k = omega arith in rw get_or-set_other (held.kept j none (omega arith));
+    }

@@ -1,0 +1,91 @@
+//! The bytes of parts, block by block.
+
+ghost use Rattle.std.specs.Prelude.{true, false, ◌≡◌, ◌≤◌, ◌<◌, ◌+◌, ◌-◌, ◌^◌, ◌++◌, [], ℕ, length, take, drop, min};
+ghost use Rattle.par2_digests.specs.Feeds.{left};
+ghost use Rattle.par2_digests.specs.Messages.{part_bytes};
+
+use crate::midstate::Part;
+use std::convert::AsSlice;
+
+/// What is left of some parts.
+#[derive(Clone, Copy, Drop)]
+pub(crate) struct Feed<'a> {
+    pub(crate) part: Part<'a>,
+    // How many bytes of the part are taken.
+    pub(crate) at: usize,
+    pub(crate) parts: &'a [Part<'a>],
+    // The parts behind those.
+    pub(crate) ending: &'a [Part<'a>],
+}
+
+fn behind(bytes: &[u8], at: usize) -> &[u8]
+    ensures value { result.now ≡ drop at bytes.now }
+    ensures fits { at + length result.now < 2 ^ 64 }
+{
+    &bytes[at.min(bytes.len())..]
+}
+
+// Copies as many of the bytes as the block has room for behind `from`.
+fn copy_into(block: &mut [u8], from: usize, bytes: &[u8]) -> usize
+    requires { from ≤ length block.old }
+    ensures count { result ≡ min (length bytes.now) (length block.old - from) }
+    ensures after { take (from + result) block.new ≡ take from block.old ++ take result bytes.now }
+{
+    let count = bytes.len().min(block.len() - from);
+    block[from..from + count].copy_from_slice(&bytes[..count]);
+    count
+}
+
+impl<'a> Feed<'a> {
+    // Copies as much of the part at hand as the block has room for.
+    fn copy_part(&mut self, block: &mut [u8], from: usize) -> usize
+        requires { from ≤ length block.old }
+        ensures count { result ≡ min (length (drop self.old.at (part_bytes self.old.part))) (length block.old - from) }
+        ensures after { take (from + result) block.new ≡ take from block.old ++ take result (left self.old) }
+        ensures rest { left self.new ≡ drop result (left self.old) }
+        ensures part { drop self.new.at (part_bytes self.new.part) ≡ drop result (drop self.old.at (part_bytes self.old.part)) }
+        ensures parts { length self.new.parts.now + length self.new.ending.now ≡ length self.old.parts.now + length self.old.ending.now }
+    {
+        let count = match self.part {
+            Part::Length(length) => copy_into(block, from, behind(&length.to_le_bytes(), self.at)),
+            Part::Bytes(bytes) => copy_into(block, from, behind(bytes, self.at)),
+        };
+        self.at += count;
+        count
+    }
+
+    // Goes on to the next part, if there is one.
+    fn go_on(&mut self) -> bool
+        requires { drop self.old.at (part_bytes self.old.part) ≡ [] }
+        ensures same { left self.new ≡ left self.old }
+        ensures end { result ≡ false → left self.old ≡ [] }
+        ensures fewer { result ≡ true → length self.new.parts.now + length self.new.ending.now
+            < length self.old.parts.now + length self.old.ending.now }
+    {
+        if self.parts.is_empty() {
+            self.parts = self.ending;
+            self.ending = &[];
+        }
+        let [first, others @ ..] = self.parts else {
+            return false;
+        };
+        self.part = *first;
+        self.at = 0;
+        self.parts = others;
+        true
+    }
+
+    /// Fills the block with the bytes that come next; how many there were.
+    pub(crate) fn fill(&mut self, block: &mut [u8]) -> usize
+        requires { length block.old ≡ 64 }
+        ensures count { result ≡ min 64 (length (left self.old)) }
+        ensures bytes { take result block.new ≡ take result (left self.old) }
+        ensures rest { left self.new ≡ drop result (left self.old) }
+    {
+        let mut filled = self.copy_part(block, 0);
+        while filled < 64 && self.go_on() {
+            filled += self.copy_part(block, filled);
+        }
+        filled
+    }
+}

@@ -1,0 +1,122 @@
+//! Messages on their way to their digests, side by side.
+
+ghost use Rattle.std.specs.Prelude.{◌≡◌, ◌≤◌, ◌<◌, ◌*◌, ◌-◌, ℕ, List, Some, length, take, drop, get_or};
+ghost use Rattle.md5.specs.Md5.{compress, digest_bytes};
+ghost use Rattle.par2_digests.specs.Digests.{digest_at};
+ghost use Rattle.par2_digests.specs.Lanes.{lane};
+ghost use Rattle.par2_digests.specs.Tasks.{LeadsTo, work, works};
+ghost use Rattle.par2_digests.specs.declared.tasks.Task.{Task};
+
+use crate::blocks::after_block;
+use crate::digest_of_lane;
+use crate::feeds::Feed;
+use crate::lanes::Lanes;
+use crate::steps::{State, Words};
+
+// The room for a block of each message.
+const BLOCKS_LEN: usize = 512;
+
+// Where each block begins.
+const STARTS: [usize; 8] = [0, 64, 128, 192, 256, 320, 384, 448];
+
+/// A message in a lane: what is left of it, or its digest.
+#[derive(Clone, Copy, Drop)]
+pub(crate) struct Task<'a> {
+    pub(crate) feed: Feed<'a>,
+    pub(crate) digest: Option<[u8; 16]>,
+}
+
+impl Task<'_> {
+    // Takes the next block, or the digest behind the last.
+    fn turn<V: Lanes>(&mut self, block: &mut [u8], state: &State<V>, k: usize)
+        requires size { length block.old ≡ 64 }
+        requires within { k < V.count }
+        ensures leads { (last : List ℕ) → LeadsTo self.old (lane V.at k state.now) last
+            → LeadsTo self.new (compress (lane V.at k state.now) block.new) last }
+        ensures shrinks { work self.new ≤ work self.old - 1 }
+    {
+        let None = self.digest else {
+            return;
+        };
+        if self.feed.fill(block) < 64 {
+            self.digest = Some(digest_of_lane(state, k));
+        }
+    }
+}
+
+// Takes the next block of each message, or its digest.
+fn turn_all<V: Lanes>(
+    tasks: &mut [Task; 8],
+    blocks: &mut [u8; BLOCKS_LEN],
+    state: &State<V>,
+    count: usize,
+)
+    requires lanes { count ≤ V.count }
+    requires few { count ≤ 8 }
+    ensures leads { (k : ℕ) (none : Task) (last : List ℕ) → k < count → LeadsTo (get_or tasks.old k none) (lane V.at k state.now) last
+        → LeadsTo (get_or tasks.new k none) (compress (lane V.at k state.now) (take 64 (drop (64 * k) blocks.new))) last }
+    ensures shrinks { (k : ℕ) → k < count → get_or (works tasks.new) k 0 ≤ get_or (works tasks.old) k 0 - 1 }
+    ensures size { length tasks.new ≡ 8 }
+{
+    for k in 0..count {
+        let mut task = tasks[k];
+        task.turn(&mut blocks[64 * k..64 * k + 64], state, k);
+        tasks[k] = task;
+    }
+}
+
+// Goes on until the digest of message k is there.
+fn finish<V: Lanes>(
+    tasks: &mut [Task; 8],
+    state: State<V>,
+    words: &mut Words<V>,
+    count: usize,
+    k: usize,
+) -> State<V>
+    requires lanes { count ≤ V.count }
+    requires few { V.count ≤ 8 }
+    requires within { k < count }
+    ensures leads { (j : ℕ) (none : Task) (last : List ℕ) → j < count → LeadsTo (get_or tasks.old j none) (lane V.at j state) last
+        → LeadsTo (get_or tasks.new j none) (lane V.at j result) last }
+    ensures stays { (j : ℕ) → j < count → get_or (works tasks.new) j 0 ≤ get_or (works tasks.old) j 0 }
+    ensures done { get_or (works tasks.new) k 0 ≡ 0 }
+    ensures size { length tasks.new ≡ 8 }
+{
+    let mut state = state;
+    let mut blocks = [0; BLOCKS_LEN];
+    while tasks[k].digest.is_none() {
+        turn_all(tasks, &mut blocks, &state, count);
+        state = after_block(state, words, &blocks, &STARTS);
+    }
+    state
+}
+
+fn read_digests(tasks: &[Task; 8]) -> [[u8; 16]; 8]
+    ensures { (k : ℕ) (none : Task) (digest : List ℕ) → k < 8 → (get_or tasks.now k none).digest ≡ Some digest → digest_at result k ≡ digest }
+{
+    let mut digests = [[0; 16]; 8];
+    for (k, task) in tasks.iter().enumerate() {
+        if let Some(digest) = task.digest {
+            digests[k] = digest;
+        }
+    }
+    digests
+}
+
+/// The digests of the first `count` messages.
+pub(crate) fn digests_of_tasks<V: Lanes>(
+    tasks: &mut [Task; 8],
+    state: State<V>,
+    words: &mut Words<V>,
+    count: usize,
+) -> [[u8; 16]; 8]
+    requires lanes { count ≤ V.count }
+    requires few { V.count ≤ 8 }
+    ensures { (k : ℕ) (none : Task) (last : List ℕ) → k < count → LeadsTo (get_or tasks.old k none) (lane V.at k state) last → digest_at result k ≡ digest_bytes last 4 }
+{
+    let mut state = state;
+    for k in 0..count {
+        state = finish(tasks, state, words, count, k);
+    }
+    read_digests(tasks)
+}
