@@ -2,7 +2,7 @@
 
 use par2_folder::{
     BadName, Bytes, Change, ChangeFault, Folder, FolderStore, FuseStore, MemoryStore, Name,
-    ReadFault, StoreFault, read_folder,
+    ReadFault, StoreFault, fingerprints_along, read_folder,
 };
 use std::alloc::{AllocError, Global};
 use std::process::Abort;
@@ -236,16 +236,22 @@ fn fingerprints_of_files(rt: HostRuntime) -> Result<(), Fail> {
     Ok(())
 }
 
-// The fingerprint, of which the state below the names of this change is kept.
-fn fingerprint_in_parts(folder: &Folder, change: &Change) -> [u8; 16] {
-    folder.fingerprint_from(&folder.fingerprint_below(&change.first_name()))
+// The fingerprints of the folder with the change, and without it again.
+fn fingerprints_back(
+    alloc: Global,
+    mut folder: Folder,
+    mut change: Change,
+) -> Result<Vec<[u8; 16]>, Fail> {
+    folder.apply(&mut change)?;
+    Ok(fingerprints_along(alloc, &folder, &[change])?)
 }
 
 #[test]
-fn fingerprint_from_below_a_change(rt: HostRuntime) -> Result<(), Fail> {
-    let folder = folder_of(&rt, &[("b", b""), ("a", b"bc")], 0)?;
-    let change = change_of(&rt, PlainChange::Rename("c", "b"))?;
-    assert!(rt; fingerprint_in_parts(&folder, &change) == TWO_FILES);
+fn fingerprints_along_a_change(rt: HostRuntime) -> Result<(), Fail> {
+    let folder = folder_of(&rt, &[("a", b"bc")], 1)?;
+    let change = change_of(&rt, PlainChange::Write("b", b""))?;
+    let prints = fingerprints_back(rt.alloc(), folder, change)?;
+    assert!(rt; prints.as_slice() == [TWO_FILES, ONE_FILE].as_slice());
     Ok(())
 }
 
