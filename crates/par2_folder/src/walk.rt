@@ -145,7 +145,7 @@ impl<'a> Walk<'a> {
         Ok(())
     }
 
-    // Shares the files before a later name too, where no message is there.
+    // Absorbs the files between its name and a later one too. No message may be there, since each begins at its name.
     fn share_below(&mut self, alloc: Global, name: Name) -> Result<(), AllocError>
         requires walk { IsWalk self.old }
         requires empty { self.old.messages.items ≡ [] }
