@@ -12,8 +12,11 @@ use crate::steps::{State, Words, compressed};
 fn read_words<V: Lanes>(words: &mut Words<V>, bytes: &[u8], starts: &[usize], offset: usize)
     requires enough { V.count ≤ length starts.now }
     requires room { offset + 64 ≤ length bytes.now }
-    requires within { (k : ℕ) → k < V.count → slice_index starts.now k + offset + 64 ≤ length bytes.now }
-    ensures { (k : ℕ) → k < V.count → lane_words V.at k words.new ≡ block_words (take 64 (drop (slice_index starts.now k + offset) bytes.now)) 16 }
+    requires within { (k : ℕ) → k < V.count
+        → slice_index starts.now k + offset + 64 ≤ length bytes.now }
+    ensures { (k : ℕ) → k < V.count
+        → lane_words V.at k words.new
+        ≡ block_words (take 64 (drop (slice_index starts.now k + offset) bytes.now)) 16 }
 {
     for i in 0..16usize {
         words[i] = V::gathered(bytes, starts, offset + 4 * i);
@@ -31,9 +34,12 @@ pub(crate) fn absorbed<V: Lanes>(
 ) -> State<V>
     requires enough { V.count ≤ length starts.now }
     requires room { count * 64 ≤ length bytes.now }
-    requires within { (k : ℕ) → k < V.count → slice_index starts.now k + count * 64 ≤ length bytes.now }
+    requires within { (k : ℕ) → k < V.count
+        → slice_index starts.now k + count * 64 ≤ length bytes.now }
     ensures { (k n : ℕ) (p : List ℕ) → k < V.count → lane V.at k state ≡ hash_after p n
-        → take (count * 64) (drop (n * 64) p) ≡ take (count * 64) (drop (slice_index starts.now k) bytes.now) → lane V.at k result ≡ hash_after p (n + count) }
+        → take (count * 64) (drop (n * 64) p)
+        ≡ take (count * 64) (drop (slice_index starts.now k) bytes.now)
+        → lane V.at k result ≡ hash_after p (n + count) }
 {
     let mut after = state;
     for block in 0..count {
@@ -53,7 +59,9 @@ pub(crate) fn after_block<V: Lanes>(
     requires enough { V.count ≤ length starts.now }
     requires room { 64 ≤ length bytes.now }
     requires within { (k : ℕ) → k < V.count → slice_index starts.now k + 64 ≤ length bytes.now }
-    ensures { (k : ℕ) → k < V.count → lane V.at k result ≡ compress (lane V.at k state) (take 64 (drop (slice_index starts.now k) bytes.now)) }
+    ensures { (k : ℕ) → k < V.count
+        → lane V.at k result
+        ≡ compress (lane V.at k state) (take 64 (drop (slice_index starts.now k) bytes.now)) }
 {
     read_words(words, bytes, starts, 0);
     compressed(state, words)

@@ -40,11 +40,15 @@ impl<'a> Feed<'a> {
     // Copies as much of the part at hand as the block has room for.
     fn copy_part(&mut self, block: &mut [u8], from: usize) -> usize
         requires { from ≤ length block.old }
-        ensures count { result ≡ min (length (drop self.old.at (part_bytes self.old.part))) (length block.old - from) }
-        ensures after { take (from + result) block.new ≡ take from block.old ++ take result (left self.old) }
+        ensures count { result
+            ≡ min (length (drop self.old.at (part_bytes self.old.part))) (length block.old - from) }
+        ensures after { take (from + result) block.new
+            ≡ take from block.old ++ take result (left self.old) }
         ensures rest { left self.new ≡ drop result (left self.old) }
-        ensures part { drop self.new.at (part_bytes self.new.part) ≡ drop result (drop self.old.at (part_bytes self.old.part)) }
-        ensures parts { length self.new.parts.now + length self.new.ending.now ≡ length self.old.parts.now + length self.old.ending.now }
+        ensures part { drop self.new.at (part_bytes self.new.part)
+            ≡ drop result (drop self.old.at (part_bytes self.old.part)) }
+        ensures parts { length self.new.parts.now + length self.new.ending.now
+            ≡ length self.old.parts.now + length self.old.ending.now }
     {
         let count = match self.part {
             Part::Length(length) => copy_into(block, from, behind(&length.to_le_bytes(), self.at)),

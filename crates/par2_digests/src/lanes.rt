@@ -39,8 +39,10 @@ pub(crate) trait Lanes: Copy {
     /// The words that stand `offset` bytes behind each start.
     fn gathered(bytes: &[u8], starts: &[usize], offset: usize) -> Self
         requires enough { count ≤ length starts.now }
-        requires within { (k : ℕ) → k < count → slice_index starts.now k + offset + 4 ≤ length bytes.now }
-        ensures { (k : ℕ) → k < count → at result k ≡ word_at bytes.now (slice_index starts.now k + offset) };
+        requires within { (k : ℕ) → k < count
+            → slice_index starts.now k + offset + 4 ≤ length bytes.now }
+        ensures { (k : ℕ) → k < count
+            → at result k ≡ word_at bytes.now (slice_index starts.now k + offset) };
 
     fn word(self, k: usize) -> u32
         requires { k < count }

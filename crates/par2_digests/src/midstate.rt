@@ -86,7 +86,8 @@ fn ending(length: u64) -> [Part<'static>; 2]
 // The hash value behind the whole blocks of what the feed has left; the block then begins with what is behind them.
 fn hashed(hash: [u32; 4], feed: Feed, block: &mut [u8; 64]) -> [u32; 4]
     ensures hash { result ≡ hash_behind hash (left feed.entry) (length (left feed.entry) / 64) }
-    ensures rest { take (length (left feed.entry) % 64) block.new ≡ drop (length (left feed.entry) / 64 * 64) (left feed.entry) }
+    ensures rest { take (length (left feed.entry) % 64) block.new
+        ≡ drop (length (left feed.entry) / 64 * 64) (left feed.entry) }
 {
     let mut feed = feed;
     let mut words = [Simd::splat(0); 16];
@@ -113,7 +114,8 @@ fn task<'a>(
     requires { k < 8 }
     ensures open { result.digest ≡ None }
     ensures bytes { (none : List Part) → k < length messages.now
-        → left result.feed ≡ rest.now ++ (message_at messages.now k ++ message_of (get_or endings.now k none)) }
+        → left result.feed
+        ≡ rest.now ++ (message_at messages.now k ++ message_of (get_or endings.now k none)) }
 {
     let parts: &[Part] = if k < messages.len() {
         messages[k].parts.as_slice()
@@ -143,7 +145,8 @@ impl Midstate {
 
     /// Goes on behind the parts.
     pub fn absorb(&mut self, parts: &[Part])
-        ensures { (m : List ℕ) → HasAbsorbed self.old m → HasAbsorbed self.new (m ++ message_of parts.now) }
+        ensures { (m : List ℕ) → HasAbsorbed self.old m
+            → HasAbsorbed self.new (m ++ message_of parts.now) }
     {
         let rest = self.rest;
         let feed = Feed {
@@ -160,7 +163,8 @@ impl Midstate {
     fn endings(&self, messages: &[Message]) -> [[Part<'static>; 2]; LANES]
         requires { length messages.now ≤ 8 }
         ensures { (k n : ℕ) (none : List Part) → k < length messages.now
-            → n % 2 ^ 64 ≡ (self.now.length + length (message_at messages.now k)) % 2 ^ 64 → message_of (get_or result k none) ≡ padding n }
+            → n % 2 ^ 64 ≡ (self.now.length + length (message_at messages.now k)) % 2 ^ 64
+            → message_of (get_or result k none) ≡ padding n }
     {
         let mut endings = [[Part::Length(0); 2]; LANES];
         for (k, message) in messages.iter().enumerate() {

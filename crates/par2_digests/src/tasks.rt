@@ -53,9 +53,11 @@ fn turn_all<V: Lanes>(
 )
     requires lanes { count ≤ V.count }
     requires few { count ≤ 8 }
-    ensures leads { (k : ℕ) (none : Task) (last : List ℕ) → k < count → LeadsTo (get_or tasks.old k none) (lane V.at k state.now) last
+    ensures leads { (k : ℕ) (none : Task) (last : List ℕ) → k < count
+        → LeadsTo (get_or tasks.old k none) (lane V.at k state.now) last
         → LeadsTo (get_or tasks.new k none) (compress (lane V.at k state.now) (take 64 (drop (64 * k) blocks.new))) last }
-    ensures shrinks { (k : ℕ) → k < count → get_or (works tasks.new) k 0 ≤ get_or (works tasks.old) k 0 - 1 }
+    ensures shrinks { (k : ℕ) → k < count
+        → get_or (works tasks.new) k 0 ≤ get_or (works tasks.old) k 0 - 1 }
     ensures size { length tasks.new ≡ 8 }
 {
     for k in 0..count {
@@ -76,9 +78,11 @@ fn finish<V: Lanes>(
     requires lanes { count ≤ V.count }
     requires few { V.count ≤ 8 }
     requires within { k < count }
-    ensures leads { (j : ℕ) (none : Task) (last : List ℕ) → j < count → LeadsTo (get_or tasks.old j none) (lane V.at j state) last
+    ensures leads { (j : ℕ) (none : Task) (last : List ℕ) → j < count
+        → LeadsTo (get_or tasks.old j none) (lane V.at j state) last
         → LeadsTo (get_or tasks.new j none) (lane V.at j result) last }
-    ensures stays { (j : ℕ) → j < count → get_or (works tasks.new) j 0 ≤ get_or (works tasks.old) j 0 }
+    ensures stays { (j : ℕ) → j < count
+        → get_or (works tasks.new) j 0 ≤ get_or (works tasks.old) j 0 }
     ensures done { get_or (works tasks.new) k 0 ≡ 0 }
     ensures size { length tasks.new ≡ 8 }
 {
@@ -92,7 +96,8 @@ fn finish<V: Lanes>(
 }
 
 fn read_digests(tasks: &[Task; 8]) -> [[u8; 16]; 8]
-    ensures { (k : ℕ) (none : Task) (digest : List ℕ) → k < 8 → (get_or tasks.now k none).digest ≡ Some digest → digest_at result k ≡ digest }
+    ensures { (k : ℕ) (none : Task) (digest : List ℕ) → k < 8
+        → (get_or tasks.now k none).digest ≡ Some digest → digest_at result k ≡ digest }
 {
     let mut digests = [[0; 16]; 8];
     for (k, task) in tasks.iter().enumerate() {
@@ -112,7 +117,9 @@ pub(crate) fn digests_of_tasks<V: Lanes>(
 ) -> [[u8; 16]; 8]
     requires lanes { count ≤ V.count }
     requires few { V.count ≤ 8 }
-    ensures { (k : ℕ) (none : Task) (last : List ℕ) → k < count → LeadsTo (get_or tasks.old k none) (lane V.at k state) last → digest_at result k ≡ digest_bytes last 4 }
+    ensures { (k : ℕ) (none : Task) (last : List ℕ) → k < count
+        → LeadsTo (get_or tasks.old k none) (lane V.at k state) last
+        → digest_at result k ≡ digest_bytes last 4 }
 {
     let mut state = state;
     for k in 0..count {

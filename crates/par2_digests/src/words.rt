@@ -12,7 +12,9 @@ pub(crate) fn f_words<const N: usize>(
     y: Simd<u32, N>,
     z: Simd<u32, N>,
 ) -> Simd<u32, N>
-    ensures { (k : ℕ) → k < N → slice_index result k ≡ f_fn (slice_index x.entry k) (slice_index y.entry k) (slice_index z.entry k) }
+    ensures { (k : ℕ) → k < N
+        → slice_index result k
+        ≡ f_fn (slice_index x.entry k) (slice_index y.entry k) (slice_index z.entry k) }
 {
     (x & y) | (!x & z)
 }
@@ -23,7 +25,9 @@ pub(crate) fn g_words<const N: usize>(
     y: Simd<u32, N>,
     z: Simd<u32, N>,
 ) -> Simd<u32, N>
-    ensures { (k : ℕ) → k < N → slice_index result k ≡ g_fn (slice_index x.entry k) (slice_index y.entry k) (slice_index z.entry k) }
+    ensures { (k : ℕ) → k < N
+        → slice_index result k
+        ≡ g_fn (slice_index x.entry k) (slice_index y.entry k) (slice_index z.entry k) }
 {
     (x & z) | (y & !z)
 }
@@ -34,7 +38,9 @@ pub(crate) fn h_words<const N: usize>(
     y: Simd<u32, N>,
     z: Simd<u32, N>,
 ) -> Simd<u32, N>
-    ensures { (k : ℕ) → k < N → slice_index result k ≡ h_fn (slice_index x.entry k) (slice_index y.entry k) (slice_index z.entry k) }
+    ensures { (k : ℕ) → k < N
+        → slice_index result k
+        ≡ h_fn (slice_index x.entry k) (slice_index y.entry k) (slice_index z.entry k) }
 {
     x ^ y ^ z
 }
@@ -45,14 +51,17 @@ pub(crate) fn i_words<const N: usize>(
     y: Simd<u32, N>,
     z: Simd<u32, N>,
 ) -> Simd<u32, N>
-    ensures { (k : ℕ) → k < N → slice_index result k ≡ i_fn (slice_index x.entry k) (slice_index y.entry k) (slice_index z.entry k) }
+    ensures { (k : ℕ) → k < N
+        → slice_index result k
+        ≡ i_fn (slice_index x.entry k) (slice_index y.entry k) (slice_index z.entry k) }
 {
     y ^ (x | !z)
 }
 
 #[inline(always)]
 pub(crate) fn rotated_words<const N: usize>(x: Simd<u32, N>, shift: u32) -> Simd<u32, N>
-    ensures { (k : ℕ) → k < N → slice_index result k ≡ rotate_left w32 (slice_index x.entry k) shift }
+    ensures { (k : ℕ) → k < N
+        → slice_index result k ≡ rotate_left w32 (slice_index x.entry k) shift }
 {
     let left = shift % 32;
     (x << Simd::splat(left)) | (x >> Simd::splat((32 - left) % 32))
@@ -75,7 +84,8 @@ pub(crate) fn gathered_words<const N: usize>(
 ) -> Simd<u32, N>
     requires enough { N ≤ length starts.now }
     requires within { (k : ℕ) → k < N → slice_index starts.now k + offset + 4 ≤ length bytes.now }
-    ensures { (k : ℕ) → k < N → slice_index result k ≡ word_at bytes.now (slice_index starts.now k + offset) }
+    ensures { (k : ℕ) → k < N
+        → slice_index result k ≡ word_at bytes.now (slice_index starts.now k + offset) }
 {
     let mut words = [0; N];
     for k in 0..N {
