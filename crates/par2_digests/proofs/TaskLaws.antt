@@ -42,6 +42,12 @@ block_more None bytes rest block hash last count is counted full size same rest_
           ∙ held.1,
     )
 
+-- all blocks that are left
+pub all_blocks_more : (digest : Option (List ℕ)) (bytes hash last : List ℕ) → digest ≡ None → LeadsWith digest bytes hash last
+    → hash_behind hash bytes (length bytes / 64) ≡ last
+all_blocks_more (Some x) bytes hash last is held = (cc)
+all_blocks_more None bytes hash last is held = held.1
+
 -- where no work is left, there is the digest
 pub finished : (digest : Option (List ℕ)) (bytes hash last : List ℕ) → work_of digest bytes ≡ 0 → LeadsWith digest bytes hash last → digest ≡ Some (digest_bytes last 4)
 finished (Some x) bytes hash last idle held = ap Some held

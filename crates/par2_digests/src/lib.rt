@@ -7,6 +7,7 @@ ghost use Rattle.md5.specs.Md5.{digest_bytes, hash_after, initial_hash, md5, pad
 ghost use Rattle.par2_digests.specs.Digests.{digest_at};
 ghost use Rattle.par2_digests.specs.Lanes.{lane};
 
+mod alone;
 mod blocks;
 mod feeds;
 mod lanes;
@@ -45,18 +46,26 @@ fn hash_values(bytes: &[u8], starts: &[usize; LANES], len: usize) -> State<u32x8
     absorbed(state, &mut words, &tails, &tail_starts, tail_blocks(len))
 }
 
-/// The digest in a lane, low byte first.
+/// The digest of a last hash value, low byte first.
+fn digest_of(hash: [u32; 4]) -> [u8; 16]
+    ensures { result ≡ digest_bytes hash 4 }
+{
+    let [a, b, c, d] = hash;
+    let [a0, a1, a2, a3] = a.to_le_bytes();
+    let [b0, b1, b2, b3] = b.to_le_bytes();
+    let [c0, c1, c2, c3] = c.to_le_bytes();
+    let [d0, d1, d2, d3] = d.to_le_bytes();
+    [
+        a0, a1, a2, a3, b0, b1, b2, b3, c0, c1, c2, c3, d0, d1, d2, d3,
+    ]
+}
+
+/// The digest in a lane.
 fn digest_of_lane<V: Lanes>(state: &State<V>, k: usize) -> [u8; 16]
     requires { k < V.count }
     ensures { result ≡ digest_bytes (lane V.at k state.now) 4 }
 {
-    let [a0, a1, a2, a3] = state.a.word(k).to_le_bytes();
-    let [b0, b1, b2, b3] = state.b.word(k).to_le_bytes();
-    let [c0, c1, c2, c3] = state.c.word(k).to_le_bytes();
-    let [d0, d1, d2, d3] = state.d.word(k).to_le_bytes();
-    [
-        a0, a1, a2, a3, b0, b1, b2, b3, c0, c1, c2, c3, d0, d1, d2, d3,
-    ]
+    digest_of(state.in_lane(k))
 }
 
 /// The MD5 digests of the windows of `len` bytes that begin at `starts`, in the order of the starts. The windows may

@@ -8,10 +8,10 @@ ghost use Rattle.par2_digests.specs.Messages.{HasAbsorbed, message_at, message_o
 ghost use Rattle.par2_digests.specs.declared.midstate.Part.{Part};
 
 use crate::LANES;
-use crate::blocks::after_block;
+use crate::alone::hashed;
 use crate::feeds::Feed;
 use crate::lanes::Lanes;
-use crate::steps::{State, Words, in_each_lane};
+use crate::steps::{Words, in_each_lane};
 use crate::tasks::{Task, digests_of_tasks};
 use std::simd::prelude::*;
 
@@ -80,27 +80,6 @@ fn ending(length: u64) -> [Part<'static>; 2]
     [
         Part::Bytes(marks(length)),
         Part::Length(length.wrapping_mul(8)),
-    ]
-}
-
-// The hash value behind the whole blocks of what the feed has left; the block then begins with what is behind them.
-fn hashed(hash: [u32; 4], feed: Feed, block: &mut [u8; 64]) -> [u32; 4]
-    ensures hash { result ≡ hash_behind hash (left feed.entry) (length (left feed.entry) / 64) }
-    ensures rest { take (length (left feed.entry) % 64) block.new
-        ≡ drop (length (left feed.entry) / 64 * 64) (left feed.entry) }
-{
-    let mut feed = feed;
-    let mut words = [Simd::splat(0); 16];
-    let [a, b, c, d] = hash;
-    let mut state: State<Simd<u32, 1>> = in_each_lane(a, b, c, d);
-    while feed.fill(block) == 64 {
-        state = after_block(state, &mut words, block, &[0]);
-    }
-    [
-        state.a.word(0),
-        state.b.word(0),
-        state.c.word(0),
-        state.d.word(0),
     ]
 }
 

@@ -93,6 +93,21 @@ pub(crate) struct State<V> {
 /// The sixteen words of a block of each message.
 pub(crate) type Words<V> = [V; 16];
 
+impl<V: Lanes> State<V> {
+    /// The four variables in a lane.
+    pub(crate) fn in_lane(&self, k: usize) -> [u32; 4]
+        requires { k < V.count }
+        ensures { result ≡ lane V.at k self.now }
+    {
+        [
+            self.a.word(k),
+            self.b.word(k),
+            self.c.word(k),
+            self.d.word(k),
+        ]
+    }
+}
+
 /// The same four variables in each lane.
 pub(crate) fn in_each_lane<V: Lanes>(a: u32, b: u32, c: u32, d: u32) -> State<V>
     ensures { (k : ℕ) → k < V.count → lane V.at k result ≡ a ∷ b ∷ c ∷ d ∷ [] }

@@ -1,17 +1,20 @@
 //! Messages on their way to their digests, side by side.
 
 ghost use Rattle.std.specs.Prelude.{◌≡◌, ◌≤◌, ◌<◌, ◌*◌, ◌-◌, ℕ, List, Some, length, take, drop, get_or};
+ghost use Rattle.std.specs.List.{list_any};
+ghost use Rattle.std.specs.Option.{is_none};
 ghost use Rattle.md5.specs.Md5.{compress, digest_bytes};
 ghost use Rattle.par2_digests.specs.Digests.{digest_at};
 ghost use Rattle.par2_digests.specs.Lanes.{lane};
 ghost use Rattle.par2_digests.specs.Tasks.{LeadsTo, work, works};
 ghost use Rattle.par2_digests.specs.declared.tasks.Task.{Task};
 
+use crate::alone::hashed;
 use crate::blocks::after_block;
-use crate::digest_of_lane;
 use crate::feeds::Feed;
 use crate::lanes::Lanes;
 use crate::steps::{State, Words};
+use crate::{digest_of, digest_of_lane};
 
 // The room for a block of each message.
 const BLOCKS_LEN: usize = 512;
@@ -42,6 +45,18 @@ impl Task<'_> {
             self.digest = Some(digest_of_lane(state, k));
         }
     }
+
+    // Takes all blocks that are left by itself, behind this hash value.
+    fn finish(&mut self, hash: [u32; 4])
+        ensures leads { (last : List ℕ) → LeadsTo self.old hash last → LeadsTo self.new hash last }
+        ensures done { work self.new ≡ 0 }
+    {
+        let None = self.digest else {
+            return;
+        };
+        let mut block = [0; 64];
+        self.digest = Some(digest_of(hashed(hash, self.feed, &mut block)));
+    }
 }
 
 // Takes the next block of each message, or its digest.
@@ -67,7 +82,41 @@ fn turn_all<V: Lanes>(
     }
 }
 
-// Goes on until the digest of message k is there.
+// Whether a message is without its digest.
+fn any_is_open(tasks: &[Task]) -> bool
+    ensures { result ≡ list_any (λ task. is_none task.digest) tasks.now }
+{
+    tasks.iter().any(|task| task.digest.is_none())
+}
+
+// Goes on until the digest of message k is there, or those of all behind it.
+fn go_on<V: Lanes>(
+    tasks: &mut [Task; 8],
+    state: State<V>,
+    words: &mut Words<V>,
+    count: usize,
+    k: usize,
+) -> State<V>
+    requires lanes { count ≤ V.count }
+    requires few { V.count ≤ 8 }
+    requires within { k < count }
+    ensures leads { (j : ℕ) (none : Task) (last : List ℕ) → j < count
+        → LeadsTo (get_or tasks.old j none) (lane V.at j state) last
+        → LeadsTo (get_or tasks.new j none) (lane V.at j result) last }
+    ensures stays { (j : ℕ) → j < count
+        → get_or (works tasks.new) j 0 ≤ get_or (works tasks.old) j 0 }
+    ensures size { length tasks.new ≡ 8 }
+{
+    let mut state = state;
+    let mut blocks = [0; BLOCKS_LEN];
+    while tasks[k].digest.is_none() && any_is_open(&tasks[k + 1..count]) {
+        turn_all(tasks, &mut blocks, &state, count);
+        state = after_block(state, words, &blocks, &STARTS);
+    }
+    state
+}
+
+// Takes all blocks of message k: beside others while there are any, then by itself, which is faster than all lanes.
 fn finish<V: Lanes>(
     tasks: &mut [Task; 8],
     state: State<V>,
@@ -86,12 +135,10 @@ fn finish<V: Lanes>(
     ensures done { get_or (works tasks.new) k 0 ≡ 0 }
     ensures size { length tasks.new ≡ 8 }
 {
-    let mut state = state;
-    let mut blocks = [0; BLOCKS_LEN];
-    while tasks[k].digest.is_none() {
-        turn_all(tasks, &mut blocks, &state, count);
-        state = after_block(state, words, &blocks, &STARTS);
-    }
+    let state = go_on(tasks, state, words, count, k);
+    let mut task = tasks[k];
+    task.finish(state.in_lane(k));
+    tasks[k] = task;
     state
 }
 

@@ -1,24 +1,54 @@
-use Rattle.std.proofs.Common.{◌≡◌, ◌*◌, ℕ, List, [], ◌∷◌, ap, arith, drop, get_or, refl, slice_index, subst, sym, take, ◌∙◌}
-use Rattle.md5.specs.Md5.{compress}
+use Rattle.std.proofs.Common.{◌≡◌, ◌<◌, ◌∙◌, ℕ, List, ap, sym, subst, length, length-set, get_or, get_or-set_other, get_or-set_same, inl, inr, arith}
+use Rattle.std.proofs.lemmas.Bool.{cases_eq}
+use Rattle.std.proofs.lemmas.List.{get_or_default}
+use Rattle.std.proofs.Math.ListN.{set}
 use Rattle.par2_digests.specs.Lanes.{lane}
-use Rattle.par2_digests.specs.Tasks.{LeadsTo}
-use Rattle.par2_digests.proofs.LaneLaws.{each_lane}
+use Rattle.par2_digests.specs.Tasks.{LeadsTo, work}
+use Rattle.par2_digests.proofs.TaskLaws.{leads_same, works_at}
 use Rattle.par2_digests.proofs.tasks.finish.Goals as goal
 
-pub loop-blocks-preserved : goal.loop-blocks-preserved
-loop-blocks-preserved g c =
-    let held = c.loop-blocks.invariant in
-    let blocks = c.turn_all.new.blocks in
+pub returns-clause-leads : goal.returns-clause-leads
+returns-clause-leads g c = λ j none last low leads.
+    let k = c.args.k in
     let at = g.V.Lanes.at in
-    let starts : List ℕ = 0 ∷ 64 ∷ 128 ∷ 192 ∷ 256 ∷ 320 ∷ 384 ∷ 448 ∷ [] in
-    record {
-      tasks = c.turn_all.ensures.size;
-      blocks = omega (arith, held.blocks);
-      leads = λ j none last low leads.
-          let hash = lane at j c.loop-blocks.state in
-          let place : slice_index starts j ≡ 64 * j = each_lane (λ i. slice_index starts i ≡ 64 * i) refl refl refl refl refl refl refl refl j (omega arith) in
-          let after : lane at j c.after_block-state.result ≡ compress hash (take 64 (drop (64 * j) blocks)) =
-          c.after_block-state.ensures j (omega arith) ∙ ap (λ n. compress hash (take 64 (drop n blocks))) place in
-          subst (λ (h : List ℕ). LeadsTo (get_or c.turn_all.new.tasks j none) h last) (sym after) (c.turn_all.ensures.leads j none last low (held.leads j none last low leads));
-      stays = λ j low. omega (arith, c.turn_all.ensures.shrinks j low, held.stays j low);
-    }
+    let state = c.go_on-state.result in
+    let tasks = c.go_on-state.new.tasks in
+    let new = c.finish.new.self in
+    let within : k < length tasks = omega (arith, c.go_on-state.ensures.size, c.requires.within, c.requires.lanes, c.requires.few) in
+    let before = c.go_on-state.ensures.leads j none last low leads in
+    elim (cases_eq j k) [
+      | inl same ↦
+          let task : get_or (set tasks k new) j none ≡ new = ap (λ (n : ℕ). get_or (set tasks k new) n none) same ∙ get_or-set_same tasks k new none within in
+          let started : LeadsTo (get_or tasks k none) (lane at k state) last = subst (λ (n : ℕ). LeadsTo (get_or tasks n none) (lane at n state) last) same before in
+          let ended = c.finish.ensures.leads last
+          (leads_same _ _ _ last (get_or_default tasks k _ none within) (subst (λ (h : List ℕ). LeadsTo (get_or tasks k none) h last) (sym c.in_lane.ensures) started)) in
+          leads_same _ _ _ last task (subst (λ (h : List ℕ). LeadsTo new h last) (c.in_lane.ensures ∙ ap (λ (n : ℕ). lane at n state) (sym same)) ended)
+      | inr other ↦ leads_same _ _ _ last (get_or-set_other tasks k j new none other) before
+    ]
+
+pub returns-clause-stays : goal.returns-clause-stays
+returns-clause-stays g c = λ j low.
+    let k = c.args.k in
+    let tasks = c.go_on-state.new.tasks in
+    let new = c.finish.new.self in
+    let size = c.go_on-state.ensures.size in
+    let within : k < length tasks = omega (arith, size, c.requires.within, c.requires.lanes, c.requires.few) in
+    elim (cases_eq j k) [
+      | inl same ↦
+          let after = works_at (set tasks k new) k new (omega (arith, length-set tasks k new, within)) in
+          let done = ap work (get_or-set_same tasks k new new within) in
+          rw same (omega (arith, after, done, c.finish.ensures.done))
+      | inr other ↦
+          let after = works_at (set tasks k new) j new (omega (arith, length-set tasks k new, size, low, c.requires.lanes, c.requires.few)) in
+          let before = works_at tasks j new (omega (arith, size, low, c.requires.lanes, c.requires.few)) in
+          let kept = ap work (get_or-set_other tasks k j new new other) in
+          omega (arith, after, before, kept, c.go_on-state.ensures.stays j low)
+    ]
+
+pub returns-clause-done : goal.returns-clause-done
+returns-clause-done g c =
+    let k = c.args.k in
+    let tasks = c.go_on-state.new.tasks in
+    let new = c.finish.new.self in
+    let within : k < length tasks = omega (arith, c.go_on-state.ensures.size, c.requires.within, c.requires.lanes, c.requires.few) in
+    works_at (set tasks k new) k new (omega (arith, length-set tasks k new, within)) ∙ ap work (get_or-set_same tasks k new new within) ∙ c.finish.ensures.done

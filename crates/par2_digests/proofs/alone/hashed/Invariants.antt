@@ -1,7 +1,7 @@
 use Rattle.std.proofs.Common.{◌≡◌, ◌*◌, ◌/◌, ◌%◌, length, drop, slice_index}
 use Rattle.par2_digests.specs.Feeds.{hash_behind, left}
 use Rattle.par2_digests.specs.Lanes.{lane}
-use Rattle.par2_digests.proofs.midstate.hashed.Given as goal
+use Rattle.par2_digests.proofs.alone.hashed.Given as goal
 
 abbrev pub invariant-loop-feed : goal.invariant-loop-feed
 invariant-loop-feed l = record {

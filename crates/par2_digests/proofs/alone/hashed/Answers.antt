@@ -3,7 +3,7 @@ use Rattle.std.proofs.lemmas.List.{take_all}
 use Rattle.par2_digests.specs.Feeds.{hash_behind, left}
 use Rattle.par2_digests.specs.Lanes.{lane}
 use Rattle.par2_digests.proofs.FeedLaws.{hash_more, same_rest, size_behind}
-use Rattle.par2_digests.proofs.midstate.hashed.Goals as goal
+use Rattle.par2_digests.proofs.alone.hashed.Goals as goal
 
 pub loop-feed-smaller : goal.loop-feed-smaller
 loop-feed-smaller c =
@@ -31,7 +31,7 @@ unfolding hash_behind
 returns-clause-hash c =
     let bytes = left c.loop-feed.feed in
     let none : length bytes / 64 ≡ 0 = omega (arith, c.fill.ensures.count, c.loop-feed-test.false) in
-    rw (c.word.ensures, c.word-2.ensures, c.word-3.ensures, c.word-4.ensures) (rw none at c.loop-feed.invariant.hash)
+    c.in_lane.ensures ∙ (rw none at c.loop-feed.invariant.hash)
 
 pub returns-clause-rest : goal.returns-clause-rest
 returns-clause-rest c =
