@@ -4,7 +4,7 @@ ghost use Rattle.std.specs.Prelude.{◌≡◌, ◌≤◌, ◌<◌, ◌+◌, ℕ,
 ghost use Rattle.std.specs.Int.{w32, rotate_left};
 ghost use Rattle.md5.specs.Md5.{add32, f_fn, g_fn, h_fn, i_fn, word_at};
 
-use crate::words::{f_words, g_words, gathered_words, h_words, i_words, rotated_words};
+use crate::words::{f_words, gathered_words, h_words, i_words, plus_g_words, rotated_words};
 use std::simd::prelude::*;
 
 /// A word of each of several messages.
@@ -18,8 +18,10 @@ pub(crate) trait Lanes: Copy {
     fn f(x: Self, y: Self, z: Self) -> Self
         ensures { (k : ℕ) → k < count → at result k ≡ f_fn (at x k) (at y k) (at z k) };
 
-    fn g(x: Self, y: Self, z: Self) -> Self
-        ensures { (k : ℕ) → k < count → at result k ≡ g_fn (at x k) (at y k) (at z k) };
+    // A sum and the function G, whose value is there as soon as `x` is.
+    fn plus_g(sum: Self, x: Self, y: Self, z: Self) -> Self
+        ensures { (k : ℕ) → k < count
+            → at result k ≡ add32 (at sum k) (g_fn (at x k) (at y k) (at z k)) };
 
     fn h(x: Self, y: Self, z: Self) -> Self
         ensures { (k : ℕ) → k < count → at result k ≡ h_fn (at x k) (at y k) (at z k) };
@@ -60,8 +62,8 @@ impl<const N: usize> Lanes for Simd<u32, N> {
     }
 
     #[inline(always)]
-    fn g(x: Self, y: Self, z: Self) -> Self {
-        g_words(x, y, z)
+    fn plus_g(sum: Self, x: Self, y: Self, z: Self) -> Self {
+        plus_g_words(sum, x, y, z)
     }
 
     #[inline(always)]

@@ -1,7 +1,7 @@
 //! The 64 steps of a block (RFC 1321, 3.4) on several messages at once.
 
 ghost use Rattle.std.specs.Prelude.{◌≡◌, ◌≤◌, ◌<◌, ◌+◌, ℕ, List, [], ◌∷◌, slice_index};
-ghost use Rattle.md5.specs.Md5.{add_state, round, rounds, step_constants, step_shifts};
+ghost use Rattle.md5.specs.Md5.{add32, add_state, round, rounds, step_constants, step_shifts};
 ghost use Rattle.par2_digests.specs.Lanes.{lane, lane_words};
 
 use crate::lanes::Lanes;
@@ -120,19 +120,38 @@ pub(crate) fn in_each_lane<V: Lanes>(a: u32, b: u32, c: u32, d: u32) -> State<V>
     }
 }
 
+// The sum of a step, as far as it doesn't hang on the step before.
 #[inline(always)]
-fn stepped<V: Lanes>(state: State<V>, f: V, word: V, t: usize) -> State<V>
+fn early_sum<V: Lanes>(state: State<V>, word: V, t: usize) -> V
     requires { t < 64 }
-    ensures { (k : ℕ) → k < V.count → lane V.at k result ≡ round (lane V.at k state) (V.at f k) (slice_index step_constants t) (V.at word k) (slice_index step_shifts t) }
+    ensures { (k : ℕ) → k < V.count
+        → V.at result k ≡ add32 (add32 (V.at state.a k) (V.at word k)) (slice_index step_constants t) }
 {
-    // `f` comes last, since it hangs on the step before.
-    let sum = V::plus(V::plus(V::plus(state.a, word), V::splat(CONSTANTS[t])), f);
+    V::plus(V::plus(state.a, word), V::splat(CONSTANTS[t]))
+}
+
+// The variables after a step, by its sum.
+#[inline(always)]
+fn turned<V: Lanes>(state: State<V>, sum: V, t: usize) -> State<V>
+    requires { t < 64 }
+    ensures { (k : ℕ) (f word : ℕ) → k < V.count
+        → V.at sum k ≡ add32 (add32 (add32 (V.at state.a k) word) (slice_index step_constants t)) f
+        → lane V.at k result ≡ round (lane V.at k state) f (slice_index step_constants t) word (slice_index step_shifts t) }
+{
     State {
         a: state.d,
         b: V::plus(state.b, V::rotated(sum, SHIFTS[t])),
         c: state.b,
         d: state.c,
     }
+}
+
+#[inline(always)]
+fn stepped<V: Lanes>(state: State<V>, f: V, word: V, t: usize) -> State<V>
+    requires { t < 64 }
+    ensures { (k : ℕ) → k < V.count → lane V.at k result ≡ round (lane V.at k state) (V.at f k) (slice_index step_constants t) (V.at word k) (slice_index step_shifts t) }
+{
+    turned(state, V::plus(early_sum(state, word, t), f), t)
 }
 
 #[inline(always)]
@@ -149,12 +168,8 @@ fn g_step<V: Lanes>(state: State<V>, words: &Words<V>, t: usize) -> State<V>
     requires to { t < 32 }
     ensures { (k : ℕ) (h : List ℕ) → k < V.count → lane V.at k state ≡ rounds h (lane_words V.at k words.now) t → lane V.at k result ≡ rounds h (lane_words V.at k words.now) (t + 1) }
 {
-    stepped(
-        state,
-        V::g(state.b, state.c, state.d),
-        words[(5 * t + 1) % 16],
-        t,
-    )
+    let sum = early_sum(state, words[(5 * t + 1) % 16], t);
+    turned(state, V::plus_g(sum, state.b, state.c, state.d), t)
 }
 
 #[inline(always)]

@@ -19,17 +19,19 @@ pub(crate) fn f_words<const N: usize>(
     (x & y) | (!x & z)
 }
 
+/// A sum and G. The two terms of G have no bit in common, so each is added by itself, the one with `x` last.
 #[inline(always)]
-pub(crate) fn g_words<const N: usize>(
+pub(crate) fn plus_g_words<const N: usize>(
+    sum: Simd<u32, N>,
     x: Simd<u32, N>,
     y: Simd<u32, N>,
     z: Simd<u32, N>,
 ) -> Simd<u32, N>
     ensures { (k : ℕ) → k < N
-        → slice_index result k
-        ≡ g_fn (slice_index x.entry k) (slice_index y.entry k) (slice_index z.entry k) }
+        → slice_index result k ≡ add32 (slice_index sum.entry k)
+        (g_fn (slice_index x.entry k) (slice_index y.entry k) (slice_index z.entry k)) }
 {
-    (x & z) | (y & !z)
+    sum + (y & !z) + (x & z)
 }
 
 #[inline(always)]

@@ -1,4 +1,5 @@
 use Rattle.std.proofs.Common.{◌+◌, ◌*◌, ◌%◌, ap, arith, ◌∙◌, slice_index}
+use Rattle.md5.specs.Md5.{add32, g_fn}
 use Rattle.par2_digests.specs.Lanes.{lane_words}
 use Rattle.par2_digests.proofs.LaneLaws.{word_of_lane}
 use Rattle.par2_digests.proofs.RoundLaws.{after_step, second_function, second_place}
@@ -10,6 +11,8 @@ returns g c = λ k h low held.
     let at = g.V.Lanes.at in
     let state = c.args.state in
     let words = lane_words at k c.args.words.now in
-    let value = c.g.ensures k low ∙ second_function t (at state.b k) (at state.c k) (at state.d k) c.requires.from c.requires.to in
+    let f = g_fn (at state.b k) (at state.c k) (at state.d k) in
+    let value = second_function t (at state.b k) (at state.c k) (at state.d k) c.requires.from c.requires.to in
     let read = word_of_lane at c.args.words.now k ((5 * t + 1) % 16) c.index-words-t.result (omega (arith, c.told-words)) ∙ ap (slice_index words) (second_place t c.requires.from c.requires.to) in
-    c.stepped.ensures k low ∙ after_step h words _ t _ _ held value read
+    let sum = c.plus_g.ensures k low ∙ ap (λ n. add32 n f) (c.early_sum-sum.ensures k low) in
+    c.turned.ensures k f _ low sum ∙ after_step h words _ t _ _ held value read
