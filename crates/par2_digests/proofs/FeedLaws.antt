@@ -3,6 +3,7 @@ use Rattle.std.proofs.Common.{◌≡◌, ℕ, zero, suc, min, ◌++◌, length-a
 use Rattle.std.proofs.lemmas.List.{drop-append-le, take-append-le, drop-drop, drop-take, take-append-drop, take-take}
 use Rattle.md5.specs.Md5.{compress, hash_after}
 use Rattle.par2_digests.specs.Feeds.{hash_behind}
+use Rattle.par2_digests.proofs.BlockLaws.{same_parts}
 
 -- the blocks from block a on
 pub behind_blocks : (p : List ℕ) (a n : ℕ) → hash_behind (hash_after p a) (drop (a * 64) p) n ≡ hash_after p (a + n)
@@ -21,6 +22,31 @@ block_first hash bytes zero = ap (λ (b : List ℕ). compress hash (take 64 b)) 
 block_first hash bytes (suc n) =
     let place : 64 + n * 64 ≡ suc n * 64 = omega arith in
     ap₂ compress (block_first hash bytes n) (ap (take 64) (drop-drop (n * 64) 64 bytes ∙ ap (λ (m : ℕ). drop m bytes) place))
+
+-- some blocks first, and then the others
+pub blocks_first : (hash bytes : List ℕ) (a n : ℕ) → hash_behind (hash_behind hash bytes a) (drop (a * 64) bytes) n ≡ hash_behind hash bytes (a + n)
+unfolding hash_behind
+blocks_first hash bytes a zero = let e : a ≡ a + 0 = omega arith in ap (hash_behind hash bytes) e
+blocks_first hash bytes a (suc n) =
+    let e : a + suc n ≡ suc (a + n) = omega arith in
+    let place : a * 64 + n * 64 ≡ (a + n) * 64 = omega arith in
+    ap₂ compress (blocks_first hash bytes a n) (ap (take 64) (drop-drop (n * 64) (a * 64) bytes ∙ ap (λ (m : ℕ). drop m bytes) place))
+    ∙ ap (hash_behind hash bytes) (sym e)
+
+-- a block more, which stands in a text behind a start
+pub hash_one_more : (hash text : List ℕ) (start n : ℕ) → compress (hash_behind hash (drop start text) n) (take 64 (drop (start + 64 * n) text)) ≡ hash_behind hash (drop start text) (n + 1)
+unfolding hash_behind
+hash_one_more hash text start n =
+    let next : suc n ≡ n + 1 = omega arith in
+    let place : start + 64 * n ≡ start + n * 64 = omega arith in
+    ap (compress (hash_behind hash (drop start text) n)) (ap (take 64) (ap (λ (m : ℕ). drop m text) place ∙ sym (drop-drop (n * 64) start text)))
+    ∙ ap (hash_behind hash (drop start text)) next
+
+-- bytes that begin alike
+pub blocks_alike : (hash x y : List ℕ) (n m : ℕ) → n * 64 ≤ m → take m x ≡ take m y → hash_behind hash x n ≡ hash_behind hash y n
+unfolding hash_behind
+blocks_alike hash x y zero m room same = refl
+blocks_alike hash x y (suc n) m room same = ap₂ compress (blocks_alike hash x y n m (omega arith) same) (same_parts x y m (n * 64) 64 (omega arith) same)
 
 -- ---- a block that is filled piece by piece
 

@@ -2,10 +2,10 @@
 use Rattle.std.proofs.Common.{◌≡◌, ℕ, suc, min, ◌+◌, ◌-◌, ◌*◌, ◌/◌, ◌≤◌, ◌<◌, List, Option, Some, None, length, take, drop, ◌++◌, ap, ap₂, sym, subst, ◌∙◌, arith, get_or, length-append, length-drop}
 use Rattle.std.proofs.lemmas.List.{append_assoc, drop_at, get_or-map, length-take-le, take-append-le, take_all}
 use Rattle.md5.specs.Md5.{compress, digest_bytes, hash_after, padding}
-use Rattle.par2_digests.specs.Feeds.{hash_behind}
-use Rattle.par2_digests.specs.Tasks.{LeadsTo, LeadsWith, work, work_of, works}
+use Rattle.par2_digests.specs.Feeds.{hash_behind, left}
+use Rattle.par2_digests.specs.Tasks.{HasBlocks, HaveBlocks, LeadsTo, LeadsWith, work, work_of, works}
 use Rattle.par2_digests.specs.declared.tasks.Task.{Task}
-use Rattle.par2_digests.proofs.FeedLaws.{block_first, goes_on}
+use Rattle.par2_digests.proofs.FeedLaws.{blocks_alike, blocks_first, goes_on}
 use Rattle.par2_digests.proofs.TailLaws.{whole_padded}
 use borrow.Rule.Slice.PartMut.{put_mid}
 
@@ -15,7 +15,7 @@ done_stays (Some x) d bytes hash next last is held = held
 done_stays None d bytes hash next last is held = (cc)
 
 -- fewer bytes than a block are none
-pub at_the_end : (digest : Option (List ℕ)) (bytes hash last : List ℕ) (count : ℕ) → digest ≡ None → count ≡ min 64 (length bytes) → count < 64
+pub at_the_end : (digest : Option (List ℕ)) (bytes hash last : List ℕ) (count : ℕ) → digest ≡ None → count ≡ length bytes → count < 64
     → LeadsWith digest bytes hash last → hash ≡ last
 unfolding hash_behind
 at_the_end (Some x) bytes hash last count is counted short held = (cc)
@@ -23,24 +23,34 @@ at_the_end None bytes hash last count is counted short held =
     let none : length bytes / 64 ≡ 0 = omega (arith, held.0) in
     rw none at held.1
 
--- a block more
-pub block_more : (digest : Option (List ℕ)) (bytes rest block hash last : List ℕ) (count : ℕ) → digest ≡ None → count ≡ min 64 (length bytes) → 64 ≤ count
-    → length block ≡ 64 → take count block ≡ take count bytes → rest ≡ drop count bytes
-    → LeadsWith digest bytes hash last → LeadsWith digest rest (compress hash block) last
-block_more (Some x) bytes rest block hash last count is counted full size same rest_is held = (cc)
-block_more None bytes rest block hash last count is counted full size same rest_is held =
-    let whole : count ≡ 64 = omega arith in
-    let block_is : block ≡ take 64 bytes = sym (take_all 64 block (omega arith)) ∙ ap (λ (n : ℕ). take n block) (sym whole) ∙ same ∙ ap (λ (n : ℕ). take n bytes) whole in
-    let behind : rest ≡ drop 64 bytes = rest_is ∙ ap (λ (n : ℕ). drop n bytes) whole in
-    let size_of : length rest ≡ length bytes - 64 = ap length behind ∙ length-drop 64 bytes in
-    let n : ℕ = length rest / 64 in
-    let more : suc n ≡ length bytes / 64 = omega (arith, held.0) in (
+-- some blocks more
+pub blocks_more : (digest : Option (List ℕ)) (bytes rest blocks hash last : List ℕ) (n count : ℕ) → digest ≡ None → count ≡ n * 64
+    → count ≤ length bytes → take count blocks ≡ take count bytes → rest ≡ drop count bytes
+    → LeadsWith digest bytes hash last → LeadsWith digest rest (hash_behind hash blocks n) last
+blocks_more (Some x) bytes rest blocks hash last n count is counted full same rest_is held = (cc)
+blocks_more None bytes rest blocks hash last n count is counted full same rest_is held =
+    let behind : rest ≡ drop (n * 64) bytes = rest_is ∙ ap (λ (m : ℕ). drop m bytes) counted in
+    let size_of : length rest ≡ length bytes - n * 64 = ap length behind ∙ length-drop (n * 64) bytes in
+    let m : ℕ = length rest / 64 in
+    let all : n + m ≡ length bytes / 64 = omega (arith, held.0) in (
       omega (arith, held.0),
-      ap₂ (λ (h b : List ℕ). hash_behind (compress hash h) b n) block_is behind
-          ∙ block_first hash bytes n
-          ∙ ap (hash_behind hash bytes) more
+      ap₂ (λ (h b : List ℕ). hash_behind h b m) (blocks_alike hash blocks bytes n count (omega arith) same) behind
+          ∙ blocks_first hash bytes n m
+          ∙ ap (hash_behind hash bytes) all
           ∙ held.1,
     )
+
+-- where blocks are left, and no digest is there
+pub left_blocks : (digest : Option (List ℕ)) (bytes : List ℕ) (n : ℕ) → digest ≡ None → HaveBlocks digest bytes n → n * 64 ≤ length bytes
+left_blocks (Some x) bytes n is held = (cc)
+left_blocks None bytes n is held = held
+
+fewer_left : (digest : Option (List ℕ)) (bytes : List ℕ) (n m : ℕ) → m ≤ n → HaveBlocks digest bytes n → HaveBlocks digest bytes m
+fewer_left (Some x) bytes n m few held = tt
+fewer_left None bytes n m few held = omega (arith, held)
+
+pub fewer_blocks : (task : Task) (n m : ℕ) → m ≤ n → HasBlocks task n → HasBlocks task m
+fewer_blocks task n m few held = fewer_left task.digest (left task.feed) n m few held
 
 -- all blocks that are left
 pub all_blocks_more : (digest : Option (List ℕ)) (bytes hash last : List ℕ) → digest ≡ None → LeadsWith digest bytes hash last
@@ -58,25 +68,25 @@ finished None bytes hash last idle held = absurd (omega arith)
 pub leads_same : (a b : Task) (hash last : List ℕ) → a ≡ b → LeadsTo b hash last → LeadsTo a hash last
 leads_same a b hash last same held = subst (λ (t : Task). LeadsTo t hash last) (sym same) held
 
-pub leads_alike : (a b : Task) (x y hash last : List ℕ) → a ≡ b → x ≡ y → LeadsTo b (compress hash y) last → LeadsTo a (compress hash x) last
-leads_alike a b x y hash last same bytes held =
-    leads_same a b (compress hash x) last same (subst (λ (z : List ℕ). LeadsTo b (compress hash z) last) (sym bytes) held)
+pub leads_alike : (a b : Task) (x y hash last : List ℕ) (n : ℕ) → a ≡ b → x ≡ y → LeadsTo b (hash_behind hash y n) last → LeadsTo a (hash_behind hash x n) last
+leads_alike a b x y hash last n same bytes held =
+    leads_same a b (hash_behind hash x n) last same (subst (λ (z : List ℕ). LeadsTo b (hash_behind hash z n) last) (sym bytes) held)
 
 pub works_at : (tasks : List Task) (k : ℕ) (none : Task) → k < length tasks → get_or (works tasks) k 0 ≡ work (get_or tasks k none)
 works_at tasks k none h = get_or-map work tasks k none 0 h
 
-pub block_at : (blocks block : List ℕ) (at j : ℕ) → at + 64 ≤ length blocks → length block ≡ 64 → take 64 (drop at (put_mid at j blocks block)) ≡ block
-block_at blocks block at j room size =
-    ap (take 64) (drop_at (take at blocks) (block ++ drop j (drop at blocks)) at (length-take-le at blocks (omega arith)))
-    ∙ take-append-le 64 block (drop j (drop at blocks)) (omega arith)
-    ∙ take_all 64 block (omega arith)
+pub blocks_at : (blocks some : List ℕ) (at j : ℕ) → at + j ≤ length blocks → length some ≡ j → take j (drop at (put_mid at j blocks some)) ≡ some
+blocks_at blocks some at j room size =
+    ap (take j) (drop_at (take at blocks) (some ++ drop j (drop at blocks)) at (length-take-le at blocks (omega arith)))
+    ∙ take-append-le j some (drop j (drop at blocks)) (omega arith)
+    ∙ take_all j some (omega arith)
 
-pub blocks_len : (blocks block : List ℕ) (at j : ℕ) → at + 64 ≤ length blocks → length block ≡ 64 → j ≡ 64 → length (put_mid at j blocks block) ≡ length blocks
-blocks_len blocks block at j room size j_is =
+pub blocks_len : (blocks some : List ℕ) (at j : ℕ) → at + j ≤ length blocks → length some ≡ j → length (put_mid at j blocks some) ≡ length blocks
+blocks_len blocks some at j room size =
     omega (
       arith,
-      length-append (take at blocks) (block ++ drop j (drop at blocks)),
-      length-append block (drop j (drop at blocks)),
+      length-append (take at blocks) (some ++ drop j (drop at blocks)),
+      length-append some (drop j (drop at blocks)),
       length-take-le at blocks (omega arith),
       length-drop j (drop at blocks),
       length-drop at blocks,
@@ -107,3 +117,6 @@ ready None m message ending taken bytes hash p is bytes_is taken_is hash_is endi
       ),
       goes_on m x bytes hash hash_is behind ∙ ap (λ (b : List ℕ). hash_after b (length b / 64)) whole,
     )
+
+pub has_blocks_same : (at start : Task → Task) (n m : ℕ) → n ≡ m → ((d : Task) → at d ≡ start d) → (d : Task) → HasBlocks (start d) m → HasBlocks (at d) n
+has_blocks_same at start n m count same d held = subst (λ (k : ℕ). HasBlocks (at d) k) (sym count) (subst (λ (t : Task). HasBlocks t m) (sym (same d)) held)

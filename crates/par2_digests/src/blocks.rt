@@ -2,6 +2,7 @@
 
 ghost use Rattle.std.specs.Prelude.{◌≡◌, ◌≤◌, ◌<◌, ◌+◌, ◌*◌, ℕ, List, length, take, drop, slice_index};
 ghost use Rattle.md5.specs.Md5.{block_words, compress, hash_after};
+ghost use Rattle.par2_digests.specs.Feeds.{hash_behind};
 ghost use Rattle.par2_digests.specs.Lanes.{lane, lane_words};
 
 use crate::lanes::Lanes;
@@ -36,10 +37,12 @@ pub(crate) fn absorbed<V: Lanes>(
     requires room { count * 64 ≤ length bytes.now }
     requires within { (k : ℕ) → k < V.count
         → slice_index starts.now k + count * 64 ≤ length bytes.now }
-    ensures { (k n : ℕ) (p : List ℕ) → k < V.count → lane V.at k state ≡ hash_after p n
+    ensures message { (k n : ℕ) (p : List ℕ) → k < V.count → lane V.at k state ≡ hash_after p n
         → take (count * 64) (drop (n * 64) p)
         ≡ take (count * 64) (drop (slice_index starts.now k) bytes.now)
         → lane V.at k result ≡ hash_after p (n + count) }
+    ensures behind { (k : ℕ) → k < V.count → lane V.at k result
+        ≡ hash_behind (lane V.at k state) (drop (slice_index starts.now k) bytes.now) count }
 {
     let mut after = state;
     for block in 0..count {

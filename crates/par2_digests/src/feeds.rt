@@ -1,6 +1,6 @@
 //! The bytes of parts, block by block.
 
-ghost use Rattle.std.specs.Prelude.{true, false, ◌≡◌, ◌≤◌, ◌<◌, ◌+◌, ◌-◌, ◌^◌, ◌++◌, [], ℕ, length, take, drop, min};
+ghost use Rattle.std.specs.Prelude.{true, false, ◌≡◌, ◌≤◌, ◌<◌, ◌+◌, ◌-◌, ◌*◌, ◌^◌, ◌++◌, [], ℕ, length, take, drop, min};
 ghost use Rattle.par2_digests.specs.Feeds.{left};
 ghost use Rattle.par2_digests.specs.Messages.{part_bytes};
 
@@ -79,16 +79,25 @@ impl<'a> Feed<'a> {
         true
     }
 
-    /// Fills the block with the bytes that come next; how many there were.
-    pub(crate) fn fill(&mut self, block: &mut [u8]) -> usize
-        requires { length block.old ≡ 64 }
-        ensures count { result ≡ min 64 (length (left self.old)) }
-        ensures bytes { take result block.new ≡ take result (left self.old) }
+    /// How many blocks the part at hand has left.
+    pub(crate) fn blocks_at_hand(&self) -> usize
+        ensures { result * 64 ≤ length (left self.now) }
+    {
+        match self.part {
+            Part::Length(_) => 0,
+            Part::Bytes(bytes) => behind(bytes, self.at).len() / 64,
+        }
+    }
+
+    /// Fills the blocks with the bytes that come next; how many there were.
+    pub(crate) fn fill(&mut self, blocks: &mut [u8]) -> usize
+        ensures count { result ≡ min (length blocks.old) (length (left self.old)) }
+        ensures bytes { take result blocks.new ≡ take result (left self.old) }
         ensures rest { left self.new ≡ drop result (left self.old) }
     {
-        let mut filled = self.copy_part(block, 0);
-        while filled < 64 && self.go_on() {
-            filled += self.copy_part(block, filled);
+        let mut filled = self.copy_part(blocks, 0);
+        while filled < blocks.len() && self.go_on() {
+            filled += self.copy_part(blocks, filled);
         }
         filled
     }

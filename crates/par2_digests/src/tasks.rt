@@ -3,24 +3,31 @@
 ghost use Rattle.std.specs.Prelude.{◌≡◌, ◌≤◌, ◌<◌, ◌*◌, ◌-◌, ℕ, List, Some, length, take, drop, get_or};
 ghost use Rattle.std.specs.List.{list_any};
 ghost use Rattle.std.specs.Option.{is_none};
-ghost use Rattle.md5.specs.Md5.{compress, digest_bytes};
+ghost use Rattle.md5.specs.Md5.{digest_bytes};
 ghost use Rattle.par2_digests.specs.Digests.{digest_at};
+ghost use Rattle.par2_digests.specs.Feeds.{hash_behind};
 ghost use Rattle.par2_digests.specs.Lanes.{lane};
-ghost use Rattle.par2_digests.specs.Tasks.{LeadsTo, work, works};
+ghost use Rattle.par2_digests.specs.Tasks.{HasBlocks, LeadsTo, work, works};
 ghost use Rattle.par2_digests.specs.declared.tasks.Task.{Task};
 
 use crate::alone::hashed;
-use crate::blocks::after_block;
+use crate::blocks::absorbed;
 use crate::feeds::Feed;
 use crate::lanes::Lanes;
 use crate::steps::{State, Words};
 use crate::{digest_of, digest_of_lane};
 
-// The room for a block of each message.
-const BLOCKS_LEN: usize = 512;
+// The most blocks of a message that are taken at once.
+const MOST_BLOCKS: usize = 32;
 
-// Where each block begins.
-const STARTS: [usize; 8] = [0, 64, 128, 192, 256, 320, 384, 448];
+// The room for the blocks of a message.
+const ROOM: usize = 64 * MOST_BLOCKS;
+
+// The room for those of all messages.
+const BLOCKS_LEN: usize = 8 * ROOM;
+
+// Where the blocks of each message begin.
+const STARTS: [usize; 8] = [0, 2048, 4096, 6144, 8192, 10240, 12288, 14336];
 
 /// A message in a lane: what is left of it, or its digest.
 #[derive(Clone, Copy, Drop)]
@@ -30,18 +37,30 @@ pub(crate) struct Task<'a> {
 }
 
 impl Task<'_> {
-    // Takes the next block, or the digest behind the last.
-    fn turn<V: Lanes>(&mut self, block: &mut [u8], state: &State<V>, k: usize)
-        requires size { length block.old ≡ 64 }
+    // How many blocks can be taken at once.
+    fn blocks_at_hand(&self) -> usize
+        ensures { HasBlocks self.now result }
+    {
+        match self.digest {
+            Some(_) => MOST_BLOCKS,
+            None => self.feed.blocks_at_hand(),
+        }
+    }
+
+    // Takes the next blocks, or the digest behind the last. More than one are taken only where all of them are left.
+    fn turn<V: Lanes>(&mut self, blocks: &mut [u8], state: &State<V>, k: usize)
         requires within { k < V.count }
-        ensures leads { (last : List ℕ) → LeadsTo self.old (lane V.at k state.now) last
-            → LeadsTo self.new (compress (lane V.at k state.now) block.new) last }
+        requires some { 64 ≤ length blocks.old }
+        requires left { (n : ℕ) → 1 < n → n * 64 ≡ length blocks.old → HasBlocks self.old n }
+        ensures leads { (n : ℕ) (last : List ℕ) → n * 64 ≡ length blocks.old
+            → LeadsTo self.old (lane V.at k state.now) last
+            → LeadsTo self.new (hash_behind (lane V.at k state.now) blocks.new n) last }
         ensures shrinks { work self.new ≤ work self.old - 1 }
     {
         let None = self.digest else {
             return;
         };
-        if self.feed.fill(block) < 64 {
+        if self.feed.fill(blocks) < 64 {
             self.digest = Some(digest_of_lane(state, k));
         }
     }
@@ -59,25 +78,45 @@ impl Task<'_> {
     }
 }
 
-// Takes the next block of each message, or its digest.
+// How many blocks can be taken at once of each message, one at least.
+fn batch_of(tasks: &[Task]) -> usize
+    ensures some { 1 ≤ result }
+    ensures room { result ≤ 32 }
+    ensures left { (k : ℕ) (none : Task) → 1 < result → k < length tasks.now
+        → HasBlocks (get_or tasks.now k none) result }
+{
+    let mut count = MOST_BLOCKS;
+    for task in tasks {
+        count = count.min(task.blocks_at_hand());
+    }
+    count.max(1)
+}
+
+// Takes the next `batch` blocks of each message, or its digest.
 fn turn_all<V: Lanes>(
     tasks: &mut [Task; 8],
     blocks: &mut [u8; BLOCKS_LEN],
     state: &State<V>,
     count: usize,
+    batch: usize,
 )
     requires lanes { count ≤ V.count }
     requires few { count ≤ 8 }
+    requires some { 1 ≤ batch }
+    requires room { batch ≤ 32 }
+    requires left { (k : ℕ) (none : Task) → 1 < batch → k < count
+        → HasBlocks (get_or tasks.old k none) batch }
     ensures leads { (k : ℕ) (none : Task) (last : List ℕ) → k < count
         → LeadsTo (get_or tasks.old k none) (lane V.at k state.now) last
-        → LeadsTo (get_or tasks.new k none) (compress (lane V.at k state.now) (take 64 (drop (64 * k) blocks.new))) last }
+        → let taken = take (batch * 64) (drop (2048 * k) blocks.new) in
+        LeadsTo (get_or tasks.new k none) (hash_behind (lane V.at k state.now) taken batch) last }
     ensures shrinks { (k : ℕ) → k < count
         → get_or (works tasks.new) k 0 ≤ get_or (works tasks.old) k 0 - 1 }
     ensures size { length tasks.new ≡ 8 }
 {
     for k in 0..count {
         let mut task = tasks[k];
-        task.turn(&mut blocks[64 * k..64 * k + 64], state, k);
+        task.turn(&mut blocks[ROOM * k..ROOM * k + 64 * batch], state, k);
         tasks[k] = task;
     }
 }
@@ -110,8 +149,9 @@ fn go_on<V: Lanes>(
     let mut state = state;
     let mut blocks = [0; BLOCKS_LEN];
     while tasks[k].digest.is_none() && any_is_open(&tasks[k + 1..count]) {
-        turn_all(tasks, &mut blocks, &state, count);
-        state = after_block(state, words, &blocks, &STARTS);
+        let batch = batch_of(&tasks[..count]);
+        turn_all(tasks, &mut blocks, &state, count, batch);
+        state = absorbed(state, words, &blocks, &STARTS, batch);
     }
     state
 }

@@ -17,7 +17,7 @@ returns c = λ k low.
     let p = padded_message m in
     let size : length m ≡ len = length-take-le len (drop start text) (omega (arith, length-drop start text, c.requires.within k low)) in
     let p_is : p ≡ m ++ pad = ap (λ n. m ++ padding n) size in
-    let first = c.absorbed-state.ensures k 0 p low (c.initial_state.ensures k low) (whole_blocks text m pad p start len p_is refl size) in
+    let first = c.absorbed-state.ensures.message k 0 p low (c.initial_state.ensures k low) (whole_blocks text m pad p start len p_is refl size) in
     let n = tail_len len in
     let tails = c.tails_of_windows-tails.result in
     let tail_starts : List ℕ = 0 ∷ 128 ∷ 256 ∷ 384 ∷ 512 ∷ 640 ∷ 768 ∷ 896 ∷ [] in
@@ -27,5 +27,5 @@ returns c = λ k low.
     let tail = c.tails_of_windows-tails.ensures k low in
     let written : take (count * 64) (drop (slice_index tail_starts k) tails) ≡ tail_of len m =
     ap (λ (l : ℕ). take l (drop (slice_index tail_starts k) tails)) whole ∙ ap (λ (at : ℕ). take n (drop at tails)) place ∙ tail in
-    let last = c.absorbed.ensures k (0 + len / 64) p low first (last_blocks m pad p _ len count p_is size whole refl ∙ sym written) in
+    let last = c.absorbed.ensures.message k (0 + len / 64) p low first (last_blocks m pad p _ len count p_is size whole refl ∙ sym written) in
     last ∙ ap (hash_after p) (all_blocks m pad p len count p_is size whole)

@@ -1,4 +1,4 @@
-use Rattle.std.proofs.Common.{◌≡◌, ◌/◌, ◌%◌, ◌*◌, ◌∙◌, ℕ, arith, ap, length, take, slice_index}
+use Rattle.std.proofs.Common.{◌≡◌, ◌/◌, ◌%◌, ◌*◌, ◌∙◌, ℕ, min, arith, ap, length, take, slice_index}
 use Rattle.std.proofs.lemmas.List.{take_all}
 use Rattle.par2_digests.specs.Feeds.{hash_behind, left}
 use Rattle.par2_digests.specs.Lanes.{lane}
@@ -7,21 +7,23 @@ use Rattle.par2_digests.proofs.alone.hashed.Goals as goal
 
 pub loop-feed-smaller : goal.loop-feed-smaller
 loop-feed-smaller c =
-    omega (arith, size_behind (left c.loop-feed.feed) (left c.fill.new.self) c.fill.result c.fill.ensures.count c.loop-feed-test.true c.fill.ensures.rest)
+    let count : c.fill.result ≡ min 64 (length (left c.loop-feed.feed)) = omega (arith, c.fill.ensures.count, c.loop-feed.invariant.block) in
+    omega (arith, size_behind (left c.loop-feed.feed) (left c.fill.new.self) c.fill.result count c.loop-feed-test.true c.fill.ensures.rest)
 
 pub loop-feed-preserved : goal.loop-feed-preserved
 loop-feed-preserved c =
     let bytes = left c.loop-feed.feed in
     let rest = left c.fill.new.self in
-    let count = c.fill.ensures.count in
+    let count : c.fill.result ≡ min 64 (length bytes) = omega (arith, c.fill.ensures.count, c.loop-feed.invariant.block) in
     let full = c.loop-feed-test.true in
     let held = c.loop-feed.invariant in
     let hash = lane slice_index 0 c.loop-feed.state in
     record {
       hash =
           ap (λ h. hash_behind h rest (length rest / 64)) (c.after_block-state.ensures 0 (omega arith))
-          ∙ hash_more bytes rest c.fill.new.block hash c.fill.result count full c.fill.ensures.bytes c.fill.ensures.rest
+          ∙ hash_more bytes rest c.fill.new.blocks hash c.fill.result count full c.fill.ensures.bytes c.fill.ensures.rest
           ∙ held.hash;
+      block = c.fill.auto.blocks ∙ held.block;
       size = omega (arith, size_behind bytes rest c.fill.result count full c.fill.ensures.rest, held.size);
       rest = same_rest bytes rest c.fill.result count full c.fill.ensures.rest ∙ held.rest;
     }
@@ -30,7 +32,7 @@ pub returns-clause-hash : goal.returns-clause-hash
 unfolding hash_behind
 returns-clause-hash c =
     let bytes = left c.loop-feed.feed in
-    let none : length bytes / 64 ≡ 0 = omega (arith, c.fill.ensures.count, c.loop-feed-test.false) in
+    let none : length bytes / 64 ≡ 0 = omega (arith, c.fill.ensures.count, c.loop-feed.invariant.block, c.loop-feed-test.false) in
     c.in_lane.ensures ∙ (rw none at c.loop-feed.invariant.hash)
 
 pub returns-clause-rest : goal.returns-clause-rest
@@ -38,10 +40,10 @@ returns-clause-rest c =
     let bytes = left c.loop-feed.feed in
     let whole = left c.args.feed in
     let count = c.fill.result in
-    let block = c.fill.new.block in
-    let all : count ≡ length bytes = omega (arith, c.fill.ensures.count, c.loop-feed-test.false) in
-    let size : length whole % 64 ≡ count = omega (arith, c.loop-feed.invariant.size, c.fill.ensures.count, c.loop-feed-test.false) in
-    let none : length bytes / 64 * 64 ≡ 0 = omega (arith, c.fill.ensures.count, c.loop-feed-test.false) in
+    let block = c.fill.new.blocks in
+    let all : count ≡ length bytes = omega (arith, c.fill.ensures.count, c.loop-feed.invariant.block, c.loop-feed-test.false) in
+    let size : length whole % 64 ≡ count = omega (arith, c.loop-feed.invariant.size, c.fill.ensures.count, c.loop-feed.invariant.block, c.loop-feed-test.false) in
+    let none : length bytes / 64 * 64 ≡ 0 = omega (arith, c.fill.ensures.count, c.loop-feed.invariant.block, c.loop-feed-test.false) in
     ap (λ (n : ℕ). take n block) size
     ∙ c.fill.ensures.bytes
     ∙ take_all count bytes (omega arith)

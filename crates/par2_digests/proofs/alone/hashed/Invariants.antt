@@ -6,6 +6,7 @@ use Rattle.par2_digests.proofs.alone.hashed.Given as goal
 abbrev pub invariant-loop-feed : goal.invariant-loop-feed
 invariant-loop-feed l = record {
   hash : hash_behind (lane slice_index 0 l.state) (left l.feed) (length (left l.feed) / 64) ≡ hash_behind l.fn.hash (left l.fn.feed) (length (left l.fn.feed) / 64);
+  block : length l.block ≡ 64;
   size : length (left l.feed) % 64 ≡ length (left l.fn.feed) % 64;
   rest : drop (length (left l.feed) / 64 * 64) (left l.feed) ≡ drop (length (left l.fn.feed) / 64 * 64) (left l.fn.feed);
 }

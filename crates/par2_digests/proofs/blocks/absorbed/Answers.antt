@@ -1,19 +1,41 @@
-use Rattle.std.proofs.Common.{◌≡◌, ◌+◌, ap, ap₂, arith, slice_index, ◌∙◌}
-use Rattle.md5.specs.Md5.{add_state, compress, hash_after, rounds}
+use Rattle.std.proofs.Common.{◌≡◌, ◌+◌, ◌*◌, ap, ap₂, arith, drop, refl, slice_index, take, ◌∙◌, add-one}
+use Rattle.std.proofs.lemmas.List.{drop-drop}
+use Rattle.md5.specs.Md5.{add_state, block_words, compress, hash_after, rounds}
+use Rattle.par2_digests.specs.Feeds.{hash_behind}
+use Rattle.par2_digests.specs.Lanes.{lane}
 use Rattle.par2_digests.proofs.BlockLaws.{one_block_more}
+use Rattle.par2_digests.proofs.FeedLaws.{hash_one_more}
 use Rattle.par2_digests.proofs.blocks.absorbed.Goals as goal
 
 pub loop-block-init : goal.loop-block-init
-loop-block-init g c = λ k n p low held same. let start : n ≡ n + 0 = omega arith in held ∙ ap (hash_after p) start
+unfolding hash_behind
+loop-block-init g c = record {
+  message = λ k n p low held same. let start : n ≡ n + 0 = omega arith in held ∙ ap (hash_after p) start;
+  behind = λ k low. refl;
+}
 
 pub loop-block-preserved : goal.loop-block-preserved
 unfolding compress
-loop-block-preserved g c = λ k n p low held same.
-    c.compressed-after.ensures k low
-    ∙ ap₂ (λ h words. add_state h (rounds h words 64)) (c.loop-block.invariant k n p low held same) (c.read_words.ensures k low)
-    ∙ one_block_more p c.args.bytes.now n c.args.count c.loop-block.block (slice_index c.args.starts.now k) c.loop-block-test.true same
+loop-block-preserved g c =
+    let held = c.loop-block.invariant in
+    let block = c.loop-block.block in
+    record {
+      message = λ k n p low held-state same.
+          c.compressed-after.ensures k low
+          ∙ ap₂ (λ h words. add_state h (rounds h words 64)) (held.message k n p low held-state same) (c.read_words.ensures k low)
+          ∙ one_block_more p c.args.bytes.now n c.args.count block (slice_index c.args.starts.now k) c.loop-block-test.true same;
+      behind = λ k low.
+          c.compressed-after.ensures k low
+          ∙ ap₂ (λ h words. add_state h (rounds h words 64)) (held.behind k low) (c.read_words.ensures k low)
+          ∙ hash_one_more (lane g.V.Lanes.at k c.args.state) c.args.bytes.now (slice_index c.args.starts.now k) block;
+    }
 
-pub returns : goal.returns
-returns g c = λ k n p low held same.
+pub returns-clause-message : goal.returns-clause-message
+returns-clause-message g c = λ k n p low held same.
     let end : n + c.loop-block.block ≡ n + c.args.count = omega arith in
-    c.loop-block.invariant k n p low held same ∙ ap (hash_after p) end
+    c.loop-block.invariant.message k n p low held same ∙ ap (hash_after p) end
+
+pub returns-clause-behind : goal.returns-clause-behind
+returns-clause-behind g c = λ k low.
+    let end : c.loop-block.block ≡ c.args.count = omega arith in
+    c.loop-block.invariant.behind k low ∙ ap (hash_behind (lane g.V.Lanes.at k c.args.state) (drop (slice_index c.args.starts.now k) c.args.bytes.now)) end

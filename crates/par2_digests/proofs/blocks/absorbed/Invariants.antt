@@ -1,8 +1,12 @@
 use Rattle.std.proofs.Common.{◌≡◌, ◌<◌, ◌+◌, ◌*◌, ℕ, List, take, drop, slice_index}
 use Rattle.md5.specs.Md5.{hash_after}
+use Rattle.par2_digests.specs.Feeds.{hash_behind}
 use Rattle.par2_digests.specs.Lanes.{lane}
 use Rattle.par2_digests.proofs.blocks.absorbed.Given as goal
 
 abbrev pub invariant-loop-block : goal.invariant-loop-block
-invariant-loop-block g l = (k n : ℕ) (p : List ℕ) → k < g.V.Lanes.count → lane g.V.Lanes.at k l.fn.state ≡ hash_after p n
-    → take (l.count * 64) (drop (n * 64) p) ≡ take (l.count * 64) (drop (slice_index l.starts k) l.bytes) → lane g.V.Lanes.at k l.after ≡ hash_after p (n + l.block)
+invariant-loop-block g l = record {
+  message : (k n : ℕ) (p : List ℕ) → k < g.V.Lanes.count → lane g.V.Lanes.at k l.fn.state ≡ hash_after p n
+      → take (l.count * 64) (drop (n * 64) p) ≡ take (l.count * 64) (drop (slice_index l.starts k) l.bytes) → lane g.V.Lanes.at k l.after ≡ hash_after p (n + l.block);
+  behind : (k : ℕ) → k < g.V.Lanes.count → lane g.V.Lanes.at k l.after ≡ hash_behind (lane g.V.Lanes.at k l.fn.state) (drop (slice_index l.starts k) l.bytes) l.block;
+}

@@ -1,5 +1,5 @@
 use Rattle.std.proofs.Common.{◌≡◌, ◌≤◌, ◌<◌, ◌*◌, ◌-◌, ℕ, List, length, take, drop, get_or}
-use Rattle.md5.specs.Md5.{compress}
+use Rattle.par2_digests.specs.Feeds.{hash_behind}
 use Rattle.par2_digests.specs.Lanes.{lane}
 use Rattle.par2_digests.specs.Tasks.{LeadsTo, works}
 use Rattle.par2_digests.specs.declared.tasks.Task.{Task}
@@ -8,9 +8,9 @@ use Rattle.par2_digests.proofs.tasks.turn_all.Given as goal
 abbrev pub invariant-loop-k : goal.invariant-loop-k
 invariant-loop-k g l = record {
   tasks : length l.tasks ≡ 8;
-  blocks : length l.blocks ≡ 512;
+  blocks : length l.blocks ≡ 16384;
   leads : (j : ℕ) (none : Task) (last : List ℕ) → j < l.k → LeadsTo (get_or l.initial.tasks j none) (lane g.V.Lanes.at j l.state) last
-      → LeadsTo (get_or l.tasks j none) (compress (lane g.V.Lanes.at j l.state) (take 64 (drop (64 * j) l.blocks))) last;
+      → LeadsTo (get_or l.tasks j none) (hash_behind (lane g.V.Lanes.at j l.state) (take (l.batch * 64) (drop (2048 * j) l.blocks)) l.batch) last;
   shrinks : (j : ℕ) → j < l.k → get_or (works l.tasks) j 0 ≤ get_or (works l.initial.tasks) j 0 - 1;
   kept : (j : ℕ) (none : Task) → l.k ≤ j → get_or l.tasks j none ≡ get_or l.initial.tasks j none;
 }

@@ -16,11 +16,12 @@ loop-filled-preserved c =
     let rest : left feed ≡ drop f whole = c.if-go_on.ensures.same ∙ held.rest in
     let piece = drop feed.at (part_bytes feed.part) in
     record {
-      room = omega (arith, copied.ensures.count, c.copy_part-filled-in-loop-filled.auto.block, c.loop-filled.auto.block);
+      room = omega (arith, copied.ensures.count, copied.auto.block, held.size);
+      size = copied.auto.block ∙ held.size;
       within = within_more whole (left feed) piece (message_of feed.parts.now ++ message_of feed.ending.now) f r _ rest refl held.within copied.ensures.count;
-      bytes = filled_more whole (left feed) c.loop-filled.block copied.new.block f r rest held.bytes copied.ensures.after;
+      bytes = filled_more whole (left feed) c.loop-filled.blocks copied.new.block f r rest held.bytes copied.ensures.after;
       rest = rest_more whole (left feed) (left copied.new.self) f r rest copied.ensures.rest;
-      done = λ short. copied.ensures.part ∙ drop_all r piece (omega (arith, copied.ensures.count, c.loop-filled.auto.block));
+      done = λ short. copied.ensures.part ∙ drop_all r piece (omega (arith, copied.ensures.count, held.size));
     }
 
 pub returns-else-go_on-clause-count : goal.returns-else-go_on-clause-count

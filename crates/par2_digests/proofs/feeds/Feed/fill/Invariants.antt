@@ -5,11 +5,12 @@ use Rattle.par2_digests.proofs.feeds.Feed.fill.Given as goal
 
 abbrev pub invariant-loop-filled : goal.invariant-loop-filled
 invariant-loop-filled l = record {
-  room : l.filled ≤ 64;
+  room : l.filled ≤ length l.blocks;
+  size : length l.blocks ≡ length l.fn.blocks;
   within : l.filled ≤ length (left l.fn.self);
-  bytes : take l.filled l.block ≡ take l.filled (left l.fn.self);
+  bytes : take l.filled l.blocks ≡ take l.filled (left l.fn.self);
   rest : left l.self ≡ drop l.filled (left l.fn.self);
-  done : l.filled < 64 → drop l.self.at (part_bytes l.self.part) ≡ [];
+  done : l.filled < length l.blocks → drop l.self.at (part_bytes l.self.part) ≡ [];
 }
 
 abbrev pub decreases-loop-filled : goal.decreases-loop-filled
