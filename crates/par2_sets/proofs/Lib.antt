@@ -1,5 +1,7 @@
 pub mod Lists
 pub mod Names
 pub mod Exponents
+pub mod Keeping
+pub mod Checked
 pub mod Refusals
 pub mod Reading

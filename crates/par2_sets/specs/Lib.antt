@@ -1,3 +1,4 @@
+pub mod Firsts
 pub mod Steps
 pub mod Slices
 pub mod Codes

@@ -1,26 +1,49 @@
 //! What IFSC packets say of the slices of a file.
 
-ghost use Rattle.std.specs.Prelude.{◌≡◌, ◌≤◌, map, option_map, IfOk};
+ghost use Rattle.std.specs.Prelude.{◌≡◌, ◌≤◌, ℕ, List, map, option_map, IfOk};
+ghost use Rattle.par2_spec.specs.Packets as spec;
 ghost use Rattle.par2_spec.specs.Sets.{pairs_of};
 ghost use Rattle.par2_packets.specs.View.{packet_of};
+ghost use Rattle.par2_sets.specs.Firsts.{HoldChecksums};
 ghost use Rattle.par2_sets.specs.Steps.{Gives, checksums_for};
 
+use crate::firsts::keep_first;
 use crate::profile::slice_count;
 use par2_packets::{DescView, IfscView, Packet, Pair, read_ifsc};
 use par2_spec::Fault;
 use std::alloc::{AllocError, Global};
+use std::collections::BTreeMap;
 
-// The first well-formed IFSC with this File ID and n pairs.
-fn checksums_of<'a>(packets: &[Packet<'a>], id: &[u8; 16], n: u64) -> Option<IfscView<'a>>
-    ensures { option_map (λ c. c.pairs) result ≡ pairs_of (map packet_of packets.now) id.now n }
+/// The first well-formed IFSC of each File ID with each number of slices.
+pub(crate) type Checksums<'a> = BTreeMap<([u8; 16], u64), IfscView<'a>>;
+
+/// The checksums that the packets have, by File ID and number of slices.
+pub(crate) fn checksums_in<'a>(
+    alloc: Global,
+    packets: &[Packet<'a>],
+) -> Result<Checksums<'a>, AllocError>
+    ensures { IfOk result (HoldChecksums (map packet_of packets.now)) }
 {
-    packets
-        .iter()
-        .filter_map(|packet| read_ifsc(packet))
-        .find(|checksums| {
+    let mut firsts = BTreeMap::new(alloc);
+    for packet in packets {
+        if let Some(checksums) = read_ifsc(packet) {
             let count = checksums.count() as u64;
-            checksums.id() == *id && count == n
-        })
+            keep_first(&mut firsts, (checksums.id(), count), checksums)?;
+        }
+    }
+    Ok(firsts)
+}
+
+// The checksums of this File ID with so many slices.
+fn checksums_of<'c, 'a>(
+    firsts: &'c Checksums<'a>,
+    id: [u8; 16],
+    count: u64,
+) -> Option<&'c IfscView<'a>>
+    ensures { (packets : List spec.Packet) → HoldChecksums packets firsts.now
+        → option_map (λ c. c.now.pairs) result ≡ pairs_of packets id count }
+{
+    firsts.get(&(id, count))
 }
 
 // The pairs of an IFSC.
@@ -37,18 +60,18 @@ fn pairs_in(alloc: Global, checksums: &IfscView) -> Result<Vec<Pair>, AllocError
 /// The checksums of the slices of a file. A file without bytes needs none.
 pub(crate) fn pairs_for(
     alloc: Global,
-    packets: &[Packet],
+    firsts: &Checksums,
     s: u64,
     description: &DescView,
 ) -> Result<Vec<Pair>, Fault>
     requires { 1 ≤ s }
-    ensures { let pairs = checksums_for (map packet_of packets.now) s description.now in
-        Gives (λ list. list.items) result pairs }
+    ensures { (packets : List spec.Packet) → HoldChecksums packets firsts.now →
+        Gives (λ list. list.items) result (checksums_for packets s description.now) }
 {
     if description.length() == 0 {
         return Ok(Vec::new(alloc));
     }
     let count = slice_count(s, description.length());
-    let checksums = checksums_of(packets, &description.id(), count).ok_or(Fault::NoChecksums)?;
-    pairs_in(alloc, &checksums).map_err(|_| Fault::Memory)
+    let checksums = checksums_of(firsts, description.id(), count).ok_or(Fault::NoChecksums)?;
+    pairs_in(alloc, checksums).map_err(|_| Fault::Memory)
 }

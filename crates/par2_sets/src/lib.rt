@@ -3,6 +3,7 @@
 
 mod checksums;
 mod descriptions;
+mod firsts;
 mod main_packet;
 mod packets;
 mod profile;

@@ -1,10 +1,12 @@
 //! The files that a set describes.
 
-ghost use Rattle.std.specs.Prelude.{◌≡◌, ◌≤◌, map};
+ghost use Rattle.std.specs.Prelude.{◌≡◌, ◌≤◌, List, map};
+ghost use Rattle.par2_spec.specs.Packets as spec;
 ghost use Rattle.par2_packets.specs.View.{packet_of};
+ghost use Rattle.par2_sets.specs.Firsts.{HoldChecksums};
 ghost use Rattle.par2_sets.specs.Steps.{Gives, checked, checked_target};
 
-use crate::checksums::pairs_for;
+use crate::checksums::{Checksums, checksums_in, pairs_for};
 use par2_folder::Name;
 use par2_packets::{DescView, Packet, Pair};
 use par2_spec::Fault;
@@ -61,21 +63,43 @@ impl Target {
 // The target of a description and its name.
 fn target_of(
     alloc: Global,
-    packets: &[Packet],
+    checksums: &Checksums,
     s: u64,
     description: &DescView,
     name: &Name,
 ) -> Result<Target, Fault>
     requires size { 1 ≤ s }
     requires name { name.now ≡ description.now.name }
-    ensures { Gives (λ t. t) result (checked_target (map packet_of packets.now) s description.now) }
+    ensures { (packets : List spec.Packet) → HoldChecksums packets checksums.now →
+        Gives (λ t. t) result (checked_target packets s description.now) }
 {
     Ok(Target {
         name: name.copied(),
         size: description.length(),
         digest: description.md5(),
-        pairs: pairs_for(alloc, packets, s, description)?,
+        pairs: pairs_for(alloc, checksums, s, description)?,
     })
+}
+
+// The targets of the descriptions and their names, in order, by the checksums of all.
+fn targets_by(
+    alloc: Global,
+    checksums: &Checksums,
+    s: u64,
+    descriptions: &[DescView],
+    names: &[Name],
+) -> Result<Vec<Target>, Fault>
+    requires size { 1 ≤ s }
+    requires names { names.now ≡ map (λ d. d.name) descriptions.now }
+    ensures { (packets : List spec.Packet) → HoldChecksums packets checksums.now →
+        Gives (λ targets. targets.items) result (checked packets s descriptions.now) }
+{
+    let mut targets = Vec::new(alloc);
+    for (description, name) in descriptions.iter().zip(names) {
+        let target = target_of(alloc, checksums, s, description, name)?;
+        targets.push(target).map_err(|_| Fault::Memory)?;
+    }
+    Ok(targets)
 }
 
 /// The targets of the descriptions and their names, in order.
@@ -91,10 +115,6 @@ pub(crate) fn targets_of(
     ensures { let all = checked (map packet_of packets.now) s descriptions.now in
         Gives (λ targets. targets.items) result all }
 {
-    let mut targets = Vec::new(alloc);
-    for (description, name) in descriptions.iter().zip(names) {
-        let target = target_of(alloc, packets, s, description, name)?;
-        targets.push(target).map_err(|_| Fault::Memory)?;
-    }
-    Ok(targets)
+    let checksums = checksums_in(alloc, packets).map_err(|_| Fault::Memory)?;
+    targets_by(alloc, &checksums, s, descriptions, names)
 }

@@ -1,0 +1,10 @@
+use Rattle.std.proofs.Common.{◌≡◌, ℕ, List, map, take}
+use Rattle.std.specs.BTreeMap.{get}
+use Rattle.par2_packets.specs.View.{packet_of}
+use Rattle.par2_sets.specs.Firsts.{count_cmp}
+use Rattle.par2_sets.proofs.Checked.{checksums_of}
+use Rattle.par2_sets.proofs.checksums.checksums_in.Given as goal
+
+abbrev pub invariant-loop-packet : goal.invariant-loop-packet
+invariant-loop-packet l =
+    (id : List ℕ) (n : ℕ) → get count_cmp l.firsts (id, n) ≡ checksums_of (map packet_of (take l.packet-index l.packets)) id n

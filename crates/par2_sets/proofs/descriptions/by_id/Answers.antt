@@ -1,0 +1,41 @@
+use Rattle.std.proofs.Common.{◌∙◌, List, Bool, false, refl, sym, ap}
+use Rattle.std.specs.Prelude.{find, option_and_then}
+use Rattle.std.specs.BTreeMap.{get}
+use Rattle.std.specs.Ordering.{eq_by_cmp}
+use Rattle.std.proofs.lemmas.List.{take_all}
+use Rattle.par2_spec.specs.Packets.{DescBody, read_desc}
+use Rattle.par2_packets.specs.View.{packet_of}
+use Rattle.par2_packets.specs.declared.scan.Packet as scan
+use Rattle.par2_sets.specs.Firsts.{id_cmp}
+use Rattle.par2_sets.proofs.Checked.{desc_in, has_id}
+use Rattle.par2_sets.proofs.Keeping.{reads, passes, first_read, item_kept, or_nothing, same_id}
+use Rattle.par2_sets.proofs.Lists.{filter_map-map}
+use Rattle.par2_sets.proofs.descriptions.by_id.Goals as goal
+use Rattle.par2_sets.proofs.descriptions.by_id.Goals.{in-Some+in_ok-keep_first, in_default}
+
+pub loop-packet-preserved : goal.loop-packet-preserved
+loop-packet-preserved c =
+    let packets : List scan.Packet = c.args.packets.now in
+    let i = c.loop-packet.packet-index in
+    let low = c.loop-packet-test.true in
+    elim c.match-read_desc.branch [
+      | in-Some+in_ok-keep_first w ↦ λ id.
+          let test : DescBody → Bool = has_id id in
+          item_kept desc_in test packets i _ _ (get id_cmp c.loop-packet.firsts id) _ _
+          (ap (λ m. get id_cmp m id) w.firsts-is ∙ w.in_ok-keep_first.ensures id)
+          (ap (λ k. eq_by_cmp id_cmp id k) w.id.ensures ∙ same_id id w.in-Some.description.id ∙ ap (passes test) (sym w.in-Some.is ∙ c.read_desc.ensures))
+          refl low (c.loop-packet.invariant id)
+      | in_default w ↦ λ id.
+          let test : DescBody → Bool = has_id id in
+          item_kept desc_in test packets i _ _ (get id_cmp c.loop-packet.firsts id) _ false
+          (ap (λ m. get id_cmp m id) w.firsts-is ∙ or_nothing (get id_cmp c.loop-packet.firsts id))
+          (ap (passes test) (sym w.in_default.is ∙ c.read_desc.ensures))
+          refl low (c.loop-packet.invariant id)
+    ]
+
+pub returns : goal.returns
+returns c id =
+    let packets : List scan.Packet = c.args.packets.now in
+    ap (option_and_then desc_in) (c.loop-packet.invariant id ∙ ap (find (reads desc_in (has_id id))) (take_all c.loop-packet.packet-index packets c.loop-packet-test.false))
+    ∙ first_read desc_in (has_id id) packets
+    ∙ ap (find (has_id id)) (sym (filter_map-map (λ p. read_desc p.kind p.body) packet_of packets))
