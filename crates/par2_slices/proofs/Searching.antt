@@ -1,19 +1,20 @@
 -- A search under way.
-use Rattle.std.proofs.Common.{◌≡◌, ℕ, zero, suc, ◌+◌, ◌*◌, ◌/◌, ◌%◌, ◌^◌, ◌<◌, Bool, true, false, cond, List, [], ◌∷◌, ◌++◌, length, map, drop, get_or, set, replicate, refl, sym, ap, subst, ◌∙◌, get_or-set_same, get_or-set_other, inl, inr, arith}
-use Rattle.std.specs.Prelude.{◌⊎◌, ◌==◌, ◌&&◌, Option, Some, None, find}
+use Rattle.std.proofs.Common.{◌≡◌, ℕ, zero, suc, ◌+◌, ◌*◌, ◌/◌, ◌%◌, ◌^◌, ◌<◌, Bool, true, false, cond, List, [], ◌∷◌, ◌++◌, length, length-take, map, drop, take, get_or, set, replicate, refl, sym, ap, ap₂, subst, ◌∙◌, get_or-set_same, get_or-set_other, inl, inr, arith}
+use Rattle.std.specs.Prelude.{◌⊎◌, ◌==◌, ◌&&◌, Option, Some, None, find, option_map}
 use Rattle.std.specs.List.{count_by, list_all, range_with_len}
 use Rattle.std.specs.Option.{is_none, option_or}
 use Rattle.std.specs.Str.{bytes_eq}
 use Rattle.std.proofs.lemmas.Bool.{cases_eq, cases_lt, eqb-true, eq-eqb}
-use Rattle.std.proofs.lemmas.List.{length-set, length-replicate, get_or-replicate, length-map, get_or-map, ext_get_or, get_or_append_left, get_or_at, length_push, drop_more}
+use Rattle.std.proofs.lemmas.List.{length-set, length-replicate, get_or-replicate, length-map, get_or-map, ext_get_or, get_or_append_left, get_or_at, length_push, drop_more, take_more}
 use Rattle.std.proofs.lemmas.List.Folds.{find-append, sum_by-zero, sum_by-replicate, list_all_at}
 use Rattle.std.proofs.lemmas.List.Sums.{sum_by-set, fold-append}
 use Rattle.md5.specs.Md5.{md5}
 use Rattle.par2_spec.specs.Checksums.{Pair, crc32}
 use Rattle.par2_spec.specs.Windows.{is_match, window, first_match}
 use Rattle.par2_slices.specs.Filters.{Bits, Marks}
-use Rattle.par2_slices.specs.Searches.{no_pair, no_place, no_candidate, pair_at, place_at, candidate_at, offset_at, HoldsGroup, is_awaited, advanced, has_checksums, settled, first_below, IsCandidate, IsTally, IsAt}
+use Rattle.par2_slices.specs.Searches.{no_pair, no_place, no_candidate, pair_at, place_at, candidate_at, answer_at, answer_below, spot_in, first_spot, first_spot_from, HoldsGroup, is_awaited, advanced, has_checksums, settled, first_below, Begun, IsWindow, IsTally, IsAt}
 use Rattle.par2_slices.specs.declared.batch.Candidate.{Candidate}
+use Rattle.par2_slices.specs.declared.batch.Spot.{Spot}
 use Rattle.par2_slices.specs.declared.wanted.Place.{Place}
 
 range_split : (a m n : ℕ) → range_with_len a (m + n) ≡ range_with_len a m ++ range_with_len (a + m) n
@@ -22,8 +23,7 @@ range_split a (suc m) n =
     ap (range_with_len a) (let e : suc m + n ≡ suc (m + n) = omega arith in e)
     ∙ ap {B = List ℕ} (λ t. a ∷ t) (range_split (a + 1) m n ∙ ap (λ b. range_with_len (a + 1) m ++ range_with_len b n) (let e : a + 1 + m ≡ a + suc m = omega arith in e))
 
--- one offset more
-pub first_below-more : (s : ℕ) (text : List ℕ) (o : ℕ) (pair : Pair) → first_below s text (o + 1) pair ≡ advanced (is_match pair (window s text o)) o (first_below s text o pair)
+first_below-more : (s : ℕ) (text : List ℕ) (o : ℕ) (pair : Pair) → first_below s text (o + 1) pair ≡ option_or (first_below s text o pair) (cond (is_match pair (window s text o)) (Some o) None)
 unfolding first_below
 first_below-more s text o pair =
     let test : ℕ → Bool = λ k. is_match pair (window s text k) in
@@ -31,60 +31,75 @@ first_below-more s text o pair =
     ∙ find-append test (range_with_len 0 o) (range_with_len (0 + o) 1)
     ∙ ap (λ k. option_or (find test (range_with_len 0 o)) (cond (test k) (Some k) None)) (let e : 0 + o ≡ o = omega arith in e)
 
+-- one offset more
+below-more : (s : ℕ) (text : List ℕ) (begun : Begun) (o : ℕ) (pairs : List Pair) (i : ℕ)
+    → answer_below s text begun (o + 1) pairs i ≡ advanced (is_match (pair_at pairs i) (window s text o)) (spot_in begun.text o) (answer_below s text begun o pairs i)
+below-more s text begun o pairs i =
+    ap (λ f. option_or (answer_at begun.before i) (option_map (spot_in begun.text) f)) (first_below-more s text o (pair_at pairs i))
+    ∙ step (answer_at begun.before i) (first_below s text o (pair_at pairs i)) (is_match (pair_at pairs i) (window s text o))
+  where
+    step : (before : Option Spot) (below : Option ℕ) (m : Bool)
+        → option_or before (option_map (spot_in begun.text) (option_or below (cond m (Some o) None)))
+        ≡ advanced m (spot_in begun.text o) (option_or before (option_map (spot_in begun.text) below))
+    step (Some x) below m = refl
+    step None (Some x) m = refl
+    step None None true = refl
+    step None None false = refl
+
 -- an answer that is there stands
-settled_some : (s : ℕ) (text : List ℕ) (pair : Pair) (candidates : List Candidate) (x : ℕ) → settled s text pair candidates (Some x) ≡ Some x
+settled_some : (s : ℕ) (text : List ℕ) (pair : Pair) (candidates : List Candidate) (x : Spot) → settled s text pair candidates (Some x) ≡ Some x
 unfolding settled
 settled_some s text pair [] x = refl
 settled_some s text pair (candidate ∷ rest) x = settled_some s text pair rest x
 
-settled_open : (s : ℕ) (text : List ℕ) (pair : Pair) (candidates : List Candidate) (answer : Option ℕ) → settled s text pair candidates answer ≡ None → answer ≡ None
+settled_open : (s : ℕ) (text : List ℕ) (pair : Pair) (candidates : List Candidate) (answer : Option Spot) → settled s text pair candidates answer ≡ None → answer ≡ None
 settled_open s text pair candidates None is = refl
 settled_open s text pair candidates (Some x) is = sym (settled_some s text pair candidates x) ∙ is
 
 -- no candidate more
-settled_none : (s : ℕ) (text : List ℕ) (pair : Pair) (answer : Option ℕ) → settled s text pair [] answer ≡ answer
+settled_none : (s : ℕ) (text : List ℕ) (pair : Pair) (answer : Option Spot) → settled s text pair [] answer ≡ answer
 unfolding settled
 settled_none s text pair answer = refl
 
-pub none_settled : (s : ℕ) (text : List ℕ) (pair : Pair) (candidates : List Candidate) (answer : Option ℕ) → length candidates ≡ 0 → settled s text pair candidates answer ≡ answer
+pub none_settled : (s : ℕ) (text : List ℕ) (pair : Pair) (candidates : List Candidate) (answer : Option Spot) → length candidates ≡ 0 → settled s text pair candidates answer ≡ answer
 none_settled s text pair [] answer none = settled_none s text pair answer
 none_settled s text pair (candidate ∷ rest) answer none = absurd (omega (arith, none))
 
 -- a candidate behind the others
-settled_more : (s : ℕ) (text : List ℕ) (pair : Pair) (candidates : List Candidate) (candidate : Candidate) (answer : Option ℕ) → settled s text pair (candidates ++ candidate ∷ []) answer ≡ advanced (is_match pair (window s text candidate.offset)) candidate.offset (settled s text pair candidates answer)
+settled_more : (s : ℕ) (text : List ℕ) (pair : Pair) (candidates : List Candidate) (candidate : Candidate) (answer : Option Spot) → settled s text pair (candidates ++ candidate ∷ []) answer ≡ advanced (is_match pair (window s text candidate.spot.offset)) candidate.spot (settled s text pair candidates answer)
 unfolding settled
-settled_more s text pair candidates candidate answer = fold-append (λ (so_far : Option ℕ) (c : Candidate). advanced (is_match pair (window s text c.offset)) c.offset so_far) answer candidates (candidate ∷ [])
+settled_more s text pair candidates candidate answer = fold-append (λ (so_far : Option Spot) (c : Candidate). advanced (is_match pair (window s text c.spot.offset)) c.spot so_far) answer candidates (candidate ∷ [])
 
 -- candidate k in front of those behind it
-pub settled_from : (s : ℕ) (text : List ℕ) (pair : Pair) (candidates : List Candidate) (k : ℕ) (answer : Option ℕ) → k < length candidates →
-    settled s text pair (drop k candidates) answer ≡ settled s text pair (drop (k + 1) candidates) (advanced (is_match pair (window s text (candidate_at candidates k).offset)) (candidate_at candidates k).offset answer)
+pub settled_from : (s : ℕ) (text : List ℕ) (pair : Pair) (candidates : List Candidate) (k : ℕ) (answer : Option Spot) → k < length candidates →
+    settled s text pair (drop k candidates) answer ≡ settled s text pair (drop (k + 1) candidates) (advanced (is_match pair (window s text (candidate_at candidates k).spot.offset)) (candidate_at candidates k).spot answer)
 unfolding settled
 settled_from s text pair candidates k answer inside = ap (λ cs. settled s text pair cs answer) (drop_more candidates k no_candidate inside)
 
 -- where an answer stands, or nothing matches, it stays
-stays : (m : Bool) (offset : ℕ) (old : Option ℕ) → (old ≡ None → m ≡ false) → old ≡ advanced m offset old
-stays m offset None fails = ap (λ b. cond b (Some offset) None) (sym (fails refl))
-stays m offset (Some x) fails = refl
+stays : (m : Bool) (spot : Spot) (old : Option Spot) → (old ≡ None → m ≡ false) → old ≡ advanced m spot old
+stays m spot None fails = ap (λ b. cond b (Some spot) None) (sym (fails refl))
+stays m spot (Some x) fails = refl
 
 -- the same where it may have advanced before
-kept : (m : Bool) (offset : ℕ) (old now : Option ℕ) → (now ≡ old) ⊎ (now ≡ advanced m offset old) → (now ≡ None → m ≡ false) → now ≡ advanced m offset old
-kept m offset old now (inl same) fails = same ∙ stays m offset old (λ none. fails (same ∙ none))
-kept m offset old now (inr done) fails = done
+kept : (m : Bool) (spot : Spot) (old now : Option Spot) → (now ≡ old) ⊎ (now ≡ advanced m spot old) → (now ≡ None → m ≡ false) → now ≡ advanced m spot old
+kept m spot old now (inl same) fails = same ∙ stays m spot old (λ none. fails (same ∙ none))
+kept m spot old now (inr done) fails = done
 
-was_open : (m : Bool) (offset : ℕ) (old now : Option ℕ) → (now ≡ old) ⊎ (now ≡ advanced m offset old) → now ≡ None → old ≡ None
-was_open m offset None now either none = refl
-was_open m offset (Some x) now (inl same) none = sym same ∙ none
-was_open m offset (Some x) now (inr done) none = sym done ∙ none
+was_open : (m : Bool) (spot : Spot) (old now : Option Spot) → (now ≡ old) ⊎ (now ≡ advanced m spot old) → now ≡ None → old ≡ None
+was_open m spot None now either none = refl
+was_open m spot (Some x) now (inl same) none = sym same ∙ none
+was_open m spot (Some x) now (inr done) none = sym done ∙ none
 
-pub no_more : (s : ℕ) (text : List ℕ) (o : ℕ) (pairs : List Pair) (found : List (Option ℕ)) (left : ℕ) (filter : Bits) (candidates : List Candidate) → IsAt s text o pairs found left filter candidates → ((i : ℕ) → i < length pairs → offset_at found i ≡ None → is_match (pair_at pairs i) (window s text o) ≡ false) → IsAt s text (o + 1) pairs found left filter candidates
-no_more s text o pairs found left filter candidates at none = record {
+pub no_more : (s : ℕ) (text : List ℕ) (begun : Begun) (o : ℕ) (pairs : List Pair) (found : List (Option Spot)) (left : ℕ) (filter : Bits) (candidates : List Candidate) → IsAt s text begun o pairs found left filter candidates → ((i : ℕ) → i < length pairs → answer_at found i ≡ None → is_match (pair_at pairs i) (window s text o) ≡ false) → IsAt s text begun (o + 1) pairs found left filter candidates
+no_more s text begun o pairs found left filter candidates at none = record {
   tally = at.tally;
   answers = λ i h.
       let pair : Pair = pair_at pairs i in
       let m : Bool = is_match pair (window s text o) in
-      stays m o (settled s text pair candidates (offset_at found i)) (λ none_yet. none i h (settled_open s text pair candidates (offset_at found i) none_yet))
-      ∙ ap (advanced m o) (at.answers i h)
-      ∙ sym (first_below-more s text o pair);
+      stays m (spot_in begun.text o) (settled s text pair candidates (answer_at found i)) (λ none_yet. none i h (settled_open s text pair candidates (answer_at found i) none_yet))
+      ∙ ap (advanced m (spot_in begun.text o)) (at.answers i h)
+      ∙ sym (below-more s text begun o pairs i);
   candidates = at.candidates;
 }
 
@@ -96,9 +111,9 @@ no_crc pair md5 crc other =
     ] refl
 
 -- the checksum of the window is of no group that is marked
-pub unmarked : (s : ℕ) (text : List ℕ) (o : ℕ) (pairs : List Pair) (found : List (Option ℕ)) (left : ℕ) (filter : Bits) (candidates : List Candidate) (crc : ℕ) → IsAt s text o pairs found left filter candidates → crc ≡ crc32 (window s text o) → (Marks filter crc → ⊥) → IsAt s text (o + 1) pairs found left filter candidates
-unmarked s text o pairs found left filter candidates crc at is not_marked =
-    no_more s text o pairs found left filter candidates at (λ i h none.
+pub unmarked : (s : ℕ) (text : List ℕ) (begun : Begun) (o : ℕ) (pairs : List Pair) (found : List (Option Spot)) (left : ℕ) (filter : Bits) (candidates : List Candidate) (crc : ℕ) → IsAt s text begun o pairs found left filter candidates → crc ≡ crc32 (window s text o) → (Marks filter crc → ⊥) → IsAt s text begun (o + 1) pairs found left filter candidates
+unmarked s text begun o pairs found left filter candidates crc at is not_marked =
+    no_more s text begun o pairs found left filter candidates at (λ i h none.
     let Has : ℕ → Type 0 = λ c. Marks filter c in
     no_crc (pair_at pairs i) _ (crc32 (window s text o)) (λ same. not_marked (subst Has (same ∙ sym is) (at.tally.marked i h none))))
 
@@ -111,16 +126,16 @@ none_counted X p xs i d none h holds =
     cc
 
 -- no pair that has this checksum is open
-pub unawaited : (s : ℕ) (text : List ℕ) (o : ℕ) (pairs : List Pair) (found : List (Option ℕ)) (left : ℕ) (filter : Bits) (candidates : List Candidate) (crc shift : ℕ) (group : List Place) → IsAt s text o pairs found left filter candidates → crc ≡ crc32 (window s text o) → HoldsGroup pairs shift crc group → count_by (is_awaited crc found) group ≡ 0 → IsAt s text (o + 1) pairs found left filter candidates
-unawaited s text o pairs found left filter candidates crc shift group at is holds closed =
-    no_more s text o pairs found left filter candidates at (λ i h none.
+pub unawaited : (s : ℕ) (text : List ℕ) (begun : Begun) (o : ℕ) (pairs : List Pair) (found : List (Option Spot)) (left : ℕ) (filter : Bits) (candidates : List Candidate) (crc shift : ℕ) (group : List Place) → IsAt s text begun o pairs found left filter candidates → crc ≡ crc32 (window s text o) → HoldsGroup pairs shift crc group → count_by (is_awaited crc found) group ≡ 0 → IsAt s text begun (o + 1) pairs found left filter candidates
+unawaited s text begun o pairs found left filter candidates crc shift group at is holds closed =
+    no_more s text begun o pairs found left filter candidates at (λ i h none.
     no_crc (pair_at pairs i) _ (crc32 (window s text o)) (λ same.
     let its : (pair_at pairs i).1 ≡ crc = same ∙ sym is in
     let place = holds.whole i h (ap (λ c. c / 2 ^ shift) its) in
     let crc_is : (place_at group place.0).crc ≡ crc = sym (holds.each place.0 place.1).crc ∙ ap (λ j. (pair_at pairs j).1) place.2 ∙ its in
-    let unanswered : offset_at found (place_at group place.0).index ≡ None = ap (offset_at found) place.2 ∙ none in
+    let unanswered : answer_at found (place_at group place.0).index ≡ None = ap (answer_at found) place.2 ∙ none in
     none_counted Place (is_awaited crc found) group place.0 no_place closed place.1
-    (ap (λ b. b && is_none (offset_at found (place_at group place.0).index)) (eq-eqb (place_at group place.0).crc crc crc_is) ∙ ap is_none unanswered)))
+    (ap (λ b. b && is_none (answer_at found (place_at group place.0).index)) (eq-eqb (place_at group place.0).crc crc crc_is) ∙ ap is_none unanswered)))
 
 -- checksums are those of a window
 pub matches : (s : ℕ) (text : List ℕ) (o : ℕ) (digest : List ℕ) (crc : ℕ) (pair : Pair) → digest ≡ md5 (window s text o) → crc ≡ crc32 (window s text o) → has_checksums digest crc pair ≡ is_match pair (window s text o)
@@ -128,34 +143,36 @@ matches s text o digest crc pair digest_is crc_is =
     ap (λ m. has_checksums m crc pair) digest_is ∙ ap (λ k. has_checksums (md5 (window s text o)) k pair) crc_is
 
 -- the window at the offset has been compared, and no candidate waits
-pub compared : (s : ℕ) (text : List ℕ) (o : ℕ) (pairs : List Pair) (old new : List (Option ℕ)) (left after : ℕ) (filter marks : Bits) (candidates : List Candidate) (digest : List ℕ) (crc : ℕ) → IsAt s text o pairs old left filter candidates → candidates ≡ [] → digest ≡ md5 (window s text o) → crc ≡ crc32 (window s text o) → IsTally pairs new after marks →
-    ((i : ℕ) → i < length pairs → offset_at new i ≡ advanced (has_checksums digest crc (pair_at pairs i)) o (offset_at old i)) →
-    IsAt s text (o + 1) pairs new after marks candidates
-compared s text o pairs old new left after filter marks candidates digest crc at empty digest_is crc_is tally all = record {
+pub compared : (s : ℕ) (text : List ℕ) (begun : Begun) (o : ℕ) (pairs : List Pair) (old new : List (Option Spot)) (left after : ℕ) (filter marks : Bits) (candidates : List Candidate) (spot : Spot) (digest : List ℕ) (crc : ℕ) → IsAt s text begun o pairs old left filter candidates → candidates ≡ [] → spot ≡ spot_in begun.text o → digest ≡ md5 (window s text o) → crc ≡ crc32 (window s text o) → IsTally pairs new after marks →
+    ((i : ℕ) → i < length pairs → answer_at new i ≡ advanced (has_checksums digest crc (pair_at pairs i)) spot (answer_at old i)) →
+    IsAt s text begun (o + 1) pairs new after marks candidates
+compared s text begun o pairs old new left after filter marks candidates spot digest crc at empty spot_is digest_is crc_is tally all = record {
   tally = tally;
   answers = λ i h.
       let pair : Pair = pair_at pairs i in
       let m : Bool = is_match pair (window s text o) in
-      let none : (answer : Option ℕ) → settled s text pair candidates answer ≡ answer = λ answer. ap (λ cs. settled s text pair cs answer) empty ∙ settled_none s text pair answer in
-      none (offset_at new i)
+      let none : (answer : Option Spot) → settled s text pair candidates answer ≡ answer = λ answer. ap (λ cs. settled s text pair cs answer) empty ∙ settled_none s text pair answer in
+      none (answer_at new i)
       ∙ all i h
-      ∙ ap (λ b. advanced b o (offset_at old i)) (matches s text o digest crc pair digest_is crc_is)
-      ∙ ap (advanced m o) (sym (none (offset_at old i)) ∙ at.answers i h)
-      ∙ sym (first_below-more s text o pair);
+      ∙ ap (λ b. advanced b spot (answer_at old i)) (matches s text o digest crc pair digest_is crc_is)
+      ∙ ap (λ p. advanced m p (answer_at old i)) spot_is
+      ∙ ap (advanced m (spot_in begun.text o)) (sym (none (answer_at old i)) ∙ at.answers i h)
+      ∙ sym (below-more s text begun o pairs i);
   candidates = at.candidates;
 }
 
 -- the window at the offset is a candidate more
-pub pushed : (s : ℕ) (text : List ℕ) (pairs : List Pair) (found : List (Option ℕ)) (left : ℕ) (filter : Bits) (candidates : List Candidate) (candidate : Candidate) → IsAt s text candidate.offset pairs found left filter candidates → IsCandidate s text candidate → IsAt s text (candidate.offset + 1) pairs found left filter (candidates ++ candidate ∷ [])
-pushed s text pairs found left filter candidates candidate at its = record {
+pub pushed : (s : ℕ) (text : List ℕ) (begun : Begun) (pairs : List Pair) (found : List (Option Spot)) (left : ℕ) (filter : Bits) (candidates : List Candidate) (candidate : Candidate) → IsAt s text begun candidate.spot.offset pairs found left filter candidates → candidate.spot.text ≡ begun.text → IsWindow s text candidate → IsAt s text begun (candidate.spot.offset + 1) pairs found left filter (candidates ++ candidate ∷ [])
+pushed s text begun pairs found left filter candidates candidate at text_is its = record {
   tally = at.tally;
   answers = λ i h.
       let pair : Pair = pair_at pairs i in
-      settled_more s text pair candidates candidate (offset_at found i)
-      ∙ ap (advanced (is_match pair (window s text candidate.offset)) candidate.offset) (at.answers i h)
-      ∙ sym (first_below-more s text candidate.offset pair);
+      settled_more s text pair candidates candidate (answer_at found i)
+      ∙ ap (advanced (is_match pair (window s text candidate.spot.offset)) candidate.spot) (at.answers i h)
+      ∙ ap (λ t. advanced (is_match pair (window s text candidate.spot.offset)) (spot_in t candidate.spot.offset) (answer_below s text begun candidate.spot.offset pairs i)) text_is
+      ∙ sym (below-more s text begun candidate.spot.offset pairs i);
   candidates = λ k h.
-      let Is : Candidate → Type 0 = λ c. IsCandidate s text c in
+      let Is : Candidate → Type 0 = λ c. IsWindow s text c in
       elim (cases_lt k (length candidates)) [
         | inl early ↦ subst Is (sym (get_or_append_left candidates (candidate ∷ []) no_candidate k early)) (at.candidates k early)
         | inr late ↦ subst Is (sym (get_or_at candidates candidate [] no_candidate k (let e : length candidates ≡ k = omega (arith, late, h, length_push candidates candidate) in e))) its
@@ -163,22 +180,22 @@ pushed s text pairs found left filter candidates candidate at its = record {
 }
 
 -- the candidates have been compared
-pub emptied : (s : ℕ) (text : List ℕ) (o : ℕ) (pairs : List Pair) (old new : List (Option ℕ)) (left after : ℕ) (filter marks : Bits) (candidates rest : List Candidate) → IsAt s text o pairs old left filter candidates → IsTally pairs new after marks → rest ≡ [] →
-    ((i : ℕ) → i < length pairs → offset_at new i ≡ settled s text (pair_at pairs i) candidates (offset_at old i)) →
-    IsAt s text o pairs new after marks rest
-emptied s text o pairs old new left after filter marks candidates rest at tally empty all = record {
+pub emptied : (s : ℕ) (text : List ℕ) (begun : Begun) (o : ℕ) (pairs : List Pair) (old new : List (Option Spot)) (left after : ℕ) (filter marks : Bits) (candidates rest : List Candidate) → IsAt s text begun o pairs old left filter candidates → IsTally pairs new after marks → rest ≡ [] →
+    ((i : ℕ) → i < length pairs → answer_at new i ≡ settled s text (pair_at pairs i) candidates (answer_at old i)) →
+    IsAt s text begun o pairs new after marks rest
+emptied s text begun o pairs old new left after filter marks candidates rest at tally empty all = record {
   tally = tally;
   answers = λ i h.
-      ap (λ cs. settled s text (pair_at pairs i) cs (offset_at new i)) empty
-      ∙ settled_none s text (pair_at pairs i) (offset_at new i)
+      ap (λ cs. settled s text (pair_at pairs i) cs (answer_at new i)) empty
+      ∙ settled_none s text (pair_at pairs i) (answer_at new i)
       ∙ all i h
       ∙ at.answers i h;
   candidates = λ k h. absurd (omega (arith, h, ap length empty));
 }
 
 -- a group without an open pair may be taken away
-pub unmark : (s : ℕ) (text : List ℕ) (o : ℕ) (pairs : List Pair) (found : List (Option ℕ)) (left : ℕ) (filter after : Bits) (candidates : List Candidate) (crc shift : ℕ) (group : List Place) → IsAt s text o pairs found left filter candidates → HoldsGroup pairs shift crc group → ((k : ℕ) → k < length group → (place_at group k).crc % 64 ≡ crc % 64 → offset_at found (place_at group k).index ≡ None → ⊥) → ((other : ℕ) → ((other / 2 ^ shift ≡ crc / 2 ^ shift) × (other % 64 ≡ crc % 64) → ⊥) → Marks filter other → Marks after other) → IsAt s text o pairs found left after candidates
-unmark s text o pairs found left filter after candidates crc shift group at holds closed keeps = record {
+pub unmark : (s : ℕ) (text : List ℕ) (begun : Begun) (o : ℕ) (pairs : List Pair) (found : List (Option Spot)) (left : ℕ) (filter after : Bits) (candidates : List Candidate) (crc shift : ℕ) (group : List Place) → IsAt s text begun o pairs found left filter candidates → HoldsGroup pairs shift crc group → ((k : ℕ) → k < length group → (place_at group k).crc % 64 ≡ crc % 64 → answer_at found (place_at group k).index ≡ None → ⊥) → ((other : ℕ) → ((other / 2 ^ shift ≡ crc / 2 ^ shift) × (other % 64 ≡ crc % 64) → ⊥) → Marks filter other → Marks after other) → IsAt s text begun o pairs found left after candidates
+unmark s text begun o pairs found left filter after candidates crc shift group at holds closed keeps = record {
   tally = record {
     len = at.tally.len;
     count = at.tally.count;
@@ -188,66 +205,124 @@ unmark s text o pairs found left filter after candidates crc shift group at hold
         let place = holds.whole i h same.0 in
         closed place.0 place.1
         (ap (λ c. c % 64) (sym (holds.each place.0 place.1).crc ∙ ap (λ j. (pair_at pairs j).1) place.2) ∙ same.1)
-        (ap (offset_at found) place.2 ∙ none))
+        (ap (answer_at found) place.2 ∙ none))
         (at.tally.marked i h none);
   };
   answers = at.answers;
   candidates = at.candidates;
 }
 
+or_nothing : {A : Type 0} (o : Option A) → o ≡ option_or o None
+or_nothing None = refl
+or_nothing (Some x) = refl
+
+-- before the first text
+pub none_answered : (pairs : List Pair) (found : List (Option Spot)) (left : ℕ) (filter : Bits) → found ≡ replicate (length pairs) None → left ≡ length pairs → ((i : ℕ) → i < length pairs → Marks filter (pair_at pairs i).1) → IsTally pairs found left filter
+none_answered pairs found left filter found_is left_is marked = record {
+  len = ap length found_is ∙ length-replicate (length pairs) None;
+  count =
+      left_is
+      ∙ (let e : length pairs ≡ length pairs * 1 = omega arith in e)
+      ∙ sym (sum_by-replicate (λ (x : Option Spot). cond (is_none x) 1 0) (length pairs) None)
+      ∙ ap (count_by is_none) (sym found_is);
+  marked = λ i h none. marked i h;
+}
+
+pub never_answered : (n i : ℕ) → answer_at (replicate n None) i ≡ None
+never_answered zero i = refl
+never_answered (suc n) zero = refl
+never_answered (suc n) (suc i) = never_answered n i
+
 -- before the first offset
-pub at_start : (s : ℕ) (text : List ℕ) (pairs : List Pair) (found : List (Option ℕ)) (left : ℕ) (filter : Bits) (candidates : List Candidate) → found ≡ replicate (length pairs) None → left ≡ length pairs → ((i : ℕ) → i < length pairs → Marks filter (pair_at pairs i).1) → candidates ≡ [] → IsAt s text 0 pairs found left filter candidates
+pub at_start : (s : ℕ) (text : List ℕ) (begun : Begun) (pairs : List Pair) (found : List (Option Spot)) (left : ℕ) (filter : Bits) (candidates : List Candidate) → IsTally pairs found left filter → found ≡ begun.before → candidates ≡ [] → IsAt s text begun 0 pairs found left filter candidates
 unfolding first_below
-at_start s text pairs found left filter candidates found_is left_is marked empty = record {
-  tally = record {
-    len = ap length found_is ∙ length-replicate (length pairs) None;
-    count =
-        left_is
-        ∙ (let e : length pairs ≡ length pairs * 1 = omega arith in e)
-        ∙ sym (sum_by-replicate (λ (x : Option ℕ). cond (is_none x) 1 0) (length pairs) None)
-        ∙ ap (count_by is_none) (sym found_is);
-    marked = λ i h none. marked i h;
-  };
+at_start s text begun pairs found left filter candidates tally found_is empty = record {
+  tally = tally;
   answers = λ i h.
-      ap (λ cs. settled s text (pair_at pairs i) cs (offset_at found i)) empty
-      ∙ settled_none s text (pair_at pairs i) (offset_at found i)
-      ∙ ap (λ f. offset_at f i) found_is
-      ∙ get_or-replicate (length pairs) i None None h;
+      ap (λ cs. settled s text (pair_at pairs i) cs (answer_at found i)) empty
+      ∙ settled_none s text (pair_at pairs i) (answer_at found i)
+      ∙ ap (λ f. answer_at f i) found_is
+      ∙ or_nothing (answer_at begun.before i);
   candidates = λ k h. absurd (omega (arith, h, ap length empty));
 }
 
 -- where no pair is open, no offset more changes an answer
-pub none_left : (s : ℕ) (text : List ℕ) (o n : ℕ) (pairs : List Pair) (found : List (Option ℕ)) (left : ℕ) (filter : Bits) (candidates : List Candidate) → IsAt s text o pairs found left filter candidates → left ≡ 0 → IsAt s text (o + n) pairs found left filter candidates
-none_left s text o zero pairs found left filter candidates at none =
-    let At : ℕ → Type 0 = λ k. IsAt s text k pairs found left filter candidates in
+pub none_left : (s : ℕ) (text : List ℕ) (begun : Begun) (o n : ℕ) (pairs : List Pair) (found : List (Option Spot)) (left : ℕ) (filter : Bits) (candidates : List Candidate) → IsAt s text begun o pairs found left filter candidates → left ≡ 0 → IsAt s text begun (o + n) pairs found left filter candidates
+none_left s text begun o zero pairs found left filter candidates at none =
+    let At : ℕ → Type 0 = λ k. IsAt s text begun k pairs found left filter candidates in
     subst At (let e : o ≡ o + 0 = omega arith in e) at
-none_left s text o (suc n) pairs found left filter candidates at none =
-    let At : ℕ → Type 0 = λ k. IsAt s text k pairs found left filter candidates in
+none_left s text begun o (suc n) pairs found left filter candidates at none =
+    let At : ℕ → Type 0 = λ k. IsAt s text begun k pairs found left filter candidates in
     subst At (let e : o + n + 1 ≡ o + suc n = omega arith in e)
-    (no_more s text (o + n) pairs found left filter candidates (none_left s text o n pairs found left filter candidates at none)
-    (λ i h none_yet. absurd (none_counted (Option ℕ) is_none found i None (sym at.tally.count ∙ none) (omega (arith, h, at.tally.len)) (ap is_none none_yet))))
+    (no_more s text begun (o + n) pairs found left filter candidates (none_left s text begun o n pairs found left filter candidates at none)
+    (λ i h none_yet. absurd (none_counted (Option Spot) is_none found i None (sym at.tally.count ∙ none) (omega (arith, h, at.tally.len)) (ap is_none none_yet))))
 
 -- at the end, when no candidate waits
-pub finished : (s : ℕ) (text : List ℕ) (pairs : List Pair) (found : List (Option ℕ)) (left : ℕ) (filter : Bits) → IsAt s text (length text) pairs found left filter [] → found ≡ map (first_match s text) pairs
+pub finished : (s : ℕ) (text : List ℕ) (begun : Begun) (pairs : List Pair) (found : List (Option Spot)) (left : ℕ) (filter : Bits) (batch : List Candidate) (i : ℕ) → IsAt s text begun (length text) pairs found left filter batch → batch ≡ [] → i < length pairs
+    → answer_at found i ≡ option_or (answer_at begun.before i) (option_map (spot_in begun.text) (first_match s text (pair_at pairs i)))
 unfolding first_below
-finished s text pairs found left filter at =
-    ext_get_or None found (map (first_match s text) pairs)
-    (at.tally.len ∙ sym (length-map pairs (first_match s text)))
-    (λ i h.
-    let inside : i < length pairs = omega (arith, h, at.tally.len) in
-    sym (settled_none s text (pair_at pairs i) (offset_at found i))
+finished s text begun pairs found left filter batch i at empty inside =
+    sym (ap (λ cs. settled s text (pair_at pairs i) cs (answer_at found i)) empty ∙ settled_none s text (pair_at pairs i) (answer_at found i))
     ∙ at.answers i inside
-    ∙ sym (get_or-map (first_match s text) pairs i no_pair None inside))
+
+-- one text more
+first_spot-more : (n s : ℕ) (texts : List (List ℕ)) (text : List ℕ) (pair : Pair)
+    → first_spot_from n s (texts ++ text ∷ []) pair ≡ option_or (first_spot_from n s texts pair) (option_map (spot_in (n + length texts)) (first_match s text pair))
+first_spot-more n s [] text pair =
+    sym (or_nothing (option_map (spot_in n) (first_match s text pair)))
+    ∙ ap (λ k. option_map (spot_in k) (first_match s text pair)) (let e : n ≡ n + 0 = omega arith in e)
+first_spot-more n s (t ∷ texts) text pair =
+    ap (option_or (option_map (spot_in n) (first_match s t pair))) (first_spot-more (n + 1) s texts text pair)
+    ∙ or_or (option_map (spot_in n) (first_match s t pair)) (first_spot_from (n + 1) s texts pair) (option_map (spot_in (n + 1 + length texts)) (first_match s text pair))
+    ∙ ap (λ k. option_or (option_or (option_map (spot_in n) (first_match s t pair)) (first_spot_from (n + 1) s texts pair)) (option_map (spot_in k) (first_match s text pair))) (let e : n + 1 + length texts ≡ n + suc (length texts) = omega arith in e)
+  where
+    or_or : {A : Type 0} (a b c : Option A) → option_or a (option_or b c) ≡ option_or (option_or a b) c
+    or_or None b c = refl
+    or_or (Some x) b c = refl
+
+-- a text more has been searched
+pub text_done : (s : ℕ) (texts : List (List ℕ)) (k : ℕ) (begun : Begun) (pairs : List Pair) (found : List (Option Spot)) (left : ℕ) (filter : Bits) (batch : List Candidate) (i : ℕ) → k < length texts → begun.text ≡ k
+    → IsAt s (get_or texts k []) begun (length (get_or texts k [])) pairs found left filter batch → batch ≡ [] → i < length pairs
+    → answer_at begun.before i ≡ first_spot s (take k texts) (pair_at pairs i) → answer_at found i ≡ first_spot s (take (k + 1) texts) (pair_at pairs i)
+text_done s texts k begun pairs found left filter batch i inside text_is at empty low before =
+    let text : List ℕ = get_or texts k [] in
+    let pair : Pair = pair_at pairs i in
+    finished s text begun pairs found left filter batch i at empty low
+    ∙ ap (λ o. option_or o (option_map (spot_in begun.text) (first_match s text pair))) before
+    ∙ ap (λ n. option_or (first_spot s (take k texts) pair) (option_map (spot_in n) (first_match s text pair))) (text_is ∙ (let e : k ≡ 0 + length (take k texts) = omega (arith, inside, length-take k texts) in e))
+    ∙ sym (first_spot-more 0 s (take k texts) text pair)
+    ∙ ap (λ ts. first_spot s ts pair) (sym (take_more texts k [] inside))
+
+-- the answers once each text has been searched
+pub all_done : (s : ℕ) (texts : List (List ℕ)) (pairs : List Pair) (found : List (Option Spot)) → length found ≡ length pairs → ((i : ℕ) → i < length pairs → answer_at found i ≡ first_spot s texts (pair_at pairs i)) → found ≡ map (first_spot s texts) pairs
+all_done s texts pairs found size each =
+    ext_get_or None found (map (first_spot s texts) pairs)
+    (size ∙ sym (length-map pairs (first_spot s texts)))
+    (λ i h.
+    let inside : i < length pairs = omega (arith, h, size) in
+    each i inside ∙ sym (get_or-map (first_spot s texts) pairs i no_pair None inside))
+
+-- the offset of the first spot in one text
+first_alone : (s : ℕ) (text : List ℕ) (pair : Pair) → option_map (λ spot. spot.offset) (first_spot s (text ∷ []) pair) ≡ first_match s text pair
+first_alone s text pair = step (first_match s text pair)
+  where
+    step : (o : Option ℕ) → option_map (λ (spot : Spot). spot.offset) (option_or (option_map (spot_in 0) o) None) ≡ o
+    step None = refl
+    step (Some x) = refl
+
+pub offsets_alone : (s : ℕ) (text : List ℕ) (pairs : List Pair) → map (option_map (λ spot. spot.offset)) (map (first_spot s (text ∷ [])) pairs) ≡ map (first_match s text) pairs
+offsets_alone s text [] = refl
+offsets_alone s text (pair ∷ pairs) = ap₂ (λ (o : Option ℕ) os. o ∷ os) (first_alone s text pair) (offsets_alone s text pairs)
 
 -- what a walk over the first n places of a group has settled
-pub record Settled (pairs : List Pair) (md5 : List ℕ) (crc offset : ℕ) (old : List (Option ℕ)) (group : List Place) (n : ℕ) (found : List (Option ℕ)) (count : ℕ) : Type 0 where
+pub record Settled (pairs : List Pair) (md5 : List ℕ) (crc : ℕ) (spot : Spot) (old : List (Option Spot)) (group : List Place) (n : ℕ) (found : List (Option Spot)) (count : ℕ) : Type 0 where
   pub len : length found ≡ length old
-  pub each : (i : ℕ) → i < length pairs → (offset_at found i ≡ offset_at old i) ⊎ (offset_at found i ≡ advanced (has_checksums md5 crc (pair_at pairs i)) offset (offset_at old i))
-  pub done : (k : ℕ) → k < n → offset_at found (place_at group k).index ≡ advanced (has_checksums md5 crc (pair_at pairs (place_at group k).index)) offset (offset_at old (place_at group k).index)
+  pub each : (i : ℕ) → i < length pairs → (answer_at found i ≡ answer_at old i) ⊎ (answer_at found i ≡ advanced (has_checksums md5 crc (pair_at pairs i)) spot (answer_at old i))
+  pub done : (k : ℕ) → k < n → answer_at found (place_at group k).index ≡ advanced (has_checksums md5 crc (pair_at pairs (place_at group k).index)) spot (answer_at old (place_at group k).index)
   pub total : count + count_by is_none found ≡ count_by is_none old
 
-pub not_settled : (pairs : List Pair) (md5 : List ℕ) (crc offset : ℕ) (old : List (Option ℕ)) (group : List Place) (n : ℕ) (found : List (Option ℕ)) (count : ℕ) → Settled pairs md5 crc offset old group n found count → (place_at group n).index < length pairs → (offset_at found (place_at group n).index ≡ None → has_checksums md5 crc (pair_at pairs (place_at group n).index) ≡ false) → Settled pairs md5 crc offset old group (n + 1) found count
-not_settled pairs md5 crc offset old group n found count so_far inside fails =
+pub not_settled : (pairs : List Pair) (md5 : List ℕ) (crc : ℕ) (spot : Spot) (old : List (Option Spot)) (group : List Place) (n : ℕ) (found : List (Option Spot)) (count : ℕ) → Settled pairs md5 crc spot old group n found count → (place_at group n).index < length pairs → (answer_at found (place_at group n).index ≡ None → has_checksums md5 crc (pair_at pairs (place_at group n).index) ≡ false) → Settled pairs md5 crc spot old group (n + 1) found count
+not_settled pairs md5 crc spot old group n found count so_far inside fails =
     let i : ℕ = (place_at group n).index in
     let m : Bool = has_checksums md5 crc (pair_at pairs i) in
     record {
@@ -256,9 +331,9 @@ not_settled pairs md5 crc offset old group n found count so_far inside fails =
       done = λ k h. elim (cases_lt k n) [
         | inl early ↦ so_far.done k early
         | inr late ↦ (
-            let Done : ℕ → Type 0 = λ j. offset_at found (place_at group j).index ≡ advanced (has_checksums md5 crc (pair_at pairs (place_at group j).index)) offset (offset_at old (place_at group j).index) in
+            let Done : ℕ → Type 0 = λ j. answer_at found (place_at group j).index ≡ advanced (has_checksums md5 crc (pair_at pairs (place_at group j).index)) spot (answer_at old (place_at group j).index) in
             let here : n ≡ k = omega (arith, h, late) in
-            subst Done here (kept m offset (offset_at old i) (offset_at found i) (so_far.each i inside) fails)
+            subst Done here (kept m spot (answer_at old i) (answer_at found i) (so_far.each i inside) fails)
             )
       ];
       total = so_far.total;
@@ -267,44 +342,44 @@ not_settled pairs md5 crc offset old group n found count so_far inside fails =
 not_there : (k n : ℕ) → k < n + 1 → (k ≡ n → ⊥) → k < n
 not_there k n h other = omega (arith, h, other)
 
-pub one_settled : (pairs : List Pair) (md5 : List ℕ) (crc offset : ℕ) (old : List (Option ℕ)) (group : List Place) (n : ℕ) (found : List (Option ℕ)) (count : ℕ) → Settled pairs md5 crc offset old group n found count → length old ≡ length pairs → (place_at group n).index < length pairs → offset_at found (place_at group n).index ≡ None → has_checksums md5 crc (pair_at pairs (place_at group n).index) ≡ true → Settled pairs md5 crc offset old group (n + 1) (set found (place_at group n).index (Some offset)) (count + 1)
-one_settled pairs md5 crc offset old group n found count so_far size inside none match_is =
+pub one_settled : (pairs : List Pair) (md5 : List ℕ) (crc : ℕ) (spot : Spot) (old : List (Option Spot)) (group : List Place) (n : ℕ) (found : List (Option Spot)) (count : ℕ) → Settled pairs md5 crc spot old group n found count → length old ≡ length pairs → (place_at group n).index < length pairs → answer_at found (place_at group n).index ≡ None → has_checksums md5 crc (pair_at pairs (place_at group n).index) ≡ true → Settled pairs md5 crc spot old group (n + 1) (set found (place_at group n).index (Some spot)) (count + 1)
+one_settled pairs md5 crc spot old group n found count so_far size inside none match_is =
     let i : ℕ = (place_at group n).index in
     let m : ℕ → Bool = λ j. has_checksums md5 crc (pair_at pairs j) in
     let within : i < length found = omega (arith, inside, size, so_far.len) in
-    let new : List (Option ℕ) = set found i (Some offset) in
-    let Is : ℕ → Type 0 = λ j. offset_at new j ≡ advanced (m j) offset (offset_at old j) in
+    let new : List (Option Spot) = set found i (Some spot) in
+    let Is : ℕ → Type 0 = λ j. answer_at new j ≡ advanced (m j) spot (answer_at old j) in
     let here : Is i = (
-    get_or-set_same found i (Some offset) None within
-    ∙ sym (ap (λ b. advanced b offset (offset_at old i)) match_is ∙ ap (λ o. advanced true offset o) (was_open (m i) offset (offset_at old i) (offset_at found i) (so_far.each i inside) none))
+    get_or-set_same found i (Some spot) None within
+    ∙ sym (ap (λ b. advanced b spot (answer_at old i)) match_is ∙ ap (λ o. advanced true spot o) (was_open (m i) spot (answer_at old i) (answer_at found i) (so_far.each i inside) none))
     ) in
-    let weight : Option ℕ → ℕ = λ x. cond (is_none x) 1 0 in
-    let weighed : count_by is_none new + weight (offset_at found i) ≡ count_by is_none found + 0 = sum_by-set weight found i (Some offset) None within in
-    let heavy : weight (offset_at found i) ≡ 1 = ap weight none in
+    let weight : Option Spot → ℕ = λ x. cond (is_none x) 1 0 in
+    let weighed : count_by is_none new + weight (answer_at found i) ≡ count_by is_none found + 0 = sum_by-set weight found i (Some spot) None within in
+    let heavy : weight (answer_at found i) ≡ 1 = ap weight none in
     record {
-      len = length-set found i (Some offset) ∙ so_far.len;
+      len = length-set found i (Some spot) ∙ so_far.len;
       each = λ j h. elim (cases_eq j i) [
         | inl same ↦ inr (subst Is (sym same) here)
         | inr other ↦ elim (so_far.each j h) [
-          | inl stayed ↦ inl (get_or-set_other found i j (Some offset) None other ∙ stayed)
-          | inr moved ↦ inr (get_or-set_other found i j (Some offset) None other ∙ moved)
+          | inl stayed ↦ inl (get_or-set_other found i j (Some spot) None other ∙ stayed)
+          | inr moved ↦ inr (get_or-set_other found i j (Some spot) None other ∙ moved)
         ]
       ];
       done = λ k h. elim (cases_eq (place_at group k).index i) [
         | inl same ↦ subst Is (sym same) here
         | inr other ↦ (
             let early : k < n = not_there k n h (λ is. other (ap (λ j. (place_at group j).index) is)) in
-            get_or-set_other found i (place_at group k).index (Some offset) None other ∙ so_far.done k early
+            get_or-set_other found i (place_at group k).index (Some spot) None other ∙ so_far.done k early
             )
       ];
       total = omega (arith, weighed, heavy, so_far.total);
     }
 
-pub open_is : (answer : Option ℕ) → is_none answer ≡ true → answer ≡ None
+pub open_is : (answer : Option Spot) → is_none answer ≡ true → answer ≡ None
 open_is None is = refl
 open_is (Some x) is = absurd (let both : false ≡ true = is in cc)
 
-pub is_open : (answer : Option ℕ) → is_none answer ≡ false → answer ≡ None → ⊥
+pub is_open : (answer : Option Spot) → is_none answer ≡ false → answer ≡ None → ⊥
 is_open answer is none = let both : true ≡ false = sym (ap is_none none) ∙ is in cc
 
 pub has_is : (pair : Pair) (md5 : List ℕ) (crc : ℕ) → pair.1 ≡ crc → bytes_eq md5 pair.0 ≡ true → has_checksums md5 crc pair ≡ true

@@ -1,13 +1,14 @@
 -- A search for slices by their checksums, under way.
-use Rattle.std.specs.Prelude.{◌≡◌, [], ℕ, ◌/◌, ◌%◌, ◌^◌, ◌<◌, ◌==◌, ◌&&◌, ◌+◌, ◌≤◌, Bool, cond, Option, Some, None, List, length, find, fold, slice_index_or}
+use Rattle.std.specs.Prelude.{◌≡◌, [], ◌∷◌, ℕ, ◌/◌, ◌%◌, ◌^◌, ◌<◌, ◌==◌, ◌&&◌, ◌+◌, ◌≤◌, Bool, cond, Option, Some, None, option_map, List, length, find, fold, slice_index_or}
 use Rattle.std.specs.List.{count_by, range_with_len}
 use Rattle.std.specs.List.Sorted.{IsNonDecreasingBy}
 use Rattle.std.specs.Option.{is_none, option_or}
 use Rattle.std.specs.Str.{bytes_eq}
 use Rattle.par2_spec.specs.Checksums.{Pair, crc32}
-use Rattle.par2_spec.specs.Windows.{is_match, window}
+use Rattle.par2_spec.specs.Windows.{first_match, is_match, window}
 use Rattle.par2_slices.specs.Filters.{Bits, Marks}
 use Rattle.par2_slices.specs.declared.batch.Candidate.{Candidate}
+use Rattle.par2_slices.specs.declared.batch.Spot.{Spot}
 use Rattle.par2_slices.specs.declared.wanted.Place.{Place}
 
 -- what a look beyond a list gives
@@ -25,13 +26,14 @@ abbrev pub place_at : List Place → ℕ → Place
 place_at places k = slice_index_or places k no_place
 
 abbrev pub no_candidate : Candidate
-no_candidate = record { offset = 0; crc = 0 }
+no_candidate = record { spot = record { text = 0; offset = 0 }; crc = 0 }
 
 abbrev pub candidate_at : List Candidate → ℕ → Candidate
 candidate_at candidates k = slice_index_or candidates k no_candidate
 
-abbrev pub offset_at : List (Option ℕ) → ℕ → Option ℕ
-offset_at found i = slice_index_or found i None
+-- the answer to pair i
+abbrev pub answer_at : List (Option Spot) → ℕ → Option Spot
+answer_at found i = slice_index_or found i None
 
 -- a place of one of the pairs, with the checksum of that pair
 pub record IsPlace (pairs : List Pair) (place : Place) : Type 0 where
@@ -50,16 +52,16 @@ pub record HoldsGroup (pairs : List Pair) (shift crc : ℕ) (group : List Place)
   pub whole : (i : ℕ) → i < length pairs → (pair_at pairs i).1 / 2 ^ shift ≡ crc / 2 ^ shift → (k : ℕ) × (k < length group) × ((place_at group k).index ≡ i)
 
 -- whether the pair of a place has this checksum and no answer
-abbrev pub is_awaited : ℕ → List (Option ℕ) → Place → Bool
-is_awaited crc found place = place.crc == crc && is_none (offset_at found place.index)
+abbrev pub is_awaited : ℕ → List (Option Spot) → Place → Bool
+is_awaited crc found place = place.crc == crc && is_none (answer_at found place.index)
 
 -- a pair of the group whose checksum has the same low six bits has no answer
-abbrev pub IsWaiting : List Place → ℕ → List (Option ℕ) → Type 0
-IsWaiting group crc found = (k : ℕ) × (k < length group) × ((place_at group k).crc % 64 ≡ crc % 64) × (offset_at found (place_at group k).index ≡ None)
+abbrev pub IsWaiting : List Place → ℕ → List (Option Spot) → Type 0
+IsWaiting group crc found = (k : ℕ) × (k < length group) × ((place_at group k).crc % 64 ≡ crc % 64) × (answer_at found (place_at group k).index ≡ None)
 
--- an answer after one offset more
-abbrev pub advanced : Bool → ℕ → Option ℕ → Option ℕ
-advanced matches offset answer = option_or answer (cond matches (Some offset) None)
+-- an answer after one window more
+abbrev pub advanced : Bool → Spot → Option Spot → Option Spot
+advanced matches spot answer = option_or answer (cond matches (Some spot) None)
 
 -- whether these are the checksums of the pair
 abbrev pub has_checksums : List ℕ → ℕ → Pair → Bool
@@ -69,23 +71,47 @@ has_checksums md5 crc pair = crc == pair.1 && bytes_eq md5 pair.0
 unfoldable pub first_below : ℕ → List ℕ → ℕ → Pair → Option ℕ
 first_below s text offset pair = find (λ o. is_match pair (window s text o)) (range_with_len 0 offset)
 
+-- where a search of a text began: the number of the text, and the answers before it
+pub record Begun : Type 0 where
+  pub text : ℕ
+  pub before : List (Option Spot)
+
+-- this offset of a text
+abbrev pub spot_in : ℕ → ℕ → Spot
+spot_in text offset = record { text = text; offset = offset }
+
+-- the answer to a pair, where those before stand and each other is the least offset below `offset`
+abbrev pub answer_below : ℕ → List ℕ → Begun → ℕ → List Pair → ℕ → Option Spot
+answer_below s text begun offset pairs i =
+    option_or (answer_at begun.before i) (option_map (spot_in begun.text) (first_below s text offset (pair_at pairs i)))
+
 -- a window that lies in the text, and its checksum
-pub record IsCandidate (s : ℕ) (text : List ℕ) (candidate : Candidate) : Type 0 where
-  pub within : candidate.offset + s ≤ length text
-  pub crc : candidate.crc ≡ crc32 (window s text candidate.offset)
+pub record IsWindow (s : ℕ) (text : List ℕ) (candidate : Candidate) : Type 0 where
+  pub within : candidate.spot.offset + s ≤ length text
+  pub crc : candidate.crc ≡ crc32 (window s text candidate.spot.offset)
 
 -- an answer once the windows of the candidates have been compared with the pair, one after the other
-unfoldable pub settled : ℕ → List ℕ → Pair → List Candidate → Option ℕ → Option ℕ
-settled s text pair candidates answer = fold (λ so_far candidate. advanced (is_match pair (window s text candidate.offset)) candidate.offset so_far) answer candidates
+unfoldable pub settled : ℕ → List ℕ → Pair → List Candidate → Option Spot → Option Spot
+settled s text pair candidates answer = fold (λ so_far candidate. advanced (is_match pair (window s text candidate.spot.offset)) candidate.spot so_far) answer candidates
 
 -- how many pairs are open, and marks of their checksums
-pub record IsTally (pairs : List Pair) (found : List (Option ℕ)) (left : ℕ) (filter : Bits) : Type 0 where
+pub record IsTally (pairs : List Pair) (found : List (Option Spot)) (left : ℕ) (filter : Bits) : Type 0 where
   pub len : length found ≡ length pairs
   pub count : left ≡ count_by is_none found
-  pub marked : (i : ℕ) → i < length pairs → offset_at found i ≡ None → Marks filter (pair_at pairs i).1
+  pub marked : (i : ℕ) → i < length pairs → answer_at found i ≡ None → Marks filter (pair_at pairs i).1
 
 -- a search that has looked at the offsets below `offset`: what it has found, and what the candidates add to it
-pub record IsAt (s : ℕ) (text : List ℕ) (offset : ℕ) (pairs : List Pair) (found : List (Option ℕ)) (left : ℕ) (filter : Bits) (batch : List Candidate) : Type 0 where
+pub record IsAt (s : ℕ) (text : List ℕ) (begun : Begun) (offset : ℕ) (pairs : List Pair) (found : List (Option Spot)) (left : ℕ) (filter : Bits) (batch : List Candidate) : Type 0 where
   pub tally : IsTally pairs found left filter
-  pub answers : (i : ℕ) → i < length pairs → settled s text (pair_at pairs i) batch (offset_at found i) ≡ first_below s text offset (pair_at pairs i)
-  pub candidates : (k : ℕ) → k < length batch → IsCandidate s text (candidate_at batch k)
+  pub answers : (i : ℕ) → i < length pairs → settled s text (pair_at pairs i) batch (answer_at found i) ≡ answer_below s text begun offset pairs i
+  pub candidates : (k : ℕ) → k < length batch → IsWindow s text (candidate_at batch k)
+
+-- where a slice of these checksums first stands, in texts of which the first has this number: the first text with a window
+-- that matches, and the least offset there
+abbrev pub first_spot_from : ℕ → ℕ → List (List ℕ) → Pair → Option Spot
+first_spot_from n s [] pair = None
+first_spot_from n s (text ∷ texts) pair =
+    option_or (option_map (spot_in n) (first_match s text pair)) (first_spot_from (n + 1) s texts pair)
+
+abbrev pub first_spot : ℕ → List (List ℕ) → Pair → Option Spot
+first_spot s texts pair = first_spot_from 0 s texts pair

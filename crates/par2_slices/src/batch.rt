@@ -10,10 +10,17 @@ use crate::cutting::window_bytes;
 use crate::digest::padded_md5;
 use par2_digests::{LANES, window_digests};
 
+/// Where a window begins: the number of its text among those that are searched, and its offset there.
+#[derive(Clone, Copy, Default, PartialEq, Eq, Debug, Drop)]
+pub struct Spot {
+    pub text: usize,
+    pub offset: usize,
+}
+
 /// A window that a search has still to compare, since a pair without an answer has its CRC-32.
 #[derive(Clone, Copy, Default, Drop)]
 pub(crate) struct Candidate {
-    pub(crate) offset: usize,
+    pub(crate) spot: Spot,
     pub(crate) crc: u32,
 }
 
@@ -21,12 +28,12 @@ pub(crate) struct Candidate {
 fn starts(batch: &[Candidate]) -> [usize; LANES]
     requires some { 1 ≤ length batch.now }
     requires fit { length batch.now ≤ 8 }
-    ensures each { (k : ℕ) → k < length batch.now → slice_index result k ≡ (candidate_at batch.now k).offset }
-    ensures among { (k : ℕ) → k < 8 → (j : ℕ) × (j < length batch.now) × (slice_index result k ≡ (candidate_at batch.now j).offset) }
+    ensures each { (k : ℕ) → k < length batch.now → slice_index result k ≡ (candidate_at batch.now k).spot.offset }
+    ensures among { (k : ℕ) → k < 8 → (j : ℕ) × (j < length batch.now) × (slice_index result k ≡ (candidate_at batch.now j).spot.offset) }
 {
-    let mut starts = [batch[0].offset; LANES];
+    let mut starts = [batch[0].spot.offset; LANES];
     for (lane, candidate) in batch.iter().enumerate() {
-        starts[lane] = candidate.offset;
+        starts[lane] = candidate.spot.offset;
     }
     starts
 }
@@ -35,12 +42,12 @@ fn starts(batch: &[Candidate]) -> [usize; LANES]
 pub(crate) fn digests(bytes: &[u8], s: u64, batch: &[Candidate]) -> [[u8; 16]; LANES]
     requires some { 1 ≤ length batch.now }
     requires fit { length batch.now ≤ 8 }
-    requires whole { (k : ℕ) → k < length batch.now → (candidate_at batch.now k).offset + s ≤ length bytes.now }
-    ensures { (k : ℕ) → k < length batch.now → digest_at result k ≡ md5 (window s bytes.now (candidate_at batch.now k).offset) }
+    requires whole { (k : ℕ) → k < length batch.now → (candidate_at batch.now k).spot.offset + s ≤ length bytes.now }
+    ensures { (k : ℕ) → k < length batch.now → digest_at result k ≡ md5 (window s bytes.now (candidate_at batch.now k).spot.offset) }
 {
     if let [only] = batch {
         // Eight side by side take about the time of two, so one alone is faster by itself.
-        return [padded_md5(window_bytes(bytes, s, only.offset), s); LANES];
+        return [padded_md5(window_bytes(bytes, s, only.spot.offset), s); LANES];
     }
     window_digests(bytes, &starts(batch), s as usize)
 }

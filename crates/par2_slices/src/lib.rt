@@ -12,10 +12,11 @@ mod tables;
 mod wanted;
 mod zeros;
 
+pub use batch::Spot;
 pub use checksum::crc32;
 pub use cutting::{slice_bytes, slice_count, slice_into, window_bytes};
 pub use digest::padded_md5;
 pub use rolling::Rolling;
-pub use search::find;
+pub use search::{find, find_among};
 pub use wanted::{Pair, Wanted, pair_of};
 pub use zeros::padded_crc32;

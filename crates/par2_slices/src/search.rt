@@ -1,13 +1,13 @@
 //! The search for slices in a file by their checksums.
 
-ghost use Rattle.std.specs.Prelude.{◌≡◌, ◌≤◌, ◌<◌, ◌+◌, ◌⊎◌, ◌↔◌, [], ℕ, List, IfOk, IsTrue, length, map, drop, slice_index};
+ghost use Rattle.std.specs.Prelude.{None, option_map, ◌≡◌, ◌≤◌, ◌<◌, ◌+◌, ◌⊎◌, ◌↔◌, [], ℕ, List, IfOk, IsTrue, length, map, drop, slice_index};
 ghost use Rattle.std.specs.List.{count_by};
 ghost use Rattle.std.specs.Option.{is_none};
 ghost use Rattle.par2_spec.specs.Checksums.{crc32};
 ghost use Rattle.par2_spec.specs.Windows.{first_match, window};
-ghost use Rattle.par2_slices.specs.Searches.{advanced, candidate_at, has_checksums, is_awaited, offset_at, pair_at, place_at, settled, IsAt, IsCandidate, IsPlace, IsTally, IsWaiting};
+ghost use Rattle.par2_slices.specs.Searches.{advanced, candidate_at, has_checksums, is_awaited, answer_at, pair_at, place_at, first_spot, settled, Begun, IsAt, IsPlace, IsTally, IsWaiting, IsWindow};
 
-use crate::batch::{Candidate, digests};
+use crate::batch::{Candidate, Spot, digests};
 use crate::cutting::window_bytes;
 use crate::digest::padded_md5;
 use crate::filter::Filter;
@@ -18,7 +18,7 @@ use par2_digests::LANES;
 use std::alloc::{AllocError, Global};
 
 /// How many pairs of the group have this CRC-32 and no answer yet.
-fn awaited(group: &[Place], crc: u32, found: &[Option<usize>]) -> usize
+fn awaited(group: &[Place], crc: u32, found: &[Option<Spot>]) -> usize
     requires { (k : ℕ) → k < length group.now → (place_at group.now k).index < length found.now }
     ensures { result ≡ count_by (is_awaited crc found.now) group.now }
 {
@@ -32,7 +32,7 @@ fn awaited(group: &[Place], crc: u32, found: &[Option<usize>]) -> usize
 }
 
 /// Whether a pair of the group, whose CRC-32 has the same low six bits, has no answer yet.
-fn is_waiting(group: &[Place], crc: u32, found: &[Option<usize>]) -> bool
+fn is_waiting(group: &[Place], crc: u32, found: &[Option<Spot>]) -> bool
     requires { (k : ℕ) → k < length group.now → (place_at group.now k).index < length found.now }
     ensures { IsTrue result ↔ IsWaiting group.now crc found.now }
 {
@@ -44,25 +44,25 @@ fn is_waiting(group: &[Place], crc: u32, found: &[Option<usize>]) -> bool
     false
 }
 
-/// Gives each pair of the group that has these checksums and no answer yet the answer `offset`, and counts them.
+/// Gives each pair of the group that has these checksums and no answer yet the answer `spot`, and counts them.
 fn settle(
     group: &[Place],
     pairs: &[Pair],
     md5: &[u8; 16],
     crc: u32,
-    offset: usize,
-    found: &mut [Option<usize>],
+    spot: Spot,
+    found: &mut [Option<Spot>],
 ) -> usize
     requires places { (k : ℕ) → k < length group.now → IsPlace pairs.now (place_at group.now k) }
     requires len { length found.old ≡ length pairs.now }
-    ensures each { (i : ℕ) → i < length pairs.now → (offset_at found.new i ≡ offset_at found.old i) ⊎ (offset_at found.new i ≡ advanced (has_checksums md5.now crc (pair_at pairs.now i)) offset (offset_at found.old i)) }
-    ensures group { (k : ℕ) → k < length group.now → let i = (place_at group.now k).index in offset_at found.new i ≡ advanced (has_checksums md5.now crc (pair_at pairs.now i)) offset (offset_at found.old i) }
+    ensures each { (i : ℕ) → i < length pairs.now → (answer_at found.new i ≡ answer_at found.old i) ⊎ (answer_at found.new i ≡ advanced (has_checksums md5.now crc (pair_at pairs.now i)) spot (answer_at found.old i)) }
+    ensures group { (k : ℕ) → k < length group.now → let i = (place_at group.now k).index in answer_at found.new i ≡ advanced (has_checksums md5.now crc (pair_at pairs.now i)) spot (answer_at found.old i) }
     ensures count { result + count_by is_none found.new ≡ count_by is_none found.old }
 {
     let mut count = 0;
     for place in group {
         if place.crc == crc && found[place.index].is_none() && *md5 == pairs[place.index].0 {
-            found[place.index] = Some(offset);
+            found[place.index] = Some(spot);
             count += 1;
         }
     }
@@ -74,7 +74,7 @@ fn settle(
 /// settled, which changes no answer, and so no clause speaks of it.
 #[derive(Drop)]
 struct Search {
-    found: Vec<Option<usize>>,
+    found: Vec<Option<Spot>>,
     left: usize,
     filter: Filter,
     batch: ArrayVec<Candidate, LANES>,
@@ -82,9 +82,11 @@ struct Search {
 }
 
 impl Search {
-    /// Before the first offset.
+    /// Before the first text.
     fn new(alloc: Global, wanted: &Wanted) -> Result<Search, AllocError>
-        ensures { IfOk result (λ search. (s : ℕ) (text : List ℕ) → IsAt s text 0 wanted.now search.found.items search.left search.filter search.batch.items) }
+        ensures tally { IfOk result (λ search. IsTally wanted.now search.found.items search.left search.filter) }
+        ensures open { IfOk result (λ search. (i : ℕ) → answer_at search.found.items i ≡ None) }
+        ensures batch { IfOk result (λ search. search.batch.items ≡ []) }
     {
         let pairs = wanted.pairs();
         let mut filter = Filter::new(alloc, pairs.len())?;
@@ -111,21 +113,21 @@ impl Search {
     fn answer(&mut self, wanted: &Wanted, candidate: Candidate, md5: &[u8; 16])
         requires { IsTally wanted.now self.old.found.items self.old.left self.old.filter }
         ensures tally { IsTally wanted.now self.new.found.items self.new.left self.new.filter }
-        ensures each { (i : ℕ) → i < length wanted.now → offset_at self.new.found.items i ≡ advanced (has_checksums md5.now candidate.crc (pair_at wanted.now i)) candidate.offset (offset_at self.old.found.items i) }
+        ensures each { (i : ℕ) → i < length wanted.now → answer_at self.new.found.items i ≡ advanced (has_checksums md5.now candidate.crc (pair_at wanted.now i)) candidate.spot (answer_at self.old.found.items i) }
         ensures batch { self.new.batch.items ≡ self.old.batch.items }
         ensures filter { self.new.filter ≡ self.old.filter }
     {
         let group = wanted.group(candidate.crc, 0);
-        let Candidate { offset, crc } = candidate;
-        self.left -= settle(group, wanted.pairs(), md5, crc, offset, &mut self.found);
+        let Candidate { spot, crc } = candidate;
+        self.left -= settle(group, wanted.pairs(), md5, crc, spot, &mut self.found);
     }
 
     /// Compares the candidates of the batch, in the order of their offsets, and empties it.
     fn settle_batch(&mut self, wanted: &Wanted, bytes: &[u8], s: u64)
         requires tally { IsTally wanted.now self.old.found.items self.old.left self.old.filter }
-        requires candidates { (k : ℕ) → k < length self.old.batch.items → IsCandidate s bytes.now (candidate_at self.old.batch.items k) }
+        requires candidates { (k : ℕ) → k < length self.old.batch.items → IsWindow s bytes.now (candidate_at self.old.batch.items k) }
         ensures tally { IsTally wanted.now self.new.found.items self.new.left self.new.filter }
-        ensures each { (i : ℕ) → i < length wanted.now → offset_at self.new.found.items i ≡ settled s bytes.now (pair_at wanted.now i) self.old.batch.items (offset_at self.old.found.items i) }
+        ensures each { (i : ℕ) → i < length wanted.now → answer_at self.new.found.items i ≡ settled s bytes.now (pair_at wanted.now i) self.old.batch.items (answer_at self.old.found.items i) }
         ensures batch { self.new.batch.items ≡ [] }
         ensures filter { self.new.filter ≡ self.old.filter }
     {
@@ -157,9 +159,10 @@ impl Search {
     /// end of the file.
     // Of windows of one CRC-32 the first mostly answers each pair that waits for it: then the others need no MD5.
     fn make_room(&mut self, wanted: &Wanted, bytes: &[u8], s: u64, offset: usize, crc: u32)
-        requires at { IsAt s bytes.now offset wanted.now self.old.found.items self.old.left self.old.filter self.old.batch.items }
+        ghost begun: { Begun }
+        requires at { IsAt s bytes.now begun offset wanted.now self.old.found.items self.old.left self.old.filter self.old.batch.items }
         requires within { offset < length bytes.now }
-        ensures at { IsAt s bytes.now offset wanted.now self.new.found.items self.new.left self.new.filter self.new.batch.items }
+        ensures at { IsAt s bytes.now begun offset wanted.now self.new.found.items self.new.left self.new.filter self.new.batch.items }
         ensures room { length self.new.batch.items < 8 }
         ensures short { length bytes.now < offset + s → self.new.batch.items ≡ [] }
     {
@@ -172,15 +175,17 @@ impl Search {
     /// Puts a candidate, for which `pairs` open pairs wait, into the batch. A window that reaches past the end of the file
     /// is compared at once, since the batch has whole windows only.
     fn put(&mut self, wanted: &Wanted, bytes: &[u8], s: u64, candidate: Candidate, pairs: usize)
-        requires at { IsAt s bytes.now candidate.offset wanted.now self.old.found.items self.old.left self.old.filter self.old.batch.items }
-        requires within { candidate.offset < length bytes.now }
-        requires crc { candidate.crc ≡ crc32 (window s bytes.now candidate.offset) }
+        ghost begun: { Begun }
+        requires at { IsAt s bytes.now begun candidate.spot.offset wanted.now self.old.found.items self.old.left self.old.filter self.old.batch.items }
+        requires within { candidate.spot.offset < length bytes.now }
+        requires text { candidate.spot.text ≡ begun.text }
+        requires crc { candidate.crc ≡ crc32 (window s bytes.now candidate.spot.offset) }
         requires room { length self.old.batch.items < 8 }
-        requires short { length bytes.now < candidate.offset + s → self.old.batch.items ≡ [] }
-        ensures at { IsAt s bytes.now (candidate.offset + 1) wanted.now self.new.found.items self.new.left self.new.filter self.new.batch.items }
+        requires short { length bytes.now < candidate.spot.offset + s → self.old.batch.items ≡ [] }
+        ensures at { IsAt s bytes.now begun (candidate.spot.offset + 1) wanted.now self.new.found.items self.new.left self.new.filter self.new.batch.items }
         ensures filter { self.new.filter ≡ self.old.filter }
     {
-        let window = window_bytes(bytes, s, candidate.offset);
+        let window = window_bytes(bytes, s, candidate.spot.offset);
         if (window.len() as u64) < s {
             self.answer(wanted, candidate, &padded_md5(window, s));
             return;
@@ -197,20 +202,22 @@ impl Search {
     // Few are, and the loop over all offsets is faster without these lines in it.
     #[cold]
     #[inline(never)]
-    fn look(&mut self, wanted: &Wanted, bytes: &[u8], s: u64, offset: usize, crc: u32)
-        requires at { IsAt s bytes.now offset wanted.now self.old.found.items self.old.left self.old.filter self.old.batch.items }
-        requires within { offset < length bytes.now }
-        requires crc { crc ≡ crc32 (window s bytes.now offset) }
-        ensures { IsAt s bytes.now (offset + 1) wanted.now self.new.found.items self.new.left self.new.filter self.new.batch.items }
+    fn look(&mut self, wanted: &Wanted, bytes: &[u8], s: u64, spot: Spot, crc: u32)
+        ghost begun: { Begun }
+        requires at { IsAt s bytes.now begun spot.offset wanted.now self.old.found.items self.old.left self.old.filter self.old.batch.items }
+        requires text { spot.text ≡ begun.text }
+        requires within { spot.offset < length bytes.now }
+        requires crc { crc ≡ crc32 (window s bytes.now spot.offset) }
+        ensures { IsAt s bytes.now begun (spot.offset + 1) wanted.now self.new.found.items self.new.left self.new.filter self.new.batch.items }
     {
         if !self.filter.contains(crc) {
             return;
         }
-        self.make_room(wanted, bytes, s, offset, crc);
+        self.make_room(wanted, bytes, s, spot.offset, crc);
         let group = wanted.group(crc, self.filter.shift());
         let pairs = awaited(group, crc, &self.found);
         if pairs > 0 {
-            self.put(wanted, bytes, s, Candidate { offset, crc }, pairs);
+            self.put(wanted, bytes, s, Candidate { spot, crc }, pairs);
         }
         if !is_waiting(group, crc, &self.found) {
             self.filter.remove(crc);
@@ -218,37 +225,52 @@ impl Search {
     }
 
     /// Looks at the window at `offset`, whose CRC-32 is `crc`.
-    fn test(&mut self, wanted: &Wanted, bytes: &[u8], s: u64, offset: usize, crc: u32)
-        requires at { IsAt s bytes.now offset wanted.now self.old.found.items self.old.left self.old.filter self.old.batch.items }
-        requires within { offset < length bytes.now }
-        requires crc { crc ≡ crc32 (window s bytes.now offset) }
-        ensures { IsAt s bytes.now (offset + 1) wanted.now self.new.found.items self.new.left self.new.filter self.new.batch.items }
+    fn test(&mut self, wanted: &Wanted, bytes: &[u8], s: u64, spot: Spot, crc: u32)
+        ghost begun: { Begun }
+        requires at { IsAt s bytes.now begun spot.offset wanted.now self.old.found.items self.old.left self.old.filter self.old.batch.items }
+        requires text { spot.text ≡ begun.text }
+        requires within { spot.offset < length bytes.now }
+        requires crc { crc ≡ crc32 (window s bytes.now spot.offset) }
+        ensures { IsAt s bytes.now begun (spot.offset + 1) wanted.now self.new.found.items self.new.left self.new.filter self.new.batch.items }
     {
         if self.filter.may_contain(crc) {
-            self.look(wanted, bytes, s, offset, crc);
+            self.look(wanted, bytes, s, spot, crc);
         }
     }
 
     /// Looks at four windows, the first of them at `offset`.
-    fn test_four(&mut self, wanted: &Wanted, bytes: &[u8], s: u64, offset: usize, crcs: &[u32; 4])
-        requires at { IsAt s bytes.now offset wanted.now self.old.found.items self.old.left self.old.filter self.old.batch.items }
-        requires within { offset + 4 ≤ length bytes.now }
-        requires crcs { (k : ℕ) → k < 4 → slice_index crcs.now k ≡ crc32 (window s bytes.now (offset + k)) }
-        ensures { IsAt s bytes.now (offset + 4) wanted.now self.new.found.items self.new.left self.new.filter self.new.batch.items }
+    fn test_four(&mut self, wanted: &Wanted, bytes: &[u8], s: u64, spot: Spot, crcs: &[u32; 4])
+        ghost begun: { Begun }
+        requires at { IsAt s bytes.now begun spot.offset wanted.now self.old.found.items self.old.left self.old.filter self.old.batch.items }
+        requires text { spot.text ≡ begun.text }
+        requires within { spot.offset + 4 ≤ length bytes.now }
+        requires crcs { (k : ℕ) → k < 4 → slice_index crcs.now k ≡ crc32 (window s bytes.now (spot.offset + k)) }
+        ensures { IsAt s bytes.now begun (spot.offset + 4) wanted.now self.new.found.items self.new.left self.new.filter self.new.batch.items }
     {
+        let Spot { text, offset } = spot;
         for (k, &crc) in crcs.iter().enumerate() {
-            self.test(wanted, bytes, s, offset + k, crc);
+            let spot = Spot { text, offset: offset + k };
+            self.test(wanted, bytes, s, spot, crc);
         }
     }
 
     /// Looks at windows by fours, from the start of the file on, while four bytes more come in. Gives the offset after.
-    fn by_fours(&mut self, wanted: &Wanted, bytes: &[u8], s: u64, rolling: &mut Rolling) -> usize
+    fn by_fours(
+        &mut self,
+        wanted: &Wanted,
+        text: usize,
+        bytes: &[u8],
+        s: u64,
+        rolling: &mut Rolling,
+    ) -> usize
+        ghost begun: { Begun }
+        requires text { text ≡ begun.text }
         requires some { 1 ≤ s }
-        requires at { IsAt s bytes.now 0 wanted.now self.old.found.items self.old.left self.old.filter self.old.batch.items }
+        requires at { IsAt s bytes.now begun 0 wanted.now self.old.found.items self.old.left self.old.filter self.old.batch.items }
         requires size { rolling.old.size ≡ s }
         requires value { rolling.old.value ≡ crc32 (window s bytes.now 0) }
         ensures within { result ≤ length bytes.now }
-        ensures at { IsAt s bytes.now result wanted.now self.new.found.items self.new.left self.new.filter self.new.batch.items }
+        ensures at { IsAt s bytes.now begun result wanted.now self.new.found.items self.new.left self.new.filter self.new.batch.items }
         ensures size { rolling.new.size ≡ s }
         ensures value { rolling.new.value ≡ crc32 (window s bytes.now result) }
     {
@@ -260,7 +282,7 @@ impl Search {
                 break;
             }
             let crcs = rolling.slide_four(&outs[group], next);
-            self.test_four(wanted, bytes, s, offset, &crcs);
+            self.test_four(wanted, bytes, s, Spot { text, offset }, &crcs);
             offset += 4;
         }
         offset
@@ -272,24 +294,59 @@ impl Search {
         wanted: &Wanted,
         bytes: &[u8],
         s: u64,
-        start: usize,
+        start: Spot,
         rolling: &mut Rolling,
     )
+        ghost begun: { Begun }
+        requires text { start.text ≡ begun.text }
         requires some { 1 ≤ s }
-        requires within { start ≤ length bytes.now }
-        requires at { IsAt s bytes.now start wanted.now self.old.found.items self.old.left self.old.filter self.old.batch.items }
+        requires within { start.offset ≤ length bytes.now }
+        requires at { IsAt s bytes.now begun start.offset wanted.now self.old.found.items self.old.left self.old.filter self.old.batch.items }
         requires size { rolling.old.size ≡ s }
-        requires value { rolling.old.value ≡ crc32 (window s bytes.now start) }
-        ensures { IsAt s bytes.now (length bytes.now) wanted.now self.new.found.items self.new.left self.new.filter self.new.batch.items }
+        requires value { rolling.old.value ≡ crc32 (window s bytes.now start.offset) }
+        ensures at { IsAt s bytes.now begun (length bytes.now) wanted.now self.new.found.items self.new.left self.new.filter self.new.batch.items }
+        ensures size { rolling.new.size ≡ s }
     {
         let incoming = bytes_from(bytes, s);
-        for offset in start..bytes.len() {
+        for offset in start.offset..bytes.len() {
             if self.is_finished() {
                 break;
             }
-            self.test(wanted, bytes, s, offset, rolling.value());
+            let spot = Spot {
+                text: start.text,
+                offset,
+            };
+            self.test(wanted, bytes, s, spot, rolling.value());
             rolling.slide(bytes[offset], byte_at(incoming, offset));
         }
+    }
+
+    /// Searches a text for the pairs without an answer.
+    fn search_text(
+        &mut self,
+        wanted: &Wanted,
+        text: usize,
+        bytes: &[u8],
+        s: u64,
+        rolling: &mut Rolling,
+    )
+        ghost begun: { Begun }
+        requires text { text ≡ begun.text }
+        requires some { 1 ≤ s }
+        requires at { IsAt s bytes.now begun 0 wanted.now self.old.found.items self.old.left self.old.filter self.old.batch.items }
+        requires empty { self.old.batch.items ≡ [] }
+        requires size { rolling.old.size ≡ s }
+        ensures at { IsAt s bytes.now begun (length bytes.now) wanted.now self.new.found.items self.new.left self.new.filter self.new.batch.items }
+        ensures empty { self.new.batch.items ≡ [] }
+        ensures size { rolling.new.size ≡ s }
+    {
+        if self.is_finished() {
+            return;
+        }
+        rolling.start(window_bytes(bytes, s, 0));
+        let offset = self.by_fours(wanted, text, bytes, s, rolling);
+        self.one_by_one(wanted, bytes, s, Spot { text, offset }, rolling);
+        self.settle_batch(wanted, bytes, s);
     }
 }
 
@@ -304,6 +361,13 @@ fn bytes_from(bytes: &[u8], start: u64) -> &[u8]
     }
 }
 
+/// The offset of a spot.
+fn offset_of(spot: Option<Spot>) -> Option<usize>
+    ensures { result ≡ option_map (λ spot. spot.offset) spot }
+{
+    Some(spot?.offset)
+}
+
 /// The byte at a place, 0 past the end.
 fn byte_at(bytes: &[u8], at: usize) -> u8
     ensures { result ≡ slice_index bytes.now at }
@@ -311,14 +375,33 @@ fn byte_at(bytes: &[u8], at: usize) -> u8
     if at < bytes.len() { bytes[at] } else { 0 }
 }
 
-/// For each pair the least offset at which the window of `s` bytes of the file matches it, zeros standing past
-/// the end of the file; None where there is no such offset.
+/// For each pair the first text with a window of `s` bytes that matches it, zeros standing past the end of the text, and
+/// the least offset of such a window there; None where there is none.
 ///
 /// It costs one slide and one look at a filter for each offset, and an MD5 of `s` bytes for each window whose CRC
 /// is that of a pair without an answer. Up to eight of these MD5s are computed side by side, which takes about a fourth
 /// of the time; where fewer such windows follow each other, an MD5 costs at most what it does alone. At worst each window
 /// has such a CRC and none the MD5: then it costs an MD5 of `s` bytes for each offset, which only pairs that were made
-/// for it lead to.
+/// for it lead to. A text costs nothing for the pairs that aren't found in it.
+pub fn find_among(
+    alloc: Global,
+    texts: &[&[u8]],
+    s: u64,
+    wanted: &Wanted,
+) -> Result<Vec<Option<Spot>>, AllocError>
+    requires { 1 ≤ s }
+    ensures { IfOk result (λ spots. spots.items ≡ map (first_spot s (map (λ text. text.now) texts.now)) wanted.now) }
+{
+    let mut search = Search::new(alloc, wanted)?;
+    let mut rolling = Rolling::new(alloc, s)?;
+    for (text, bytes) in texts.iter().enumerate() {
+        search.search_text(wanted, text, bytes, s, &mut rolling);
+    }
+    Ok(search.found)
+}
+
+/// For each pair the least offset at which the window of `s` bytes of the file matches it, zeros standing past
+/// the end of the file; None where there is no such offset. It costs what `find_among` does.
 pub fn find(
     alloc: Global,
     bytes: &[u8],
@@ -328,11 +411,10 @@ pub fn find(
     requires { 1 ≤ s }
     ensures { IfOk result (λ offsets. offsets.items ≡ map (first_match s bytes.now) wanted.now) }
 {
-    let mut search = Search::new(alloc, wanted)?;
-    let mut rolling = Rolling::new(alloc, s)?;
-    rolling.start(window_bytes(bytes, s, 0));
-    let start = search.by_fours(wanted, bytes, s, &mut rolling);
-    search.one_by_one(wanted, bytes, s, start, &mut rolling);
-    search.settle_batch(wanted, bytes, s);
-    Ok(search.found)
+    let spots = find_among(alloc, &[bytes], s, wanted)?;
+    let mut offsets = Vec::with_capacity(alloc, spots.len())?;
+    for spot in &spots {
+        offsets.push(offset_of(*spot))?;
+    }
+    Ok(offsets)
 }

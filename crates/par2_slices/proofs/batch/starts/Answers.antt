@@ -9,7 +9,7 @@ loop-lane-preserved c =
     let lane : ℕ = c.loop-lane.lane in
     let starts : List ℕ = c.loop-lane.starts in
     let batch : List Candidate = c.args.batch.now in
-    let offset : ℕ = (candidate_at batch lane).offset in
+    let offset : ℕ = (candidate_at batch lane).spot.offset in
     let inside : lane < length starts = omega (arith, c.loop-lane-test.true, c.requires.fit, c.loop-lane.invariant.len) in
     record {
       len = length-set starts lane offset ∙ c.loop-lane.invariant.len;

@@ -1,11 +1,11 @@
-use Rattle.std.proofs.Common.{[], length, refl}
-use Rattle.par2_slices.proofs.Searching.{emptied, finished}
+use Rattle.std.proofs.Common.{◌∙◌, map, ap}
+use Rattle.std.specs.Prelude.{option_map}
+use Rattle.std.proofs.lemmas.List.{take_all}
+use Rattle.par2_slices.proofs.Searching.{offsets_alone}
 use Rattle.par2_slices.proofs.search.find.Goals as goal
 
 pub returns : goal.returns
 returns c =
-    let after = c.settle_batch.new.self in
-    let before = c.one_by_one.new.self in
-    finished c.args.s c.args.bytes.now c.args.wanted.now after.found.items after.left after.filter
-    (emptied c.args.s c.args.bytes.now (length c.args.bytes.now) c.args.wanted.now before.found.items after.found.items before.left after.left before.filter after.filter before.batch.items []
-    c.one_by_one.ensures c.settle_batch.ensures.tally refl c.settle_batch.ensures.each)
+    c.loop-spot.invariant
+    ∙ ap (map (option_map (λ spot. spot.offset))) (take_all c.loop-spot.spot-index _ c.loop-spot-test.false ∙ c.deref-spot-items.ensures.value ∙ c.in_ok-spots.ensures)
+    ∙ offsets_alone c.args.s c.args.bytes.now c.args.wanted.now

@@ -1,7 +1,7 @@
 use Rattle.std.proofs.Common.{◌≡◌, ℕ, ◌<◌, ◌%◌}
 use Rattle.std.specs.Prelude.{None}
-use Rattle.par2_slices.specs.Searches.{place_at, offset_at}
+use Rattle.par2_slices.specs.Searches.{place_at, answer_at}
 use Rattle.par2_slices.proofs.search.is_waiting.Given as goal
 
 abbrev pub invariant-loop-place : goal.invariant-loop-place
-invariant-loop-place l = (k : ℕ) → k < l.place-index → (place_at l.group k).crc % 64 ≡ l.crc % 64 → offset_at l.found (place_at l.group k).index ≡ None → ⊥
+invariant-loop-place l = (k : ℕ) → k < l.place-index → (place_at l.group k).crc % 64 ≡ l.crc % 64 → answer_at l.found (place_at l.group k).index ≡ None → ⊥

@@ -1,31 +1,32 @@
 use Rattle.std.proofs.Common.{◌≡◌, ◌∙◌, ◌+◌, ◌/◌, ◌%◌, ◌^◌, ℕ, List, true, false, ap, sym, subst, arith}
 use Rattle.std.specs.Prelude.{Option}
+use Rattle.par2_slices.specs.declared.batch.Spot.{Spot}
 use Rattle.std.specs.List.{count_by}
 use Rattle.par2_spec.specs.Checksums.{Pair}
 use Rattle.par2_slices.specs.declared.search.Search.{Search}
 use Rattle.par2_slices.specs.declared.wanted.Place.{Place}
 use Rattle.par2_slices.specs.Filters.{Bits}
-use Rattle.par2_slices.specs.Searches.{is_awaited, offset_at, place_at, IsAt}
+use Rattle.par2_slices.specs.Searches.{is_awaited, answer_at, place_at, IsAt}
 use Rattle.par2_slices.proofs.Searching.{unawaited, unmark, unmarked}
 use Rattle.par2_slices.proofs.search.Search.look.Goals as goal
 use Rattle.par2_slices.proofs.search.Search.look.Goals.{then-pairs-gt0, else-pairs-gt0}
 
 pub returns-then-not-is_waiting : goal.returns-then-not-is_waiting
-returns-then-not-is_waiting c =
+returns-then-not-is_waiting g c =
     let s : ℕ = c.args.s in
     let text : List ℕ = c.args.bytes.now in
-    let o : ℕ = c.args.offset in
+    let o : ℕ = c.args.spot.offset in
     let crc : ℕ = c.args.crc in
     let wanted : List Pair = c.args.wanted.now in
     let group : List Place = c.group-group.result.now in
     let room : Search = c.make_room.new.self in
-    let At : Search → Type 0 = λ search. IsAt s text (o + 1) wanted search.found.items search.left search.filter search.batch.items in
+    let At : Search → Type 0 = λ search. IsAt s text g.begun (o + 1) wanted search.found.items search.left search.filter search.batch.items in
     let after : At c.if-pairs-gt0.self = elim c.if-pairs-gt0.branch [
       | then-pairs-gt0 w ↦ subst At (sym w.self-is) w.put.ensures.at
       | else-pairs-gt0 w ↦ (
-          let Counted : List (Option ℕ) → Type 0 = λ found. count_by (is_awaited crc found) group ≡ 0 in
+          let Counted : List (Option Spot) → Type 0 = λ found. count_by (is_awaited crc found) group ≡ 0 in
           let none : c.awaited-pairs.result ≡ 0 = omega (arith, w.if-pairs-gt0.false) in
-          subst At (sym w.self-is) (unawaited s text o wanted room.found.items room.left room.filter room.batch.items crc c.shift.result group c.make_room.ensures.at c.requires.crc c.group-group.ensures
+          subst At (sym w.self-is) (unawaited s text g.begun o wanted room.found.items room.left room.filter room.batch.items crc c.shift.result group c.make_room.ensures.at c.requires.1.1.1 c.group-group.ensures
           (subst Counted c.deref.ensures.value (sym c.awaited-pairs.ensures ∙ none)))
           )
     ]
@@ -37,26 +38,26 @@ returns-then-not-is_waiting c =
     in
     let shift_is : c.if-pairs-gt0.self.filter.shift ≡ c.shift.result = ap (λ (bits : Bits). bits.shift) filter_is ∙ sym c.shift.ensures.value in
     let Other : ℕ → ℕ → Type 0 = λ other shift. (other / 2 ^ shift ≡ crc / 2 ^ shift) × (other % 64 ≡ crc % 64) → ⊥ in
-    unmark s text (o + 1) wanted c.if-pairs-gt0.self.found.items c.if-pairs-gt0.self.left c.if-pairs-gt0.self.filter c.remove.new.self c.if-pairs-gt0.self.batch.items crc c.shift.result group after c.group-group.ensures
-    (λ k h low none. let both : true ≡ false = sym (c.is_waiting.ensures.1 (k, h, low, ap (λ found. offset_at found (place_at group k).index) c.deref-2.ensures.value ∙ none)) ∙ c.if-not-is_waiting.true in cc)
+    unmark s text g.begun (o + 1) wanted c.if-pairs-gt0.self.found.items c.if-pairs-gt0.self.left c.if-pairs-gt0.self.filter c.remove.new.self c.if-pairs-gt0.self.batch.items crc c.shift.result group after c.group-group.ensures
+    (λ k h low none. let both : true ≡ false = sym (c.is_waiting.ensures.1 (k, h, low, ap (λ found. answer_at found (place_at group k).index) c.deref-2.ensures.value ∙ none)) ∙ c.if-not-is_waiting.true in cc)
     (λ other differs is. let Its : ℕ → Type 0 = Other other in c.remove.ensures.kept other (subst Its (sym shift_is) differs) is)
 
 pub returns-else-not-is_waiting : goal.returns-else-not-is_waiting
-returns-else-not-is_waiting c =
+returns-else-not-is_waiting g c =
     let s : ℕ = c.args.s in
     let text : List ℕ = c.args.bytes.now in
-    let o : ℕ = c.args.offset in
+    let o : ℕ = c.args.spot.offset in
     let crc : ℕ = c.args.crc in
     let wanted : List Pair = c.args.wanted.now in
     let group : List Place = c.group-group.result.now in
     let room : Search = c.make_room.new.self in
-    let At : Search → Type 0 = λ search. IsAt s text (o + 1) wanted search.found.items search.left search.filter search.batch.items in
+    let At : Search → Type 0 = λ search. IsAt s text g.begun (o + 1) wanted search.found.items search.left search.filter search.batch.items in
     let after : At c.if-pairs-gt0.self = elim c.if-pairs-gt0.branch [
       | then-pairs-gt0 w ↦ subst At (sym w.self-is) w.put.ensures.at
       | else-pairs-gt0 w ↦ (
-          let Counted : List (Option ℕ) → Type 0 = λ found. count_by (is_awaited crc found) group ≡ 0 in
+          let Counted : List (Option Spot) → Type 0 = λ found. count_by (is_awaited crc found) group ≡ 0 in
           let none : c.awaited-pairs.result ≡ 0 = omega (arith, w.if-pairs-gt0.false) in
-          subst At (sym w.self-is) (unawaited s text o wanted room.found.items room.left room.filter room.batch.items crc c.shift.result group c.make_room.ensures.at c.requires.crc c.group-group.ensures
+          subst At (sym w.self-is) (unawaited s text g.begun o wanted room.found.items room.left room.filter room.batch.items crc c.shift.result group c.make_room.ensures.at c.requires.1.1.1 c.group-group.ensures
           (subst Counted c.deref.ensures.value (sym c.awaited-pairs.ensures ∙ none)))
           )
     ]
@@ -64,6 +65,6 @@ returns-else-not-is_waiting c =
     after
 
 pub returns-then-not-contains : goal.returns-then-not-contains
-returns-then-not-contains c =
-    unmarked c.args.s c.args.bytes.now c.args.offset c.args.wanted.now c.args.self.now.found.items c.args.self.now.left c.args.self.now.filter c.args.self.now.batch.items c.args.crc c.requires.at c.requires.crc
+returns-then-not-contains g c =
+    unmarked c.args.s c.args.bytes.now g.begun c.args.spot.offset c.args.wanted.now c.args.self.now.found.items c.args.self.now.left c.args.self.now.filter c.args.self.now.batch.items c.args.crc c.requires.0 c.requires.1.1.1
     (λ is. let both : true ≡ false = sym (c.contains.ensures.1 is) ∙ c.if-not-contains.true in cc)

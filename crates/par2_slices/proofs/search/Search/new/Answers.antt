@@ -1,14 +1,21 @@
-use Rattle.std.proofs.Common.{rules, refl, ℕ, List, length, subst, arith}
-use Rattle.std.specs.Prelude.{Option}
+use Rattle.std.proofs.Common.{◌≡◌, ◌∙◌, rules, refl, ℕ, List, length, subst, ap, arith}
+use Rattle.std.specs.Prelude.{Option, None}
+use Rattle.std.proofs.lemmas.List.{get_or-replicate}
 use Rattle.par2_spec.specs.Checksums.{Pair}
-use Rattle.par2_slices.specs.Searches.{IsAt}
-use Rattle.par2_slices.proofs.Searching.{at_start}
+use Rattle.par2_slices.specs.declared.batch.Spot.{Spot}
+use Rattle.par2_slices.specs.Searches.{answer_at, IsTally}
+use Rattle.par2_slices.proofs.Searching.{none_answered, never_answered}
 use Rattle.par2_slices.proofs.search.Search.new.Goals as goal
 
-pub returns : goal.returns
-returns c s text =
+pub returns-clause-tally : goal.returns-clause-tally
+returns-clause-tally c =
     let pairs : List Pair = c.pairs-pairs.result.now in
-    let found : List (Option ℕ) = c.in_ok-vec.field-0.items in
+    let found : List (Option Spot) = c.in_ok-vec.field-0.items in
     let filled = c.in_ok-vec.ensures.items_if_clones_equal in
-    let At : List Pair → Type 0 = λ ps. IsAt s text 0 ps found (length pairs) c.loop-pair.filter c.new-2.result.items in
-    subst At c.pairs-pairs.ensures (at_start s text pairs found (length pairs) c.loop-pair.filter _ (filled (λ y h. search rules)) refl (λ i h. c.loop-pair.invariant i (omega arith)) c.new-2.ensures)
+    let Tally : List Pair → Type 0 = λ ps. IsTally ps found (length pairs) c.loop-pair.filter in
+    subst Tally c.pairs-pairs.ensures (none_answered pairs found (length pairs) c.loop-pair.filter (filled (λ y h. search rules)) refl (λ i h. c.loop-pair.invariant i (omega arith)))
+
+pub returns-clause-open : goal.returns-clause-open
+returns-clause-open c i =
+    let filled = c.in_ok-vec.ensures.items_if_clones_equal in
+    ap (λ (found : List (Option Spot)). answer_at found i) (filled (λ y h. search rules)) ∙ never_answered (length c.pairs-pairs.result.now) i

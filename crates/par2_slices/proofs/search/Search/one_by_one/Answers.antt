@@ -8,7 +8,7 @@ use Rattle.par2_slices.proofs.Windowed.{first_byte, next_window, rest_len}
 use Rattle.par2_slices.proofs.search.Search.one_by_one.Goals as goal
 
 pub loop-offset-preserved : goal.loop-offset-preserved
-loop-offset-preserved c =
+loop-offset-preserved g c =
     let s : ℕ = c.args.s in
     let text : List ℕ = c.args.bytes.now in
     let o : ℕ = c.loop-offset.offset in
@@ -17,21 +17,21 @@ loop-offset-preserved c =
       at = c.test.ensures;
       size = c.slide.ensures.size ∙ c.loop-offset.invariant.size;
       value =
-          c.slide.ensures.value (drop 1 (window s text o)) (rest_len s text o c.requires.some ∙ sym c.loop-offset.invariant.size)
-          (c.loop-offset.invariant.value ∙ ap crc32 (first_byte s text o (get_or text o 0) c.requires.some refl))
-          ∙ ap crc32 (next_window s text o c.byte_at.result c.requires.some next_is);
+          c.slide.ensures.value (drop 1 (window s text o)) (rest_len s text o c.requires.1.0 ∙ sym c.loop-offset.invariant.size)
+          (c.loop-offset.invariant.value ∙ ap crc32 (first_byte s text o (get_or text o 0) c.requires.1.0 refl))
+          ∙ ap crc32 (next_window s text o c.byte_at.result c.requires.1.0 next_is);
     }
 
-pub returns-then-is_finished : goal.returns-then-is_finished
-returns-then-is_finished c =
-    let At : ℕ → Type 0 = λ o. IsAt c.args.s c.args.bytes.now o c.args.wanted.now c.loop-offset.self.found.items c.loop-offset.self.left c.loop-offset.self.filter c.loop-offset.self.batch.items in
+pub returns-then-is_finished-clause-at : goal.returns-then-is_finished-clause-at
+returns-then-is_finished-clause-at g c =
+    let At : ℕ → Type 0 = λ o. IsAt c.args.s c.args.bytes.now g.begun o c.args.wanted.now c.loop-offset.self.found.items c.loop-offset.self.left c.loop-offset.self.filter c.loop-offset.self.batch.items in
     let o : ℕ = c.loop-offset.offset in
     let end : ℕ = length c.args.bytes.now in
     subst At (let e : o + (end - o) ≡ end = omega (arith, c.loop-offset-test.true) in e)
-    (none_left c.args.s c.args.bytes.now o (end - o) c.args.wanted.now c.loop-offset.self.found.items c.loop-offset.self.left c.loop-offset.self.filter c.loop-offset.self.batch.items c.loop-offset.invariant.at
+    (none_left c.args.s c.args.bytes.now g.begun o (end - o) c.args.wanted.now c.loop-offset.self.found.items c.loop-offset.self.left c.loop-offset.self.filter c.loop-offset.self.batch.items c.loop-offset.invariant.at
     (c.is_finished.ensures.0 c.if-is_finished.true))
 
-pub returns-after-loop-offset : goal.returns-after-loop-offset
-returns-after-loop-offset c =
-    let At : ℕ → Type 0 = λ o. IsAt c.args.s c.args.bytes.now o c.args.wanted.now c.loop-offset.self.found.items c.loop-offset.self.left c.loop-offset.self.filter c.loop-offset.self.batch.items in
+pub returns-after-loop-offset-clause-at : goal.returns-after-loop-offset-clause-at
+returns-after-loop-offset-clause-at g c =
+    let At : ℕ → Type 0 = λ o. IsAt c.args.s c.args.bytes.now g.begun o c.args.wanted.now c.loop-offset.self.found.items c.loop-offset.self.left c.loop-offset.self.filter c.loop-offset.self.batch.items in
     subst At (let e : c.loop-offset.offset ≡ length c.args.bytes.now = omega arith in e) c.loop-offset.invariant.at

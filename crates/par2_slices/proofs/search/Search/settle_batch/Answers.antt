@@ -3,14 +3,15 @@ use Rattle.std.specs.Prelude.{Option}
 use Rattle.std.proofs.lemmas.Bool.{eqb-true}
 use Rattle.par2_spec.specs.Checksums.{Pair}
 use Rattle.par2_slices.specs.declared.batch.Candidate.{Candidate}
-use Rattle.par2_slices.specs.Searches.{advanced, candidate_at, offset_at, pair_at, settled, IsCandidate}
+use Rattle.par2_slices.specs.declared.batch.Spot.{Spot}
+use Rattle.par2_slices.specs.Searches.{advanced, candidate_at, answer_at, pair_at, settled, IsWindow}
 use Rattle.par2_slices.proofs.Searching.{matches, none_settled, settled_from}
 use Rattle.par2_slices.proofs.search.Search.settle_batch.Goals as goal
 
 pub returns-then-is_empty-clause-each : goal.returns-then-is_empty-clause-each
 returns-then-is_empty-clause-each c i h =
     let candidates_are : c.as_slice-candidates.result.now ≡ c.args.self.now.batch.items = c.as_slice-candidates.ensures.value ∙ ap (λ batch. batch.items) c.take-batch.ensures.value in
-    sym (none_settled c.args.s c.args.bytes.now (pair_at c.args.wanted.now i) c.args.self.now.batch.items (offset_at c.args.self.now.found.items i) (sym (ap length candidates_are) ∙ eqb-true _ 0 (sym c.is_empty.ensures ∙ c.if-is_empty.true)))
+    sym (none_settled c.args.s c.args.bytes.now (pair_at c.args.wanted.now i) c.args.self.now.batch.items (answer_at c.args.self.now.found.items i) (sym (ap length candidates_are) ∙ eqb-true _ 0 (sym c.is_empty.ensures ∙ c.if-is_empty.true)))
 
 pub loop-k-preserved : goal.loop-k-preserved
 loop-k-preserved c =
@@ -21,15 +22,15 @@ loop-k-preserved c =
     let candidates_are : candidates ≡ c.args.self.now.batch.items = c.as_slice-candidates.ensures.value ∙ ap (λ batch. batch.items) c.take-batch.ensures.value in
     let candidate : Candidate = candidate_at candidates k in
     let inside : k < length candidates = c.loop-k-test.true in
-    let Each : List Candidate → Type 0 = λ cs. (j : ℕ) → j < length cs → IsCandidate s text (candidate_at cs j) in
-    let its : IsCandidate s text candidate = subst Each (sym candidates_are) c.requires.candidates k inside in
+    let Each : List Candidate → Type 0 = λ cs. (j : ℕ) → j < length cs → IsWindow s text (candidate_at cs j) in
+    let its : IsWindow s text candidate = subst Each (sym candidates_are) c.requires.candidates k inside in
     record {
       tally = c.answer.ensures.tally;
       each = λ i h.
           let pair : Pair = pair_at c.args.wanted.now i in
-          let old : Option ℕ = offset_at c.loop-k.self.found.items i in
+          let old : Option Spot = answer_at c.loop-k.self.found.items i in
           ap (settled s text pair (drop (k + 1) candidates))
-          (c.answer.ensures.each i h ∙ ap (λ m. advanced m candidate.offset old) (matches s text candidate.offset _ candidate.crc pair (c.digests-digests.ensures k inside) its.crc))
+          (c.answer.ensures.each i h ∙ ap (λ m. advanced m candidate.spot old) (matches s text candidate.spot.offset _ candidate.crc pair (c.digests-digests.ensures k inside) its.crc))
           ∙ sym (settled_from s text pair candidates k old inside)
           ∙ c.loop-k.invariant.each i h;
       batch = c.answer.ensures.batch ∙ c.loop-k.invariant.batch;
@@ -41,6 +42,6 @@ returns-clause-each c i h =
     let candidates : List Candidate = c.as_slice-candidates.result.now in
     let candidates_are : candidates ≡ c.args.self.now.batch.items = c.as_slice-candidates.ensures.value ∙ ap (λ batch. batch.items) c.take-batch.ensures.value in
     let pair : Pair = pair_at c.args.wanted.now i in
-    sym (none_settled c.args.s c.args.bytes.now pair (drop c.loop-k.k candidates) (offset_at c.loop-k.self.found.items i) (length-drop c.loop-k.k candidates ∙ (let e : length candidates - c.loop-k.k ≡ 0 = omega (arith, c.loop-k-test.false) in e)))
+    sym (none_settled c.args.s c.args.bytes.now pair (drop c.loop-k.k candidates) (answer_at c.loop-k.self.found.items i) (length-drop c.loop-k.k candidates ∙ (let e : length candidates - c.loop-k.k ≡ 0 = omega (arith, c.loop-k-test.false) in e)))
     ∙ c.loop-k.invariant.each i h
-    ∙ ap (λ cs. settled c.args.s c.args.bytes.now pair cs (offset_at c.args.self.now.found.items i)) candidates_are
+    ∙ ap (λ cs. settled c.args.s c.args.bytes.now pair cs (answer_at c.args.self.now.found.items i)) candidates_are

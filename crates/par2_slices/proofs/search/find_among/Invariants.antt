@@ -1,0 +1,14 @@
+use Rattle.std.proofs.Common.{◌≡◌, ◌<◌, ℕ, [], length, map, take}
+use Rattle.par2_slices.specs.Searches.{answer_at, first_spot, pair_at, IsTally}
+use Rattle.par2_slices.proofs.search.find_among.Given as goal
+
+abbrev pub invariant-loop-text : goal.invariant-loop-text
+invariant-loop-text l = record {
+  tally : IsTally l.wanted l.search.found.items l.search.left l.search.filter;
+  empty : l.search.batch.items ≡ [];
+  size : l.rolling.size ≡ l.s;
+  answers : (i : ℕ) → i < length l.wanted → answer_at l.search.found.items i ≡ first_spot l.s (take l.text (map (λ text. text.now) l.texts)) (pair_at l.wanted i);
+}
+
+abbrev pub ghost-search_text : goal.ghost-search_text
+ghost-search_text a = record { text = a.text; before = a.self.now.found.items }
