@@ -1,12 +1,11 @@
 -- What texts and windows say, without where they lie.
-use Rattle.std.specs.Prelude.{◌≡◌, ◌≤◌, ◌<◌, ℕ, List, [], ◌∷◌, length, map, slice_index_or, Option, Some, None, IfSome, option_map}
+use Rattle.std.specs.Prelude.{◌≤◌, ◌<◌, ℕ, List, length, map, Option, IfSome, option_map}
 use Rattle.std.specs.Borrow.{Bor}
 use Rattle.std.specs.List.{All}
-use Rattle.std.specs.Option.{option_or}
-use Rattle.par2_spec.specs.Checksums.{Pair}
 use Rattle.par2_spec.specs.Slices.{padded}
-use Rattle.par2_spec.specs.Windows.{found}
-use Rattle.par2_slices.specs.Searches.{pair_at}
+use Rattle.par2_spec.specs.Windows.{window}
+use Rattle.par2_slices.specs.declared.batch.Spot.{Spot}
+use Rattle.par2_search.specs.Matching.{text_at}
 
 -- the texts behind references
 abbrev pub texts_of : List (Bor (List ℕ)) → List (List ℕ)
@@ -27,20 +26,11 @@ padded_windows s windows = map (padded_window s) windows
 abbrev pub AreShort : ℕ → List Window → Type 0
 AreShort s windows = All (λ window. IfSome window (λ bytes. length bytes.now ≤ s)) windows
 
--- window i of a list
-abbrev pub window_of : List Window → ℕ → Window
-window_of windows i = slice_index_or windows i None
+-- the spot is in one of the texts
+pub record IsWithin (texts : List (List ℕ)) (spot : Spot) : Type 0 where
+  pub text : spot.text < length texts
+  pub offset : spot.offset < length (text_at texts spot.text)
 
--- once a text is searched, each pair has the window that it had before, or else the first of the text
--- that matches it
-pub record IsSearched (s : ℕ) (text : List ℕ) (pairs : List Pair) (old new : List Window) : Type 0 where
-  pub each : (i : ℕ) → i < length pairs → padded_window s (window_of new i)
-      ≡ option_or (padded_window s (window_of old i)) (found s (text ∷ []) (pair_at pairs i))
-  pub short : AreShort s old → AreShort s new
-
--- the pairs that have no window
-abbrev pub missing_pairs : {A : Type 0} → List Pair → List (Option A) → List Pair
-missing_pairs (pair ∷ pairs) (None ∷ windows) = pair ∷ missing_pairs pairs windows
-missing_pairs (pair ∷ pairs) (Some window ∷ windows) = missing_pairs pairs windows
-missing_pairs (pair ∷ pairs) [] = []
-missing_pairs [] windows = []
+-- the window at a spot
+abbrev pub window_in : ℕ → List (List ℕ) → Spot → List ℕ
+window_in s texts spot = window s (text_at texts spot.text) spot.offset
