@@ -402,6 +402,25 @@ fn store_in_memory(rt: HostRuntime) -> Result<(), Fail> {
     Ok(())
 }
 
+// Whether the store keeps a journal of so many bytes.
+fn keeps_journal<S: FolderStore>(
+    alloc: Global,
+    store: &mut S,
+    bytes: usize,
+) -> Result<bool, AllocError> {
+    let text = "j".repeat(alloc, bytes)?;
+    Ok(store.put_journal(text.as_bytes()).is_ok()
+        && matches!(store.read_journal(alloc), Ok(Some(kept)) if kept.as_slice() == text.as_bytes()))
+}
+
+#[test]
+fn store_without_its_last_file(rt: HostRuntime) -> Result<(), Fail> {
+    let mut store = started(&rt);
+    assert!(rt; store.remove(&name(&rt, "a")).is_ok() && holds(&rt, &mut store, "old")?);
+    assert!(rt; keeps_journal(rt.alloc(), &mut store, 5000)?);
+    Ok(())
+}
+
 // The answers to calls that no store can do that has the files `a` and `b` alone.
 fn impossible<S: FolderStore>(rt: &impl Abort, store: &mut S) -> [Result<(), StoreFault>; 4] {
     let (a, b, c) = (name(rt, "a"), name(rt, "b"), name(rt, "c"));

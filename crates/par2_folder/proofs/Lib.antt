@@ -4,5 +4,6 @@ pub mod Lists
 pub mod Steps
 pub mod Filling
 pub mod Below
+mod Disks
 pub mod Snapshots
 pub mod Walks

@@ -1,5 +1,5 @@
 -- A store that passes calls on, and then fails.
-use Rattle.std.specs.Prelude.{◌≡◌, ℕ, ◌+◌, Bool, false}
+use Rattle.std.specs.Prelude.{◌≡◌, ℕ, ◌+◌, Bool, true, false}
 use Rattle.par2_folder.specs.declared.fuse.FuseStore.{FuseStore}
 
 -- the store that it passes calls on to
@@ -17,6 +17,11 @@ does_work store = store.works
 -- how many of its failures are its own
 abbrev pub fuse_failures : {S : Type 0} → FuseStore S → ℕ
 fuse_failures store = store.failures.count
+
+-- the next call does its work, and fails
+pub record WorksNext {S : Type 0} (store : FuseStore S) : Type 0 where
+  pub left : calls_left store ≡ 0
+  pub works : does_work store ≡ true
 
 -- a call was passed on: it has one fewer left, and has not failed by itself
 pub record HasPassed {S : Type 0} (old new : FuseStore S) : Type 0 where

@@ -1,6 +1,7 @@
 pub mod View
 pub mod Views
 pub mod Memory
+pub mod Directories
 pub mod Disk
 pub mod Fuse
 pub mod Below

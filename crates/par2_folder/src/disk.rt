@@ -1,133 +1,142 @@
-//! The current directory as a store.
-ghost use Rattle.std.specs.Prelude.{◌≡◌, ◌<◌, ◌≤◌, IsErrOf, OnErr, Ok};
-ghost use Rattle.par2_folder.specs.Disk.{disk_failures};
+//! A store over a directory.
+ghost use Rattle.std.specs.Prelude.{◌≡◌, ◌⊎◌, ◌<◌, ◌≤◌, IfOk, IsErr, IsErrOf, IsTrue, IsFalse, None, Ok, OnErr, OnOk, option_map};
+ghost use Rattle.par2_spec.specs.Changes.{Rename, Remove, is_applicable};
+ghost use Rattle.par2_spec.specs.Stores.{changed};
+ghost use Rattle.par2_folder.specs.Directories.{path_of, bytes_at, put_at};
+ghost use Rattle.par2_folder.specs.Disk.{directory_of, disk_failures};
 
-use crate::reading::{fault_of, read_within};
+use crate::current::CurrentDirectory;
+use crate::directory::{Directory, Found, Place};
 use crate::{Failures, FolderStore, Name, ReadFault, StoreFault};
 use std::alloc::Global;
 use std::fs::Files;
-use std::io::ErrorKind;
-use std::{fs, io};
 
-const JOURNAL: &str = ".par2undo";
-
-const TEMPORARY: &str = ".par2undo.tmp";
-
-// A file that has not ended after so many reads can't be read.
-const READS: u64 = 1 << 32;
-
-/// The regular files of the current directory, by a runtime that reaches it. Nothing is promised of its contents.
-/// Folders, links and devices are no files: they are not listed, and a call that meets one fails.
+/// The regular files of a directory, with the journal. Folders, links and devices are no files: they are not listed,
+/// and a call that meets one fails and leaves all as it is. It is honest where the directory is.
 #[derive(Drop)]
-pub struct DiskStore<'r, R: Files + AllocGlobal> {
-    rt: &'r R,
+pub struct DiskStore<D: Directory> {
+    directory: D,
     failures: Failures,
 }
 
-// What stands under a path.
-#[derive(Clone, Copy, Drop)]
-enum Found {
-    Nothing,
-    File(u64),
-    Other,
-}
-
-fn find<R: Files>(rt: &R, path: &str) -> io::Result<Found> {
-    match fs::symlink_metadata(rt, path) {
-        Ok(metadata) if metadata.is_file() => Ok(Found::File(metadata.len())),
-        Ok(_) => Ok(Found::Other),
-        Err(error) if error.kind() == ErrorKind::NotFound => Ok(Found::Nothing),
-        Err(error) => Err(error),
-    }
-}
-
-// The names of the regular files, in order, without those that are kept for the history.
-fn list<R: Files + AllocGlobal>(rt: &R, alloc: Global) -> io::Result<Vec<Name>> {
-    let mut names = Vec::new(alloc);
-    for entry in fs::read_dir(&rt, ".")? {
-        let entry = entry?;
-        if entry.file_type()?.is_file() {
-            if let Ok(name) = Name::new(entry.file_name()) {
-                names.push(name)?;
-            }
-        }
-    }
-    names.sort_unstable();
-    Ok(names)
-}
-
-fn read_file<R: Files>(rt: &R, alloc: Global, path: &str, size: u64) -> Result<Vec<u8>, ReadFault> {
-    match fs::open(rt, path) {
-        Ok(mut file) => read_within(&mut file, alloc, size as usize, READS),
-        Err(error) => Err(fault_of(&error)),
-    }
-}
-
-// The bytes of a file, if there is one.
-fn read_path<R: Files>(rt: &R, alloc: Global, path: &str) -> Result<Option<Vec<u8>>, ReadFault> {
-    match find(rt, path) {
-        Ok(Found::Nothing) => Ok(None),
-        Ok(Found::File(size)) => match read_file(rt, alloc, path, size) {
-            Ok(bytes) => Ok(Some(bytes)),
-            Err(fault) => Err(fault),
-        },
-        Ok(Found::Other) => Err(ReadFault::Store),
-        Err(error) => Err(fault_of(&error)),
-    }
-}
-
-// Whether a file can be written there: nothing else has the name.
-fn is_free<R: Files>(rt: &R, path: &str) -> bool {
-    matches!(find(rt, path), Ok(Found::Nothing | Found::File(_)))
-}
-
-fn write_path<R: Files>(rt: &R, path: &str, bytes: &[u8]) -> Result<(), StoreFault> {
-    if !is_free(rt, path) || !is_free(rt, TEMPORARY) {
-        return Err(StoreFault);
-    }
-    if fs::write(rt, TEMPORARY, bytes).is_err() {
-        return Err(StoreFault);
-    }
-    match fs::rename(rt, TEMPORARY, path) {
-        Ok(()) => Ok(()),
-        Err(_) => Err(StoreFault),
-    }
-}
-
-fn rename_file<R: Files>(rt: &R, from: &str, to: &str) -> Result<(), StoreFault> {
-    let (Ok(Found::File(_)), Ok(Found::Nothing)) = (find(rt, from), find(rt, to)) else {
-        return Err(StoreFault);
-    };
-    match fs::rename(rt, from, to) {
-        Ok(()) => Ok(()),
-        Err(_) => Err(StoreFault),
-    }
-}
-
-fn remove_file<R: Files>(rt: &R, path: &str) -> Result<(), StoreFault> {
-    let Ok(Found::File(_)) = find(rt, path) else {
-        return Err(StoreFault);
-    };
-    match fs::remove_file(rt, path) {
-        Ok(()) => Ok(()),
-        Err(_) => Err(StoreFault),
-    }
-}
-
-impl<'r, R: Files + AllocGlobal> DiskStore<'r, R> {
-    /// The current directory. It has not failed yet.
-    pub fn new(rt: &'r R) -> DiskStore<'r, R>
+impl<'r, R: Files + AllocGlobal> DiskStore<CurrentDirectory<'r, R>> {
+    /// The current directory, by a runtime that reaches it. It has not failed yet.
+    pub fn new(rt: &'r R) -> DiskStore<CurrentDirectory<'r, R>>
         ensures failures { disk_failures result ≡ 0 }
     {
         DiskStore {
-            rt,
+            directory: CurrentDirectory::new(rt),
             failures: Failures::new(),
         }
+    }
+}
+
+impl<D: Directory> DiskStore<D> {
+    // The bytes of the file at a place, if there is one. What is no file can't be read.
+    fn read_at(&self, alloc: Global, place: Place<'_>) -> Result<Option<Vec<u8>>, ReadFault>
+        ensures bytes { let directory = directory_of self.now in D.honest directory
+            → IfOk result (λ found. option_map (λ bytes. bytes.items) found
+            ≡ bytes_at (D.contents directory) (D.temporary directory) place.entry) }
+        ensures barred { let directory = directory_of self.now in D.honest directory
+            → D.barred directory (path_of place.entry) → IsErrOf result ReadFault.Store }
+        ensures absent { let directory = directory_of self.now in D.honest directory
+            → bytes_at (D.contents directory) (D.temporary directory) place.entry ≡ None
+            → (result ≡ Ok None) ⊎ IsErrOf result ReadFault.Store }
+    {
+        match self.directory.find(place) {
+            Ok(Found::Nothing) => Ok(None),
+            Ok(Found::File(size)) => match self.directory.read(alloc, place, size) {
+                Ok(bytes) => Ok(Some(bytes)),
+                Err(fault) => Err(fault),
+            },
+            Ok(Found::Other) | Err(StoreFault) => Err(ReadFault::Store),
+        }
+    }
+
+    // Whether a file can be written there: nothing else has the name.
+    fn is_free(&self, place: Place<'_>) -> bool
+        ensures { let directory = directory_of self.now in D.honest directory
+            → IsTrue result → D.barred directory (path_of place.entry) → ⊥ }
+    {
+        matches!(
+            self.directory.find(place),
+            Ok(Found::Nothing | Found::File(_))
+        )
+    }
+
+    // Writes the file at a place by way of the temporary one.
+    fn write_at(&mut self, place: Place<'_>, bytes: &[u8]) -> Result<(), StoreFault>
+        ensures honest { D.honest (directory_of self.old) → D.honest (directory_of self.new) }
+        ensures done { D.honest (directory_of self.old) → OnOk result
+            (D.contents (directory_of self.new)
+            ≡ put_at (D.contents (directory_of self.old)) place.entry bytes.now) }
+        ensures all_or_none { D.honest (directory_of self.old) → OnErr result
+            ((D.contents (directory_of self.new) ≡ D.contents (directory_of self.old))
+            ⊎ (D.contents (directory_of self.new)
+            ≡ put_at (D.contents (directory_of self.old)) place.entry bytes.now)) }
+        ensures barred { let directory = directory_of self.old in D.honest directory
+            → D.barred directory (path_of place.entry) ⊎ D.barred directory (path_of Place.Temporary)
+            → IsErr result × (directory_of self.new ≡ directory) }
+        ensures failures { disk_failures self.new ≡ disk_failures self.old }
+    {
+        if !self.is_free(place) || !self.is_free(Place::Temporary) {
+            return Err(StoreFault);
+        }
+        self.directory.write_temporary(bytes)?;
+        self.directory.put_temporary(place)
+    }
+
+    // Gives a file a name that nothing has.
+    #[tactic(auto, unfolding(par2_spec::specs::Changes::is_applicable))]
+    fn rename_file(&mut self, from: &Name, to: &Name) -> Result<(), StoreFault>
+        ensures honest { D.honest (directory_of self.old) → D.honest (directory_of self.new) }
+        ensures impossible { let directory = directory_of self.old in D.honest directory
+            → IsFalse (is_applicable (D.contents directory).files (Rename from.now to.now))
+            ⊎ D.barred directory to.now
+            → IsErr result × (directory_of self.new ≡ directory) }
+        ensures done { D.honest (directory_of self.old) → OnOk result
+            (D.contents (directory_of self.new)
+            ≡ changed (D.contents (directory_of self.old)) (Rename from.now to.now)) }
+        ensures all_or_none { D.honest (directory_of self.old) → OnErr result
+            ((D.contents (directory_of self.new) ≡ D.contents (directory_of self.old))
+            ⊎ (D.contents (directory_of self.new)
+            ≡ changed (D.contents (directory_of self.old)) (Rename from.now to.now))) }
+        ensures failures { disk_failures self.new ≡ disk_failures self.old }
+    {
+        let Ok(Found::File(_)) = self.directory.find(Place::File(from)) else {
+            return Err(StoreFault);
+        };
+        let Ok(Found::Nothing) = self.directory.find(Place::File(to)) else {
+            return Err(StoreFault);
+        };
+        self.directory.rename(from, to)
+    }
+
+    #[tactic(auto, unfolding(par2_spec::specs::Changes::is_applicable))]
+    fn remove_file(&mut self, name: &Name) -> Result<(), StoreFault>
+        ensures honest { D.honest (directory_of self.old) → D.honest (directory_of self.new) }
+        ensures impossible { let directory = directory_of self.old in D.honest directory
+            → IsFalse (is_applicable (D.contents directory).files (Remove name.now))
+            → IsErr result × (directory_of self.new ≡ directory) }
+        ensures done { D.honest (directory_of self.old) → OnOk result
+            (D.contents (directory_of self.new)
+            ≡ changed (D.contents (directory_of self.old)) (Remove name.now)) }
+        ensures all_or_none { D.honest (directory_of self.old) → OnErr result
+            ((D.contents (directory_of self.new) ≡ D.contents (directory_of self.old))
+            ⊎ (D.contents (directory_of self.new)
+            ≡ changed (D.contents (directory_of self.old)) (Remove name.now))) }
+        ensures failures { disk_failures self.new ≡ disk_failures self.old }
+    {
+        let Ok(Found::File(_)) = self.directory.find(Place::File(name)) else {
+            return Err(StoreFault);
+        };
+        self.directory.remove(name)
     }
 
     // Counts the failures among the answers of reading calls.
     fn counted_read<T>(&mut self, answer: Result<T, ReadFault>) -> Result<T, ReadFault>
         ensures answer { result ≡ answer }
+        ensures directory { directory_of self.new ≡ directory_of self.old }
         ensures later { disk_failures self.old ≤ disk_failures self.new }
         ensures cause { IsErrOf result ReadFault.Store → disk_failures self.old < disk_failures self.new }
     {
@@ -140,6 +149,7 @@ impl<'r, R: Files + AllocGlobal> DiskStore<'r, R> {
     // Counts the failures among the answers of writing calls.
     fn counted_write(&mut self, answer: Result<(), StoreFault>) -> Result<(), StoreFault>
         ensures answer { result ≡ answer }
+        ensures directory { directory_of self.new ≡ directory_of self.old }
         ensures later { disk_failures self.old ≤ disk_failures self.new }
         ensures cause { OnErr result (disk_failures self.old < disk_failures self.new) }
     {
@@ -150,27 +160,22 @@ impl<'r, R: Files + AllocGlobal> DiskStore<'r, R> {
     }
 }
 
-impl<'r, R: Files + AllocGlobal> FolderStore for DiskStore<'r, R> {
-    ghost use Rattle.std.specs.Prelude.{None};
-    ghost use Rattle.std.specs.FinMap.{empty};
-    ghost use Rattle.par2_folder.specs.Disk.{disk_failures};
+impl<D: Directory> FolderStore for DiskStore<D> {
+    ghost use Rattle.par2_folder.specs.Disk.{directory_of, disk_failures};
 
-    ghost honest = { λ _. ⊥ };
+    ghost honest = { λ store. D.honest (directory_of store) };
 
-    ghost contents = { λ _. record { files = empty; journal = None } };
+    ghost contents = { λ store. D.contents (directory_of store) };
 
     ghost failures = { disk_failures };
 
     fn names(&mut self, alloc: Global) -> Result<Vec<Name>, ReadFault> {
-        let answer = match list(self.rt, alloc) {
-            Ok(names) => Ok(names),
-            Err(error) => Err(fault_of(&error)),
-        };
+        let answer = self.directory.names(alloc);
         self.counted_read(answer)
     }
 
     fn read(&mut self, alloc: Global, name: &Name) -> Result<Vec<u8>, ReadFault> {
-        let answer = match read_path(self.rt, alloc, name.as_str()) {
+        let answer = match self.read_at(alloc, Place::File(name)) {
             Ok(Some(bytes)) => Ok(bytes),
             Ok(None) => Err(ReadFault::Store),
             Err(fault) => Err(fault),
@@ -179,27 +184,27 @@ impl<'r, R: Files + AllocGlobal> FolderStore for DiskStore<'r, R> {
     }
 
     fn read_journal(&mut self, alloc: Global) -> Result<Option<Vec<u8>>, ReadFault> {
-        let answer = read_path(self.rt, alloc, JOURNAL);
+        let answer = self.read_at(alloc, Place::Journal);
         self.counted_read(answer)
     }
 
     fn put(&mut self, name: &Name, bytes: &[u8]) -> Result<(), StoreFault> {
-        let answer = write_path(self.rt, name.as_str(), bytes);
+        let answer = self.write_at(Place::File(name), bytes);
         self.counted_write(answer)
     }
 
     fn rename(&mut self, from: &Name, to: &Name) -> Result<(), StoreFault> {
-        let answer = rename_file(self.rt, from.as_str(), to.as_str());
+        let answer = self.rename_file(from, to);
         self.counted_write(answer)
     }
 
     fn remove(&mut self, name: &Name) -> Result<(), StoreFault> {
-        let answer = remove_file(self.rt, name.as_str());
+        let answer = self.remove_file(name);
         self.counted_write(answer)
     }
 
     fn put_journal(&mut self, bytes: &[u8]) -> Result<(), StoreFault> {
-        let answer = write_path(self.rt, JOURNAL, bytes);
+        let answer = self.write_at(Place::Journal, bytes);
         self.counted_write(answer)
     }
 }

@@ -72,7 +72,7 @@ impl<S: FolderStore> FolderStore for FuseStore<S> {
     ghost use Rattle.par2_spec.specs.Folders.{names};
     ghost use Rattle.par2_spec.specs.Changes.{Replace, Rename, Remove, is_applicable};
     ghost use Rattle.par2_spec.specs.Stores.{changed, journaled};
-    ghost use Rattle.par2_folder.specs.Fuse.{inner_store, fuse_failures, calls_left, HasPassed, IsBlown};
+    ghost use Rattle.par2_folder.specs.Fuse.{inner_store, fuse_failures, calls_left, HasPassed, IsBlown, WorksNext};
 
     ghost honest = { λ store. S.honest (inner_store store) };
 
@@ -87,7 +87,8 @@ impl<S: FolderStore> FolderStore for FuseStore<S> {
         ensures later { S.failures (inner_store self.old) + fuse_failures self.old ≤ S.failures (inner_store self.new) + fuse_failures self.new }
         ensures cause { IsErrOf result ReadFault.Store → S.failures (inner_store self.old) + fuse_failures self.old < S.failures (inner_store self.new) + fuse_failures self.new }
         ensures passed { 0 < calls_left self.old → HasPassed self.old self.new }
-        ensures blown { calls_left self.old ≡ 0 → IsErr result × IsBlown self.old self.new }
+        ensures blown { calls_left self.old ≡ 0
+            → IsErrOf result ReadFault.Store × IsBlown self.old self.new }
     {
         if self.passes() {
             return self.inner.names(alloc);
@@ -104,7 +105,8 @@ impl<S: FolderStore> FolderStore for FuseStore<S> {
         ensures later { S.failures (inner_store self.old) + fuse_failures self.old ≤ S.failures (inner_store self.new) + fuse_failures self.new }
         ensures cause { IsErrOf result ReadFault.Store → S.failures (inner_store self.old) + fuse_failures self.old < S.failures (inner_store self.new) + fuse_failures self.new }
         ensures passed { 0 < calls_left self.old → HasPassed self.old self.new }
-        ensures blown { calls_left self.old ≡ 0 → IsErr result × IsBlown self.old self.new }
+        ensures blown { calls_left self.old ≡ 0
+            → IsErrOf result ReadFault.Store × IsBlown self.old self.new }
     {
         if self.passes() {
             return self.inner.read(alloc, name);
@@ -120,7 +122,8 @@ impl<S: FolderStore> FolderStore for FuseStore<S> {
         ensures later { S.failures (inner_store self.old) + fuse_failures self.old ≤ S.failures (inner_store self.new) + fuse_failures self.new }
         ensures cause { IsErrOf result ReadFault.Store → S.failures (inner_store self.old) + fuse_failures self.old < S.failures (inner_store self.new) + fuse_failures self.new }
         ensures passed { 0 < calls_left self.old → HasPassed self.old self.new }
-        ensures blown { calls_left self.old ≡ 0 → IsErr result × IsBlown self.old self.new }
+        ensures blown { calls_left self.old ≡ 0
+            → IsErrOf result ReadFault.Store × IsBlown self.old self.new }
     {
         if self.passes() {
             return self.inner.read_journal(alloc);
@@ -136,6 +139,10 @@ impl<S: FolderStore> FolderStore for FuseStore<S> {
         ensures later { S.failures (inner_store self.old) + fuse_failures self.old ≤ S.failures (inner_store self.new) + fuse_failures self.new }
         ensures cause { OnErr result (S.failures (inner_store self.old) + fuse_failures self.old < S.failures (inner_store self.new) + fuse_failures self.new) }
         ensures passed { 0 < calls_left self.old → HasPassed self.old self.new }
+        ensures worked { S.honest (inner_store self.old) → WorksNext self.old
+            → (S.failures (inner_store self.old) < S.failures (inner_store self.new))
+            ⊎ (S.contents (inner_store self.new)
+            ≡ changed (S.contents (inner_store self.old)) (Replace name.now bytes.now)) }
         ensures blown { calls_left self.old ≡ 0 → IsErr result × IsBlown self.old self.new }
     {
         if self.passes() {
@@ -155,6 +162,10 @@ impl<S: FolderStore> FolderStore for FuseStore<S> {
         ensures later { S.failures (inner_store self.old) + fuse_failures self.old ≤ S.failures (inner_store self.new) + fuse_failures self.new }
         ensures cause { OnErr result (S.failures (inner_store self.old) + fuse_failures self.old < S.failures (inner_store self.new) + fuse_failures self.new) }
         ensures passed { 0 < calls_left self.old → HasPassed self.old self.new }
+        ensures worked { S.honest (inner_store self.old) → WorksNext self.old
+            → (S.failures (inner_store self.old) < S.failures (inner_store self.new))
+            ⊎ (S.contents (inner_store self.new)
+            ≡ changed (S.contents (inner_store self.old)) (Rename from.now to.now)) }
         ensures blown { calls_left self.old ≡ 0 → IsErr result × IsBlown self.old self.new }
     {
         if self.passes() {
@@ -174,6 +185,10 @@ impl<S: FolderStore> FolderStore for FuseStore<S> {
         ensures later { S.failures (inner_store self.old) + fuse_failures self.old ≤ S.failures (inner_store self.new) + fuse_failures self.new }
         ensures cause { OnErr result (S.failures (inner_store self.old) + fuse_failures self.old < S.failures (inner_store self.new) + fuse_failures self.new) }
         ensures passed { 0 < calls_left self.old → HasPassed self.old self.new }
+        ensures worked { S.honest (inner_store self.old) → WorksNext self.old
+            → (S.failures (inner_store self.old) < S.failures (inner_store self.new))
+            ⊎ (S.contents (inner_store self.new)
+            ≡ changed (S.contents (inner_store self.old)) (Remove name.now)) }
         ensures blown { calls_left self.old ≡ 0 → IsErr result × IsBlown self.old self.new }
     {
         if self.passes() {
@@ -192,6 +207,10 @@ impl<S: FolderStore> FolderStore for FuseStore<S> {
         ensures later { S.failures (inner_store self.old) + fuse_failures self.old ≤ S.failures (inner_store self.new) + fuse_failures self.new }
         ensures cause { OnErr result (S.failures (inner_store self.old) + fuse_failures self.old < S.failures (inner_store self.new) + fuse_failures self.new) }
         ensures passed { 0 < calls_left self.old → HasPassed self.old self.new }
+        ensures worked { S.honest (inner_store self.old) → WorksNext self.old
+            → (S.failures (inner_store self.old) < S.failures (inner_store self.new))
+            ⊎ (S.contents (inner_store self.new)
+            ≡ journaled (S.contents (inner_store self.old)) bytes.now) }
         ensures blown { calls_left self.old ≡ 0 → IsErr result × IsBlown self.old self.new }
     {
         if self.passes() {

@@ -3,6 +3,8 @@
 
 mod bytes;
 mod change;
+mod current;
+mod directory;
 mod disk;
 mod failures;
 mod fingerprint;
@@ -19,6 +21,8 @@ mod walk;
 
 pub use bytes::Bytes;
 pub use change::Change;
+pub use current::CurrentDirectory;
+pub use directory::{Directory, Found, Place};
 pub use disk::DiskStore;
 pub use failures::Failures;
 pub use fingerprint::fingerprints_along;

@@ -1,5 +1,5 @@
 //! Names of files, in place.
-ghost use Rattle.std.specs.Prelude.{◌≡◌, ◌↔◌, ◌==◌, ◌≤◌, ◌&&◌, ◌||◌, nat_le, length, IfOk, IsOk, IsTrue, Some, nat_eq, refl, codes};
+ghost use Rattle.std.specs.Prelude.{◌≡◌, ◌↔◌, ◌==◌, ◌≤◌, ◌&&◌, ◌||◌, nat_le, length, IfOk, IsOk, IsErr, IsTrue, IsFalse, Ok, Some, None, nat_eq, refl, codes};
 ghost use Rattle.std.specs.Ordering.{nat_cmp};
 ghost use Rattle.std.specs.Cmp.{on_equiv, on_total, on_po, on_per, partial_equiv_from_equiv};
 ghost use Rattle.std.specs.Cmp.Lexicographic.{pointwise, slice_cmp, nat_list_eq_equiv, nat_list_cmp_total, texts_po, texts_ties};
@@ -94,6 +94,21 @@ impl Name {
         match ArrayString::from(text) {
             Ok(text) => Ok(Name { text }),
             Err(_) => Err(BadName),
+        }
+    }
+
+    /// The name of a file that a folder lists; None for the files that are kept for the history.
+    pub fn listed(text: &str) -> Result<Option<Name>, BadName>
+        ensures named { IsTrue (is_name text.now) → result ≡ Ok (Some text.now) }
+        ensures kept { IsFalse (is_name text.now)
+            → IsTrue (starts_with nat_eq text.now (codes ".par2undo")) → result ≡ Ok None }
+        ensures other { IsFalse (is_name text.now)
+            → IsFalse (starts_with nat_eq text.now (codes ".par2undo")) → IsErr result }
+    {
+        match Name::new(text) {
+            Ok(name) => Ok(Some(name)),
+            Err(_) if is_reserved(text.as_bytes()) => Ok(None),
+            Err(fault) => Err(fault),
         }
     }
 

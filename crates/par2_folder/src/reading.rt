@@ -1,12 +1,15 @@
 //! Reading a file to its end.
-ghost use Rattle.std.specs.Prelude.{◌≡◌, IfOk, IfSome};
+ghost use Rattle.std.specs.Prelude.{◌≡◌, IfOk, IfSome, IsErr};
 
 use crate::ReadFault;
 use std::alloc::{AllocError, Global};
-use std::io::{Error, ErrorKind, Read};
+use std::io::{self, Error, ErrorKind, Read};
 
 // How much is read at a time.
 const BLOCK: usize = 1 << 16;
+
+// A file that has not ended after so many reads can't be read.
+const READS: u64 = 1 << 32;
 
 /// Want of memory, or a failure.
 pub fn fault_of(error: &Error) -> ReadFault {
@@ -44,4 +47,20 @@ pub fn read_within<F: Read>(
         }
     }
     Err(ReadFault::Store)
+}
+
+/// The bytes of a file that was opened, if it was. Its size is a hint of how much memory it wants.
+pub fn read_opened<F: Read + Drop>(
+    opened: io::Result<F>,
+    alloc: Global,
+    size: u64,
+) -> Result<Vec<u8>, ReadFault>
+    ensures bytes { IfOk result (λ bytes. IfOk opened (λ file.
+        IfSome (F.remaining file) (λ left. bytes.items ≡ left))) }
+    ensures unopened { IsErr opened → IsErr result }
+{
+    match opened {
+        Ok(mut file) => read_within(&mut file, alloc, size as usize, READS),
+        Err(error) => Err(fault_of(&error)),
+    }
 }

@@ -1,0 +1,110 @@
+//! The current directory.
+ghost use Rattle.std.specs.Prelude.{◌≡◌, ◌↔◌, IfOk, IsOk, IsErr};
+ghost use Rattle.std.specs.IoError.{error_kind};
+ghost use Rattle.par2_folder.specs.Directories.{IsFoundBy};
+
+use crate::directory::{Directory, Found, Place};
+use crate::reading::{fault_of, read_opened};
+use crate::{BadName, Name, ReadFault, StoreFault};
+use std::alloc::Global;
+use std::fs::{Files, Metadata};
+use std::io::{Error, ErrorKind};
+use std::{fs, io};
+
+/// The current directory, by a runtime that reaches it. Of what it holds nothing is promised, so each call of the
+/// store is one call of the runtime here, and what is made of the answers is said beside it.
+#[derive(Drop)]
+pub struct CurrentDirectory<'r, R: Files + AllocGlobal> {
+    rt: &'r R,
+}
+
+// What was found by what the runtime says of a path.
+fn found_of(answer: io::Result<Metadata>) -> Result<Found, StoreFault>
+    ensures found { IfOk result
+        (IsFoundBy (λ error. error_kind error ≡ ErrorKind.NotFound) answer) }
+    ensures fault { IsErr result → IsErr answer }
+{
+    match answer {
+        Ok(metadata) if metadata.is_file() => Ok(Found::File(metadata.len())),
+        Ok(_) => Ok(Found::Other),
+        Err(error) if error.kind() == ErrorKind::NotFound => Ok(Found::Nothing),
+        Err(_) => Err(StoreFault),
+    }
+}
+
+// Whether a change was made.
+fn made(answer: io::Result<()>) -> Result<(), StoreFault>
+    ensures { IsOk result ↔ IsOk answer }
+{
+    match answer {
+        Ok(()) => Ok(()),
+        Err(_) => Err(StoreFault),
+    }
+}
+
+// The names of the regular files, in order, without those that are kept for the history.
+fn list<R: Files + AllocGlobal>(rt: &R, alloc: Global) -> io::Result<Vec<Name>> {
+    let mut names = Vec::new(alloc);
+    for entry in fs::read_dir(&rt, ".")? {
+        let entry = entry?;
+        if entry.file_type()?.is_file() {
+            match Name::listed(entry.file_name()) {
+                Ok(Some(name)) => names.push(name)?,
+                Ok(None) => {}
+                Err(BadName) => return Err(Error::from(ErrorKind::InvalidFilename)),
+            }
+        }
+    }
+    names.sort_unstable();
+    Ok(names)
+}
+
+impl<'r, R: Files + AllocGlobal> CurrentDirectory<'r, R> {
+    pub fn new(rt: &'r R) -> CurrentDirectory<'r, R> {
+        CurrentDirectory { rt }
+    }
+}
+
+impl<'r, R: Files + AllocGlobal> Directory for CurrentDirectory<'r, R> {
+    ghost use Rattle.std.specs.Prelude.{None};
+    ghost use Rattle.std.specs.FinMap.{empty};
+
+    ghost honest = { λ _. ⊥ };
+
+    ghost contents = { λ _. record { files = empty; journal = None } };
+
+    ghost temporary = { λ _. None };
+
+    ghost barred = { λ _ _. ⊥ };
+
+    fn names(&self, alloc: Global) -> Result<Vec<Name>, ReadFault> {
+        match list(self.rt, alloc) {
+            Ok(names) => Ok(names),
+            Err(error) => Err(fault_of(&error)),
+        }
+    }
+
+    fn find(&self, place: Place<'_>) -> Result<Found, StoreFault> {
+        found_of(fs::symlink_metadata(self.rt, place.path()))
+    }
+
+    fn read(&self, alloc: Global, place: Place<'_>, size: u64) -> Result<Vec<u8>, ReadFault> {
+        read_opened(fs::open(self.rt, place.path()), alloc, size)
+    }
+
+    fn write_temporary(&mut self, bytes: &[u8]) -> Result<(), StoreFault> {
+        made(fs::write(self.rt, Place::Temporary.path(), bytes))
+    }
+
+    fn put_temporary(&mut self, place: Place<'_>) -> Result<(), StoreFault> {
+        made(fs::rename(self.rt, Place::Temporary.path(), place.path()))
+    }
+
+    fn rename(&mut self, from: &Name, to: &Name) -> Result<(), StoreFault> {
+        made(fs::rename(self.rt, from.as_str(), to.as_str()))
+    }
+
+    fn remove(&mut self, name: &Name) -> Result<(), StoreFault> {
+        made(fs::remove_file(self.rt, name.as_str()))
+    }
+}
