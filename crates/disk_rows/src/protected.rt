@@ -4,7 +4,7 @@
 use anyhow::Result;
 use par2_folder::{DiskStore, FolderStore, Name};
 use par2_packets::{DescView, IfscView, MainView, Packets, read_desc, read_ifsc, read_main};
-use par2_tool::run;
+use par2_tool::{Printer, run};
 use std::alloc::{AllocError, Global};
 
 const WORDS: [&str; 5] = ["create", "-s4096", "-c0", "numbers.par2", "numbers.txt"];
@@ -73,8 +73,8 @@ fn show(rt: &HostRuntime, index: &[u8]) -> Result<()> {
 pub fn protect(rt: &HostRuntime) -> Result<()> {
     let words = words(rt.alloc())?;
     let mut store = DiskStore::new(rt);
-    let mut out = rt.stdout();
-    let mut err = rt.stderr();
+    let mut out = Printer::new(rt.stdout());
+    let mut err = Printer::new(rt.stderr());
     let status = run(rt.alloc(), words.as_slice(), &mut store, &mut out, &mut err);
     println!(rt; "status: {status}")?;
     match Name::new("numbers.par2") {

@@ -2,7 +2,7 @@
 
 use anyhow::Result;
 use par2_folder::{FolderStore, MemoryStore, Name, read_folder};
-use par2_tool::run;
+use par2_tool::{Printer, run};
 use std::alloc::{AllocError, Global};
 
 /// The commands that each forged set meets.
@@ -54,9 +54,11 @@ fn fingerprint_of(alloc: Global, store: &mut MemoryStore) -> Result<[u8; 16]> {
 pub fn answer_of(alloc: Global, store: &mut MemoryStore, line: &str) -> Result<Answer> {
     let before = fingerprint_of(alloc, store)?;
     let words = words_of(alloc, line)?;
-    let (mut text, mut err) = (Vec::new(alloc), Vec::new(alloc));
-    let status = run(alloc, words.as_slice(), store, &mut text, &mut err);
-    text.extend_from_slice(&err)?;
+    let mut out = Printer::new(Vec::new(alloc));
+    let mut err = Printer::new(Vec::new(alloc));
+    let status = run(alloc, words.as_slice(), store, &mut out, &mut err);
+    let mut text = out.into_inner();
+    text.extend_from_slice(&err.into_inner())?;
     Ok(Answer {
         status,
         text: String::from_utf8_lossy(alloc, &text)?,

@@ -2,7 +2,7 @@
 #![tactic(auto)]
 
 use par2_folder::DiskStore;
-use par2_printing::write_failure;
+use par2_printing::{Printer, write_failure};
 use par2_tool::{Failure, Fault, run};
 use std::env;
 use std::io::{ErrorKind, Write};
@@ -25,7 +25,7 @@ fn words_of<R: env::Env + AllocGlobal>(rt: &R) -> Result<Vec<String>, Failure> {
 }
 
 // Prints why there are no words, and gives the status.
-fn fail<E: Write>(err: &mut E, failure: Failure) -> u8 {
+fn fail<E: Write>(err: &mut Printer<E>, failure: Failure) -> u8 {
     match write_failure(err, None, failure) {
         Ok(()) if failure == Failure::Arguments => 3,
         Ok(()) => 8,
@@ -34,8 +34,8 @@ fn fail<E: Write>(err: &mut E, failure: Failure) -> u8 {
 }
 
 fn main(rt: HostRuntime) -> ExitCode {
-    let mut out = rt.stdout();
-    let mut err = rt.stderr();
+    let mut out = Printer::new(rt.stdout());
+    let mut err = Printer::new(rt.stderr());
     let mut store = DiskStore::new(&rt);
     let status = match words_of(&rt) {
         Ok(words) => run(rt.alloc(), words.as_slice(), &mut store, &mut out, &mut err),

@@ -1,20 +1,25 @@
 -- Texts that are written one after the other.
-use Rattle.std.proofs.Common.{◌≡◌, ◌∙◌, ◌++◌, map, ◌+◌, ◌-◌, ◌<◌, ℕ, suc, List, [], take, drop, length, ap, sym, subst, append-nil, append_assoc, length-drop, length-append, Option, Some, None, Result, Ok, Err, arith}
+use Rattle.std.proofs.Common.{◌≡◌, ◌∙◌, ◌++◌, map, ◌+◌, ◌-◌, ◌<◌, ℕ, suc, List, [], ◌∷◌, refl, take, drop, length, ap, sym, subst, append-nil, append_assoc, length-drop, length-append, Option, Some, None, Result, Ok, Err, arith}
 use Rattle.std.specs.Io.KnownBytes.{Appends, Keeps}
 use Rattle.std.proofs.Math.Seq.{take-append_seam, take-append-add}
-use Rattle.std.proofs.lemmas.List.{take-append-drop, take-append-le, take_all}
+use Rattle.std.proofs.lemmas.List.{take-append-drop, take-append-le, take_all, take_more}
 use Rattle.std.proofs.lemmas.Grind.{flat_map-append}
 use Rattle.std.proofs.lemmas.List.Folds.{flat_map-map}
 use Rattle.std.proofs.Math.Seq.{drop-cons}
 use Rattle.std.proofs.Math.ListN.{get_or}
 use Rattle.std.specs.List.{flat_map}
-use Rattle.par2_printing.specs.Wrote.{Wrote}
+use Rattle.par2_printing.specs.Wrote.{TookAll, TookPart, Wrote, writer_of}
+use Rattle.par2_printing.specs.declared.printer.Printer.{Printer}
 
 pub appends_both : (a b c : Option (List ℕ)) (xs ys : List ℕ) → Appends a b xs → Appends b c ys → Appends a c (xs ++ ys)
 appends_both None b c xs ys p q = tt
 appends_both (Some x) None c xs ys p q = absurd p
 appends_both (Some x) (Some y) None xs ys p q = absurd q
 appends_both (Some x) (Some y) (Some z) xs ys p q = q ∙ ap (λ w. w ++ ys) p ∙ append_assoc x xs ys
+
+appends_nothing : (a : Option (List ℕ)) → Appends a a []
+appends_nothing None = tt
+appends_nothing (Some x) = sym (append-nil x)
 
 pub appends_kept : (a b : Option (List ℕ)) → Keeps a b → Appends a b []
 appends_kept None b k = tt
@@ -29,10 +34,9 @@ part a b c sent rest text is more p q =
     let size : length text ≡ length sent + length rest = ap length is ∙ length-append sent rest in
     (length sent, omega (arith, size, more), subst (Appends a c) seam (appends_both a b c sent [] p q))
 
--- no byte more was taken
-pub part_none : (a b c : Option (List ℕ)) (sent rest text : List ℕ) (n : ℕ) → n ≡ 0 → text ≡ sent ++ rest → 0 < length rest → Appends a b sent
-    → Appends b c (take n rest) → (m : ℕ) × (m < length text) × Appends a c (take m text)
-part_none a b c sent rest text n zero is more p q = part a b c sent rest text is more p (rw zero at q)
+-- none of the bytes were taken
+pub none_taken : (a b : Option (List ℕ)) (bytes : List ℕ) (n : ℕ) → n ≡ 0 → Appends a b (take n bytes) → Appends a b []
+none_taken a b bytes n zero q = rw zero at q
 
 -- n more bytes were taken
 pub step : (a b c : Option (List ℕ)) (sent rest text : List ℕ) (n : ℕ) → text ≡ sent ++ rest → Appends a b sent → Appends b c (take n rest)
@@ -43,48 +47,79 @@ step a b c sent rest text n is p q =
     is ∙ ap (λ r. sent ++ r) (sym (take-append-drop n rest)) ∙ sym (append_assoc sent (take n rest) (drop n rest)) in
     (sent ++ take n rest, parts ∙ ap (λ r. (sent ++ take n rest) ++ r) (sym all), appends_both a b c sent (take n rest) p q)
 
--- a text was written, and then another
-pub wrote_then : {T E : Type 0} (a b c : Option (List ℕ)) (xs ys : List ℕ) (r : Result T E) → Appends a b xs → Wrote b c ys r → Wrote a c (xs ++ ys) r
-wrote_then a b c xs ys (Ok v) p q = appends_both a b c xs ys p q
-wrote_then a b c xs ys (Err e) p q = (
-  length xs + q.0,
-  omega (arith, q.1, length-append xs ys),
-  subst (Appends a c) (sym (take-append-add xs ys q.0)) (appends_both a b c xs (take q.0 ys) p q.2),
-)
+module _ {W : Type 0} (held : W → Option (List ℕ)) where
+  -- nothing was written
+  pub wrote_nothing : (a : Printer W) → TookAll held a a []
+  wrote_nothing a = (appends_nothing (held (writer_of a)), refl)
 
--- a part of a text is a part of a longer one
-pub wrote_less : (a b : Option (List ℕ)) (xs ys : List ℕ) → (n : ℕ) × (n < length xs) × Appends a b (take n xs)
-    → (m : ℕ) × (m < length (xs ++ ys)) × Appends a b (take m (xs ++ ys))
-wrote_less a b xs ys p = (
-  p.0,
-  omega (arith, p.1, length-append xs ys),
-  subst (Appends a b) (sym (take-append-le p.0 xs ys (omega (arith, p.1)))) p.2,
-)
+  pub took_both : (a b c : Printer W) (xs ys : List ℕ) → TookAll held a b xs → TookAll held b c ys → TookAll held a c (xs ++ ys)
+  took_both a b c xs ys p q = (
+    appends_both (held (writer_of a)) (held (writer_of b)) (held (writer_of c)) xs ys p.0 q.0,
+    q.1 ∙ p.1,
+  )
 
--- the lines before the i-th were written, and then a part of that one
-pub lines_cut : {X : Type 0} (f : X → List ℕ) (a b c : Option (List ℕ)) (items : List X) (i : ℕ) (item : X) → i < length items
-    → Appends a b (flat_map f (take i items)) → (k : ℕ) × (k < length (f (get_or items i item))) × Appends b c (take k (f (get_or items i item)))
-    → (m : ℕ) × (m < length (flat_map f items)) × Appends a c (take m (flat_map f items))
-lines_cut f a b c items i item within before some =
-    let here = f (get_or items i item) in
-    let after = flat_map f (drop (suc i) items) in
-    let whole : flat_map f items ≡ flat_map f (take i items) ++ (here ++ after) =
-    ap (flat_map f) (sym (take-append-drop i items)) ∙ flat_map-append f (take i items) (drop i items)
-    ∙ ap (λ xs. flat_map f (take i items) ++ flat_map f xs) (drop-cons items i item within) in
-    let size : length (flat_map f items) ≡ length (flat_map f (take i items)) + length (here ++ after) =
-    ap length whole ∙ length-append (flat_map f (take i items)) (here ++ after) in
-    let more = wrote_less b c here after some in (
-      length (flat_map f (take i items)) + more.0,
-      omega (arith, size, more.1),
-      subst (Appends a c) (sym (ap (take (length (flat_map f (take i items)) + more.0)) whole ∙ take-append-add (flat_map f (take i items)) (here ++ after) more.0))
-          (appends_both a b c (flat_map f (take i items)) (take more.0 (here ++ after)) before more.2),
-    )
+  -- a text was written, and then a part of another
+  pub part_behind : (a b c : Printer W) (xs ys : List ℕ) → TookAll held a b xs → TookPart held b c ys → TookPart held a c (xs ++ ys)
+  part_behind a b c xs ys p q = (
+    (
+      length xs + q.0.0,
+      omega (arith, q.0.1, length-append xs ys),
+      subst (Appends (held (writer_of a)) (held (writer_of c))) (sym (take-append-add xs ys q.0.0))
+          (appends_both (held (writer_of a)) (held (writer_of b)) (held (writer_of c)) xs (take q.0.0 ys) p.0 q.0.2),
+    ),
+    omega (arith, p.1, q.1),
+  )
 
--- the same for the lines of what the items stand for, where the line was written by a text that equals the i-th item's
-pub shown_lines_cut : {X Y : Type 0} (f : Y → List ℕ) (view : X → Y) (a b c : Option (List ℕ)) (items : List X) (i : ℕ) (item : X) (shown : Y)
-    → i < length items → shown ≡ view (get_or items i item) → Appends a b (flat_map f (map view (take i items)))
-    → (k : ℕ) × (k < length (f shown)) × Appends b c (take k (f shown))
-    → (m : ℕ) × (m < length (flat_map f (map view items))) × Appends a c (take m (flat_map f (map view items)))
-shown_lines_cut f view a b c items i item shown within is before some =
-    let cut = lines_cut (λ x. f (view x)) a b c items i item within (subst (Appends a b) (flat_map-map f view (take i items)) before) (rw is at some) in
-    subst (λ text. (m : ℕ) × (m < length text) × Appends a c (take m text)) (sym (flat_map-map f view items)) cut
+  -- a text was written, and then another
+  pub wrote_then : {T E : Type 0} (a b c : Printer W) (xs ys : List ℕ) (r : Result T E) → TookAll held a b xs → Wrote held b c ys r → Wrote held a c (xs ++ ys) r
+  wrote_then a b c xs ys (Ok v) p q = took_both a b c xs ys p q
+  wrote_then a b c xs ys (Err e) p q = part_behind a b c xs ys p q
+
+  -- a part of a text is a part of a longer one
+  pub wrote_less : (a b : Printer W) (xs ys : List ℕ) → TookPart held a b xs → TookPart held a b (xs ++ ys)
+  wrote_less a b xs ys p = (
+    (
+      p.0.0,
+      omega (arith, p.0.1, length-append xs ys),
+      subst (Appends (held (writer_of a)) (held (writer_of b))) (sym (take-append-le p.0.0 xs ys (omega (arith, p.0.1)))) p.0.2,
+    ),
+    p.1,
+  )
+
+  -- the lines before the i-th were written, and then that one
+  pub lines_next : {X : Type 0} (f : X → List ℕ) (a b c : Printer W) (items : List X) (i : ℕ) (item : X) → i < length items
+      → TookAll held a b (flat_map f (take i items)) → TookAll held b c (f (get_or items i item)) → TookAll held a c (flat_map f (take (i + 1) items))
+  lines_next f a b c items i item within before one =
+      let here = f (get_or items i item) in
+      let both : flat_map f (take (i + 1) items) ≡ flat_map f (take i items) ++ here =
+      ap (flat_map f) (take_more items i item within) ∙ flat_map-append f (take i items) (get_or items i item ∷ []) ∙ ap (λ xs. flat_map f (take i items) ++ xs) (append-nil here) in
+      subst (TookAll held a c) (sym both) (took_both a b c (flat_map f (take i items)) here before one)
+
+  -- the lines before the i-th were written, and then a part of that one
+  pub lines_cut : {X : Type 0} (f : X → List ℕ) (a b c : Printer W) (items : List X) (i : ℕ) (item : X) → i < length items
+      → TookAll held a b (flat_map f (take i items)) → TookPart held b c (f (get_or items i item)) → TookPart held a c (flat_map f items)
+  lines_cut f a b c items i item within before some =
+      let here = f (get_or items i item) in
+      let after = flat_map f (drop (suc i) items) in
+      let whole : flat_map f items ≡ flat_map f (take i items) ++ (here ++ after) =
+      ap (flat_map f) (sym (take-append-drop i items)) ∙ flat_map-append f (take i items) (drop i items)
+      ∙ ap (λ xs. flat_map f (take i items) ++ flat_map f xs) (drop-cons items i item within) in
+      subst (TookPart held a c) (sym whole)
+      (part_behind a b c (flat_map f (take i items)) (here ++ after) before (wrote_less b c here after some))
+
+  -- the same for the lines of what the items stand for, where the line was written by a text that equals the i-th item's
+  pub shown_lines_cut : {X Y : Type 0} (f : Y → List ℕ) (view : X → Y) (a b c : Printer W) (items : List X) (i : ℕ) (item : X) (shown : Y)
+      → i < length items → shown ≡ view (get_or items i item) → TookAll held a b (flat_map f (map view (take i items)))
+      → TookPart held b c (f shown) → TookPart held a c (flat_map f (map view items))
+  shown_lines_cut f view a b c items i item shown within is before some =
+      let cut = lines_cut (λ x. f (view x)) a b c items i item within (subst (TookAll held a b) (flat_map-map f view (take i items)) before)
+      (subst (λ y. TookPart held b c (f y)) is some) in
+      subst (TookPart held a c) (sym (flat_map-map f view items)) cut
+
+  pub shown_lines_next : {X Y : Type 0} (f : Y → List ℕ) (view : X → Y) (a b c : Printer W) (items : List X) (i : ℕ) (item : X) (shown : Y)
+      → i < length items → shown ≡ view (get_or items i item) → TookAll held a b (flat_map f (map view (take i items)))
+      → TookAll held b c (f shown) → TookAll held a c (flat_map f (map view (take (i + 1) items)))
+  shown_lines_next f view a b c items i item shown within is before one =
+      let next = lines_next (λ x. f (view x)) a b c items i item within (subst (TookAll held a b) (flat_map-map f view (take i items)) before)
+      (subst (λ y. TookAll held b c (f y)) is one) in
+      subst (TookAll held a c) (sym (flat_map-map f view (take (i + 1) items))) next

@@ -4,6 +4,7 @@ ghost use Rattle.par2_spec.specs.Texts.{error_of, fault_text, line, lost_text, w
 ghost use Rattle.par2_printing.specs.Printed.{words_given};
 ghost use Rattle.par2_printing.specs.Wrote.{Wrote};
 
+use crate::printer::Printer;
 use crate::text::{WriteFault, write_parts};
 use itoa::Buffer;
 use par2_spec::{Action, Command, Failure, Fault};
@@ -44,24 +45,32 @@ fn word<'a>(command: Option<&'a Command>, place: usize) -> &'a str
 }
 
 // Writes `par2: ` and a reason as a line.
-fn write_reason<W: Write>(out: &mut W, reason: &str) -> Result<(), WriteFault>
-    ensures { Wrote (W.contents out.old) (W.contents out.new)
+fn write_reason<W: Write>(out: &mut Printer<W>, reason: &str) -> Result<(), WriteFault>
+    ensures { Wrote W.contents out.old out.new
         (line (codes "par2: " ++ reason.now)) result }
 {
     write_parts(out, &[b"par2: ", reason.as_bytes(), b"\n"])
 }
 
 // Writes `par2: ` and a reason with the word of which it speaks, as a line.
-fn write_reason_with<W: Write>(out: &mut W, reason: &str, word: &str) -> Result<(), WriteFault>
-    ensures { Wrote (W.contents out.old) (W.contents out.new)
+fn write_reason_with<W: Write>(
+    out: &mut Printer<W>,
+    reason: &str,
+    word: &str,
+) -> Result<(), WriteFault>
+    ensures { Wrote W.contents out.old out.new
         (line (codes "par2: " ++ reason.now ++ word.now)) result }
 {
     write_parts(out, &[b"par2: ", reason.as_bytes(), word.as_bytes(), b"\n"])
 }
 
 // Writes that so many slices are lost, and that so many recovery slices are of use.
-fn write_shortage<W: Write>(out: &mut W, missing: usize, rank: usize) -> Result<(), WriteFault>
-    ensures { Wrote (W.contents out.old) (W.contents out.new)
+fn write_shortage<W: Write>(
+    out: &mut Printer<W>,
+    missing: usize,
+    rank: usize,
+) -> Result<(), WriteFault>
+    ensures { Wrote W.contents out.old out.new
         (line (codes "par2: " ++ codes "not repairable, " ++ lost_text missing rank)) result }
 {
     let mut lost = Buffer::new();
@@ -82,11 +91,11 @@ fn write_shortage<W: Write>(out: &mut W, missing: usize, rank: usize) -> Result<
 
 #[tactic(auto, unfolding(par2_spec::specs::Texts::fault_text))]
 fn write_fault<W: Write>(
-    out: &mut W,
+    out: &mut Printer<W>,
     command: Option<&Command>,
     fault: Fault,
 ) -> Result<(), WriteFault>
-    ensures { Wrote (W.contents out.old) (W.contents out.new)
+    ensures { Wrote W.contents out.old out.new
         (line (codes "par2: " ++ fault_text (words_given command.entry) fault)) result }
 {
     match fault {
@@ -130,11 +139,11 @@ const USAGE: &str =
 /// that was read, if one was.
 #[tactic(auto, unfolding(par2_spec::specs::Texts::error_of, par2_spec::specs::Texts::failure_text))]
 pub fn write_failure<W: Write>(
-    out: &mut W,
+    out: &mut Printer<W>,
     command: Option<&Command>,
     failure: Failure,
 ) -> Result<(), WriteFault>
-    ensures { Wrote (W.contents out.old) (W.contents out.new)
+    ensures { Wrote W.contents out.old out.new
         (error_of (words_given command.entry) failure) result }
 {
     match failure {

@@ -6,6 +6,7 @@ ghost use Rattle.par2_spec.specs.Texts.{line, lost_text, of_all, target_line, ve
 ghost use Rattle.par2_printing.specs.Printed.{target_shown};
 ghost use Rattle.par2_printing.specs.Wrote.{Wrote};
 
+use crate::printer::Printer;
 use crate::text::{WriteFault, write_parts};
 use itoa::Buffer;
 use par2_spec::Verdict;
@@ -31,8 +32,8 @@ pub struct PrintedTarget<'a> {
 }
 
 /// Writes `set` and the identifier of the set in hexadecimal digits, as a line.
-pub fn write_set<W: Write>(out: &mut W, set_id: &[u8; 16]) -> Result<(), WriteFault>
-    ensures { Wrote (W.contents out.old) (W.contents out.new)
+pub fn write_set<W: Write>(out: &mut Printer<W>, set_id: &[u8; 16]) -> Result<(), WriteFault>
+    ensures { Wrote W.contents out.old out.new
         (line (codes "set " ++ encode_lower set_id.now)) result }
 {
     let mut digits = [0; 32];
@@ -43,11 +44,11 @@ pub fn write_set<W: Write>(out: &mut W, set_id: &[u8; 16]) -> Result<(), WriteFa
 }
 
 fn write_counts<W: Write>(
-    out: &mut W,
+    out: &mut Printer<W>,
     state: &str,
     target: PrintedTarget<'_>,
 ) -> Result<(), WriteFault>
-    ensures { Wrote (W.contents out.old) (W.contents out.new)
+    ensures { Wrote W.contents out.old out.new
         (line (state.now ++ target.entry.name.now ++ codes " " ++ of_all (target_shown target.entry))) result }
 {
     let mut found = Buffer::new();
@@ -67,8 +68,11 @@ fn write_counts<W: Write>(
 }
 
 /// Writes the line of a target.
-pub fn write_target<W: Write>(out: &mut W, target: PrintedTarget<'_>) -> Result<(), WriteFault>
-    ensures { Wrote (W.contents out.old) (W.contents out.new)
+pub fn write_target<W: Write>(
+    out: &mut Printer<W>,
+    target: PrintedTarget<'_>,
+) -> Result<(), WriteFault>
+    ensures { Wrote W.contents out.old out.new
         (target_line (target_shown target.entry)) result }
 {
     match target.state {
@@ -89,12 +93,12 @@ pub fn write_target<W: Write>(out: &mut W, target: PrintedTarget<'_>) -> Result<
 }
 
 fn write_lost<W: Write>(
-    out: &mut W,
+    out: &mut Printer<W>,
     verdict: &str,
     lost: usize,
     rank: usize,
 ) -> Result<(), WriteFault>
-    ensures { Wrote (W.contents out.old) (W.contents out.new)
+    ensures { Wrote W.contents out.old out.new
         (line (codes "result: " ++ verdict.now ++ lost_text lost rank)) result }
 {
     let mut slices = Buffer::new();
@@ -115,13 +119,13 @@ fn write_lost<W: Write>(
 
 /// Writes what is concluded of a set with so many lost slices and of this rank, as a line.
 pub fn write_verdict<W: Write>(
-    out: &mut W,
+    out: &mut Printer<W>,
     verdict: Verdict,
     lost: usize,
     rank: usize,
 ) -> Result<(), WriteFault>
     ensures { (r : Report) → r.lost ≡ lost → r.rank ≡ rank
-        → Wrote (W.contents out.old) (W.contents out.new)
+        → Wrote W.contents out.old out.new
         (line (codes "result: " ++ verdict_text r verdict)) result }
 {
     match verdict {

@@ -4,6 +4,7 @@ ghost use Rattle.par2_spec.specs.Texts.{line, note_text, step_line};
 ghost use Rattle.par2_printing.specs.Printed.{step_shown};
 ghost use Rattle.par2_printing.specs.Wrote.{Wrote};
 
+use crate::printer::Printer;
 use crate::text::{WriteFault, write_parts};
 use itoa::Buffer;
 use std::io::Write;
@@ -18,8 +19,8 @@ pub enum PrintedStep<'a> {
 }
 
 /// Writes `note: history dropped` as a line where it was.
-pub fn write_note<W: Write>(out: &mut W, dropped: bool) -> Result<(), WriteFault>
-    ensures { Wrote (W.contents out.old) (W.contents out.new) (note_text dropped) result }
+pub fn write_note<W: Write>(out: &mut Printer<W>, dropped: bool) -> Result<(), WriteFault>
+    ensures { Wrote W.contents out.old out.new (note_text dropped) result }
 {
     if dropped {
         write_parts(out, &[b"note: history dropped", b"\n"])
@@ -29,8 +30,8 @@ pub fn write_note<W: Write>(out: &mut W, dropped: bool) -> Result<(), WriteFault
 }
 
 /// Writes the line of a step.
-pub fn write_step<W: Write>(out: &mut W, step: PrintedStep<'_>) -> Result<(), WriteFault>
-    ensures { Wrote (W.contents out.old) (W.contents out.new)
+pub fn write_step<W: Write>(out: &mut Printer<W>, step: PrintedStep<'_>) -> Result<(), WriteFault>
+    ensures { Wrote W.contents out.old out.new
         (step_line (step_shown step.entry)) result }
 {
     match step {
@@ -45,8 +46,8 @@ pub fn write_step<W: Write>(out: &mut W, step: PrintedStep<'_>) -> Result<(), Wr
 }
 
 /// Writes `done: K` as a line.
-pub fn write_done<W: Write>(out: &mut W, count: usize) -> Result<(), WriteFault>
-    ensures { Wrote (W.contents out.old) (W.contents out.new)
+pub fn write_done<W: Write>(out: &mut Printer<W>, count: usize) -> Result<(), WriteFault>
+    ensures { Wrote W.contents out.old out.new
         (line (codes "done: " ++ decimal count)) result }
 {
     let mut buffer = Buffer::new();

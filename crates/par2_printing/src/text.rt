@@ -1,8 +1,9 @@
-//! Texts on a writer.
+//! Texts on a printer.
 ghost use Rattle.std.specs.Prelude.{◌≡◌, ◌++◌};
 ghost use Rattle.std.specs.List.{flat_map};
 ghost use Rattle.par2_printing.specs.Wrote.{Wrote};
 
+use crate::printer::Printer;
 use std::io::Write;
 use thiserror::Error;
 
@@ -12,23 +13,22 @@ use thiserror::Error;
 pub struct WriteFault;
 
 // Writes the bytes, by as many calls as it takes.
-fn write_bytes<W: Write>(out: &mut W, text: &[u8]) -> Result<(), WriteFault>
-    ensures { Wrote (W.contents out.old) (W.contents out.new) text.now result }
+fn write_bytes<W: Write>(out: &mut Printer<W>, text: &[u8]) -> Result<(), WriteFault>
+    ensures { Wrote W.contents out.old out.new text.now result }
 {
     let mut rest = text;
     while !rest.is_empty() {
         match out.write(rest) {
-            Ok(0) => return Err(WriteFault),
             Ok(n) => rest = &rest[n..],
-            Err(_) => return Err(WriteFault),
+            Err(fault) => return Err(fault),
         }
     }
     Ok(())
 }
 
 /// Writes the parts, one after the other.
-pub fn write_parts<W: Write>(out: &mut W, parts: &[&[u8]]) -> Result<(), WriteFault>
-    ensures { Wrote (W.contents out.old) (W.contents out.new)
+pub fn write_parts<W: Write>(out: &mut Printer<W>, parts: &[&[u8]]) -> Result<(), WriteFault>
+    ensures { Wrote W.contents out.old out.new
         (flat_map (λ part. part.now) parts.now) result }
 {
     for part in parts {

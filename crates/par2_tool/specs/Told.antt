@@ -1,6 +1,5 @@
 -- What a run of the program does to a store, and what it prints.
-use Rattle.std.specs.Prelude.{◌≡◌, ◌⊎◌, ◌<◌, ℕ, Bool, List, [], Option, Ok, Err, length, take, true}
-use Rattle.std.specs.Io.KnownBytes.{Appends}
+use Rattle.std.specs.Prelude.{◌≡◌, ◌⊎◌, ◌<◌, ℕ, Bool, List, [], Option, Ok, Err, true}
 use Rattle.clap.specs.Words.{Text}
 use Rattle.par2_spec.specs.Commands.{Action, Do, Undo, Redo}
 use Rattle.par2_spec.specs.History as history
@@ -14,6 +13,8 @@ use Rattle.par2_spec.specs.declared.Failure.TheVariants as failure
 use Rattle.par2_spec.specs.declared.Fault.TheVariants as fault
 use Rattle.par2_spec.specs.declared.JournalFault.TheVariants as journal
 use Rattle.par2_printing.specs.Printed.{words_asked}
+use Rattle.par2_printing.specs.Wrote.{TookAll, TookPart}
+use Rattle.par2_printing.specs.declared.printer.Printer.{Printer}
 use Rattle.par2_tool.specs.Asked.{AskFor, IsCommandLine}
 use Rattle.par2_tool.specs.Held.{IsOpening, Holds, kept, TellsApartAlong, TellsApartBack}
 use Rattle.par2_tool.specs.Opened.{IsOpened}
@@ -127,13 +128,15 @@ IsTold words before after (Failed spoken reason) =
     ((spoken ≡ []) × IsUnread words reason)
     ⊎ ((action : Action) × AskFor words action × (spoken ≡ words_asked action) × IsCause action before after reason)
 
--- the text was written and the status is its own; or the writer failed, it holds a part of the text, which
--- lacks a byte at least, and the status is 6
-abbrev pub Printed : Option (List ℕ) → Option (List ℕ) → List ℕ → ℕ → ℕ → Type 0
-Printed old new text own status =
-    (Appends old new text × (status ≡ own)) ⊎ ((n : ℕ) × (n < length text) × Appends old new (take n text) × (status ≡ 6))
+-- the text was written and the status is its own; or the writer failed, which is counted, it holds a part of the
+-- text, which lacks a byte at least, and the status is 6
+abbrev pub Printed : {W : Type 0} → (W → Option (List ℕ)) → Printer W → Printer W → List ℕ → ℕ → ℕ → Type 0
+Printed held old new text own status =
+    (TookAll held old new text × (status ≡ own)) ⊎ (TookPart held old new text × (status ≡ 6))
 
--- an outcome is printed on the output, a failure on the error writer, and the other writer holds what it held
-abbrev pub Shown : Told → Option (List ℕ) → Option (List ℕ) → Option (List ℕ) → Option (List ℕ) → ℕ → Type 0
-Shown (Answered dropped outcome) out out_after err err_after status = Printed out out_after (output_of dropped outcome) (status_of outcome) status × (err_after ≡ err)
-Shown (Failed spoken reason) out out_after err err_after status = Printed err err_after (error_of spoken reason) (status_of_failure reason) status × (out_after ≡ out)
+-- an outcome is printed on the output, a failure on the error writer, and the other printer is as it was
+abbrev pub Shown : {O E : Type 0} → Told → (O → Option (List ℕ)) → Printer O → Printer O → (E → Option (List ℕ)) → Printer E → Printer E → ℕ → Type 0
+Shown (Answered dropped outcome) held out out_after told err err_after status =
+    Printed held out out_after (output_of dropped outcome) (status_of outcome) status × (err_after ≡ err)
+Shown (Failed spoken reason) held out out_after told err err_after status =
+    Printed told err err_after (error_of spoken reason) (status_of_failure reason) status × (out_after ≡ out)

@@ -12,6 +12,7 @@ mod writing;
 pub use laws::runs_keep_one_history;
 pub use opening::{OpenFault, Started, open_store};
 pub use par2_journal::{Report, Session, SessionFault, State, Step, Steps, TargetReport};
+pub use par2_printing::Printer;
 pub use par2_spec::{Action, Command, CreateArgs, Failure, Fault};
 pub use par2_words::{WordsFault, read_words};
 pub use performing::{Outcome, PerformFault, perform};

@@ -12,8 +12,8 @@ ghost use Rattle.par2_tool.specs.Told.{Printed};
 use crate::performing::Outcome;
 use par2_journal::{Report, State, Step, TargetReport};
 use par2_printing::{
-    PrintedState, PrintedStep, PrintedTarget, WriteFault, write_done, write_failure, write_note,
-    write_set, write_step, write_target, write_verdict,
+    PrintedState, PrintedStep, PrintedTarget, Printer, WriteFault, write_done, write_failure,
+    write_note, write_set, write_step, write_target, write_verdict,
 };
 use par2_spec::{Command, Failure, Fault, Verdict};
 use std::io::Write;
@@ -32,8 +32,8 @@ fn printed(step: &Step) -> PrintedStep<'_>
     }
 }
 
-fn write_steps<W: Write>(out: &mut W, steps: &[Step]) -> Result<(), WriteFault>
-    ensures { Wrote (W.contents out.old) (W.contents out.new)
+fn write_steps<W: Write>(out: &mut Printer<W>, steps: &[Step]) -> Result<(), WriteFault>
+    ensures { Wrote W.contents out.old out.new
         (flat_map step_line (map stepped steps.now)) result }
 {
     for step in steps {
@@ -42,9 +42,8 @@ fn write_steps<W: Write>(out: &mut W, steps: &[Step]) -> Result<(), WriteFault>
     Ok(())
 }
 
-#[tactic(auto, using(par2_printing::proofs::WroteLaws::wrote_then, par2_printing::proofs::WroteLaws::wrote_less))]
-fn write_all_done<W: Write>(out: &mut W, steps: &[Step]) -> Result<(), WriteFault>
-    ensures { Wrote (W.contents out.old) (W.contents out.new)
+fn write_all_done<W: Write>(out: &mut Printer<W>, steps: &[Step]) -> Result<(), WriteFault>
+    ensures { Wrote W.contents out.old out.new
         (done_text (map stepped steps.now)) result }
 {
     match write_steps(out, steps) {
@@ -53,9 +52,12 @@ fn write_all_done<W: Write>(out: &mut W, steps: &[Step]) -> Result<(), WriteFaul
     }
 }
 
-#[tactic(auto, using(par2_printing::proofs::WroteLaws::wrote_then, par2_printing::proofs::WroteLaws::wrote_less))]
-fn write_accepted<W: Write>(out: &mut W, steps: &[Step], dropped: bool) -> Result<(), WriteFault>
-    ensures { Wrote (W.contents out.old) (W.contents out.new)
+fn write_accepted<W: Write>(
+    out: &mut Printer<W>,
+    steps: &[Step],
+    dropped: bool,
+) -> Result<(), WriteFault>
+    ensures { Wrote W.contents out.old out.new
         (note_text dropped ++ done_text (map stepped steps.now)) result }
 {
     match write_note(out, dropped) {
@@ -86,8 +88,8 @@ fn printed_target(target: &TargetReport) -> PrintedTarget<'_>
     }
 }
 
-fn write_targets<W: Write>(out: &mut W, targets: &[TargetReport]) -> Result<(), WriteFault>
-    ensures { Wrote (W.contents out.old) (W.contents out.new)
+fn write_targets<W: Write>(out: &mut Printer<W>, targets: &[TargetReport]) -> Result<(), WriteFault>
+    ensures { Wrote W.contents out.old out.new
         (flat_map target_line (map target_report_of targets.now)) result }
 {
     for target in targets {
@@ -96,8 +98,8 @@ fn write_targets<W: Write>(out: &mut W, targets: &[TargetReport]) -> Result<(), 
     Ok(())
 }
 
-fn write_report<W: Write>(out: &mut W, report: &Report) -> Result<(), WriteFault>
-    ensures { Wrote (W.contents out.old) (W.contents out.new)
+fn write_report<W: Write>(out: &mut Printer<W>, report: &Report) -> Result<(), WriteFault>
+    ensures { Wrote W.contents out.old out.new
         (report_text (report_of report.now)) result }
 {
     write_set(out, &report.set_id)?;
@@ -106,8 +108,12 @@ fn write_report<W: Write>(out: &mut W, report: &Report) -> Result<(), WriteFault
 }
 
 #[tactic(auto, unfolding(par2_spec::specs::Texts::output_of))]
-fn write_outcome<W: Write>(out: &mut W, outcome: &Outcome, dropped: bool) -> Result<(), WriteFault>
-    ensures { Wrote (W.contents out.old) (W.contents out.new)
+fn write_outcome<W: Write>(
+    out: &mut Printer<W>,
+    outcome: &Outcome,
+    dropped: bool,
+) -> Result<(), WriteFault>
+    ensures { Wrote W.contents out.old out.new
         (output_of dropped (outcome_of outcome.now)) result }
 {
     match outcome {
@@ -133,8 +139,8 @@ fn status_of(outcome: &Outcome) -> u8
 
 /// Prints what an accepted command answers on the output, steps below a note where the history was dropped, and
 /// answers the status.
-pub fn tell<W: Write>(out: &mut W, outcome: &Outcome, dropped: bool) -> u8
-    ensures { Printed (W.contents out.old) (W.contents out.new)
+pub fn tell<W: Write>(out: &mut Printer<W>, outcome: &Outcome, dropped: bool) -> u8
+    ensures { Printed W.contents out.old out.new
         (output_of dropped (outcome_of outcome.now)) (texts.status_of (outcome_of outcome.now)) result }
 {
     match write_outcome(out, outcome, dropped) {
@@ -179,8 +185,8 @@ fn status_of_failure(failure: Failure) -> u8
 }
 
 /// Prints a failure on the error writer, and answers the status.
-pub fn fail<W: Write>(err: &mut W, command: Option<&Command>, failure: Failure) -> u8
-    ensures { Printed (W.contents err.old) (W.contents err.new)
+pub fn fail<W: Write>(err: &mut Printer<W>, command: Option<&Command>, failure: Failure) -> u8
+    ensures { Printed W.contents err.old err.new
         (error_of (words_given command.entry) failure) (texts.status_of_failure failure) result }
 {
     match write_failure(err, command, failure) {

@@ -11,6 +11,7 @@ use crate::performing::{Outcome, PerformFault, perform};
 use crate::printing::{fail, tell};
 use par2_folder::FolderStore;
 use par2_journal::SessionFault;
+use par2_printing::Printer;
 use par2_spec::{Action, Command, Failure, Fault};
 use par2_words::{WordsFault, read_words};
 use std::alloc::Global;
@@ -108,14 +109,13 @@ pub fn run<S: FolderStore, O: Write, E: Write>(
     alloc: Global,
     words: &[String],
     store: &mut S,
-    out: &mut O,
-    err: &mut E,
+    out: &mut Printer<O>,
+    err: &mut Printer<E>,
 ) -> u8
     ensures honest { S.honest store.old → S.honest store.new }
     ensures told { (told : Told)
         × IsTold (map string_bytes words.now) (S.failures store.old) (S.failures store.new) told
-        × Shown told (O.contents out.old) (O.contents out.new)
-        (E.contents err.old) (E.contents err.new) result
+        × Shown told O.contents out.old out.new E.contents err.old err.new result
         × (S.honest store.old → Leaves (map string_bytes words.now) told
         (S.contents store.old) (S.contents store.new)) }
     ensures later { S.failures store.old ≤ S.failures store.new }

@@ -17,7 +17,7 @@
 use anyhow::Result;
 use md5::{Digest, Md5};
 use par2_folder::{DiskStore, FolderStore, Name};
-use par2_tool::run;
+use par2_tool::{Printer, run};
 use std::alloc::{AllocError, Global};
 
 const VERIFY: &str = "verify peer.par2 moved.txt";
@@ -50,8 +50,8 @@ fn run_line(rt: &HostRuntime, line: &str) -> Result<()> {
     println!(rt; "[{line}]")?;
     let words = parted(rt.alloc(), line)?;
     let mut store = DiskStore::new(rt);
-    let mut out = rt.stdout();
-    let mut err = rt.stderr();
+    let mut out = Printer::new(rt.stdout());
+    let mut err = Printer::new(rt.stderr());
     let status = run(rt.alloc(), words.as_slice(), &mut store, &mut out, &mut err);
     println!(rt; "status: {status}")?;
     Ok(())

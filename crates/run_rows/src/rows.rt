@@ -3,7 +3,7 @@
 use crate::files::bytes_of;
 use anyhow::Result;
 use par2_folder::{FolderStore, MemoryStore};
-use par2_tool::run;
+use par2_tool::{Printer, run};
 use std::alloc::{AllocError, Global};
 
 /// What came of a run.
@@ -37,10 +37,14 @@ fn parted(alloc: Global, line: &str) -> Result<Vec<String>, AllocError> {
 /// Runs the words of a line on a store.
 pub fn answer_of<S: FolderStore>(alloc: Global, store: &mut S, line: &str) -> Result<Answer> {
     let words = parted(alloc, line)?;
-    let mut out = Vec::new(alloc);
-    let mut err = Vec::new(alloc);
+    let mut out = Printer::new(Vec::new(alloc));
+    let mut err = Printer::new(Vec::new(alloc));
     let status = run(alloc, words.as_slice(), store, &mut out, &mut err);
-    Ok(Answer { status, out, err })
+    Ok(Answer {
+        status,
+        out: out.into_inner(),
+        err: err.into_inner(),
+    })
 }
 
 // Prints what a writer got, if anything.

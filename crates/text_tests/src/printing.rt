@@ -2,7 +2,7 @@
 ghost use Rattle.std.specs.Prelude.{Some};
 
 use par2_printing::{
-    PrintedState, PrintedStep, PrintedTarget, WriteFault, write_done, write_failure, write_note,
+    PrintedState, PrintedStep, PrintedTarget, Printer, WriteFault, write_done, write_failure, write_note,
     write_set, write_step, write_target, write_verdict,
 };
 use par2_spec::{Action, Command, CreateArgs, Failure, Fault, Verdict};
@@ -38,14 +38,14 @@ impl Write for Stopping {
 
 // What a writer holds that takes five bytes, and whether both writes to it failed.
 fn after_five_bytes(alloc: Global, fails: bool) -> (bool, Vec<u8>) {
-    let mut out = Stopping {
+    let mut out = Printer::new(Stopping {
         held: Vec::new(alloc),
         left: 5,
         fails,
-    };
+    });
     let step = write_step(&mut out, PrintedStep::Write("t.par2"));
     let failure = write_failure(&mut out, None, Failure::Arguments);
-    (step.is_err() && failure.is_err(), out.held)
+    (step.is_err() && failure.is_err(), out.into_inner().held)
 }
 
 #[test]
@@ -67,7 +67,7 @@ enum Line {
     Verdict(Verdict, usize, usize),
 }
 
-fn write_line(out: &mut Vec<u8>, line: Line) -> Result<(), WriteFault> {
+fn write_line(out: &mut Printer<Vec<u8>>, line: Line) -> Result<(), WriteFault> {
     match line {
         Line::Note(dropped) => write_note(out, dropped),
         Line::Step(step) => write_step(out, step),
@@ -125,7 +125,9 @@ const LINES: &[(Line, &str)] = &[
 fn lines_of_a_report(rt: HostRuntime) -> Result<(), Fail> {
     let (mut out, mut expected) = (Vec::new(rt.alloc()), String::new(rt.alloc()));
     for (line, text) in LINES {
-        write_line(&mut out, *line)?;
+        let mut printer = Printer::new(out);
+        write_line(&mut printer, *line)?;
+        out = printer.into_inner();
         expected.push_str(text)?;
         assert!(rt; out.as_slice() == expected.as_bytes(), "at {text}");
     }
@@ -198,10 +200,10 @@ fn is_told(
     failure: Failure,
     text: &str,
 ) -> Result<bool, Fail> {
-    let mut out = Vec::new(alloc);
+    let mut out = Printer::new(Vec::new(alloc));
     write_failure(&mut out, command, failure)?;
     let expected = format!(in alloc; "par2: {text}\n")?;
-    Ok(out.as_slice() == expected.as_bytes())
+    Ok(out.into_inner().as_slice() == expected.as_bytes())
 }
 
 // The text by which a refusal is not told that stands beside it, if there is one. The command has two inputs.

@@ -6,7 +6,7 @@ use hex::encode;
 use md5::{Digest, Md5};
 use par2_folder::{FolderStore, MemoryStore, Name, read_folder};
 use par2_journal::{Opened, Session};
-use par2_tool::run;
+use par2_tool::{Printer, run};
 use std::alloc::{AllocError, Global};
 
 // What is done with a store.
@@ -149,9 +149,11 @@ fn held(
 /// bytes where they are many.
 pub fn run_line(alloc: Global, store: &mut MemoryStore, line: &str) -> Result<(u8, String)> {
     let words = words_of(alloc, line)?;
-    let (mut text, mut err) = (Vec::new(alloc), Vec::new(alloc));
-    let status = run(alloc, words.as_slice(), store, &mut text, &mut err);
-    text.extend_from_slice(&err)?;
+    let mut out = Printer::new(Vec::new(alloc));
+    let mut err = Printer::new(Vec::new(alloc));
+    let status = run(alloc, words.as_slice(), store, &mut out, &mut err);
+    let mut text = out.into_inner();
+    text.extend_from_slice(&err.into_inner())?;
     if text.len() > SHORT {
         return Ok((status, format!(in alloc; "{} bytes", text.len())?));
     }

@@ -1,9 +1,9 @@
 use Rattle.std.proofs.Common.{◌≡◌, ◌++◌, ℕ, List, length}
-use Rattle.std.specs.Io.KnownBytes.{Appends}
+use Rattle.par2_printing.specs.Wrote.{TookAll}
 use Rattle.par2_printing.proofs.text.write_bytes.Given as goal
 
 abbrev pub invariant-loop-rest : goal.invariant-loop-rest
-invariant-loop-rest g l = (sent : List ℕ) × (l.text ≡ sent ++ l.rest) × Appends (g.W.Write.contents l.initial.out) (g.W.Write.contents l.out) sent
+invariant-loop-rest g l = (sent : List ℕ) × (l.text ≡ sent ++ l.rest) × TookAll g.W.Write.contents l.initial.out l.out sent
 
 abbrev pub decreases-loop-rest : goal.decreases-loop-rest
 decreases-loop-rest g l = length l.rest

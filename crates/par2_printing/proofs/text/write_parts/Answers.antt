@@ -5,5 +5,5 @@ use Rattle.par2_printing.proofs.text.write_parts.Goals as goal
 pub returns-in_err-write_bytes : goal.returns-in_err-write_bytes
 returns-in_err-write_bytes g c =
     let p = err_from_is_err_and c.from_residual.result c.from_residual.ensures.1 in
-    rw p.1 (lines_cut (λ part. part.now) _ (g.W.Write.contents c.loop-part.out) _ c.args.parts.now c.loop-part.part-index _ c.loop-part-test.true
+    rw p.1 (lines_cut g.W.Write.contents (λ part. part.now) c.args.out.now c.loop-part.out c.write_bytes.new.out c.args.parts.now c.loop-part.part-index _ c.loop-part-test.true
     c.loop-part.invariant c.in_err-write_bytes.ensures)

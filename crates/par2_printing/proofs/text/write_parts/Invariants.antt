@@ -1,7 +1,7 @@
 use Rattle.std.proofs.Common.{take}
 use Rattle.std.specs.List.{flat_map}
-use Rattle.std.specs.Io.KnownBytes.{Appends}
+use Rattle.par2_printing.specs.Wrote.{TookAll}
 use Rattle.par2_printing.proofs.text.write_parts.Given as goal
 
 abbrev pub invariant-loop-part : goal.invariant-loop-part
-invariant-loop-part g l = Appends (g.W.Write.contents l.initial.out) (g.W.Write.contents l.out) (flat_map (λ part. part.now) (take l.part-index l.parts))
+invariant-loop-part g l = TookAll g.W.Write.contents l.initial.out l.out (flat_map (λ part. part.now) (take l.part-index l.parts))

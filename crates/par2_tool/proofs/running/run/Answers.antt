@@ -17,7 +17,7 @@ returns-in-Err-clause-told g c =
     subst (λ (failure : Failure). IsUnread words failure) (sym c.unread.ensures) (unread_words words c.in-Err.fault c.in-Err.ensures.arguments) in (
       Failed [] c.unread.result,
       inl (refl, told),
-      (c.fail.ensures, refl),
+      (c.fail.ensures, refl {a = c.args.out.now}),
       λ _. inl (told, refl),
     )
 
@@ -28,11 +28,11 @@ returns-in-Ok-carry_out-clause-told g c =
     let asked : AskFor (map string_bytes c.args.words.now) action = record { asked = c.in-Ok.ensures.command; faultless = c.in-Ok.ensures.faultless } in
     let outcome = outcome_of accepted.outcome in
     let done = c.in-Ok-carry_out.ensures.done in
-    let before = g.O.Write.contents c.args.out.now in
-    let after = g.O.Write.contents c.tell.new.out in (
+    let before = c.args.out.now in
+    let after = c.tell.new.out in (
       Answered done.0 outcome,
       (action, asked, c.in-Ok-carry_out.ensures.answer.0, c.in-Ok-carry_out.ensures.answer.1),
-      (subst (λ text. Printed before after text (status_of outcome) c.tell.result) (sym done.1) c.tell.ensures, refl),
+      (subst (λ text. Printed g.O.Write.contents before after text (status_of outcome) c.tell.result) (sym done.1) c.tell.ensures, refl {a = c.args.err.now}),
       λ honest. (action, asked, done.2 honest),
     )
 
@@ -42,6 +42,6 @@ returns-clause-told g c =
     let asked : AskFor (map string_bytes c.args.words.now) action = record { asked = c.in-Ok.ensures.command; faultless = c.in-Ok.ensures.faultless } in (
       Failed (words_asked action) c.in-Err-carry_out.failure,
       inr (action, asked, refl, c.in-Err-carry_out.ensures.cause),
-      (c.fail-in-Err-carry_out.ensures, refl),
+      (c.fail-in-Err-carry_out.ensures, refl {a = c.args.out.now}),
       λ honest. inr (action, asked, c.in-Err-carry_out.ensures.failed honest),
     )
