@@ -1,29 +1,14 @@
 //! What a set says of a file, made from the file's bytes.
 #![tactic(auto)]
 
-ghost use Rattle.std.specs.Prelude.{◌≡◌, ◌≤◌, length, map, take, IfOk};
-ghost use Rattle.par2_spec.specs.Checksums as checksums;
-ghost use Rattle.par2_spec.specs.Slices.{slices};
+ghost use Rattle.std.specs.Prelude.{◌≡◌, ◌≤◌, take, IfOk};
 ghost use Rattle.par2_spec.specs.Volumes.{record_of};
 ghost use Rattle.par2_packets.specs.View.{file_record_of};
 
 use md5::{Digest, Md5};
-use par2_packets::{FileRecord, Pair, file_id};
-use par2_slices::{pair_of, slice_bytes, slice_count};
+use par2_packets::{FileRecord, file_id};
+use par2_slices::pairs_of;
 use std::alloc::{AllocError, Global};
-
-// The checksums of the slices of a file.
-fn pairs(alloc: Global, bytes: &[u8], s: u64) -> Result<Vec<Pair>, AllocError>
-    requires { 1 ≤ s }
-    ensures { IfOk result (λ pairs. pairs.items ≡ map checksums.pair_of (slices s bytes.now)) }
-{
-    let count = slice_count(bytes.len() as u64, s);
-    let mut pairs = Vec::with_capacity(alloc, count as usize)?;
-    for j in 0..count {
-        pairs.push(pair_of(slice_bytes(bytes, s, j), s))?;
-    }
-    Ok(pairs)
-}
 
 /// How many bytes of a file have a digest of their own.
 const HEAD: usize = 16384;
@@ -54,6 +39,6 @@ pub fn file_record(
         md5_16k,
         length,
         name: String::from_str(alloc, name)?,
-        pairs: pairs(alloc, bytes, s)?,
+        pairs: pairs_of(alloc, bytes, s)?,
     })
 }

@@ -1,11 +1,11 @@
 -- Slices against the pairs of their numbers.
-use Rattle.std.proofs.Common.{◌≡◌, ℕ, zero, suc, ◌+◌, ◌-◌, ◌*◌, ◌<◌, ◌≤◌, min, Bool, true, false, ◌&&◌, List, [], ◌∷◌, ◌++◌, length, map, take, drop, replicate, Decides, refl, sym, ap, subst, ◌∙◌, arith}
+use Rattle.std.proofs.Common.{◌≡◌, ℕ, zero, suc, ◌+◌, ◌<◌, min, Bool, true, false, ◌&&◌, List, [], ◌∷◌, length, map, take, Decides, refl, sym, ap, subst, ◌∙◌, arith}
 use Rattle.std.specs.Prelude.{◌==◌, zip}
 use Rattle.std.specs.List.{list_all, range_with_len}
 use Rattle.std.specs.Str.{bytes_eq}
 use Rattle.std.proofs.lemmas.Bool.{and_parts, eq-eqb, eqb-true, false_from_ne_true, false≢true}
 use Rattle.std.proofs.lemmas.Bool.Decides.{same_from_decides}
-use Rattle.std.proofs.lemmas.List.{append-nil, get_or-take, length-take, length-drop}
+use Rattle.std.proofs.lemmas.List.{get_or-take, length-take}
 use Rattle.std.proofs.lemmas.Slice.Eq.{bytes_eq-Decides}
 use Rattle.md5.specs.Md5.{md5}
 use Rattle.par2_spec.specs.Checksums.{Pair, crc32}
@@ -15,13 +15,6 @@ use Rattle.par2_spec.specs.Slices.{slice_at, slice_count}
 use Rattle.par2_spec.specs.Windows.{is_match}
 use Rattle.par2_slices.specs.Searches.{no_pair, pair_at}
 use Rattle.par2_search.specs.Intact.{HaveCrc32s, HaveMd5s}
-
--- a slice that lies in the text has no padding
-pub whole_slice : (s : ℕ) (bytes : List ℕ) (j : ℕ) → (j + 1) * s ≤ length bytes → take s (drop (j * s) bytes) ≡ slice_at s bytes j
-whole_slice s bytes j within =
-    let slice : List ℕ = take s (drop (j * s) bytes) in
-    let missing : s - length slice ≡ 0 = omega (arith, within, length-take s (drop (j * s) bytes), length-drop (j * s) bytes) in
-    sym (ap (λ n. slice ++ replicate n 0) missing ∙ append-nil slice)
 
 match_from : (pair : Pair) (slice : List ℕ) → crc32 slice ≡ pair.1 → md5 slice ≡ pair.0 → is_match pair slice ≡ true
 match_from pair slice crc digest =

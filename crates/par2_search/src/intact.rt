@@ -1,14 +1,16 @@
 //! Whether bytes are those of a target, by their length and the checksums of their slices.
 
-ghost use Rattle.std.specs.Prelude.{◌≡◌, ◌↔◌, ◌≤◌, ◌<◌, ◌+◌, ◌-◌, ◌*◌, ◌^◌, min, ℕ, IsTrue, length, slice_index};
+ghost use Rattle.std.specs.Prelude.{◌≡◌, ◌↔◌, ◌≤◌, ◌<◌, ◌+◌, ◌*◌, IsTrue, length};
 ghost use Rattle.par2_spec.specs.Checksums as checksums;
 ghost use Rattle.par2_spec.specs.Search as search;
 ghost use Rattle.par2_spec.specs.Sets as sets;
 ghost use Rattle.par2_spec.specs.Slices as slices;
 ghost use Rattle.par2_search.specs.Intact.{HaveCrc32s, HaveMd5s};
 
-use par2_digests::{LANES, window_digests};
-use par2_slices::{Pair, crc32, padded_crc32, padded_md5, slice_bytes, slice_count};
+use par2_digests::LANES;
+use par2_slices::{
+    Pair, count_side_by_side, crc32, padded_crc32, padded_md5, slice_bytes, slice_count, slice_md5s,
+};
 
 /// The CRC-32 of slice `j`.
 fn slice_crc32(bytes: &[u8], s: u64, j: u64) -> u32
@@ -39,20 +41,6 @@ fn have_crc32s(bytes: &[u8], s: u64, pairs: &[Pair]) -> bool
     true
 }
 
-/// Where `count` slices begin, of which the first is slice `first`; the last of them again in the lanes that are left.
-fn starts_from(first: usize, count: usize, s: usize) -> [usize; LANES]
-    requires some { 1 ≤ count }
-    requires last { first + count < 2 ^ 64 }
-    requires end { (first + count) * s < 2 ^ 64 }
-    ensures { (k : ℕ) → k < 8 → slice_index result k ≡ (first + min k (count - 1)) * s }
-{
-    let mut starts = [0; LANES];
-    for lane in 0..LANES {
-        starts[lane] = (first + lane.min(count - 1)) * s;
-    }
-    starts
-}
-
 /// Whether `count` pairs from pair `first` on, eight at most, have the MD5s of the slices of their numbers, which are
 /// whole.
 fn group_has_md5s(bytes: &[u8], s: usize, pairs: &[Pair], first: usize, count: usize) -> bool
@@ -62,9 +50,9 @@ fn group_has_md5s(bytes: &[u8], s: usize, pairs: &[Pair], first: usize, count: u
     requires whole { (first + count) * s ≤ length bytes.now }
     ensures { IsTrue result ↔ HaveMd5s s bytes.now pairs.now first (first + count) }
 {
-    let digests = window_digests(bytes, &starts_from(first, count, s), s);
+    let md5s = slice_md5s(bytes, s, first, count);
     for lane in 0..count {
-        if digests[lane] != pairs[first + lane].0 {
+        if md5s[lane] != pairs[first + lane].0 {
             return false;
         }
     }
@@ -98,13 +86,6 @@ fn rest_has_md5s(bytes: &[u8], s: u64, pairs: &[Pair], start: usize) -> bool
         }
     }
     true
-}
-
-/// How many of some whole slices are digested side by side. One that is left is digested sooner by itself.
-fn count_side_by_side(whole: usize) -> usize
-    ensures { result ≤ whole }
-{
-    if whole % LANES == 1 { whole - 1 } else { whole }
 }
 
 /// Whether each pair has the MD5 of the slice of its number.

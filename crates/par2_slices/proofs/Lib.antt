@@ -7,3 +7,4 @@ pub mod Groups
 pub mod Places
 pub mod Windowed
 pub mod Searching
+pub mod Wholes

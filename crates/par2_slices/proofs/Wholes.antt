@@ -1,0 +1,42 @@
+-- Slices that lie in the text, and their checksums one after the other.
+use Rattle.std.proofs.Common.{◌≡◌, ℕ, ◌+◌, ◌-◌, ◌*◌, ◌≤◌, ◌<◌, min, List, [], ◌∷◌, ◌++◌, length, map, take, drop, replicate, get_or, sym, ap, ap₂, ◌∙◌, zero-add, arith}
+use Rattle.std.specs.List.{range_with_len}
+use Rattle.std.proofs.Math.Nat.{mul-le-mul_right}
+use Rattle.std.proofs.lemmas.List.FromFn.{map-range_with_len_more}
+use Rattle.std.proofs.lemmas.List.{append-nil, length-take, length-drop, map-append}
+use Rattle.md5.specs.Md5.{md5}
+use Rattle.par2_spec.specs.Checksums.{Pair, pair_of}
+use Rattle.par2_spec.specs.Slices.{slice_at}
+use Rattle.par2_slices.specs.Pairs.{first_pairs}
+
+-- a slice that lies in the text has no padding
+pub whole_slice : (s : ℕ) (bytes : List ℕ) (j : ℕ) → (j + 1) * s ≤ length bytes → take s (drop (j * s) bytes) ≡ slice_at s bytes j
+whole_slice s bytes j within =
+    let slice : List ℕ = take s (drop (j * s) bytes) in
+    let missing : s - length slice ≡ 0 = omega (arith, within, length-take s (drop (j * s) bytes), length-drop (j * s) bytes) in
+    sym (ap (λ n. slice ++ replicate n 0) missing ∙ append-nil slice)
+
+-- a slice before the last of some that lie in the text
+pub one_of_whole : (s : ℕ) (bytes : List ℕ) (first count k : ℕ) → (first + count) * s ≤ length bytes → k < count
+    → take s (drop ((first + k) * s) bytes) ≡ slice_at s bytes (first + k)
+one_of_whole s bytes first count k within below =
+    let more : (first + k + 1) * s ≤ (first + count) * s = mul-le-mul_right s (omega (arith, below)) in
+    whole_slice s bytes (first + k) (omega (arith, more, within))
+
+-- the digest of a lane is that of its slice
+pub digest_is : (s first count k : ℕ) (bytes starts : List ℕ) (digest : List ℕ) → (first + count) * s ≤ length bytes → k < count → get_or starts k 0 ≡ (first + min k (count - 1)) * s
+    → digest ≡ md5 (take s (drop (get_or starts k 0) bytes)) → digest ≡ md5 (slice_at s bytes (first + k))
+digest_is s first count k bytes starts digest within below start its =
+    let lane : min k (count - 1) ≡ k = omega (arith, below) in
+    its
+    ∙ ap (λ o. md5 (take s (drop o bytes))) (start ∙ ap (λ i. (first + i) * s) lane)
+    ∙ ap md5 (one_of_whole s bytes first count k within below)
+
+-- the checksums of one slice more
+pub one_pair_more : (s : ℕ) (text : List ℕ) (n m : ℕ) (pairs new : List Pair) (pair : Pair) → pairs ≡ first_pairs s text n → pair ≡ pair_of (slice_at s text n)
+    → new ≡ pairs ++ pair ∷ [] → m ≡ n + 1 → new ≡ first_pairs s text m
+one_pair_more s text n m pairs new pair so_far is pushed next =
+    let cut = slice_at s text in
+    pushed
+    ∙ ap₂ (λ (xs : List Pair) (x : Pair). xs ++ x ∷ []) so_far is
+    ∙ sym (ap (first_pairs s text) next ∙ ap (map pair_of) (map-range_with_len_more cut 0 n n (zero-add n)) ∙ map-append pair_of (map cut (range_with_len 0 n)) (cut n ∷ []))

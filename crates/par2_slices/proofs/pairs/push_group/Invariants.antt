@@ -1,0 +1,6 @@
+use Rattle.std.proofs.Common.{◌≡◌, ◌+◌}
+use Rattle.par2_slices.specs.Pairs.{first_pairs}
+use Rattle.par2_slices.proofs.pairs.push_group.Given as goal
+
+abbrev pub invariant-loop-lane : goal.invariant-loop-lane
+invariant-loop-lane l = l.pairs.items ≡ first_pairs l.s l.bytes (l.first + l.lane)

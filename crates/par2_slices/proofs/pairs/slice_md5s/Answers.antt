@@ -1,0 +1,8 @@
+use Rattle.std.proofs.Common.{◌<◌, arith}
+use Rattle.par2_slices.proofs.Wholes.{digest_is}
+use Rattle.par2_slices.proofs.pairs.slice_md5s.Goals as goal
+
+pub returns : goal.returns
+returns c = λ k below.
+    let in_lanes : k < 8 = omega (arith, below, c.requires.few) in
+    digest_is c.args.s c.args.first c.args.count k c.args.bytes.now c.starts_from.result _ c.requires.whole below (c.starts_from.ensures k in_lanes) (c.window_digests.ensures k in_lanes)
