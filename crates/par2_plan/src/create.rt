@@ -12,7 +12,7 @@ ghost use Rattle.par2_plan.specs.Causes.{head_fault, inputs_fault};
 ghost use Rattle.par2_plan.specs.Outputs.{volumes_of};
 
 use crate::Changes;
-use crate::inputs::{duplicate_input, files_fault, set_of};
+use crate::inputs::{files_fault, no_duplicate, set_of};
 use crate::names::{Volume, there_already, volumes};
 use crate::outputs::{changes_of, parts_of};
 use crate::words::{index_name, input_names};
@@ -35,8 +35,9 @@ fn set_of_inputs(alloc: Global, folder: &Folder, args: &CreateArgs) -> Result<Se
         Ok(names) => names,
         Err(fault) => return Err(fault),
     };
-    if let Some(fault) = duplicate_input(&names) {
-        return Err(fault);
+    match no_duplicate(alloc, &names) {
+        Ok(()) => {}
+        Err(fault) => return Err(fault),
     }
     if let Some(fault) = files_fault(folder, &names, args.slice) {
         return Err(fault);

@@ -14,37 +14,38 @@ use par2_folder::{Folder, Name};
 use par2_recovery::{RecordFault, SetRecord};
 use par2_slices::slice_count;
 use par2_spec::Fault;
-use std::alloc::Global;
+use std::alloc::{AllocError, Global};
+use std::collections::BTreeSet;
 
 // How many input slices a set may have.
 const MOST_SLICES: u64 = 32768;
 
-// Whether the name is among these.
-fn is_among(names: &[Name], name: &Name) -> bool
-    ensures { result ≡ is_among names.now name.now }
-{
-    names.iter().any(|other| name == other)
-}
-
 // The first of the names that was there before.
-fn first_repeated(names: &[Name]) -> Option<usize>
-    ensures place { result ≡ position (λ z. is_among (take z.0 names.now) z.1) (enumerate_from 0 names.now) }
-    ensures fits { IfSome result (λ place. place < usize.MAX) }
+fn first_repeated(alloc: Global, names: &[Name]) -> Result<Option<usize>, AllocError>
+    ensures place { let first = position (λ z. is_among (take z.0 names.now) z.1) (enumerate_from 0 names.now) in
+        IfOk result (λ place. place ≡ first) }
+    ensures fits { IfOk result (λ place. IfSome place (λ i. i < usize.MAX)) }
 {
+    let mut seen = BTreeSet::new(alloc);
     for i in 0..names.len() {
-        if is_among(&names[..i], &names[i]) {
-            return Some(i);
+        if !seen.insert(&names[i])? {
+            return Ok(Some(i));
         }
     }
-    None
+    Ok(None)
 }
 
-/// Which input was given before, if one was.
-pub fn duplicate_input(names: &[Name]) -> Option<Fault>
-    ensures { result ≡ duplicate_input names.now }
+/// Refuses an input that was given before.
+pub fn no_duplicate(alloc: Global, names: &[Name]) -> Result<(), Fault>
+    ensures refused { let reason = duplicate_input names.now in
+        IfErr result (λ fault. (fault ≡ Fault.Memory) ⊎ (reason ≡ Some fault)) }
+    ensures accepted { IfOk result (λ _. duplicate_input names.now ≡ None) }
 {
-    let place = first_repeated(names)?;
-    Some(Fault::DuplicateInput(place + 1))
+    match first_repeated(alloc, names) {
+        Ok(None) => Ok(()),
+        Ok(Some(place)) => Err(Fault::DuplicateInput(place + 1)),
+        Err(_) => Err(Fault::Memory),
+    }
 }
 
 // The bytes of a file, none where it is absent.
