@@ -7,15 +7,15 @@ use Rattle.md5.specs.Md5.{md5}
 use Rattle.std.specs.List.{AllByRecursion, list_any, list_all}
 use Rattle.par2_spec.specs.declared.Kind.TheVariants.{Main, FileDesc, Ifsc, Recovery}
 use Rattle.par2_spec.specs.Packets.{packet, accepted, read_main, read_desc, read_ifsc, read_recovery}
-use Rattle.par2_spec.specs.Folders.{Folder, File, has}
+use Rattle.par2_spec.specs.Folders.{Folder, File}
 use Rattle.par2_spec.specs.Rank.{is_repairable, IsRepairable, AreBytes, AnotherAgrees}
 use Rattle.par2_spec.specs.Sets.{MadeFrom}
-use Rattle.par2_spec.specs.Search.{candidates, known, lost, survivors, NoCollision}
+use Rattle.par2_spec.specs.Search.{candidates, known, NoCollision}
 use Rattle.par2_spec.specs.Repairs.{rebuilt_targets, after_repair, after_repair_and_purge}
 use Rattle.par2_spec.specs.Commands.{Repair}
 use Rattle.par2_spec.specs.Refusals.{refusal}
 use Rattle.par2_spec.specs.declared.Fault.TheVariants.{NotRepairable}
-use Rattle.par2_spec.specs.Rules.{AreFew}
+use Rattle.par2_spec.specs.Rules.{Restores}
 use Rattle.par2_spec.specs.Packing.{IsPair, IsFileRecord}
 use Rattle.par2_spec.specs.Volumes.{FileRecord, all_slices, in_id_order, index_packets, recovery_packets, main_bytes, desc_bytes, ifsc_bytes, recovery_bytes}
 
@@ -50,13 +50,6 @@ pub record AreKept : Type 0 where
       → length id ≡ 16 → s % 4 ≡ 0 → s < 2 ^ 60
       → accepted (flat_map packet (recovery_packets s id slices e n) ++ text)
       ≡ recovery_packets s id slices e n ++ accepted text
-
--- what holds of a repair that finds what is true and can rebuild what is lost
-abbrev pub Restores : (folder : Folder) (base : List ℕ) (extras : List (List ℕ)) (files : List File) (s : ℕ) → MadeFrom folder base files s → Type 0 → Type 0
-Restores folder base extras files s m what =
-    let searched = candidates folder m.set extras in
-    IsTrue (list_all (has folder) extras) → AreFew folder m.set → NoCollision folder searched s (all_slices s files)
-    → AllByRecursion (λ file. AreBytes file.1) files → IsRepairable (lost (known folder m.set searched)) (survivors m.set) → what
 
 -- what a repair leaves, and its test in words
 pub record AreRepaired : Type 0 where

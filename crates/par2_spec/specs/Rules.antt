@@ -6,11 +6,13 @@ use Rattle.std.specs.FinMap as map_of
 use Rattle.std.specs.Str.{bytes_eq}
 use Rattle.par2_spec.specs.Windows.{found}
 use Rattle.par2_spec.specs.Slices.{slice_count}
+use Rattle.par2_spec.specs.Rank.{AreBytes, IsRepairable}
+use Rattle.par2_spec.specs.Volumes.{all_slices}
 use Rattle.par2_spec.specs.Names.{is_name, is_among, numbered}
-use Rattle.par2_spec.specs.Folders.{Folder, bytes_of, has, names}
+use Rattle.par2_spec.specs.Folders.{Folder, File, bytes_of, has, names}
 use Rattle.par2_spec.specs.Changes.{are_applicable, effects}
-use Rattle.par2_spec.specs.Sets.{ParSet, Target, is_slice_size, set_of}
-use Rattle.par2_spec.specs.Search.{all_pairs, is_intact, matches, needing}
+use Rattle.par2_spec.specs.Sets.{ParSet, Target, MadeFrom, is_slice_size, set_of}
+use Rattle.par2_spec.specs.Search.{all_pairs, candidates, is_intact, known, lost, matches, needing, survivors, NoCollision}
 use Rattle.par2_spec.specs.Repairs.{names_without_match, rebuilt_targets, put_aside, aside}
 use Rattle.par2_spec.specs.Commands.{Command, Create, Verify, Repair, Purge, Action, Do, Undo, Redo}
 use Rattle.par2_spec.specs.Refusals.{refusal, after}
@@ -50,6 +52,14 @@ pub record FitsRepair (folder : Folder) (set : ParSet) (searched : List (List �
   pub names_once : IsDistinct bytes_eq (target_names set)
   pub all_there : IsTrue (list_all (has folder) searched)
   pub few : AreFew folder set
+
+-- what holds of a repair where the further files are there, what it finds of the files that the set was made from is
+-- true, these hold bytes, and the lost slices are determined
+abbrev pub Restores : (folder : Folder) (base : List ℕ) (extras : List (List ℕ)) (files : List File) (s : ℕ) → MadeFrom folder base files s → Type 0 → Type 0
+Restores folder base extras files s m what =
+    let searched = candidates folder m.set extras in
+    IsTrue (list_all (has folder) extras) → AreFew folder m.set → NoCollision folder searched s (all_slices s files)
+    → AllByRecursion (λ file. AreBytes file.1) files → IsRepairable (lost (known folder m.set searched)) (survivors m.set) → what
 
 -- the name with the least number from 1 on that is not taken
 pub record IsLeastFree (taken : List (List ℕ)) (name found : List ℕ) : Type 0 where
