@@ -14,7 +14,7 @@ use par2_folder::{Folder, Name};
 use par2_sets::ParSet;
 use par2_spec::Fault;
 use par2_spec::repair_laws::aside_is_found;
-use std::alloc::{AllocError, Global};
+use std::alloc::{AllocError, AllocFailed, Global};
 use std::collections::BTreeSet;
 
 // The text NAME.n.
@@ -34,7 +34,7 @@ fn numbered(alloc: Global, name: &Name, n: usize) -> Result<Name, Fault>
         IfErr result (λ fault. (fault ≡ Fault.Memory) ⊎ ((fault ≡ Fault.NameTooLong) × long)) }
     ensures name { IfOk result (λ other. other ≡ names.numbered name.now n) }
 {
-    let text = numbered_text(alloc, name, n).map_err(|_| Fault::Memory)?;
+    let text = numbered_text(alloc, name, n).map_err(|_: AllocError| Fault::Memory)?;
     Name::new(&text).map_err(|_| Fault::NameTooLong)
 }
 
@@ -88,11 +88,11 @@ fn tries(alloc: Global, folder: &Folder, set: &ParSet) -> Result<usize, Fault>
     ensures count { let taken = taken_for folder.now.files set.now in
         IfOk result (λ most. most ≡ length taken + 1) }
 {
-    let files = folder.names(alloc).map_err(|_| Fault::Memory)?.len();
-    let taken = files.checked_add(set.targets().len());
-    taken
-        .and_then(|taken| taken.checked_add(1))
-        .ok_or(Fault::Memory)
+    let files = folder
+        .names(alloc)
+        .map_err(|_: AllocError| Fault::Memory)?
+        .len();
+    Ok(files + set.targets().len() + 1)
 }
 
 /// The names under which the files of these names are put aside: each the name with the least number from 1 on that is
@@ -110,12 +110,14 @@ pub fn asides(
         asides.items ≡ map (aside folder.now.files set.now) names.now) }
     ensures few { IfOk result (λ _. AreFew folder.now.files set.now) }
 {
-    let targets = target_names(alloc, set).map_err(|_| Fault::Memory)?;
+    let targets = target_names(alloc, set).map_err(|_: AllocError| Fault::Memory)?;
     let most = tries(alloc, folder, set)?;
-    let mut asides = Vec::with_capacity(alloc, names.len()).map_err(|_| Fault::Memory)?;
+    let mut asides = Vec::with_capacity(alloc, names.len()).map_err(|_: AllocError| Fault::Memory)?;
     for name in names {
         let other = aside(alloc, folder, set, &targets, most, name)?;
-        asides.push(other).map_err(|_| Fault::Memory)?;
+        asides
+            .push(other)
+            .map_err(|AllocFailed { .. }| Fault::Memory)?;
     }
     Ok(asides)
 }

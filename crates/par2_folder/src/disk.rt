@@ -139,6 +139,8 @@ impl<D: Directory> DiskStore<D> {
         ensures directory { directory_of self.new ≡ directory_of self.old }
         ensures later { disk_failures self.old ≤ disk_failures self.new }
         ensures cause { IsErrOf result ReadFault.Store → disk_failures self.old < disk_failures self.new }
+        ensures steady { OnOk result (disk_failures self.new ≡ disk_failures self.old) }
+        ensures memory { IsErrOf result ReadFault.Memory → disk_failures self.new ≡ disk_failures self.old }
     {
         if let Err(ReadFault::Store) = &answer {
             self.failures.rise();
@@ -152,6 +154,7 @@ impl<D: Directory> DiskStore<D> {
         ensures directory { directory_of self.new ≡ directory_of self.old }
         ensures later { disk_failures self.old ≤ disk_failures self.new }
         ensures cause { OnErr result (disk_failures self.old < disk_failures self.new) }
+        ensures steady { OnOk result (disk_failures self.new ≡ disk_failures self.old) }
     {
         if answer.is_err() {
             self.failures.rise();

@@ -86,6 +86,8 @@ impl<S: FolderStore> FolderStore for FuseStore<S> {
         ensures same { S.honest (inner_store self.old) → S.contents (inner_store self.new) ≡ S.contents (inner_store self.old) }
         ensures later { S.failures (inner_store self.old) + fuse_failures self.old ≤ S.failures (inner_store self.new) + fuse_failures self.new }
         ensures cause { IsErrOf result ReadFault.Store → S.failures (inner_store self.old) + fuse_failures self.old < S.failures (inner_store self.new) + fuse_failures self.new }
+        ensures steady { OnOk result (S.failures (inner_store self.new) + fuse_failures self.new ≡ S.failures (inner_store self.old) + fuse_failures self.old) }
+        ensures memory { IsErrOf result ReadFault.Memory → S.failures (inner_store self.new) + fuse_failures self.new ≡ S.failures (inner_store self.old) + fuse_failures self.old }
         ensures passed { 0 < calls_left self.old → HasPassed self.old self.new }
         ensures blown { calls_left self.old ≡ 0
             → IsErrOf result ReadFault.Store × IsBlown self.old self.new }
@@ -104,6 +106,8 @@ impl<S: FolderStore> FolderStore for FuseStore<S> {
         ensures same { S.honest (inner_store self.old) → S.contents (inner_store self.new) ≡ S.contents (inner_store self.old) }
         ensures later { S.failures (inner_store self.old) + fuse_failures self.old ≤ S.failures (inner_store self.new) + fuse_failures self.new }
         ensures cause { IsErrOf result ReadFault.Store → S.failures (inner_store self.old) + fuse_failures self.old < S.failures (inner_store self.new) + fuse_failures self.new }
+        ensures steady { OnOk result (S.failures (inner_store self.new) + fuse_failures self.new ≡ S.failures (inner_store self.old) + fuse_failures self.old) }
+        ensures memory { IsErrOf result ReadFault.Memory → S.failures (inner_store self.new) + fuse_failures self.new ≡ S.failures (inner_store self.old) + fuse_failures self.old }
         ensures passed { 0 < calls_left self.old → HasPassed self.old self.new }
         ensures blown { calls_left self.old ≡ 0
             → IsErrOf result ReadFault.Store × IsBlown self.old self.new }
@@ -121,6 +125,8 @@ impl<S: FolderStore> FolderStore for FuseStore<S> {
         ensures same { S.honest (inner_store self.old) → S.contents (inner_store self.new) ≡ S.contents (inner_store self.old) }
         ensures later { S.failures (inner_store self.old) + fuse_failures self.old ≤ S.failures (inner_store self.new) + fuse_failures self.new }
         ensures cause { IsErrOf result ReadFault.Store → S.failures (inner_store self.old) + fuse_failures self.old < S.failures (inner_store self.new) + fuse_failures self.new }
+        ensures steady { OnOk result (S.failures (inner_store self.new) + fuse_failures self.new ≡ S.failures (inner_store self.old) + fuse_failures self.old) }
+        ensures memory { IsErrOf result ReadFault.Memory → S.failures (inner_store self.new) + fuse_failures self.new ≡ S.failures (inner_store self.old) + fuse_failures self.old }
         ensures passed { 0 < calls_left self.old → HasPassed self.old self.new }
         ensures blown { calls_left self.old ≡ 0
             → IsErrOf result ReadFault.Store × IsBlown self.old self.new }
@@ -138,6 +144,7 @@ impl<S: FolderStore> FolderStore for FuseStore<S> {
         ensures all_or_none { S.honest (inner_store self.old) → OnErr result ((S.contents (inner_store self.new) ≡ S.contents (inner_store self.old)) ⊎ (S.contents (inner_store self.new) ≡ changed (S.contents (inner_store self.old)) (Replace name.now bytes.now))) }
         ensures later { S.failures (inner_store self.old) + fuse_failures self.old ≤ S.failures (inner_store self.new) + fuse_failures self.new }
         ensures cause { OnErr result (S.failures (inner_store self.old) + fuse_failures self.old < S.failures (inner_store self.new) + fuse_failures self.new) }
+        ensures steady { OnOk result (S.failures (inner_store self.new) + fuse_failures self.new ≡ S.failures (inner_store self.old) + fuse_failures self.old) }
         ensures passed { 0 < calls_left self.old → HasPassed self.old self.new }
         ensures worked { S.honest (inner_store self.old) → WorksNext self.old
             → (S.failures (inner_store self.old) < S.failures (inner_store self.new))
@@ -161,6 +168,7 @@ impl<S: FolderStore> FolderStore for FuseStore<S> {
         ensures all_or_none { S.honest (inner_store self.old) → OnErr result ((S.contents (inner_store self.new) ≡ S.contents (inner_store self.old)) ⊎ (S.contents (inner_store self.new) ≡ changed (S.contents (inner_store self.old)) (Rename from.now to.now))) }
         ensures later { S.failures (inner_store self.old) + fuse_failures self.old ≤ S.failures (inner_store self.new) + fuse_failures self.new }
         ensures cause { OnErr result (S.failures (inner_store self.old) + fuse_failures self.old < S.failures (inner_store self.new) + fuse_failures self.new) }
+        ensures steady { OnOk result (S.failures (inner_store self.new) + fuse_failures self.new ≡ S.failures (inner_store self.old) + fuse_failures self.old) }
         ensures passed { 0 < calls_left self.old → HasPassed self.old self.new }
         ensures worked { S.honest (inner_store self.old) → WorksNext self.old
             → (S.failures (inner_store self.old) < S.failures (inner_store self.new))
@@ -184,6 +192,7 @@ impl<S: FolderStore> FolderStore for FuseStore<S> {
         ensures all_or_none { S.honest (inner_store self.old) → OnErr result ((S.contents (inner_store self.new) ≡ S.contents (inner_store self.old)) ⊎ (S.contents (inner_store self.new) ≡ changed (S.contents (inner_store self.old)) (Remove name.now))) }
         ensures later { S.failures (inner_store self.old) + fuse_failures self.old ≤ S.failures (inner_store self.new) + fuse_failures self.new }
         ensures cause { OnErr result (S.failures (inner_store self.old) + fuse_failures self.old < S.failures (inner_store self.new) + fuse_failures self.new) }
+        ensures steady { OnOk result (S.failures (inner_store self.new) + fuse_failures self.new ≡ S.failures (inner_store self.old) + fuse_failures self.old) }
         ensures passed { 0 < calls_left self.old → HasPassed self.old self.new }
         ensures worked { S.honest (inner_store self.old) → WorksNext self.old
             → (S.failures (inner_store self.old) < S.failures (inner_store self.new))
@@ -206,6 +215,7 @@ impl<S: FolderStore> FolderStore for FuseStore<S> {
         ensures all_or_none { S.honest (inner_store self.old) → OnErr result ((S.contents (inner_store self.new) ≡ S.contents (inner_store self.old)) ⊎ (S.contents (inner_store self.new) ≡ journaled (S.contents (inner_store self.old)) bytes.now)) }
         ensures later { S.failures (inner_store self.old) + fuse_failures self.old ≤ S.failures (inner_store self.new) + fuse_failures self.new }
         ensures cause { OnErr result (S.failures (inner_store self.old) + fuse_failures self.old < S.failures (inner_store self.new) + fuse_failures self.new) }
+        ensures steady { OnOk result (S.failures (inner_store self.new) + fuse_failures self.new ≡ S.failures (inner_store self.old) + fuse_failures self.old) }
         ensures passed { 0 < calls_left self.old → HasPassed self.old self.new }
         ensures worked { S.honest (inner_store self.old) → WorksNext self.old
             → (S.failures (inner_store self.old) < S.failures (inner_store self.new))

@@ -1,5 +1,5 @@
 //! Reading the folder of a store into memory.
-ghost use Rattle.std.specs.Prelude.{◌≡◌, ◌<◌, ◌≤◌, IfOk, IsErrOf};
+ghost use Rattle.std.specs.Prelude.{◌≡◌, ◌<◌, ◌≤◌, IfOk, OnOk, IsErrOf};
 
 use crate::{Change, Folder, FolderStore, ReadFault};
 use std::alloc::{AllocError, Global};
@@ -12,6 +12,8 @@ pub fn read_folder<S: FolderStore>(alloc: Global, store: &mut S) -> Result<Folde
     ensures same { S.honest store.old → S.contents store.new ≡ S.contents store.old }
     ensures later { S.failures store.old ≤ S.failures store.new }
     ensures cause { IsErrOf result ReadFault.Store → S.failures store.old < S.failures store.new }
+    ensures steady { OnOk result (S.failures store.new ≡ S.failures store.old) }
+    ensures memory { IsErrOf result ReadFault.Memory → S.failures store.new ≡ S.failures store.old }
 {
     let names = match store.names(alloc) {
         Ok(names) => names,

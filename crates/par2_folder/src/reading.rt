@@ -29,11 +29,13 @@ pub fn read_within<F: Read>(
     ensures bytes { IfOk result (λ bytes. IfSome (F.remaining file.old) (λ left. bytes.items ≡ left)) }
 {
     let mut bytes = Vec::new(alloc);
-    let Ok(()) = bytes.reserve_exact(size) else {
-        return Err(ReadFault::Memory);
-    };
-    let Ok(mut block) = Vec::from_elem(alloc, 0u8, size.min(BLOCK - 1) + 1) else {
-        return Err(ReadFault::Memory);
+    match bytes.reserve_exact(size) {
+        Ok(()) => {}
+        Err(AllocError) => return Err(ReadFault::Memory),
+    }
+    let mut block = match Vec::from_elem(alloc, 0u8, size.min(BLOCK - 1) + 1) {
+        Ok(block) => block,
+        Err(AllocError) => return Err(ReadFault::Memory),
     };
     for _ in 0..reads {
         match file.read(&mut block) {

@@ -3,7 +3,7 @@ use crate::prepared::Task;
 use crate::{Changes, CreateArgs, Prepared, Session, SessionFault, Steps};
 use par2_plan::{Fault, plan_create, plan_purge, plan_repair};
 use par2_spec::Action;
-use std::alloc::Global;
+use std::alloc::{AllocError, Global};
 
 impl Session {
     ghost use Rattle.std.specs.Prelude.{◌≡◌, map, string_bytes, IfOk, IfErr, IsTrue};
@@ -23,15 +23,16 @@ impl Session {
         ensures fits { IfOk result (λ prepared. Fits prepared self.new) }
         ensures refused { IfErr result (λ fault. fault ≡ Fault.Memory) }
     {
-        let Ok(steps) = Steps::of(alloc, changes.as_slice()) else {
-            return Err(Fault::Memory);
+        let steps = match Steps::of(alloc, changes.as_slice()) {
+            Ok(steps) => steps,
+            Err(AllocError) => return Err(Fault::Memory),
         };
         match self.make_room(changes.len()) {
             Ok(()) => Ok(Prepared {
                 task: Task::Change(changes),
                 steps,
             }),
-            Err(_) => Err(Fault::Memory),
+            Err(AllocError) => Err(Fault::Memory),
         }
     }
 
@@ -94,7 +95,7 @@ impl Session {
                 task: Task::Undo,
                 steps,
             }),
-            Err(_) => Err(SessionFault::Plan(Fault::Memory)),
+            Err(AllocError) => Err(SessionFault::Plan(Fault::Memory)),
         }
     }
 
@@ -110,7 +111,7 @@ impl Session {
                 task: Task::Redo,
                 steps,
             }),
-            Err(_) => Err(SessionFault::Plan(Fault::Memory)),
+            Err(AllocError) => Err(SessionFault::Plan(Fault::Memory)),
         }
     }
 

@@ -76,11 +76,11 @@ fn session_from(
     match settle(&mut folder, &mut entries, cursor) {
         Ok(true) => {}
         Ok(false) => return Err((JournalFault::JournalInvalid, folder)),
-        Err(_) => return Err((JournalFault::Memory, folder)),
+        Err(AllocError) => return Err((JournalFault::Memory, folder)),
     }
     match kept_entries(alloc, entries) {
         Ok(kept) => Ok(Session::from_entries(folder, kept, cursor)),
-        Err(_) => Err((JournalFault::Memory, folder)),
+        Err(AllocError) => Err((JournalFault::Memory, folder)),
     }
 }
 
@@ -97,8 +97,9 @@ fn open_settled(
     ensures refused { IfErr result (λ e. (e.0 ≡ Memory) ⊎ (defined.opened_by folder.files (journal_with fingerprint cursor (entries_of entries.items)) None ≡ Err e.0)) }
     ensures files { IfErr result (λ e. e.1.files ≡ folder.files) }
 {
-    let Ok(print) = folder.fingerprint(alloc) else {
-        return Err((JournalFault::Memory, folder));
+    let print = match folder.fingerprint(alloc) {
+        Ok(print) => print,
+        Err(AllocError) => return Err((JournalFault::Memory, folder)),
     };
     if print.as_slice() != fingerprint.as_slice() {
         return Err((JournalFault::FolderChanged { halfway: false }, folder));
@@ -172,13 +173,14 @@ fn take_back(
     ensures refused { IfErr result (λ e. (e.0 ≡ Memory) ⊎ ((e.0 ≡ JournalInvalid) × IsFalse (leads_through folder.files (changes_of way.old) wanted.now && is_valid (session_at (effects folder.files (changes_of way.old)) cursor (entries_of entries.items))))) }
     ensures files { IfErr result (λ e. e.1.files ≡ folder.files) }
 {
-    let Ok(()) = folder.reserve(way.len()) else {
-        return Err((JournalFault::Memory, folder));
-    };
+    match folder.reserve(way.len()) {
+        Ok(()) => {}
+        Err(AllocError) => return Err((JournalFault::Memory, folder)),
+    }
     match goes_back(alloc, &mut folder, way, wanted) {
         Ok(true) => {}
         Ok(false) => return Err((JournalFault::JournalInvalid, folder)),
-        Err(_) => return Err((JournalFault::Memory, folder)),
+        Err(AllocError) => return Err((JournalFault::Memory, folder)),
     }
     match session_from(alloc, folder, entries, cursor) {
         Ok(session) => Ok(session),
@@ -244,12 +246,13 @@ fn open_begun(
     let wanted = match fingerprints_back(alloc, &folder, first, others) {
         Ok(Some(wanted)) => wanted,
         Ok(None) => return Err((JournalFault::FolderChanged { halfway: true }, folder)),
-        Err(_) => return Err((JournalFault::Memory, folder)),
+        Err(AllocError) => return Err((JournalFault::Memory, folder)),
     };
     let start = back.len() - wanted.len();
     let (_, way) = back.split_at_mut(start);
-    let Ok(left) = copies_of(alloc, way) else {
-        return Err((JournalFault::Memory, folder));
+    let left = match copies_of(alloc, way) {
+        Ok(left) => left,
+        Err(AllocError) => return Err((JournalFault::Memory, folder)),
     };
     match take_back(alloc, folder, way, &wanted, entries, cursor) {
         Ok(session) => Ok(Halfway {

@@ -95,6 +95,6 @@ pub fn plan_create(alloc: Global, folder: &Folder, args: &CreateArgs) -> Result<
     }
     match outputs_written(alloc, folder, args, base, &set, &volumes) {
         Ok(changes) => Ok(changes),
-        Err(_) => Err(Fault::Memory),
+        Err(AllocError) => Err(Fault::Memory),
     }
 }

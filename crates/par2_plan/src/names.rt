@@ -9,7 +9,7 @@ ghost use Rattle.par2_plan.specs.Outputs.{volume_at, volume_if, volumes_of, name
 
 use par2_folder::{Folder, Name};
 use par2_spec::Fault;
-use std::alloc::{AllocError, Global};
+use std::alloc::{AllocError, AllocFailed, Global};
 
 // How many volumes there are at most: the first 17 would hold 131,071 recovery slices.
 const MOST_VOLUMES: u32 = 17;
@@ -80,7 +80,7 @@ fn volume_name(alloc: Global, base: &Name, first: u32, count: u32) -> Result<Nam
 {
     let text = match volume_text(alloc, base.as_str(), first, count) {
         Ok(text) => text,
-        Err(_) => return Err(Fault::Memory),
+        Err(AllocError) => return Err(Fault::Memory),
     };
     match Name::new(&text) {
         Ok(name) => Ok(name),
@@ -131,7 +131,7 @@ fn add_volume(
     };
     match volumes.push(volume) {
         Ok(()) => Ok(()),
-        Err(_) => Err(Fault::Memory),
+        Err(AllocFailed { .. }) => Err(Fault::Memory),
     }
 }
 

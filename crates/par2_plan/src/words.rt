@@ -8,7 +8,7 @@ ghost use Rattle.par2_plan.specs.Causes.{head_fault, bad_name};
 
 use par2_folder::Name;
 use par2_spec::{CreateArgs, Fault};
-use std::alloc::Global;
+use std::alloc::{AllocFailed, Global};
 
 // A multiple of 4 from 4 to 2^30.
 fn is_slice_size(size: u64) -> bool
@@ -88,9 +88,9 @@ pub fn input_names(alloc: Global, words: &[String]) -> Result<Vec<Name>, Fault>
         let Some(name) = input_name(&words[i]) else {
             return Err(Fault::BadName(i + 1));
         };
-        if names.push(name).is_err() {
-            return Err(Fault::Memory);
-        }
+        names
+            .push(name)
+            .map_err(|AllocFailed { .. }| Fault::Memory)?;
     }
     Ok(names)
 }

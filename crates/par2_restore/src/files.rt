@@ -11,7 +11,7 @@ use par2_folder::{Bytes, Name};
 use par2_sets::{ParSet, Target};
 use par2_spec::Fault;
 use par2_spec::repair_laws::written_files_have_their_length;
-use std::alloc::{AllocError, Global};
+use std::alloc::{AllocError, AllocFailed, Global};
 use std::collections::BTreeSet;
 
 // The names as a tree.
@@ -42,7 +42,7 @@ fn restored_file(
 {
     let bytes = slices
         .file(alloc, first, target.pairs().len(), target.size())
-        .map_err(|_| Fault::Memory)?;
+        .map_err(|_: AllocError| Fault::Memory)?;
     if Md5::digest(&bytes) != target.digest() {
         return Err(Fault::RepairFailed);
     }
@@ -70,13 +70,15 @@ pub fn restored_files(
 {
     // By this law each file has its length.
     written_files_have_their_length();
-    let tree = tree_of(alloc, names).map_err(|_| Fault::Memory)?;
+    let tree = tree_of(alloc, names).map_err(|_: AllocError| Fault::Memory)?;
     let mut files = Vec::new(alloc);
     let mut first = 0;
     for target in set.targets() {
         if tree.contains(&target.name()) {
             let file = restored_file(alloc, target, slices, first)?;
-            files.push(file).map_err(|_| Fault::Memory)?;
+            files
+                .push(file)
+                .map_err(|AllocFailed { .. }| Fault::Memory)?;
         }
         first += target.pairs().len();
     }

@@ -73,5 +73,5 @@ pub(crate) fn pairs_for(
     }
     let count = slice_count(s, description.length());
     let checksums = checksums_of(firsts, description.id(), count).ok_or(Fault::NoChecksums)?;
-    pairs_in(alloc, checksums).map_err(|_| Fault::Memory)
+    pairs_in(alloc, checksums).map_err(|_: AllocError| Fault::Memory)
 }

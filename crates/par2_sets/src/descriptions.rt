@@ -10,7 +10,7 @@ ghost use Rattle.par2_sets.specs.Steps.{Gives, described};
 use crate::firsts::keep_first;
 use par2_packets::{DescView, MainView, Packet, read_desc};
 use par2_spec::Fault;
-use std::alloc::{AllocError, Global};
+use std::alloc::{AllocError, AllocFailed, Global};
 use std::collections::BTreeMap;
 
 // The first well-formed FileDesc of each File ID.
@@ -52,7 +52,9 @@ fn descriptions_by<'a>(
     let mut descriptions = Vec::new(alloc);
     for k in 0..main.count() {
         let description = description_of(firsts, &main.id(k)).ok_or(Fault::NoDescription)?;
-        descriptions.push(description).map_err(|_| Fault::Memory)?;
+        descriptions
+            .push(description)
+            .map_err(|AllocFailed { .. }| Fault::Memory)?;
     }
     Ok(descriptions)
 }
@@ -65,6 +67,6 @@ pub(crate) fn descriptions<'a>(
 ) -> Result<Vec<DescView<'a>>, Fault>
     ensures { Gives (λ ds. ds.items) result (described (map packet_of packets.now) main.now.ids) }
 {
-    let firsts = by_id(alloc, packets).map_err(|_| Fault::Memory)?;
+    let firsts = by_id(alloc, packets).map_err(|_: AllocError| Fault::Memory)?;
     descriptions_by(alloc, &firsts, main)
 }

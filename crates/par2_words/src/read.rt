@@ -129,10 +129,9 @@ fn fault_for(error: &clap::Error) -> WordsFault
     ensures memory { kind_of error.now ≡ ErrorKind.OutOfMemory → result ≡ WordsFault.Memory }
     ensures arguments { result ≡ WordsFault.Memory → kind_of error.now ≡ ErrorKind.OutOfMemory }
 {
-    if error.kind() == ErrorKind::OutOfMemory {
-        WordsFault::Memory
-    } else {
-        WordsFault::Arguments
+    match error.kind() {
+        ErrorKind::OutOfMemory => WordsFault::Memory,
+        _ => WordsFault::Arguments,
     }
 }
 

@@ -11,6 +11,7 @@ loop-name-init g c = record {
   honest = c.in-Ok.ensures.honest;
   same = c.in-Ok.ensures.same;
   later = c.in-Ok.ensures.later;
+  steady = c.in-Ok.ensures.steady;
   listed = λ h. c.deref-name-items.ensures.value ∙ c.in-Ok.ensures.names h;
   files = λ h. ap entries (c.in-Ok-reserve.ensures.files ∙ c.new-folder.ensures.files) ∙ begins_empty (g.S.FolderStore.contents c.args.store.now).files;
   places = let room = c.in-Ok-reserve.ensures.ok in omega (arith, c.len.ensures, c.deref-name-items.ensures.len);
@@ -24,6 +25,7 @@ loop-name-preserved g c =
       honest = λ h. c.in-Ok-read.ensures.honest (so_far.honest h);
       same = λ h. c.in-Ok-read.ensures.same (so_far.honest h) ∙ so_far.same h;
       later = omega (arith, so_far.later, c.in-Ok-read.ensures.later);
+      steady = c.in-Ok-read.ensures.steady ∙ so_far.steady;
       listed = so_far.listed;
       files = λ h.
           let whole = (g.S.FolderStore.contents c.args.store.now).files in

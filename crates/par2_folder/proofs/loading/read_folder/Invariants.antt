@@ -10,6 +10,7 @@ invariant-loop-name g l =
       honest : S.honest l.fn.store → S.honest l.store;
       same : S.honest l.fn.store → S.contents l.store ≡ S.contents l.fn.store;
       later : S.failures l.fn.store ≤ S.failures l.store;
+      steady : S.failures l.store ≡ S.failures l.fn.store;
       listed : S.honest l.fn.store → l.name-items ≡ names (S.contents l.fn.store).files;
       files : S.honest l.fn.store → entries l.folder.files ≡ take l.name-index (entries (S.contents l.fn.store).files);
       places : length l.name-items ≤ l.folder.vacant + l.name-index;
