@@ -4,3 +4,4 @@ pub mod BlockLaws
 pub mod TailLaws
 pub mod FeedLaws
 pub mod TaskLaws
+pub mod TextLaws

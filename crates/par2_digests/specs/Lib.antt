@@ -4,3 +4,4 @@ pub mod Lanes
 pub mod Messages
 pub mod Tails
 pub mod Tasks
+pub mod Texts

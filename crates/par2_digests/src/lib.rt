@@ -15,6 +15,7 @@ mod midstate;
 mod padding;
 mod steps;
 mod tasks;
+mod texts;
 mod words;
 
 use blocks::absorbed;
@@ -23,6 +24,7 @@ pub use midstate::{Message, Midstate, Part};
 use padding::{tail_blocks, tails_of_windows};
 use std::simd::prelude::*;
 use steps::{State, in_each_lane};
+pub use texts::text_digests;
 
 /// How many windows are digested side by side.
 pub const LANES: usize = 8;

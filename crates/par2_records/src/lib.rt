@@ -2,6 +2,7 @@
 #![tactic(auto)]
 
 ghost use Rattle.std.specs.Prelude.{◌≡◌, ◌≤◌, take, IfOk};
+ghost use Rattle.md5.specs.Md5.{md5};
 ghost use Rattle.par2_spec.specs.Volumes.{record_of};
 ghost use Rattle.par2_packets.specs.View.{file_record_of};
 
@@ -20,8 +21,32 @@ fn first_bytes(bytes: &[u8], n: usize) -> &[u8]
     if n < bytes.len() { &bytes[..n] } else { bytes }
 }
 
-/// What a set of slice size `s` says of the file of this name and these bytes.
+/// What a set of slice size `s` says of the file of this name and these bytes, whose MD5 is given.
 #[tactic(auto, unfolding(par2_spec::specs::Volumes::record_of))]
+pub fn file_record_by_md5(
+    alloc: Global,
+    name: &str,
+    bytes: &[u8],
+    digest: [u8; 16],
+    s: u64,
+) -> Result<FileRecord, AllocError>
+    requires size { 1 ≤ s }
+    requires digest { digest ≡ md5 bytes.now }
+    ensures { IfOk result (λ made. file_record_of made ≡ record_of s (name.now, bytes.now)) }
+{
+    let md5_16k = Md5::digest(first_bytes(bytes, HEAD));
+    let length = bytes.len() as u64;
+    Ok(FileRecord {
+        id: file_id(&md5_16k, length, name),
+        md5: digest,
+        md5_16k,
+        length,
+        name: String::from_str(alloc, name)?,
+        pairs: pairs_of(alloc, bytes, s)?,
+    })
+}
+
+/// What a set of slice size `s` says of the file of this name and these bytes.
 pub fn file_record(
     alloc: Global,
     name: &str,
@@ -31,14 +56,5 @@ pub fn file_record(
     requires { 1 ≤ s }
     ensures { IfOk result (λ made. file_record_of made ≡ record_of s (name.now, bytes.now)) }
 {
-    let md5_16k = Md5::digest(first_bytes(bytes, HEAD));
-    let length = bytes.len() as u64;
-    Ok(FileRecord {
-        id: file_id(&md5_16k, length, name),
-        md5: Md5::digest(bytes),
-        md5_16k,
-        length,
-        name: String::from_str(alloc, name)?,
-        pairs: pairs_of(alloc, bytes, s)?,
-    })
+    file_record_by_md5(alloc, name, bytes, Md5::digest(bytes), s)
 }

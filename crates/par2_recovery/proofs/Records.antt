@@ -1,10 +1,12 @@
 -- The records of files, one after the other.
-use Rattle.std.proofs.Common.{ℕ, ◌+◌, ◌<◌, ◌≡◌, refl, sym, ap, ap₂, ◌∙◌, subst, List, [], ◌∷◌, ◌++◌, length, get_or, map}
+use Rattle.std.proofs.Common.{ℕ, ◌+◌, ◌<◌, ◌≡◌, refl, sym, ap, ap₂, ◌∙◌, subst, List, [], ◌∷◌, ◌++◌, Bor, length, get_or, map, arith}
 use Rattle.std.specs.Prelude.{take, IsPermutation, string_bytes}
 use Rattle.std.specs.Int.{w128, from_le_bytes}
 use Rattle.std.specs.List.Sorted.{IsStrictlyIncreasing}
-use Rattle.std.proofs.lemmas.List.{take_more, map-append}
+use Rattle.std.proofs.lemmas.List.{get_or-map, length-map, take_more, map-append}
 use Rattle.std.proofs.lemmas.Simd.{map-map}
+use Rattle.md5.specs.Md5.{md5}
+use Rattle.par2_digests.specs.Texts.{texts_of}
 use Rattle.par2_spec.specs.Folders.{Folder, File, bytes_of}
 use Rattle.par2_spec.specs.Volumes as volumes
 use Rattle.par2_spec.specs.Volumes.{record_of, in_id_order}
@@ -22,6 +24,29 @@ record_push s folder names i xs x name bytes low en eb so_far is =
     ∙ sym (map-append (record_of s) (files_of folder (take i names)) ((get_or names i [], bytes_of folder (get_or names i [])) ∷ []))
     ∙ ap (map (record_of s)) (sym (map-append (λ (n : List ℕ). (n, bytes_of folder n)) (take i names) (get_or names i [] ∷ [])))
     ∙ ap (λ ns. map (record_of s) (files_of folder ns)) (sym (take_more names i [] low))
+
+-- the bytes of one file more
+pub text_push : (folder : Folder) (names : List (List ℕ)) (i : ℕ) (xs new : List (Bor (List ℕ))) (x : Bor (List ℕ)) (name : List ℕ) → i < length names → name ≡ get_or names i [] → x.now ≡ bytes_of folder name
+    → new ≡ xs ++ x ∷ [] → texts_of xs ≡ map (bytes_of folder) (take i names) → texts_of new ≡ map (bytes_of folder) (take (i + 1) names)
+text_push folder names i xs new x name low en eb pushed so_far =
+    ap texts_of pushed
+    ∙ map-append (λ (t : Bor (List ℕ)). t.now) xs (x ∷ [])
+    ∙ ap₂ (λ (ts : List (List ℕ)) (t : List ℕ). ts ++ t ∷ []) so_far (eb ∙ ap (bytes_of folder) en)
+    ∙ sym (ap (map (bytes_of folder)) (take_more names i [] low) ∙ map-append (bytes_of folder) (take i names) (get_or names i [] ∷ []))
+
+-- the digest of the file of a name
+pub digest_at_name : (folder : Folder) (names md5s : List (List ℕ)) (i : ℕ) (d : List ℕ) → md5s ≡ map md5 (map (bytes_of folder) names) → i < length names
+    → get_or md5s i d ≡ md5 (bytes_of folder (get_or names i []))
+digest_at_name folder names md5s i d is low =
+    let many : length (map (bytes_of folder) names) ≡ length names = length-map names (bytes_of folder) in
+    ap (λ (l : List (List ℕ)). get_or l i d) is
+    ∙ get_or-map md5 (map (bytes_of folder) names) i [] d (omega (arith, low, many))
+    ∙ ap md5 (get_or-map (bytes_of folder) names i [] [] low)
+
+-- as many digests as names
+pub many_digests : (folder : Folder) (names md5s : List (List ℕ)) → md5s ≡ map md5 (map (bytes_of folder) names) → length md5s ≡ length names
+many_digests folder names md5s is =
+    ap length is ∙ length-map (map (bytes_of folder) names) md5 ∙ length-map names (bytes_of folder)
 
 -- the identifiers in the records
 pub ids_of : (xs : List FileRecord) → map (λ (file : FileRecord). file.id) xs ≡ map (λ (file : volumes.FileRecord). file.id) (map file_record_of xs)

@@ -4,6 +4,9 @@ ghost use Rattle.std.specs.Prelude.{◌≡◌, ◌≤◌, ◌<◌, length, map, 
 ghost use Rattle.std.specs.List.{IsDistinct};
 ghost use Rattle.std.specs.List.Sorted.{IsStrictlyIncreasing};
 ghost use Rattle.std.specs.Str.{bytes_eq};
+ghost use Rattle.md5.specs.Md5.{md5};
+ghost use Rattle.par2_digests.specs.Texts.{texts_of};
+ghost use Rattle.par2_spec.specs.Folders as files;
 ghost use Rattle.par2_spec.specs.Names.{is_name};
 ghost use Rattle.par2_spec.specs.Volumes.{record_of, in_id_order};
 ghost use Rattle.par2_spec.specs.Commands.{files_of};
@@ -11,9 +14,10 @@ ghost use Rattle.par2_packets.specs.View.{file_record_of, id_number};
 ghost use Rattle.par2_recovery.specs.Views.{names_of};
 
 use crate::recovery::bytes_of;
+use par2_digests::text_digests;
 use par2_folder::{Folder, Name};
 use par2_packets::{FileRecord, sort_ids};
-use par2_records::file_record;
+use par2_records::file_record_by_md5;
 use std::alloc::{AllocError, Global};
 
 /// What a set says of its files.
@@ -54,6 +58,29 @@ fn text_at(names: &[Name], i: usize) -> &str
     names[i].as_str()
 }
 
+// The bytes of the files of these names.
+fn texts<'a>(alloc: Global, folder: &'a Folder, names: &[Name]) -> Result<Vec<&'a [u8]>, AllocError>
+    ensures { IfOk result (λ texts.
+        texts_of texts.items ≡ map (files.bytes_of folder.now.files) names.now) }
+{
+    let mut texts = Vec::with_capacity(alloc, names.len())?;
+    for i in 0..names.len() {
+        texts.push(bytes_of(folder, text_at(names, i)))?;
+    }
+    Ok(texts)
+}
+
+// The MD5s of the files of these names.
+fn md5s(alloc: Global, folder: &Folder, names: &[Name]) -> Result<Vec<[u8; 16]>, AllocError>
+    ensures value { IfOk result (λ md5s.
+        md5s.items ≡ map md5 (map (files.bytes_of folder.now.files) names.now)) }
+    ensures count { IfOk result (λ md5s. length md5s.items ≡ length names.now) }
+{
+    let texts = texts(alloc, folder, names)?;
+    let md5s = text_digests(alloc, &texts)?;
+    Ok(md5s)
+}
+
 // What a set says of the files of these names.
 fn records(
     alloc: Global,
@@ -64,10 +91,12 @@ fn records(
     requires { 1 ≤ s }
     ensures { IfOk result (λ records. map file_record_of records.items ≡ map (record_of s) (files_of folder.now.files names.now)) }
 {
+    let md5s = md5s(alloc, folder, names)?;
     let mut records = Vec::with_capacity(alloc, names.len())?;
     for i in 0..names.len() {
         let name = text_at(names, i);
-        records.push(file_record(alloc, name, bytes_of(folder, name), s)?)?;
+        let bytes = bytes_of(folder, name);
+        records.push(file_record_by_md5(alloc, name, bytes, md5s[i], s)?)?;
     }
     Ok(records)
 }
