@@ -249,7 +249,10 @@ impl Search {
     {
         let Spot { text, offset } = spot;
         for (k, &crc) in crcs.iter().enumerate() {
-            let spot = Spot { text, offset: offset + k };
+            let spot = Spot {
+                text,
+                offset: offset + k,
+            };
             self.test(wanted, bytes, s, spot, crc);
         }
     }
