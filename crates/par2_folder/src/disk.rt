@@ -112,6 +112,7 @@ impl<D: Directory> DiskStore<D> {
         self.directory.rename(from, to)
     }
 
+    // Removes a file.
     #[tactic(auto, unfolding(par2_spec::specs::Changes::is_applicable))]
     fn remove_file(&mut self, name: &Name) -> Result<(), StoreFault>
         ensures honest { D.honest (directory_of self.old) → D.honest (directory_of self.new) }

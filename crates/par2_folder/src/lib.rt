@@ -21,8 +21,6 @@ mod walk;
 
 pub use bytes::Bytes;
 pub use change::Change;
-pub use current::CurrentDirectory;
-pub use directory::{Directory, Found, Place};
 pub use disk::DiskStore;
 pub use failures::Failures;
 pub use fingerprint::fingerprints_along;
