@@ -82,8 +82,8 @@ verify_failed (Do (Verify base extras)) old mid new o s later is on opening same
     refused_on Store r = r
     refused_on (Refusing reason) r =
         elim r.0 [
-          | inl memory ↦ (inl memory, as_it_was (standing o.session))
-          | inr asked ↦ (inr (same_asked o.session (session_of_kept s) (Verify base extras) on ∙ asked), as_it_was (standing o.session))
+          | inl memory ↦ (inl memory, as_it_was (standing o.session), r.2)
+          | inr asked ↦ (inr (same_asked o.session (session_of_kept s) (Verify base extras) on ∙ asked), as_it_was (standing o.session), r.2)
         ]
 verify_failed (Do (Create args)) old mid new o s later is on opening same before after fault refused = absurd is
 verify_failed (Do (Repair base extras purge)) old mid new o s later is on opening same before after fault refused = absurd is

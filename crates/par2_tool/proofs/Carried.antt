@@ -13,7 +13,7 @@ use Rattle.par2_spec.proofs.NamesLaws.{false_true}
 use Rattle.par2_journal.specs.declared.prepared.SessionFault.{SessionFault}
 use Rattle.par2_journal.specs.declared.prepared.SessionFault.TheVariants.{Plan, NothingToUndo, NothingToRedo}
 use Rattle.par2_tool.specs.Held.{TellsApartAlong, TellsApartBack, OpensAsBefore, OpensAsBeforeOrAfter}
-use Rattle.par2_tool.specs.Opened.{IsOpened, IsUnopened}
+use Rattle.par2_tool.specs.Opened.{IsCounted, IsOpened, IsUnopened}
 use Rattle.par2_tool.specs.Refused.{IsRefused, IsSession, failed, unopened_as}
 use Rattle.par2_tool.specs.Told.{IsBack, IsCause, IsFailed, IsAtTheEnd, OpensAsBeforeOrAfterRun}
 use Rattle.par2_tool.specs.declared.opening.OpenFault.{OpenFault}
@@ -103,27 +103,27 @@ opening_failed action old new unopened.Store is stopped = λ back _. all_stops (
 
 -- ---- why, whatever the store does
 
-pub perform_cause : (action : Action) (s later : KeptSession) (before middle after : ℕ) (fault : PerformFault) → before ≤ middle → IsRefused action s later middle after fault → IsCause action before after (failed fault)
+pub perform_cause : (action : Action) (s later : KeptSession) (before middle after : ℕ) (fault : PerformFault) → middle ≡ before → IsRefused action s later middle after fault → IsCause action before after (failed fault)
 unfolding memory_of is_plan_fault
-perform_cause action s later before middle after (Refusing (Plan reason)) rose refused =
+perform_cause action s later before middle after (Refusing (Plan reason)) steady refused =
     elim refused.0 [
-      | inl memory ↦ inl (ap memory_of memory)
-      | inr asked ↦ inr (session_of_kept s, asked)
+      | inl memory ↦ (inl (ap memory_of memory), refused.2 ∙ steady)
+      | inr asked ↦ (inr (session_of_kept s, asked), refused.2 ∙ steady)
     ]
-perform_cause action s later before middle after (Refusing NothingToUndo) rose refused =
-    elim refused.0 [
-      | inl memory ↦ absurd (false_true (ap is_plan_fault memory))
-      | inr asked ↦ (session_of_kept s, asked)
-    ]
-perform_cause action s later before middle after (Refusing NothingToRedo) rose refused =
+perform_cause action s later before middle after (Refusing NothingToUndo) steady refused =
     elim refused.0 [
       | inl memory ↦ absurd (false_true (ap is_plan_fault memory))
-      | inr asked ↦ (session_of_kept s, asked)
+      | inr asked ↦ ((session_of_kept s, asked), refused.2 ∙ steady)
     ]
-perform_cause action s later before middle after Store rose refused = omega (arith, rose, refused)
+perform_cause action s later before middle after (Refusing NothingToRedo) steady refused =
+    elim refused.0 [
+      | inl memory ↦ absurd (false_true (ap is_plan_fault memory))
+      | inr asked ↦ ((session_of_kept s, asked), refused.2 ∙ steady)
+    ]
+perform_cause action s later before middle after Store steady refused = omega (arith, steady, refused)
 
-pub opening_cause : (action : Action) (before after : ℕ) (fault : OpenFault) → (fault ≡ unopened.Store → before < after) → IsCause action before after (unopened_as fault)
-opening_cause action before after unopened.JournalInvalid rose = tt
-opening_cause action before after unopened.FolderChanged rose = tt
-opening_cause action before after unopened.Memory rose = inl refl
-opening_cause action before after unopened.Store rose = rose refl
+pub opening_cause : (action : Action) (before after : ℕ) (fault : OpenFault) → IsCounted before after fault → IsCause action before after (unopened_as fault)
+opening_cause action before after unopened.JournalInvalid counted = counted
+opening_cause action before after unopened.FolderChanged counted = counted
+opening_cause action before after unopened.Memory counted = (inl refl, counted)
+opening_cause action before after unopened.Store counted = counted

@@ -1,5 +1,5 @@
 -- What a store is opened as, and what opening does to it; or why it isn't opened.
-use Rattle.std.specs.Prelude.{◌≡◌, ◌⊎◌, ◌≤◌, ℕ, List, length, take, Some, Ok, Err, true}
+use Rattle.std.specs.Prelude.{◌≡◌, ◌⊎◌, ◌<◌, ◌≤◌, ℕ, List, length, take, Some, Ok, Err, true}
 use Rattle.par2_spec.specs.Changes.{Change}
 use Rattle.par2_spec.specs.Commands.{Action}
 use Rattle.par2_spec.specs.Folders.{Folder}
@@ -28,6 +28,13 @@ IsUnopened old new JournalInvalid = IsOpening old (Err journal.JournalInvalid) �
 IsUnopened old new FolderChanged = IsOpening old (Err (journal.FolderChanged true)) × (new ≡ old)
 IsUnopened old new Memory = new ≡ old
 IsUnopened old new Store = Unit {0}
+
+-- how often it has failed by then: more often where that is told, and as often as before otherwise
+abbrev pub IsCounted : ℕ → ℕ → OpenFault → Type 0
+IsCounted before after Store = before < after
+IsCounted before after Memory = after ≡ before
+IsCounted before after JournalInvalid = after ≡ before
+IsCounted before after FolderChanged = after ≡ before
 
 abbrev pub unread_as : ReadFault → OpenFault
 unread_as read.Store = Store

@@ -1,5 +1,5 @@
 -- Why a command is not performed, and what is told of it.
-use Rattle.std.specs.Prelude.{◌<◌, ℕ}
+use Rattle.std.specs.Prelude.{◌≡◌, ◌<◌, ℕ}
 use Rattle.par2_spec.specs.Commands.{Action}
 use Rattle.par2_spec.specs.Sessions.{KeptSession, OnlyGrew}
 use Rattle.par2_journal.specs.Faulted.{MayRefuse}
@@ -14,10 +14,10 @@ use Rattle.par2_tool.specs.declared.performing.PerformFault.TheVariants.{Session
 use Rattle.par2_tool.specs.declared.opening.OpenFault.{OpenFault}
 use Rattle.par2_tool.specs.declared.opening.OpenFault.TheVariants as unopened
 
--- the session refuses for the cause that the definitions name or for want of memory, and stays as it was; or the
--- store failed
+-- the session refuses for the cause that the definitions name or for want of memory, stays as it was, and no failure
+-- of the store is counted; or the store failed
 abbrev pub IsRefused : Action → KeptSession → KeptSession → ℕ → ℕ → PerformFault → Type 0
-IsRefused action old new before after (Session fault) = MayRefuse action old fault × OnlyGrew old new
+IsRefused action old new before after (Session fault) = MayRefuse action old fault × OnlyGrew old new × (after ≡ before)
 IsRefused action old new before after Store = before < after
 
 abbrev pub IsSession : PerformFault → Type 0

@@ -107,25 +107,27 @@ Leaves words (Failed spoken reason) old new =
 
 -- ---- on any store
 
--- why an action fails: for want of memory; for the cause that the definitions name, on some session; since the store
--- failed, which is counted; or by the journal that was read
+-- why an action fails: for want of memory; for the cause that the definitions name, on some session; by the journal
+-- that was read; or since the store failed, which is counted, and counted for that alone
 abbrev pub IsCause : Action → ℕ → ℕ → Failure → Type 0
 IsCause action before after (failure.Refused reason) =
-    (reason ≡ fault.Memory) ⊎ ((session : Session) × (changes_asked session action ≡ Err (history.Refused reason)))
-IsCause action before after failure.NothingToUndo = (session : Session) × (changes_asked session action ≡ Err history.NothingToUndo)
-IsCause action before after failure.NothingToRedo = (session : Session) × (changes_asked session action ≡ Err history.NothingToRedo)
+    ((reason ≡ fault.Memory) ⊎ ((session : Session) × (changes_asked session action ≡ Err (history.Refused reason)))) × (after ≡ before)
+IsCause action before after failure.NothingToUndo =
+    ((session : Session) × (changes_asked session action ≡ Err history.NothingToUndo)) × (after ≡ before)
+IsCause action before after failure.NothingToRedo =
+    ((session : Session) × (changes_asked session action ≡ Err history.NothingToRedo)) × (after ≡ before)
 IsCause action before after failure.Store = before < after
 IsCause action before after failure.Arguments = ⊥
-IsCause action before after failure.JournalInvalid = Unit {0}
-IsCause action before after failure.FolderChanged = Unit {0}
+IsCause action before after failure.JournalInvalid = after ≡ before
+IsCause action before after failure.FolderChanged = after ≡ before
 
 -- what is told: the answer of the action that the words ask for, on some session; or why it fails, with the words
--- that it can speak of; or, without any, why the words aren't read
+-- that it can speak of; or, without any, why the words aren't read. Nothing but Store is told once the store failed
 abbrev pub IsTold : List Text → ℕ → ℕ → Told → Type 0
 IsTold words before after (Answered dropped outcome) =
-    (action : Action) × AskFor words action × (session : Session) × IsAnswer session action outcome
+    (action : Action) × AskFor words action × (after ≡ before) × (session : Session) × IsAnswer session action outcome
 IsTold words before after (Failed spoken reason) =
-    ((spoken ≡ []) × IsUnread words reason)
+    ((spoken ≡ []) × IsUnread words reason × (after ≡ before))
     ⊎ ((action : Action) × AskFor words action × (spoken ≡ words_asked action) × IsCause action before after reason)
 
 -- the text was written and the status is its own; or the writer failed, which is counted, it holds a part of the

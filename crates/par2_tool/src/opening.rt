@@ -5,7 +5,7 @@ ghost use Rattle.par2_spec.specs.Sessions.{session_of_kept};
 ghost use Rattle.par2_tool.specs.Held.{kept, IsOpening, Holds, OpensAsBefore, TellsApartBack};
 ghost use Rattle.par2_spec.specs.Opening.{Started as Opening, new_session};
 ghost use Rattle.par2_spec.specs.Views.{command_of};
-ghost use Rattle.par2_tool.specs.Opened.{started_of, unread_as, IsOpened, IsRead, IsUnopened, IsTakenBack, IsStillBegun, OnlyTakesBack, StandsFor};
+ghost use Rattle.par2_tool.specs.Opened.{started_of, unread_as, IsCounted, IsOpened, IsRead, IsUnopened, IsTakenBack, IsStillBegun, OnlyTakesBack, StandsFor};
 
 use crate::writing::write_down;
 use par2_folder::{Folder, FolderStore, ReadFault, read_folder};
@@ -75,11 +75,12 @@ fn take_back<S: FolderStore>(
     ensures no_journal { (IsErrOf result OpenFault.JournalInvalid → ⊥)
         × (IsErrOf result OpenFault.FolderChanged → ⊥) }
     ensures later { S.failures store.old ≤ S.failures store.new }
-    ensures cause { IsErrOf result OpenFault.Store → S.failures store.old < S.failures store.new }
+    ensures counted { IfErr result (IsCounted (S.failures store.old) (S.failures store.new)) }
+    ensures steady { OnOk result (S.failures store.new ≡ S.failures store.old) }
 {
     let after = match halfway.settled(alloc) {
         Ok(after) => after,
-        Err(_) => return Err(OpenFault::Memory),
+        Err(AllocError) => return Err(OpenFault::Memory),
     };
     let journals = Journals {
         halfway: None,
@@ -111,7 +112,8 @@ fn open_with<S: FolderStore>(
         → TellsApartBack (S.contents store.old)
         → OnErr result (OpensAsBefore (S.contents store.old) (S.contents store.new)) }
     ensures later { S.failures store.old ≤ S.failures store.new }
-    ensures cause { IsErrOf result OpenFault.Store → S.failures store.old < S.failures store.new }
+    ensures counted { IfErr result (IsCounted (S.failures store.old) (S.failures store.new)) }
+    ensures steady { OnOk result (S.failures store.new ≡ S.failures store.old) }
 {
     match Session::open(alloc, folder, text) {
         Ok(Opened::Settled(session)) => Ok(Started {
@@ -151,7 +153,8 @@ pub fn open_store<S: FolderStore>(alloc: Global, store: &mut S) -> Result<Starte
     ensures stopped { S.honest store.old → TellsApartBack (S.contents store.old)
         → OnErr result (OpensAsBefore (S.contents store.old) (S.contents store.new)) }
     ensures later { S.failures store.old ≤ S.failures store.new }
-    ensures cause { IsErrOf result OpenFault.Store → S.failures store.old < S.failures store.new }
+    ensures counted { IfErr result (IsCounted (S.failures store.old) (S.failures store.new)) }
+    ensures steady { OnOk result (S.failures store.new ≡ S.failures store.old) }
 {
     let folder = match read_folder(alloc, store) {
         Ok(folder) => folder,
@@ -179,7 +182,8 @@ fn open_for_verify<S: FolderStore>(alloc: Global, store: &mut S) -> Result<Start
     ensures stopped { S.honest store.old → TellsApartBack (S.contents store.old)
         → OnErr result (OpensAsBefore (S.contents store.old) (S.contents store.new)) }
     ensures later { S.failures store.old ≤ S.failures store.new }
-    ensures cause { IsErrOf result OpenFault.Store → S.failures store.old < S.failures store.new }
+    ensures counted { IfErr result (IsCounted (S.failures store.old) (S.failures store.new)) }
+    ensures steady { OnOk result (S.failures store.new ≡ S.failures store.old) }
 {
     let mut folder = match read_folder(alloc, store) {
         Ok(folder) => folder,
@@ -213,7 +217,8 @@ pub(crate) fn open_for<S: FolderStore>(
     ensures stopped { S.honest store.old → TellsApartBack (S.contents store.old)
         → OnErr result (OpensAsBefore (S.contents store.old) (S.contents store.new)) }
     ensures later { S.failures store.old ≤ S.failures store.new }
-    ensures cause { IsErrOf result OpenFault.Store → S.failures store.old < S.failures store.new }
+    ensures counted { IfErr result (IsCounted (S.failures store.old) (S.failures store.new)) }
+    ensures steady { OnOk result (S.failures store.new ≡ S.failures store.old) }
 {
     match command {
         Command::Verify { .. } => open_for_verify(alloc, store),

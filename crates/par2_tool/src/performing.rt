@@ -11,7 +11,7 @@ use crate::writing::write_down;
 use par2_folder::FolderStore;
 use par2_journal::{Report, Session, SessionFault, Steps};
 use par2_spec::{Command, Fault};
-use std::alloc::Global;
+use std::alloc::{AllocError, Global};
 use thiserror::Error;
 
 /// What an accepted command answers.
@@ -66,6 +66,7 @@ pub fn perform<S: FolderStore>(
         (changes_asked (session_of_kept session.old) (command_of command.now))
         (S.contents store.old).files (S.contents store.new).files) }
     ensures later { S.failures store.old ≤ S.failures store.new }
+    ensures steady { OnOk result (S.failures store.new ≡ S.failures store.old) }
 {
     // What a stop leaves opens only where the session's entries can be walked: the call's contract says so.
     let _folder = session.folder();
@@ -84,7 +85,9 @@ pub fn perform<S: FolderStore>(
     };
     let journals = match session.journals(alloc, &mut prepared) {
         Ok(journals) => journals,
-        Err(_) => return Err(PerformFault::Session(SessionFault::Plan(Fault::Memory))),
+        Err(AllocError) => {
+            return Err(PerformFault::Session(SessionFault::Plan(Fault::Memory)));
+        }
     };
     match write_down(store, &journals, session.changes(&prepared)) {
         Ok(()) => Ok(Outcome::Done(session.commit(prepared))),

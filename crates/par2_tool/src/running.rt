@@ -1,5 +1,5 @@
 //! A run of the program.
-ghost use Rattle.std.specs.Prelude.{◌≡◌, ◌≤◌, Bool, IfOk, IfErr, IsTrue, map, string_bytes};
+ghost use Rattle.std.specs.Prelude.{◌≡◌, ◌≤◌, Bool, IfOk, IfErr, OnOk, IsTrue, map, string_bytes};
 ghost use Rattle.par2_spec.specs.Sessions.{Session};
 ghost use Rattle.par2_spec.specs.Views.{command_of};
 ghost use Rattle.par2_tool.specs.Refused.{failed, unopened_as, unread_as};
@@ -85,6 +85,7 @@ fn carry_out<S: FolderStore>(
     ensures failed { S.honest store.old → IfErr result (IsFailed (command_of command.now)
         (S.contents store.old) (S.contents store.new)) }
     ensures later { S.failures store.old ≤ S.failures store.new }
+    ensures steady { OnOk result (S.failures store.new ≡ S.failures store.old) }
 {
     let Started {
         mut session,

@@ -15,6 +15,7 @@ fn write_change<S: FolderStore>(store: &mut S, change: &Change) -> Result<(), St
     ensures stopped { S.honest store.old → OnErr result ((S.contents store.new ≡ S.contents store.old) ⊎ (S.contents store.new ≡ changed (S.contents store.old) (change_of change.now))) }
     ensures later { S.failures store.old ≤ S.failures store.new }
     ensures cause { OnErr result (S.failures store.old < S.failures store.new) }
+    ensures steady { OnOk result (S.failures store.new ≡ S.failures store.old) }
 {
     match change {
         Change::Write(name, bytes) => store.put(name, bytes.as_slice()),
@@ -31,6 +32,7 @@ fn write_changes<S: FolderStore>(store: &mut S, changes: &[Change]) -> Result<()
     ensures stopped { S.honest store.old → OnErr result ((n : ℕ) × (n ≤ length changes.now) × (S.contents store.new ≡ all_changed (S.contents store.old) (take n (map change_of changes.now)))) }
     ensures later { S.failures store.old ≤ S.failures store.new }
     ensures cause { OnErr result (S.failures store.old < S.failures store.new) }
+    ensures steady { OnOk result (S.failures store.new ≡ S.failures store.old) }
 {
     for change in changes {
         match write_change(store, change) {
@@ -48,6 +50,7 @@ fn begin<S: FolderStore>(store: &mut S, halfway: &Option<Vec<u8>>) -> Result<(),
     ensures stopped { S.honest store.old → OnErr result ((S.contents store.new ≡ S.contents store.old) ⊎ (S.contents store.new ≡ begun (S.contents store.old) halfway.now)) }
     ensures later { S.failures store.old ≤ S.failures store.new }
     ensures cause { OnErr result (S.failures store.old < S.failures store.new) }
+    ensures steady { OnOk result (S.failures store.new ≡ S.failures store.old) }
 {
     match halfway {
         Some(text) => store.put_journal(text),
@@ -67,6 +70,7 @@ pub fn write_down<S: FolderStore>(
     ensures stopped { S.honest store.old → OnErr result (IsStoppedAt (S.contents store.old) journals.now (map change_of changes.now) (S.contents store.new)) }
     ensures later { S.failures store.old ≤ S.failures store.new }
     ensures cause { OnErr result (S.failures store.old < S.failures store.new) }
+    ensures steady { OnOk result (S.failures store.new ≡ S.failures store.old) }
 {
     begin(store, &journals.halfway)?;
     write_changes(store, changes)?;

@@ -1,4 +1,4 @@
-use Rattle.std.proofs.Common.{◌≡◌, List, sym, ap, subst, ◌∙◌, map}
+use Rattle.std.proofs.Common.{◌≡◌, List, refl, sym, ap, subst, ◌∙◌, map}
 use Rattle.par2_spec.specs.Changes as defined
 use Rattle.par2_spec.specs.Commands.{Verify}
 use Rattle.par2_spec.specs.Rules.{LeadsToAfterAsked}
@@ -36,6 +36,7 @@ returns-in-Err-clause-refused g c =
     let refused = rw c.as_str.ensures.value at (rw c.as_slice.ensures.value at c.in-Err.ensures.refused) in (
       subst (λ (x : Command). MayRefuse (command_of x) s (Plan c.in-Err.fault)) (sym c.in-Verify.is) (verify_refused s _ _ c.in-Err.fault refused),
       as_it_was s,
+      refl,
     )
 
 pub returns-in-Err-clause-in_order : goal.returns-in-Err-clause-in_order

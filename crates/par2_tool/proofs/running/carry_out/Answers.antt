@@ -1,4 +1,4 @@
-use Rattle.std.proofs.Common.{◌≡◌, inl, inr, Err, false, sym, ap, subst, ◌∙◌}
+use Rattle.std.proofs.Common.{◌≡◌, inl, inr, false, sym, ap, subst, ◌∙◌}
 use Rattle.par2_spec.specs.Sessions.{session_of_kept}
 use Rattle.par2_spec.specs.Views.{command_of}
 use Rattle.par2_spec.specs.declared.Failure.{Failure}
@@ -27,7 +27,7 @@ returns-in-Err-clause-cause g c =
     let before = g.S.FolderStore.failures c.args.store.now in
     let after = g.S.FolderStore.failures c.open_for.new.store in
     subst (λ (failure : Failure). IsCause action before after failure) (sym c.unopened.ensures)
-    (opening_cause action before after c.in-Err.fault (λ store. c.open_for.ensures.cause (c.in-Err.is ∙ ap Err store)))
+    (opening_cause action before after c.in-Err.fault c.in-Err.ensures.counted)
 
 pub returns-then-is_back-clause-failed : goal.returns-then-is_back-clause-failed
 returns-then-is_back-clause-failed g c honest =
@@ -57,7 +57,7 @@ returns-clause-cause g c =
     let middle = g.S.FolderStore.failures c.open_for.new.store in
     let after = g.S.FolderStore.failures c.perform.new.store in
     subst (λ (failure : Failure). IsCause action before after failure) (sym c.failure_of.ensures)
-    (perform_cause action c.in-Ok.started.session c.perform.new.session before middle after c.in-Err-perform.fault c.open_for.ensures.later c.in-Err-perform.ensures.refused)
+    (perform_cause action c.in-Ok.started.session c.perform.new.session before middle after c.in-Err-perform.fault c.in-Ok.ensures.steady c.in-Err-perform.ensures.refused)
 
 pub returns-clause-failed : goal.returns-clause-failed
 returns-clause-failed g c honest =

@@ -16,7 +16,7 @@ returns-in-Err-clause-told g c =
     let told : IsUnread words c.unread.result =
     subst (λ (failure : Failure). IsUnread words failure) (sym c.unread.ensures) (unread_words words c.in-Err.fault c.in-Err.ensures.arguments) in (
       Failed [] c.unread.result,
-      inl (refl, told),
+      inl (refl, told, refl),
       (c.fail.ensures, refl {a = c.args.out.now}),
       λ _. inl (told, refl),
     )
@@ -31,7 +31,7 @@ returns-in-Ok-carry_out-clause-told g c =
     let before = c.args.out.now in
     let after = c.tell.new.out in (
       Answered done.0 outcome,
-      (action, asked, c.in-Ok-carry_out.ensures.answer.0, c.in-Ok-carry_out.ensures.answer.1),
+      (action, asked, c.in-Ok-carry_out.ensures.steady, c.in-Ok-carry_out.ensures.answer.0, c.in-Ok-carry_out.ensures.answer.1),
       (subst (λ text. Printed g.O.Write.contents before after text (status_of outcome) c.tell.result) (sym done.1) c.tell.ensures, refl {a = c.args.err.now}),
       λ honest. (action, asked, done.2 honest),
     )

@@ -38,4 +38,5 @@ loop-change-preserved g c =
           ∙ ap (λ (k : Contents). changed k (change_of item)) (held.made h)
           ∙ made_next (g.S.FolderStore.contents c.args.store.now) c.args.changes.now c.loop-change.change-index item c.loop-change-test.true c.change-item.is;
       later = omega (arith, held.later, c.write_change.ensures.later);
+      steady = c.in-Ok.ensures.steady ∙ held.steady;
     }

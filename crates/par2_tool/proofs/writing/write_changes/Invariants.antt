@@ -8,4 +8,5 @@ invariant-loop-change g l = record {
   honest : g.S.FolderStore.honest l.initial.store → g.S.FolderStore.honest l.store;
   made : g.S.FolderStore.honest l.initial.store → g.S.FolderStore.contents l.store ≡ all_changed (g.S.FolderStore.contents l.initial.store) (map change_of (take l.change-index l.changes));
   later : g.S.FolderStore.failures l.initial.store ≤ g.S.FolderStore.failures l.store;
+  steady : g.S.FolderStore.failures l.store ≡ g.S.FolderStore.failures l.initial.store;
 }
