@@ -4,6 +4,7 @@
 use par2_folder::DiskStore;
 use par2_printing::{Printer, write_failure};
 use par2_tool::{Failure, Fault, run};
+use std::alloc::AllocError;
 use std::env;
 use std::io::{ErrorKind, Write};
 use std::process::ExitCode;
@@ -20,7 +21,7 @@ fn words_of<R: env::Env + AllocGlobal>(rt: &R) -> Result<Vec<String>, Failure> {
     let _name = args.next();
     match args.collect(rt.alloc()) {
         Ok(words) => Ok(words),
-        Err(_) => Err(Failure::Refused(Fault::Memory)),
+        Err(AllocError) => Err(Failure::Refused(Fault::Memory)),
     }
 }
 
