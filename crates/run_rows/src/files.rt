@@ -1,14 +1,11 @@
 //! Changes of the files and the journal of a store, as another hand makes them.
 
-use crate::forged::{set_of_another_digest, set_of_packets};
 use anyhow::{Error, Result};
 use par2_folder::{FolderStore, MemoryStore, Name};
 use std::alloc::Global;
 
-// One byte more than 32,768 slices of 4 bytes have.
-const LARGE: usize = 131_073;
-
-fn name_of(text: &str) -> Result<Name> {
+/// The name of a text.
+pub fn name_of(text: &str) -> Result<Name> {
     match Name::new(text) {
         Ok(name) => Ok(name),
         Err(fault) => Err(fault.into()),
@@ -80,15 +77,12 @@ pub fn change(alloc: Global, store: &mut MemoryStore, word: &str, rest: &str) ->
     match word {
         "new" => clear(alloc, store),
         "put" => put(store, first, second.as_bytes()),
-        "large" => put(store, "large", &vec![in alloc; 7u8; LARGE]?),
         "remove" => remove(store, first),
         "rename" => rename(store, first, second),
         "copy" => copy(alloc, store, first, second),
         "append" => append(alloc, store, first, second),
         "journal" => put_journal(alloc, store, rest),
         "no-journal" => remove_journal(alloc, store),
-        "set-of-another-digest" => set_of_another_digest(alloc, store),
-        "set-of-packets" => set_of_packets(alloc, store, rest),
         _ => Err(Error::msg("no such word")),
     }
 }

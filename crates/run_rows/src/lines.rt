@@ -1,11 +1,17 @@
 //! The lines of the input: a word, a space and what the word is about.
 
+use crate::answers::{attack_by, attack_by_damaged, attack_by_resealed, run_on};
+use crate::attacks::{attack, sweep};
+use crate::disk;
 use crate::files::change;
+use crate::forging::{Forge, forge_line};
+use crate::large::enlarge;
 use crate::returns::{kept, refused, row_kept, shown, there_and_back};
 use crate::rows::{answer_of, row, show, show_set, told};
 use crate::sessions::{failing_session, session};
 use crate::stops::{stop, stop_and_repeat, stop_each, told_stop};
 use crate::wanting::want_memory;
+use crate::words::read;
 use anyhow::Result;
 use par2_folder::MemoryStore;
 
@@ -21,8 +27,37 @@ fn run(rt: &HostRuntime, store: &mut MemoryStore, line: &str) -> Result<()> {
     Ok(())
 }
 
+// Words, forgeries, and stores of other kinds.
+fn forged(
+    rt: &HostRuntime,
+    store: &mut MemoryStore,
+    forge: &mut Forge,
+    word: &str,
+    rest: &str,
+) -> Result<()> {
+    match word {
+        "words" => read(rt, rest),
+        "disk" => disk::call(rt, rest),
+        "large" => enlarge(rt, store, rest),
+        "forge" => forge_line(rt.alloc(), forge, store, rest),
+        "attack" => attack(rt, store, rest),
+        "sweep" => sweep(rt, store, rest),
+        "attack-by" => attack_by(rt, store, &forge.journals, rest),
+        "attack-by-damaged" => attack_by_damaged(rt, store, &forge.journals, rest),
+        "attack-by-resealed" => attack_by_resealed(rt, store, &forge.journals, rest),
+        "run-on" => run_on(rt, store, rest),
+        _ => change(rt.alloc(), store, word, rest),
+    }
+}
+
 // Sessions, and runs on stores that fail or want memory.
-fn fail(rt: &HostRuntime, store: &mut MemoryStore, word: &str, rest: &str) -> Result<()> {
+fn fail(
+    rt: &HostRuntime,
+    store: &mut MemoryStore,
+    forge: &mut Forge,
+    word: &str,
+    rest: &str,
+) -> Result<()> {
     match word {
         "session" => session(rt, store),
         "session-failing" => failing_session(rt, store, rest == "after"),
@@ -31,12 +66,17 @@ fn fail(rt: &HostRuntime, store: &mut MemoryStore, word: &str, rest: &str) -> Re
         "stop-each" => stop_each(rt, store, rest),
         "stop-and-repeat" => stop_and_repeat(rt, store, rest),
         "want-memory" => want_memory(rt, store, rest),
-        _ => change(rt.alloc(), store, word, rest),
+        _ => forged(rt, store, forge, word, rest),
     }
 }
 
 /// Carries out a line. An empty one, and one that begins with `#`, is read over.
-pub fn carry_out(rt: &HostRuntime, store: &mut MemoryStore, line: &str) -> Result<()> {
+pub fn carry_out(
+    rt: &HostRuntime,
+    store: &mut MemoryStore,
+    forge: &mut Forge,
+    line: &str,
+) -> Result<()> {
     let (word, rest) = line.split_once(' ').unwrap_or((line, ""));
     match word {
         "" | "#" => Ok(()),
@@ -51,6 +91,6 @@ pub fn carry_out(rt: &HostRuntime, store: &mut MemoryStore, line: &str) -> Resul
         "row-kept" => row_kept(rt, store, rest),
         "show" => show(rt, store),
         "set" => show_set(rt, store),
-        _ => fail(rt, store, word, rest),
+        _ => fail(rt, store, forge, word, rest),
     }
 }

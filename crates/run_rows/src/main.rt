@@ -1,29 +1,41 @@
-//! Carries out the lines of its input, in which words are run on stores in memory, and prints what comes of each run,
-//! the files with their lengths and the journal's length. The lines perform a create and two undos on one session, find
-//! journals that others left, run words on stores that fail or want memory at the first of their calls, at the second,
-//! and so on until none is refused, and verify, repair and purge folders that others changed.
+//! Carries out the lines of its input and prints what comes of them: words that are read, words that are run on stores
+//! in memory (with the files, their lengths and the journal's length), on stores that fail or want memory at the first
+//! of their calls, at the second, and so on until none is refused, forged sets and journals, and words and calls on
+//! real folders.
 //!
 //! Memory is ample but where a store answers otherwise, so the stored output also refuses a `run` that always
 //! answers want of memory. `rt try` needs more seconds than it has by itself: `rt try --seconds 300 < stdin`.
 #![tactic(auto)]
 
+mod answers;
+mod attacks;
+mod damage;
+mod disk;
 mod files;
-mod forged;
+mod forging;
+mod journals;
+mod large;
 mod lines;
+mod packets;
+mod protected;
 mod returns;
 mod rows;
 mod sessions;
 mod stops;
+mod terms;
 mod wanting;
+mod words;
 
 use anyhow::Result;
+use forging::Forge;
 use lines::carry_out;
 use par2_folder::MemoryStore;
 
 fn main(rt: HostRuntime) -> Result<()> {
     let mut store = MemoryStore::new(rt.alloc());
+    let mut forge = Forge::new(rt.alloc());
     for line in rt.lines(rt.alloc()) {
-        carry_out(&rt, &mut store, line?.as_str())?;
+        carry_out(&rt, &mut store, &mut forge, line?.as_str())?;
     }
     Ok(())
 }

@@ -15,18 +15,16 @@ pub struct Answer {
 }
 
 impl Answer {
-    /// What the run wrote. It writes to one of its writers.
-    pub fn text(&self) -> &[u8] {
-        if self.out.is_empty() {
-            &self.err
-        } else {
-            &self.out
-        }
+    /// What the run wrote on its two writers.
+    pub fn text(&self, alloc: Global) -> Result<String, AllocError> {
+        let mut text = Vec::from_slice(alloc, &self.out)?;
+        text.extend_from_slice(&self.err)?;
+        String::from_utf8_lossy(alloc, &text)
     }
 }
 
-// The words of a line, which are parted by spaces.
-fn parted(alloc: Global, line: &str) -> Result<Vec<String>, AllocError> {
+/// The words of a line, which are parted by spaces.
+pub fn parted(alloc: Global, line: &str) -> Result<Vec<String>, AllocError> {
     let mut words = Vec::new(alloc);
     for word in line.split_whitespace() {
         words.push(String::from_str(alloc, word)?)?;
@@ -34,12 +32,23 @@ fn parted(alloc: Global, line: &str) -> Result<Vec<String>, AllocError> {
     Ok(words)
 }
 
+// The status of a run.
+fn status_of<S: FolderStore>(
+    alloc: Global,
+    words: &[String],
+    store: &mut S,
+    out: &mut Printer<Vec<u8>>,
+    err: &mut Printer<Vec<u8>>,
+) -> u8 {
+    run(alloc, words, store, out, err)
+}
+
 /// Runs the words of a line on a store.
 pub fn answer_of<S: FolderStore>(alloc: Global, store: &mut S, line: &str) -> Result<Answer> {
     let words = parted(alloc, line)?;
     let mut out = Printer::new(Vec::new(alloc));
     let mut err = Printer::new(Vec::new(alloc));
-    let status = run(alloc, words.as_slice(), store, &mut out, &mut err);
+    let status = status_of(alloc, &words, store, &mut out, &mut err);
     Ok(Answer {
         status,
         out: out.into_inner(),

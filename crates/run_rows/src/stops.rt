@@ -70,7 +70,7 @@ pub fn stop_each(rt: &HostRuntime, store: &mut MemoryStore, rest: &str) -> Resul
 
 // Prints the words of a line, the status of its run and what the run wrote.
 fn say(rt: &HostRuntime, line: &str, answer: &Answer) -> Result<()> {
-    let text = String::from_utf8_lossy(rt.alloc(), answer.text())?;
+    let text = answer.text(rt.alloc())?;
     println!(rt; "  [{line}] {} {:?}", answer.status, text.as_str())?;
     Ok(())
 }
