@@ -409,8 +409,10 @@ fn keeps_journal<S: FolderStore>(
     bytes: usize,
 ) -> Result<bool, AllocError> {
     let text = "j".repeat(alloc, bytes)?;
-    Ok(store.put_journal(text.as_bytes()).is_ok()
-        && matches!(store.read_journal(alloc), Ok(Some(kept)) if kept.as_slice() == text.as_bytes()))
+    Ok(
+        store.put_journal(text.as_bytes()).is_ok()
+            && matches!(store.read_journal(alloc), Ok(Some(kept)) if kept.as_slice() == text.as_bytes()),
+    )
 }
 
 #[test]
