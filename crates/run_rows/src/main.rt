@@ -4,7 +4,7 @@
 //! real folders.
 //!
 //! Memory is ample but where a store answers otherwise, so the stored output also refuses a `run` that always
-//! answers want of memory. `rt try` needs more seconds than it has by itself: `rt try --seconds 300 < stdin`.
+//! answers want of memory. `rt run` builds the program; `rt try` takes minutes and can't go into real folders.
 #![tactic(auto)]
 
 mod answers;
