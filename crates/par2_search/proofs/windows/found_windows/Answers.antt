@@ -1,11 +1,10 @@
-use Rattle.std.proofs.Common.{◌≡◌, ◌∙◌, ◌<◌, ◌≤◌, ◌++◌, ◌∷◌, [], ℕ, List, length, map, take, get_or, sym, ap, ap₂, subst, arith}
-use Rattle.std.specs.Prelude.{Option, None, IfSome, option_map}
-use Rattle.std.proofs.lemmas.List.{get_or-map, get_or_default, length-map, map-append, map_more, take_all}
+use Rattle.std.proofs.Common.{◌≡◌, ◌∙◌, ◌≤◌, ◌++◌, ◌∷◌, [], ℕ, List, length, map, sym, ap, ap₂, subst, arith}
+use Rattle.std.specs.Prelude.{Option, IfSome, option_map}
+use Rattle.std.proofs.lemmas.List.{length-map, map-append, map_more, take_all}
 use Rattle.std.proofs.lemmas.List.Elements.{All-push}
 use Rattle.par2_spec.specs.Checksums.{Pair}
 use Rattle.par2_spec.specs.Windows.{found}
-use Rattle.par2_slices.specs.declared.batch.Spot.{Spot}
-use Rattle.par2_slices.specs.Searches.{first_spot, no_pair, pair_at}
+use Rattle.par2_slices.specs.Searches.{no_pair, pair_at}
 use Rattle.par2_search.specs.Texts.{AreShort, IsWithin, Window, padded_window, padded_windows, texts_of, window_in}
 use Rattle.par2_search.proofs.Searched.{spot_of_pair, spot_found, spot_within}
 use Rattle.par2_search.proofs.windows.found_windows.Goals as goal
