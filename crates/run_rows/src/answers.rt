@@ -1,6 +1,6 @@
-//! What a folder opens as by a forged journal, and what a verify, an undo, a redo and a create make of a store that holds
-//! it: each answer that differs from the one to the journal before, and the digest of all files and journals that are
-//! there afterwards. All of this was computed by another program from the formats and the rules alone.
+//! What a folder opens as by a forged journal, and what a verify, an undo, a redo and a create make of a store that
+//! holds it: each answer that differs from the one to the journal before, and the digest of all files and journals that
+//! are there afterwards. All of this was computed by another program from the formats and the rules alone.
 
 use crate::damage::{damage_of, each_damaged, each_resealed};
 use crate::files::files_of;
@@ -195,8 +195,8 @@ fn answers(
     Ok(())
 }
 
-/// Prints what comes of each way in which copies of the store meet each of the journals, and the digest of all files and
-/// journals that are there afterwards.
+/// Prints what comes of each way in which copies of the store meet each of the journals, and the digest of all files
+/// and journals that are there afterwards.
 pub fn attack_by(
     rt: &HostRuntime,
     store: &mut MemoryStore,

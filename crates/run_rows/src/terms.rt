@@ -1,6 +1,6 @@
-//! Bytes as the input tells them, one term behind the other: `text:abc`, `hex:00ff`, `md5:abc` for the digest of a text,
-//! `4:7` and `8:7,9` for numbers of four and of eight bytes, the lowest first, and `100*hex:00` for a term repeated. Of
-//! a journal's changes, `write:NAME:TEXT`, `replace:NAME:TEXT`, `rename:FROM:TO` and `remove:NAME`.
+//! Bytes as the input tells them, one term behind the other: `text:abc`, `hex:00ff`, `md5:abc` for the digest of a
+//! text, `4:7` and `8:7,9` for numbers of four and of eight bytes, the lowest first, and `100*hex:00` for a term
+//! repeated. Of a journal's changes, `write:NAME:TEXT`, `replace:NAME:TEXT`, `rename:FROM:TO` and `remove:NAME`.
 
 use crate::journals::{append_prints, append_writes};
 use anyhow::{Error, Result};
