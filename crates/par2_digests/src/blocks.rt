@@ -37,8 +37,8 @@ pub(crate) fn absorbed<V: Lanes>(
     requires room { count * 64 ≤ length bytes.now }
     requires within { (k : ℕ) → k < V.count
         → slice_index starts.now k + count * 64 ≤ length bytes.now }
-    ensures message { (k n : ℕ) (p : List ℕ) → k < V.count → lane V.at k state ≡ hash_after p n
-        → take (count * 64) (drop (n * 64) p)
+    ensures message { (k n : ℕ) (p : List ℕ)
+        → k < V.count → lane V.at k state ≡ hash_after p n → take (count * 64) (drop (n * 64) p)
         ≡ take (count * 64) (drop (slice_index starts.now k) bytes.now)
         → lane V.at k result ≡ hash_after p (n + count) }
     ensures behind { (k : ℕ) → k < V.count → lane V.at k result
@@ -61,7 +61,8 @@ pub(crate) fn after_block<V: Lanes>(
 ) -> State<V>
     requires enough { V.count ≤ length starts.now }
     requires room { 64 ≤ length bytes.now }
-    requires within { (k : ℕ) → k < V.count → slice_index starts.now k + 64 ≤ length bytes.now }
+    requires within { (k : ℕ)
+        → k < V.count → slice_index starts.now k + 64 ≤ length bytes.now }
     ensures { (k : ℕ) → k < V.count
         → lane V.at k result
         ≡ compress (lane V.at k state) (take 64 (drop (slice_index starts.now k) bytes.now)) }

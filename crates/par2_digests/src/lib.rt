@@ -39,7 +39,9 @@ fn initial_state() -> State<u32x8>
 /// The hash values of the windows, after all blocks of each and its padding.
 fn hash_values(bytes: &[u8], starts: &[usize; LANES], len: usize) -> State<u32x8>
     requires within { (k : ℕ) → k < 8 → slice_index starts.now k + len ≤ length bytes.now }
-    ensures { (k : ℕ) → k < 8 → let p = padded_message (take len (drop (slice_index starts.now k) bytes.now)) in lane slice_index k result ≡ hash_after p (length p / 64) }
+    ensures { (k : ℕ)
+        → k < 8 → let p = padded_message (take len (drop (slice_index starts.now k) bytes.now)) in
+        lane slice_index k result ≡ hash_after p (length p / 64) }
 {
     let tails = tails_of_windows(bytes, starts, len);
     let tail_starts = [0, 128, 256, 384, 512, 640, 768, 896];
@@ -74,7 +76,8 @@ fn digest_of_lane<V: Lanes>(state: &State<V>, k: usize) -> [u8; 16]
 /// overlap.
 pub fn window_digests(bytes: &[u8], starts: &[usize; LANES], len: usize) -> [[u8; 16]; LANES]
     requires within { (k : ℕ) → k < 8 → slice_index starts.now k + len ≤ length bytes.now }
-    ensures { (k : ℕ) → k < 8 → digest_at result k ≡ md5 (take len (drop (slice_index starts.now k) bytes.now)) }
+    ensures { (k : ℕ)
+        → k < 8 → digest_at result k ≡ md5 (take len (drop (slice_index starts.now k) bytes.now)) }
 {
     let state = hash_values(bytes, starts, len);
     let mut digests = [[0; 16]; LANES];

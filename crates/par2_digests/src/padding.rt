@@ -49,7 +49,8 @@ fn tail_of_message(rest: &[u8], len: usize) -> [u8; TAIL_LEN]
 /// The tails of the windows of `len` bytes that begin at the starts, one at each 128 bytes.
 pub(crate) fn tails_of_windows(bytes: &[u8], starts: &[usize; LANES], len: usize) -> [u8; TAILS_LEN]
     requires within { (k : ℕ) → k < 8 → slice_index starts.now k + len ≤ length bytes.now }
-    ensures { (k : ℕ) → k < 8 → take (tail_len len) (drop (128 * k) result) ≡ tail_of len (take len (drop (slice_index starts.now k) bytes.now)) }
+    ensures { (k : ℕ) → k < 8 → take (tail_len len) (drop (128 * k) result)
+        ≡ tail_of len (take len (drop (slice_index starts.now k) bytes.now)) }
 {
     let mut tails = [0; TAILS_LEN];
     for k in 0..LANES {

@@ -124,8 +124,8 @@ pub(crate) fn in_each_lane<V: Lanes>(a: u32, b: u32, c: u32, d: u32) -> State<V>
 #[inline(always)]
 fn early_sum<V: Lanes>(state: State<V>, word: V, t: usize) -> V
     requires { t < 64 }
-    ensures { (k : ℕ) → k < V.count
-        → V.at result k ≡ add32 (add32 (V.at state.a k) (V.at word k)) (slice_index step_constants t) }
+    ensures { (k : ℕ) → k < V.count → V.at result k
+        ≡ add32 (add32 (V.at state.a k) (V.at word k)) (slice_index step_constants t) }
 {
     V::plus(V::plus(state.a, word), V::splat(CONSTANTS[t]))
 }
@@ -136,7 +136,8 @@ fn turned<V: Lanes>(state: State<V>, sum: V, t: usize) -> State<V>
     requires { t < 64 }
     ensures { (k : ℕ) (f word : ℕ) → k < V.count
         → V.at sum k ≡ add32 (add32 (add32 (V.at state.a k) word) (slice_index step_constants t)) f
-        → lane V.at k result ≡ round (lane V.at k state) f (slice_index step_constants t) word (slice_index step_shifts t) }
+        → lane V.at k result ≡ round
+        (lane V.at k state) f (slice_index step_constants t) word (slice_index step_shifts t) }
 {
     State {
         a: state.d,
@@ -149,7 +150,8 @@ fn turned<V: Lanes>(state: State<V>, sum: V, t: usize) -> State<V>
 #[inline(always)]
 fn stepped<V: Lanes>(state: State<V>, f: V, word: V, t: usize) -> State<V>
     requires { t < 64 }
-    ensures { (k : ℕ) → k < V.count → lane V.at k result ≡ round (lane V.at k state) (V.at f k) (slice_index step_constants t) (V.at word k) (slice_index step_shifts t) }
+    ensures { (k : ℕ) → k < V.count → lane V.at k result ≡ round (lane V.at k state)
+        (V.at f k) (slice_index step_constants t) (V.at word k) (slice_index step_shifts t) }
 {
     turned(state, V::plus(early_sum(state, word, t), f), t)
 }
@@ -157,7 +159,9 @@ fn stepped<V: Lanes>(state: State<V>, f: V, word: V, t: usize) -> State<V>
 #[inline(always)]
 fn f_step<V: Lanes>(state: State<V>, words: &Words<V>, t: usize) -> State<V>
     requires { t < 16 }
-    ensures { (k : ℕ) (h : List ℕ) → k < V.count → lane V.at k state ≡ rounds h (lane_words V.at k words.now) t → lane V.at k result ≡ rounds h (lane_words V.at k words.now) (t + 1) }
+    ensures { (k : ℕ) (h : List ℕ)
+        → k < V.count → lane V.at k state ≡ rounds h (lane_words V.at k words.now) t
+        → lane V.at k result ≡ rounds h (lane_words V.at k words.now) (t + 1) }
 {
     stepped(state, V::f(state.b, state.c, state.d), words[t], t)
 }
@@ -166,7 +170,9 @@ fn f_step<V: Lanes>(state: State<V>, words: &Words<V>, t: usize) -> State<V>
 fn g_step<V: Lanes>(state: State<V>, words: &Words<V>, t: usize) -> State<V>
     requires from { 16 ≤ t }
     requires to { t < 32 }
-    ensures { (k : ℕ) (h : List ℕ) → k < V.count → lane V.at k state ≡ rounds h (lane_words V.at k words.now) t → lane V.at k result ≡ rounds h (lane_words V.at k words.now) (t + 1) }
+    ensures { (k : ℕ) (h : List ℕ)
+        → k < V.count → lane V.at k state ≡ rounds h (lane_words V.at k words.now) t
+        → lane V.at k result ≡ rounds h (lane_words V.at k words.now) (t + 1) }
 {
     let sum = early_sum(state, words[(5 * t + 1) % 16], t);
     turned(state, V::plus_g(sum, state.b, state.c, state.d), t)
@@ -176,7 +182,9 @@ fn g_step<V: Lanes>(state: State<V>, words: &Words<V>, t: usize) -> State<V>
 fn h_step<V: Lanes>(state: State<V>, words: &Words<V>, t: usize) -> State<V>
     requires from { 32 ≤ t }
     requires to { t < 48 }
-    ensures { (k : ℕ) (h : List ℕ) → k < V.count → lane V.at k state ≡ rounds h (lane_words V.at k words.now) t → lane V.at k result ≡ rounds h (lane_words V.at k words.now) (t + 1) }
+    ensures { (k : ℕ) (h : List ℕ)
+        → k < V.count → lane V.at k state ≡ rounds h (lane_words V.at k words.now) t
+        → lane V.at k result ≡ rounds h (lane_words V.at k words.now) (t + 1) }
 {
     stepped(
         state,
@@ -190,13 +198,17 @@ fn h_step<V: Lanes>(state: State<V>, words: &Words<V>, t: usize) -> State<V>
 fn i_step<V: Lanes>(state: State<V>, words: &Words<V>, t: usize) -> State<V>
     requires from { 48 ≤ t }
     requires to { t < 64 }
-    ensures { (k : ℕ) (h : List ℕ) → k < V.count → lane V.at k state ≡ rounds h (lane_words V.at k words.now) t → lane V.at k result ≡ rounds h (lane_words V.at k words.now) (t + 1) }
+    ensures { (k : ℕ) (h : List ℕ)
+        → k < V.count → lane V.at k state ≡ rounds h (lane_words V.at k words.now) t
+        → lane V.at k result ≡ rounds h (lane_words V.at k words.now) (t + 1) }
 {
     stepped(state, V::i(state.b, state.c, state.d), words[7 * t % 16], t)
 }
 
 fn first_round<V: Lanes>(state: State<V>, words: &Words<V>) -> State<V>
-    ensures { (k : ℕ) (h : List ℕ) → k < V.count → lane V.at k state ≡ rounds h (lane_words V.at k words.now) 0 → lane V.at k result ≡ rounds h (lane_words V.at k words.now) 16 }
+    ensures { (k : ℕ) (h : List ℕ)
+        → k < V.count → lane V.at k state ≡ rounds h (lane_words V.at k words.now) 0
+        → lane V.at k result ≡ rounds h (lane_words V.at k words.now) 16 }
 {
     let state = f_step(state, words, 0);
     let state = f_step(state, words, 1);
@@ -217,7 +229,9 @@ fn first_round<V: Lanes>(state: State<V>, words: &Words<V>) -> State<V>
 }
 
 fn second_round<V: Lanes>(state: State<V>, words: &Words<V>) -> State<V>
-    ensures { (k : ℕ) (h : List ℕ) → k < V.count → lane V.at k state ≡ rounds h (lane_words V.at k words.now) 16 → lane V.at k result ≡ rounds h (lane_words V.at k words.now) 32 }
+    ensures { (k : ℕ) (h : List ℕ)
+        → k < V.count → lane V.at k state ≡ rounds h (lane_words V.at k words.now) 16
+        → lane V.at k result ≡ rounds h (lane_words V.at k words.now) 32 }
 {
     let state = g_step(state, words, 16);
     let state = g_step(state, words, 17);
@@ -238,7 +252,9 @@ fn second_round<V: Lanes>(state: State<V>, words: &Words<V>) -> State<V>
 }
 
 fn third_round<V: Lanes>(state: State<V>, words: &Words<V>) -> State<V>
-    ensures { (k : ℕ) (h : List ℕ) → k < V.count → lane V.at k state ≡ rounds h (lane_words V.at k words.now) 32 → lane V.at k result ≡ rounds h (lane_words V.at k words.now) 48 }
+    ensures { (k : ℕ) (h : List ℕ)
+        → k < V.count → lane V.at k state ≡ rounds h (lane_words V.at k words.now) 32
+        → lane V.at k result ≡ rounds h (lane_words V.at k words.now) 48 }
 {
     let state = h_step(state, words, 32);
     let state = h_step(state, words, 33);
@@ -259,7 +275,9 @@ fn third_round<V: Lanes>(state: State<V>, words: &Words<V>) -> State<V>
 }
 
 fn fourth_round<V: Lanes>(state: State<V>, words: &Words<V>) -> State<V>
-    ensures { (k : ℕ) (h : List ℕ) → k < V.count → lane V.at k state ≡ rounds h (lane_words V.at k words.now) 48 → lane V.at k result ≡ rounds h (lane_words V.at k words.now) 64 }
+    ensures { (k : ℕ) (h : List ℕ)
+        → k < V.count → lane V.at k state ≡ rounds h (lane_words V.at k words.now) 48
+        → lane V.at k result ≡ rounds h (lane_words V.at k words.now) 64 }
 {
     let state = i_step(state, words, 48);
     let state = i_step(state, words, 49);
@@ -281,7 +299,8 @@ fn fourth_round<V: Lanes>(state: State<V>, words: &Words<V>) -> State<V>
 
 /// The hash values after a block more.
 pub(crate) fn compressed<V: Lanes>(state: State<V>, words: &Words<V>) -> State<V>
-    ensures { (k : ℕ) → k < V.count → lane V.at k result ≡ add_state (lane V.at k state) (rounds (lane V.at k state) (lane_words V.at k words.now) 64) }
+    ensures { (k : ℕ) → k < V.count → lane V.at k result ≡ add_state
+        (lane V.at k state) (rounds (lane V.at k state) (lane_words V.at k words.now) 64) }
 {
     let after = first_round(state, words);
     let after = second_round(after, words);

@@ -51,7 +51,8 @@ impl Task<'_> {
     fn turn<V: Lanes>(&mut self, blocks: &mut [u8], state: &State<V>, k: usize)
         requires within { k < V.count }
         requires some { 64 ≤ length blocks.old }
-        requires left { (n : ℕ) → 1 < n → n * 64 ≡ length blocks.old → HasBlocks self.old n }
+        requires left { (n : ℕ)
+            → 1 < n → n * 64 ≡ length blocks.old → HasBlocks self.old n }
         ensures leads { (n : ℕ) (last : List ℕ) → n * 64 ≡ length blocks.old
             → LeadsTo self.old (lane V.at k state.now) last
             → LeadsTo self.new (hash_behind (lane V.at k state.now) blocks.new n) last }
@@ -67,7 +68,8 @@ impl Task<'_> {
 
     // Takes all blocks that are left by itself, behind this hash value.
     fn finish(&mut self, hash: [u32; 4])
-        ensures leads { (last : List ℕ) → LeadsTo self.old hash last → LeadsTo self.new hash last }
+        ensures leads { (last : List ℕ)
+            → LeadsTo self.old hash last → LeadsTo self.new hash last }
         ensures done { work self.new ≡ 0 }
     {
         let None = self.digest else {

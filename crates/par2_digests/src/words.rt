@@ -85,7 +85,8 @@ pub(crate) fn gathered_words<const N: usize>(
     offset: usize,
 ) -> Simd<u32, N>
     requires enough { N ≤ length starts.now }
-    requires within { (k : ℕ) → k < N → slice_index starts.now k + offset + 4 ≤ length bytes.now }
+    requires within { (k : ℕ)
+        → k < N → slice_index starts.now k + offset + 4 ≤ length bytes.now }
     ensures { (k : ℕ) → k < N
         → slice_index result k ≡ word_at bytes.now (slice_index starts.now k + offset) }
 {

@@ -56,7 +56,8 @@ pub trait Directory {
 
     /// The names of the files, in order.
     fn names(&self, alloc: Global) -> Result<Vec<Name>, ReadFault>
-        ensures { honest self.now → IfOk result (λ list. list.items ≡ names (contents self.now).files) };
+        ensures { honest self.now
+            → IfOk result (λ list. list.items ≡ names (contents self.now).files) };
 
     /// What stands at a place.
     fn find(&self, place: Place<'_>) -> Result<Found, StoreFault>

@@ -74,9 +74,9 @@ impl<D: Directory> DiskStore<D> {
             ((D.contents (directory_of self.new) ≡ D.contents (directory_of self.old))
             ⊎ (D.contents (directory_of self.new)
             ≡ put_at (D.contents (directory_of self.old)) place.entry bytes.now)) }
-        ensures barred { let directory = directory_of self.old in D.honest directory
-            → D.barred directory (path_of place.entry) ⊎ D.barred directory (path_of Place.Temporary)
-            → IsErr result × (directory_of self.new ≡ directory) }
+        ensures barred { let directory = directory_of self.old in
+            D.honest directory → D.barred directory (path_of place.entry) ⊎ D.barred directory
+            (path_of Place.Temporary) → IsErr result × (directory_of self.new ≡ directory) }
         ensures failures { disk_failures self.new ≡ disk_failures self.old }
     {
         if !self.is_free(place) || !self.is_free(Place::Temporary) {
@@ -139,9 +139,11 @@ impl<D: Directory> DiskStore<D> {
         ensures answer { result ≡ answer }
         ensures directory { directory_of self.new ≡ directory_of self.old }
         ensures later { disk_failures self.old ≤ disk_failures self.new }
-        ensures cause { IsErrOf result ReadFault.Store → disk_failures self.old < disk_failures self.new }
+        ensures cause { IsErrOf result ReadFault.Store
+            → disk_failures self.old < disk_failures self.new }
         ensures steady { OnOk result (disk_failures self.new ≡ disk_failures self.old) }
-        ensures memory { IsErrOf result ReadFault.Memory → disk_failures self.new ≡ disk_failures self.old }
+        ensures memory { IsErrOf result ReadFault.Memory
+            → disk_failures self.new ≡ disk_failures self.old }
     {
         if let Err(ReadFault::Store) = &answer {
             self.failures.rise();

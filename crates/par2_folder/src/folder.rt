@@ -116,11 +116,13 @@ impl Folder {
     /// Does the change, and leaves in its place the change that takes it back. It takes no memory.
     #[tactic(auto, unfolding(par2_spec::specs::Changes::change_refusal, par2_spec::specs::Changes::effect, par2_spec::specs::Changes::inverse))]
     pub fn apply(&mut self, change: &mut Change) -> Result<(), ChangeFault>
-        ensures refused { IfErr result (λ fault. change_refusal self.old (change_of change.old) ≡ Some fault) }
+        ensures refused { IfErr result (λ fault. change_refusal self.old (change_of change.old)
+            ≡ Some fault) }
         ensures unchanged { OnErr result ((self.new ≡ self.old) × (change.new ≡ change.old)) }
         ensures accepted { OnOk result (change_refusal self.old (change_of change.old) ≡ None) }
         ensures folder { OnOk result (self.new ≡ state_after self.old (change_of change.old)) }
-        ensures inverse { OnOk result (change_of change.new ≡ inverse self.old.files (change_of change.old)) }
+        ensures inverse { OnOk result (change_of change.new
+            ≡ inverse self.old.files (change_of change.old)) }
     {
         match change {
             Change::Write(name, _) => {
@@ -161,8 +163,10 @@ impl Folder {
     // Gives the file another name, and exchanges the two names.
     #[tactic(auto, unfolding(par2_spec::specs::Changes::change_refusal, par2_spec::specs::Changes::effect))]
     fn rename(&mut self, from: &mut Name, to: &mut Name) -> Result<(), ChangeFault>
-        ensures refused { IfErr result (λ fault. change_refusal self.old (Rename from.old to.old) ≡ Some fault) }
-        ensures unchanged { OnErr result ((self.new ≡ self.old) × (from.new ≡ from.old) × (to.new ≡ to.old)) }
+        ensures refused { IfErr result (λ fault. change_refusal self.old (Rename from.old to.old)
+            ≡ Some fault) }
+        ensures unchanged { OnErr result ((self.new ≡ self.old)
+            × (from.new ≡ from.old) × (to.new ≡ to.old)) }
         ensures accepted { OnOk result (change_refusal self.old (Rename from.old to.old) ≡ None) }
         ensures folder { OnOk result (self.new ≡ state_after self.old (Rename from.old to.old)) }
         ensures exchanged { OnOk result ((from.new ≡ to.old) × (to.new ≡ from.old)) }
@@ -187,7 +191,8 @@ impl Folder {
     pub fn apply_all(&mut self, changes: &mut [Change])
         requires { IsTrue (takes_all self.old (map change_of changes.old)) }
         ensures folder { self.new ≡ state_after_all self.old (map change_of changes.old) }
-        ensures way_back { map change_of changes.new ≡ way_back self.old.files (map change_of changes.old) }
+        ensures way_back { map change_of changes.new
+            ≡ way_back self.old.files (map change_of changes.old) }
     {
         for change in changes.iter_mut() {
             match self.apply(change) {

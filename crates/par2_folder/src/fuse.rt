@@ -82,12 +82,18 @@ impl<S: FolderStore> FolderStore for FuseStore<S> {
 
     fn names(&mut self, alloc: Global) -> Result<Vec<Name>, ReadFault>
         ensures honest { S.honest (inner_store self.old) → S.honest (inner_store self.new) }
-        ensures names { S.honest (inner_store self.old) → IfOk result (λ list. list.items ≡ names (S.contents (inner_store self.old)).files) }
-        ensures same { S.honest (inner_store self.old) → S.contents (inner_store self.new) ≡ S.contents (inner_store self.old) }
-        ensures later { S.failures (inner_store self.old) + fuse_failures self.old ≤ S.failures (inner_store self.new) + fuse_failures self.new }
-        ensures cause { IsErrOf result ReadFault.Store → S.failures (inner_store self.old) + fuse_failures self.old < S.failures (inner_store self.new) + fuse_failures self.new }
-        ensures steady { OnOk result (S.failures (inner_store self.new) + fuse_failures self.new ≡ S.failures (inner_store self.old) + fuse_failures self.old) }
-        ensures memory { IsErrOf result ReadFault.Memory → S.failures (inner_store self.new) + fuse_failures self.new ≡ S.failures (inner_store self.old) + fuse_failures self.old }
+        ensures names { S.honest (inner_store self.old)
+            → IfOk result (λ list. list.items ≡ names (S.contents (inner_store self.old)).files) }
+        ensures same { S.honest (inner_store self.old)
+            → S.contents (inner_store self.new) ≡ S.contents (inner_store self.old) }
+        ensures later { S.failures (inner_store self.old) + fuse_failures self.old
+            ≤ S.failures (inner_store self.new) + fuse_failures self.new }
+        ensures cause { IsErrOf result ReadFault.Store → S.failures (inner_store self.old)
+            + fuse_failures self.old < S.failures (inner_store self.new) + fuse_failures self.new }
+        ensures steady { OnOk result (S.failures (inner_store self.new) + fuse_failures self.new
+            ≡ S.failures (inner_store self.old) + fuse_failures self.old) }
+        ensures memory { IsErrOf result ReadFault.Memory → S.failures (inner_store self.new)
+            + fuse_failures self.new ≡ S.failures (inner_store self.old) + fuse_failures self.old }
         ensures passed { 0 < calls_left self.old → HasPassed self.old self.new }
         ensures blown { calls_left self.old ≡ 0
             → IsErrOf result ReadFault.Store × IsBlown self.old self.new }
@@ -101,13 +107,21 @@ impl<S: FolderStore> FolderStore for FuseStore<S> {
 
     fn read(&mut self, alloc: Global, name: &Name) -> Result<Vec<u8>, ReadFault>
         ensures honest { S.honest (inner_store self.old) → S.honest (inner_store self.new) }
-        ensures bytes { S.honest (inner_store self.old) → IfOk result (λ bytes. get (S.contents (inner_store self.old)).files name.now ≡ Some bytes.items) }
-        ensures absent { S.honest (inner_store self.old) → get (S.contents (inner_store self.old)).files name.now ≡ None → IsErrOf result ReadFault.Store }
-        ensures same { S.honest (inner_store self.old) → S.contents (inner_store self.new) ≡ S.contents (inner_store self.old) }
-        ensures later { S.failures (inner_store self.old) + fuse_failures self.old ≤ S.failures (inner_store self.new) + fuse_failures self.new }
-        ensures cause { IsErrOf result ReadFault.Store → S.failures (inner_store self.old) + fuse_failures self.old < S.failures (inner_store self.new) + fuse_failures self.new }
-        ensures steady { OnOk result (S.failures (inner_store self.new) + fuse_failures self.new ≡ S.failures (inner_store self.old) + fuse_failures self.old) }
-        ensures memory { IsErrOf result ReadFault.Memory → S.failures (inner_store self.new) + fuse_failures self.new ≡ S.failures (inner_store self.old) + fuse_failures self.old }
+        ensures bytes { S.honest (inner_store self.old) → IfOk result
+            (λ bytes. get (S.contents (inner_store self.old)).files name.now ≡ Some bytes.items) }
+        ensures absent { S.honest (inner_store self.old)
+            → get (S.contents (inner_store self.old)).files name.now ≡ None
+            → IsErrOf result ReadFault.Store }
+        ensures same { S.honest (inner_store self.old)
+            → S.contents (inner_store self.new) ≡ S.contents (inner_store self.old) }
+        ensures later { S.failures (inner_store self.old) + fuse_failures self.old
+            ≤ S.failures (inner_store self.new) + fuse_failures self.new }
+        ensures cause { IsErrOf result ReadFault.Store → S.failures (inner_store self.old)
+            + fuse_failures self.old < S.failures (inner_store self.new) + fuse_failures self.new }
+        ensures steady { OnOk result (S.failures (inner_store self.new) + fuse_failures self.new
+            ≡ S.failures (inner_store self.old) + fuse_failures self.old) }
+        ensures memory { IsErrOf result ReadFault.Memory → S.failures (inner_store self.new)
+            + fuse_failures self.new ≡ S.failures (inner_store self.old) + fuse_failures self.old }
         ensures passed { 0 < calls_left self.old → HasPassed self.old self.new }
         ensures blown { calls_left self.old ≡ 0
             → IsErrOf result ReadFault.Store × IsBlown self.old self.new }
@@ -121,12 +135,18 @@ impl<S: FolderStore> FolderStore for FuseStore<S> {
 
     fn read_journal(&mut self, alloc: Global) -> Result<Option<Vec<u8>>, ReadFault>
         ensures honest { S.honest (inner_store self.old) → S.honest (inner_store self.new) }
-        ensures journal { S.honest (inner_store self.old) → IfOk result (λ journal. option_map (λ bytes. bytes.items) journal ≡ (S.contents (inner_store self.old)).journal) }
-        ensures same { S.honest (inner_store self.old) → S.contents (inner_store self.new) ≡ S.contents (inner_store self.old) }
-        ensures later { S.failures (inner_store self.old) + fuse_failures self.old ≤ S.failures (inner_store self.new) + fuse_failures self.new }
-        ensures cause { IsErrOf result ReadFault.Store → S.failures (inner_store self.old) + fuse_failures self.old < S.failures (inner_store self.new) + fuse_failures self.new }
-        ensures steady { OnOk result (S.failures (inner_store self.new) + fuse_failures self.new ≡ S.failures (inner_store self.old) + fuse_failures self.old) }
-        ensures memory { IsErrOf result ReadFault.Memory → S.failures (inner_store self.new) + fuse_failures self.new ≡ S.failures (inner_store self.old) + fuse_failures self.old }
+        ensures journal { S.honest (inner_store self.old) → IfOk result (λ journal. option_map
+            (λ bytes. bytes.items) journal ≡ (S.contents (inner_store self.old)).journal) }
+        ensures same { S.honest (inner_store self.old)
+            → S.contents (inner_store self.new) ≡ S.contents (inner_store self.old) }
+        ensures later { S.failures (inner_store self.old) + fuse_failures self.old
+            ≤ S.failures (inner_store self.new) + fuse_failures self.new }
+        ensures cause { IsErrOf result ReadFault.Store → S.failures (inner_store self.old)
+            + fuse_failures self.old < S.failures (inner_store self.new) + fuse_failures self.new }
+        ensures steady { OnOk result (S.failures (inner_store self.new) + fuse_failures self.new
+            ≡ S.failures (inner_store self.old) + fuse_failures self.old) }
+        ensures memory { IsErrOf result ReadFault.Memory → S.failures (inner_store self.new)
+            + fuse_failures self.new ≡ S.failures (inner_store self.old) + fuse_failures self.old }
         ensures passed { 0 < calls_left self.old → HasPassed self.old self.new }
         ensures blown { calls_left self.old ≡ 0
             → IsErrOf result ReadFault.Store × IsBlown self.old self.new }
@@ -140,11 +160,19 @@ impl<S: FolderStore> FolderStore for FuseStore<S> {
 
     fn put(&mut self, name: &Name, bytes: &[u8]) -> Result<(), StoreFault>
         ensures honest { S.honest (inner_store self.old) → S.honest (inner_store self.new) }
-        ensures done { S.honest (inner_store self.old) → OnOk result (S.contents (inner_store self.new) ≡ changed (S.contents (inner_store self.old)) (Replace name.now bytes.now)) }
-        ensures all_or_none { S.honest (inner_store self.old) → OnErr result ((S.contents (inner_store self.new) ≡ S.contents (inner_store self.old)) ⊎ (S.contents (inner_store self.new) ≡ changed (S.contents (inner_store self.old)) (Replace name.now bytes.now))) }
-        ensures later { S.failures (inner_store self.old) + fuse_failures self.old ≤ S.failures (inner_store self.new) + fuse_failures self.new }
-        ensures cause { OnErr result (S.failures (inner_store self.old) + fuse_failures self.old < S.failures (inner_store self.new) + fuse_failures self.new) }
-        ensures steady { OnOk result (S.failures (inner_store self.new) + fuse_failures self.new ≡ S.failures (inner_store self.old) + fuse_failures self.old) }
+        ensures done { S.honest (inner_store self.old)
+            → OnOk result (S.contents (inner_store self.new)
+            ≡ changed (S.contents (inner_store self.old)) (Replace name.now bytes.now)) }
+        ensures all_or_none { S.honest (inner_store self.old)
+            → OnErr result ((S.contents (inner_store self.new) ≡ S.contents (inner_store self.old))
+            ⊎ (S.contents (inner_store self.new)
+            ≡ changed (S.contents (inner_store self.old)) (Replace name.now bytes.now))) }
+        ensures later { S.failures (inner_store self.old) + fuse_failures self.old
+            ≤ S.failures (inner_store self.new) + fuse_failures self.new }
+        ensures cause { OnErr result (S.failures (inner_store self.old) + fuse_failures self.old
+            < S.failures (inner_store self.new) + fuse_failures self.new) }
+        ensures steady { OnOk result (S.failures (inner_store self.new) + fuse_failures self.new
+            ≡ S.failures (inner_store self.old) + fuse_failures self.old) }
         ensures passed { 0 < calls_left self.old → HasPassed self.old self.new }
         ensures worked { S.honest (inner_store self.old) → WorksNext self.old
             → (S.failures (inner_store self.old) < S.failures (inner_store self.new))
@@ -163,12 +191,22 @@ impl<S: FolderStore> FolderStore for FuseStore<S> {
 
     fn rename(&mut self, from: &Name, to: &Name) -> Result<(), StoreFault>
         ensures honest { S.honest (inner_store self.old) → S.honest (inner_store self.new) }
-        ensures impossible { S.honest (inner_store self.old) → IsFalse (is_applicable (S.contents (inner_store self.old)).files (Rename from.now to.now)) → IsErr result × (S.contents (inner_store self.new) ≡ S.contents (inner_store self.old)) }
-        ensures done { S.honest (inner_store self.old) → OnOk result (S.contents (inner_store self.new) ≡ changed (S.contents (inner_store self.old)) (Rename from.now to.now)) }
-        ensures all_or_none { S.honest (inner_store self.old) → OnErr result ((S.contents (inner_store self.new) ≡ S.contents (inner_store self.old)) ⊎ (S.contents (inner_store self.new) ≡ changed (S.contents (inner_store self.old)) (Rename from.now to.now))) }
-        ensures later { S.failures (inner_store self.old) + fuse_failures self.old ≤ S.failures (inner_store self.new) + fuse_failures self.new }
-        ensures cause { OnErr result (S.failures (inner_store self.old) + fuse_failures self.old < S.failures (inner_store self.new) + fuse_failures self.new) }
-        ensures steady { OnOk result (S.failures (inner_store self.new) + fuse_failures self.new ≡ S.failures (inner_store self.old) + fuse_failures self.old) }
+        ensures impossible { S.honest (inner_store self.old) → IsFalse (is_applicable
+            (S.contents (inner_store self.old)).files (Rename from.now to.now)) → IsErr result
+            × (S.contents (inner_store self.new) ≡ S.contents (inner_store self.old)) }
+        ensures done { S.honest (inner_store self.old)
+            → OnOk result (S.contents (inner_store self.new)
+            ≡ changed (S.contents (inner_store self.old)) (Rename from.now to.now)) }
+        ensures all_or_none { S.honest (inner_store self.old)
+            → OnErr result ((S.contents (inner_store self.new) ≡ S.contents (inner_store self.old))
+            ⊎ (S.contents (inner_store self.new)
+            ≡ changed (S.contents (inner_store self.old)) (Rename from.now to.now))) }
+        ensures later { S.failures (inner_store self.old) + fuse_failures self.old
+            ≤ S.failures (inner_store self.new) + fuse_failures self.new }
+        ensures cause { OnErr result (S.failures (inner_store self.old) + fuse_failures self.old
+            < S.failures (inner_store self.new) + fuse_failures self.new) }
+        ensures steady { OnOk result (S.failures (inner_store self.new) + fuse_failures self.new
+            ≡ S.failures (inner_store self.old) + fuse_failures self.old) }
         ensures passed { 0 < calls_left self.old → HasPassed self.old self.new }
         ensures worked { S.honest (inner_store self.old) → WorksNext self.old
             → (S.failures (inner_store self.old) < S.failures (inner_store self.new))
@@ -187,12 +225,23 @@ impl<S: FolderStore> FolderStore for FuseStore<S> {
 
     fn remove(&mut self, name: &Name) -> Result<(), StoreFault>
         ensures honest { S.honest (inner_store self.old) → S.honest (inner_store self.new) }
-        ensures impossible { S.honest (inner_store self.old) → IsFalse (is_applicable (S.contents (inner_store self.old)).files (Remove name.now)) → IsErr result × (S.contents (inner_store self.new) ≡ S.contents (inner_store self.old)) }
-        ensures done { S.honest (inner_store self.old) → OnOk result (S.contents (inner_store self.new) ≡ changed (S.contents (inner_store self.old)) (Remove name.now)) }
-        ensures all_or_none { S.honest (inner_store self.old) → OnErr result ((S.contents (inner_store self.new) ≡ S.contents (inner_store self.old)) ⊎ (S.contents (inner_store self.new) ≡ changed (S.contents (inner_store self.old)) (Remove name.now))) }
-        ensures later { S.failures (inner_store self.old) + fuse_failures self.old ≤ S.failures (inner_store self.new) + fuse_failures self.new }
-        ensures cause { OnErr result (S.failures (inner_store self.old) + fuse_failures self.old < S.failures (inner_store self.new) + fuse_failures self.new) }
-        ensures steady { OnOk result (S.failures (inner_store self.new) + fuse_failures self.new ≡ S.failures (inner_store self.old) + fuse_failures self.old) }
+        ensures impossible { S.honest (inner_store self.old)
+            → IsFalse (is_applicable (S.contents (inner_store self.old)).files (Remove name.now))
+            → IsErr result
+            × (S.contents (inner_store self.new) ≡ S.contents (inner_store self.old)) }
+        ensures done { S.honest (inner_store self.old)
+            → OnOk result (S.contents (inner_store self.new)
+            ≡ changed (S.contents (inner_store self.old)) (Remove name.now)) }
+        ensures all_or_none { S.honest (inner_store self.old)
+            → OnErr result ((S.contents (inner_store self.new) ≡ S.contents (inner_store self.old))
+            ⊎ (S.contents (inner_store self.new)
+            ≡ changed (S.contents (inner_store self.old)) (Remove name.now))) }
+        ensures later { S.failures (inner_store self.old) + fuse_failures self.old
+            ≤ S.failures (inner_store self.new) + fuse_failures self.new }
+        ensures cause { OnErr result (S.failures (inner_store self.old) + fuse_failures self.old
+            < S.failures (inner_store self.new) + fuse_failures self.new) }
+        ensures steady { OnOk result (S.failures (inner_store self.new) + fuse_failures self.new
+            ≡ S.failures (inner_store self.old) + fuse_failures self.old) }
         ensures passed { 0 < calls_left self.old → HasPassed self.old self.new }
         ensures worked { S.honest (inner_store self.old) → WorksNext self.old
             → (S.failures (inner_store self.old) < S.failures (inner_store self.new))
@@ -211,11 +260,18 @@ impl<S: FolderStore> FolderStore for FuseStore<S> {
 
     fn put_journal(&mut self, bytes: &[u8]) -> Result<(), StoreFault>
         ensures honest { S.honest (inner_store self.old) → S.honest (inner_store self.new) }
-        ensures done { S.honest (inner_store self.old) → OnOk result (S.contents (inner_store self.new) ≡ journaled (S.contents (inner_store self.old)) bytes.now) }
-        ensures all_or_none { S.honest (inner_store self.old) → OnErr result ((S.contents (inner_store self.new) ≡ S.contents (inner_store self.old)) ⊎ (S.contents (inner_store self.new) ≡ journaled (S.contents (inner_store self.old)) bytes.now)) }
-        ensures later { S.failures (inner_store self.old) + fuse_failures self.old ≤ S.failures (inner_store self.new) + fuse_failures self.new }
-        ensures cause { OnErr result (S.failures (inner_store self.old) + fuse_failures self.old < S.failures (inner_store self.new) + fuse_failures self.new) }
-        ensures steady { OnOk result (S.failures (inner_store self.new) + fuse_failures self.new ≡ S.failures (inner_store self.old) + fuse_failures self.old) }
+        ensures done { S.honest (inner_store self.old) → OnOk result (S.contents
+            (inner_store self.new) ≡ journaled (S.contents (inner_store self.old)) bytes.now) }
+        ensures all_or_none { S.honest (inner_store self.old)
+            → OnErr result ((S.contents (inner_store self.new) ≡ S.contents (inner_store self.old))
+            ⊎ (S.contents (inner_store self.new)
+            ≡ journaled (S.contents (inner_store self.old)) bytes.now)) }
+        ensures later { S.failures (inner_store self.old) + fuse_failures self.old
+            ≤ S.failures (inner_store self.new) + fuse_failures self.new }
+        ensures cause { OnErr result (S.failures (inner_store self.old) + fuse_failures self.old
+            < S.failures (inner_store self.new) + fuse_failures self.new) }
+        ensures steady { OnOk result (S.failures (inner_store self.new) + fuse_failures self.new
+            ≡ S.failures (inner_store self.old) + fuse_failures self.old) }
         ensures passed { 0 < calls_left self.old → HasPassed self.old self.new }
         ensures worked { S.honest (inner_store self.old) → WorksNext self.old
             → (S.failures (inner_store self.old) < S.failures (inner_store self.new))

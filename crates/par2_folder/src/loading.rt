@@ -8,12 +8,14 @@ use std::alloc::{AllocError, Global};
 /// lists a name twice, the bytes that it gave first count.
 pub fn read_folder<S: FolderStore>(alloc: Global, store: &mut S) -> Result<Folder, ReadFault>
     ensures honest { S.honest store.old → S.honest store.new }
-    ensures files { S.honest store.old → IfOk result (λ folder. folder.files ≡ (S.contents store.old).files) }
+    ensures files { S.honest store.old
+        → IfOk result (λ folder. folder.files ≡ (S.contents store.old).files) }
     ensures same { S.honest store.old → S.contents store.new ≡ S.contents store.old }
     ensures later { S.failures store.old ≤ S.failures store.new }
     ensures cause { IsErrOf result ReadFault.Store → S.failures store.old < S.failures store.new }
     ensures steady { OnOk result (S.failures store.new ≡ S.failures store.old) }
-    ensures memory { IsErrOf result ReadFault.Memory → S.failures store.new ≡ S.failures store.old }
+    ensures memory { IsErrOf result ReadFault.Memory
+        → S.failures store.new ≡ S.failures store.old }
 {
     let names = match store.names(alloc) {
         Ok(names) => names,

@@ -56,7 +56,8 @@ impl MemoryStore {
     // Writes a file, or other bytes over those that it has. Without memory all stays as it is.
     #[tactic(auto, unfolding(par2_spec::specs::Changes::change_refusal, par2_spec::specs::Changes::effect))]
     fn write(&mut self, name: &Name, bytes: &[u8]) -> Result<(), AllocError>
-        ensures done { OnOk result (memory_contents self.new ≡ changed (memory_contents self.old) (Replace name.now bytes.now)) }
+        ensures done { OnOk result (memory_contents self.new
+            ≡ changed (memory_contents self.old) (Replace name.now bytes.now)) }
         ensures err { OnErr result (memory_contents self.new ≡ memory_contents self.old) }
         ensures failures { memory_failures self.new ≡ memory_failures self.old }
     {

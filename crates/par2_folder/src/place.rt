@@ -11,7 +11,8 @@ pub fn search(files: &[(Name, Bytes)], name: &Name) -> Result<usize, usize>
     requires { IsKept files.now }
     ensures found { IfOk result (IsAt files.now name.now) }
     ensures absent { IfErr result (IsGapFor files.now name.now) }
-    ensures there { IfOk result (λ at. map_of.get (folder_of files.now) name.now ≡ Some (file_at files.now at).1) }
+    ensures there { IfOk result (λ at. map_of.get (folder_of files.now) name.now
+        ≡ Some (file_at files.now at).1) }
     ensures not_there { IfErr result (λ _. map_of.get (folder_of files.now) name.now ≡ None) }
 {
     files.binary_search_by(|file| file.0.cmp(name))
@@ -23,7 +24,8 @@ pub fn insert_at(files: &mut Vec<(Name, Bytes)>, at: usize, name: Name, bytes: B
     requires gap { IsGapFor files.old.items name at }
     requires room { vec_len files.old < vec_capacity files.old }
     ensures kept { IsKept files.new.items }
-    ensures folder { folder_of files.new.items ≡ map_of.insert (folder_of files.old.items) name bytes }
+    ensures folder { folder_of files.new.items
+        ≡ map_of.insert (folder_of files.old.items) name bytes }
     ensures len { vec_len files.new ≡ vec_len files.old + 1 }
     ensures capacity { vec_capacity files.new ≡ vec_capacity files.old }
 {
@@ -41,8 +43,10 @@ pub fn remove_at(files: &mut Vec<(Name, Bytes)>, at: usize, name: &Name) -> Byte
     requires here { IsAt files.old.items name.now at }
     ensures bytes { map_of.get (folder_of files.old.items) name.now ≡ Some result }
     ensures kept { IsKept files.new.items }
-    ensures folder { folder_of files.new.items ≡ map_of.remove (folder_of files.old.items) name.now }
-    ensures absent { (q : List ℕ) → map_of.get (folder_of files.old.items) q ≡ None → map_of.get (folder_of files.new.items) q ≡ None }
+    ensures folder { folder_of files.new.items
+        ≡ map_of.remove (folder_of files.old.items) name.now }
+    ensures absent { (q : List ℕ) → map_of.get (folder_of files.old.items) q ≡ None
+        → map_of.get (folder_of files.new.items) q ≡ None }
     ensures len { vec_len files.new + 1 ≡ vec_len files.old }
     ensures capacity { vec_capacity files.new ≡ vec_capacity files.old }
 {
@@ -55,7 +59,8 @@ pub fn exchange_at(files: &mut Vec<(Name, Bytes)>, at: usize, name: &Name, bytes
     requires here { IsAt files.old.items name.now at }
     ensures bytes { map_of.get (folder_of files.old.items) name.now ≡ Some bytes.new }
     ensures kept { IsKept files.new.items }
-    ensures folder { folder_of files.new.items ≡ map_of.insert (folder_of files.old.items) name.now bytes.old }
+    ensures folder { folder_of files.new.items
+        ≡ map_of.insert (folder_of files.old.items) name.now bytes.old }
     ensures len { vec_len files.new ≡ vec_len files.old }
     ensures capacity { vec_capacity files.new ≡ vec_capacity files.old }
 {

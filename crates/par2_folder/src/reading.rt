@@ -26,7 +26,8 @@ pub fn read_within<F: Read>(
     size: usize,
     reads: u64,
 ) -> Result<Vec<u8>, ReadFault>
-    ensures bytes { IfOk result (λ bytes. IfSome (F.remaining file.old) (λ left. bytes.items ≡ left)) }
+    ensures bytes { IfOk result
+        (λ bytes. IfSome (F.remaining file.old) (λ left. bytes.items ≡ left)) }
 {
     let mut bytes = Vec::new(alloc);
     match bytes.reserve_exact(size) {

@@ -38,39 +38,49 @@ pub trait FolderStore {
     /// The names of the files, in order.
     fn names(&mut self, alloc: Global) -> Result<Vec<Name>, ReadFault>
         ensures honest { honest self.old → honest self.new }
-        ensures names { honest self.old → IfOk result (λ list. list.items ≡ names (contents self.old).files) }
+        ensures names { honest self.old
+            → IfOk result (λ list. list.items ≡ names (contents self.old).files) }
         ensures same { honest self.old → contents self.new ≡ contents self.old }
         ensures later { failures self.old ≤ failures self.new }
         ensures cause { IsErrOf result ReadFault.Store → failures self.old < failures self.new }
         ensures steady { OnOk result (failures self.new ≡ failures self.old) }
-        ensures memory { IsErrOf result ReadFault.Memory → failures self.new ≡ failures self.old };
+        ensures memory { IsErrOf result ReadFault.Memory
+            → failures self.new ≡ failures self.old };
 
     /// The bytes of a file. To read a name that no file has is a failure.
     fn read(&mut self, alloc: Global, name: &Name) -> Result<Vec<u8>, ReadFault>
         ensures honest { honest self.old → honest self.new }
-        ensures bytes { honest self.old → IfOk result (λ bytes. get (contents self.old).files name.now ≡ Some bytes.items) }
-        ensures absent { honest self.old → get (contents self.old).files name.now ≡ None → IsErrOf result ReadFault.Store }
+        ensures bytes { honest self.old
+            → IfOk result (λ bytes. get (contents self.old).files name.now ≡ Some bytes.items) }
+        ensures absent { honest self.old
+            → get (contents self.old).files name.now ≡ None → IsErrOf result ReadFault.Store }
         ensures same { honest self.old → contents self.new ≡ contents self.old }
         ensures later { failures self.old ≤ failures self.new }
         ensures cause { IsErrOf result ReadFault.Store → failures self.old < failures self.new }
         ensures steady { OnOk result (failures self.new ≡ failures self.old) }
-        ensures memory { IsErrOf result ReadFault.Memory → failures self.new ≡ failures self.old };
+        ensures memory { IsErrOf result ReadFault.Memory
+            → failures self.new ≡ failures self.old };
 
     /// The journal, if there is one.
     fn read_journal(&mut self, alloc: Global) -> Result<Option<Vec<u8>>, ReadFault>
         ensures honest { honest self.old → honest self.new }
-        ensures journal { honest self.old → IfOk result (λ journal. option_map (λ bytes. bytes.items) journal ≡ (contents self.old).journal) }
+        ensures journal { honest self.old → IfOk result
+            (λ journal. option_map (λ bytes. bytes.items) journal ≡ (contents self.old).journal) }
         ensures same { honest self.old → contents self.new ≡ contents self.old }
         ensures later { failures self.old ≤ failures self.new }
         ensures cause { IsErrOf result ReadFault.Store → failures self.old < failures self.new }
         ensures steady { OnOk result (failures self.new ≡ failures self.old) }
-        ensures memory { IsErrOf result ReadFault.Memory → failures self.new ≡ failures self.old };
+        ensures memory { IsErrOf result ReadFault.Memory
+            → failures self.new ≡ failures self.old };
 
     /// Writes a file, or other bytes over those of the file that has the name.
     fn put(&mut self, name: &Name, bytes: &[u8]) -> Result<(), StoreFault>
         ensures honest { honest self.old → honest self.new }
-        ensures done { honest self.old → OnOk result (contents self.new ≡ changed (contents self.old) (Replace name.now bytes.now)) }
-        ensures all_or_none { honest self.old → OnErr result ((contents self.new ≡ contents self.old) ⊎ (contents self.new ≡ changed (contents self.old) (Replace name.now bytes.now))) }
+        ensures done { honest self.old → OnOk result (contents self.new
+            ≡ changed (contents self.old) (Replace name.now bytes.now)) }
+        ensures all_or_none { honest self.old
+            → OnErr result ((contents self.new ≡ contents self.old)
+            ⊎ (contents self.new ≡ changed (contents self.old) (Replace name.now bytes.now))) }
         ensures later { failures self.old ≤ failures self.new }
         ensures cause { OnErr result (failures self.old < failures self.new) }
         ensures steady { OnOk result (failures self.new ≡ failures self.old) };
@@ -78,9 +88,14 @@ pub trait FolderStore {
     /// Gives a file another name. Where no file has the first name, or one has the second, it does nothing and fails.
     fn rename(&mut self, from: &Name, to: &Name) -> Result<(), StoreFault>
         ensures honest { honest self.old → honest self.new }
-        ensures impossible { honest self.old → IsFalse (is_applicable (contents self.old).files (Rename from.now to.now)) → IsErr result × (contents self.new ≡ contents self.old) }
-        ensures done { honest self.old → OnOk result (contents self.new ≡ changed (contents self.old) (Rename from.now to.now)) }
-        ensures all_or_none { honest self.old → OnErr result ((contents self.new ≡ contents self.old) ⊎ (contents self.new ≡ changed (contents self.old) (Rename from.now to.now))) }
+        ensures impossible { honest self.old
+            → IsFalse (is_applicable (contents self.old).files (Rename from.now to.now))
+            → IsErr result × (contents self.new ≡ contents self.old) }
+        ensures done { honest self.old → OnOk result (contents self.new
+            ≡ changed (contents self.old) (Rename from.now to.now)) }
+        ensures all_or_none { honest self.old
+            → OnErr result ((contents self.new ≡ contents self.old)
+            ⊎ (contents self.new ≡ changed (contents self.old) (Rename from.now to.now))) }
         ensures later { failures self.old ≤ failures self.new }
         ensures cause { OnErr result (failures self.old < failures self.new) }
         ensures steady { OnOk result (failures self.new ≡ failures self.old) };
@@ -88,9 +103,14 @@ pub trait FolderStore {
     /// Removes a file. Where no file has the name, it does nothing and fails.
     fn remove(&mut self, name: &Name) -> Result<(), StoreFault>
         ensures honest { honest self.old → honest self.new }
-        ensures impossible { honest self.old → IsFalse (is_applicable (contents self.old).files (Remove name.now)) → IsErr result × (contents self.new ≡ contents self.old) }
-        ensures done { honest self.old → OnOk result (contents self.new ≡ changed (contents self.old) (Remove name.now)) }
-        ensures all_or_none { honest self.old → OnErr result ((contents self.new ≡ contents self.old) ⊎ (contents self.new ≡ changed (contents self.old) (Remove name.now))) }
+        ensures impossible { honest self.old
+            → IsFalse (is_applicable (contents self.old).files (Remove name.now))
+            → IsErr result × (contents self.new ≡ contents self.old) }
+        ensures done { honest self.old
+            → OnOk result (contents self.new ≡ changed (contents self.old) (Remove name.now)) }
+        ensures all_or_none { honest self.old
+            → OnErr result ((contents self.new ≡ contents self.old)
+            ⊎ (contents self.new ≡ changed (contents self.old) (Remove name.now))) }
         ensures later { failures self.old ≤ failures self.new }
         ensures cause { OnErr result (failures self.old < failures self.new) }
         ensures steady { OnOk result (failures self.new ≡ failures self.old) };
@@ -98,8 +118,10 @@ pub trait FolderStore {
     /// Writes the journal whole, over the one that is there.
     fn put_journal(&mut self, bytes: &[u8]) -> Result<(), StoreFault>
         ensures honest { honest self.old → honest self.new }
-        ensures done { honest self.old → OnOk result (contents self.new ≡ journaled (contents self.old) bytes.now) }
-        ensures all_or_none { honest self.old → OnErr result ((contents self.new ≡ contents self.old) ⊎ (contents self.new ≡ journaled (contents self.old) bytes.now)) }
+        ensures done { honest self.old
+            → OnOk result (contents self.new ≡ journaled (contents self.old) bytes.now) }
+        ensures all_or_none { honest self.old → OnErr result ((contents self.new
+            ≡ contents self.old) ⊎ (contents self.new ≡ journaled (contents self.old) bytes.now)) }
         ensures later { failures self.old ≤ failures self.new }
         ensures cause { OnErr result (failures self.old < failures self.new) }
         ensures steady { OnOk result (failures self.new ≡ failures self.old) };

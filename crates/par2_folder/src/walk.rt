@@ -79,7 +79,8 @@ impl<'a> Walk<'a> {
     pub fn new(alloc: Global, snapshot: Snapshot<'a>, name: Name) -> Result<Walk<'a>, AllocError>
         requires { IsKept (files_in snapshot) }
         ensures walk { IfOk result IsWalk }
-        ensures folder { IfOk result (λ walk. folder_in walk.snapshot ≡ folder_in snapshot.entry) }
+        ensures folder { IfOk result (λ walk. folder_in walk.snapshot
+            ≡ folder_in snapshot.entry) }
         ensures name { IfOk result (λ walk. walk.name ≡ name) }
         ensures empty { IfOk result (λ walk. walk.messages.items ≡ []) }
         ensures fingerprints { IfOk result (λ walk. fingerprints_in walk ≡ []) }

@@ -144,7 +144,9 @@ fn four_looked_up(
     low: u8x32,
     high: u8x32,
 ) -> u8x32
-    ensures { (f g h k : ℕ → ℕ) → IsTable f first → IsTable g second → IsTable h third → IsTable k fourth → result ≡ zip2 (λ x y. bit_xor (bit_xor (f (x % 16)) (g (x / 16))) (bit_xor (h (y % 16)) (k (y / 16)))) low high }
+    ensures { (f g h k : ℕ → ℕ) → IsTable f first
+        → IsTable g second → IsTable h third → IsTable k fourth → result ≡ zip2 (λ x y.
+        bit_xor (bit_xor (f (x % 16)) (g (x / 16))) (bit_xor (h (y % 16)) (k (y / 16)))) low high }
 {
     let lower = lanes::sum(lanes::look_low(first, low), lanes::look_high(second, low));
     let higher = lanes::sum(lanes::look_low(third, high), lanes::look_high(fourth, high));

@@ -7,7 +7,8 @@ ghost use Rattle.std.specs.Prelude.{◌≡◌, ◌+◌, ◌*◌, ◌/◌, ◌%�
 pub(crate) fn add_at(dst: &mut [u8], at: usize, p: u16)
     requires { at + 1 < length dst.old }
     ensures bytes { (slice_index dst.old at < 256) × (slice_index dst.old (at + 1) < 256) }
-    ensures written { dst.new ≡ slice_set (slice_set dst.old at (bit_xor (slice_index dst.old at) (p % 256))) (at + 1) (bit_xor (slice_index dst.old (at + 1)) (p / 256)) }
+    ensures written { dst.new ≡ slice_set (slice_set dst.old at (bit_xor (slice_index dst.old at)
+        (p % 256))) (at + 1) (bit_xor (slice_index dst.old (at + 1)) (p / 256)) }
 {
     let [low, high] = p.to_le_bytes();
     dst[at] ^= low;

@@ -53,7 +53,8 @@ impl Halfway {
 
     /// The journal that is to stand then.
     pub fn settled(&self, alloc: Global) -> Result<Vec<u8>, AllocError>
-        ensures { IfOk result (λ bytes. Spells bytes.items (settled_journal Two (session_of_kept (session_before self.now)))) }
+        ensures { IfOk result (λ bytes.
+            Spells bytes.items (settled_journal Two (session_of_kept (session_before self.now)))) }
     {
         self.session.encode(alloc)
     }
@@ -67,9 +68,12 @@ fn session_from(
     cursor: usize,
 ) -> Result<Session, (JournalFault, Folder)>
     requires { cursor ≤ length entries.items }
-    ensures valid { IfOk result (λ _. IsTrue (is_valid (session_at folder.files cursor (entries_of entries.items)))) }
-    ensures session { IfOk result (λ session. session_of_kept session ≡ session_at folder.files cursor (entries_of entries.items)) }
-    ensures refused { IfErr result (λ e. (e.0 ≡ Memory) ⊎ ((e.0 ≡ JournalInvalid) × IsFalse (is_valid (session_at folder.files cursor (entries_of entries.items))))) }
+    ensures valid { IfOk result
+        (λ _. IsTrue (is_valid (session_at folder.files cursor (entries_of entries.items)))) }
+    ensures session { IfOk result (λ session. session_of_kept session
+        ≡ session_at folder.files cursor (entries_of entries.items)) }
+    ensures refused { IfErr result (λ e. (e.0 ≡ Memory) ⊎ ((e.0 ≡ JournalInvalid)
+        × IsFalse (is_valid (session_at folder.files cursor (entries_of entries.items))))) }
     ensures files { IfErr result (λ e. e.1.files ≡ folder.files) }
     ensures vacant { IfErr result (λ e. folder.vacant ≤ e.1.vacant) }
 {
@@ -93,8 +97,11 @@ fn open_settled(
     cursor: usize,
 ) -> Result<Session, (JournalFault, Folder)>
     requires { cursor ≤ length entries.items }
-    ensures opened { IfOk result (λ session. defined.opened_by folder.files (journal_with fingerprint cursor (entries_of entries.items)) None ≡ Ok (defined.Settled (session_of_kept session))) }
-    ensures refused { IfErr result (λ e. (e.0 ≡ Memory) ⊎ (defined.opened_by folder.files (journal_with fingerprint cursor (entries_of entries.items)) None ≡ Err e.0)) }
+    ensures opened { IfOk result (λ session. defined.opened_by folder.files
+        (journal_with fingerprint cursor (entries_of entries.items)) None
+        ≡ Ok (defined.Settled (session_of_kept session))) }
+    ensures refused { IfErr result (λ e. (e.0 ≡ Memory) ⊎ (defined.opened_by folder.files
+        (journal_with fingerprint cursor (entries_of entries.items)) None ≡ Err e.0)) }
     ensures files { IfErr result (λ e. e.1.files ≡ folder.files) }
 {
     let print = match folder.fingerprint(alloc) {
@@ -132,10 +139,13 @@ fn goes_back(
 ) -> Result<bool, AllocError>
     requires room { places_taken (changes_of back.old) ≤ folder.old.vacant }
     requires each { length wanted.now ≡ length back.old }
-    ensures leads { IfOk result (λ leads. leads ≡ leads_through folder.old.files (changes_of back.old) wanted.now) }
+    ensures leads { IfOk result (λ leads. leads
+        ≡ leads_through folder.old.files (changes_of back.old) wanted.now) }
     ensures taken { result ≡ Ok true → IsTrue (takes_all folder.old (changes_of back.old)) }
-    ensures folder { result ≡ Ok true → folder.new ≡ state_after_all folder.old (changes_of back.old) }
-    ensures way_back { result ≡ Ok true → changes_of back.new ≡ way_back folder.old.files (changes_of back.old) }
+    ensures folder { result ≡ Ok true
+        → folder.new ≡ state_after_all folder.old (changes_of back.old) }
+    ensures way_back { result ≡ Ok true
+        → changes_of back.new ≡ way_back folder.old.files (changes_of back.old) }
     ensures unchanged { (result ≡ Ok true → ⊥) → folder.new ≡ folder.old }
 {
     if !can_apply(folder, back) {
@@ -167,10 +177,15 @@ fn take_back(
 ) -> Result<Session, (JournalFault, Folder)>
     requires cursor { cursor ≤ length entries.items }
     requires each { length wanted.now ≡ length way.old }
-    ensures leads { IfOk result (λ _. IsTrue (leads_through folder.files (changes_of way.old) wanted.now)) }
-    ensures valid { IfOk result (λ _. IsTrue (is_valid (session_at (effects folder.files (changes_of way.old)) cursor (entries_of entries.items)))) }
-    ensures session { IfOk result (λ session. session_of_kept session ≡ session_at (effects folder.files (changes_of way.old)) cursor (entries_of entries.items)) }
-    ensures refused { IfErr result (λ e. (e.0 ≡ Memory) ⊎ ((e.0 ≡ JournalInvalid) × IsFalse (leads_through folder.files (changes_of way.old) wanted.now && is_valid (session_at (effects folder.files (changes_of way.old)) cursor (entries_of entries.items))))) }
+    ensures leads { IfOk result
+        (λ _. IsTrue (leads_through folder.files (changes_of way.old) wanted.now)) }
+    ensures valid { IfOk result (λ _. IsTrue (is_valid (session_at
+        (effects folder.files (changes_of way.old)) cursor (entries_of entries.items)))) }
+    ensures session { IfOk result (λ session. session_of_kept session ≡ session_at
+        (effects folder.files (changes_of way.old)) cursor (entries_of entries.items)) }
+    ensures refused { IfErr result (λ e. (e.0 ≡ Memory) ⊎ ((e.0 ≡ JournalInvalid) × IsFalse
+        (leads_through folder.files (changes_of way.old) wanted.now && is_valid (session_at
+        (effects folder.files (changes_of way.old)) cursor (entries_of entries.items))))) }
     ensures files { IfErr result (λ e. e.1.files ≡ folder.files) }
 {
     match folder.reserve(way.len()) {
@@ -212,10 +227,14 @@ fn fingerprints_back(
     first: [u8; 16],
     others: &[[u8; 16]],
 ) -> Result<Option<Vec<[u8; 16]>>, AllocError>
-    ensures none { result ≡ Ok None → position (bytes_eq (fingerprint folder.now.files)) (first ∷ others.now) ≡ None }
-    ensures place { IfOk result (λ found. IfSome found (λ list. position (bytes_eq (fingerprint folder.now.files)) (first ∷ others.now) ≡ Some (length list.items))) }
-    ensures list { IfOk result (λ found. IfSome found (λ list. list.items ≡ reverse (take (length list.items) (first ∷ others.now)))) }
-    ensures within { IfOk result (λ found. IfSome found (λ list. length list.items ≤ length others.now)) }
+    ensures none { result ≡ Ok None
+        → position (bytes_eq (fingerprint folder.now.files)) (first ∷ others.now) ≡ None }
+    ensures place { IfOk result (λ found. IfSome found (λ list. position (bytes_eq
+        (fingerprint folder.now.files)) (first ∷ others.now) ≡ Some (length list.items))) }
+    ensures list { IfOk result (λ found. IfSome found (λ list. list.items
+        ≡ reverse (take (length list.items) (first ∷ others.now)))) }
+    ensures within { IfOk result
+        (λ found. IfSome found (λ list. length list.items ≤ length others.now)) }
 {
     let print = folder.fingerprint(alloc)?;
     let mut known = with_first(alloc, first, others)?;
@@ -239,8 +258,11 @@ fn open_begun(
 ) -> Result<Halfway, (JournalFault, Folder)>
     requires cursor { cursor ≤ length entries.items }
     requires each { length others.now ≡ length back.items }
-    ensures opened { IfOk result (λ halfway. begun_as folder.files first cursor (entries_of entries.items) others.now (changes_of back.items) ≡ Ok (defined.ToTakeBack (session_of_kept (session_before halfway)) (way_left halfway))) }
-    ensures refused { IfErr result (λ e. (e.0 ≡ Memory) ⊎ (begun_as folder.files first cursor (entries_of entries.items) others.now (changes_of back.items) ≡ Err e.0)) }
+    ensures opened { IfOk result (λ halfway. begun_as folder.files first cursor
+        (entries_of entries.items) others.now (changes_of back.items)
+        ≡ Ok (defined.ToTakeBack (session_of_kept (session_before halfway)) (way_left halfway))) }
+    ensures refused { IfErr result (λ e. (e.0 ≡ Memory) ⊎ (begun_as folder.files first cursor
+        (entries_of entries.items) others.now (changes_of back.items) ≡ Err e.0)) }
     ensures files { IfErr result (λ e. e.1.files ≡ folder.files) }
 {
     let wanted = match fingerprints_back(alloc, &folder, first, others) {
@@ -270,8 +292,10 @@ fn open_journal(
     journal: Journal,
 ) -> Result<Opened, (JournalFault, Folder)>
     requires { IsJournal (journal_of journal) }
-    ensures opened { IfOk result (λ found. defined.opened folder.files (journal_of journal) ≡ Ok (opened_of found)) }
-    ensures refused { IfErr result (λ e. (e.0 ≡ Memory) ⊎ (defined.opened folder.files (journal_of journal) ≡ Err e.0)) }
+    ensures opened { IfOk result (λ found. defined.opened folder.files (journal_of journal)
+        ≡ Ok (opened_of found)) }
+    ensures refused { IfErr result (λ e. (e.0 ≡ Memory)
+        ⊎ (defined.opened folder.files (journal_of journal) ≡ Err e.0)) }
     ensures files { IfErr result (λ e. e.1.files ≡ folder.files) }
 {
     let Journal {
@@ -312,8 +336,10 @@ impl Session {
         folder: Folder,
         bytes: &[u8],
     ) -> Result<Opened, (JournalFault, Folder)>
-        ensures opened { IfOk result (λ found. Opens folder.files bytes.now (Ok (opened_of found))) }
-        ensures refused { IfErr result (λ e. (e.0 ≡ Memory) ⊎ Opens folder.files bytes.now (Err e.0)) }
+        ensures opened { IfOk result
+            (λ found. Opens folder.files bytes.now (Ok (opened_of found))) }
+        ensures refused { IfErr result (λ e. (e.0 ≡ Memory)
+            ⊎ Opens folder.files bytes.now (Err e.0)) }
         ensures files { IfErr result (λ e. e.1.files ≡ folder.files) }
     {
         match decode(alloc, bytes) {

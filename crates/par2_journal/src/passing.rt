@@ -25,9 +25,11 @@ impl Fingerprints {
     ) -> Result<Fingerprints, AllocError>
         requires { IsTrue (takes_all folder.old (changes_of changes.old)) }
         ensures folder { folder.new ≡ state_after_all folder.old (changes_of changes.old) }
-        ensures way_back { changes_of changes.new ≡ way_back folder.old.files (changes_of changes.old) }
+        ensures way_back { changes_of changes.new
+            ≡ way_back folder.old.files (changes_of changes.old) }
         ensures before { IfOk result (λ prints. prints.before ≡ fingerprint folder.old.files) }
-        ensures after_each { IfOk result (λ prints. prints.after_each.items ≡ map fingerprint (folders_after folder.old.files (changes_of changes.old))) }
+        ensures after_each { IfOk result (λ prints. prints.after_each.items
+            ≡ map fingerprint (folders_after folder.old.files (changes_of changes.old))) }
     {
         let fingerprints = fingerprints_along(alloc, folder, changes);
         folder.apply_all(changes);
@@ -38,7 +40,8 @@ impl Fingerprints {
 
     // That after the last change, or before where there is none.
     pub(crate) fn after_all(&self) -> [u8; 16]
-        ensures { slice_get (self.now.before ∷ self.now.after_each.items) (length self.now.after_each.items) ≡ Some result }
+        ensures { slice_get (self.now.before ∷ self.now.after_each.items)
+            (length self.now.after_each.items) ≡ Some result }
     {
         self.after_each.last().copied().unwrap_or(self.before)
     }
@@ -52,8 +55,10 @@ pub(crate) fn pass_through(
 ) -> Result<Vec<[u8; 16]>, AllocError>
     requires { IsTrue (takes_all folder.old (changes_of changes.old)) }
     ensures folder { folder.new ≡ state_after_all folder.old (changes_of changes.old) }
-    ensures way_back { changes_of changes.new ≡ way_back folder.old.files (changes_of changes.old) }
-    ensures fingerprints { IfOk result (λ list. list.items ≡ map fingerprint (folders_after folder.old.files (changes_of changes.old))) }
+    ensures way_back { changes_of changes.new
+        ≡ way_back folder.old.files (changes_of changes.old) }
+    ensures fingerprints { IfOk result (λ list. list.items
+        ≡ map fingerprint (folders_after folder.old.files (changes_of changes.old))) }
 {
     Ok(Fingerprints::along(alloc, folder, changes)?.after_each)
 }

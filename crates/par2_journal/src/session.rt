@@ -128,7 +128,8 @@ impl Session {
 
     /// The bytes of the session's journal. Nothing but the result is made of the bytes of its changes.
     pub fn encode(&self, alloc: Global) -> Result<Vec<u8>, AllocError>
-        ensures { IfOk result (λ bytes. Spells bytes.items (settled_journal Two (session_of_kept self.now))) }
+        ensures { IfOk result
+            (λ bytes. Spells bytes.items (settled_journal Two (session_of_kept self.now))) }
     {
         let fingerprint = self.folder.fingerprint(alloc)?;
         let stored = self.entries.as_slice();

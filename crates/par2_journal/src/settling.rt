@@ -25,7 +25,8 @@ fn change_count(entries: &[Vec<Change>]) -> Option<usize>
 // before.
 fn can_walk_both(folder: &mut Folder, entries: &mut [Vec<Change>], cursor: usize) -> bool
     requires { cursor ≤ length entries.old }
-    ensures result { result ≡ (walks folder.old (reverse (take cursor (entries_of entries.old))) && walks folder.old (drop cursor (entries_of entries.old))) }
+    ensures result { result ≡ (walks folder.old (reverse (take cursor
+        (entries_of entries.old))) && walks folder.old (drop cursor (entries_of entries.old))) }
     ensures folder { folder.new ≡ folder.old }
     ensures entries { entries_of entries.new ≡ entries_of entries.old }
 {
@@ -48,9 +49,13 @@ pub(crate) fn settle(
     ensures files { folder.new.files ≡ folder.old.files }
     ensures vacant { folder.old.vacant ≤ folder.new.vacant }
     ensures entries { entries_of entries.new ≡ entries_of entries.old }
-    ensures valid { IfOk result (λ valid. valid ≡ (leads folder.old.files (reverse (take cursor (entries_of entries.old))) && leads folder.old.files (drop cursor (entries_of entries.old)))) }
-    ensures back { result ≡ Ok true → IsTrue (walks folder.new (reverse (take cursor (entries_of entries.old)))) }
-    ensures forth { result ≡ Ok true → IsTrue (walks folder.new (drop cursor (entries_of entries.old))) }
+    ensures valid { IfOk result (λ valid. valid
+        ≡ (leads folder.old.files (reverse (take cursor (entries_of entries.old)))
+        && leads folder.old.files (drop cursor (entries_of entries.old)))) }
+    ensures back { result ≡ Ok true
+        → IsTrue (walks folder.new (reverse (take cursor (entries_of entries.old)))) }
+    ensures forth { result ≡ Ok true
+        → IsTrue (walks folder.new (drop cursor (entries_of entries.old))) }
 {
     let Some(count) = change_count(entries) else {
         return Err(AllocError);

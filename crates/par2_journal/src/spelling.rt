@@ -63,7 +63,9 @@ impl<'a> Passed<'a> {
     fn halfway(self, alloc: Global) -> Result<Option<Vec<u8>>, AllocError>
         requires cursor { self.cursor ≤ length self.entries.now }
         requires each { length self.after_each.now ≡ length self.back.now }
-        ensures { IfOk result (λ text. SpellsWhere text (halfway_with self.entry.before self.entry.cursor self.entry.entries.now self.entry.after_each.now (changes_of self.entry.back.now))) }
+        ensures { IfOk result
+            (λ text. SpellsWhere text (halfway_with self.entry.before self.entry.cursor
+            self.entry.entries.now self.entry.after_each.now (changes_of self.entry.back.now))) }
     {
         if self.back.is_empty() {
             return Ok(None);
@@ -88,7 +90,8 @@ impl<'a> Passed<'a> {
     // The entries and the cursor afterwards.
     fn turned(&self, alloc: Global) -> Result<(Vec<&[Change]>, usize), AllocError>
         requires { HasNext self.now.turn self.now.cursor (length self.now.entries.now) }
-        ensures turned { IfOk result (λ p. (lent_entries_of p.0.items, p.1) ≡ entries_with self.now.turn self.now.cursor self.now.entries.now (changes_of self.now.back.now)) }
+        ensures turned { IfOk result (λ p. (lent_entries_of p.0.items, p.1) ≡ entries_with
+            self.now.turn self.now.cursor self.now.entries.now (changes_of self.now.back.now)) }
         ensures cursor { IfOk result (λ p. p.1 ≤ length p.0.items) }
     {
         let mut list = lent(alloc, &self.entries)?;
@@ -113,7 +116,9 @@ impl<'a> Passed<'a> {
 
     fn after(self, alloc: Global) -> Result<Vec<u8>, AllocError>
         requires { HasNext self.turn self.cursor (length self.entries.now) }
-        ensures { IfOk result (λ text. Spells text.items (settled_with self.entry.after_all (entries_with self.entry.turn self.entry.cursor self.entry.entries.now (changes_of self.entry.back.now)))) }
+        ensures { IfOk result (λ text. Spells text.items (settled_with self.entry.after_all
+            (entries_with self.entry.turn self.entry.cursor self.entry.entries.now
+            (changes_of self.entry.back.now)))) }
     {
         let (entries, cursor) = self.turned(alloc)?;
         encode(
@@ -132,8 +137,12 @@ impl<'a> Passed<'a> {
     fn spell(self, alloc: Global) -> Result<Journals, AllocError>
         requires next { HasNext self.turn self.cursor (length self.entries.now) }
         requires each { length self.after_each.now ≡ length self.back.now }
-        ensures halfway { IfOk result (λ journals. SpellsWhere journals.halfway (halfway_with self.entry.before self.entry.cursor self.entry.entries.now self.entry.after_each.now (changes_of self.entry.back.now))) }
-        ensures after { IfOk result (λ journals. Spells journals.after.items (settled_with self.entry.after_all (entries_with self.entry.turn self.entry.cursor self.entry.entries.now (changes_of self.entry.back.now)))) }
+        ensures halfway { IfOk result (λ journals.
+            SpellsWhere journals.halfway (halfway_with self.entry.before self.entry.cursor
+            self.entry.entries.now self.entry.after_each.now (changes_of self.entry.back.now))) }
+        ensures after { IfOk result (λ journals. Spells journals.after.items
+            (settled_with self.entry.after_all (entries_with self.entry.turn
+            self.entry.cursor self.entry.entries.now (changes_of self.entry.back.now)))) }
     {
         let halfway = self.halfway(alloc)?;
         let after = self.after(alloc)?;
@@ -155,8 +164,13 @@ pub(crate) fn spell_action(
     requires next { HasNext turn cursor (length entries.now) }
     ensures folder { folder.new ≡ folder.old }
     ensures changes { changes_of changes.new ≡ changes_of changes.old }
-    ensures halfway { IfOk result (λ journals. SpellsWhere journals.halfway (halfway_with (fingerprint folder.old.files) cursor entries.now (map fingerprint (folders_after folder.old.files (changes_of changes.old))) (way_back folder.old.files (changes_of changes.old)))) }
-    ensures after { IfOk result (λ journals. Spells journals.after.items (settled_with (fingerprint (state_after_all folder.old (changes_of changes.old)).files) (entries_with turn cursor entries.now (way_back folder.old.files (changes_of changes.old))))) }
+    ensures halfway { IfOk result (λ journals.
+        SpellsWhere journals.halfway (halfway_with (fingerprint folder.old.files) cursor entries.now
+        (map fingerprint (folders_after folder.old.files (changes_of changes.old)))
+        (way_back folder.old.files (changes_of changes.old)))) }
+    ensures after { IfOk result (λ journals. Spells journals.after.items (settled_with
+        (fingerprint (state_after_all folder.old (changes_of changes.old)).files) (entries_with
+        turn cursor entries.now (way_back folder.old.files (changes_of changes.old))))) }
 {
     let fingerprints = match Fingerprints::along(alloc, folder, changes) {
         Ok(fingerprints) => fingerprints,

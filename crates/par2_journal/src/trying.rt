@@ -12,9 +12,12 @@ use par2_folder::{Change, Folder};
 fn apply_first(folder: &mut Folder, changes: &mut [Change]) -> usize
     ensures within { result ≤ length changes.old }
     ensures taken { IsTrue (takes_all folder.old (take result (changes_of changes.old))) }
-    ensures folder { folder.new ≡ state_after_all folder.old (take result (changes_of changes.old)) }
-    ensures changes { changes_of changes.new ≡ reverse (way_back folder.old.files (take result (changes_of changes.old))) ++ drop result (changes_of changes.old) }
-    ensures refused { result < length changes.old → IsFalse (takes_all folder.old (changes_of changes.old)) }
+    ensures folder { folder.new
+        ≡ state_after_all folder.old (take result (changes_of changes.old)) }
+    ensures changes { changes_of changes.new ≡ reverse (way_back folder.old.files
+        (take result (changes_of changes.old))) ++ drop result (changes_of changes.old) }
+    ensures refused { result < length changes.old
+        → IsFalse (takes_all folder.old (changes_of changes.old)) }
 {
     let mut applied = 0;
     for change in changes.iter_mut() {
@@ -29,9 +32,12 @@ fn apply_first(folder: &mut Folder, changes: &mut [Change]) -> usize
 // Applies all of the changes in order, so that they become the way back, or none where one is refused.
 pub(crate) fn turn_whole(folder: &mut Folder, changes: &mut [Change]) -> bool
     ensures result { result ≡ takes_all folder.old (changes_of changes.old) }
-    ensures folder { IsTrue result → folder.new ≡ state_after_all folder.old (changes_of changes.old) }
-    ensures way_back { IsTrue result → changes_of changes.new ≡ way_back folder.old.files (changes_of changes.old) }
-    ensures unchanged { IsFalse result → (folder.new ≡ folder.old) × (changes_of changes.new ≡ changes_of changes.old) }
+    ensures folder { IsTrue result
+        → folder.new ≡ state_after_all folder.old (changes_of changes.old) }
+    ensures way_back { IsTrue result
+        → changes_of changes.new ≡ way_back folder.old.files (changes_of changes.old) }
+    ensures unchanged { IsFalse result
+        → (folder.new ≡ folder.old) × (changes_of changes.new ≡ changes_of changes.old) }
 {
     let applied = apply_first(folder, changes);
     if applied == changes.len() {
@@ -63,8 +69,10 @@ fn walk_first(folder: &mut Folder, entries: &mut [Vec<Change>]) -> usize
     ensures within { result ≤ length entries.old }
     ensures taken { IsTrue (walks folder.old (take result (entries_of entries.old))) }
     ensures folder { folder.new ≡ state_along folder.old (take result (entries_of entries.old)) }
-    ensures entries { entries_of entries.new ≡ reverse (ways_back folder.old (take result (entries_of entries.old))) ++ drop result (entries_of entries.old) }
-    ensures refused { result < length entries.old → IsFalse (walks folder.old (entries_of entries.old)) }
+    ensures entries { entries_of entries.new ≡ reverse (ways_back folder.old
+        (take result (entries_of entries.old))) ++ drop result (entries_of entries.old) }
+    ensures refused { result < length entries.old
+        → IsFalse (walks folder.old (entries_of entries.old)) }
 {
     let mut walked = 0;
     for entry in entries.iter_mut() {

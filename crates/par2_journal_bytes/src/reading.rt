@@ -125,7 +125,8 @@ fn read_changes(
     count: u64,
     bytes: &[u8],
 ) -> Result<(Vec<Change>, &[u8]), DecodeFault>
-    ensures { Gives (λ x. (changes_of x.0.items, x.1.now)) result (reads.many_at reads.change_at count bytes.now) }
+    ensures { Gives (λ x. (changes_of x.0.items, x.1.now)) result
+        (reads.many_at reads.change_at count bytes.now) }
 {
     let mut changes = Vec::new(alloc);
     let mut rest = bytes;
@@ -151,7 +152,8 @@ fn read_entries(
     count: u64,
     bytes: &[u8],
 ) -> Result<(Vec<Vec<Change>>, &[u8]), DecodeFault>
-    ensures { Gives (λ x. (entries_of x.0.items, x.1.now)) result (reads.many_at reads.entry_at count bytes.now) }
+    ensures { Gives (λ x. (entries_of x.0.items, x.1.now)) result
+        (reads.many_at reads.entry_at count bytes.now) }
 {
     let mut entries = Vec::new(alloc);
     let mut rest = bytes;
@@ -169,7 +171,8 @@ fn read_digests(
     count: u64,
     bytes: &[u8],
 ) -> Result<(Vec<[u8; 16]>, &[u8]), DecodeFault>
-    ensures { Gives (λ x. (x.0.items, x.1.now)) result (reads.many_at (reads.block_at 16) count bytes.now) }
+    ensures { Gives
+        (λ x. (x.0.items, x.1.now)) result (reads.many_at (reads.block_at 16) count bytes.now) }
 {
     let mut digests = Vec::new(alloc);
     let mut rest = bytes;
@@ -276,8 +279,10 @@ fn read_journal(alloc: Global, bytes: &[u8]) -> Result<Journal, DecodeFault>
 /// only once the bytes that it is for were found.
 pub fn decode(alloc: Global, bytes: &[u8]) -> Result<Journal, DecodeFault>
     ensures found { IfOk result (λ journal. Spells bytes.now (journal_of journal)) }
-    ensures only { (j : Defined) → Spells bytes.now j → MatchResult result (λ journal. journal_of journal ≡ j) (λ fault. fault ≡ Memory) }
-    ensures invalid { result ≡ Err JournalInvalid → (j : Defined) → Spells bytes.now j → ⊥ }
+    ensures only { (j : Defined) → Spells bytes.now j
+        → MatchResult result (λ journal. journal_of journal ≡ j) (λ fault. fault ≡ Memory) }
+    ensures invalid { result ≡ Err JournalInvalid
+        → (j : Defined) → Spells bytes.now j → ⊥ }
 {
     read_journal(alloc, bytes)
 }

@@ -40,7 +40,8 @@ fn append_bytes(out: &mut Vec<u8>, bytes: &Bytes) -> Result<(), AllocError>
 }
 
 fn append_change(out: &mut Vec<u8>, change: &Change) -> Result<(), AllocError>
-    ensures bytes { OnOk result (out.new.items ≡ out.old.items ++ journals.change_bytes (change_of change.now)) }
+    ensures bytes { OnOk result (out.new.items
+        ≡ out.old.items ++ journals.change_bytes (change_of change.now)) }
     ensures change { OnOk result (journals.IsChange (change_of change.now)) }
 {
     match change {
@@ -67,7 +68,8 @@ fn append_change(out: &mut Vec<u8>, change: &Change) -> Result<(), AllocError>
 }
 
 fn append_changes(out: &mut Vec<u8>, changes: &[Change]) -> Result<(), AllocError>
-    ensures bytes { OnOk result (out.new.items ≡ out.old.items ++ flat_map journals.change_bytes (changes_of changes.now)) }
+    ensures bytes { OnOk result (out.new.items
+        ≡ out.old.items ++ flat_map journals.change_bytes (changes_of changes.now)) }
     ensures changes { OnOk result (journals.IsEntry (changes_of changes.now)) }
 {
     for change in changes {
@@ -77,7 +79,8 @@ fn append_changes(out: &mut Vec<u8>, changes: &[Change]) -> Result<(), AllocErro
 }
 
 fn append_entry(out: &mut Vec<u8>, entry: &[Change]) -> Result<(), AllocError>
-    ensures bytes { OnOk result (out.new.items ≡ out.old.items ++ journals.entry_bytes (changes_of entry.now)) }
+    ensures bytes { OnOk result (out.new.items
+        ≡ out.old.items ++ journals.entry_bytes (changes_of entry.now)) }
     ensures entry { OnOk result (journals.IsEntry (changes_of entry.now)) }
 {
     append_number(out, entry.len() as u64)?;
@@ -85,7 +88,8 @@ fn append_entry(out: &mut Vec<u8>, entry: &[Change]) -> Result<(), AllocError>
 }
 
 fn append_entries(out: &mut Vec<u8>, entries: &[&[Change]]) -> Result<(), AllocError>
-    ensures bytes { OnOk result (out.new.items ≡ out.old.items ++ flat_map journals.entry_bytes (lent_entries_of entries.now)) }
+    ensures bytes { OnOk result (out.new.items
+        ≡ out.old.items ++ flat_map journals.entry_bytes (lent_entries_of entries.now)) }
     ensures entries { OnOk result (AllByRecursion journals.IsEntry (lent_entries_of entries.now)) }
 {
     for entry in entries {
@@ -114,7 +118,8 @@ fn append_digests(out: &mut Vec<u8>, digests: &[[u8; 16]]) -> Result<(), AllocEr
 fn append_halfway(out: &mut Vec<u8>, halfway: &Option<HalfwayParts<'_>>) -> Result<(), AllocError>
     requires some { IfSome halfway.now (λ h. 1 ≤ length h.back.now) }
     requires each { IfSome halfway.now (λ h. length h.fingerprints.now ≡ length h.back.now) }
-    ensures bytes { OnOk result (out.new.items ≡ out.old.items ++ journals.halfway_bytes (halfway_from halfway.now)) }
+    ensures bytes { OnOk result (out.new.items
+        ≡ out.old.items ++ journals.halfway_bytes (halfway_from halfway.now)) }
     ensures halfway { OnOk result (IfSome (halfway_from halfway.now) journals.IsHalfway) }
 {
     match halfway {
@@ -132,7 +137,8 @@ fn append_halfway(out: &mut Vec<u8>, halfway: &Option<HalfwayParts<'_>>) -> Resu
 }
 
 fn append_cursor(out: &mut Vec<u8>, version: Version, cursor: usize) -> Result<(), AllocError>
-    ensures { OnOk result (out.new.items ≡ out.old.items ++ journals.cursor_bytes version cursor) }
+    ensures { OnOk result (out.new.items
+        ≡ out.old.items ++ journals.cursor_bytes version cursor) }
 {
     match version {
         Version::One => Ok(()),
@@ -143,9 +149,11 @@ fn append_cursor(out: &mut Vec<u8>, version: Version, cursor: usize) -> Result<(
 /// The bytes of the journal with these parts.
 #[tactic(auto, unfolding(par2_spec::specs::Journals::spelling, par2_spec::specs::Journals::journal_bytes))]
 pub fn encode(alloc: Global, parts: &JournalParts<'_>) -> Result<Vec<u8>, AllocError>
-    requires cursor { journals.IsCursor parts.now.version parts.now.cursor (length parts.now.entries.now) }
+    requires cursor { journals.IsCursor parts.now.version parts.now.cursor
+        (length parts.now.entries.now) }
     requires some { IfSome parts.now.halfway (λ h. 1 ≤ length h.back.now) }
-    requires each { IfSome parts.now.halfway (λ h. length h.fingerprints.now ≡ length h.back.now) }
+    requires each { IfSome parts.now.halfway (λ h. length h.fingerprints.now
+        ≡ length h.back.now) }
     ensures { IfOk result (λ bytes. journals.Spells bytes.items (journal_from parts.now)) }
 {
     let mut out = Vec::new(alloc);

@@ -103,7 +103,8 @@ fn reduce(gf: &Gf, rows: &[Vec<u8>], rights: &[Vec<u8>], row: &mut [u8], right: 
 }
 
 fn first_nonzero(row: &[u8]) -> Option<usize>
-    ensures none { IsNone result → (i : ℕ) → 2 * i + 1 < length row.now → word i row.now ≡ 0 }
+    ensures none { IsNone result
+        → (i : ℕ) → 2 * i + 1 < length row.now → word i row.now ≡ 0 }
     ensures some { IfSome result (λ q. (2 * q + 1 < length row.now) × (word q row.now ≢ 0)) }
 {
     for i in 0..row.len() / 2 {
@@ -142,7 +143,8 @@ pub(crate) fn prepare(
     ghost rank: { ℕ }
     requires reduced { IsReduced (echelon_of (length right.old) rank rows.now rights.now) }
     requires size { length row.old ≡ 2 * length rows.now }
-    ensures none { IsNone result → IsImplied (echelon_of (length right.old) rank rows.now rights.now) row.old }
+    ensures none { IsNone result
+        → IsImplied (echelon_of (length right.old) rank rows.now rights.now) row.old }
     ensures some { IfSome result (IsPrepared (echelon_of (length right.old) 0 rows.now rights.now)
         row.old right.old row.new right.new) }
     ensures room { IfSome result (λ q. rank < length rows.now) }

@@ -45,8 +45,8 @@ pub fn created_set_is_made_from_its_files()
 
 /// So a repair that is accepted leaves each file as it was at the create, also one that purges.
 pub fn repair_gives_the_created_files_back()
-    ensures { (before damaged : Folder) (a : CreateArgs) (base : List ℕ) (extras : List (List ℕ))
-        (purge : Bool) → FollowsCreate before damaged a base extras
+    ensures { (before damaged : Folder) (a : CreateArgs) (base : List ℕ)
+        (extras : List (List ℕ)) (purge : Bool) → FollowsCreate before damaged a base extras
         → refusal damaged (Repair base extras purge) ≡ None
         → let repaired = after damaged (Repair base extras purge) in
         AllByRecursion (λ name. map_of.get repaired name ≡ map_of.get before name) a.inputs }
@@ -60,8 +60,8 @@ pub fn repair_gives_the_created_files_back()
 /// A repair of them is refused for few causes: the set is read, and what is rebuilt has its
 /// digests.
 pub fn repair_of_created_files_is_refused_for_few_causes()
-    ensures { (before damaged : Folder) (a : CreateArgs) (base : List ℕ) (extras : List (List ℕ))
-        (purge : Bool) (fault : Fault) → FollowsCreate before damaged a base extras
+    ensures { (before damaged : Folder) (a : CreateArgs) (base : List ℕ) (extras : List
+        (List ℕ)) (purge : Bool) (fault : Fault) → FollowsCreate before damaged a base extras
         → refusal damaged (Repair base extras purge) ≡ Some fault → IsTrue (may_refuse fault) }
 {
     created_set_is_made_from_its_files();
@@ -72,10 +72,10 @@ pub fn repair_of_created_files_is_refused_for_few_causes()
 
 /// As not repairable it is refused only where other slices, too, agree with all that is found.
 pub fn created_files_not_repairable_have_a_choice()
-    ensures { (before damaged : Folder) (a : CreateArgs) (base : List ℕ) (extras : List (List ℕ))
-        (purge : Bool) (missing rank : ℕ) → FollowsCreate before damaged a base extras
-        → refusal damaged (Repair base extras purge) ≡ Some (NotRepairable missing rank)
-        → HaveAChoice before damaged a base extras }
+    ensures { (before damaged : Folder)
+        (a : CreateArgs) (base : List ℕ) (extras : List (List ℕ)) (purge : Bool) (missing rank : ℕ)
+        → FollowsCreate before damaged a base extras → refusal damaged (Repair base extras purge)
+        ≡ Some (NotRepairable missing rank) → HaveAChoice before damaged a base extras }
 {
     created_set_is_made_from_its_files();
     files_in_order();

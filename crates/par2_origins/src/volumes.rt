@@ -16,7 +16,8 @@ use par2_spec::packet_laws::{
 /// packet of their set, and the base's are those of a volume, the set of the base was made from
 /// them. It does not matter which volumes are left, nor of which creates they are.
 pub fn volumes_tell_the_files()
-    ensures { (folder : Folder) (base : List ℕ) (s : ℕ) (files : List File) → AreInputs s files
+    ensures { (folder : Folder) (base : List ℕ) (s : ℕ) (files : List File)
+        → AreInputs s files
         → HoldsVolumes folder base s files → MadeFrom folder base (in_id_order files) s }
 {
     // What was written is read as it is, and in order.

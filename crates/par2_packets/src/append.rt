@@ -116,8 +116,8 @@ pub fn append_desc(
     set_id: &[u8; 16],
     file: &FileRecord,
 ) -> Result<(), AllocError>
-    ensures ok { let added = packet_of set_id.now Kind.FileDesc (desc_bytes (file_record_of file.now)) in
-        OnOk result (out.new.items ≡ out.old.items ++ packet added) }
+    ensures ok { let added = packet_of set_id.now Kind.FileDesc (desc_bytes
+        (file_record_of file.now)) in OnOk result (out.new.items ≡ out.old.items ++ packet added) }
     ensures err { OnErr result (out.new.items ≡ out.old.items) }
 {
     let body = desc_body(alloc, file)?;
@@ -131,8 +131,8 @@ pub fn append_ifsc(
     set_id: &[u8; 16],
     file: &FileRecord,
 ) -> Result<(), AllocError>
-    ensures ok { let added = packet_of set_id.now Kind.Ifsc (ifsc_bytes (file_record_of file.now)) in
-        OnOk result (out.new.items ≡ out.old.items ++ packet added) }
+    ensures ok { let added = packet_of set_id.now Kind.Ifsc (ifsc_bytes
+        (file_record_of file.now)) in OnOk result (out.new.items ≡ out.old.items ++ packet added) }
     ensures err { OnErr result (out.new.items ≡ out.old.items) }
 {
     let body = ifsc_body(alloc, file)?;

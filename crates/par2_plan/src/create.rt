@@ -25,11 +25,16 @@ use std::alloc::{AllocError, Global};
 #[tactic(auto, unfolding(crate::specs::Causes::inputs_fault))]
 fn set_of_inputs(alloc: Global, folder: &Folder, args: &CreateArgs) -> Result<SetRecord, Fault>
     requires { 1 ≤ args.now.slice }
-    ensures refused { IfErr result (λ fault. (fault ≡ Fault.Memory) ⊎ (inputs_fault folder.now.files args.now.slice (map string_bytes args.now.inputs.items) ≡ Some fault)) }
-    ensures accepted { IfOk result (λ _. inputs_fault folder.now.files args.now.slice (map string_bytes args.now.inputs.items) ≡ None) }
+    ensures refused { IfErr result (λ fault. (fault ≡ Fault.Memory) ⊎ (inputs_fault
+        folder.now.files args.now.slice (map string_bytes args.now.inputs.items) ≡ Some fault)) }
+    ensures accepted { IfOk result (λ _. inputs_fault folder.now.files args.now.slice
+        (map string_bytes args.now.inputs.items) ≡ None) }
     ensures slice { IfOk result (λ set. set.slice ≡ args.now.slice) }
-    ensures files { IfOk result (λ set. map file_record_of set.files.items ≡ map (record_of args.now.slice) (in_id_order (files_of folder.now.files (map string_bytes args.now.inputs.items)))) }
-    ensures order { IfOk result (λ set. files_of folder.now.files (names_of set) ≡ in_id_order (files_of folder.now.files (map string_bytes args.now.inputs.items))) }
+    ensures files { IfOk result (λ set. map file_record_of set.files.items
+        ≡ map (record_of args.now.slice)
+        (in_id_order (files_of folder.now.files (map string_bytes args.now.inputs.items)))) }
+    ensures order { IfOk result (λ set. files_of folder.now.files (names_of set)
+        ≡ in_id_order (files_of folder.now.files (map string_bytes args.now.inputs.items))) }
 {
     let names = match input_names(alloc, &args.inputs) {
         Ok(names) => names,
@@ -58,13 +63,18 @@ fn outputs_written(
     volumes: &[Volume],
 ) -> Result<Changes, AllocError>
     requires head { head_fault (create_args_of args.now) ≡ None }
-    requires inputs { inputs_fault folder.now.files args.now.slice (map string_bytes args.now.inputs.items) ≡ None }
+    requires inputs { inputs_fault folder.now.files args.now.slice
+        (map string_bytes args.now.inputs.items) ≡ None }
     requires base { base ≡ string_bytes args.now.base }
     requires slice { set.now.slice ≡ args.now.slice }
-    requires files { map file_record_of set.now.files.items ≡ map (record_of args.now.slice) (in_id_order (files_of folder.now.files (map string_bytes args.now.inputs.items))) }
-    requires order { files_of folder.now.files (names_of set.now) ≡ in_id_order (files_of folder.now.files (map string_bytes args.now.inputs.items)) }
-    requires volumes { volumes.now ≡ volumes_of (string_bytes args.now.base) args.now.first args.now.count }
-    ensures { IfOk result (λ changes. changes ≡ plans.create_changes folder.now.files (create_args_of args.now)) }
+    requires files { map file_record_of set.now.files.items ≡ map (record_of args.now.slice)
+        (in_id_order (files_of folder.now.files (map string_bytes args.now.inputs.items))) }
+    requires order { files_of folder.now.files (names_of set.now)
+        ≡ in_id_order (files_of folder.now.files (map string_bytes args.now.inputs.items)) }
+    requires volumes { volumes.now
+        ≡ volumes_of (string_bytes args.now.base) args.now.first args.now.count }
+    ensures { IfOk result (λ changes. changes
+        ≡ plans.create_changes folder.now.files (create_args_of args.now)) }
 {
     let parts = parts_of(alloc, folder, set, args.first, args.count)?;
     changes_of(alloc, folder, base, &parts, volumes)
@@ -72,11 +82,15 @@ fn outputs_written(
 
 /// The changes of a create: its outputs are written in order. Memory is answered only where a growth is refused.
 pub fn plan_create(alloc: Global, folder: &Folder, args: &CreateArgs) -> Result<Changes, Fault>
-    ensures refused { IfErr result (λ fault. (fault ≡ Fault.Memory) ⊎ (refusal folder.now.files (Create (create_args_of args.now)) ≡ Some fault)) }
-    ensures accepted { IfOk result (λ _. refusal folder.now.files (Create (create_args_of args.now)) ≡ None) }
-    ensures changes { IfOk result (λ changes. changes ≡ plans.changes_of folder.now.files (Create (create_args_of args.now))) }
+    ensures refused { IfErr result (λ fault. (fault ≡ Fault.Memory)
+        ⊎ (refusal folder.now.files (Create (create_args_of args.now)) ≡ Some fault)) }
+    ensures accepted { IfOk result
+        (λ _. refusal folder.now.files (Create (create_args_of args.now)) ≡ None) }
+    ensures changes { IfOk result (λ changes. changes
+        ≡ plans.changes_of folder.now.files (Create (create_args_of args.now))) }
     ensures applies { IfOk result (λ changes. IsTrue (are_applicable folder.now.files changes)) }
-    ensures leads { IfOk result (λ changes. effects folder.now.files changes ≡ after folder.now.files (Create (create_args_of args.now))) }
+    ensures leads { IfOk result (λ changes. effects folder.now.files changes
+        ≡ after folder.now.files (Create (create_args_of args.now))) }
 {
     let base = match index_name(args) {
         Ok(base) => base,

@@ -15,7 +15,8 @@ fn append_descs(
     set_id: &[u8; 16],
     files: &[FileRecord],
 ) -> Result<(), AllocError>
-    ensures { OnOk result (out.new.items ≡ out.old.items ++ flat_map (λ file. packet (packet_of set_id.now FileDesc (desc_bytes (file_record_of file)))) files.now) }
+    ensures { OnOk result (out.new.items ≡ out.old.items ++ flat_map (λ file.
+        packet (packet_of set_id.now FileDesc (desc_bytes (file_record_of file)))) files.now) }
 {
     for file in files {
         append_desc(alloc, out, set_id, file)?;
@@ -30,7 +31,8 @@ fn append_ifscs(
     set_id: &[u8; 16],
     files: &[FileRecord],
 ) -> Result<(), AllocError>
-    ensures { OnOk result (out.new.items ≡ out.old.items ++ flat_map (λ file. packet (packet_of set_id.now Ifsc (ifsc_bytes (file_record_of file)))) files.now) }
+    ensures { OnOk result (out.new.items ≡ out.old.items ++ flat_map
+        (λ file. packet (packet_of set_id.now Ifsc (ifsc_bytes (file_record_of file)))) files.now) }
 {
     for file in files {
         append_ifsc(alloc, out, set_id, file)?;
@@ -42,7 +44,8 @@ fn append_ifscs(
 #[tactic(auto, unfolding(par2_spec::specs::Volumes::index_packets))]
 pub fn index_of(alloc: Global, s: u64, files: &[FileRecord]) -> Result<Vec<u8>, AllocError>
     requires { length files.now ≤ 32768 }
-    ensures { IfOk result (λ index. index.items ≡ flat_map packet (index_packets s (map file_record_of files.now))) }
+    ensures { IfOk result (λ index. index.items
+        ≡ flat_map packet (index_packets s (map file_record_of files.now))) }
 {
     let set_id = main_id(s, files);
     let mut index = Vec::new(alloc);

@@ -22,8 +22,8 @@ const MOST_SLICES: u64 = 32768;
 
 // The first of the names that was there before.
 fn first_repeated(alloc: Global, names: &[Name]) -> Result<Option<usize>, AllocError>
-    ensures place { let first = position (λ z. is_among (take z.0 names.now) z.1) (enumerate_from 0 names.now) in
-        IfOk result (λ place. place ≡ first) }
+    ensures place { let first = position (λ z. is_among (take z.0 names.now) z.1)
+        (enumerate_from 0 names.now) in IfOk result (λ place. place ≡ first) }
     ensures fits { IfOk result (λ place. IfSome place (λ i. i < usize.MAX)) }
 {
     let mut seen = BTreeSet::new(alloc);
@@ -44,7 +44,7 @@ pub fn no_duplicate(alloc: Global, names: &[Name]) -> Result<(), Fault>
     match first_repeated(alloc, names) {
         Ok(None) => Ok(()),
         Ok(Some(place)) => Err(Fault::DuplicateInput(place + 1)),
-        Err(_) => Err(Fault::Memory),
+        Err(AllocError) => Err(Fault::Memory),
     }
 }
 
@@ -68,7 +68,8 @@ fn first_absent(folder: &Folder, names: &[Name]) -> Option<usize>
 
 // The first of the names whose file has no bytes.
 fn first_empty(folder: &Folder, names: &[Name]) -> Option<usize>
-    ensures place { result ≡ position (λ name. length (bytes_of folder.now.files name) == 0) names.now }
+    ensures place { result
+        ≡ position (λ name. length (bytes_of folder.now.files name) == 0) names.now }
     ensures fits { IfSome result (λ place. place < usize.MAX) }
 {
     names
@@ -79,7 +80,8 @@ fn first_empty(folder: &Folder, names: &[Name]) -> Option<usize>
 // Whether the files have more slices than a set may have.
 fn are_too_many(folder: &Folder, names: &[Name], size: u64) -> bool
     requires { 1 ≤ size }
-    ensures { result ≡ nat_lt 32768 (sum_by (λ file. spec.slice_count size (length file.1)) (files_of folder.now.files names.now)) }
+    ensures { result ≡ nat_lt 32768 (sum_by
+        (λ file. spec.slice_count size (length file.1)) (files_of folder.now.files names.now)) }
 {
     let mut left = MOST_SLICES;
     for i in 0..names.len() {
@@ -114,11 +116,14 @@ pub fn files_fault(folder: &Folder, names: &[Name], size: u64) -> Option<Fault>
 #[tactic(auto, unfolding(crate::specs::Causes::ids_fault))]
 pub fn set_of(alloc: Global, folder: &Folder, names: &[Name], size: u64) -> Result<SetRecord, Fault>
     requires { 1 ≤ size }
-    ensures refused { IfErr result (λ fault. (fault ≡ Fault.Memory) ⊎ (ids_fault folder.now.files names.now ≡ Some fault)) }
+    ensures refused { IfErr result (λ fault. (fault ≡ Fault.Memory)
+        ⊎ (ids_fault folder.now.files names.now ≡ Some fault)) }
     ensures accepted { IfOk result (λ _. ids_fault folder.now.files names.now ≡ None) }
     ensures slice { IfOk result (λ set. set.slice ≡ size) }
-    ensures files { IfOk result (λ set. map file_record_of set.files.items ≡ map (record_of size) (in_id_order (files_of folder.now.files names.now))) }
-    ensures order { IfOk result (λ set. files_of folder.now.files (names_of set) ≡ in_id_order (files_of folder.now.files names.now)) }
+    ensures files { IfOk result (λ set. map file_record_of set.files.items
+        ≡ map (record_of size) (in_id_order (files_of folder.now.files names.now))) }
+    ensures order { IfOk result (λ set. files_of folder.now.files (names_of set)
+        ≡ in_id_order (files_of folder.now.files names.now)) }
 {
     match SetRecord::of_files(alloc, folder, names, size) {
         Ok(set) => Ok(set),

@@ -74,7 +74,8 @@ fn volume_text(alloc: Global, base: &str, first: u32, count: u32) -> Result<Stri
 // The name of a volume.
 fn volume_name(alloc: Global, base: &Name, first: u32, count: u32) -> Result<Name, Fault>
     requires { IsTrue (is_par_name base.now) }
-    ensures refused { IfErr result (λ fault. (fault ≡ Fault.Memory) ⊎ ((fault ≡ Fault.NameTooLong) × (255 < length (spec.volume_name base.now first count)))) }
+    ensures refused { IfErr result (λ fault. (fault ≡ Fault.Memory)
+        ⊎ ((fault ≡ Fault.NameTooLong) × (255 < length (spec.volume_name base.now first count)))) }
     ensures accepted { IfOk result (λ _. length (spec.volume_name base.now first count) ≤ 255) }
     ensures name { IfOk result (λ name. name ≡ spec.volume_name base.now first count) }
 {
@@ -94,7 +95,8 @@ fn volume_at(alloc: Global, base: &Name, first: u32, count: u32, i: u32) -> Resu
     requires exponents { first + count ≤ 65536 }
     requires number { i ≤ 17 }
     requires some { spec.volumes_before i < count }
-    ensures refused { IfErr result (λ fault. (fault ≡ Fault.Memory) ⊎ ((fault ≡ Fault.NameTooLong) × (255 < length (volume_at base.now first count i).name))) }
+    ensures refused { IfErr result (λ fault. (fault ≡ Fault.Memory)
+        ⊎ ((fault ≡ Fault.NameTooLong) × (255 < length (volume_at base.now first count i).name))) }
     ensures accepted { IfOk result (λ volume. length volume.name ≤ 255) }
     ensures volume { IfOk result (λ volume. volume ≡ volume_at base.now first count i) }
 {
@@ -118,9 +120,12 @@ fn add_volume(
     requires base { IsTrue (is_par_name base.now) }
     requires exponents { first + count ≤ 65536 }
     requires number { i ≤ 17 }
-    ensures refused { IfErr result (λ fault. (fault ≡ Fault.Memory) ⊎ (long_name (names_of (volume_if base.now first count i)) ≡ Some fault)) }
-    ensures accepted { OnOk result (long_name (names_of (volume_if base.now first count i)) ≡ None) }
-    ensures volumes { OnOk result (volumes.new.items ≡ volumes.old.items ++ volume_if base.now first count i) }
+    ensures refused { IfErr result (λ fault. (fault ≡ Fault.Memory)
+        ⊎ (long_name (names_of (volume_if base.now first count i)) ≡ Some fault)) }
+    ensures accepted { OnOk result (long_name (names_of (volume_if base.now first count i))
+        ≡ None) }
+    ensures volumes { OnOk result (volumes.new.items
+        ≡ volumes.old.items ++ volume_if base.now first count i) }
 {
     if volumes_before(i) >= count {
         return Ok(());
@@ -139,8 +144,10 @@ fn add_volume(
 pub fn volumes(alloc: Global, base: &Name, first: u32, count: u32) -> Result<Vec<Volume>, Fault>
     requires base { IsTrue (is_par_name base.now) }
     requires exponents { first + count ≤ 65536 }
-    ensures refused { IfErr result (λ fault. (fault ≡ Fault.Memory) ⊎ (long_name (names_of (volumes_of base.now first count)) ≡ Some fault)) }
-    ensures accepted { IfOk result (λ _. long_name (names_of (volumes_of base.now first count)) ≡ None) }
+    ensures refused { IfErr result (λ fault. (fault ≡ Fault.Memory)
+        ⊎ (long_name (names_of (volumes_of base.now first count)) ≡ Some fault)) }
+    ensures accepted { IfOk result (λ _. long_name (names_of (volumes_of base.now first count))
+        ≡ None) }
     ensures volumes { IfOk result (λ volumes. volumes.items ≡ volumes_of base.now first count) }
 {
     let mut volumes = Vec::new(alloc);
@@ -177,7 +184,8 @@ pub fn there_already(
     base: &Name,
     volumes: &[Volume],
 ) -> Option<Fault>
-    ensures { result ≡ there_already folder.now.files overwrite (base.now ∷ names_of volumes.now) }
+    ensures { result
+        ≡ there_already folder.now.files overwrite (base.now ∷ names_of volumes.now) }
 {
     if !overwrite && is_there(folder, base, volumes) {
         Some(Fault::Exists)

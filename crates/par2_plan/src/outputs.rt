@@ -42,9 +42,12 @@ fn slices_of(
     requires size { 1 ≤ set.now.slice }
     requires even { set.now.slice % 2 ≡ 0 }
     requires names { AllByRecursion (λ name. IsTrue (is_name name)) (names_of set.now) }
-    requires slices { length (all_slices set.now.slice (files_of folder.now.files (names_of set.now))) ≤ 32768 }
+    requires slices { length
+        (all_slices set.now.slice (files_of folder.now.files (names_of set.now))) ≤ 32768 }
     requires exponents { first + count ≤ 65536 }
-    ensures { IfOk result (λ texts. lists_of texts.items ≡ map (recovery set.now.slice (all_slices set.now.slice (files_of folder.now.files (names_of set.now)))) (range_with_len first count)) }
+    ensures { IfOk result (λ texts. lists_of texts.items
+        ≡ map (recovery set.now.slice (all_slices set.now.slice
+        (files_of folder.now.files (names_of set.now)))) (range_with_len first count)) }
 {
     if count == 0 {
         return Ok(Vec::new(alloc));
@@ -65,12 +68,17 @@ pub fn parts_of(
     requires even { set.now.slice % 2 ≡ 0 }
     requires files { length set.now.files.items ≤ 32768 }
     requires names { AllByRecursion (λ name. IsTrue (is_name name)) (names_of set.now) }
-    requires slices { length (all_slices set.now.slice (files_of folder.now.files (names_of set.now))) ≤ 32768 }
+    requires slices { length
+        (all_slices set.now.slice (files_of folder.now.files (names_of set.now))) ≤ 32768 }
     requires exponents { first + count ≤ 65536 }
-    ensures index { IfOk result (λ parts. parts.index.items ≡ flat_map packet (index_packets set.now.slice (map file_record_of set.now.files.items))) }
-    ensures set_id { IfOk result (λ parts. parts.set_id ≡ main_id set.now.slice (map file_record_of set.now.files.items)) }
+    ensures index { IfOk result (λ parts. parts.index.items
+        ≡ flat_map packet (index_packets set.now.slice (map file_record_of set.now.files.items))) }
+    ensures set_id { IfOk result (λ parts. parts.set_id
+        ≡ main_id set.now.slice (map file_record_of set.now.files.items)) }
     ensures first { IfOk result (λ parts. parts.first ≡ first) }
-    ensures slices { IfOk result (λ parts. lists_of parts.slices.items ≡ map (recovery set.now.slice (all_slices set.now.slice (files_of folder.now.files (names_of set.now)))) (range_with_len first count)) }
+    ensures slices { IfOk result (λ parts. lists_of parts.slices.items
+        ≡ map (recovery set.now.slice (all_slices set.now.slice
+        (files_of folder.now.files (names_of set.now)))) (range_with_len first count)) }
 {
     let index = index_of(alloc, set.slice, &set.files)?;
     let set_id = main_id(set.slice, &set.files);
@@ -93,7 +101,8 @@ fn append_slices(
 ) -> Result<(), AllocError>
     requires exponents { first + length slices.now ≤ 65536 }
     requires sizes { AllByRecursion (λ slice. length slice % 4 ≡ 0) (lists_of slices.now) }
-    ensures { OnOk result (out.new.items ≡ out.old.items ++ flat_map packet (packets_from set_id.now first (lists_of slices.now))) }
+    ensures { OnOk result (out.new.items
+        ≡ out.old.items ++ flat_map packet (packets_from set_id.now first (lists_of slices.now))) }
 {
     for i in 0..slices.len() {
         append_recovery(alloc, out, set_id, first + i as u32, &slices[i])?;
@@ -104,8 +113,10 @@ fn append_slices(
 // The recovery slices of a volume.
 fn slices_in<'a>(parts: &'a Parts, volume: &Volume) -> &'a [Vec<u8>]
     requires from { parts.now.first ≤ volume.now.first }
-    requires to { volume.now.first + volume.now.count ≤ parts.now.first + length parts.now.slices.items }
-    ensures slices { lists_of result.now ≡ slices_in parts.now.first (lists_of parts.now.slices.items) volume.now }
+    requires to { volume.now.first + volume.now.count
+        ≤ parts.now.first + length parts.now.slices.items }
+    ensures slices { lists_of result.now
+        ≡ slices_in parts.now.first (lists_of parts.now.slices.items) volume.now }
     ensures count { length result.now ≡ volume.now.count }
 {
     let start = (volume.first - parts.first) as usize;
@@ -115,10 +126,14 @@ fn slices_in<'a>(parts: &'a Parts, volume: &Volume) -> &'a [Vec<u8>]
 // The bytes of a volume: the index, and the packets of its recovery slices.
 fn volume_bytes(alloc: Global, parts: &Parts, volume: &Volume) -> Result<Vec<u8>, AllocError>
     requires from { parts.now.first ≤ volume.now.first }
-    requires to { volume.now.first + volume.now.count ≤ parts.now.first + length parts.now.slices.items }
+    requires to { volume.now.first + volume.now.count
+        ≤ parts.now.first + length parts.now.slices.items }
     requires exponents { parts.now.first + length parts.now.slices.items ≤ 65536 }
-    requires sizes { AllByRecursion (λ slice. length slice % 4 ≡ 0) (lists_of parts.now.slices.items) }
-    ensures { IfOk result (λ bytes. bytes.items ≡ parts.now.index.items ++ flat_map packet (packets_from parts.now.set_id volume.now.first (slices_in parts.now.first (lists_of parts.now.slices.items) volume.now))) }
+    requires sizes { AllByRecursion (λ slice. length slice % 4
+        ≡ 0) (lists_of parts.now.slices.items) }
+    ensures { IfOk result (λ bytes. bytes.items
+        ≡ parts.now.index.items ++ flat_map packet (packets_from parts.now.set_id volume.now.first
+        (slices_in parts.now.first (lists_of parts.now.slices.items) volume.now))) }
 {
     let mut bytes = Vec::from_slice(alloc, &parts.index)?;
     append_slices(
@@ -150,10 +165,14 @@ pub fn changes_of(
     parts: &Parts,
     volumes: &[Volume],
 ) -> Result<Changes, AllocError>
-    requires within { AllByRecursion (λ volume. (parts.now.first ≤ volume.first) × (volume.first + volume.count ≤ parts.now.first + length parts.now.slices.items)) volumes.now }
+    requires within { AllByRecursion (λ volume. (parts.now.first ≤ volume.first) × (volume.first
+        + volume.count ≤ parts.now.first + length parts.now.slices.items)) volumes.now }
     requires exponents { parts.now.first + length parts.now.slices.items ≤ 65536 }
-    requires sizes { AllByRecursion (λ slice. length slice % 4 ≡ 0) (lists_of parts.now.slices.items) }
-    ensures { IfOk result (λ changes. changes ≡ written folder.now.files base parts.now.index.items parts.now.set_id parts.now.first (lists_of parts.now.slices.items) volumes.now) }
+    requires sizes { AllByRecursion (λ slice. length slice % 4
+        ≡ 0) (lists_of parts.now.slices.items) }
+    ensures { IfOk result (λ changes. changes
+        ≡ written folder.now.files base parts.now.index.items parts.now.set_id parts.now.first
+        (lists_of parts.now.slices.items) volumes.now) }
 {
     let mut changes = Changes::new(alloc);
     changes.push(put(folder, base, Vec::from_slice(alloc, &parts.index)?))?;

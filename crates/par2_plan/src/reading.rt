@@ -52,7 +52,8 @@ pub fn read<'a>(
 ) -> Result<Reading<'a>, Fault>
     ensures set { let set = set_in folder.now.files base.now (map string_bytes extras.now) in
         Gives (λ reading. reading.set) result set }
-    ensures extras { IfOk result (λ reading. reading.extras.items ≡ map string_bytes extras.now) }
+    ensures extras { IfOk result (λ reading. reading.extras.items
+        ≡ map string_bytes extras.now) }
 {
     let base = present(folder, base).ok_or(Fault::NoSuchFile(0))?;
     let extras = present_extras(alloc, folder, extras)?;

@@ -36,9 +36,11 @@ fn slices_for<'a>(
     candidates: &[Name],
     unmatched: &[Name],
 ) -> Result<Option<Slices<'a>>, Fault>
-    ensures refused { let known = known_in set.now (map (bytes_of folder.now.files) candidates.now) in
+    ensures refused { let known = known_in set.now
+        (map (bytes_of folder.now.files) candidates.now) in
         IfErr result (λ fault. (fault ≡ Fault.Memory) ⊎ (undetermined set.now known ≡ Some fault)) }
-    ensures slices { let known = known_in set.now (map (bytes_of folder.now.files) candidates.now) in
+    ensures slices { let known = known_in set.now
+        (map (bytes_of folder.now.files) candidates.now) in
         IfOk result (AreRestoredFor set.now known unmatched.now) }
 {
     if unmatched.is_empty() {
@@ -81,8 +83,9 @@ fn repair_changes(
     asides: &[Name],
     files: Vec<(Name, Bytes)>,
 ) -> Result<Changes, AllocError>
-    ensures { (aside : List ℕ → List ℕ) → asides.now ≡ map aside needing.now.put_aside.items →
-        IfOk result (λ changes. changes ≡ changes_by aside needing.now files.items) }
+    ensures { (aside : List ℕ → List ℕ)
+        → asides.now ≡ map aside needing.now.put_aside.items
+        → IfOk result (λ changes. changes ≡ changes_by aside needing.now files.items) }
 {
     let mut changes = Changes::new(alloc);
     push_renames(&mut changes, &needing.put_aside, asides)?;
@@ -100,8 +103,9 @@ fn push_removals<'n>(
     asides: &[Name],
     par_files: &'n [Name],
 ) -> Result<(), AllocError>
-    ensures { (aside : List ℕ → List ℕ) → asides.now ≡ map aside needing.now.put_aside.items →
-        let removals = removals_by aside needing.now par_files.now in
+    ensures { (aside : List ℕ → List ℕ)
+        → asides.now ≡ map aside needing.now.put_aside.items
+        → let removals = removals_by aside needing.now par_files.now in
         OnOk result (changes.new ≡ changes.old ++ removals) }
 {
     let matching = matching_names(alloc, &needing.matches)?;

@@ -79,7 +79,8 @@ fn input_name(word: &str) -> Option<Name>
 
 /// The names of the inputs.
 pub fn input_names(alloc: Global, words: &[String]) -> Result<Vec<Name>, Fault>
-    ensures refused { IfErr result (λ fault. (fault ≡ Fault.Memory) ⊎ (bad_name (map string_bytes words.now) ≡ Some fault)) }
+    ensures refused { IfErr result (λ fault. (fault ≡ Fault.Memory)
+        ⊎ (bad_name (map string_bytes words.now) ≡ Some fault)) }
     ensures accepted { IfOk result (λ _. bad_name (map string_bytes words.now) ≡ None) }
     ensures names { IfOk result (λ names. names.items ≡ map string_bytes words.now) }
 {

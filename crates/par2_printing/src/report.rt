@@ -48,8 +48,8 @@ fn write_counts<W: Write>(
     state: &str,
     target: PrintedTarget<'_>,
 ) -> Result<(), WriteFault>
-    ensures { Wrote W.contents out.old out.new
-        (line (state.now ++ target.entry.name.now ++ codes " " ++ of_all (target_shown target.entry))) result }
+    ensures { Wrote W.contents out.old out.new (line (state.now
+        ++ target.entry.name.now ++ codes " " ++ of_all (target_shown target.entry))) result }
 {
     let mut found = Buffer::new();
     let mut total = Buffer::new();

@@ -48,8 +48,10 @@ fn text_at(texts: &[Vec<u8>], r: usize) -> &[u8]
 
 /// The elements of each text.
 pub(crate) fn rows_of(alloc: Global, texts: &[Vec<u8>]) -> Result<Vec<Vec<u16>>, AllocError>
-    requires { (r : ℕ) → r < length texts.now → length (list_at (lists_of texts.now) r) % 2 ≡ 0 }
-    ensures { IfOk result (λ rows. AreRows (lists_of rows.items) (lists_of texts.now) (length texts.now)) }
+    requires { (r : ℕ)
+        → r < length texts.now → length (list_at (lists_of texts.now) r) % 2 ≡ 0 }
+    ensures { IfOk result
+        (λ rows. AreRows (lists_of rows.items) (lists_of texts.now) (length texts.now)) }
 {
     let mut rows = Vec::with_capacity(alloc, texts.len())?;
     for r in 0..texts.len() {

@@ -50,9 +50,11 @@ pub(crate) fn offer(
     requires lost { (i : ℕ) → slice_index lost.now i < 32768 }
     requires columns { system.old.columns ≡ length lost.now }
     requires right { length right.items ≡ system.old.bytes }
-    ensures kept { result ≡ Ok Offer.Kept → CutDown system.old system.new (coefficients lost.now e) right.items }
+    ensures kept { result ≡ Ok Offer.Kept
+        → CutDown system.old system.new (coefficients lost.now e) right.items }
     ensures told { result ≡ Ok Offer.Kept → IsIndependent system.old (coefficients lost.now e) }
-    ensures dependent { result ≡ Ok Offer.Dependent → IsDependent system.old (coefficients lost.now e) }
+    ensures dependent { result ≡ Ok Offer.Dependent
+        → IsDependent system.old (coefficients lost.now e) }
     ensures columns { system.new.columns ≡ system.old.columns }
     ensures bytes { system.new.bytes ≡ system.old.bytes }
     ensures unchanged { result ≢ Ok Offer.Kept → system.new ≡ system.old }
@@ -71,7 +73,8 @@ pub fn rank(alloc: Global, gf: &Gf, lost: &[u32], exponents: &[u32]) -> Result<u
     requires exponents { IsStrictlyIncreasing exponents.now }
     ensures rank { IfOk result (λ n. n ≡ rank lost.now exponents.now) }
     ensures most { IfOk result (λ n. n ≤ length lost.now) }
-    ensures full { IfOk result (λ n. (n ≡ length lost.now) ↔ IsRepairable lost.now exponents.now) }
+    ensures full { IfOk result (λ n. (n ≡ length lost.now)
+        ↔ IsRepairable lost.now exponents.now) }
 {
     let mut system = System::new(alloc, lost.len(), 0)?;
     for i in 0..exponents.len() {

@@ -47,9 +47,11 @@ fn offer_unit(
     requires lost { (i : ℕ) → slice_index lost.now i < 32768 }
     requires columns { system.old.columns ≡ length lost.now }
     requires bytes { system.old.bytes ≡ 2 * length lost.now }
-    ensures kept { result ≡ Ok Offer.Kept → CutByUnit system.old system.new (coefficients lost.now e) }
+    ensures kept { result ≡ Ok Offer.Kept
+        → CutByUnit system.old system.new (coefficients lost.now e) }
     ensures told { result ≡ Ok Offer.Kept → IsIndependent system.old (coefficients lost.now e) }
-    ensures dependent { result ≡ Ok Offer.Dependent → IsDependent system.old (coefficients lost.now e) }
+    ensures dependent { result ≡ Ok Offer.Dependent
+        → IsDependent system.old (coefficients lost.now e) }
     ensures columns { system.new.columns ≡ system.old.columns }
     ensures bytes { system.new.bytes ≡ system.old.bytes }
     ensures unchanged { result ≢ Ok Offer.Kept → system.new ≡ system.old }
@@ -72,7 +74,8 @@ pub(crate) fn eliminate<'a>(
     requires count { length lost.now ≤ 32768 }
     requires lost { (i : ℕ) → slice_index lost.now i < 32768 }
     requires exponents { IsStrictlyIncreasing (exponents_of recovery.now) }
-    ensures { IfOk result (λ found. IsEliminated lost.now (recovered_of recovery.now) (recovered_of found.kept.items) found.system) }
+    ensures { IfOk result (λ found. IsEliminated lost.now
+        (recovered_of recovery.now) (recovered_of found.kept.items) found.system) }
 {
     let mut system = System::new(alloc, lost.len(), 2 * lost.len())?;
     let mut kept = Vec::new(alloc);
@@ -95,7 +98,8 @@ fn coefficient_texts(
 ) -> Result<Vec<Vec<u8>>, AllocError>
     requires count { length numbers.now ≤ 32768 }
     requires numbers { (i : ℕ) → slice_index numbers.now i < 32768 }
-    ensures { IfOk result (λ texts. AreCoefficients numbers.now (recovered_of kept.now) (lists_of texts.items) (length kept.now)) }
+    ensures { IfOk result (λ texts. AreCoefficients numbers.now
+        (recovered_of kept.now) (lists_of texts.items) (length kept.now)) }
 {
     let mut texts = Vec::with_capacity(alloc, kept.len())?;
     for j in 0..kept.len() {
@@ -118,7 +122,8 @@ fn borrowed(alloc: Global, texts: &[Vec<u8>]) -> Result<Vec<&[u8]>, AllocError>
 
 // The bytes of the recovery slices.
 fn bytes_of<'a>(alloc: Global, kept: &[(u32, &'a [u8])]) -> Result<Vec<&'a [u8]>, AllocError>
-    ensures { IfOk result (λ slices. texts_of slices.items ≡ map (λ r. r.1) (recovered_of kept.now)) }
+    ensures { IfOk result (λ slices. texts_of slices.items
+        ≡ map (λ r. r.1) (recovered_of kept.now)) }
 {
     let mut slices = Vec::with_capacity(alloc, kept.len())?;
     for j in 0..kept.len() {
@@ -137,8 +142,10 @@ fn known_factors(
 ) -> Result<Vec<Vec<u16>>, AllocError>
     requires count { length numbers.now ≤ 32768 }
     requires numbers { (i : ℕ) → slice_index numbers.now i < 32768 }
-    requires inverse { (r : ℕ) → r < length inverse.now → length (list_at (lists_of inverse.now) r) ≡ length kept.now }
-    ensures { IfOk result (λ factors. AreFactors numbers.now (recovered_of kept.now) (lists_of inverse.now) (lists_of factors.items)) }
+    requires inverse { (r : ℕ)
+        → r < length inverse.now → length (list_at (lists_of inverse.now) r) ≡ length kept.now }
+    ensures { IfOk result (λ factors. AreFactors numbers.now
+        (recovered_of kept.now) (lists_of inverse.now) (lists_of factors.items)) }
 {
     let texts = coefficient_texts(alloc, gf, kept, numbers)?;
     let sources = borrowed(alloc, &texts)?;
@@ -162,10 +169,12 @@ pub(crate) fn combined(
     requires numbers { (i : ℕ) → slice_index numbers.now i < 32768 }
     requires known { length known.now ≡ length numbers.now }
     requires bytes { AreBytes (texts_of known.now) }
-    requires inverse { (r : ℕ) → r < length inverse.now → length (list_at (lists_of inverse.now) r) ≡ 2 * length kept.now }
+    requires inverse { (r : ℕ)
+        → r < length inverse.now → length (list_at (lists_of inverse.now) r) ≡ 2 * length kept.now }
     requires inverse_bytes { AreBytes (lists_of inverse.now) }
     requires even { size % 2 ≡ 0 }
-    ensures made { IfOk result (λ texts. AreCombined size (lists_of inverse.now) numbers.now (texts_of known.now) (recovered_of kept.now) (lists_of texts.items)) }
+    ensures made { IfOk result (λ texts. AreCombined size (lists_of inverse.now) numbers.now
+        (texts_of known.now) (recovered_of kept.now) (lists_of texts.items)) }
     ensures found { IfOk result (λ _. AreBytes (map (λ r. r.1) (recovered_of kept.now))) }
 {
     let inverse = rows_of(alloc, inverse)?;

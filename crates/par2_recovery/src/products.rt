@@ -75,7 +75,8 @@ fn add_to(
     requires order { from ≤ to }
     requires room { 2 * to ≤ length (list_at (lists_of lists.old) r) }
     ensures changed { OneChanged (lists_of lists.old) (lists_of lists.new) r }
-    ensures added { AddsWithin factor.now source.now (list_at (lists_of lists.old) r) (list_at (lists_of lists.new) r) from to }
+    ensures added { AddsWithin factor.now source.now
+        (list_at (lists_of lists.old) r) (list_at (lists_of lists.new) r) from to }
     ensures bytes { (k : ℕ) → slice_index (list_at (lists_of lists.new) r) k < 2 ^ 8 }
 {
     add_words(gf, factor, source, lists[r].as_mut_slice(), from, to);
@@ -109,10 +110,13 @@ fn add_source(
     to: usize,
 )
     requires rows { length factors.now ≡ length targets.old }
-    requires factors { (r : ℕ) → r < length factors.now → k < length (list_at (lists_of factors.now) r) }
+    requires factors { (r : ℕ)
+        → r < length factors.now → k < length (list_at (lists_of factors.now) r) }
     requires order { from ≤ to }
-    requires room { (r : ℕ) → r < length targets.old → 2 * to ≤ length (list_at (lists_of targets.old) r) }
-    ensures { AddsSource (λ r. slice_index (list_at (lists_of factors.now) r) k) source.now (lists_of targets.old) (lists_of targets.new) from to (length targets.old) }
+    requires room { (r : ℕ)
+        → r < length targets.old → 2 * to ≤ length (list_at (lists_of targets.old) r) }
+    ensures { AddsSource (λ r. slice_index (list_at (lists_of factors.now) r) k) source.now
+        (lists_of targets.old) (lists_of targets.new) from to (length targets.old) }
 {
     for r in 0..targets.len() {
         let factor = Factor::new(factor_at(factors, r, k));
@@ -138,10 +142,13 @@ fn add_columns(
     to: usize,
 )
     requires rows { length factors.now ≡ length targets.old }
-    requires factors { (r : ℕ) → r < length factors.now → length sources.now ≤ length (list_at (lists_of factors.now) r) }
+    requires factors { (r : ℕ)
+        → r < length factors.now → length sources.now ≤ length (list_at (lists_of factors.now) r) }
     requires order { from ≤ to }
-    requires room { (r : ℕ) → r < length targets.old → 2 * to ≤ length (list_at (lists_of targets.old) r) }
-    ensures { Adds (lists_of factors.now) (texts_of sources.now) (lists_of targets.old) (lists_of targets.new) from to (length sources.now) }
+    requires room { (r : ℕ)
+        → r < length targets.old → 2 * to ≤ length (list_at (lists_of targets.old) r) }
+    ensures { Adds (lists_of factors.now) (texts_of sources.now)
+        (lists_of targets.old) (lists_of targets.new) from to (length sources.now) }
 {
     for k in 0..sources.len() {
         let source = source_at(sources, k);
@@ -159,9 +166,12 @@ fn add_products(
     words: usize,
 )
     requires rows { length factors.now ≡ length targets.old }
-    requires factors { (r : ℕ) → r < length factors.now → length sources.now ≤ length (list_at (lists_of factors.now) r) }
-    requires room { (r : ℕ) → r < length targets.old → 2 * words ≤ length (list_at (lists_of targets.old) r) }
-    ensures { Adds (lists_of factors.now) (texts_of sources.now) (lists_of targets.old) (lists_of targets.new) 0 words (length sources.now) }
+    requires factors { (r : ℕ)
+        → r < length factors.now → length sources.now ≤ length (list_at (lists_of factors.now) r) }
+    requires room { (r : ℕ)
+        → r < length targets.old → 2 * words ≤ length (list_at (lists_of targets.old) r) }
+    ensures { Adds (lists_of factors.now) (texts_of sources.now)
+        (lists_of targets.old) (lists_of targets.new) 0 words (length sources.now) }
 {
     for block in 0..words.div_ceil(BLOCK) {
         let from = block * BLOCK;
@@ -179,9 +189,12 @@ pub(crate) fn with_products(
     words: usize,
 ) -> Vec<Vec<u8>>
     requires rows { length factors.now ≡ length targets.items }
-    requires factors { (r : ℕ) → r < length factors.now → length sources.now ≤ length (list_at (lists_of factors.now) r) }
-    requires room { (r : ℕ) → r < length targets.items → 2 * words ≤ length (list_at (lists_of targets.items) r) }
-    ensures { Adds (lists_of factors.now) (texts_of sources.now) (lists_of targets.items) (lists_of result.items) 0 words (length sources.now) }
+    requires factors { (r : ℕ)
+        → r < length factors.now → length sources.now ≤ length (list_at (lists_of factors.now) r) }
+    requires room { (r : ℕ)
+        → r < length targets.items → 2 * words ≤ length (list_at (lists_of targets.items) r) }
+    ensures { Adds (lists_of factors.now) (texts_of sources.now)
+        (lists_of targets.items) (lists_of result.items) 0 words (length sources.now) }
 {
     let mut sums = targets;
     add_products(gf, factors, sources, sums.as_mut_slice(), words);

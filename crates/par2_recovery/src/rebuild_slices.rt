@@ -105,9 +105,12 @@ fn lost_slices(
 ) -> Result<Vec<Vec<u8>>, AllocError>
     requires count { length survivors.now.known.items ≤ 32768 }
     requires even { survivors.now.slice % 2 ≡ 0 }
-    requires inverse { (r : ℕ) → r < length inverse.now → length (list_at (lists_of inverse.now) r) ≡ 2 * length kept.now }
+    requires inverse { (r : ℕ)
+        → r < length inverse.now → length (list_at (lists_of inverse.now) r) ≡ 2 * length kept.now }
     requires inverse_bytes { AreBytes (lists_of inverse.now) }
-    ensures made { IfOk result (λ texts. AreCombined survivors.now.slice (lists_of inverse.now) (known_from 0 survivors.now.known.items) (texts_of (present survivors.now.known.items)) (recovered_of kept.now) (lists_of texts.items)) }
+    ensures made { IfOk result (λ texts. AreCombined survivors.now.slice (lists_of inverse.now)
+        (known_from 0 survivors.now.known.items) (texts_of (present survivors.now.known.items))
+        (recovered_of kept.now) (lists_of texts.items)) }
     ensures known { IfOk result (λ _. AreBytes (texts_of (present survivors.now.known.items))) }
     ensures found { IfOk result (λ _. AreBytes (map (λ r. r.1) (recovered_of kept.now))) }
 {
@@ -125,10 +128,17 @@ fn solve(
 ) -> Result<Result<Vec<Vec<u8>>, RebuildFault>, AllocError>
     requires count { length survivors.now.known.items ≤ 32768 }
     requires even { survivors.now.slice % 2 ≡ 0 }
-    requires known { AllByRecursion (λ slice. length slice.now ≤ survivors.now.slice) (present survivors.now.known.items) }
-    requires recovery { AllByRecursion (λ r. length r.1 ≡ survivors.now.slice) (recovered_of survivors.now.recovery.items) }
+    requires known { AllByRecursion (λ slice. length slice.now
+        ≤ survivors.now.slice) (present survivors.now.known.items) }
+    requires recovery { AllByRecursion (λ r. length r.1
+        ≡ survivors.now.slice) (recovered_of survivors.now.recovery.items) }
     requires exponents { IsStrictlyIncreasing (exponents_of survivors.now.recovery.items) }
-    ensures { let known = known_of survivors.now.slice survivors.now.known.items in let exponents = exponents_of survivors.now.recovery.items in IfOk result (λ answer. MatchResult answer (λ texts. IsRebuilt survivors.now.slice known (kept_slices (lost known) exponents (recovered_of survivors.now.recovery.items)) (filled known (lists_of texts.items)) × (length texts.items ≡ length (lost known)) × IsRepairable (lost known) exponents) (IsTrueFault (lost known) exponents)) }
+    ensures { let known = known_of survivors.now.slice survivors.now.known.items in
+        let exponents = exponents_of survivors.now.recovery.items in
+        IfOk result (λ answer. MatchResult answer (λ texts. IsRebuilt survivors.now.slice known
+        (kept_slices (lost known) exponents (recovered_of survivors.now.recovery.items))
+        (filled known (lists_of texts.items)) × (length texts.items ≡ length (lost known))
+        × IsRepairable (lost known) exponents) (IsTrueFault (lost known) exponents)) }
 {
     let lost = lost_numbers(alloc, &survivors.known)?;
     let Elimination { kept, system } = eliminate(alloc, gf, &lost, &survivors.recovery)?;
@@ -145,13 +155,22 @@ fn solve(
 pub fn rebuild(alloc: Global, gf: &Gf, survivors: &Survivors) -> Result<Vec<Vec<u8>>, RebuildFault>
     requires count { length survivors.now.known.items ≤ 32768 }
     requires even { survivors.now.slice % 2 ≡ 0 }
-    requires known { AllByRecursion (λ slice. length slice.now ≤ survivors.now.slice) (present survivors.now.known.items) }
-    requires recovery { AllByRecursion (λ r. length r.1 ≡ survivors.now.slice) (recovered_of survivors.now.recovery.items) }
+    requires known { AllByRecursion (λ slice. length slice.now
+        ≤ survivors.now.slice) (present survivors.now.known.items) }
+    requires recovery { AllByRecursion (λ r. length r.1
+        ≡ survivors.now.slice) (recovered_of survivors.now.recovery.items) }
     requires exponents { IsStrictlyIncreasing (exponents_of survivors.now.recovery.items) }
-    ensures rebuilt { let known = known_of survivors.now.slice survivors.now.known.items in IfOk result (λ texts. IsRebuilt survivors.now.slice known (kept_slices (lost known) (exponents_of survivors.now.recovery.items) (recovered_of survivors.now.recovery.items)) (filled known (lists_of texts.items))) }
-    ensures count { IfOk result (λ texts. length texts.items ≡ length (lost (known_of survivors.now.slice survivors.now.known.items))) }
-    ensures repairable { IsOk result → IsRepairable (lost (known_of survivors.now.slice survivors.now.known.items)) (exponents_of survivors.now.recovery.items) }
-    ensures refused { IfErr result (IsTrueFault (lost (known_of survivors.now.slice survivors.now.known.items)) (exponents_of survivors.now.recovery.items)) }
+    ensures rebuilt { let known = known_of survivors.now.slice survivors.now.known.items in
+        IfOk result (λ texts. IsRebuilt survivors.now.slice known
+        (kept_slices (lost known) (exponents_of survivors.now.recovery.items)
+        (recovered_of survivors.now.recovery.items)) (filled known (lists_of texts.items))) }
+    ensures count { IfOk result (λ texts. length texts.items
+        ≡ length (lost (known_of survivors.now.slice survivors.now.known.items))) }
+    ensures repairable { IsOk result
+        → IsRepairable (lost (known_of survivors.now.slice survivors.now.known.items))
+        (exponents_of survivors.now.recovery.items) }
+    ensures refused { IfErr result (IsTrueFault (lost (known_of survivors.now.slice
+        survivors.now.known.items)) (exponents_of survivors.now.recovery.items)) }
 {
     solve(alloc, gf, survivors)?
 }

@@ -43,7 +43,8 @@ fn factors(
 ) -> Result<Vec<Vec<u16>>, AllocError>
     requires slices { n ≤ 32768 }
     requires exponents { first + count ≤ 65536 }
-    ensures { IfOk result (λ rows. lists_of rows.items ≡ map (coefficients (range_with_len 0 n)) (range_with_len first count)) }
+    ensures { IfOk result (λ rows. lists_of rows.items
+        ≡ map (coefficients (range_with_len 0 n)) (range_with_len first count)) }
 {
     let numbers = numbers_below(alloc, n)?;
     let mut rows = Vec::with_capacity(alloc, count as usize)?;
@@ -77,7 +78,8 @@ fn recovery_of(
     requires bytes { AreBytes (texts_of slices.now) }
     requires even { size % 2 ≡ 0 }
     requires exponents { first + count ≤ 65536 }
-    ensures { IfOk result (λ texts. lists_of texts.items ≡ map (recovery size (map (spec.padded size) (texts_of slices.now))) (range_with_len first count)) }
+    ensures { IfOk result (λ texts. lists_of texts.items ≡ map (recovery size
+        (map (spec.padded size) (texts_of slices.now))) (range_with_len first count)) }
 {
     let factors = factors(alloc, gf, slices.len(), first, count)?;
     let zeros = blank(alloc, count as usize, size)?;
@@ -116,7 +118,8 @@ fn with_slices<'a>(
 ) -> Result<Vec<&'a [u8]>, AllocError>
     requires size { 1 ≤ s }
     requires bytes { AreBytes (texts_of slices.items) }
-    ensures slices { IfOk result (λ all. map (spec.padded s) (texts_of all.items) ≡ map (spec.padded s) (texts_of slices.entry.items) ++ spec.slices s bytes.now) }
+    ensures slices { IfOk result (λ all. map (spec.padded s) (texts_of all.items)
+        ≡ map (spec.padded s) (texts_of slices.entry.items) ++ spec.slices s bytes.now) }
     ensures bytes { IfOk result (λ all. AreBytes (texts_of all.items)) }
 {
     let mut all = slices;
@@ -142,7 +145,8 @@ pub(crate) fn slices_of<'a>(
 ) -> Result<Vec<&'a [u8]>, AllocError>
     requires size { 1 ≤ record.now.slice }
     requires names { AllByRecursion (λ name. IsTrue (is_name name)) (names_of record.now) }
-    ensures slices { IfOk result (λ all. map (spec.padded record.now.slice) (texts_of all.items) ≡ all_slices record.now.slice (files_of folder.now.files (names_of record.now))) }
+    ensures slices { IfOk result (λ all. map (spec.padded record.now.slice) (texts_of all.items)
+        ≡ all_slices record.now.slice (files_of folder.now.files (names_of record.now))) }
     ensures bytes { IfOk result (λ all. AreBytes (texts_of all.items)) }
 {
     let mut all = Vec::new(alloc);
@@ -165,9 +169,12 @@ pub fn recovery_slices(
     requires size { 1 ≤ record.now.slice }
     requires even { record.now.slice % 2 ≡ 0 }
     requires names { AllByRecursion (λ name. IsTrue (is_name name)) (names_of record.now) }
-    requires slices { length (all_slices record.now.slice (files_of folder.now.files (names_of record.now))) ≤ 32768 }
+    requires slices { length
+        (all_slices record.now.slice (files_of folder.now.files (names_of record.now))) ≤ 32768 }
     requires exponents { first + count ≤ 65536 }
-    ensures { IfOk result (λ texts. lists_of texts.items ≡ map (recovery record.now.slice (all_slices record.now.slice (files_of folder.now.files (names_of record.now)))) (range_with_len first count)) }
+    ensures { IfOk result (λ texts. lists_of texts.items
+        ≡ map (recovery record.now.slice (all_slices record.now.slice
+        (files_of folder.now.files (names_of record.now)))) (range_with_len first count)) }
 {
     let slices = slices_of(alloc, record, folder)?;
     recovery_of(alloc, gf, &slices, record.slice as usize, first, count)
@@ -184,9 +191,11 @@ pub fn recovery_slice(
     requires size { 1 ≤ record.now.slice }
     requires even { record.now.slice % 2 ≡ 0 }
     requires names { AllByRecursion (λ name. IsTrue (is_name name)) (names_of record.now) }
-    requires slices { length (all_slices record.now.slice (files_of folder.now.files (names_of record.now))) ≤ 32768 }
+    requires slices { length
+        (all_slices record.now.slice (files_of folder.now.files (names_of record.now))) ≤ 32768 }
     requires exponent { e < 65536 }
-    ensures { IfOk result (λ text. text.items ≡ recovery record.now.slice (all_slices record.now.slice (files_of folder.now.files (names_of record.now))) e) }
+    ensures { IfOk result (λ text. text.items ≡ recovery record.now.slice
+        (all_slices record.now.slice (files_of folder.now.files (names_of record.now))) e) }
 {
     let mut texts = recovery_slices(alloc, gf, record, folder, e, 1)?;
     Ok(texts.remove(0))

@@ -89,7 +89,8 @@ fn records(
     s: u64,
 ) -> Result<Vec<FileRecord>, AllocError>
     requires { 1 ≤ s }
-    ensures { IfOk result (λ records. map file_record_of records.items ≡ map (record_of s) (files_of folder.now.files names.now)) }
+    ensures { IfOk result (λ records. map file_record_of records.items
+        ≡ map (record_of s) (files_of folder.now.files names.now)) }
 {
     let md5s = md5s(alloc, folder, names)?;
     let mut records = Vec::with_capacity(alloc, names.len())?;
@@ -112,11 +113,16 @@ impl SetRecord {
     ) -> Result<SetRecord, RecordFault>
         requires { 1 ≤ s }
         ensures slice { IfOk result (λ set. set.slice ≡ s) }
-        ensures files { IfOk result (λ set. map file_record_of set.files.items ≡ map (record_of s) (in_id_order (files_of folder.now.files names.now))) }
-        ensures order { IfOk result (λ set. files_of folder.now.files (names_of set) ≡ in_id_order (files_of folder.now.files names.now)) }
-        ensures rising { IfOk result (λ set. IsStrictlyIncreasing (map id_number set.files.items)) }
-        ensures distinct { IsOk result → IsDistinct bytes_eq (map (λ file. file.id) (map (record_of s) (files_of folder.now.files names.now))) }
-        ensures duplicate { result ≡ Err RecordFault.DuplicateId → IsDistinct bytes_eq (map (λ file. file.id) (map (record_of s) (files_of folder.now.files names.now))) → ⊥ }
+        ensures files { IfOk result (λ set. map file_record_of set.files.items
+            ≡ map (record_of s) (in_id_order (files_of folder.now.files names.now))) }
+        ensures order { IfOk result (λ set. files_of folder.now.files (names_of set)
+            ≡ in_id_order (files_of folder.now.files names.now)) }
+        ensures rising { IfOk result
+            (λ set. IsStrictlyIncreasing (map id_number set.files.items)) }
+        ensures distinct { IsOk result → IsDistinct bytes_eq
+            (map (λ file. file.id) (map (record_of s) (files_of folder.now.files names.now))) }
+        ensures duplicate { result ≡ Err RecordFault.DuplicateId → IsDistinct bytes_eq
+            (map (λ file. file.id) (map (record_of s) (files_of folder.now.files names.now))) → ⊥ }
     {
         let mut files = records(alloc, folder, names, s)?;
         match sort_ids(files.as_mut_slice()) {

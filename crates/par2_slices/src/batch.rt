@@ -28,8 +28,10 @@ pub(crate) struct Candidate {
 fn starts(batch: &[Candidate]) -> [usize; LANES]
     requires some { 1 ≤ length batch.now }
     requires fit { length batch.now ≤ 8 }
-    ensures each { (k : ℕ) → k < length batch.now → slice_index result k ≡ (candidate_at batch.now k).spot.offset }
-    ensures among { (k : ℕ) → k < 8 → (j : ℕ) × (j < length batch.now) × (slice_index result k ≡ (candidate_at batch.now j).spot.offset) }
+    ensures each { (k : ℕ)
+        → k < length batch.now → slice_index result k ≡ (candidate_at batch.now k).spot.offset }
+    ensures among { (k : ℕ) → k < 8 → (j : ℕ)
+        × (j < length batch.now) × (slice_index result k ≡ (candidate_at batch.now j).spot.offset) }
 {
     let mut starts = [batch[0].spot.offset; LANES];
     for (lane, candidate) in batch.iter().enumerate() {
@@ -42,8 +44,10 @@ fn starts(batch: &[Candidate]) -> [usize; LANES]
 pub(crate) fn digests(bytes: &[u8], s: u64, batch: &[Candidate]) -> [[u8; 16]; LANES]
     requires some { 1 ≤ length batch.now }
     requires fit { length batch.now ≤ 8 }
-    requires whole { (k : ℕ) → k < length batch.now → (candidate_at batch.now k).spot.offset + s ≤ length bytes.now }
-    ensures { (k : ℕ) → k < length batch.now → digest_at result k ≡ md5 (window s bytes.now (candidate_at batch.now k).spot.offset) }
+    requires whole { (k : ℕ)
+        → k < length batch.now → (candidate_at batch.now k).spot.offset + s ≤ length bytes.now }
+    ensures { (k : ℕ) → k < length batch.now
+        → digest_at result k ≡ md5 (window s bytes.now (candidate_at batch.now k).spot.offset) }
 {
     if let [only] = batch {
         // Eight side by side take about the time of two, so one alone is faster by itself.

@@ -66,7 +66,8 @@ impl Filter {
         ensures shift { self.new.shift ≡ self.old.shift }
         ensures marked { Marks self.new crc }
         ensures kept { (other : ℕ) → Marks self.old other → Marks self.new other }
-        ensures only { (other : ℕ) → Marks self.new other → (other / 2 ^ self.old.shift ≡ crc / 2 ^ self.old.shift) × (other % 64 ≡ crc % 64) ⊎ Marks self.old other }
+        ensures only { (other : ℕ) → Marks self.new other → (other / 2 ^ self.old.shift
+            ≡ crc / 2 ^ self.old.shift) × (other % 64 ≡ crc % 64) ⊎ Marks self.old other }
     {
         self.words[(crc >> self.shift) as usize] |= 1 << (crc % 64);
         self.coarse[(crc >> COARSE_SHIFT) as usize] |= 1 << (crc % 64);
@@ -76,7 +77,9 @@ impl Filter {
     pub(crate) fn remove(&mut self, crc: u32)
         ensures shift { self.new.shift ≡ self.old.shift }
         ensures gone { ¬ (Marks self.new crc) }
-        ensures kept { (other : ℕ) → ¬ ((other / 2 ^ self.old.shift ≡ crc / 2 ^ self.old.shift) × (other % 64 ≡ crc % 64)) → Marks self.old other → Marks self.new other }
+        ensures kept { (other : ℕ)
+            → ¬ ((other / 2 ^ self.old.shift ≡ crc / 2 ^ self.old.shift) × (other % 64 ≡ crc % 64))
+            → Marks self.old other → Marks self.new other }
         ensures only { (other : ℕ) → Marks self.new other → Marks self.old other }
     {
         self.words[(crc >> self.shift) as usize] &= !(1 << (crc % 64));

@@ -44,7 +44,8 @@ fn leaving_table(s: u64) -> [u32; 256]
 
 /// The table of what those entries become when a byte more comes in.
 fn behind(table: &[u32; 256]) -> [u32; 256]
-    ensures { (byte : ℕ) → byte < 256 → slice_index result byte ≡ steps 8 (slice_index table.now byte) }
+    ensures { (byte : ℕ)
+        → byte < 256 → slice_index result byte ≡ steps 8 (slice_index table.now byte) }
 {
     let mut later = [0; 256];
     for byte in 0..256usize {
@@ -73,7 +74,8 @@ impl Rolling {
         requires { length window.now ≤ self.old.size }
         ensures size { self.new.size ≡ self.old.size }
         ensures padded { self.new.value ≡ spec.crc32 (padded self.old.size window.now) }
-        ensures whole { length window.now ≡ self.old.size → self.new.value ≡ spec.crc32 window.now }
+        ensures whole { length window.now ≡ self.old.size
+            → self.new.value ≡ spec.crc32 window.now }
     {
         self.value = padded_crc32(window, self.size);
     }
@@ -81,7 +83,8 @@ impl Rolling {
     /// Moves the window on by a byte: `out` leaves it in front, `next` comes in behind.
     pub fn slide(&mut self, out: u8, next: u8)
         ensures size { self.new.size ≡ self.old.size }
-        ensures value { (rest : List ℕ) → length rest + 1 ≡ self.old.size → self.old.value ≡ spec.crc32 (out ∷ rest) → self.new.value ≡ spec.crc32 (rest ++ next ∷ []) }
+        ensures value { (rest : List ℕ) → length rest + 1 ≡ self.old.size → self.old.value
+            ≡ spec.crc32 (out ∷ rest) → self.new.value ≡ spec.crc32 (rest ++ next ∷ []) }
     {
         self.value = self.slid(self.value, out, next);
     }
@@ -103,7 +106,8 @@ impl Rolling {
 
     /// The value after two slides. It hangs on the value before them by one look at the tables, and not by two.
     fn slid_twice(&self, value: u32, out: [u8; 2], next: [u8; 2]) -> u32
-        ensures { result ≡ after_slide self.now.size (after_slide self.now.size value (slice_index out 0) (slice_index next 0)) (slice_index out 1) (slice_index next 1) }
+        ensures { result ≡ after_slide self.now.size (after_slide self.now.size value
+            (slice_index out 0) (slice_index next 0)) (slice_index out 1) (slice_index next 1) }
     {
         self.leaves(1, out[0]) ^ self.leaves(0, out[1]) ^ after_two(value, next[0], next[1])
     }
@@ -112,8 +116,10 @@ impl Rolling {
     pub(crate) fn slide_four(&mut self, out: &[u8; 4], next: &[u8; 4]) -> [u32; 4]
         ensures size { self.new.size ≡ self.old.size }
         ensures first { slice_index result 0 ≡ self.old.value }
-        ensures others { (k : ℕ) → k < 3 → slice_index result (k + 1) ≡ after_slide self.old.size (slice_index result k) (slice_index out.now k) (slice_index next.now k) }
-        ensures value { self.new.value ≡ after_slide self.old.size (slice_index result 3) (slice_index out.now 3) (slice_index next.now 3) }
+        ensures others { (k : ℕ) → k < 3 → slice_index result (k + 1) ≡ after_slide
+            self.old.size (slice_index result k) (slice_index out.now k) (slice_index next.now k) }
+        ensures value { self.new.value ≡ after_slide self.old.size
+            (slice_index result 3) (slice_index out.now 3) (slice_index next.now 3) }
     {
         let first = self.value;
         let second = self.slid(first, out[0], next[0]);

@@ -19,7 +19,8 @@ use std::alloc::{AllocError, Global};
 
 /// How many pairs of the group have this CRC-32 and no answer yet.
 fn awaited(group: &[Place], crc: u32, found: &[Option<Spot>]) -> usize
-    requires { (k : ℕ) → k < length group.now → (place_at group.now k).index < length found.now }
+    requires { (k : ℕ)
+        → k < length group.now → (place_at group.now k).index < length found.now }
     ensures { result ≡ count_by (is_awaited crc found.now) group.now }
 {
     let mut count = 0;
@@ -33,7 +34,8 @@ fn awaited(group: &[Place], crc: u32, found: &[Option<Spot>]) -> usize
 
 /// Whether a pair of the group, whose CRC-32 has the same low six bits, has no answer yet.
 fn is_waiting(group: &[Place], crc: u32, found: &[Option<Spot>]) -> bool
-    requires { (k : ℕ) → k < length group.now → (place_at group.now k).index < length found.now }
+    requires { (k : ℕ)
+        → k < length group.now → (place_at group.now k).index < length found.now }
     ensures { IsTrue result ↔ IsWaiting group.now crc found.now }
 {
     for place in group {
@@ -53,10 +55,15 @@ fn settle(
     spot: Spot,
     found: &mut [Option<Spot>],
 ) -> usize
-    requires places { (k : ℕ) → k < length group.now → IsPlace pairs.now (place_at group.now k) }
+    requires places { (k : ℕ)
+        → k < length group.now → IsPlace pairs.now (place_at group.now k) }
     requires len { length found.old ≡ length pairs.now }
-    ensures each { (i : ℕ) → i < length pairs.now → (answer_at found.new i ≡ answer_at found.old i) ⊎ (answer_at found.new i ≡ advanced (has_checksums md5.now crc (pair_at pairs.now i)) spot (answer_at found.old i)) }
-    ensures group { (k : ℕ) → k < length group.now → let i = (place_at group.now k).index in answer_at found.new i ≡ advanced (has_checksums md5.now crc (pair_at pairs.now i)) spot (answer_at found.old i) }
+    ensures each { (i : ℕ) → i < length pairs.now
+        → (answer_at found.new i ≡ answer_at found.old i) ⊎ (answer_at found.new i
+        ≡ advanced (has_checksums md5.now crc (pair_at pairs.now i)) spot (answer_at found.old i)) }
+    ensures group { (k : ℕ) → k < length group.now → let i = (place_at group.now k).index in
+        answer_at found.new i
+        ≡ advanced (has_checksums md5.now crc (pair_at pairs.now i)) spot (answer_at found.old i) }
     ensures count { result + count_by is_none found.new ≡ count_by is_none found.old }
 {
     let mut count = 0;
@@ -84,8 +91,10 @@ struct Search {
 impl Search {
     /// Before the first text.
     fn new(alloc: Global, wanted: &Wanted) -> Result<Search, AllocError>
-        ensures tally { IfOk result (λ search. IsTally wanted.now search.found.items search.left search.filter) }
-        ensures open { IfOk result (λ search. (i : ℕ) → answer_at search.found.items i ≡ None) }
+        ensures tally { IfOk result
+            (λ search. IsTally wanted.now search.found.items search.left search.filter) }
+        ensures open { IfOk result (λ search. (i : ℕ)
+            → answer_at search.found.items i ≡ None) }
         ensures batch { IfOk result (λ search. search.batch.items ≡ []) }
     {
         let pairs = wanted.pairs();
@@ -113,7 +122,9 @@ impl Search {
     fn answer(&mut self, wanted: &Wanted, candidate: Candidate, md5: &[u8; 16])
         requires { IsTally wanted.now self.old.found.items self.old.left self.old.filter }
         ensures tally { IsTally wanted.now self.new.found.items self.new.left self.new.filter }
-        ensures each { (i : ℕ) → i < length wanted.now → answer_at self.new.found.items i ≡ advanced (has_checksums md5.now candidate.crc (pair_at wanted.now i)) candidate.spot (answer_at self.old.found.items i) }
+        ensures each { (i : ℕ) → i < length wanted.now → answer_at self.new.found.items i
+            ≡ advanced (has_checksums md5.now candidate.crc (pair_at wanted.now i)) candidate.spot
+            (answer_at self.old.found.items i) }
         ensures batch { self.new.batch.items ≡ self.old.batch.items }
         ensures filter { self.new.filter ≡ self.old.filter }
     {
@@ -125,9 +136,12 @@ impl Search {
     /// Compares the candidates of the batch, in the order of their offsets, and empties it.
     fn settle_batch(&mut self, wanted: &Wanted, bytes: &[u8], s: u64)
         requires tally { IsTally wanted.now self.old.found.items self.old.left self.old.filter }
-        requires candidates { (k : ℕ) → k < length self.old.batch.items → IsWindow s bytes.now (candidate_at self.old.batch.items k) }
+        requires candidates { (k : ℕ) → k < length self.old.batch.items
+            → IsWindow s bytes.now (candidate_at self.old.batch.items k) }
         ensures tally { IsTally wanted.now self.new.found.items self.new.left self.new.filter }
-        ensures each { (i : ℕ) → i < length wanted.now → answer_at self.new.found.items i ≡ settled s bytes.now (pair_at wanted.now i) self.old.batch.items (answer_at self.old.found.items i) }
+        ensures each { (i : ℕ)
+            → i < length wanted.now → answer_at self.new.found.items i ≡ settled s bytes.now
+            (pair_at wanted.now i) self.old.batch.items (answer_at self.old.found.items i) }
         ensures batch { self.new.batch.items ≡ [] }
         ensures filter { self.new.filter ≡ self.old.filter }
     {
@@ -145,7 +159,8 @@ impl Search {
 
     /// Whether the batch has room for a candidate, and none of this CRC-32.
     fn has_room_for(&self, crc: u32) -> bool
-        ensures { IsTrue result ↔ (length self.now.batch.items < 8) × ((k : ℕ) → k < length self.now.batch.items → ¬ ((candidate_at self.now.batch.items k).crc ≡ crc)) }
+        ensures { IsTrue result ↔ (length self.now.batch.items < 8) × ((k : ℕ) → k
+            < length self.now.batch.items → ¬ ((candidate_at self.now.batch.items k).crc ≡ crc)) }
     {
         !self.batch.is_full()
             && self
@@ -160,9 +175,11 @@ impl Search {
     // Of windows of one CRC-32 the first mostly answers each pair that waits for it: then the others need no MD5.
     fn make_room(&mut self, wanted: &Wanted, bytes: &[u8], s: u64, offset: usize, crc: u32)
         ghost begun: { Begun }
-        requires at { IsAt s bytes.now begun offset wanted.now self.old.found.items self.old.left self.old.filter self.old.batch.items }
+        requires at { IsAt s bytes.now begun offset
+            wanted.now self.old.found.items self.old.left self.old.filter self.old.batch.items }
         requires within { offset < length bytes.now }
-        ensures at { IsAt s bytes.now begun offset wanted.now self.new.found.items self.new.left self.new.filter self.new.batch.items }
+        ensures at { IsAt s bytes.now begun offset
+            wanted.now self.new.found.items self.new.left self.new.filter self.new.batch.items }
         ensures room { length self.new.batch.items < 8 }
         ensures short { length bytes.now < offset + s → self.new.batch.items ≡ [] }
     {
@@ -176,13 +193,16 @@ impl Search {
     /// is compared at once, since the batch has whole windows only.
     fn put(&mut self, wanted: &Wanted, bytes: &[u8], s: u64, candidate: Candidate, pairs: usize)
         ghost begun: { Begun }
-        requires at { IsAt s bytes.now begun candidate.spot.offset wanted.now self.old.found.items self.old.left self.old.filter self.old.batch.items }
+        requires at { IsAt s bytes.now begun candidate.spot.offset
+            wanted.now self.old.found.items self.old.left self.old.filter self.old.batch.items }
         requires within { candidate.spot.offset < length bytes.now }
         requires text { candidate.spot.text ≡ begun.text }
         requires crc { candidate.crc ≡ crc32 (window s bytes.now candidate.spot.offset) }
         requires room { length self.old.batch.items < 8 }
-        requires short { length bytes.now < candidate.spot.offset + s → self.old.batch.items ≡ [] }
-        ensures at { IsAt s bytes.now begun (candidate.spot.offset + 1) wanted.now self.new.found.items self.new.left self.new.filter self.new.batch.items }
+        requires short { length bytes.now < candidate.spot.offset + s
+            → self.old.batch.items ≡ [] }
+        ensures at { IsAt s bytes.now begun (candidate.spot.offset + 1)
+            wanted.now self.new.found.items self.new.left self.new.filter self.new.batch.items }
         ensures filter { self.new.filter ≡ self.old.filter }
     {
         let window = window_bytes(bytes, s, candidate.spot.offset);
@@ -204,11 +224,13 @@ impl Search {
     #[inline(never)]
     fn look(&mut self, wanted: &Wanted, bytes: &[u8], s: u64, spot: Spot, crc: u32)
         ghost begun: { Begun }
-        requires at { IsAt s bytes.now begun spot.offset wanted.now self.old.found.items self.old.left self.old.filter self.old.batch.items }
+        requires at { IsAt s bytes.now begun spot.offset
+            wanted.now self.old.found.items self.old.left self.old.filter self.old.batch.items }
         requires text { spot.text ≡ begun.text }
         requires within { spot.offset < length bytes.now }
         requires crc { crc ≡ crc32 (window s bytes.now spot.offset) }
-        ensures { IsAt s bytes.now begun (spot.offset + 1) wanted.now self.new.found.items self.new.left self.new.filter self.new.batch.items }
+        ensures { IsAt s bytes.now begun (spot.offset + 1)
+            wanted.now self.new.found.items self.new.left self.new.filter self.new.batch.items }
     {
         if !self.filter.contains(crc) {
             return;
@@ -227,11 +249,13 @@ impl Search {
     /// Looks at the window at `offset`, whose CRC-32 is `crc`.
     fn test(&mut self, wanted: &Wanted, bytes: &[u8], s: u64, spot: Spot, crc: u32)
         ghost begun: { Begun }
-        requires at { IsAt s bytes.now begun spot.offset wanted.now self.old.found.items self.old.left self.old.filter self.old.batch.items }
+        requires at { IsAt s bytes.now begun spot.offset
+            wanted.now self.old.found.items self.old.left self.old.filter self.old.batch.items }
         requires text { spot.text ≡ begun.text }
         requires within { spot.offset < length bytes.now }
         requires crc { crc ≡ crc32 (window s bytes.now spot.offset) }
-        ensures { IsAt s bytes.now begun (spot.offset + 1) wanted.now self.new.found.items self.new.left self.new.filter self.new.batch.items }
+        ensures { IsAt s bytes.now begun (spot.offset + 1)
+            wanted.now self.new.found.items self.new.left self.new.filter self.new.batch.items }
     {
         if self.filter.may_contain(crc) {
             self.look(wanted, bytes, s, spot, crc);
@@ -241,11 +265,14 @@ impl Search {
     /// Looks at four windows, the first of them at `offset`.
     fn test_four(&mut self, wanted: &Wanted, bytes: &[u8], s: u64, spot: Spot, crcs: &[u32; 4])
         ghost begun: { Begun }
-        requires at { IsAt s bytes.now begun spot.offset wanted.now self.old.found.items self.old.left self.old.filter self.old.batch.items }
+        requires at { IsAt s bytes.now begun spot.offset
+            wanted.now self.old.found.items self.old.left self.old.filter self.old.batch.items }
         requires text { spot.text ≡ begun.text }
         requires within { spot.offset + 4 ≤ length bytes.now }
-        requires crcs { (k : ℕ) → k < 4 → slice_index crcs.now k ≡ crc32 (window s bytes.now (spot.offset + k)) }
-        ensures { IsAt s bytes.now begun (spot.offset + 4) wanted.now self.new.found.items self.new.left self.new.filter self.new.batch.items }
+        requires crcs { (k : ℕ)
+            → k < 4 → slice_index crcs.now k ≡ crc32 (window s bytes.now (spot.offset + k)) }
+        ensures { IsAt s bytes.now begun (spot.offset + 4)
+            wanted.now self.new.found.items self.new.left self.new.filter self.new.batch.items }
     {
         let Spot { text, offset } = spot;
         for (k, &crc) in crcs.iter().enumerate() {
@@ -269,11 +296,13 @@ impl Search {
         ghost begun: { Begun }
         requires text { text ≡ begun.text }
         requires some { 1 ≤ s }
-        requires at { IsAt s bytes.now begun 0 wanted.now self.old.found.items self.old.left self.old.filter self.old.batch.items }
+        requires at { IsAt s bytes.now begun
+            0 wanted.now self.old.found.items self.old.left self.old.filter self.old.batch.items }
         requires size { rolling.old.size ≡ s }
         requires value { rolling.old.value ≡ crc32 (window s bytes.now 0) }
         ensures within { result ≤ length bytes.now }
-        ensures at { IsAt s bytes.now begun result wanted.now self.new.found.items self.new.left self.new.filter self.new.batch.items }
+        ensures at { IsAt s bytes.now begun result
+            wanted.now self.new.found.items self.new.left self.new.filter self.new.batch.items }
         ensures size { rolling.new.size ≡ s }
         ensures value { rolling.new.value ≡ crc32 (window s bytes.now result) }
     {
@@ -304,10 +333,12 @@ impl Search {
         requires text { start.text ≡ begun.text }
         requires some { 1 ≤ s }
         requires within { start.offset ≤ length bytes.now }
-        requires at { IsAt s bytes.now begun start.offset wanted.now self.old.found.items self.old.left self.old.filter self.old.batch.items }
+        requires at { IsAt s bytes.now begun start.offset
+            wanted.now self.old.found.items self.old.left self.old.filter self.old.batch.items }
         requires size { rolling.old.size ≡ s }
         requires value { rolling.old.value ≡ crc32 (window s bytes.now start.offset) }
-        ensures at { IsAt s bytes.now begun (length bytes.now) wanted.now self.new.found.items self.new.left self.new.filter self.new.batch.items }
+        ensures at { IsAt s bytes.now begun (length bytes.now)
+            wanted.now self.new.found.items self.new.left self.new.filter self.new.batch.items }
         ensures size { rolling.new.size ≡ s }
     {
         let incoming = bytes_from(bytes, s);
@@ -336,10 +367,12 @@ impl Search {
         ghost begun: { Begun }
         requires text { text ≡ begun.text }
         requires some { 1 ≤ s }
-        requires at { IsAt s bytes.now begun 0 wanted.now self.old.found.items self.old.left self.old.filter self.old.batch.items }
+        requires at { IsAt s bytes.now begun
+            0 wanted.now self.old.found.items self.old.left self.old.filter self.old.batch.items }
         requires empty { self.old.batch.items ≡ [] }
         requires size { rolling.old.size ≡ s }
-        ensures at { IsAt s bytes.now begun (length bytes.now) wanted.now self.new.found.items self.new.left self.new.filter self.new.batch.items }
+        ensures at { IsAt s bytes.now begun (length bytes.now)
+            wanted.now self.new.found.items self.new.left self.new.filter self.new.batch.items }
         ensures empty { self.new.batch.items ≡ [] }
         ensures size { rolling.new.size ≡ s }
     {
@@ -393,7 +426,8 @@ pub fn find_among(
     wanted: &Wanted,
 ) -> Result<Vec<Option<Spot>>, AllocError>
     requires { 1 ≤ s }
-    ensures { IfOk result (λ spots. spots.items ≡ map (first_spot s (map (λ text. text.now) texts.now)) wanted.now) }
+    ensures { IfOk result (λ spots. spots.items
+        ≡ map (first_spot s (map (λ text. text.now) texts.now)) wanted.now) }
 {
     let mut search = Search::new(alloc, wanted)?;
     let mut rolling = Rolling::new(alloc, s)?;

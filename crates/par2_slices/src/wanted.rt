@@ -54,7 +54,8 @@ fn group_start(places: &[Place], group: u32, shift: u32) -> usize
     requires rising { IsNonDecreasingBy (λ place. place.crc) places.now }
     ensures bound { result ≤ length places.now }
     ensures below { (k : ℕ) → k < result → (place_at places.now k).crc / 2 ^ shift < group }
-    ensures above { (k : ℕ) → result ≤ k → k < length places.now → group ≤ (place_at places.now k).crc / 2 ^ shift }
+    ensures above { (k : ℕ)
+        → result ≤ k → k < length places.now → group ≤ (place_at places.now k).crc / 2 ^ shift }
 {
     let mut start = 0;
     let mut end = places.len();
@@ -73,8 +74,10 @@ fn group_start(places: &[Place], group: u32, shift: u32) -> usize
 fn group_len(places: &[Place], group: u32, shift: u32) -> usize
     requires { shift < 32 }
     ensures bound { result ≤ length places.now }
-    ensures members { (k : ℕ) → k < result → (place_at places.now k).crc / 2 ^ shift ≡ group }
-    ensures end { result < length places.now → ¬ ((place_at places.now result).crc / 2 ^ shift ≡ group) }
+    ensures members { (k : ℕ)
+        → k < result → (place_at places.now k).crc / 2 ^ shift ≡ group }
+    ensures end { result < length places.now
+        → ¬ ((place_at places.now result).crc / 2 ^ shift ≡ group) }
 {
     for (k, place) in places.iter().enumerate() {
         if place.crc >> shift != group {

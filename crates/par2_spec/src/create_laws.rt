@@ -14,18 +14,22 @@ ghost use Rattle.par2_spec.specs.Plans.{create_changes};
 
 /// The outputs of a create have names of their own.
 pub fn outputs_are_distinct()
-    ensures { (base : List ℕ) (s f c : ℕ) (files : List File) → IsDistinct bytes_eq (map (λ file. file.0) (volumes base s f c files)) }
+    ensures { (base : List ℕ) (s f c : ℕ) (files : List File)
+        → IsDistinct bytes_eq (map (λ file. file.0) (volumes base s f c files)) }
 {}
 
 /// The changes of a create apply in order and lead to its folder, on every folder.
 pub fn create_leads_to_its_folder()
-    ensures applies { (folder : Folder) (a : CreateArgs) → IsTrue (are_applicable folder (create_changes folder a)) }
-    ensures leads { (folder : Folder) (a : CreateArgs) → effects folder (create_changes folder a) ≡ after_create folder (outputs_of folder a) }
+    ensures applies { (folder : Folder) (a : CreateArgs)
+        → IsTrue (are_applicable folder (create_changes folder a)) }
+    ensures leads { (folder : Folder) (a : CreateArgs)
+        → effects folder (create_changes folder a) ≡ after_create folder (outputs_of folder a) }
 {}
 
 /// Without recovery slices the index is the only output.
 pub fn index_alone()
-    ensures { (base : List ℕ) (s f : ℕ) (files : List File) → volumes base s f 0 files ≡ (base, flat_map packet (index_packets s (map (record_of s) (in_id_order files)))) ∷ [] }
+    ensures { (base : List ℕ) (s f : ℕ) (files : List File) → volumes base s f 0 files
+        ≡ (base, flat_map packet (index_packets s (map (record_of s) (in_id_order files)))) ∷ [] }
 {}
 
 /// The files in the order of their File IDs are the files, no File ID falls, and one list alone of what a set says of
@@ -33,6 +37,11 @@ pub fn index_alone()
 pub fn files_in_order()
     ensures same { (files : List File) → IsPermutation files (in_id_order files) }
     ensures order { (files : List File) → IsNonDecreasingBy id_number (in_id_order files) }
-    ensures only { (s : ℕ) (files : List File) (records : List FileRecord) → IsPermutation (map (record_of s) files) records → IsStrictlyIncreasing (map (λ file. from_le_bytes w128 file.id) records) → records ≡ map (record_of s) (in_id_order files) }
-    ensures names { (folder : Folder) (names : List (List ℕ)) → files_of folder (map (λ file. file.0) (in_id_order (files_of folder names))) ≡ in_id_order (files_of folder names) }
+    ensures only { (s : ℕ) (files : List File) (records : List FileRecord)
+        → IsPermutation (map (record_of s) files) records
+        → IsStrictlyIncreasing (map (λ file. from_le_bytes w128 file.id) records)
+        → records ≡ map (record_of s) (in_id_order files) }
+    ensures names { (folder : Folder) (names : List (List ℕ))
+        → files_of folder (map (λ file. file.0) (in_id_order (files_of folder names)))
+        ≡ in_id_order (files_of folder names) }
 {}

@@ -8,7 +8,8 @@ ghost use Rattle.par2_spec.specs.Field.{mul, pow, constant, constant_powers};
 pub fn products()
     ensures element { (a b : ℕ) → a < 2 ^ 16 → b < 2 ^ 16 → mul a b < 2 ^ 16 }
     ensures commute { (a b : ℕ) → a < 2 ^ 16 → b < 2 ^ 16 → mul a b ≡ mul b a }
-    ensures associate { (a b c : ℕ) → a < 2 ^ 16 → b < 2 ^ 16 → c < 2 ^ 16 → mul (mul a b) c ≡ mul a (mul b c) }
+    ensures associate { (a b c : ℕ)
+        → a < 2 ^ 16 → b < 2 ^ 16 → c < 2 ^ 16 → mul (mul a b) c ≡ mul a (mul b c) }
     ensures linear { (a b c : ℕ) → mul a (bit_xor b c) ≡ bit_xor (mul a b) (mul a c) }
     ensures linear_left { (a b c : ℕ) → mul (bit_xor a b) c ≡ bit_xor (mul a c) (mul b c) }
     ensures one { (a : ℕ) → a < 2 ^ 16 → mul a 1 ≡ a }
@@ -22,8 +23,10 @@ pub fn no_zero_divisors()
 
 /// Each element but zero has exactly one inverse.
 pub fn inverses()
-    ensures some { (a : ℕ) → a ≢ 0 → a < 2 ^ 16 → (b : ℕ) × ((b < 2 ^ 16) × (mul a b ≡ 1)) }
-    ensures one { (a b c : ℕ) → a < 2 ^ 16 → b < 2 ^ 16 → c < 2 ^ 16 → mul a b ≡ 1 → mul a c ≡ 1 → b ≡ c }
+    ensures some { (a : ℕ)
+        → a ≢ 0 → a < 2 ^ 16 → (b : ℕ) × ((b < 2 ^ 16) × (mul a b ≡ 1)) }
+    ensures one { (a b c : ℕ)
+        → a < 2 ^ 16 → b < 2 ^ 16 → c < 2 ^ 16 → mul a b ≡ 1 → mul a c ≡ 1 → b ≡ c }
 {}
 
 /// The exponents of powers add up, and those of a power of a power multiply.
@@ -37,7 +40,8 @@ pub fn powers()
 pub fn order_of_two()
     ensures whole { pow 2 65535 ≡ 1 }
     ensures least { (k : ℕ) → 0 < k → k < 65535 → pow 2 k ≢ 1 }
-    ensures generates { (a : ℕ) → a ≢ 0 → a < 2 ^ 16 → (k : ℕ) × ((k < 65535) × (pow 2 k ≡ a)) }
+    ensures generates { (a : ℕ)
+        → a ≢ 0 → a < 2 ^ 16 → (k : ℕ) × ((k < 65535) × (pow 2 k ≡ a)) }
 {}
 
 /// There are 32,768 constants, none is zero, and no two are the same.

@@ -41,8 +41,8 @@ pub fn main_is_read()
 /// A FileDesc that was written says what was given.
 pub fn desc_is_read()
     ensures { (file : FileRecord) → length file.id ≡ 16 → length file.digest ≡ 16
-        → length file.digest_16k ≡ 16 → file.size < 2 ^ 64 → list_any (λ b. b == 0) file.name ≡ false
-        → read_desc FileDesc (desc_bytes file) ≡ Some (record {
+        → length file.digest_16k ≡ 16 → file.size < 2 ^ 64 → list_any (λ b. b == 0) file.name
+        ≡ false → read_desc FileDesc (desc_bytes file) ≡ Some (record {
           id = file.id;
           digest = file.digest;
           digest_16k = file.digest_16k;
@@ -59,13 +59,14 @@ pub fn ifsc_is_read()
 
 /// A RecvSlic that was written says what was given.
 pub fn recovery_is_read()
-    ensures { (e : ℕ) (bytes : List ℕ) → e < 2 ^ 32
-        → read_recovery Recovery (recovery_bytes e bytes) ≡ Some (record { exponent = e; bytes = bytes }) }
+    ensures { (e : ℕ) (bytes : List ℕ) → e < 2 ^ 32 → read_recovery Recovery
+        (recovery_bytes e bytes) ≡ Some (record { exponent = e; bytes = bytes }) }
 {}
 
 /// The Main of such records is one packet, and is read as it is.
 pub fn main_is_a_packet()
-    ensures { (s : ℕ) (files : List FileRecord) → length files < 2 ^ 32 → AllByRecursion IsFileRecord files
+    ensures { (s : ℕ) (files : List FileRecord)
+        → length files < 2 ^ 32 → AllByRecursion IsFileRecord files
         → IsPacket (packet_of (main_id s files) Main (main_bytes s files)) }
 {}
 
@@ -83,20 +84,21 @@ pub fn ifsc_is_a_packet()
 
 /// So is the Creator.
 pub fn creator_is_a_packet()
-    ensures { (id : List ℕ) → length id ≡ 16 → IsPacket (packet_of id Creator creator_bytes) }
+    ensures { (id : List ℕ)
+        → length id ≡ 16 → IsPacket (packet_of id Creator creator_bytes) }
 {}
 
 /// So is a RecvSlic of a multiple of 4 bytes.
 pub fn recovery_is_a_packet()
-    ensures { (id : List ℕ) (e : ℕ) (bytes : List ℕ) → length id ≡ 16 → length bytes % 4 ≡ 0
-        → length bytes < 2 ^ 60 → IsPacket (packet_of id Recovery (recovery_bytes e bytes)) }
+    ensures { (id : List ℕ) (e : ℕ) (bytes : List ℕ) → length id ≡ 16 → length bytes % 4
+        ≡ 0 → length bytes < 2 ^ 60 → IsPacket (packet_of id Recovery (recovery_bytes e bytes)) }
 {}
 
 /// The packets of an index that was written are read as they are, and what is behind them as it is.
 pub fn index_is_read()
-    ensures { (s : ℕ) (files : List FileRecord) (text : List ℕ) → length files < 2 ^ 32
-        → AllByRecursion IsFileRecord files
-        → accepted (flat_map packet (index_packets s files) ++ text) ≡ index_packets s files ++ accepted text }
+    ensures { (s : ℕ) (files : List FileRecord) (text : List ℕ)
+        → length files < 2 ^ 32 → AllByRecursion IsFileRecord files → accepted
+        (flat_map packet (index_packets s files) ++ text) ≡ index_packets s files ++ accepted text }
 {}
 
 /// So are the recovery slices of a volume.

@@ -10,46 +10,68 @@ ghost use Rattle.par2_spec.specs.Repairs.{rebuilt};
 
 /// The tests over every vector and every text say what the words say.
 pub fn tests_say_the_words()
-    ensures repairable { (lost survivors : List ℕ) → IsTrue (is_repairable lost survivors) ↔ IsRepairable lost survivors }
-    ensures kept { (lost survivors : List ℕ) (e : ℕ) → Contains (kept lost survivors) e ↔ (Contains survivors e × IsKept lost survivors e) }
-    ensures agrees { (s : ℕ) (known : List (Option (List ℕ))) (recovered : List (ℕ × List ℕ)) (slices : List (List ℕ)) → AllByRecursion (λ text. length text ≡ s) slices → AllByRecursion (λ text. AllByRecursion (λ b. b < 256) text) slices → IsTrue (agrees s known recovered slices) ↔ Agrees s known recovered slices }
+    ensures repairable { (lost survivors : List ℕ)
+        → IsTrue (is_repairable lost survivors) ↔ IsRepairable lost survivors }
+    ensures kept { (lost survivors : List ℕ) (e : ℕ)
+        → Contains (kept lost survivors) e ↔ (Contains survivors e × IsKept lost survivors e) }
+    ensures agrees { (s : ℕ) (known : List (Option (List ℕ))) (recovered : List (ℕ
+        × List ℕ)) (slices : List (List ℕ)) → AllByRecursion (λ text. length text ≡ s) slices
+        → AllByRecursion (λ text. AllByRecursion (λ b. b < 256) text) slices
+        → IsTrue (agrees s known recovered slices) ↔ Agrees s known recovered slices }
 {}
 
 /// The rebuilt slices agree where some slices do, and where one list alone agrees they are that list.
 pub fn rebuilt_slices_agree()
-    ensures some { (set : ParSet) (known : List (Option (List ℕ))) (slices : List (List ℕ)) → Agrees set.slice_size known (kept_slices (lost known) (survivors set) (map_of.entries set.recovery)) slices → Agrees set.slice_size known (kept_slices (lost known) (survivors set) (map_of.entries set.recovery)) (rebuilt set known) }
-    ensures only { (set : ParSet) (known : List (Option (List ℕ))) (slices : List (List ℕ)) → IsRebuilt set.slice_size known (kept_slices (lost known) (survivors set) (map_of.entries set.recovery)) slices → rebuilt set known ≡ slices }
+    ensures some { (set : ParSet) (known : List (Option (List ℕ))) (slices : List (List ℕ))
+        → Agrees set.slice_size known (kept_slices (lost known) (survivors set)
+        (map_of.entries set.recovery)) slices → Agrees set.slice_size known (kept_slices
+        (lost known) (survivors set) (map_of.entries set.recovery)) (rebuilt set known) }
+    ensures only { (set : ParSet) (known : List (Option (List ℕ))) (slices : List (List ℕ))
+        → IsRebuilt set.slice_size known (kept_slices (lost known)
+        (survivors set) (map_of.entries set.recovery)) slices → rebuilt set known ≡ slices }
 {}
 
 /// Where the lost slices are determined, one list alone agrees, and what agrees is what is rebuilt.
 pub fn one_list_alone_agrees()
-    ensures one { (s : ℕ) (known : List (Option (List ℕ))) (recovery : List (ℕ × List ℕ)) (one other : List (List ℕ)) → s % 2 ≡ 0 → IsRepairable (lost known) (map (λ r. r.0) recovery) → Agrees s known (kept_slices (lost known) (map (λ r. r.0) recovery) recovery) one → Agrees s known (kept_slices (lost known) (map (λ r. r.0) recovery) recovery) other → one ≡ other }
-    ensures rebuilt { (set : ParSet) (known : List (Option (List ℕ))) (slices : List (List ℕ)) → set.slice_size % 2 ≡ 0 → IsRepairable (lost known) (survivors set) → Agrees set.slice_size known (kept_slices (lost known) (survivors set) (map_of.entries set.recovery)) slices → rebuilt set known ≡ slices }
+    ensures one { (s : ℕ) (known : List (Option (List ℕ))) (recovery : List (ℕ
+        × List ℕ)) (one other : List (List ℕ))
+        → s % 2 ≡ 0 → IsRepairable (lost known) (map (λ r. r.0) recovery)
+        → Agrees s known (kept_slices (lost known) (map (λ r. r.0) recovery) recovery) one
+        → Agrees s known (kept_slices (lost known) (map (λ r. r.0) recovery) recovery) other
+        → one ≡ other }
+    ensures rebuilt { (set : ParSet) (known : List (Option (List ℕ))) (slices : List (List ℕ))
+        → set.slice_size % 2 ≡ 0 → IsRepairable (lost known) (survivors set)
+        → Agrees set.slice_size known (kept_slices (lost known)
+        (survivors set) (map_of.entries set.recovery)) slices → rebuilt set known ≡ slices }
 {}
 
 /// Where the lost slices are not determined, another list too agrees with all that survives.
 pub fn another_list_agrees()
-    ensures { (s : ℕ) (known : List (Option (List ℕ))) (recovery : List (ℕ × List ℕ)) (slices : List (List ℕ)) → 2 ≤ s → (IsRepairable (lost known) (map (λ r. r.0) recovery) → ⊥) → Agrees s known recovery slices → AnotherAgrees s known recovery slices }
+    ensures { (s : ℕ) (known : List (Option (List ℕ))) (recovery : List (ℕ × List ℕ))
+        (slices : List (List ℕ)) → 2 ≤ s → (IsRepairable (lost known) (map (λ r. r.0) recovery) → ⊥)
+        → Agrees s known recovery slices → AnotherAgrees s known recovery slices }
 {}
 
 /// A vector that all kept exponents kill is killed by all survivors.
 pub fn kept_exponents_kill_as_all()
-    ensures { (lost survivors v : List ℕ) → IsVector (length lost) v → ((e : ℕ) → Contains (kept lost survivors) e → Kills lost e v) → AllByRecursion (λ e. Kills lost e v) survivors }
+    ensures { (lost survivors v : List ℕ)
+        → IsVector (length lost) v → ((e : ℕ) → Contains (kept lost survivors) e → Kills lost e v)
+        → AllByRecursion (λ e. Kills lost e v) survivors }
 {}
 
 /// Some slices agree with the known ones and with the recovery slices of the kept exponents, also where the surviving
 /// recovery slices contradict each other.
 pub fn some_slices_agree()
-    ensures { (s m : ℕ) (known : List (Option (List ℕ))) (recovery : List (ℕ × List ℕ)) (text : ℕ → List ℕ)
-        → AreSurvivors s m known recovery text
+    ensures { (s m : ℕ) (known : List (Option (List ℕ))) (recovery : List (ℕ
+        × List ℕ)) (text : ℕ → List ℕ) → AreSurvivors s m known recovery text
         → let kept = kept_slices (lost known) (map (λ r. r.0) recovery) recovery in
         (slices : List (List ℕ)) × Agrees s known kept slices }
 {}
 
 /// Where the lost slices are not determined, at least two lists do.
 pub fn two_lists_agree()
-    ensures { (s m : ℕ) (known : List (Option (List ℕ))) (recovery : List (ℕ × List ℕ)) (text : ℕ → List ℕ)
-        → AreSurvivors s m known recovery text → 2 ≤ s
-        → (IsRepairable (lost known) (map (λ r. r.0) recovery) → ⊥)
+    ensures { (s m : ℕ) (known : List (Option (List ℕ))) (recovery : List (ℕ
+        × List ℕ)) (text : ℕ → List ℕ) → AreSurvivors s m known recovery text
+        → 2 ≤ s → (IsRepairable (lost known) (map (λ r. r.0) recovery) → ⊥)
         → TwoAgree s known (kept_slices (lost known) (map (λ r. r.0) recovery) recovery) }
 {}

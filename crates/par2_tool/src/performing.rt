@@ -49,19 +49,20 @@ pub fn perform<S: FolderStore>(
         (session_of_kept session.old).folder (command_of command.now)) }
     ensures answer { IfOk result (λ outcome. IsAnswer
         (session_of_kept session.old) (command_of command.now) (outcome_of outcome)) }
-    ensures written { S.honest store.old → (S.contents store.old).files ≡ session.old.folder.files
-        → OnOk result (IsWritten (command_of command.now) (session_of_kept session.new)
-        (S.contents store.old) (S.contents store.new)) }
+    ensures written { S.honest store.old → (S.contents store.old).files
+        ≡ session.old.folder.files → OnOk result (IsWritten (command_of command.now)
+        (session_of_kept session.new) (S.contents store.old) (S.contents store.new)) }
     ensures verify { IsVerify (command_of command.now)
         → (store.new ≡ store.old) × (session.new ≡ session.old) }
     ensures refused { IfErr result (IsRefused (command_of command.now) session.old session.new
         (S.failures store.old) (S.failures store.new)) }
     ensures unchanged { S.honest store.old
         → IfErr result (λ fault. IsSession fault → S.contents store.new ≡ S.contents store.old) }
-    ensures stopped { S.honest store.old → (S.contents store.old).files ≡ session.old.folder.files
+    ensures stopped { S.honest store.old
+        → (S.contents store.old).files ≡ session.old.folder.files
         → TellsApartAlong (session_of_kept session.old) (command_of command.now)
-        → OnErr result (OpensAsBeforeOrAfter (session_of_kept session.old) (command_of command.now)
-        (S.contents store.old) (S.contents store.new)) }
+        → OnErr result (OpensAsBeforeOrAfter (session_of_kept session.old)
+        (command_of command.now) (S.contents store.old) (S.contents store.new)) }
     ensures in_order { S.honest store.old → OnErr result (AreSomeMade
         (changes_asked (session_of_kept session.old) (command_of command.now))
         (S.contents store.old).files (S.contents store.new).files) }

@@ -140,8 +140,8 @@ fn status_of(outcome: &Outcome) -> u8
 /// Prints what an accepted command answers on the output, steps below a note where the history was dropped, and
 /// answers the status.
 pub fn tell<W: Write>(out: &mut Printer<W>, outcome: &Outcome, dropped: bool) -> u8
-    ensures { Printed W.contents out.old out.new
-        (output_of dropped (outcome_of outcome.now)) (texts.status_of (outcome_of outcome.now)) result }
+    ensures { Printed W.contents out.old out.new (output_of dropped (outcome_of outcome.now))
+        (texts.status_of (outcome_of outcome.now)) result }
 {
     match write_outcome(out, outcome, dropped) {
         Ok(()) => status_of(outcome),

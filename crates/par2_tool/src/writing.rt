@@ -11,8 +11,11 @@ use par2_journal::Journals;
 #[tactic(auto, unfolding(par2_spec::specs::Changes::effect))]
 fn write_change<S: FolderStore>(store: &mut S, change: &Change) -> Result<(), StoreFault>
     ensures honest { S.honest store.old → S.honest store.new }
-    ensures done { S.honest store.old → OnOk result (S.contents store.new ≡ changed (S.contents store.old) (change_of change.now)) }
-    ensures stopped { S.honest store.old → OnErr result ((S.contents store.new ≡ S.contents store.old) ⊎ (S.contents store.new ≡ changed (S.contents store.old) (change_of change.now))) }
+    ensures done { S.honest store.old → OnOk result (S.contents store.new
+        ≡ changed (S.contents store.old) (change_of change.now)) }
+    ensures stopped { S.honest store.old
+        → OnErr result ((S.contents store.new ≡ S.contents store.old)
+        ⊎ (S.contents store.new ≡ changed (S.contents store.old) (change_of change.now))) }
     ensures later { S.failures store.old ≤ S.failures store.new }
     ensures cause { OnErr result (S.failures store.old < S.failures store.new) }
     ensures steady { OnOk result (S.failures store.new ≡ S.failures store.old) }
@@ -28,8 +31,11 @@ fn write_change<S: FolderStore>(store: &mut S, change: &Change) -> Result<(), St
 // Makes changes in a store, in order. Where it fails, some of them are made, from the first on.
 fn write_changes<S: FolderStore>(store: &mut S, changes: &[Change]) -> Result<(), StoreFault>
     ensures honest { S.honest store.old → S.honest store.new }
-    ensures done { S.honest store.old → OnOk result (S.contents store.new ≡ all_changed (S.contents store.old) (map change_of changes.now)) }
-    ensures stopped { S.honest store.old → OnErr result ((n : ℕ) × (n ≤ length changes.now) × (S.contents store.new ≡ all_changed (S.contents store.old) (take n (map change_of changes.now)))) }
+    ensures done { S.honest store.old → OnOk result (S.contents store.new
+        ≡ all_changed (S.contents store.old) (map change_of changes.now)) }
+    ensures stopped { S.honest store.old
+        → OnErr result ((n : ℕ) × (n ≤ length changes.now) × (S.contents store.new
+        ≡ all_changed (S.contents store.old) (take n (map change_of changes.now)))) }
     ensures later { S.failures store.old ≤ S.failures store.new }
     ensures cause { OnErr result (S.failures store.old < S.failures store.new) }
     ensures steady { OnOk result (S.failures store.new ≡ S.failures store.old) }
@@ -46,8 +52,11 @@ fn write_changes<S: FolderStore>(store: &mut S, changes: &[Change]) -> Result<()
 // Puts the journal of what is begun, where there is one.
 fn begin<S: FolderStore>(store: &mut S, halfway: &Option<Vec<u8>>) -> Result<(), StoreFault>
     ensures honest { S.honest store.old → S.honest store.new }
-    ensures done { S.honest store.old → OnOk result (S.contents store.new ≡ begun (S.contents store.old) halfway.now) }
-    ensures stopped { S.honest store.old → OnErr result ((S.contents store.new ≡ S.contents store.old) ⊎ (S.contents store.new ≡ begun (S.contents store.old) halfway.now)) }
+    ensures done { S.honest store.old
+        → OnOk result (S.contents store.new ≡ begun (S.contents store.old) halfway.now) }
+    ensures stopped { S.honest store.old
+        → OnErr result ((S.contents store.new ≡ S.contents store.old)
+        ⊎ (S.contents store.new ≡ begun (S.contents store.old) halfway.now)) }
     ensures later { S.failures store.old ≤ S.failures store.new }
     ensures cause { OnErr result (S.failures store.old < S.failures store.new) }
     ensures steady { OnOk result (S.failures store.new ≡ S.failures store.old) }
@@ -66,8 +75,10 @@ pub fn write_down<S: FolderStore>(
     changes: &[Change],
 ) -> Result<(), StoreFault>
     ensures honest { S.honest store.old → S.honest store.new }
-    ensures done { S.honest store.old → OnOk result (S.contents store.new ≡ written_down (S.contents store.old) journals.now (map change_of changes.now)) }
-    ensures stopped { S.honest store.old → OnErr result (IsStoppedAt (S.contents store.old) journals.now (map change_of changes.now) (S.contents store.new)) }
+    ensures done { S.honest store.old → OnOk result (S.contents store.new
+        ≡ written_down (S.contents store.old) journals.now (map change_of changes.now)) }
+    ensures stopped { S.honest store.old → OnErr result (IsStoppedAt
+        (S.contents store.old) journals.now (map change_of changes.now) (S.contents store.new)) }
     ensures later { S.failures store.old ≤ S.failures store.new }
     ensures cause { OnErr result (S.failures store.old < S.failures store.new) }
     ensures steady { OnOk result (S.failures store.new ≡ S.failures store.old) }

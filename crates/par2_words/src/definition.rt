@@ -75,7 +75,8 @@ fn purge_arg<'a>(alloc: Global) -> Arg<'a>
 }
 
 fn create_numbers<'a>(alloc: Global) -> Result<Command<'a>, AllocError>
-    ensures { IfOk result (λ c. (app_of c ≡ create_numbers_app) × ((out-Command c).has_globals ≡ false)) }
+    ensures { IfOk result (λ c. (app_of c ≡ create_numbers_app)
+        × ((out-Command c).has_globals ≡ false)) }
 {
     Command::new(alloc, "create")
         .arg(slice_arg(alloc))?
@@ -84,7 +85,8 @@ fn create_numbers<'a>(alloc: Global) -> Result<Command<'a>, AllocError>
 }
 
 fn create_command<'a>(alloc: Global) -> Result<Command<'a>, AllocError>
-    ensures { IfOk result (λ c. (app_of c ≡ create_app) × ((out-Command c).has_globals ≡ false)) }
+    ensures { IfOk result (λ c. (app_of c ≡ create_app)
+        × ((out-Command c).has_globals ≡ false)) }
 {
     create_numbers(alloc)?
         .arg(overwrite_arg(alloc))?
@@ -94,7 +96,8 @@ fn create_command<'a>(alloc: Global) -> Result<Command<'a>, AllocError>
 
 #[tactic(auto, unfolding(crate::specs::Definition::verify_app))]
 fn verify_command<'a>(alloc: Global) -> Result<Command<'a>, AllocError>
-    ensures { IfOk result (λ c. (app_of c ≡ verify_app) × ((out-Command c).has_globals ≡ false)) }
+    ensures { IfOk result (λ c. (app_of c ≡ verify_app)
+        × ((out-Command c).has_globals ≡ false)) }
 {
     Command::new(alloc, "verify")
         .arg(base_arg(alloc))?
@@ -102,7 +105,8 @@ fn verify_command<'a>(alloc: Global) -> Result<Command<'a>, AllocError>
 }
 
 fn repair_command<'a>(alloc: Global) -> Result<Command<'a>, AllocError>
-    ensures { IfOk result (λ c. (app_of c ≡ repair_app) × ((out-Command c).has_globals ≡ false)) }
+    ensures { IfOk result (λ c. (app_of c ≡ repair_app)
+        × ((out-Command c).has_globals ≡ false)) }
 {
     Command::new(alloc, "repair")
         .arg(purge_arg(alloc))?
@@ -112,7 +116,8 @@ fn repair_command<'a>(alloc: Global) -> Result<Command<'a>, AllocError>
 
 #[tactic(auto, unfolding(crate::specs::Definition::purge_app))]
 fn purge_command<'a>(alloc: Global) -> Result<Command<'a>, AllocError>
-    ensures { IfOk result (λ c. (app_of c ≡ purge_app) × ((out-Command c).has_globals ≡ false)) }
+    ensures { IfOk result (λ c. (app_of c ≡ purge_app)
+        × ((out-Command c).has_globals ≡ false)) }
 {
     Command::new(alloc, "purge").arg(base_arg(alloc))
 }
@@ -128,7 +133,8 @@ fn start_command<'a>(alloc: Global) -> Command<'a>
 }
 
 fn file_commands<'a>(alloc: Global) -> Result<Command<'a>, AllocError>
-    ensures { IfOk result (λ c. (app_of c ≡ file_commands_app) × ((out-Command c).has_globals ≡ false)) }
+    ensures { IfOk result (λ c. (app_of c ≡ file_commands_app)
+        × ((out-Command c).has_globals ≡ false)) }
 {
     start_command(alloc)
         .subcommand(create_command(alloc)?)?
@@ -138,7 +144,8 @@ fn file_commands<'a>(alloc: Global) -> Result<Command<'a>, AllocError>
 
 /// The command line with its six commands, as clap takes it.
 pub(crate) fn par2_command<'a>(alloc: Global) -> Result<Command<'a>, AllocError>
-    ensures { IfOk result (λ c. (app_of c ≡ par2_app) × ((out-Command c).has_globals ≡ false)) }
+    ensures { IfOk result (λ c. (app_of c ≡ par2_app)
+        × ((out-Command c).has_globals ≡ false)) }
 {
     file_commands(alloc)?
         .subcommand(purge_command(alloc)?)?

@@ -32,13 +32,15 @@ impl From<AllocError> for WordsFault {
 }
 
 fn base_of(alloc: Global, matches: &ArgMatches<'_>) -> Result<String, AllocError>
-    ensures { IfOk result (λ s. string_bytes s ≡ text_of (codes "base") (rows_of (found_of matches.now))) }
+    ensures { IfOk result (λ s. string_bytes s
+        ≡ text_of (codes "base") (rows_of (found_of matches.now))) }
 {
     String::from_str(alloc, matches.get_str("base").unwrap_or(""))
 }
 
 fn files_of(alloc: Global, matches: &ArgMatches<'_>) -> Result<Vec<String>, AllocError>
-    ensures { IfOk result (λ v. map string_bytes v.items ≡ texts_of (codes "files") (rows_of (found_of matches.now))) }
+    ensures { IfOk result (λ v. map string_bytes v.items
+        ≡ texts_of (codes "files") (rows_of (found_of matches.now))) }
 {
     let texts = matches.get_strs("files").unwrap_or(&[]);
     let mut files = Vec::new(alloc);
@@ -111,8 +113,10 @@ fn purge_of(alloc: Global, matches: &ArgMatches<'_>) -> Result<Action, AllocErro
 
 // The command of a subcommand's name and matches.
 fn named(alloc: Global, name: &str, matches: &ArgMatches<'_>) -> Result<Command, WordsFault>
-    ensures command { IfOk result (λ c. meant (name.now, rows_of (found_of matches.now)) ≡ Some (command_of c)) }
-    ensures fault { IfErr result (λ e. e ≡ WordsFault.Memory ⊎ meant (name.now, rows_of (found_of matches.now)) ≡ None) }
+    ensures command { IfOk result (λ c. meant (name.now, rows_of (found_of matches.now))
+        ≡ Some (command_of c)) }
+    ensures fault { IfErr result (λ e. e ≡ WordsFault.Memory
+        ⊎ meant (name.now, rows_of (found_of matches.now)) ≡ None) }
 {
     match name {
         "create" => Ok(Command::Act(create_of(alloc, matches)?)),
@@ -127,7 +131,8 @@ fn named(alloc: Global, name: &str, matches: &ArgMatches<'_>) -> Result<Command,
 
 fn fault_for(error: &clap::Error) -> WordsFault
     ensures memory { kind_of error.now ≡ ErrorKind.OutOfMemory → result ≡ WordsFault.Memory }
-    ensures arguments { result ≡ WordsFault.Memory → kind_of error.now ≡ ErrorKind.OutOfMemory }
+    ensures arguments { result ≡ WordsFault.Memory
+        → kind_of error.now ≡ ErrorKind.OutOfMemory }
 {
     match error.kind() {
         ErrorKind::OutOfMemory => WordsFault::Memory,
@@ -139,7 +144,8 @@ fn fault_for(error: &clap::Error) -> WordsFault
 ///
 /// Every refusal by clap but want of memory is `Arguments`, `--help` too.
 pub fn read_words(alloc: Global, words: &[String]) -> Result<Command, WordsFault>
-    ensures command { IfOk result (λ c. asked_by (map string_bytes words.now) ≡ Some (command_of c)) }
+    ensures command { IfOk result (λ c. asked_by (map string_bytes words.now)
+        ≡ Some (command_of c)) }
     ensures faultless { IfOk result (λ _. fault_of par2_app (map string_bytes words.now) ≡ []) }
     // Words that clap's definition takes, with a subcommand, are refused for want of memory alone.
     ensures arguments { let texts = map string_bytes words.now in

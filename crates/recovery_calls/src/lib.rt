@@ -87,7 +87,8 @@ fn bytes_of<'a>(folder: &'a Folder, name: &str) -> &'a [u8]
 fn has_few_slices(set: &SetRecord, folder: &Folder) -> bool
     requires size { 1 ≤ set.now.slice }
     requires names { AllByRecursion (λ name. IsTrue (is_name name)) (names_of set.now) }
-    ensures { IsTrue result → length (all_slices set.now.slice (files_of folder.now.files (names_of set.now))) ≤ 32768 }
+    ensures { IsTrue result
+        → length (all_slices set.now.slice (files_of folder.now.files (names_of set.now))) ≤ 32768 }
 {
     let mut left = MOST_SLICES;
     for i in 0..set.files.len() {
@@ -106,8 +107,10 @@ fn has_few_slices(set: &SetRecord, folder: &Folder) -> bool
 fn fits(set: &SetRecord, folder: &Folder) -> bool
     ensures size { IsTrue result → 1 ≤ set.now.slice }
     ensures even { IsTrue result → set.now.slice % 2 ≡ 0 }
-    ensures names { IsTrue result → AllByRecursion (λ name. IsTrue (is_name name)) (names_of set.now) }
-    ensures slices { IsTrue result → length (all_slices set.now.slice (files_of folder.now.files (names_of set.now))) ≤ 32768 }
+    ensures names { IsTrue result
+        → AllByRecursion (λ name. IsTrue (is_name name)) (names_of set.now) }
+    ensures slices { IsTrue result
+        → length (all_slices set.now.slice (files_of folder.now.files (names_of set.now))) ≤ 32768 }
 {
     let s = set.slice;
     s != 0 && s % 2 == 0 && are_names(&set.files) && has_few_slices(set, folder)
@@ -143,7 +146,8 @@ pub fn recovery_slice_of(
 }
 
 fn known_fits(known: &[Option<&[u8]>], size: usize) -> bool
-    ensures { IsTrue result → All (λ slice. IfSome slice (λ bytes. length bytes.now ≤ size)) known.now }
+    ensures { IsTrue result
+        → All (λ slice. IfSome slice (λ bytes. length bytes.now ≤ size)) known.now }
 {
     known
         .iter()
@@ -157,7 +161,8 @@ fn recovery_fits(recovery: &[(u32, &[u8])], size: usize) -> bool
 }
 
 fn exponents_rise(recovery: &[(u32, &[u8])]) -> bool
-    ensures { IsTrue result → AllAdjacentBelow (λ a b. a.0 < b.0) recovery.now (length recovery.now) }
+    ensures { IsTrue result
+        → AllAdjacentBelow (λ a b. a.0 < b.0) recovery.now (length recovery.now) }
 {
     for i in 1..recovery.len() {
         if recovery[i - 1].0 >= recovery[i].0 {

@@ -98,7 +98,8 @@ fn is_same_journal(journal: &Journal, parts: &JournalParts<'_>) -> bool {
 fn text_of<R: Abort + AllocGlobal>(rt: &R, parts: &JournalParts<'_>) -> Result<Vec<u8>, Fail>
     requires cursor { IsCursor parts.now.version parts.now.cursor (length parts.now.entries.now) }
     requires some { IfSome parts.now.halfway (λ h. 1 ≤ length h.back.now) }
-    requires each { IfSome parts.now.halfway (λ h. length h.fingerprints.now ≡ length h.back.now) }
+    requires each { IfSome parts.now.halfway (λ h. length h.fingerprints.now
+        ≡ length h.back.now) }
 {
     let text = encode(rt.alloc(), parts)?;
     let Ok(journal) = decode(rt.alloc(), &text) else {

@@ -2,8 +2,8 @@
 ghost use Rattle.std.specs.Prelude.{Some};
 
 use par2_printing::{
-    PrintedState, PrintedStep, PrintedTarget, Printer, WriteFault, write_done, write_failure, write_note,
-    write_set, write_step, write_target, write_verdict,
+    PrintedState, PrintedStep, PrintedTarget, Printer, WriteFault, write_done, write_failure,
+    write_note, write_set, write_step, write_target, write_verdict,
 };
 use par2_spec::{Action, Command, CreateArgs, Failure, Fault, Verdict};
 use std::alloc::{AllocError, Global};
