@@ -11,7 +11,7 @@ use Rattle.par2_spec.specs.declared.Version.TheVariants.{Two}
 use Rattle.par2_journal_bytes.specs.Views.{changes_of}
 use Rattle.par2_journal.specs.declared.opening.Opened.{Opened}
 use Rattle.par2_journal.specs.declared.opening.Opened.TheVariants.{Settled, Begun}
-use Rattle.par2_journal.specs.declared.opening.Halfway.{Halfway}
+use Rattle.par2_journal.specs.declared.taking_back.Halfway.{Halfway}
 
 -- the session of these entries, n of which an undo applies
 abbrev pub session_at : Folder → ℕ → List (List Change) → Session

@@ -1,67 +1,195 @@
 //! A folder with a journal is opened as a session.
-ghost use Rattle.std.specs.Prelude.{◌≡◌, ◌≤◌, ◌<◌, ◌⊎◌, ◌&&◌, ◌∷◌, reverse, take, Some, IfSome, IfOk, IfErr, IsTrue, IsFalse, length, position, Ok, Err, None, true};
-ghost use Rattle.std.specs.Str.{bytes_eq};
-ghost use Rattle.par2_spec.specs.Changes.{effects, places_taken, takes_all, state_after_all, way_back};
-ghost use Rattle.par2_spec.specs.Folders.{fingerprint};
-ghost use Rattle.par2_spec.specs.Sessions.{session_of_kept};
-ghost use Rattle.par2_spec.specs.Journals.{IsJournal, Spells};
+ghost use Rattle.std.specs.Prelude.{◌≡◌, ◌≤◌, ◌<◌, ◌⊎◌, ◌&&◌, reverse, take, Some, IfSome, IfOk, IfErr, IsTrue, IsFalse, length, Ok, Err, None, true, drop, sum_by, ◌++◌};
+ghost use Rattle.par2_spec.specs.Changes.{places_taken, takes_all, state_after_all, way_back};
+ghost use Rattle.par2_spec.specs.Sessions.{session_of_kept, walks};
+ghost use Rattle.par2_spec.specs.Journals.{IsJournal};
 ghost use Rattle.par2_spec.specs.Opening as defined;
-ghost use Rattle.par2_spec.specs.Opening.{is_valid, leads_through, Opens, settled_journal};
+ghost use Rattle.par2_spec.specs.Opening.{is_valid, leads, Opens};
 ghost use Rattle.par2_spec.specs.declared.JournalFault.TheVariants.{JournalInvalid, Memory};
-ghost use Rattle.par2_spec.specs.declared.Version.TheVariants.{Two};
 ghost use Rattle.par2_journal_bytes.specs.Views.{changes_of, entries_of, journal_of};
-ghost use Rattle.par2_journal.specs.Opened.{session_at, journal_with, session_before, way_left, opened_of, begun_as};
+ghost use Rattle.par2_journal.specs.Opened.{session_at, journal_with, opened_of, OpensAsIs};
+ghost use Rattle.par2_journal.specs.Walked.{state_along, ways_back};
 
-use crate::Session;
-use crate::passing::{copies_of, pass_through};
-use crate::settling::{kept_entries, settle};
-use crate::trying::can_apply;
+use crate::taking_back::{Halfway, open_begun};
+use crate::{Changes, Session};
 use par2_folder::{Change, Folder};
 use par2_journal_bytes::{DecodeFault, Journal, decode};
 use par2_spec::JournalFault;
 use std::alloc::{AllocError, Global};
 
-/// A session of which a command was begun, as it was before the command.
-#[derive(Debug, Drop)]
-pub struct Halfway {
-    session: Session,
-    back: Vec<Change>,
+// Whether changes and entries can be applied: it is tried on the folder itself, and turned back.
+
+// Applies the changes in order up to the first that is refused, and answers how many were applied. Each of these has
+// become the change that takes it back.
+fn apply_first(folder: &mut Folder, changes: &mut [Change]) -> usize
+    ensures within { result ≤ length changes.old }
+    ensures taken { IsTrue (takes_all folder.old (take result (changes_of changes.old))) }
+    ensures folder { folder.new
+        ≡ state_after_all folder.old (take result (changes_of changes.old)) }
+    ensures changes { changes_of changes.new ≡ reverse (way_back folder.old.files
+        (take result (changes_of changes.old))) ++ drop result (changes_of changes.old) }
+    ensures refused { result < length changes.old
+        → IsFalse (takes_all folder.old (changes_of changes.old)) }
+{
+    let mut applied = 0;
+    for change in changes.iter_mut() {
+        match folder.apply(change) {
+            Ok(()) => applied += 1,
+            Err(_) => return applied,
+        }
+    }
+    applied
 }
 
-/// What a folder with a journal opens as.
-#[derive(Debug, Drop)]
-pub enum Opened {
-    Settled(Session),
-    /// A command was begun, and is to be taken back.
-    Begun(Halfway),
+// Applies all of the changes in order, so that they become the way back, or none where one is refused.
+fn turn_whole(folder: &mut Folder, changes: &mut [Change]) -> bool
+    ensures result { result ≡ takes_all folder.old (changes_of changes.old) }
+    ensures folder { IsTrue result
+        → folder.new ≡ state_after_all folder.old (changes_of changes.old) }
+    ensures way_back { IsTrue result
+        → changes_of changes.new ≡ way_back folder.old.files (changes_of changes.old) }
+    ensures unchanged { IsFalse result
+        → (folder.new ≡ folder.old) × (changes_of changes.new ≡ changes_of changes.old) }
+{
+    let applied = apply_first(folder, changes);
+    if applied == changes.len() {
+        changes.reverse();
+        return true;
+    }
+    let (front, _) = changes.split_at_mut(applied);
+    front.reverse();
+    folder.apply_all(front);
+    false
 }
 
-impl Halfway {
-    /// The changes that take the command back, in order.
-    pub fn changes(&self) -> &[Change]
-        ensures { changes_of result.now ≡ way_left self.now }
-    {
-        self.back.as_slice()
+// Whether all of the changes can be applied in order. Folder and changes are as before.
+pub(crate) fn can_apply(folder: &mut Folder, changes: &mut [Change]) -> bool
+    ensures result { result ≡ takes_all folder.old (changes_of changes.old) }
+    ensures folder { folder.new ≡ folder.old }
+    ensures changes { changes_of changes.new ≡ changes_of changes.old }
+{
+    if !turn_whole(folder, changes) {
+        return false;
     }
+    folder.apply_all(changes);
+    true
+}
 
-    /// The session, once they are made.
-    pub fn finish(self) -> Session
-        ensures { result ≡ session_before self }
-    {
-        self.session
+// Applies the entries in order up to the first that is refused, and answers how many were applied. Each of these has
+// become its way back.
+fn walk_first(folder: &mut Folder, entries: &mut [Vec<Change>]) -> usize
+    ensures within { result ≤ length entries.old }
+    ensures taken { IsTrue (walks folder.old (take result (entries_of entries.old))) }
+    ensures folder { folder.new ≡ state_along folder.old (take result (entries_of entries.old)) }
+    ensures entries { entries_of entries.new ≡ reverse (ways_back folder.old
+        (take result (entries_of entries.old))) ++ drop result (entries_of entries.old) }
+    ensures refused { result < length entries.old
+        → IsFalse (walks folder.old (entries_of entries.old)) }
+{
+    let mut walked = 0;
+    for entry in entries.iter_mut() {
+        if !turn_whole(folder, entry) {
+            return walked;
+        }
+        walked += 1;
     }
+    walked
+}
 
-    /// The journal that is to stand then.
-    pub fn settled(&self, alloc: Global) -> Result<Vec<u8>, AllocError>
-        ensures { IfOk result (λ bytes.
-            Spells bytes.items (settled_journal Two (session_of_kept (session_before self.now)))) }
-    {
-        self.session.encode(alloc)
+// Whether the entries can be applied one after the other. Folder and entries are as before.
+fn can_walk(folder: &mut Folder, entries: &mut [Vec<Change>]) -> bool
+    ensures result { result ≡ walks folder.old (entries_of entries.old) }
+    ensures folder { folder.new ≡ folder.old }
+    ensures entries { entries_of entries.new ≡ entries_of entries.old }
+{
+    let count = entries.len();
+    let walked = walk_first(folder, entries);
+    let (front, _) = entries.split_at_mut(walked);
+    front.reverse();
+    let _back = walk_first(folder, front);
+    front.reverse();
+    walked == count
+}
+
+// Whether the entries of a journal can be those of a session.
+
+// How many changes the entries have, where the number fits.
+fn change_count(entries: &[Vec<Change>]) -> Option<usize>
+    ensures { IfSome result (λ count. sum_by places_taken (entries_of entries.now) ≤ count) }
+{
+    let mut count: usize = 0;
+    for entry in entries {
+        count = count.checked_add(entry.len())?;
     }
+    Some(count)
+}
+
+// Whether those before the cursor can be applied, the last one first, and those from it on. Folder and entries are as
+// before.
+fn can_walk_both(folder: &mut Folder, entries: &mut [Vec<Change>], cursor: usize) -> bool
+    requires { cursor ≤ length entries.old }
+    ensures result { result ≡ (walks folder.old (reverse (take cursor
+        (entries_of entries.old))) && walks folder.old (drop cursor (entries_of entries.old))) }
+    ensures folder { folder.new ≡ folder.old }
+    ensures entries { entries_of entries.new ≡ entries_of entries.old }
+{
+    let (undos, redos) = entries.split_at_mut(cursor);
+    undos.reverse();
+    let back = can_walk(folder, undos);
+    undos.reverse();
+    let forth = can_walk(folder, redos);
+    back && forth
+}
+
+// Whether the entries can be those of a session on the folder, with this cursor. If so, the folder has got the room
+// that they take.
+fn settle(
+    folder: &mut Folder,
+    entries: &mut [Vec<Change>],
+    cursor: usize,
+) -> Result<bool, AllocError>
+    requires { cursor ≤ length entries.old }
+    ensures files { folder.new.files ≡ folder.old.files }
+    ensures vacant { folder.old.vacant ≤ folder.new.vacant }
+    ensures entries { entries_of entries.new ≡ entries_of entries.old }
+    ensures valid { IfOk result (λ valid. valid
+        ≡ (leads folder.old.files (reverse (take cursor (entries_of entries.old)))
+        && leads folder.old.files (drop cursor (entries_of entries.old)))) }
+    ensures back { result ≡ Ok true
+        → IsTrue (walks folder.new (reverse (take cursor (entries_of entries.old)))) }
+    ensures forth { result ≡ Ok true
+        → IsTrue (walks folder.new (drop cursor (entries_of entries.old))) }
+{
+    let Some(count) = change_count(entries) else {
+        return Err(AllocError);
+    };
+    folder.reserve(count)?;
+    Ok(can_walk_both(folder, entries, cursor))
+}
+
+fn changes_from(alloc: Global, items: Vec<Change>) -> Result<Changes, AllocError>
+    ensures { IfOk result (λ changes. changes ≡ changes_of items.items) }
+{
+    let mut changes = Changes::new(alloc);
+    for change in items {
+        changes.push(change)?;
+    }
+    Ok(changes)
+}
+
+// The entries as a session keeps them.
+fn kept_entries(alloc: Global, entries: Vec<Vec<Change>>) -> Result<Vec<Changes>, AllocError>
+    ensures { IfOk result (λ kept. kept.items ≡ entries_of entries.items) }
+{
+    let mut kept = Vec::new(alloc);
+    for entry in entries {
+        kept.push(changes_from(alloc, entry)?)?;
+    }
+    Ok(kept)
 }
 
 // The session of these entries, where they can be applied.
-fn session_from(
+pub(crate) fn session_from(
     alloc: Global,
     mut folder: Folder,
     mut entries: Vec<Vec<Change>>,
@@ -88,6 +216,16 @@ fn session_from(
     }
 }
 
+// The opening itself.
+
+/// What a folder with a journal opens as.
+#[derive(Debug, Drop)]
+pub enum Opened {
+    Settled(Session),
+    /// A command was begun, and is to be taken back.
+    Begun(Halfway),
+}
+
 // Opens by a journal of a session that no command has left.
 fn open_settled(
     alloc: Global,
@@ -112,177 +250,6 @@ fn open_settled(
         return Err((JournalFault::FolderChanged { halfway: false }, folder));
     }
     session_from(alloc, folder, entries, cursor)
-}
-
-// Where the fingerprint first stands.
-fn find_fingerprint(known: &[[u8; 16]], print: &[u8; 16]) -> Option<usize>
-    ensures found { result ≡ position (bytes_eq print.now) known.now }
-    ensures within { IfSome result (λ at. at < length known.now) }
-{
-    let mut at = 0;
-    for one in known {
-        if print.as_slice() == one.as_slice() {
-            return Some(at);
-        }
-        at += 1;
-    }
-    None
-}
-
-// Whether the changes can be applied and leave folders with these fingerprints. If so they were, and became the way
-// back. If not, everything is as before.
-fn goes_back(
-    alloc: Global,
-    folder: &mut Folder,
-    back: &mut [Change],
-    wanted: &[[u8; 16]],
-) -> Result<bool, AllocError>
-    requires room { places_taken (changes_of back.old) ≤ folder.old.vacant }
-    requires each { length wanted.now ≡ length back.old }
-    ensures leads { IfOk result (λ leads. leads
-        ≡ leads_through folder.old.files (changes_of back.old) wanted.now) }
-    ensures taken { result ≡ Ok true → IsTrue (takes_all folder.old (changes_of back.old)) }
-    ensures folder { result ≡ Ok true
-        → folder.new ≡ state_after_all folder.old (changes_of back.old) }
-    ensures way_back { result ≡ Ok true
-        → changes_of back.new ≡ way_back folder.old.files (changes_of back.old) }
-    ensures unchanged { (result ≡ Ok true → ⊥) → folder.new ≡ folder.old }
-{
-    if !can_apply(folder, back) {
-        return Ok(false);
-    }
-    match pass_through(alloc, folder, back) {
-        Ok(prints) => {
-            if prints.as_slice() == wanted {
-                return Ok(true);
-            }
-            folder.apply_all(back);
-            Ok(false)
-        }
-        Err(fault) => {
-            folder.apply_all(back);
-            Err(fault)
-        }
-    }
-}
-
-// Goes back by the changes, which are to leave folders with these fingerprints, to the session of the entries.
-fn take_back(
-    alloc: Global,
-    mut folder: Folder,
-    way: &mut [Change],
-    wanted: &[[u8; 16]],
-    entries: Vec<Vec<Change>>,
-    cursor: usize,
-) -> Result<Session, (JournalFault, Folder)>
-    requires cursor { cursor ≤ length entries.items }
-    requires each { length wanted.now ≡ length way.old }
-    ensures leads { IfOk result
-        (λ _. IsTrue (leads_through folder.files (changes_of way.old) wanted.now)) }
-    ensures valid { IfOk result (λ _. IsTrue (is_valid (session_at
-        (effects folder.files (changes_of way.old)) cursor (entries_of entries.items)))) }
-    ensures session { IfOk result (λ session. session_of_kept session ≡ session_at
-        (effects folder.files (changes_of way.old)) cursor (entries_of entries.items)) }
-    ensures refused { IfErr result (λ e. (e.0 ≡ Memory) ⊎ ((e.0 ≡ JournalInvalid) × IsFalse
-        (leads_through folder.files (changes_of way.old) wanted.now && is_valid (session_at
-        (effects folder.files (changes_of way.old)) cursor (entries_of entries.items))))) }
-    ensures files { IfErr result (λ e. e.1.files ≡ folder.files) }
-{
-    match folder.reserve(way.len()) {
-        Ok(()) => {}
-        Err(AllocError) => return Err((JournalFault::Memory, folder)),
-    }
-    match goes_back(alloc, &mut folder, way, wanted) {
-        Ok(true) => {}
-        Ok(false) => return Err((JournalFault::JournalInvalid, folder)),
-        Err(AllocError) => return Err((JournalFault::Memory, folder)),
-    }
-    match session_from(alloc, folder, entries, cursor) {
-        Ok(session) => Ok(session),
-        Err((fault, mut after)) => {
-            after.apply_all(way);
-            Err((fault, after))
-        }
-    }
-}
-
-fn with_first(
-    alloc: Global,
-    first: [u8; 16],
-    others: &[[u8; 16]],
-) -> Result<Vec<[u8; 16]>, AllocError>
-    ensures { IfOk result (λ list. list.items ≡ first ∷ others.now) }
-{
-    let mut list = Vec::new(alloc);
-    list.push(first)?;
-    list.extend_from_slice(others)?;
-    Ok(list)
-}
-
-// The fingerprints to go back by: those before the place of the folder's, the last one first. There are none where the
-// folder has no place.
-fn fingerprints_back(
-    alloc: Global,
-    folder: &Folder,
-    first: [u8; 16],
-    others: &[[u8; 16]],
-) -> Result<Option<Vec<[u8; 16]>>, AllocError>
-    ensures none { result ≡ Ok None
-        → position (bytes_eq (fingerprint folder.now.files)) (first ∷ others.now) ≡ None }
-    ensures place { IfOk result (λ found. IfSome found (λ list. position (bytes_eq
-        (fingerprint folder.now.files)) (first ∷ others.now) ≡ Some (length list.items))) }
-    ensures list { IfOk result (λ found. IfSome found (λ list. list.items
-        ≡ reverse (take (length list.items) (first ∷ others.now)))) }
-    ensures within { IfOk result
-        (λ found. IfSome found (λ list. length list.items ≤ length others.now)) }
-{
-    let print = folder.fingerprint(alloc)?;
-    let mut known = with_first(alloc, first, others)?;
-    let Some(done) = find_fingerprint(&known, &print) else {
-        return Ok(None);
-    };
-    known.truncate(done);
-    known.reverse();
-    Ok(Some(known))
-}
-
-// Opens by the journal of a command that was begun.
-fn open_begun(
-    alloc: Global,
-    folder: Folder,
-    first: [u8; 16],
-    others: &[[u8; 16]],
-    mut back: Vec<Change>,
-    entries: Vec<Vec<Change>>,
-    cursor: usize,
-) -> Result<Halfway, (JournalFault, Folder)>
-    requires cursor { cursor ≤ length entries.items }
-    requires each { length others.now ≡ length back.items }
-    ensures opened { IfOk result (λ halfway. begun_as folder.files first cursor
-        (entries_of entries.items) others.now (changes_of back.items)
-        ≡ Ok (defined.ToTakeBack (session_of_kept (session_before halfway)) (way_left halfway))) }
-    ensures refused { IfErr result (λ e. (e.0 ≡ Memory) ⊎ (begun_as folder.files first cursor
-        (entries_of entries.items) others.now (changes_of back.items) ≡ Err e.0)) }
-    ensures files { IfErr result (λ e. e.1.files ≡ folder.files) }
-{
-    let wanted = match fingerprints_back(alloc, &folder, first, others) {
-        Ok(Some(wanted)) => wanted,
-        Ok(None) => return Err((JournalFault::FolderChanged { halfway: true }, folder)),
-        Err(AllocError) => return Err((JournalFault::Memory, folder)),
-    };
-    let start = back.len() - wanted.len();
-    let (_, way) = back.split_at_mut(start);
-    let left = match copies_of(alloc, way) {
-        Ok(left) => left,
-        Err(AllocError) => return Err((JournalFault::Memory, folder)),
-    };
-    match take_back(alloc, folder, way, &wanted, entries, cursor) {
-        Ok(session) => Ok(Halfway {
-            session,
-            back: left,
-        }),
-        Err(refused) => Err(refused),
-    }
 }
 
 // Opens by a journal.
@@ -348,4 +315,27 @@ impl Session {
             Err(DecodeFault::Memory) => Err((JournalFault::Memory, folder)),
         }
     }
+}
+
+/// Whether a folder with the bytes of a journal opens as a session on this very folder. No digest of its files is
+/// taken, so that it isn't told whether the session has the history of the journal or a new one. An answer of false
+/// says nothing: the folder is then to be opened. The entries are applied and taken back, and the folder may get room.
+pub fn opens_as_is(alloc: Global, folder: &mut Folder, bytes: &[u8]) -> Result<bool, AllocError>
+    ensures files { folder.new.files ≡ folder.old.files }
+    ensures opens { result ≡ Ok true → OpensAsIs folder.old.files bytes.now }
+{
+    let Journal {
+        cursor,
+        mut entries,
+        halfway,
+        ..
+    } = match decode(alloc, bytes) {
+        Ok(journal) => journal,
+        Err(DecodeFault::JournalInvalid) => return Ok(false),
+        Err(DecodeFault::Memory) => return Err(AllocError),
+    };
+    if halfway.is_some() {
+        return Ok(false);
+    }
+    settle(folder, &mut entries, cursor)
 }

@@ -1,12 +1,22 @@
 //! One folder, the changes that lead back, and those that lead forward again.
-use crate::passing::copies_of;
 use crate::prepared::Task;
-use crate::spelling::{lent, spell_action};
-use crate::{Changes, Journals, NothingToRedo, NothingToUndo, Prepared, Steps};
+use crate::spelling::{copies_of, lent, spell_action};
+use crate::{Changes, Journals, Prepared, Steps};
 use par2_folder::{Change, Folder};
 use par2_journal_bytes::{JournalParts, Version, encode};
 use std::alloc::{AllocError, Global};
 use std::marker::Model;
+use thiserror::Error;
+
+/// No command is left to take back.
+#[derive(Debug, Error, Clone, Copy, PartialEq, Eq)]
+#[error("nothing to undo")]
+pub struct NothingToUndo;
+
+/// No command is left to do again.
+#[derive(Debug, Error, Clone, Copy, PartialEq, Eq)]
+#[error("nothing to redo")]
+pub struct NothingToRedo;
 
 /// A session on a folder: the folder, and a list of entries with a cursor. The entries before it are as undos apply
 /// them, those from it on as redos do.

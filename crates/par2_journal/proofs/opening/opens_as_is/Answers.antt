@@ -1,0 +1,17 @@
+use Rattle.std.proofs.Common.{◌≡◌, sym, ap, subst, ◌∙◌}
+use Rattle.std.specs.Prelude.{IfOk}
+use Rattle.par2_spec.specs.Opening.{is_valid}
+use Rattle.par2_journal_bytes.specs.Views.{entries_of, halfway_of, journal_of}
+use Rattle.par2_journal.specs.Opened.{session_at}
+use Rattle.par2_journal.proofs.Reopened.{none_if, settled_as_is}
+use Rattle.par2_journal.proofs.opening.opens_as_is.Goals as goal
+
+pub returns-clause-opens : goal.returns-clause-opens
+returns-clause-opens c told_so =
+    let j = journal_of c.in-Ok.journal in
+    let files = c.args.folder.now.files in
+    let told = subst (λ r. IfOk r (λ valid. valid ≡ is_valid (session_at files j.cursor (entries_of c.deref_mut.result.now)))) told_so c.settle.ensures.valid in
+    let same : entries_of c.deref_mut.result.now ≡ j.entries = ap entries_of c.deref_mut.ensures.value in
+    settled_as_is files c.args.bytes.now j c.in-Ok.ensures.found
+    (ap halfway_of (none_if c.in-Ok.journal.halfway (sym c.is_some.ensures ∙ c.if-is_some.false)))
+    (ap (λ entries. is_valid (session_at files j.cursor entries)) (sym same) ∙ sym told)

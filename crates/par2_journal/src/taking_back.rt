@@ -1,0 +1,222 @@
+//! A command that was begun is taken back.
+ghost use Rattle.std.specs.Prelude.{◌≡◌, ◌≤◌, ◌<◌, ◌⊎◌, ◌&&◌, ◌∷◌, reverse, take, Some, IfSome, IfOk, IfErr, IsTrue, IsFalse, length, position, Ok, Err, None, true};
+ghost use Rattle.std.specs.Str.{bytes_eq};
+ghost use Rattle.par2_spec.specs.Changes.{effects, places_taken, takes_all, state_after_all, way_back};
+ghost use Rattle.par2_spec.specs.Folders.{fingerprint};
+ghost use Rattle.par2_spec.specs.Sessions.{session_of_kept};
+ghost use Rattle.par2_spec.specs.Journals.{Spells};
+ghost use Rattle.par2_spec.specs.Opening as defined;
+ghost use Rattle.par2_spec.specs.Opening.{is_valid, leads_through, settled_journal};
+ghost use Rattle.par2_spec.specs.declared.JournalFault.TheVariants.{JournalInvalid, Memory};
+ghost use Rattle.par2_spec.specs.declared.Version.TheVariants.{Two};
+ghost use Rattle.par2_journal_bytes.specs.Views.{changes_of, entries_of};
+ghost use Rattle.par2_journal.specs.Opened.{session_at, session_before, way_left, begun_as};
+
+use crate::Session;
+use crate::opening::{can_apply, session_from};
+use crate::spelling::{copies_of, pass_through};
+use par2_folder::{Change, Folder};
+use par2_spec::JournalFault;
+use std::alloc::{AllocError, Global};
+
+/// A session of which a command was begun, as it was before the command.
+#[derive(Debug, Drop)]
+pub struct Halfway {
+    session: Session,
+    back: Vec<Change>,
+}
+
+impl Halfway {
+    /// The changes that take the command back, in order.
+    pub fn changes(&self) -> &[Change]
+        ensures { changes_of result.now ≡ way_left self.now }
+    {
+        self.back.as_slice()
+    }
+
+    /// The session, once they are made.
+    pub fn finish(self) -> Session
+        ensures { result ≡ session_before self }
+    {
+        self.session
+    }
+
+    /// The journal that is to stand then.
+    pub fn settled(&self, alloc: Global) -> Result<Vec<u8>, AllocError>
+        ensures { IfOk result (λ bytes.
+            Spells bytes.items (settled_journal Two (session_of_kept (session_before self.now)))) }
+    {
+        self.session.encode(alloc)
+    }
+}
+
+// Where the fingerprint first stands.
+fn find_fingerprint(known: &[[u8; 16]], print: &[u8; 16]) -> Option<usize>
+    ensures found { result ≡ position (bytes_eq print.now) known.now }
+    ensures within { IfSome result (λ at. at < length known.now) }
+{
+    let mut at = 0;
+    for one in known {
+        if print.as_slice() == one.as_slice() {
+            return Some(at);
+        }
+        at += 1;
+    }
+    None
+}
+
+// Whether the changes can be applied and leave folders with these fingerprints. If so they were, and became the way
+// back. If not, everything is as before.
+fn goes_back(
+    alloc: Global,
+    folder: &mut Folder,
+    back: &mut [Change],
+    wanted: &[[u8; 16]],
+) -> Result<bool, AllocError>
+    requires room { places_taken (changes_of back.old) ≤ folder.old.vacant }
+    requires each { length wanted.now ≡ length back.old }
+    ensures leads { IfOk result (λ leads. leads
+        ≡ leads_through folder.old.files (changes_of back.old) wanted.now) }
+    ensures taken { result ≡ Ok true → IsTrue (takes_all folder.old (changes_of back.old)) }
+    ensures folder { result ≡ Ok true
+        → folder.new ≡ state_after_all folder.old (changes_of back.old) }
+    ensures way_back { result ≡ Ok true
+        → changes_of back.new ≡ way_back folder.old.files (changes_of back.old) }
+    ensures unchanged { (result ≡ Ok true → ⊥) → folder.new ≡ folder.old }
+{
+    if !can_apply(folder, back) {
+        return Ok(false);
+    }
+    match pass_through(alloc, folder, back) {
+        Ok(prints) => {
+            if prints.as_slice() == wanted {
+                return Ok(true);
+            }
+            folder.apply_all(back);
+            Ok(false)
+        }
+        Err(fault) => {
+            folder.apply_all(back);
+            Err(fault)
+        }
+    }
+}
+
+// Goes back by the changes, which are to leave folders with these fingerprints, to the session of the entries.
+fn take_back(
+    alloc: Global,
+    mut folder: Folder,
+    way: &mut [Change],
+    wanted: &[[u8; 16]],
+    entries: Vec<Vec<Change>>,
+    cursor: usize,
+) -> Result<Session, (JournalFault, Folder)>
+    requires cursor { cursor ≤ length entries.items }
+    requires each { length wanted.now ≡ length way.old }
+    ensures leads { IfOk result
+        (λ _. IsTrue (leads_through folder.files (changes_of way.old) wanted.now)) }
+    ensures valid { IfOk result (λ _. IsTrue (is_valid (session_at
+        (effects folder.files (changes_of way.old)) cursor (entries_of entries.items)))) }
+    ensures session { IfOk result (λ session. session_of_kept session ≡ session_at
+        (effects folder.files (changes_of way.old)) cursor (entries_of entries.items)) }
+    ensures refused { IfErr result (λ e. (e.0 ≡ Memory) ⊎ ((e.0 ≡ JournalInvalid) × IsFalse
+        (leads_through folder.files (changes_of way.old) wanted.now && is_valid (session_at
+        (effects folder.files (changes_of way.old)) cursor (entries_of entries.items))))) }
+    ensures files { IfErr result (λ e. e.1.files ≡ folder.files) }
+{
+    match folder.reserve(way.len()) {
+        Ok(()) => {}
+        Err(AllocError) => return Err((JournalFault::Memory, folder)),
+    }
+    match goes_back(alloc, &mut folder, way, wanted) {
+        Ok(true) => {}
+        Ok(false) => return Err((JournalFault::JournalInvalid, folder)),
+        Err(AllocError) => return Err((JournalFault::Memory, folder)),
+    }
+    match session_from(alloc, folder, entries, cursor) {
+        Ok(session) => Ok(session),
+        Err((fault, mut after)) => {
+            after.apply_all(way);
+            Err((fault, after))
+        }
+    }
+}
+
+fn with_first(
+    alloc: Global,
+    first: [u8; 16],
+    others: &[[u8; 16]],
+) -> Result<Vec<[u8; 16]>, AllocError>
+    ensures { IfOk result (λ list. list.items ≡ first ∷ others.now) }
+{
+    let mut list = Vec::new(alloc);
+    list.push(first)?;
+    list.extend_from_slice(others)?;
+    Ok(list)
+}
+
+// The fingerprints to go back by: those before the place of the folder's, the last one first. There are none where the
+// folder has no place.
+fn fingerprints_back(
+    alloc: Global,
+    folder: &Folder,
+    first: [u8; 16],
+    others: &[[u8; 16]],
+) -> Result<Option<Vec<[u8; 16]>>, AllocError>
+    ensures none { result ≡ Ok None
+        → position (bytes_eq (fingerprint folder.now.files)) (first ∷ others.now) ≡ None }
+    ensures place { IfOk result (λ found. IfSome found (λ list. position (bytes_eq
+        (fingerprint folder.now.files)) (first ∷ others.now) ≡ Some (length list.items))) }
+    ensures list { IfOk result (λ found. IfSome found (λ list. list.items
+        ≡ reverse (take (length list.items) (first ∷ others.now)))) }
+    ensures within { IfOk result
+        (λ found. IfSome found (λ list. length list.items ≤ length others.now)) }
+{
+    let print = folder.fingerprint(alloc)?;
+    let mut known = with_first(alloc, first, others)?;
+    let Some(done) = find_fingerprint(&known, &print) else {
+        return Ok(None);
+    };
+    known.truncate(done);
+    known.reverse();
+    Ok(Some(known))
+}
+
+// Opens by the journal of a command that was begun.
+pub(crate) fn open_begun(
+    alloc: Global,
+    folder: Folder,
+    first: [u8; 16],
+    others: &[[u8; 16]],
+    mut back: Vec<Change>,
+    entries: Vec<Vec<Change>>,
+    cursor: usize,
+) -> Result<Halfway, (JournalFault, Folder)>
+    requires cursor { cursor ≤ length entries.items }
+    requires each { length others.now ≡ length back.items }
+    ensures opened { IfOk result (λ halfway. begun_as folder.files first cursor
+        (entries_of entries.items) others.now (changes_of back.items)
+        ≡ Ok (defined.ToTakeBack (session_of_kept (session_before halfway)) (way_left halfway))) }
+    ensures refused { IfErr result (λ e. (e.0 ≡ Memory) ⊎ (begun_as folder.files first cursor
+        (entries_of entries.items) others.now (changes_of back.items) ≡ Err e.0)) }
+    ensures files { IfErr result (λ e. e.1.files ≡ folder.files) }
+{
+    let wanted = match fingerprints_back(alloc, &folder, first, others) {
+        Ok(Some(wanted)) => wanted,
+        Ok(None) => return Err((JournalFault::FolderChanged { halfway: true }, folder)),
+        Err(AllocError) => return Err((JournalFault::Memory, folder)),
+    };
+    let start = back.len() - wanted.len();
+    let (_, way) = back.split_at_mut(start);
+    let left = match copies_of(alloc, way) {
+        Ok(left) => left,
+        Err(AllocError) => return Err((JournalFault::Memory, folder)),
+    };
+    match take_back(alloc, folder, way, &wanted, entries, cursor) {
+        Ok(session) => Ok(Halfway {
+            session,
+            back: left,
+        }),
+        Err(refused) => Err(refused),
+    }
+}
