@@ -8,12 +8,14 @@ use Rattle.std.proofs.lemmas.List.{length-map}
 use Rattle.std.proofs.lemmas.Simd.{map-map}
 use Rattle.par2_spec.specs.Faults.{fault_where}
 use Rattle.par2_spec.specs.Names.{is_among, distinct}
-use Rattle.par2_spec.specs.Folders.{Folder, File}
+use Rattle.par2_spec.specs.Folders.{File}
 use Rattle.par2_spec.specs.Volumes.{FileRecord, id_of, record_of}
-use Rattle.par2_spec.specs.Commands.{files_of}
 use Rattle.par2_spec.specs.declared.Fault.TheVariants.{DuplicateId}
 use Rattle.par2_spec.proofs.NamesLaws.{AreDistinct, distinct_from_std, std_from_distinct}
 use Rattle.par2_spec.proofs.ReadLaws.{distinct_by_length}
+use Rattle.par2_packets.specs.View.{file_record_of}
+use Rattle.par2_packets.specs.declared.record.FileRecord as packets
+use Rattle.par2_recovery.specs.Views.{AreRecords}
 use Rattle.par2_plan.specs.Causes.{ids_fault}
 
 all_kept : (x : List ℕ) (xs : List (List ℕ)) → is_among xs x ≡ false → filter (λ other. not (bytes_eq x other)) xs ≡ xs
@@ -31,18 +33,21 @@ ids_of_records : (s : ℕ) (files : List File) → map (λ (file : FileRecord). 
 unfolding record_of
 ids_of_records s files = map-map (λ (file : FileRecord). file.id) (record_of s) files
 
-pub ids_accepted : (folder : Folder) (inputs : List (List ℕ)) (s : ℕ) → IsDistinct bytes_eq (map (λ (file : FileRecord). file.id) (map (record_of s) (files_of folder inputs))) → ids_fault folder inputs ≡ None
+-- the identifiers of records that are read as those of files
+pub ids_said : (s : ℕ) (files : List File) (records : List packets.FileRecord) → AreRecords s files records → map (λ (file : packets.FileRecord). file.id) records ≡ map (λ (file : FileRecord). file.id) (map (record_of s) files)
+ids_said s files records are =
+    sym (map-map (λ (file : FileRecord). file.id) file_record_of records) ∙ ap (map (λ (file : FileRecord). file.id)) are
+
+pub ids_accepted : (files : List File) (s : ℕ) → IsDistinct bytes_eq (map (λ (file : FileRecord). file.id) (map (record_of s) files)) → ids_fault files ≡ None
 unfolding ids_fault
-ids_accepted folder inputs s h =
-    let files : List File = files_of folder inputs in
+ids_accepted files s h =
     let once : AreDistinct (map id_of files) = distinct_from_std (map id_of files) (subst (IsDistinct bytes_eq) (ids_of_records s files) h) in
     let size : length (distinct (map id_of files)) ≡ length files = ap length (distinct_whole (map id_of files) once) ∙ length-map files id_of in
     ap (λ b. fault_where b DuplicateId) (not_from_true (length (distinct (map id_of files)) == length files) (eq-eqb (length (distinct (map id_of files))) (length files) size))
 
-pub ids_refused : (folder : Folder) (inputs : List (List ℕ)) (s : ℕ) → (IsDistinct bytes_eq (map (λ (file : FileRecord). file.id) (map (record_of s) (files_of folder inputs))) → ⊥) → ids_fault folder inputs ≡ Some DuplicateId
+pub ids_refused : (files : List File) (s : ℕ) → (IsDistinct bytes_eq (map (λ (file : FileRecord). file.id) (map (record_of s) files)) → ⊥) → ids_fault files ≡ Some DuplicateId
 unfolding ids_fault
-ids_refused folder inputs s h =
-    let files : List File = files_of folder inputs in
+ids_refused files s h =
     ap (λ b. fault_where b DuplicateId) (not_from_false (length (distinct (map id_of files)) == length files) (false_from_ne_true (length (distinct (map id_of files)) == length files) (λ e.
     let size : length (distinct (map id_of files)) ≡ length (map id_of files) = eqb-true (length (distinct (map id_of files))) (length files) e ∙ sym (length-map files id_of) in
     h (subst (IsDistinct bytes_eq) (sym (ids_of_records s files)) (std_from_distinct (map id_of files) (distinct_by_length (map id_of files) size))))))

@@ -93,9 +93,9 @@ inputs_passed folder size inputs h =
     let no_such = fault_at 1 NoSuchFile (λ (word : List ℕ). not (has folder word)) inputs in
     let empties = fault_at 1 EmptyFile (λ (file : File). length file.1 == 0) all in
     let too_many = nat_lt 32768 (sum_by (λ (file : File). slice_count size (length file.1)) all) in
-    let bad = parts_none (bad_name inputs) (duplicate_input inputs ∷ files_fault folder size inputs ∷ ids_fault folder inputs ∷ []) h in
-    let again = parts_none (duplicate_input inputs) (files_fault folder size inputs ∷ ids_fault folder inputs ∷ []) bad.1 in
-    let files = parts_none (files_fault folder size inputs) (ids_fault folder inputs ∷ []) again.1 in
+    let bad = parts_none (bad_name inputs) (duplicate_input inputs ∷ files_fault folder size inputs ∷ ids_fault (files_of folder inputs) ∷ []) h in
+    let again = parts_none (duplicate_input inputs) (files_fault folder size inputs ∷ ids_fault (files_of folder inputs) ∷ []) bad.1 in
+    let files = parts_none (files_fault folder size inputs) (ids_fault (files_of folder inputs) ∷ []) again.1 in
     let absent = parts_none no_such (empties ∷ fault_where too_many TooManySlices ∷ []) files.0 in
     let empty = parts_none empties (fault_where too_many TooManySlices ∷ []) absent.1 in
     let many = parts_none (fault_where too_many TooManySlices) [] empty.1 in

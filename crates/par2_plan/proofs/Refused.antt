@@ -67,7 +67,7 @@ create_causes folder a =
     ∷ fault_at 1 EmptyFile (λ (file : File). length file.1 == 0) files
     ∷ fault_where (nat_lt 32768 (sum_by (λ (file : File). slice_count a.slice_size (length file.1)) files)) TooManySlices
     ∷ [])
-    (bad_name a.inputs) (duplicate_input a.inputs) (ids_fault folder a.inputs) (long_name (output_names a)) (there_already folder a.overwrite (output_names a)))
+    (bad_name a.inputs) (duplicate_input a.inputs) (ids_fault (files_of folder a.inputs)) (long_name (output_names a)) (there_already folder a.overwrite (output_names a)))
 
 -- ---- by groups
 

@@ -4,7 +4,7 @@ use Rattle.std.specs.List.{list_any, enumerate_from}
 use Rattle.par2_spec.specs.Faults.{first_fault, fault_where, fault_at}
 use Rattle.par2_spec.specs.Names.{is_name, is_par_name, is_among, distinct}
 use Rattle.par2_spec.specs.Slices.{slice_count}
-use Rattle.par2_spec.specs.Folders.{Folder, has}
+use Rattle.par2_spec.specs.Folders.{File, Folder, has}
 use Rattle.par2_spec.specs.Volumes.{id_of}
 use Rattle.par2_spec.specs.Sets.{is_slice_size}
 use Rattle.par2_spec.specs.Commands.{CreateArgs, files_of}
@@ -41,15 +41,13 @@ files_fault folder size inputs =
     ∷ [])
 
 -- that of their File IDs
-unfoldable pub ids_fault : Folder → List (List ℕ) → Option Fault
-ids_fault folder inputs =
-    let files = files_of folder inputs in
-    fault_where (not (length (distinct (map id_of files)) == length files)) DuplicateId
+unfoldable pub ids_fault : List File → Option Fault
+ids_fault files = fault_where (not (length (distinct (map id_of files)) == length files)) DuplicateId
 
 -- all those of the inputs
 unfoldable pub inputs_fault : Folder → ℕ → List (List ℕ) → Option Fault
 unfolding files_fault ids_fault
-inputs_fault folder size inputs = first_fault (bad_name inputs ∷ duplicate_input inputs ∷ files_fault folder size inputs ∷ ids_fault folder inputs ∷ [])
+inputs_fault folder size inputs = first_fault (bad_name inputs ∷ duplicate_input inputs ∷ files_fault folder size inputs ∷ ids_fault (files_of folder inputs) ∷ [])
 
 -- a name that is too long
 abbrev pub long_name : List (List ℕ) → Option Fault

@@ -17,7 +17,7 @@ use crate::names::{Volume, there_already, volumes};
 use crate::outputs::{changes_of, parts_of};
 use crate::words::{index_name, input_names};
 use par2_folder::{Folder, Name};
-use par2_recovery::SetRecord;
+use par2_recovery::{SetRecord, file_records};
 use par2_spec::{CreateArgs, Fault};
 use std::alloc::{AllocError, Global};
 
@@ -47,7 +47,11 @@ fn set_of_inputs(alloc: Global, folder: &Folder, args: &CreateArgs) -> Result<Se
     if let Some(fault) = files_fault(folder, &names, args.slice) {
         return Err(fault);
     }
-    match set_of(alloc, folder, &names, args.slice) {
+    let records = match file_records(alloc, folder, &names, args.slice) {
+        Ok(records) => records,
+        Err(AllocError) => return Err(Fault::Memory),
+    };
+    match set_of(records, args.slice) {
         Ok(set) => Ok(set),
         Err(fault) => Err(fault),
     }

@@ -1,17 +1,19 @@
 //! The files that the inputs name, and why they can't be taken.
-ghost use Rattle.std.specs.Prelude.{◌≡◌, ◌≤◌, ◌==◌, ◌⊎◌, nat_lt, not, length, map, take, sum_by, position, IsTrue, IfOk, IfErr, IfSome, Some, None, ◌<◌};
+ghost use Rattle.std.specs.Prelude.{◌≡◌, ◌≤◌, ◌==◌, ◌⊎◌, ℕ, List, nat_lt, not, length, take, sum_by, position, IsTrue, IfOk, IfErr, IfSome, Some, None, ◌<◌};
 ghost use Rattle.std.specs.List.{enumerate_from};
 ghost use Rattle.par2_spec.specs.Names.{is_among};
 ghost use Rattle.par2_spec.specs.Slices as spec;
-ghost use Rattle.par2_spec.specs.Folders.{has, bytes_of};
-ghost use Rattle.par2_spec.specs.Volumes.{record_of, in_id_order};
+ghost use Rattle.par2_spec.specs.Faults.{fault_of};
+ghost use Rattle.par2_spec.specs.Folders as folders;
+ghost use Rattle.par2_spec.specs.Folders.{File, has, bytes_of};
+ghost use Rattle.par2_spec.specs.Volumes.{in_id_order};
 ghost use Rattle.par2_spec.specs.Commands.{files_of};
-ghost use Rattle.par2_packets.specs.View.{file_record_of};
-ghost use Rattle.par2_recovery.specs.Views.{names_of};
+ghost use Rattle.par2_recovery.specs.Views.{AreRecords, names_of};
 ghost use Rattle.par2_plan.specs.Causes.{duplicate_input, files_fault, ids_fault};
 
 use par2_folder::{Folder, Name};
-use par2_recovery::{RecordFault, SetRecord};
+use par2_packets::{DuplicateId, FileRecord};
+use par2_recovery::SetRecord;
 use par2_slices::slice_count;
 use par2_spec::Fault;
 use std::alloc::{AllocError, Global};
@@ -112,22 +114,21 @@ pub fn files_fault(folder: &Folder, names: &[Name], size: u64) -> Option<Fault>
     None
 }
 
-/// What a set of this slice size says of the files of these names.
-#[tactic(auto, unfolding(crate::specs::Causes::ids_fault))]
-pub fn set_of(alloc: Global, folder: &Folder, names: &[Name], size: u64) -> Result<SetRecord, Fault>
-    requires { 1 ≤ size }
-    ensures refused { IfErr result (λ fault. (fault ≡ Fault.Memory)
-        ⊎ (ids_fault folder.now.files names.now ≡ Some fault)) }
-    ensures accepted { IfOk result (λ _. ids_fault folder.now.files names.now ≡ None) }
+/// What a set of this slice size says of the files with these records. It takes no memory, so that it tells exactly why
+/// there is no set.
+pub fn set_of(records: Vec<FileRecord>, size: u64) -> Result<SetRecord, Fault>
+    ensures refused { (files : List File)
+        → AreRecords size files records.items → fault_of result ≡ ids_fault files }
     ensures slice { IfOk result (λ set. set.slice ≡ size) }
-    ensures files { IfOk result (λ set. map file_record_of set.files.items
-        ≡ map (record_of size) (in_id_order (files_of folder.now.files names.now))) }
-    ensures order { IfOk result (λ set. files_of folder.now.files (names_of set)
-        ≡ in_id_order (files_of folder.now.files names.now)) }
+    ensures files { IfOk result (λ set. (files : List File)
+        → AreRecords size files records.items
+        → AreRecords size (in_id_order files) set.files.items) }
+    ensures order { IfOk result (λ set. (folder : folders.Folder) (names : List (List ℕ))
+        → AreRecords size (files_of folder names) records.items
+        → files_of folder (names_of set) ≡ in_id_order (files_of folder names)) }
 {
-    match SetRecord::of_files(alloc, folder, names, size) {
+    match SetRecord::of_records(records, size) {
         Ok(set) => Ok(set),
-        Err(RecordFault::DuplicateId) => Err(Fault::DuplicateId),
-        Err(RecordFault::Memory) => Err(Fault::Memory),
+        Err(DuplicateId) => Err(Fault::DuplicateId),
     }
 }

@@ -48,11 +48,6 @@ pub many_digests : (folder : Folder) (names md5s : List (List ℕ)) → md5s ≡
 many_digests folder names md5s is =
     ap length is ∙ length-map (map (bytes_of folder) names) md5 ∙ length-map names (bytes_of folder)
 
--- the identifiers in the records
-pub ids_of : (xs : List FileRecord) → map (λ (file : FileRecord). file.id) xs ≡ map (λ (file : volumes.FileRecord). file.id) (map file_record_of xs)
-ids_of [] = refl
-ids_of (x ∷ xs) = ap (λ ids. x.id ∷ ids) (ids_of xs)
-
 -- records of files that rise by their File IDs are those of the files in order
 pub in_order : (s : ℕ) (files : List File) (xs : List FileRecord) → IsPermutation (map (record_of s) files) (map file_record_of xs) → IsStrictlyIncreasing (map id_number xs)
     → map file_record_of xs ≡ map (record_of s) (in_id_order files)

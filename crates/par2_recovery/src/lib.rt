@@ -12,4 +12,4 @@ mod set_record;
 pub use exponents::rank;
 pub use rebuild_slices::{RebuildFault, Survivors, rebuild};
 pub use recovery::{recovery_slice, recovery_slices};
-pub use set_record::{RecordFault, SetRecord};
+pub use set_record::{SetRecord, file_records};

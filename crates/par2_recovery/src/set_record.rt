@@ -1,22 +1,23 @@
 //! What a set says of its files.
 
-ghost use Rattle.std.specs.Prelude.{◌≡◌, ◌≤◌, ◌<◌, length, map, slice_index_or, [], IfOk, IsOk, IsTrue, Err};
+ghost use Rattle.std.specs.Prelude.{◌≡◌, ◌≤◌, ◌<◌, ◌↔◌, ℕ, List, length, map, slice_index_or, [], IfOk, IsOk, IsTrue, IsPermutation};
 ghost use Rattle.std.specs.List.{IsDistinct};
 ghost use Rattle.std.specs.List.Sorted.{IsStrictlyIncreasing};
 ghost use Rattle.std.specs.Str.{bytes_eq};
 ghost use Rattle.md5.specs.Md5.{md5};
 ghost use Rattle.par2_digests.specs.Texts.{texts_of};
-ghost use Rattle.par2_spec.specs.Folders as files;
+ghost use Rattle.par2_spec.specs.Folders as spec;
+ghost use Rattle.par2_spec.specs.Folders.{File};
 ghost use Rattle.par2_spec.specs.Names.{is_name};
-ghost use Rattle.par2_spec.specs.Volumes.{record_of, in_id_order};
+ghost use Rattle.par2_spec.specs.Volumes.{in_id_order};
 ghost use Rattle.par2_spec.specs.Commands.{files_of};
-ghost use Rattle.par2_packets.specs.View.{file_record_of, id_number};
-ghost use Rattle.par2_recovery.specs.Views.{names_of};
+ghost use Rattle.par2_packets.specs.View.{id_number};
+ghost use Rattle.par2_recovery.specs.Views.{AreRecords, names_of};
 
 use crate::recovery::bytes_of;
 use par2_digests::text_digests;
 use par2_folder::{Folder, Name};
-use par2_packets::{FileRecord, sort_ids};
+use par2_packets::{DuplicateId, FileRecord, sort_ids};
 use par2_records::file_record_by_md5;
 use std::alloc::{AllocError, Global};
 
@@ -27,26 +28,6 @@ pub struct SetRecord {
     pub slice: u64,
     /// The files, in the order of their File IDs.
     pub files: Vec<FileRecord>,
-}
-
-/// Why there is no record.
-#[derive(Clone, Copy, PartialEq, Eq, Debug, Drop)]
-pub enum RecordFault {
-    /// Two files have one File ID.
-    DuplicateId,
-    /// There was no memory.
-    Memory,
-}
-
-impl From<AllocError> for RecordFault {
-    ghost use Rattle.std.specs.Prelude.{◌≡◌};
-    ghost use Rattle.par2_recovery.specs.declared.set_record.RecordFault.TheVariants.{Memory};
-
-    ghost from_gives = { λ _ fault. fault ≡ Memory };
-
-    fn from(_error: AllocError) -> Self {
-        RecordFault::Memory
-    }
 }
 
 // The text of name i.
@@ -61,7 +42,7 @@ fn text_at(names: &[Name], i: usize) -> &str
 // The bytes of the files of these names.
 fn texts<'a>(alloc: Global, folder: &'a Folder, names: &[Name]) -> Result<Vec<&'a [u8]>, AllocError>
     ensures { IfOk result (λ texts.
-        texts_of texts.items ≡ map (files.bytes_of folder.now.files) names.now) }
+        texts_of texts.items ≡ map (spec.bytes_of folder.now.files) names.now) }
 {
     let mut texts = Vec::with_capacity(alloc, names.len())?;
     for i in 0..names.len() {
@@ -73,7 +54,7 @@ fn texts<'a>(alloc: Global, folder: &'a Folder, names: &[Name]) -> Result<Vec<&'
 // The MD5s of the files of these names.
 fn md5s(alloc: Global, folder: &Folder, names: &[Name]) -> Result<Vec<[u8; 16]>, AllocError>
     ensures value { IfOk result (λ md5s.
-        md5s.items ≡ map md5 (map (files.bytes_of folder.now.files) names.now)) }
+        md5s.items ≡ map md5 (map (spec.bytes_of folder.now.files) names.now)) }
     ensures count { IfOk result (λ md5s. length md5s.items ≡ length names.now) }
 {
     let texts = texts(alloc, folder, names)?;
@@ -81,16 +62,16 @@ fn md5s(alloc: Global, folder: &Folder, names: &[Name]) -> Result<Vec<[u8; 16]>,
     Ok(md5s)
 }
 
-// What a set says of the files of these names.
-fn records(
+/// What a set of slice size `s` says of the files of these names, in their order.
+pub fn file_records(
     alloc: Global,
     folder: &Folder,
     names: &[Name],
     s: u64,
 ) -> Result<Vec<FileRecord>, AllocError>
     requires { 1 ≤ s }
-    ensures { IfOk result (λ records. map file_record_of records.items
-        ≡ map (record_of s) (files_of folder.now.files names.now)) }
+    ensures { IfOk result (λ records.
+        AreRecords s (files_of folder.now.files names.now) records.items) }
 {
     let md5s = md5s(alloc, folder, names)?;
     let mut records = Vec::with_capacity(alloc, names.len())?;
@@ -103,31 +84,22 @@ fn records(
 }
 
 impl SetRecord {
-    /// What a set of slice size `s` says of the files of these names, in the order of their File IDs. DuplicateId is
-    /// answered exactly where two of them have one File ID.
-    pub fn of_files(
-        alloc: Global,
-        folder: &Folder,
-        names: &[Name],
-        s: u64,
-    ) -> Result<SetRecord, RecordFault>
-        requires { 1 ≤ s }
+    /// What a set of slice size `s` says of the files with these records, in the order of their File IDs. All memory was
+    /// taken for the records, so there is no other fault than that two of them have one File ID.
+    pub fn of_records(mut files: Vec<FileRecord>, s: u64) -> Result<SetRecord, DuplicateId>
+        ensures distinct { IsOk result ↔ IsDistinct bytes_eq (map (λ file. file.id) files.items) }
         ensures slice { IfOk result (λ set. set.slice ≡ s) }
-        ensures files { IfOk result (λ set. map file_record_of set.files.items
-            ≡ map (record_of s) (in_id_order (files_of folder.now.files names.now))) }
-        ensures order { IfOk result (λ set. files_of folder.now.files (names_of set)
-            ≡ in_id_order (files_of folder.now.files names.now)) }
         ensures rising { IfOk result
             (λ set. IsStrictlyIncreasing (map id_number set.files.items)) }
-        ensures distinct { IsOk result → IsDistinct bytes_eq
-            (map (λ file. file.id) (map (record_of s) (files_of folder.now.files names.now))) }
-        ensures duplicate { result ≡ Err RecordFault.DuplicateId → IsDistinct bytes_eq
-            (map (λ file. file.id) (map (record_of s) (files_of folder.now.files names.now))) → ⊥ }
+        ensures permutation { IfOk result (λ set. IsPermutation files.items set.files.items) }
+        ensures files { IfOk result (λ set. (inputs : List File)
+            → AreRecords s inputs files.items
+            → AreRecords s (in_id_order inputs) set.files.items) }
+        ensures order { IfOk result (λ set. (folder : spec.Folder) (names : List (List ℕ))
+            → AreRecords s (files_of folder names) files.items
+            → files_of folder (names_of set) ≡ in_id_order (files_of folder names)) }
     {
-        let mut files = records(alloc, folder, names, s)?;
-        match sort_ids(files.as_mut_slice()) {
-            Ok(()) => Ok(SetRecord { slice: s, files }),
-            Err(_) => Err(RecordFault::DuplicateId),
-        }
+        sort_ids(files.as_mut_slice())?;
+        Ok(SetRecord { slice: s, files })
     }
 }

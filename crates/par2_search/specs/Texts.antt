@@ -6,10 +6,7 @@ use Rattle.par2_spec.specs.Slices.{padded}
 use Rattle.par2_spec.specs.Windows.{window}
 use Rattle.par2_slices.specs.declared.batch.Spot.{Spot}
 use Rattle.par2_search.specs.Matching.{text_at}
-
--- the texts behind references
-abbrev pub texts_of : List (Bor (List ℕ)) → List (List ℕ)
-texts_of texts = map (λ text. text.now) texts
+pub use Rattle.par2_digests.specs.Texts.{texts_of}
 
 -- where a window was found, the bytes of it that lie in the text
 abbrev pub Window : Type 0

@@ -11,9 +11,9 @@ ghost use Rattle.par2_recovery.specs.Views.{names_of};
 
 use par2_folder::{Bytes, Change, Folder, Name};
 use par2_gf16::Gf;
-use par2_packets::FileRecord;
+use par2_packets::{DuplicateId, FileRecord};
 use par2_recovery::{
-    RebuildFault, RecordFault, SetRecord, Survivors, rebuild, recovery_slice, recovery_slices,
+    RebuildFault, SetRecord, Survivors, file_records, rebuild, recovery_slice, recovery_slices,
 };
 use par2_slices::slice_count;
 use std::alloc::{AllocError, Global};
@@ -39,7 +39,7 @@ pub fn set_of(
     folder: &Folder,
     texts: &[&str],
     s: u64,
-) -> Result<Option<Result<SetRecord, RecordFault>>, AllocError> {
+) -> Result<Option<Result<SetRecord, DuplicateId>>, AllocError> {
     let mut names = Vec::new(alloc);
     for text in texts {
         let Ok(name) = Name::new(text) else {
@@ -50,7 +50,8 @@ pub fn set_of(
     if s == 0 {
         return Ok(None);
     }
-    Ok(Some(SetRecord::of_files(alloc, folder, &names, s)))
+    let records = file_records(alloc, folder, &names, s)?;
+    Ok(Some(SetRecord::of_records(records, s)))
 }
 
 fn are_names(files: &[FileRecord]) -> bool

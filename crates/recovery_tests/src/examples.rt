@@ -1,8 +1,8 @@
 //! Worked examples.
 
 use par2_gf16::Gf;
-use par2_packets::FileRecord;
-use par2_recovery::{RebuildFault, RecordFault, Survivors, rank};
+use par2_packets::{DuplicateId, FileRecord};
+use par2_recovery::{RebuildFault, Survivors, rank};
 use recovery_calls::{folder_of, rebuilt, recovery_slice_of, recovery_slices_of, set_of};
 use std::alloc::{AllocError, Global};
 use std::test::Fail;
@@ -207,7 +207,7 @@ fn one_name_twice(rt: HostRuntime) -> Result<(), Fail> {
     let Some(Err(fault)) = set_of(alloc, &folder, &["a", "b", "a"], 4)? else {
         panic!(rt; "a record");
     };
-    assert_eq!(rt; fault, RecordFault::DuplicateId);
+    assert_eq!(rt; fault, DuplicateId);
     Ok(())
 }
 

@@ -1,13 +1,14 @@
-use Rattle.std.proofs.Common.{refl, inr, ap, ◌∙◌, Err}
-use Rattle.par2_plan.proofs.Ids.{ids_accepted, ids_refused}
+use Rattle.std.proofs.Common.{refl, subst, sym}
+use Rattle.std.specs.List.{IsDistinct}
+use Rattle.std.specs.Str.{bytes_eq}
+use Rattle.std.proofs.lemmas.Bool.{false≢true}
+use Rattle.par2_plan.proofs.Ids.{ids_accepted, ids_refused, ids_said}
 use Rattle.par2_plan.proofs.inputs.set_of.Goals as goal
 
-pub returns-in-Ok-clause-accepted : goal.returns-in-Ok-clause-accepted
-returns-in-Ok-clause-accepted c = ids_accepted c.args.folder.now.files c.args.names.now c.args.size (c.in-Ok.ensures.distinct refl)
+pub returns-in-Ok-clause-refused : goal.returns-in-Ok-clause-refused
+returns-in-Ok-clause-refused c = λ files are.
+    sym (ids_accepted files c.args.size (subst (IsDistinct bytes_eq) (ids_said c.args.size files c.args.records.items are) (c.in-Ok.ensures.distinct.0 refl)))
 
-pub returns-in-Ok-clause-files : goal.returns-in-Ok-clause-files
-returns-in-Ok-clause-files c = c.in-Ok.ensures.files
-
-pub returns-in-Err-DuplicateId-clause-refused : goal.returns-in-Err-DuplicateId-clause-refused
-returns-in-Err-DuplicateId-clause-refused c =
-    inr (ids_refused c.args.folder.now.files c.args.names.now c.args.size (c.of_files.ensures.duplicate (c.in-Err-DuplicateId.is ∙ ap Err c.in-Err-DuplicateId.field-0-is)))
+pub returns-in-Err-clause-refused : goal.returns-in-Err-clause-refused
+returns-in-Err-clause-refused c = λ files are.
+    sym (ids_refused files c.args.size (λ once. false≢true (c.in-Err.ensures.distinct.1 (subst (IsDistinct bytes_eq) (sym (ids_said c.args.size files c.args.records.items are)) once))))

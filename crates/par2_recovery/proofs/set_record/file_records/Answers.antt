@@ -6,7 +6,7 @@ use Rattle.par2_spec.specs.Volumes.{record_of}
 use Rattle.par2_spec.specs.Commands.{files_of}
 use Rattle.par2_packets.specs.View.{file_record_of}
 use Rattle.par2_recovery.proofs.Records.{digest_at_name, record_push}
-use Rattle.par2_recovery.proofs.set_record.records.Goals as goal
+use Rattle.par2_recovery.proofs.set_record.file_records.Goals as goal
 
 pub file_record_by_md5-requires-clause-digest : goal.file_record_by_md5-requires-clause-digest
 file_record_by_md5-requires-clause-digest c =

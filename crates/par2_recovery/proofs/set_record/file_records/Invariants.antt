@@ -3,7 +3,7 @@ use Rattle.std.specs.Prelude.{take}
 use Rattle.par2_spec.specs.Volumes.{record_of}
 use Rattle.par2_spec.specs.Commands.{files_of}
 use Rattle.par2_packets.specs.View.{file_record_of}
-use Rattle.par2_recovery.proofs.set_record.records.Given as goal
+use Rattle.par2_recovery.proofs.set_record.file_records.Given as goal
 
 abbrev pub invariant-loop-i : goal.invariant-loop-i
 invariant-loop-i l = map file_record_of l.records.items ≡ map (record_of l.s) (files_of l.folder.files (take l.i l.names))
