@@ -1,11 +1,12 @@
 //! A folder with a journal is opened as a session.
-ghost use Rattle.std.specs.Prelude.{◌≡◌, ◌≤◌, ◌<◌, ◌⊎◌, ◌&&◌, reverse, take, Some, IfSome, IfOk, IfErr, IsTrue, IsFalse, length, Ok, Err, None, true, drop, sum_by, ◌++◌};
+ghost use Rattle.std.specs.Prelude.{◌≡◌, ◌≤◌, ◌<◌, ◌⊎◌, ◌&&◌, reverse, take, Some, IfSome, IfOk, IfErr, IsTrue, IsFalse, length, MatchResult, Ok, Err, None, true, false, drop, sum_by, ◌++◌};
 ghost use Rattle.par2_spec.specs.Changes.{places_taken, takes_all, state_after_all, way_back};
 ghost use Rattle.par2_spec.specs.Sessions.{session_of_kept, walks};
 ghost use Rattle.par2_spec.specs.Journals.{IsJournal};
 ghost use Rattle.par2_spec.specs.Opening as defined;
 ghost use Rattle.par2_spec.specs.Opening.{is_valid, leads, Opens};
 ghost use Rattle.par2_spec.specs.declared.JournalFault.TheVariants.{JournalInvalid, Memory};
+ghost use Rattle.par2_journal_bytes.specs.Reading.{IsSealed};
 ghost use Rattle.par2_journal_bytes.specs.Views.{changes_of, entries_of, journal_of};
 ghost use Rattle.par2_journal.specs.Opened.{session_at, journal_with, opened_of, OpensAsIs};
 ghost use Rattle.par2_journal.specs.Walked.{state_along, ways_back};
@@ -297,7 +298,7 @@ fn open_journal(
 
 impl Session {
     /// Opens a folder with the bytes of a journal, in either version. At a refusal the folder is given back, names and
-    /// bytes as they were.
+    /// bytes as they were. Bytes that don't end with their digest are refused without memory.
     pub fn open(
         alloc: Global,
         folder: Folder,
@@ -307,6 +308,8 @@ impl Session {
             (λ found. Opens folder.files bytes.now (Ok (opened_of found))) }
         ensures refused { IfErr result (λ e. (e.0 ≡ Memory)
             ⊎ Opens folder.files bytes.now (Err e.0)) }
+        ensures unsealed { ¬ (IsSealed bytes.now)
+            → MatchResult result (λ _. ⊥) (λ e. e.0 ≡ JournalInvalid) }
         ensures files { IfErr result (λ e. e.1.files ≡ folder.files) }
     {
         match decode(alloc, bytes) {
@@ -323,6 +326,7 @@ impl Session {
 pub fn opens_as_is(alloc: Global, folder: &mut Folder, bytes: &[u8]) -> Result<bool, AllocError>
     ensures files { folder.new.files ≡ folder.old.files }
     ensures opens { result ≡ Ok true → OpensAsIs folder.old.files bytes.now }
+    ensures unsealed { ¬ (IsSealed bytes.now) → result ≡ Ok false }
 {
     let Journal {
         cursor,

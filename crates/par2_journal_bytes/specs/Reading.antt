@@ -1,5 +1,5 @@
 -- Reading from left to right: a value and the bytes behind it, or nothing.
-use Rattle.std.specs.Prelude.{◌≡◌, ℕ, zero, suc, ◌-◌, List, [], ◌∷◌, length, take, drop, Option, Some, None, Result, Ok, Err, nat_lt, nat_le, ◌==◌, ◌&&◌, Bool, if◌then◌else◌}
+use Rattle.std.specs.Prelude.{◌≡◌, ◌≤◌, ℕ, zero, suc, ◌-◌, List, [], ◌∷◌, length, take, drop, Option, Some, None, Result, Ok, Err, nat_lt, nat_le, ◌==◌, ◌&&◌, Bool, if◌then◌else◌}
 use Rattle.std.specs.Int.{w64, from_le_bytes}
 use Rattle.std.specs.Str.{bytes_eq}
 use Rattle.md5.specs.Md5.{md5}
@@ -118,6 +118,11 @@ parts_at bytes = do
   halfway ← halfway_at entries.1
   checked (nat_le (cursor_in version.0 cursor.0 n.0) n.0 && length halfway.1 == 0)
       (record { version = version.0; fingerprint = print.0; cursor = cursor_in version.0 cursor.0 n.0; entries = entries.0; halfway = halfway.0 })
+
+-- the text ends with the digest of all that stands before it
+pub record IsSealed (text : List ℕ) : Type 0 where
+  pub long : 16 ≤ length text
+  pub digest : drop (length text - 16) text ≡ md5 (take (length text - 16) text)
 
 unfoldable pub journal_at : List ℕ → Option Journal
 journal_at text =

@@ -5,7 +5,7 @@ ghost use Rattle.par2_spec.specs.Names.{is_name};
 ghost use Rattle.par2_spec.specs.Journals.{Journal as Defined, Spells};
 ghost use Rattle.par2_folder.specs.Views.{change_of};
 ghost use Rattle.par2_journal_bytes.specs.Reading as reads;
-ghost use Rattle.par2_journal_bytes.specs.Reading.{Gives};
+ghost use Rattle.par2_journal_bytes.specs.Reading.{Gives, IsSealed};
 ghost use Rattle.par2_journal_bytes.specs.Views.{changes_of, entries_of, halfway_of, journal_of};
 ghost use Rattle.par2_journal_bytes.specs.declared.fault.DecodeFault.TheVariants.{JournalInvalid, Memory};
 
@@ -263,7 +263,8 @@ fn read_parts(alloc: Global, bytes: &[u8]) -> Result<Journal, DecodeFault>
 // The digest is tested first, so of a text that nobody wrote nothing is read.
 #[tactic(auto, unfolding(crate::specs::Reading::journal_at))]
 fn read_journal(alloc: Global, bytes: &[u8]) -> Result<Journal, DecodeFault>
-    ensures { Gives journal_of result (reads.journal_at bytes.now) }
+    ensures read { Gives journal_of result (reads.journal_at bytes.now) }
+    ensures unsealed { ¬ (IsSealed bytes.now) → result ≡ Err JournalInvalid }
 {
     if bytes.len() < 16 {
         return Err(DecodeFault::JournalInvalid);
@@ -275,14 +276,15 @@ fn read_journal(alloc: Global, bytes: &[u8]) -> Result<Journal, DecodeFault>
     read_parts(alloc, body)
 }
 
-/// The journal that the bytes spell. Nothing is read where the digest at their end is false, and memory is asked for
-/// only once the bytes that it is for were found.
+/// The journal that the bytes spell. Where the digest at their end is false nothing is read, and no memory taken; else
+/// memory is asked for only once the bytes that it is for were found.
 pub fn decode(alloc: Global, bytes: &[u8]) -> Result<Journal, DecodeFault>
     ensures found { IfOk result (λ journal. Spells bytes.now (journal_of journal)) }
     ensures only { (j : Defined) → Spells bytes.now j
         → MatchResult result (λ journal. journal_of journal ≡ j) (λ fault. fault ≡ Memory) }
     ensures invalid { result ≡ Err JournalInvalid
         → (j : Defined) → Spells bytes.now j → ⊥ }
+    ensures unsealed { ¬ (IsSealed bytes.now) → result ≡ Err JournalInvalid }
 {
     read_journal(alloc, bytes)
 }
