@@ -1,7 +1,7 @@
-//! Messages that begin alike, and the hasher of one message.
+//! Messages that begin alike, states side by side, and the hasher of one message.
 
 use md5::{Digest, Md5};
-use par2_digests::{Message, Midstate, Part};
+use par2_digests::{Message, Midstate, Part, Pending, absorb_each};
 use std::alloc::{AllocError, Global};
 use std::test::Fail;
 
@@ -66,6 +66,58 @@ fn one_to_eight_messages(rt: HostRuntime) -> Result<(), Fail> {
             let digests = state.digests(messages.as_slice());
             for k in 0..count {
                 assert!(rt; digests[k] == digest_by_the_hasher(&text, turn, k));
+            }
+        }
+    }
+    Ok(())
+}
+
+// A state behind a piece of its own, and the parts of message k.
+fn pending(alloc: Global, text: &[u8], turn: usize, k: usize) -> Result<Pending, AllocError> {
+    let mut state = Midstate::new();
+    state.absorb(&[Part::Bytes(piece(text, 500, turn.wrapping_add(k)))]);
+    let message = message(alloc, text, turn, k)?;
+    Ok(Pending {
+        state,
+        parts: message.parts,
+    })
+}
+
+fn pendings(
+    alloc: Global,
+    text: &[u8],
+    turn: usize,
+    count: usize,
+) -> Result<Vec<Pending>, AllocError> {
+    let mut pendings = Vec::new(alloc);
+    for k in 0..count {
+        pendings.push(pending(alloc, text, turn, k)?)?;
+    }
+    Ok(pendings)
+}
+
+fn digest_behind(text: &[u8], turn: usize, k: usize) -> [u8; 16] {
+    let mut hasher = Md5::new();
+    hasher.update(piece(text, 500, turn.wrapping_add(k)));
+    hasher.update((k as u64).to_le_bytes().as_slice());
+    hasher.update(piece(text, k, turn.wrapping_add(k.wrapping_mul(5))));
+    hasher.update(piece(text, 300, turn.wrapping_mul(k)));
+    hasher.update(piece(text, 7, turn));
+    hasher.finalize()
+}
+
+#[test]
+fn one_to_eight_states(rt: HostRuntime) -> Result<(), Fail> {
+    let text = text();
+    for turn in 0..12 {
+        for count in 1..9usize {
+            let pendings = pendings(rt.alloc(), &text, turn, count)?;
+            assert!(rt; pendings.len() <= 8);
+            let states = absorb_each(pendings.as_slice());
+            for k in 0..count {
+                let mut state = states[k];
+                state.absorb(&[Part::Bytes(piece(&text, 7, turn))]);
+                assert!(rt; state.digest() == digest_behind(&text, turn, k));
             }
         }
     }

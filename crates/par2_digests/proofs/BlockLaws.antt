@@ -24,17 +24,17 @@ word_of_block b (suc n) i d h = elim (cases_lt i n) [
       rw (← last) (get_or_at (block_words b n) (word_at b (4 * n)) [] d n (count_of_words b n))
 ]
 
-byte_of_block : (text : List ℕ) (at i j : ℕ) → i + j < 64 → get_or (take 64 (drop at text)) (i + j) 0 ≡ get_or text (at + i + j) 0
-byte_of_block text at i j h =
+byte_of_part : (text : List ℕ) (n at i j : ℕ) → i + j < n → get_or (take n (drop at text)) (i + j) 0 ≡ get_or text (at + i + j) 0
+byte_of_part text n at i j h =
     let place : at + (i + j) ≡ at + i + j = omega arith in
-    get_or-take 64 (drop at text) (i + j) 0 h ∙ get_or-drop at text (i + j) 0 ∙ ap (λ (n : ℕ). get_or text n 0) place
+    get_or-take n (drop at text) (i + j) 0 h ∙ get_or-drop at text (i + j) 0 ∙ ap (λ (k : ℕ). get_or text k 0) place
 
--- a word of the block that stands at `at` in a text
-word_in_text : (text : List ℕ) (at i : ℕ) → i + 4 ≤ 64 → word_at (take 64 (drop at text)) i ≡ word_at text (at + i)
-word_in_text text at i h =
-    let first : get_or (take 64 (drop at text)) i 0 ≡ get_or text (at + i) 0 =
-    get_or-take 64 (drop at text) i 0 (omega arith) ∙ get_or-drop at text i 0 in
-    rw (first, byte_of_block text at i 1 (omega arith), byte_of_block text at i 2 (omega arith), byte_of_block text at i 3 (omega arith)) refl
+-- a word of the part that stands at `at` in a text
+pub word_in_text : (text : List ℕ) (n at i : ℕ) → i + 4 ≤ n → word_at (take n (drop at text)) i ≡ word_at text (at + i)
+word_in_text text n at i h =
+    let first : get_or (take n (drop at text)) i 0 ≡ get_or text (at + i) 0 =
+    get_or-take n (drop at text) i 0 (omega arith) ∙ get_or-drop at text i 0 in
+    rw (first, byte_of_part text n at i 1 (omega arith), byte_of_part text n at i 2 (omega arith), byte_of_part text n at i 3 (omega arith)) refl
 
 -- sixteen vectors hold the words of such a block in a lane
 pub words_of_lane : {V : Type 0} (at : V → ℕ → ℕ) (words : List V) (text : List ℕ) (k start offset : ℕ) → length words ≡ 16
@@ -51,7 +51,7 @@ words_of_lane at (first ∷ others) text k start offset count each =
     get_or-map (λ word. at word k) words i first d (omega arith)
     ∙ each i first low
     ∙ ap (word_at text) place
-    ∙ sym (word_in_text text (start + offset) (4 * i) (omega arith))
+    ∙ sym (word_in_text text 64 (start + offset) (4 * i) (omega arith))
     ∙ sym (word_of_block block 16 i d low))
 
 -- ---- blocks

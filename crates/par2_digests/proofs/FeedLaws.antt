@@ -108,19 +108,24 @@ goes_on m x bytes hash hash_is bytes_is =
     ∙ behind_blocks (m ++ x) q n
     ∙ ap (hash_after (m ++ x)) count
 
+-- what is behind the blocks stays so
+pub end_goes_on : (m x bytes : List ℕ) → bytes ≡ drop (length m / 64 * 64) m ++ x → drop (length bytes / 64 * 64) bytes ≡ drop (length (m ++ x) / 64 * 64) (m ++ x)
+end_goes_on m x bytes bytes_is =
+    let q : ℕ = length m / 64 in
+    let left_is : bytes ≡ drop (q * 64) (m ++ x) = bytes_is ∙ sym (drop-append-le (q * 64) m x (omega arith)) in
+    let size : length bytes + q * 64 ≡ length (m ++ x) = omega (arith, length-append m x, ap length left_is, length-drop (q * 64) (m ++ x)) in
+    let place : q * 64 + length bytes / 64 * 64 ≡ length (m ++ x) / 64 * 64 = omega (arith, size) in
+    ap (drop (length bytes / 64 * 64)) left_is
+    ∙ drop-drop (length bytes / 64 * 64) (q * 64) (m ++ x)
+    ∙ ap (λ (n : ℕ). drop n (m ++ x)) place
+
 pub rest_goes_on : (m x bytes block : List ℕ) → bytes ≡ drop (length m / 64 * 64) m ++ x → take (length bytes % 64) block ≡ drop (length bytes / 64 * 64) bytes
     → take (length (m ++ x) % 64) block ≡ drop (length (m ++ x) / 64 * 64) (m ++ x)
 rest_goes_on m x bytes block bytes_is held =
     let q : ℕ = length m / 64 in
-    let left_is : bytes ≡ drop (q * 64) (m ++ x) = bytes_is ∙ sym (drop-append-le (q * 64) m x (omega arith)) in
-    let size : length bytes + q * 64 ≡ length (m ++ x) = omega (arith, length-append m x, ap length left_is, length-drop (q * 64) (m ++ x)) in
+    let size : length bytes + q * 64 ≡ length (m ++ x) = omega (arith, ap length bytes_is, length-append m x, length-append (drop (q * 64) m) x, length-drop (q * 64) m) in
     let few : length (m ++ x) % 64 ≡ length bytes % 64 = omega (arith, size) in
-    let place : q * 64 + length bytes / 64 * 64 ≡ length (m ++ x) / 64 * 64 = omega (arith, size) in
-    ap (λ (n : ℕ). take n block) few
-    ∙ held
-    ∙ ap (drop (length bytes / 64 * 64)) left_is
-    ∙ drop-drop (length bytes / 64 * 64) (q * 64) (m ++ x)
-    ∙ ap (λ (n : ℕ). drop n (m ++ x)) place
+    ap (λ (n : ℕ). take n block) few ∙ held ∙ end_goes_on m x bytes bytes_is
 
 four : (p : List ℕ) (n : ℕ) → slice_index (hash_after p n) 0 ∷ slice_index (hash_after p n) 1 ∷ slice_index (hash_after p n) 2 ∷ slice_index (hash_after p n) 3 ∷ [] ≡ hash_after p n
 unfolding hash_after compress

@@ -5,3 +5,4 @@ pub mod TailLaws
 pub mod FeedLaws
 pub mod TaskLaws
 pub mod TextLaws
+pub mod PendingLaws

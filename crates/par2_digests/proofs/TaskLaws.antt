@@ -1,46 +1,49 @@
 -- A message on its way to its digest.
-use Rattle.std.proofs.Common.{◌≡◌, ℕ, suc, min, ◌+◌, ◌-◌, ◌*◌, ◌/◌, ◌≤◌, ◌<◌, List, Option, Some, None, length, take, drop, ◌++◌, ap, ap₂, sym, subst, ◌∙◌, arith, get_or, length-append, length-drop}
-use Rattle.std.proofs.lemmas.List.{append_assoc, drop_at, get_or-map, length-take-le, take-append-le, take_all}
-use Rattle.md5.specs.Md5.{compress, digest_bytes, hash_after, padding}
+use Rattle.std.proofs.Common.{◌≡◌, ℕ, ◌+◌, ◌-◌, ◌*◌, ◌/◌, ◌%◌, ◌≤◌, ◌<◌, List, [], ◌∷◌, Option, Some, None, length, take, drop, ◌++◌, refl, ap, ap₂, sym, subst, ◌∙◌, arith, get_or, length-append, length-drop}
+use Rattle.std.proofs.lemmas.List.{drop_at, drop-drop, get_or-map, length-take-le, take-append-le, take_all}
+use Rattle.md5.specs.Md5.{hash_after}
 use Rattle.par2_digests.specs.Feeds.{hash_behind, left}
 use Rattle.par2_digests.specs.Tasks.{HasBlocks, HaveBlocks, LeadsTo, LeadsWith, work, work_of, works}
 use Rattle.par2_digests.specs.declared.tasks.Task.{Task}
-use Rattle.par2_digests.proofs.FeedLaws.{blocks_alike, blocks_first, goes_on}
-use Rattle.par2_digests.proofs.TailLaws.{whole_padded}
+use Rattle.par2_digests.proofs.FeedLaws.{blocks_alike, blocks_first, end_goes_on, goes_on}
 use borrow.Rule.Slice.PartMut.{put_mid}
 
--- a digest stays
-pub done_stays : (digest : Option (List ℕ)) (d bytes hash next last : List ℕ) → digest ≡ Some d → LeadsWith digest bytes hash last → LeadsWith digest bytes next last
-done_stays (Some x) d bytes hash next last is held = held
-done_stays None d bytes hash next last is held = (cc)
+drop_none : (bytes : List ℕ) → bytes ≡ drop 0 bytes
+drop_none [] = refl
+drop_none (b ∷ bytes) = refl
 
--- fewer bytes than a block are none
-pub at_the_end : (digest : Option (List ℕ)) (bytes hash last : List ℕ) (count : ℕ) → digest ≡ None → count ≡ length bytes → count < 64
-    → LeadsWith digest bytes hash last → hash ≡ last
+-- a last hash value stays
+pub done_stays : (done : Option (List ℕ)) (kept d bytes hash next last rest : List ℕ) → done ≡ Some d → LeadsWith done kept bytes hash last rest → LeadsWith done kept bytes next last rest
+done_stays (Some x) kept d bytes hash next last rest is held = held
+done_stays None kept d bytes hash next last rest is held = (cc)
+
+-- fewer bytes than a block are what is behind the blocks
+pub at_the_end : (done : Option (List ℕ)) (kept bytes hash last rest : List ℕ) (count : ℕ) → done ≡ None → count ≡ length bytes → count < 64
+    → LeadsWith done kept bytes hash last rest → (hash ≡ last) × (bytes ≡ rest)
 unfolding hash_behind
-at_the_end (Some x) bytes hash last count is counted short held = (cc)
-at_the_end None bytes hash last count is counted short held =
-    let none : length bytes / 64 ≡ 0 = omega (arith, held.0) in
-    rw none at held.1
+at_the_end (Some x) kept bytes hash last rest count is counted short held = (cc)
+at_the_end None kept bytes hash last rest count is counted short held =
+    let none : length bytes / 64 ≡ 0 = omega arith in (rw none at held.0, drop_none bytes ∙ (rw none at held.1))
 
 -- some blocks more
-pub blocks_more : (digest : Option (List ℕ)) (bytes rest blocks hash last : List ℕ) (n count : ℕ) → digest ≡ None → count ≡ n * 64
-    → count ≤ length bytes → take count blocks ≡ take count bytes → rest ≡ drop count bytes
-    → LeadsWith digest bytes hash last → LeadsWith digest rest (hash_behind hash blocks n) last
-blocks_more (Some x) bytes rest blocks hash last n count is counted full same rest_is held = (cc)
-blocks_more None bytes rest blocks hash last n count is counted full same rest_is held =
-    let behind : rest ≡ drop (n * 64) bytes = rest_is ∙ ap (λ (m : ℕ). drop m bytes) counted in
-    let size_of : length rest ≡ length bytes - n * 64 = ap length behind ∙ length-drop (n * 64) bytes in
-    let m : ℕ = length rest / 64 in
-    let all : n + m ≡ length bytes / 64 = omega (arith, held.0) in (
-      omega (arith, held.0),
-      ap₂ (λ (h b : List ℕ). hash_behind h b m) (blocks_alike hash blocks bytes n count (omega arith) same) behind
+pub blocks_more : (done : Option (List ℕ)) (kept bytes behind blocks hash last rest : List ℕ) (n count : ℕ) → done ≡ None → count ≡ n * 64
+    → count ≤ length bytes → take count blocks ≡ take count bytes → behind ≡ drop count bytes
+    → LeadsWith done kept bytes hash last rest → LeadsWith done kept behind (hash_behind hash blocks n) last rest
+blocks_more (Some x) kept bytes behind blocks hash last rest n count is counted full same behind_is held = (cc)
+blocks_more None kept bytes behind blocks hash last rest n count is counted full same behind_is held =
+    let later : behind ≡ drop (n * 64) bytes = behind_is ∙ ap (λ (m : ℕ). drop m bytes) counted in
+    let size_of : length behind ≡ length bytes - n * 64 = ap length later ∙ length-drop (n * 64) bytes in
+    let m : ℕ = length behind / 64 in
+    let all : n + m ≡ length bytes / 64 = omega arith in
+    let place : n * 64 + m * 64 ≡ length bytes / 64 * 64 = omega arith in (
+      ap₂ (λ (h b : List ℕ). hash_behind h b m) (blocks_alike hash blocks bytes n count (omega arith) same) later
           ∙ blocks_first hash bytes n m
           ∙ ap (hash_behind hash bytes) all
-          ∙ held.1,
+          ∙ held.0,
+      ap (drop (m * 64)) later ∙ drop-drop (m * 64) (n * 64) bytes ∙ ap (λ (i : ℕ). drop i bytes) place ∙ held.1,
     )
 
--- where blocks are left, and no digest is there
+-- where blocks are left, and no hash value is there
 pub left_blocks : (digest : Option (List ℕ)) (bytes : List ℕ) (n : ℕ) → digest ≡ None → HaveBlocks digest bytes n → n * 64 ≤ length bytes
 left_blocks (Some x) bytes n is held = (cc)
 left_blocks None bytes n is held = held
@@ -50,27 +53,42 @@ fewer_left (Some x) bytes n m few held = tt
 fewer_left None bytes n m few held = omega (arith, held)
 
 pub fewer_blocks : (task : Task) (n m : ℕ) → m ≤ n → HasBlocks task n → HasBlocks task m
-fewer_blocks task n m few held = fewer_left task.digest (left task.feed) n m few held
+fewer_blocks task n m few held = fewer_left task.hash (left task.feed) n m few held
 
 -- all blocks that are left
-pub all_blocks_more : (digest : Option (List ℕ)) (bytes hash last : List ℕ) → digest ≡ None → LeadsWith digest bytes hash last
-    → hash_behind hash bytes (length bytes / 64) ≡ last
-all_blocks_more (Some x) bytes hash last is held = (cc)
-all_blocks_more None bytes hash last is held = held.1
+pub all_blocks_more : (done : Option (List ℕ)) (kept bytes hash last rest : List ℕ) → done ≡ None → LeadsWith done kept bytes hash last rest
+    → (hash_behind hash bytes (length bytes / 64) ≡ last) × (drop (length bytes / 64 * 64) bytes ≡ rest)
+all_blocks_more (Some x) kept bytes hash last rest is held = (cc)
+all_blocks_more None kept bytes hash last rest is held = held
 
--- where no work is left, there is the digest
-pub finished : (digest : Option (List ℕ)) (bytes hash last : List ℕ) → work_of digest bytes ≡ 0 → LeadsWith digest bytes hash last → digest ≡ Some (digest_bytes last 4)
-finished (Some x) bytes hash last idle held = ap Some held
-finished None bytes hash last idle held = absurd (omega arith)
+-- where no work is left, there is the last hash value
+pub finished : (done : Option (List ℕ)) (kept bytes hash last rest : List ℕ) → work_of done bytes ≡ 0 → LeadsWith done kept bytes hash last rest
+    → (done ≡ Some last) × (take (length rest) kept ≡ rest)
+finished (Some x) kept bytes hash last rest idle held = (ap Some held.0, held.1)
+finished None kept bytes hash last rest idle held = absurd (omega arith)
+
+-- what is behind the blocks, where a block begins with it
+pub ended_at : (bytes block rest : List ℕ) → drop (length bytes / 64 * 64) bytes ≡ rest → take (length bytes % 64) block ≡ drop (length bytes / 64 * 64) bytes
+    → take (length rest) block ≡ rest
+ended_at bytes block rest is held =
+    let size : length rest ≡ length bytes % 64 = omega (arith, ap length is, length-drop (length bytes / 64 * 64) bytes) in
+    ap (λ (n : ℕ). take n block) size ∙ held ∙ is
+
+-- what is behind the blocks, copied
+pub kept_rest : (bytes rest block copied others : List ℕ) (count : ℕ) → copied ≡ take count block → take count block ≡ take count bytes → count ≡ length bytes → bytes ≡ rest
+    → take (length rest) (copied ++ others) ≡ rest
+kept_rest bytes rest block copied others count copy same all is =
+    let copy_is : copied ≡ rest = copy ∙ same ∙ take_all count bytes (omega arith) ∙ is in
+    ap (λ (l : List ℕ). take (length rest) (l ++ others)) copy_is ∙ take-append-le (length rest) rest others (omega arith) ∙ take_all (length rest) rest (omega arith)
 
 -- ---- tasks and blocks beside each other
 
-pub leads_same : (a b : Task) (hash last : List ℕ) → a ≡ b → LeadsTo b hash last → LeadsTo a hash last
-leads_same a b hash last same held = subst (λ (t : Task). LeadsTo t hash last) (sym same) held
+pub leads_same : (a b : Task) (hash last rest : List ℕ) → a ≡ b → LeadsTo b hash last rest → LeadsTo a hash last rest
+leads_same a b hash last rest same held = subst (λ (t : Task). LeadsTo t hash last rest) (sym same) held
 
-pub leads_alike : (a b : Task) (x y hash last : List ℕ) (n : ℕ) → a ≡ b → x ≡ y → LeadsTo b (hash_behind hash y n) last → LeadsTo a (hash_behind hash x n) last
-leads_alike a b x y hash last n same bytes held =
-    leads_same a b (hash_behind hash x n) last same (subst (λ (z : List ℕ). LeadsTo b (hash_behind hash z n) last) (sym bytes) held)
+pub leads_alike : (a b : Task) (x y hash last rest : List ℕ) (n : ℕ) → a ≡ b → x ≡ y → LeadsTo b (hash_behind hash y n) last rest → LeadsTo a (hash_behind hash x n) last rest
+leads_alike a b x y hash last rest n same bytes held =
+    leads_same a b (hash_behind hash x n) last rest same (subst (λ (z : List ℕ). LeadsTo b (hash_behind hash z n) last rest) (sym bytes) held)
 
 pub works_at : (tasks : List Task) (k : ℕ) (none : Task) → k < length tasks → get_or (works tasks) k 0 ≡ work (get_or tasks k none)
 works_at tasks k none h = get_or-map work tasks k none 0 h
@@ -95,27 +113,16 @@ blocks_len blocks some at j room size =
 pub shrink_same : (at : Task → Task) (new old : Task) → ((d : Task) → at d ≡ old) → (d : Task) → work new ≤ work (at d) - 1 → work new ≤ work old - 1
 shrink_same at new old same d held = subst (λ (t : Task). work new ≤ work t - 1) (same d) held
 
--- ---- the beginning of a task: q blocks of m are taken in, and the rest of m, a message and the padding are left
+-- ---- the beginning of a task: q blocks of m are taken in, and the rest of m and x are left
 
-pub ready : (digest : Option (List ℕ)) (m message ending taken bytes hash p : List ℕ) → digest ≡ None → bytes ≡ taken ++ (message ++ ending)
-    → taken ≡ drop (length m / 64 * 64) m → hash ≡ hash_after m (length m / 64) → ending ≡ padding (length (m ++ message)) → p ≡ (m ++ message) ++ padding (length (m ++ message))
-    → LeadsWith digest bytes hash (hash_after p (length p / 64))
-ready (Some x) m message ending taken bytes hash p is bytes_is taken_is hash_is ending_is p_is = (cc)
-ready None m message ending taken bytes hash p is bytes_is taken_is hash_is ending_is p_is =
-    let x : List ℕ = message ++ ending in
-    let behind : bytes ≡ drop (length m / 64 * 64) m ++ x = bytes_is ∙ ap (λ (t : List ℕ). t ++ x) taken_is in
-    let whole : m ++ x ≡ p = sym (append_assoc m message ending) ∙ ap (λ (e : List ℕ). (m ++ message) ++ e) ending_is ∙ sym p_is in (
-      omega (
-        arith,
-        whole_padded (m ++ message),
-        ap length p_is,
-        ap length whole,
-        ap length behind,
-        length-append (drop (length m / 64 * 64) m) x,
-        length-append m x,
-        length-drop (length m / 64 * 64) m,
-      ),
+pub ready : (done : Option (List ℕ)) (m x taken kept bytes hash p : List ℕ) → done ≡ None → bytes ≡ taken ++ x
+    → taken ≡ drop (length m / 64 * 64) m → hash ≡ hash_after m (length m / 64) → m ++ x ≡ p
+    → LeadsWith done kept bytes hash (hash_after p (length p / 64)) (drop (length p / 64 * 64) p)
+ready (Some y) m x taken kept bytes hash p is bytes_is taken_is hash_is whole = (cc)
+ready None m x taken kept bytes hash p is bytes_is taken_is hash_is whole =
+    let behind : bytes ≡ drop (length m / 64 * 64) m ++ x = bytes_is ∙ ap (λ (t : List ℕ). t ++ x) taken_is in (
       goes_on m x bytes hash hash_is behind ∙ ap (λ (b : List ℕ). hash_after b (length b / 64)) whole,
+      end_goes_on m x bytes behind ∙ ap (λ (b : List ℕ). drop (length b / 64 * 64) b) whole,
     )
 
 pub has_blocks_same : (at start : Task → Task) (n m : ℕ) → n ≡ m → ((d : Task) → at d ≡ start d) → (d : Task) → HasBlocks (start d) m → HasBlocks (at d) n

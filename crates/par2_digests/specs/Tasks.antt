@@ -1,32 +1,40 @@
 -- Messages on their way to their digests.
-use Rattle.std.specs.Prelude.{◌≡◌, ◌≤◌, ℕ, suc, ◌*◌, ◌/◌, ◌%◌, List, Option, Some, None, length, map}
-use Rattle.md5.specs.Md5.{digest_bytes}
+use Rattle.std.specs.Prelude.{◌≡◌, ◌≤◌, ℕ, suc, ◌*◌, ◌/◌, List, Option, Some, None, length, take, drop, map}
+use Rattle.md5.specs.Md5.{hash_after}
 use Rattle.par2_digests.specs.Feeds.{hash_behind, left}
 use Rattle.par2_digests.specs.declared.tasks.Task.{Task}
 
--- the digest is that of the last hash value, or whole blocks lead from this hash value to the last
-abbrev pub LeadsWith : Option (List ℕ) → List ℕ → List ℕ → List ℕ → Type 0
-LeadsWith (Some digest) bytes hash last = digest ≡ digest_bytes last 4
-LeadsWith None bytes hash last = (length bytes % 64 ≡ 0) × (hash_behind hash bytes (length bytes / 64) ≡ last)
+-- the hash value is the last, and so is what is behind the blocks; or whole blocks lead from this hash value to both
+abbrev pub LeadsWith : Option (List ℕ) → List ℕ → List ℕ → List ℕ → List ℕ → List ℕ → Type 0
+LeadsWith (Some done) kept bytes hash last rest = (done ≡ last) × (take (length rest) kept ≡ rest)
+LeadsWith None kept bytes hash last rest = (hash_behind hash bytes (length bytes / 64) ≡ last) × (drop (length bytes / 64 * 64) bytes ≡ rest)
 
-abbrev pub LeadsTo : Task → List ℕ → List ℕ → Type 0
-LeadsTo task hash last = LeadsWith task.digest (left task.feed) hash last
+abbrev pub LeadsTo : Task → List ℕ → List ℕ → List ℕ → Type 0
+LeadsTo task hash last rest = LeadsWith task.hash task.rest (left task.feed) hash last rest
 
--- so many blocks are left, unless the digest is there
+-- the hash value behind the whole blocks, and the bytes behind them
+abbrev pub HasEnded : Task → List ℕ → List ℕ → Type 0
+HasEnded task last rest = (task.hash ≡ Some last) × (take (length rest) task.rest ≡ rest)
+
+-- the task has ended behind this message
+abbrev pub HasTaken : Task → List ℕ → Type 0
+HasTaken task p = HasEnded task (hash_after p (length p / 64)) (drop (length p / 64 * 64) p)
+
+-- so many blocks are left, unless the hash value is there
 abbrev pub HaveBlocks : Option (List ℕ) → List ℕ → ℕ → Type 0
-HaveBlocks (Some digest) bytes n = Unit
+HaveBlocks (Some done) bytes n = Unit
 HaveBlocks None bytes n = n * 64 ≤ length bytes
 
 abbrev pub HasBlocks : Task → ℕ → Type 0
-HasBlocks task n = HaveBlocks task.digest (left task.feed) n
+HasBlocks task n = HaveBlocks task.hash (left task.feed) n
 
--- falls with each block until the digest is there
+-- falls with each block until the hash value is there
 abbrev pub work_of : Option (List ℕ) → List ℕ → ℕ
-work_of (Some digest) bytes = 0
+work_of (Some done) bytes = 0
 work_of None bytes = suc (length bytes)
 
 abbrev pub work : Task → ℕ
-work task = work_of task.digest (left task.feed)
+work task = work_of task.hash (left task.feed)
 
 abbrev pub works : List Task → List ℕ
 works tasks = map work tasks

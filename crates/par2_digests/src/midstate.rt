@@ -7,12 +7,12 @@ ghost use Rattle.par2_digests.specs.Feeds.{hash_behind, left};
 ghost use Rattle.par2_digests.specs.Messages.{HasAbsorbed, message_at, message_of, part_bytes};
 ghost use Rattle.par2_digests.specs.declared.midstate.Part.{Part};
 
-use crate::LANES;
 use crate::alone::hashed;
 use crate::feeds::Feed;
 use crate::lanes::Lanes;
 use crate::steps::{Words, in_each_lane};
-use crate::tasks::{Task, digests_of_tasks};
+use crate::tasks::{Task, finish_all, read_digests};
+use crate::{LANES, digest_of};
 use std::simd::prelude::*;
 
 // The padding's first bytes: a bit 1, then zeros.
@@ -36,14 +36,14 @@ pub struct Message<'a> {
 }
 
 /// MD5 behind the first bytes of a message.
-#[derive(Drop)]
+#[derive(Clone, Copy, Drop)]
 pub struct Midstate {
     // The hash value behind the whole blocks.
-    hash: [u32; 4],
+    pub(crate) hash: [u32; 4],
     // Begins with the bytes behind them.
-    rest: [u8; 64],
+    pub(crate) rest: [u8; 64],
     // How many bytes there were, modulo 2^64, as the padding writes it.
-    length: u64,
+    pub(crate) length: u64,
 }
 
 fn part_len(part: &Part) -> usize
@@ -55,8 +55,8 @@ fn part_len(part: &Part) -> usize
     }
 }
 
-// How many bytes the parts have, modulo 2^64.
-fn length_of(parts: &[Part]) -> u64
+/// How many bytes the parts have, modulo 2^64.
+pub(crate) fn length_of(parts: &[Part]) -> u64
     ensures { result ≡ length (message_of parts.now) % 2 ^ 64 }
 {
     let mut length = 0u64;
@@ -91,7 +91,7 @@ fn task<'a>(
     k: usize,
 ) -> Task<'a>
     requires { k < 8 }
-    ensures open { result.digest ≡ None }
+    ensures open { result.hash ≡ None }
     ensures bytes { (none : List Part) → k < length messages.now
         → left result.feed
         ≡ rest.now ++ (message_at messages.now k ++ message_of (get_or endings.now k none)) }
@@ -107,7 +107,11 @@ fn task<'a>(
         parts,
         ending: &endings[k],
     };
-    Task { feed, digest: None }
+    Task {
+        feed,
+        hash: None,
+        rest: [0; 64],
+    }
 }
 
 impl Midstate {
@@ -136,6 +140,15 @@ impl Midstate {
         };
         self.length = self.length.wrapping_add(length_of(parts));
         self.hash = hashed(self.hash, feed, &mut self.rest);
+    }
+
+    /// The MD5 digest of what was absorbed.
+    pub fn digest(&self) -> [u8; 16]
+        ensures { (m : List ℕ) → HasAbsorbed self.now m → result ≡ md5 m }
+    {
+        let mut padded = *self;
+        padded.absorb(&ending(self.length));
+        digest_of(padded.hash)
     }
 
     // The padding of each message.
@@ -174,7 +187,9 @@ impl Midstate {
             task(rest, messages, &endings, 7),
         ];
         let [a, b, c, d] = self.hash;
-        digests_of_tasks(&mut tasks, in_each_lane(a, b, c, d), words, messages.len())
+        let state = in_each_lane(a, b, c, d);
+        finish_all(&mut tasks, state, words, messages.len());
+        read_digests(&tasks)
     }
 
     /// The MD5 digests of the messages that begin with what was absorbed and go on like these; eight at most.

@@ -7,15 +7,15 @@ ghost use Rattle.md5.specs.Md5.{digest_bytes};
 ghost use Rattle.par2_digests.specs.Digests.{digest_at};
 ghost use Rattle.par2_digests.specs.Feeds.{hash_behind};
 ghost use Rattle.par2_digests.specs.Lanes.{lane};
-ghost use Rattle.par2_digests.specs.Tasks.{HasBlocks, LeadsTo, work, works};
+ghost use Rattle.par2_digests.specs.Tasks.{HasBlocks, HasEnded, LeadsTo, work, works};
 ghost use Rattle.par2_digests.specs.declared.tasks.Task.{Task};
 
 use crate::alone::hashed;
 use crate::blocks::absorbed;
+use crate::digest_of;
 use crate::feeds::Feed;
 use crate::lanes::Lanes;
 use crate::steps::{State, Words};
-use crate::{digest_of, digest_of_lane};
 
 // The most blocks of a message that are taken at once.
 const MOST_BLOCKS: usize = 32;
@@ -29,11 +29,13 @@ const BLOCKS_LEN: usize = 8 * ROOM;
 // Where the blocks of each message begin.
 const STARTS: [usize; 8] = [0, 2048, 4096, 6144, 8192, 10240, 12288, 14336];
 
-/// A message in a lane: what is left of it, or its digest.
+/// A message in a lane: what is left of it, or the hash value behind its whole blocks.
 #[derive(Clone, Copy, Drop)]
 pub(crate) struct Task<'a> {
     pub(crate) feed: Feed<'a>,
-    pub(crate) digest: Option<[u8; 16]>,
+    pub(crate) hash: Option<[u32; 4]>,
+    // Begins with what is behind the whole blocks, once the hash value is there.
+    pub(crate) rest: [u8; 64],
 }
 
 impl Task<'_> {
@@ -41,42 +43,43 @@ impl Task<'_> {
     fn blocks_at_hand(&self) -> usize
         ensures { HasBlocks self.now result }
     {
-        match self.digest {
+        match self.hash {
             Some(_) => MOST_BLOCKS,
             None => self.feed.blocks_at_hand(),
         }
     }
 
-    // Takes the next blocks, or the digest behind the last. More than one are taken only where all of them are left.
+    // Takes the next blocks, or the hash value behind the last. More than one are taken only where all of them are left.
     fn turn<V: Lanes>(&mut self, blocks: &mut [u8], state: &State<V>, k: usize)
         requires within { k < V.count }
         requires some { 64 ≤ length blocks.old }
         requires left { (n : ℕ)
             → 1 < n → n * 64 ≡ length blocks.old → HasBlocks self.old n }
-        ensures leads { (n : ℕ) (last : List ℕ) → n * 64 ≡ length blocks.old
-            → LeadsTo self.old (lane V.at k state.now) last
-            → LeadsTo self.new (hash_behind (lane V.at k state.now) blocks.new n) last }
+        ensures leads { (n : ℕ) (last rest : List ℕ) → n * 64 ≡ length blocks.old
+            → LeadsTo self.old (lane V.at k state.now) last rest
+            → LeadsTo self.new (hash_behind (lane V.at k state.now) blocks.new n) last rest }
         ensures shrinks { work self.new ≤ work self.old - 1 }
     {
-        let None = self.digest else {
+        let None = self.hash else {
             return;
         };
-        if self.feed.fill(blocks) < 64 {
-            self.digest = Some(digest_of_lane(state, k));
+        let count = self.feed.fill(blocks);
+        if count < 64 {
+            self.rest[..count].copy_from_slice(&blocks[..count]);
+            self.hash = Some(state.in_lane(k));
         }
     }
 
     // Takes all blocks that are left by itself, behind this hash value.
     fn finish(&mut self, hash: [u32; 4])
-        ensures leads { (last : List ℕ)
-            → LeadsTo self.old hash last → LeadsTo self.new hash last }
+        ensures leads { (last rest : List ℕ)
+            → LeadsTo self.old hash last rest → LeadsTo self.new hash last rest }
         ensures done { work self.new ≡ 0 }
     {
-        let None = self.digest else {
+        let None = self.hash else {
             return;
         };
-        let mut block = [0; 64];
-        self.digest = Some(digest_of(hashed(hash, self.feed, &mut block)));
+        self.hash = Some(hashed(hash, self.feed, &mut self.rest));
     }
 }
 
@@ -94,7 +97,7 @@ fn batch_of(tasks: &[Task]) -> usize
     count.max(1)
 }
 
-// Takes the next `batch` blocks of each message, or its digest.
+// Takes the next `batch` blocks of each message, or the hash value behind its last.
 fn turn_all<V: Lanes>(
     tasks: &mut [Task; 8],
     blocks: &mut [u8; BLOCKS_LEN],
@@ -108,10 +111,10 @@ fn turn_all<V: Lanes>(
     requires room { batch ≤ 32 }
     requires left { (k : ℕ) (none : Task) → 1 < batch → k < count
         → HasBlocks (get_or tasks.old k none) batch }
-    ensures leads { (k : ℕ) (none : Task) (last : List ℕ) → k < count
-        → LeadsTo (get_or tasks.old k none) (lane V.at k state.now) last
+    ensures leads { (k : ℕ) (none : Task) (last rest : List ℕ) → k < count
+        → let hash = lane V.at k state.now in LeadsTo (get_or tasks.old k none) hash last rest
         → let taken = take (batch * 64) (drop (2048 * k) blocks.new) in
-        LeadsTo (get_or tasks.new k none) (hash_behind (lane V.at k state.now) taken batch) last }
+        LeadsTo (get_or tasks.new k none) (hash_behind hash taken batch) last rest }
     ensures shrinks { (k : ℕ) → k < count
         → get_or (works tasks.new) k 0 ≤ get_or (works tasks.old) k 0 - 1 }
     ensures size { length tasks.new ≡ 8 }
@@ -123,14 +126,14 @@ fn turn_all<V: Lanes>(
     }
 }
 
-// Whether a message is without its digest.
+// Whether a message is without its hash value.
 fn any_is_open(tasks: &[Task]) -> bool
-    ensures { result ≡ list_any (λ task. is_none task.digest) tasks.now }
+    ensures { result ≡ list_any (λ task. is_none task.hash) tasks.now }
 {
-    tasks.iter().any(|task| task.digest.is_none())
+    tasks.iter().any(|task| task.hash.is_none())
 }
 
-// Goes on until the digest of message k is there, or those of all behind it.
+// Goes on until the hash value of message k is there, or those of all behind it.
 fn go_on<V: Lanes>(
     tasks: &mut [Task; 8],
     state: State<V>,
@@ -141,16 +144,16 @@ fn go_on<V: Lanes>(
     requires lanes { count ≤ V.count }
     requires few { V.count ≤ 8 }
     requires within { k < count }
-    ensures leads { (j : ℕ) (none : Task) (last : List ℕ) → j < count
-        → LeadsTo (get_or tasks.old j none) (lane V.at j state) last
-        → LeadsTo (get_or tasks.new j none) (lane V.at j result) last }
+    ensures leads { (j : ℕ) (none : Task) (last rest : List ℕ) → j < count
+        → LeadsTo (get_or tasks.old j none) (lane V.at j state) last rest
+        → LeadsTo (get_or tasks.new j none) (lane V.at j result) last rest }
     ensures stays { (j : ℕ) → j < count
         → get_or (works tasks.new) j 0 ≤ get_or (works tasks.old) j 0 }
     ensures size { length tasks.new ≡ 8 }
 {
     let mut state = state;
     let mut blocks = [0; BLOCKS_LEN];
-    while tasks[k].digest.is_none() && any_is_open(&tasks[k + 1..count]) {
+    while tasks[k].hash.is_none() && any_is_open(&tasks[k + 1..count]) {
         let batch = batch_of(&tasks[..count]);
         turn_all(tasks, &mut blocks, &state, count, batch);
         state = absorbed(state, words, &blocks, &STARTS, batch);
@@ -169,9 +172,9 @@ fn finish<V: Lanes>(
     requires lanes { count ≤ V.count }
     requires few { V.count ≤ 8 }
     requires within { k < count }
-    ensures leads { (j : ℕ) (none : Task) (last : List ℕ) → j < count
-        → LeadsTo (get_or tasks.old j none) (lane V.at j state) last
-        → LeadsTo (get_or tasks.new j none) (lane V.at j result) last }
+    ensures leads { (j : ℕ) (none : Task) (last rest : List ℕ) → j < count
+        → LeadsTo (get_or tasks.old j none) (lane V.at j state) last rest
+        → LeadsTo (get_or tasks.new j none) (lane V.at j result) last rest }
     ensures stays { (j : ℕ) → j < count
         → get_or (works tasks.new) j 0 ≤ get_or (works tasks.old) j 0 }
     ensures done { get_or (works tasks.new) k 0 ≡ 0 }
@@ -184,35 +187,35 @@ fn finish<V: Lanes>(
     state
 }
 
-fn read_digests(tasks: &[Task; 8]) -> [[u8; 16]; 8]
-    ensures { (k : ℕ) (none : Task) (digest : List ℕ) → k < 8
-        → (get_or tasks.now k none).digest ≡ Some digest → digest_at result k ≡ digest }
-{
-    let mut digests = [[0; 16]; 8];
-    for (k, task) in tasks.iter().enumerate() {
-        if let Some(digest) = task.digest {
-            digests[k] = digest;
-        }
-    }
-    digests
-}
-
-/// The digests of the first `count` messages.
-pub(crate) fn digests_of_tasks<V: Lanes>(
+/// Takes all blocks of the first `count` messages, from the state on.
+pub(crate) fn finish_all<V: Lanes>(
     tasks: &mut [Task; 8],
     state: State<V>,
     words: &mut Words<V>,
     count: usize,
-) -> [[u8; 16]; 8]
+)
     requires lanes { count ≤ V.count }
     requires few { V.count ≤ 8 }
-    ensures { (k : ℕ) (none : Task) (last : List ℕ) → k < count
-        → LeadsTo (get_or tasks.old k none) (lane V.at k state) last
-        → digest_at result k ≡ digest_bytes last 4 }
+    ensures { (k : ℕ) (none : Task) (last rest : List ℕ) → k < count
+        → LeadsTo (get_or tasks.old k none) (lane V.at k state) last rest
+        → HasEnded (get_or tasks.new k none) last rest }
 {
     let mut state = state;
     for k in 0..count {
         state = finish(tasks, state, words, count, k);
     }
-    read_digests(tasks)
+}
+
+/// The digests of messages that are whole blocks.
+pub(crate) fn read_digests(tasks: &[Task; 8]) -> [[u8; 16]; 8]
+    ensures { (k : ℕ) (none : Task) (hash : List ℕ) → k < 8
+        → (get_or tasks.now k none).hash ≡ Some hash → digest_at result k ≡ digest_bytes hash 4 }
+{
+    let mut digests = [[0; 16]; 8];
+    for (k, task) in tasks.iter().enumerate() {
+        if let Some(hash) = task.hash {
+            digests[k] = digest_of(hash);
+        }
+    }
+    digests
 }

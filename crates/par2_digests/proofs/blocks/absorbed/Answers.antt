@@ -1,6 +1,5 @@
-use Rattle.std.proofs.Common.{◌≡◌, ◌+◌, ◌*◌, ap, ap₂, arith, drop, refl, slice_index, take, ◌∙◌, add-one}
-use Rattle.std.proofs.lemmas.List.{drop-drop}
-use Rattle.md5.specs.Md5.{add_state, block_words, compress, hash_after, rounds}
+use Rattle.std.proofs.Common.{◌≡◌, ◌+◌, ap, ap₂, arith, drop, refl, slice_index, ◌∙◌}
+use Rattle.md5.specs.Md5.{add_state, compress, hash_after, rounds}
 use Rattle.par2_digests.specs.Feeds.{hash_behind}
 use Rattle.par2_digests.specs.Lanes.{lane}
 use Rattle.par2_digests.proofs.BlockLaws.{one_block_more}

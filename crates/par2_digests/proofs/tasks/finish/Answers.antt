@@ -8,22 +8,22 @@ use Rattle.par2_digests.proofs.TaskLaws.{leads_same, works_at}
 use Rattle.par2_digests.proofs.tasks.finish.Goals as goal
 
 pub returns-clause-leads : goal.returns-clause-leads
-returns-clause-leads g c = λ j none last low leads.
+returns-clause-leads g c = λ j none last rest low leads.
     let k = c.args.k in
     let at = g.V.Lanes.at in
     let state = c.go_on-state.result in
     let tasks = c.go_on-state.new.tasks in
     let new = c.finish.new.self in
     let within : k < length tasks = omega (arith, c.go_on-state.ensures.size, c.requires.within, c.requires.lanes, c.requires.few) in
-    let before = c.go_on-state.ensures.leads j none last low leads in
+    let before = c.go_on-state.ensures.leads j none last rest low leads in
     elim (cases_eq j k) [
       | inl same ↦
           let task : get_or (set tasks k new) j none ≡ new = ap (λ (n : ℕ). get_or (set tasks k new) n none) same ∙ get_or-set_same tasks k new none within in
-          let started : LeadsTo (get_or tasks k none) (lane at k state) last = subst (λ (n : ℕ). LeadsTo (get_or tasks n none) (lane at n state) last) same before in
-          let ended = c.finish.ensures.leads last
-          (leads_same _ _ _ last (get_or_default tasks k _ none within) (subst (λ (h : List ℕ). LeadsTo (get_or tasks k none) h last) (sym c.in_lane.ensures) started)) in
-          leads_same _ _ _ last task (subst (λ (h : List ℕ). LeadsTo new h last) (c.in_lane.ensures ∙ ap (λ (n : ℕ). lane at n state) (sym same)) ended)
-      | inr other ↦ leads_same _ _ _ last (get_or-set_other tasks k j new none other) before
+          let started : LeadsTo (get_or tasks k none) (lane at k state) last rest = subst (λ (n : ℕ). LeadsTo (get_or tasks n none) (lane at n state) last rest) same before in
+          let ended = c.finish.ensures.leads last rest
+          (leads_same _ _ _ last rest (get_or_default tasks k _ none within) (subst (λ (h : List ℕ). LeadsTo (get_or tasks k none) h last rest) (sym c.in_lane.ensures) started)) in
+          leads_same _ _ _ last rest task (subst (λ (h : List ℕ). LeadsTo new h last rest) (c.in_lane.ensures ∙ ap (λ (n : ℕ). lane at n state) (sym same)) ended)
+      | inr other ↦ leads_same _ _ _ last rest (get_or-set_other tasks k j new none other) before
     ]
 
 pub returns-clause-stays : goal.returns-clause-stays

@@ -1,5 +1,5 @@
 use Rattle.std.proofs.Common.{◌≡◌, ◌*◌, ℕ, List, [], ◌∷◌, ap, arith, drop, get_or, refl, slice_index, subst, sym, take, ◌∙◌}
-use Rattle.std.proofs.lemmas.List.{get_or-take, take-take}
+use Rattle.std.proofs.lemmas.List.{take-take}
 use Rattle.par2_digests.specs.Feeds.{hash_behind}
 use Rattle.par2_digests.specs.Lanes.{lane}
 use Rattle.par2_digests.specs.Tasks.{LeadsTo}
@@ -17,7 +17,7 @@ loop-tasks-preserved g c =
     record {
       tasks = c.turn_all.ensures.size;
       blocks = omega (arith, held.blocks);
-      leads = λ j none last low leads.
+      leads = λ j none last rest low leads.
           let hash = lane at j c.loop-tasks.state in
           let place : slice_index starts j ≡ 2048 * j = each_lane (λ i. slice_index starts i ≡ 2048 * i) refl refl refl refl refl refl refl refl j (omega arith) in
           let text : List ℕ = drop (2048 * j) blocks in
@@ -25,6 +25,6 @@ loop-tasks-preserved g c =
           c.absorbed-state.ensures.behind j (omega arith)
           ∙ ap (λ n. hash_behind hash (drop n blocks) batch) place
           ∙ blocks_alike hash text (take (batch * 64) text) batch (batch * 64) (omega arith) (sym (take-take (batch * 64) (batch * 64) text (omega arith))) in
-          subst (λ (h : List ℕ). LeadsTo (get_or c.turn_all.new.tasks j none) h last) (sym after) (c.turn_all.ensures.leads j none last low (held.leads j none last low leads));
+          subst (λ (h : List ℕ). LeadsTo (get_or c.turn_all.new.tasks j none) h last rest) (sym after) (c.turn_all.ensures.leads j none last rest low (held.leads j none last rest low leads));
       stays = λ j low. omega (arith, c.turn_all.ensures.shrinks j low, held.stays j low);
     }

@@ -8,8 +8,8 @@ abbrev pub invariant-loop-tasks : goal.invariant-loop-tasks
 invariant-loop-tasks g l = record {
   tasks : length l.tasks ≡ 8;
   blocks : length l.blocks ≡ 16384;
-  leads : (j : ℕ) (none : Task) (last : List ℕ) → j < l.count → LeadsTo (get_or l.initial.tasks j none) (lane g.V.Lanes.at j l.initial.state) last
-      → LeadsTo (get_or l.tasks j none) (lane g.V.Lanes.at j l.state) last;
+  leads : (j : ℕ) (none : Task) (last rest : List ℕ) → j < l.count → LeadsTo (get_or l.initial.tasks j none) (lane g.V.Lanes.at j l.initial.state) last rest
+      → LeadsTo (get_or l.tasks j none) (lane g.V.Lanes.at j l.state) last rest;
   stays : (j : ℕ) → j < l.count → get_or (works l.tasks) j 0 ≤ get_or (works l.initial.tasks) j 0;
 }
 

@@ -1,4 +1,4 @@
-use Rattle.std.proofs.Common.{◌≡◌, ◌≢◌, ◌≤◌, ◌<◌, ◌+◌, ◌*◌, ◌-◌, ◌∙◌, ℕ, ap, sym, subst, take, drop, length, length-drop, length-set, get_or, get_or-set_other, get_or-set_same, inl, inr, arith}
+use Rattle.std.proofs.Common.{◌≡◌, ◌≢◌, ◌≤◌, ◌<◌, ◌+◌, ◌*◌, ◌-◌, ◌∙◌, ℕ, ap, sym, take, drop, length, length-drop, length-set, get_or, get_or-set_other, get_or-set_same, inl, inr, arith}
 use Rattle.std.proofs.lemmas.Bool.{cases_lt}
 use Rattle.std.proofs.lemmas.List.{get_or_default, length-take-le}
 use Rattle.std.proofs.Math.ListN.{set}
@@ -31,12 +31,12 @@ loop-k-preserved g c =
     record {
       tasks = length-set tasks k new ∙ held.tasks;
       blocks = blocks_len blocks block start j-len room size ∙ held.blocks;
-      leads = λ j none last h leads.
+      leads = λ j none last rest h leads.
           elim (cases_lt j k) [
             | inl below ↦
                 let other : j ≢ k = omega arith in
-                leads_alike _ _ _ _ (lane g.V.Lanes.at j c.args.state.now) last n (get_or-set_other tasks k j new none other)
-                (tail_before blocks block start _ (2048 * j) (n * 64) (omega arith) (omega (arith, c.requires.room))) (held.leads j none last below leads)
+                leads_alike _ _ _ _ (lane g.V.Lanes.at j c.args.state.now) last rest n (get_or-set_other tasks k j new none other)
+                (tail_before blocks block start _ (2048 * j) (n * 64) (omega arith) (omega (arith, c.requires.room))) (held.leads j none last rest below leads)
             | inr above ↦
                 let same : j ≡ k = omega arith in
                 let task : get_or (set tasks k new) j none ≡ new = ap (λ (n : ℕ). get_or (set tasks k new) n none) same ∙ get_or-set_same tasks k new none within in
@@ -45,7 +45,7 @@ loop-k-preserved g c =
                 ∙ ap (λ (m : ℕ). take m (drop start (put_mid start j-len blocks block))) (sym bytes-len)
                 ∙ blocks_at blocks block start j-len room size in
                 let started = rw same at leads in
-                rw (task, bytes, same) (c.turn.ensures.leads n last (omega (arith, part)) (leads_same _ _ _ last (get_or_default tasks k _ none within ∙ here none) started))
+                rw (task, bytes, same) (c.turn.ensures.leads n last rest (omega (arith, part)) (leads_same _ _ _ last rest (get_or_default tasks k _ none within ∙ here none) started))
           ];
       shrinks = λ j h.
           elim (cases_lt j k) [

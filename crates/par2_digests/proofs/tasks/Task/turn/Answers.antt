@@ -1,28 +1,29 @@
-use Rattle.std.proofs.Common.{◌≡◌, ◌*◌, ◌≤◌, ℕ, length, ap, ◌∙◌, arith, inl, inr}
+use Rattle.std.proofs.Common.{◌≡◌, ◌*◌, ◌≤◌, length, ◌∙◌, arith, inl, inr}
 use Rattle.std.proofs.lemmas.Bool.{cases_lt}
-use Rattle.md5.specs.Md5.{digest_bytes}
 use Rattle.par2_digests.specs.Feeds.{left}
 use Rattle.par2_digests.specs.Lanes.{lane}
-use Rattle.par2_digests.proofs.TaskLaws.{at_the_end, blocks_more, left_blocks}
+use Rattle.par2_digests.proofs.TaskLaws.{at_the_end, blocks_more, kept_rest, left_blocks}
 use Rattle.par2_digests.proofs.tasks.Task.turn.Goals as goal
 
-pub returns-then-fill-lt64-clause-leads : goal.returns-then-fill-lt64-clause-leads
-returns-then-fill-lt64-clause-leads g c = λ n last size held.
+pub returns-then-count-lt64-clause-leads : goal.returns-then-count-lt64-clause-leads
+returns-then-count-lt64-clause-leads g c = λ n last rest size held.
     let task = c.args.self.now in
     let hash = lane g.V.Lanes.at c.args.k c.args.state.now in
-    let all : c.fill.result ≡ length (left task.feed) = omega (arith, c.fill.ensures.count, c.if-fill-lt64.true, c.requires.some) in
-    c.digest_of_lane.ensures
-    ∙ ap (λ h. digest_bytes h 4) (at_the_end task.digest (left task.feed) hash last c.fill.result c.in-None.is all c.if-fill-lt64.true held)
+    let all : c.fill-count.result ≡ length (left task.feed) = omega (arith, c.fill-count.ensures.count, c.if-count-lt64.true, c.requires.some) in
+    let ended = at_the_end task.hash task.rest (left task.feed) hash last rest c.fill-count.result c.in-None.is all c.if-count-lt64.true held in (
+      c.in_lane.ensures ∙ ended.0,
+      kept_rest (left task.feed) rest c.fill-count.new.blocks c.copy_from_slice.new.self _ c.fill-count.result c.copy_from_slice.ensures.after c.fill-count.ensures.bytes all ended.1,
+    )
 
-pub returns-else-fill-lt64-clause-leads : goal.returns-else-fill-lt64-clause-leads
-returns-else-fill-lt64-clause-leads g c = λ n last size held.
+pub returns-else-count-lt64-clause-leads : goal.returns-else-count-lt64-clause-leads
+returns-else-count-lt64-clause-leads g c = λ n last rest size held.
     let task = c.args.self.now in
     let bytes = left task.feed in
     let hash = lane g.V.Lanes.at c.args.k c.args.state.now in
-    let count = c.fill.ensures.count in
+    let count = c.fill-count.ensures.count in
     let room : n * 64 ≤ length bytes = elim (cases_lt 1 n) [
-      | inl several ↦ left_blocks task.digest bytes n c.in-None.is (c.requires.left n several size)
-      | inr one ↦ omega (arith, count, c.if-fill-lt64.false)
+      | inl several ↦ left_blocks task.hash bytes n c.in-None.is (c.requires.left n several size)
+      | inr one ↦ omega (arith, count, c.if-count-lt64.false)
     ] in
-    blocks_more task.digest bytes (left c.fill.new.self) c.fill.new.blocks hash last n c.fill.result c.in-None.is (omega (arith, count, size, room)) (omega (arith, count))
-    c.fill.ensures.bytes c.fill.ensures.rest held
+    blocks_more task.hash task.rest bytes (left c.fill-count.new.self) c.fill-count.new.blocks hash last rest n c.fill-count.result c.in-None.is (omega (arith, count, size, room)) (omega (arith, count))
+    c.fill-count.ensures.bytes c.fill-count.ensures.rest held

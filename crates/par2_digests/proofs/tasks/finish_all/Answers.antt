@@ -1,10 +1,9 @@
 use Rattle.std.proofs.Common.{◌≡◌, arith, get_or, sym, below_more, ◌∙◌}
-use Rattle.md5.specs.Md5.{digest_bytes}
 use Rattle.par2_digests.specs.Feeds.{left}
 use Rattle.par2_digests.specs.Lanes.{lane}
 use Rattle.par2_digests.specs.Tasks.{work, works}
 use Rattle.par2_digests.proofs.TaskLaws.{finished, works_at}
-use Rattle.par2_digests.proofs.tasks.digests_of_tasks.Goals as goal
+use Rattle.par2_digests.proofs.tasks.finish_all.Goals as goal
 
 pub loop-k-preserved : goal.loop-k-preserved
 loop-k-preserved g c =
@@ -12,14 +11,13 @@ loop-k-preserved g c =
     let after = c.finish-state in
     record {
       tasks = after.ensures.size;
-      leads = λ j none last low leads. after.ensures.leads j none last low (held.leads j none last low leads);
+      leads = λ j none last rest low leads. after.ensures.leads j none last rest low (held.leads j none last rest low leads);
       done = below_more (λ j. get_or (works after.new.tasks) j 0 ≡ 0) _ (λ j h. omega (arith, after.ensures.stays j (omega arith), held.done j h)) after.ensures.done;
     }
 
 pub returns : goal.returns
-returns g c = λ k none last low held.
+returns g c = λ k none last rest low held.
     let tasks = c.loop-k.tasks in
     let task = get_or tasks k none in
     let idle : work task ≡ 0 = sym (works_at tasks k none (omega (arith, c.loop-k.invariant.tasks))) ∙ c.loop-k.invariant.done k (omega arith) in
-    c.read_digests.ensures k none (digest_bytes last 4) (omega arith)
-    (finished task.digest (left task.feed) (lane g.V.Lanes.at k c.loop-k.state) last idle (c.loop-k.invariant.leads k none last low held))
+    finished task.hash task.rest (left task.feed) (lane g.V.Lanes.at k c.loop-k.state) last rest idle (c.loop-k.invariant.leads k none last rest low held)

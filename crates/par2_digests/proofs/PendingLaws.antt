@@ -1,0 +1,48 @@
+-- Hash values as bytes, read back word by word, and states behind their parts.
+use Rattle.std.proofs.Common.{◌≡◌, ℕ, zero, suc, ◌+◌, ◌<◌, ◌≤◌, ◌^◌, List, [], ◌∷◌, take, drop, slice_index, sym, ap, ◌∙◌, arith}
+use Rattle.std.proofs.lemmas.Nat.{from_le_bytes-to_le_bytes_4}
+use Rattle.md5.specs.Md5.{compress, digest_bytes, hash_after, word_at}
+use Rattle.par2_digests.proofs.BlockLaws.{word_in_text}
+use Rattle.par2_digests.proofs.FeedLaws.{four_words}
+
+-- the words of a hash value fit
+record AreWords (hash : List ℕ) : Type 0 where
+  a : slice_index hash 0 < 2 ^ 32
+  b : slice_index hash 1 < 2 ^ 32
+  c : slice_index hash 2 < 2 ^ 32
+  d : slice_index hash 3 < 2 ^ 32
+
+are_words : (p : List ℕ) (n : ℕ) → AreWords (hash_after p n)
+unfolding hash_after compress
+are_words p zero = record { a = omega arith; b = omega arith; c = omega arith; d = omega arith }
+are_words p (suc n) = record { a = omega arith; b = omega arith; c = omega arith; d = omega arith }
+
+module _ (hash : List ℕ) (fit : AreWords hash) where
+  first_word : word_at (digest_bytes hash 4) 0 ≡ slice_index hash 0
+  unfolding digest_bytes
+  first_word = from_le_bytes-to_le_bytes_4 (slice_index hash 0) fit.a
+
+  second_word : word_at (digest_bytes hash 4) 4 ≡ slice_index hash 1
+  unfolding digest_bytes
+  second_word = from_le_bytes-to_le_bytes_4 (slice_index hash 1) fit.b
+
+  third_word : word_at (digest_bytes hash 4) 8 ≡ slice_index hash 2
+  unfolding digest_bytes
+  third_word = from_le_bytes-to_le_bytes_4 (slice_index hash 2) fit.c
+
+  fourth_word : word_at (digest_bytes hash 4) 12 ≡ slice_index hash 3
+  unfolding digest_bytes
+  fourth_word = from_le_bytes-to_le_bytes_4 (slice_index hash 3) fit.d
+
+-- a hash value that stands in a text, read word by word
+pub hash_in_text : (text hash p : List ℕ) (at n a b c d : ℕ) → take 16 (drop at text) ≡ digest_bytes hash 4 → hash ≡ hash_after p n
+    → a ≡ word_at text (at + 0) → b ≡ word_at text (at + 4) → c ≡ word_at text (at + 8) → d ≡ word_at text (at + 12)
+    → a ∷ b ∷ c ∷ d ∷ [] ≡ hash
+hash_in_text text hash p at n a b c d here is a_is b_is c_is d_is =
+    let fit : AreWords hash = rw is (are_words p n) in
+    let read = λ (i : ℕ) (h : i + 4 ≤ 16). sym (word_in_text text 16 at i h) ∙ ap (λ l. word_at l i) here in
+    (λ k. (a_is ∙ read 0 (omega arith) ∙ first_word hash fit) k
+    ∷ (b_is ∙ read 4 (omega arith) ∙ second_word hash fit) k
+    ∷ (c_is ∙ read 8 (omega arith) ∙ third_word hash fit) k
+    ∷ (d_is ∙ read 12 (omega arith) ∙ fourth_word hash fit) k ∷ [])
+    ∙ four_words hash p n is

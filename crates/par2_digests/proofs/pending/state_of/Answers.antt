@@ -1,0 +1,47 @@
+use Rattle.std.proofs.Common.{◌≡◌, ◌≤◌, ◌+◌, ◌-◌, ◌*◌, ◌∙◌, ℕ, List, [], ◌∷◌, ap, refl, sym, take, drop, length, get_or, slice_index, inl, inr, arith}
+use Rattle.std.proofs.lemmas.Bool.{cases_lt}
+use Rattle.std.proofs.lemmas.List.{get_or_default, length-drop, length-take-le}
+use Rattle.md5.specs.Md5.{digest_bytes}
+use Rattle.par2_digests.specs.declared.pending.Pending.{Pending}
+use borrow.Rule.Slice.PartMut.{put_mid}
+use Rattle.par2_digests.proofs.LaneLaws.{each_lane}
+use Rattle.par2_digests.proofs.PendingLaws.{hash_in_text}
+use Rattle.par2_digests.proofs.TailLaws.{tail_before}
+use Rattle.par2_digests.proofs.TaskLaws.{blocks_at, blocks_len}
+use Rattle.par2_digests.proofs.pending.state_of.Goals as goal
+
+pub loop-k-preserved : goal.loop-k-preserved
+loop-k-preserved g c =
+    let k = c.loop-k.k in
+    let held = c.loop-k.invariant in
+    let bytes = c.loop-k.bytes in
+    let hash = c.copy_from_slice.new.self in
+    let start : ℕ = 16 * k in
+    let len : ℕ = start + 16 - start in
+    let sixteen : len ≡ 16 = omega arith in
+    let room : start + len ≤ length bytes = omega (arith, held.size, c.loop-k-test.true, c.requires.few) in
+    let size : length hash ≡ len = c.copy_from_slice.ensures.len ∙ length-take-le len (drop start bytes) (omega (arith, room, length-drop start bytes)) in
+    record {
+      size = blocks_len bytes hash start len room size ∙ held.size;
+      done = λ j none low.
+          elim (cases_lt j k) [
+            | inl below ↦ tail_before bytes hash start len (16 * j) 16 (omega arith) (omega arith) ∙ held.done j none below
+            | inr above ↦
+                let same : j ≡ k = omega arith in
+                ap (λ (m : ℕ). take 16 (drop (16 * m) (put_mid start len bytes hash))) same
+                ∙ ap (λ (m : ℕ). take m (drop start (put_mid start len bytes hash))) (sym sixteen)
+                ∙ blocks_at bytes hash start len room size
+                ∙ c.copy_from_slice.ensures.after
+                ∙ c.digest_of.ensures
+                ∙ ap (λ (pending : Pending). digest_bytes pending.state.hash 4)
+                (c.index-pendings-k.is ∙ get_or_default c.args.pendings.now k _ none c.loop-k-test.true ∙ ap (λ (m : ℕ). get_or c.args.pendings.now m none) (sym same))
+          ];
+    }
+
+pub returns : goal.returns
+returns g c = λ k m none low within held.
+    let starts : List ℕ = 0 ∷ 16 ∷ 32 ∷ 48 ∷ 64 ∷ 80 ∷ 96 ∷ 112 ∷ [] in
+    let place : slice_index starts k ≡ 16 * k = each_lane (λ i. slice_index starts i ≡ 16 * i) refl refl refl refl refl refl refl refl k (omega (arith, c.requires.lanes)) in
+    let here = c.loop-k.invariant.done k none (omega (arith, c.loop-k-test.false)) in
+    hash_in_text c.loop-k.bytes (get_or c.args.pendings.now k none).state.hash m (16 * k) _ _ _ _ _ here held.1.0
+    (rw place at (c.gathered.ensures k low)) (rw place at (c.gathered-2.ensures k low)) (rw place at (c.gathered-3.ensures k low)) (rw place at (c.gathered-4.ensures k low))

@@ -1,0 +1,10 @@
+use Rattle.std.proofs.Common.{◌≡◌, ◌<◌, ◌*◌, ℕ, length, take, drop, get_or}
+use Rattle.md5.specs.Md5.{digest_bytes}
+use Rattle.par2_digests.specs.declared.pending.Pending.{Pending}
+use Rattle.par2_digests.proofs.pending.state_of.Given as goal
+
+abbrev pub invariant-loop-k : goal.invariant-loop-k
+invariant-loop-k g l = record {
+  size : length l.bytes ≡ 128;
+  done : (j : ℕ) (none : Pending) → j < l.k → take 16 (drop (16 * j) l.bytes) ≡ digest_bytes (get_or l.pendings j none).state.hash 4;
+}

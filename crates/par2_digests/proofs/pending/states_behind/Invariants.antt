@@ -1,0 +1,12 @@
+use Rattle.std.proofs.Common.{◌≡◌, ◌<◌, ◌++◌, ℕ, List, length, get_or}
+use Rattle.par2_digests.specs.Messages.{HasAbsorbed, message_of}
+use Rattle.par2_digests.specs.declared.midstate.Midstate.{Midstate}
+use Rattle.par2_digests.specs.declared.pending.Pending.{Pending}
+use Rattle.par2_digests.proofs.pending.states_behind.Given as goal
+
+abbrev pub invariant-loop-k : goal.invariant-loop-k
+invariant-loop-k g l = record {
+  count : length l.states ≡ 8;
+  done : (j : ℕ) (m : List ℕ) (none : Pending) (no_state : Midstate) → j < l.k → HasAbsorbed (get_or l.pendings j none).state m
+      → HasAbsorbed (get_or l.states j no_state) (m ++ message_of (get_or l.pendings j none).parts.items);
+}

@@ -1,0 +1,156 @@
+//! States that absorb parts of their own, side by side.
+
+ghost use Rattle.std.specs.Prelude.{◌≡◌, ◌≤◌, ◌<◌, ◌++◌, None, ℕ, List, length, get_or};
+ghost use Rattle.par2_digests.specs.Feeds.{left};
+ghost use Rattle.par2_digests.specs.Lanes.{lane};
+ghost use Rattle.par2_digests.specs.Messages.{HasAbsorbed, message_of};
+ghost use Rattle.par2_digests.specs.Pendings.{bytes_left};
+ghost use Rattle.par2_digests.specs.Tasks.{HasTaken};
+ghost use Rattle.par2_digests.specs.declared.midstate.Midstate.{Midstate};
+ghost use Rattle.par2_digests.specs.declared.pending.Pending.{Pending};
+
+use crate::feeds::Feed;
+use crate::lanes::Lanes;
+use crate::midstate::{Midstate, Part, length_of};
+use crate::steps::{State, Words};
+use crate::tasks::{Task, finish_all};
+use crate::{LANES, digest_of};
+use std::simd::prelude::*;
+
+/// A state, and the parts that it absorbs next.
+#[derive(Drop)]
+pub struct Pending<'a> {
+    pub state: Midstate,
+    pub parts: Vec<Part<'a>>,
+}
+
+// The room for a hash value.
+const HASH_LEN: usize = 16;
+
+// Where the hash value of each lane begins.
+const STARTS: [usize; LANES] = [0, 16, 32, 48, 64, 80, 96, 112];
+
+// The hash values, each in a lane of its own.
+fn state_of<V: Lanes>(pendings: &[Pending]) -> State<V>
+    requires lanes { V.count ≤ 8 }
+    requires few { length pendings.now ≤ 8 }
+    ensures { (k : ℕ) (m : List ℕ) (none : Pending) → k < V.count → k < length pendings.now
+        → let state = (get_or pendings.now k none).state in
+        HasAbsorbed state m → lane V.at k result ≡ state.hash }
+{
+    let mut bytes = [0; HASH_LEN * LANES];
+    for (k, pending) in pendings.iter().enumerate() {
+        let at = HASH_LEN * k;
+        bytes[at..at + HASH_LEN].copy_from_slice(&digest_of(pending.state.hash));
+    }
+    State {
+        a: V::gathered(&bytes, &STARTS, 0),
+        b: V::gathered(&bytes, &STARTS, 4),
+        c: V::gathered(&bytes, &STARTS, 8),
+        d: V::gathered(&bytes, &STARTS, 12),
+    }
+}
+
+// What is to do for the parts.
+fn task_of<'a>(pending: &'a Pending<'a>) -> Task<'a>
+    ensures open { result.hash ≡ None }
+    ensures bytes { left result.feed ≡ bytes_left pending.now }
+{
+    let state = &pending.state;
+    let feed = Feed {
+        part: Part::Bytes(&state.rest[..(state.length % 64) as usize]),
+        at: 0,
+        parts: pending.parts.as_slice(),
+        ending: &[],
+    };
+    Task {
+        feed,
+        hash: None,
+        rest: [0; 64],
+    }
+}
+
+// What is to do in lane k.
+fn task<'a>(pendings: &'a [Pending<'a>], k: usize) -> Task<'a>
+    ensures open { result.hash ≡ None }
+    ensures bytes { (none : Pending) → k < length pendings.now
+        → left result.feed ≡ bytes_left (get_or pendings.now k none) }
+{
+    if k < pendings.len() {
+        return task_of(&pendings[k]);
+    }
+    let feed = Feed {
+        part: Part::Length(0),
+        at: 0,
+        parts: &[],
+        ending: &[],
+    };
+    Task {
+        feed,
+        hash: None,
+        rest: [0; 64],
+    }
+}
+
+// The state of a task that has ended.
+fn state_behind(pending: &Pending, task: &Task) -> Midstate
+    ensures { (m : List ℕ) → HasAbsorbed pending.now.state m
+        → let message = m ++ message_of pending.now.parts.items in
+        HasTaken task.now message → HasAbsorbed result message }
+{
+    let added = length_of(&pending.parts);
+    Midstate {
+        hash: task.hash.unwrap_or(pending.state.hash),
+        rest: task.rest,
+        length: pending.state.length.wrapping_add(added),
+    }
+}
+
+// The states behind their parts.
+fn states_behind<'a, V: Lanes>(
+    words: &mut Words<V>,
+    pendings: &'a [Pending<'a>],
+) -> [Midstate; LANES]
+    requires lanes { length pendings.now ≤ V.count }
+    requires few { V.count ≤ 8 }
+    ensures { (k : ℕ) (m : List ℕ) (none : Pending) (no_state : Midstate)
+        → k < length pendings.now
+        → let pending = get_or pendings.now k none in HasAbsorbed pending.state m
+        → HasAbsorbed (get_or result k no_state) (m ++ message_of pending.parts.items) }
+{
+    let mut tasks = [
+        task(pendings, 0),
+        task(pendings, 1),
+        task(pendings, 2),
+        task(pendings, 3),
+        task(pendings, 4),
+        task(pendings, 5),
+        task(pendings, 6),
+        task(pendings, 7),
+    ];
+    finish_all(&mut tasks, state_of(pendings), words, pendings.len());
+    let mut states = [Midstate::new(); LANES];
+    for (k, pending) in pendings.iter().enumerate() {
+        states[k] = state_behind(pending, &tasks[k]);
+    }
+    states
+}
+
+/// The states behind their parts; eight at most.
+pub fn absorb_each(pendings: &[Pending]) -> [Midstate; LANES]
+    requires few { length pendings.now ≤ 8 }
+    ensures { (k : ℕ) (m : List ℕ) (none : Pending) (no_state : Midstate)
+        → k < length pendings.now
+        → let pending = get_or pendings.now k none in HasAbsorbed pending.state m
+        → HasAbsorbed (get_or result k no_state) (m ++ message_of pending.parts.items) }
+{
+    // Borrowed anew, for as long as the slice and what its parts borrow.
+    let all = &pendings[..];
+    if all.len() <= 1 {
+        states_behind(&mut [Simd::<u32, 1>::splat(0); 16], all)
+    } else if all.len() <= 4 {
+        states_behind(&mut [u32x4::splat(0); 16], all)
+    } else {
+        states_behind(&mut [u32x8::splat(0); 16], all)
+    }
+}
