@@ -1,6 +1,6 @@
 -- Sets of groups of checksums.
-use Rattle.std.proofs.Common.{◌≡◌, ◌≢◌, ℕ, ◌+◌, ◌-◌, ◌*◌, ◌^◌, ◌<◌, ◌≤◌, ◌%◌, ◌/◌, List, length, get_or, set, replicate, subst, sym, ap, ◌∙◌, get_or-set_same, get_or-set_other, arith}
-use Rattle.std.specs.Prelude.{◌⊎◌, bit_and, bit_or}
+use Rattle.std.proofs.Common.{◌≡◌, ◌≢◌, ℕ, suc, ◌+◌, ◌-◌, ◌*◌, ◌^◌, ◌<◌, ◌≤◌, ◌%◌, ◌/◌, List, length, get_or, set, replicate, subst, sym, ap, ◌∙◌, get_or-set_same, get_or-set_other, arith}
+use Rattle.std.specs.Prelude.{◌⊎◌, bit_and, bit_or, max, min}
 use Rattle.std.specs.Int.{w64, bit_at, bit_not}
 use Rattle.std.proofs.lemmas.Bool.{cases_eq, cases_lt}
 use Rattle.std.proofs.lemmas.List.{get_or-replicate, get_or_past, length-replicate}
@@ -8,7 +8,10 @@ use Rattle.std.proofs.Common.{inl, inr}
 use Rattle.std.proofs.Math.Nat.{div-div-eq-div-mul}
 use Rattle.std.proofs.lemmas.Nat.{pow-add, shr_below}
 use Rattle.std.proofs.lemmas.Nat.Bits.{bit_at-zero, bit_at_set_same, bit_at_set_other, bit_at_clear_same, bit_at_clear_other}
-use Rattle.par2_slices.specs.Filters.{Bits, Marks}
+use Rattle.std.proofs.Math.Nat.{pow-le-pow_right, pow-suc}
+use Rattle.std.proofs.lemmas.Nat.{leading_top}
+use Rattle.std.specs.Int.Count.{count_leading_zeros, leading_of_zero}
+use Rattle.par2_slices.specs.Filters.{AreFor, Bits, Marks}
 
 pub within : (crc shift : ℕ) → crc < 2 ^ 32 → shift < 32 → crc / 2 ^ shift < 2 ^ (32 - shift)
 within crc shift fits low =
@@ -162,4 +165,47 @@ covered_by_insert shift crc words coarse above place coarse_place all other is =
           record { bit = ap (λ i. bit_at (get_or new i 0) (other % 64)) group ∙ ap (bit_at (get_or new (crc / 2 ^ 19) 0)) same.1 ∙ (marked 19 crc coarse coarse_place).bit }
           )
       | inr old ↦ kept_by_insert 19 crc coarse coarse_place other (all other old)
+    ]
+
+-- ---- how many words
+
+-- words for a number of checksums from 2 ^ j on and below 2 ^ (j + 1)
+words_for : (count j bits : ℕ) (groups : Bits) → 2 ^ j ≤ count → count < 2 ^ suc j → bits ≡ min (max (j + 5) 13) 20 → length groups.words ≡ 2 ^ bits → AreFor count groups
+words_for count j bits groups least most bits_are size =
+    let twice : 2 ^ suc j ≡ 2 ^ j * 2 = pow-suc 2 j in
+    let many : 2 ^ (j + 5) ≡ 2 ^ j * 32 = pow-add 2 j 5 in
+    let at : (n : ℕ) → bits ≡ n → length groups.words ≡ 2 ^ n = λ n e. size ∙ ap (λ k. 2 ^ k) e in
+    elim (cases_lt (j + 5) 13) [
+      | inl low ↦ (
+          let words : length groups.words ≡ 2 ^ 13 = at 13 (omega (arith, bits_are, low)) in
+          let held : 2 ^ (j + 5) ≤ 2 ^ 13 = pow-le-pow_right {n = 2} (omega arith) {i = j + 5} {j = 13} (omega (arith, low)) in
+          record { enough = inl (omega (arith, words, held, many, twice, most)); few = inr words }
+          )
+      | inr high ↦ elim (cases_lt 20 (j + 5)) [
+        | inl over ↦ (
+            let words : length groups.words ≡ 2 ^ 20 = at 20 (omega (arith, bits_are, over)) in
+            let held : 2 ^ 20 ≤ 2 ^ (j + 5) = pow-le-pow_right {n = 2} (omega arith) {i = 20} {j = j + 5} (omega (arith, over)) in
+            record { enough = inr words; few = inl (omega (arith, words, held, many, least)) }
+            )
+        | inr inside ↦ (
+            let words : length groups.words ≡ 2 ^ (j + 5) = at (j + 5) (omega (arith, bits_are, high, inside)) in
+            record { enough = inl (omega (arith, words, many, twice, most)); few = inl (omega (arith, words, many, least)) }
+            )
+      ]
+    ]
+
+pub are_for : (count bits : ℕ) (groups : Bits) → count < 2 ^ 64 → bits ≡ min (max (64 - count_leading_zeros 64 count + 4) 13) 20 → length groups.words ≡ 2 ^ bits → AreFor count groups
+are_for count bits groups fits bits_are size =
+    elim (cases_lt 0 count) [
+      | inl some ↦ (
+          let top = leading_top 64 count some fits in
+          let digits : 64 - count_leading_zeros 64 count + 4 ≡ top.0 + 5 = omega (arith, top.1) in
+          words_for count top.0 bits groups top.2 top.3 (bits_are ∙ ap (λ n. min (max n 13) 20) digits) size
+          )
+      | inr none ↦ (
+          let zero_is : count ≡ 0 = omega (arith, none) in
+          let all : count_leading_zeros 64 count ≡ 64 = ap (count_leading_zeros 64) zero_is ∙ leading_of_zero 64 in
+          let least : bits ≡ 13 = omega (arith, bits_are, all) in
+          record { enough = inl (omega (arith, zero_is)); few = inr (size ∙ ap (λ k. 2 ^ k) least) }
+          )
     ]

@@ -70,6 +70,9 @@ group_of pairs places rest shift crc start count index is bound below above memb
     let cut : (k : ℕ) → k < count → place_at (take count rest) k ≡ place_at places (start + k) = λ k h. get_or-take count rest k no_place h ∙ at k in
     let taken : length (take count rest) ≡ count = length-take-le count rest bound in
     record {
+      only = λ k h.
+          let low : k < count = omega (arith, h, taken) in
+          ap (λ (p : Place). p.crc / 2 ^ shift) (get_or-take count rest k no_place low) ∙ members k low;
       each = λ k h.
           let low : k < count = omega (arith, h, taken) in
           let Its : Place → Type 0 = IsPlace pairs in

@@ -11,8 +11,8 @@ use Rattle.std.proofs.lemmas.List.Sums.{sum_by-set, fold-append}
 use Rattle.md5.specs.Md5.{md5}
 use Rattle.par2_spec.specs.Checksums.{Pair, crc32}
 use Rattle.par2_spec.specs.Windows.{is_match, window, first_match}
-use Rattle.par2_slices.specs.Filters.{Bits, Marks}
-use Rattle.par2_slices.specs.Searches.{no_pair, no_place, no_candidate, pair_at, place_at, candidate_at, answer_at, answer_below, spot_in, first_spot, first_spot_from, HoldsGroup, is_awaited, advanced, has_checksums, settled, first_below, Begun, IsWindow, IsTally, IsAt}
+use Rattle.par2_slices.specs.Filters.{AreAlike, Bits, Groups, Marks}
+use Rattle.par2_slices.specs.Searches.{no_pair, IsOfPair, no_place, no_candidate, pair_at, place_at, candidate_at, answer_at, answer_below, spot_in, first_spot, first_spot_from, HoldsGroup, is_awaited, advanced, has_checksums, settled, first_below, Begun, IsWindow, IsTally, IsAt}
 use Rattle.par2_slices.specs.declared.batch.Candidate.{Candidate}
 use Rattle.par2_slices.specs.declared.batch.Spot.{Spot}
 use Rattle.par2_slices.specs.declared.wanted.Place.{Place}
@@ -91,7 +91,7 @@ was_open m spot None now either none = refl
 was_open m spot (Some x) now (inl same) none = sym same ∙ none
 was_open m spot (Some x) now (inr done) none = sym done ∙ none
 
-pub no_more : (s : ℕ) (text : List ℕ) (begun : Begun) (o : ℕ) (pairs : List Pair) (found : List (Option Spot)) (left : ℕ) (filter : Bits) (candidates : List Candidate) → IsAt s text begun o pairs found left filter candidates → ((i : ℕ) → i < length pairs → answer_at found i ≡ None → is_match (pair_at pairs i) (window s text o) ≡ false) → IsAt s text begun (o + 1) pairs found left filter candidates
+pub no_more : (s : ℕ) (text : List ℕ) (begun : Begun) (o : ℕ) (pairs : List Pair) (found : List (Option Spot)) (left : ℕ) (filter : Groups) (candidates : List Candidate) → IsAt s text begun o pairs found left filter candidates → ((i : ℕ) → i < length pairs → answer_at found i ≡ None → is_match (pair_at pairs i) (window s text o) ≡ false) → IsAt s text begun (o + 1) pairs found left filter candidates
 no_more s text begun o pairs found left filter candidates at none = record {
   tally = at.tally;
   answers = λ i h.
@@ -111,10 +111,10 @@ no_crc pair md5 crc other =
     ] refl
 
 -- the checksum of the window is of no group that is marked
-pub unmarked : (s : ℕ) (text : List ℕ) (begun : Begun) (o : ℕ) (pairs : List Pair) (found : List (Option Spot)) (left : ℕ) (filter : Bits) (candidates : List Candidate) (crc : ℕ) → IsAt s text begun o pairs found left filter candidates → crc ≡ crc32 (window s text o) → (Marks filter crc → ⊥) → IsAt s text begun (o + 1) pairs found left filter candidates
+pub unmarked : (s : ℕ) (text : List ℕ) (begun : Begun) (o : ℕ) (pairs : List Pair) (found : List (Option Spot)) (left : ℕ) (filter : Groups) (candidates : List Candidate) (crc : ℕ) → IsAt s text begun o pairs found left filter candidates → crc ≡ crc32 (window s text o) → (Marks filter.fine crc → ⊥) → IsAt s text begun (o + 1) pairs found left filter candidates
 unmarked s text begun o pairs found left filter candidates crc at is not_marked =
     no_more s text begun o pairs found left filter candidates at (λ i h none.
-    let Has : ℕ → Type 0 = λ c. Marks filter c in
+    let Has : ℕ → Type 0 = λ c. Marks filter.fine c in
     no_crc (pair_at pairs i) _ (crc32 (window s text o)) (λ same. not_marked (subst Has (same ∙ sym is) (at.tally.marked i h none))))
 
 none_counted : (X : Type 0) (p : X → Bool) (xs : List X) (i : ℕ) (d : X) → count_by p xs ≡ 0 → i < length xs → p (get_or xs i d) ≡ true → ⊥
@@ -126,7 +126,7 @@ none_counted X p xs i d none h holds =
     cc
 
 -- no pair that has this checksum is open
-pub unawaited : (s : ℕ) (text : List ℕ) (begun : Begun) (o : ℕ) (pairs : List Pair) (found : List (Option Spot)) (left : ℕ) (filter : Bits) (candidates : List Candidate) (crc shift : ℕ) (group : List Place) → IsAt s text begun o pairs found left filter candidates → crc ≡ crc32 (window s text o) → HoldsGroup pairs shift crc group → count_by (is_awaited crc found) group ≡ 0 → IsAt s text begun (o + 1) pairs found left filter candidates
+pub unawaited : (s : ℕ) (text : List ℕ) (begun : Begun) (o : ℕ) (pairs : List Pair) (found : List (Option Spot)) (left : ℕ) (filter : Groups) (candidates : List Candidate) (crc shift : ℕ) (group : List Place) → IsAt s text begun o pairs found left filter candidates → crc ≡ crc32 (window s text o) → HoldsGroup pairs shift crc group → count_by (is_awaited crc found) group ≡ 0 → IsAt s text begun (o + 1) pairs found left filter candidates
 unawaited s text begun o pairs found left filter candidates crc shift group at is holds closed =
     no_more s text begun o pairs found left filter candidates at (λ i h none.
     no_crc (pair_at pairs i) _ (crc32 (window s text o)) (λ same.
@@ -143,7 +143,7 @@ matches s text o digest crc pair digest_is crc_is =
     ap (λ m. has_checksums m crc pair) digest_is ∙ ap (λ k. has_checksums (md5 (window s text o)) k pair) crc_is
 
 -- the window at the offset has been compared, and no candidate waits
-pub compared : (s : ℕ) (text : List ℕ) (begun : Begun) (o : ℕ) (pairs : List Pair) (old new : List (Option Spot)) (left after : ℕ) (filter marks : Bits) (candidates : List Candidate) (spot : Spot) (digest : List ℕ) (crc : ℕ) → IsAt s text begun o pairs old left filter candidates → candidates ≡ [] → spot ≡ spot_in begun.text o → digest ≡ md5 (window s text o) → crc ≡ crc32 (window s text o) → IsTally pairs new after marks →
+pub compared : (s : ℕ) (text : List ℕ) (begun : Begun) (o : ℕ) (pairs : List Pair) (old new : List (Option Spot)) (left after : ℕ) (filter marks : Groups) (candidates : List Candidate) (spot : Spot) (digest : List ℕ) (crc : ℕ) → IsAt s text begun o pairs old left filter candidates → candidates ≡ [] → spot ≡ spot_in begun.text o → digest ≡ md5 (window s text o) → crc ≡ crc32 (window s text o) → IsTally pairs new after marks →
     ((i : ℕ) → i < length pairs → answer_at new i ≡ advanced (has_checksums digest crc (pair_at pairs i)) spot (answer_at old i)) →
     IsAt s text begun (o + 1) pairs new after marks candidates
 compared s text begun o pairs old new left after filter marks candidates spot digest crc at empty spot_is digest_is crc_is tally all = record {
@@ -162,7 +162,7 @@ compared s text begun o pairs old new left after filter marks candidates spot di
 }
 
 -- the window at the offset is a candidate more
-pub pushed : (s : ℕ) (text : List ℕ) (begun : Begun) (pairs : List Pair) (found : List (Option Spot)) (left : ℕ) (filter : Bits) (candidates : List Candidate) (candidate : Candidate) → IsAt s text begun candidate.spot.offset pairs found left filter candidates → candidate.spot.text ≡ begun.text → IsWindow s text candidate → IsAt s text begun (candidate.spot.offset + 1) pairs found left filter (candidates ++ candidate ∷ [])
+pub pushed : (s : ℕ) (text : List ℕ) (begun : Begun) (pairs : List Pair) (found : List (Option Spot)) (left : ℕ) (filter : Groups) (candidates : List Candidate) (candidate : Candidate) → IsAt s text begun candidate.spot.offset pairs found left filter candidates → candidate.spot.text ≡ begun.text → IsWindow s text candidate → IsAt s text begun (candidate.spot.offset + 1) pairs found left filter (candidates ++ candidate ∷ [])
 pushed s text begun pairs found left filter candidates candidate at text_is its = record {
   tally = at.tally;
   answers = λ i h.
@@ -180,7 +180,7 @@ pushed s text begun pairs found left filter candidates candidate at text_is its 
 }
 
 -- the candidates have been compared
-pub emptied : (s : ℕ) (text : List ℕ) (begun : Begun) (o : ℕ) (pairs : List Pair) (old new : List (Option Spot)) (left after : ℕ) (filter marks : Bits) (candidates rest : List Candidate) → IsAt s text begun o pairs old left filter candidates → IsTally pairs new after marks → rest ≡ [] →
+pub emptied : (s : ℕ) (text : List ℕ) (begun : Begun) (o : ℕ) (pairs : List Pair) (old new : List (Option Spot)) (left after : ℕ) (filter marks : Groups) (candidates rest : List Candidate) → IsAt s text begun o pairs old left filter candidates → IsTally pairs new after marks → rest ≡ [] →
     ((i : ℕ) → i < length pairs → answer_at new i ≡ settled s text (pair_at pairs i) candidates (answer_at old i)) →
     IsAt s text begun o pairs new after marks rest
 emptied s text begun o pairs old new left after filter marks candidates rest at tally empty all = record {
@@ -194,8 +194,9 @@ emptied s text begun o pairs old new left after filter marks candidates rest at 
 }
 
 -- a group without an open pair may be taken away
-pub unmark : (s : ℕ) (text : List ℕ) (begun : Begun) (o : ℕ) (pairs : List Pair) (found : List (Option Spot)) (left : ℕ) (filter after : Bits) (candidates : List Candidate) (crc shift : ℕ) (group : List Place) → IsAt s text begun o pairs found left filter candidates → HoldsGroup pairs shift crc group → ((k : ℕ) → k < length group → (place_at group k).crc % 64 ≡ crc % 64 → answer_at found (place_at group k).index ≡ None → ⊥) → ((other : ℕ) → ((other / 2 ^ shift ≡ crc / 2 ^ shift) × (other % 64 ≡ crc % 64) → ⊥) → Marks filter other → Marks after other) → IsAt s text begun o pairs found left after candidates
-unmark s text begun o pairs found left filter after candidates crc shift group at holds closed keeps = record {
+pub unmark : (s : ℕ) (text : List ℕ) (begun : Begun) (o : ℕ) (pairs : List Pair) (found : List (Option Spot)) (left : ℕ) (filter after : Groups) (candidates : List Candidate) (crc shift : ℕ) (group : List Place) → IsAt s text begun o pairs found left filter candidates → HoldsGroup pairs shift crc group → ((k : ℕ) → k < length group → (place_at group k).crc % 64 ≡ crc % 64 → answer_at found (place_at group k).index ≡ None → ⊥) → ((other : ℕ) → ((other / 2 ^ shift ≡ crc / 2 ^ shift) × (other % 64 ≡ crc % 64) → ⊥) → Marks filter.fine other → Marks after.fine other)
+    → after.fine.shift ≡ filter.fine.shift → ((other : ℕ) → Marks after.fine other → Marks filter.fine other) → after.coarse ≡ filter.coarse → IsAt s text begun o pairs found left after candidates
+unmark s text begun o pairs found left filter after candidates crc shift group at holds closed keeps shift_same fewer coarse_same = record {
   tally = record {
     len = at.tally.len;
     count = at.tally.count;
@@ -207,6 +208,12 @@ unmark s text begun o pairs found left filter after candidates crc shift group a
         (ap (λ c. c % 64) (sym (holds.each place.0 place.1).crc ∙ ap (λ j. (pair_at pairs j).1) place.2) ∙ same.1)
         (ap (answer_at found) place.2 ∙ none))
         (at.tally.marked i h none);
+    only = λ other is.
+        let Its : ℕ → Type 0 = λ n. IsOfPair pairs n other in
+        subst Its (sym shift_same) (at.tally.only other (fewer other is));
+    coarse_only =
+        let Only : Bits → Type 0 = λ bits. (other : ℕ) → Marks bits other → IsOfPair pairs bits.shift other in
+        subst Only (sym coarse_same) at.tally.coarse_only;
   };
   answers = at.answers;
   candidates = at.candidates;
@@ -216,9 +223,48 @@ or_nothing : {A : Type 0} (o : Option A) → o ≡ option_or o None
 or_nothing None = refl
 or_nothing (Some x) = refl
 
+-- the checksums of the first n pairs were added to a filter without groups
+pub record IsFilled (pairs : List Pair) (n : ℕ) (empty filter : Groups) : Type 0 where
+  pub marked : (k : ℕ) → k < n → Marks filter.fine (pair_at pairs k).1
+  pub only : (crc : ℕ) → Marks filter.fine crc → IsOfPair pairs filter.fine.shift crc
+  pub coarse_only : (crc : ℕ) → Marks filter.coarse crc → IsOfPair pairs filter.coarse.shift crc
+  pub size : length filter.fine.words ≡ length empty.fine.words
+
+-- a checksum more is added
+pub filled_more : (pairs : List Pair) (n : ℕ) (empty before after : Groups) → IsFilled pairs n empty before → n < length pairs → (crc : ℕ)
+    → after.fine.shift ≡ before.fine.shift → after.coarse.shift ≡ before.coarse.shift → length after.fine.words ≡ length before.fine.words
+    → Marks after.fine crc → ((other : ℕ) → Marks before.fine other → Marks after.fine other)
+    → ((other : ℕ) → Marks after.fine other → AreAlike before.fine.shift crc other ⊎ Marks before.fine other)
+    → ((other : ℕ) → Marks after.coarse other → AreAlike before.coarse.shift crc other ⊎ Marks before.coarse other)
+    → crc ≡ (pair_at pairs n).1 → IsFilled pairs (n + 1) empty after
+filled_more pairs n empty before after filled low crc shift coarse_shift size marked kept only coarse its = record {
+  marked = λ k h.
+      let Has : ℕ → Type 0 = λ c. Marks after.fine c in
+      elim (cases_lt k n) [
+        | inl early ↦ kept (pair_at pairs k).1 (filled.marked k early)
+        | inr late ↦ subst Has (its ∙ ap (λ j. (pair_at pairs j).1) (let e : n ≡ k = omega (arith, late, h) in e)) marked
+      ];
+  only = λ other is.
+      let Its : ℕ → Type 0 = λ s. IsOfPair pairs s other in
+      subst Its (sym shift) (elim (only other is) [
+        | inl alike ↦ (n, low, alike_to before.fine.shift crc (pair_at pairs n).1 other its alike)
+        | inr old ↦ filled.only other old
+      ]);
+  coarse_only = λ other is.
+      let Its : ℕ → Type 0 = λ s. IsOfPair pairs s other in
+      subst Its (sym coarse_shift) (elim (coarse other is) [
+        | inl alike ↦ (n, low, alike_to before.coarse.shift crc (pair_at pairs n).1 other its alike)
+        | inr old ↦ filled.coarse_only other old
+      ]);
+  size = size ∙ filled.size;
+}
+  where
+    alike_to : (s a b other : ℕ) → a ≡ b → AreAlike s a other → AreAlike s b other
+    alike_to s a b other e alike = let Its : ℕ → Type 0 = λ c. AreAlike s c other in subst Its e alike
+
 -- before the first text
-pub none_answered : (pairs : List Pair) (found : List (Option Spot)) (left : ℕ) (filter : Bits) → found ≡ replicate (length pairs) None → left ≡ length pairs → ((i : ℕ) → i < length pairs → Marks filter (pair_at pairs i).1) → IsTally pairs found left filter
-none_answered pairs found left filter found_is left_is marked = record {
+pub none_answered : (pairs : List Pair) (found : List (Option Spot)) (left : ℕ) (filter : Groups) → found ≡ replicate (length pairs) None → left ≡ length pairs → ((i : ℕ) → i < length pairs → Marks filter.fine (pair_at pairs i).1) → ((crc : ℕ) → Marks filter.fine crc → IsOfPair pairs filter.fine.shift crc) → ((crc : ℕ) → Marks filter.coarse crc → IsOfPair pairs filter.coarse.shift crc) → IsTally pairs found left filter
+none_answered pairs found left filter found_is left_is marked only coarse_only = record {
   len = ap length found_is ∙ length-replicate (length pairs) None;
   count =
       left_is
@@ -226,6 +272,8 @@ none_answered pairs found left filter found_is left_is marked = record {
       ∙ sym (sum_by-replicate (λ (x : Option Spot). cond (is_none x) 1 0) (length pairs) None)
       ∙ ap (count_by is_none) (sym found_is);
   marked = λ i h none. marked i h;
+  only = only;
+  coarse_only = coarse_only;
 }
 
 pub never_answered : (n i : ℕ) → answer_at (replicate n None) i ≡ None
@@ -234,7 +282,7 @@ never_answered (suc n) zero = refl
 never_answered (suc n) (suc i) = never_answered n i
 
 -- before the first offset
-pub at_start : (s : ℕ) (text : List ℕ) (begun : Begun) (pairs : List Pair) (found : List (Option Spot)) (left : ℕ) (filter : Bits) (candidates : List Candidate) → IsTally pairs found left filter → found ≡ begun.before → candidates ≡ [] → IsAt s text begun 0 pairs found left filter candidates
+pub at_start : (s : ℕ) (text : List ℕ) (begun : Begun) (pairs : List Pair) (found : List (Option Spot)) (left : ℕ) (filter : Groups) (candidates : List Candidate) → IsTally pairs found left filter → found ≡ begun.before → candidates ≡ [] → IsAt s text begun 0 pairs found left filter candidates
 unfolding first_below
 at_start s text begun pairs found left filter candidates tally found_is empty = record {
   tally = tally;
@@ -247,7 +295,7 @@ at_start s text begun pairs found left filter candidates tally found_is empty = 
 }
 
 -- where no pair is open, no offset more changes an answer
-pub none_left : (s : ℕ) (text : List ℕ) (begun : Begun) (o n : ℕ) (pairs : List Pair) (found : List (Option Spot)) (left : ℕ) (filter : Bits) (candidates : List Candidate) → IsAt s text begun o pairs found left filter candidates → left ≡ 0 → IsAt s text begun (o + n) pairs found left filter candidates
+pub none_left : (s : ℕ) (text : List ℕ) (begun : Begun) (o n : ℕ) (pairs : List Pair) (found : List (Option Spot)) (left : ℕ) (filter : Groups) (candidates : List Candidate) → IsAt s text begun o pairs found left filter candidates → left ≡ 0 → IsAt s text begun (o + n) pairs found left filter candidates
 none_left s text begun o zero pairs found left filter candidates at none =
     let At : ℕ → Type 0 = λ k. IsAt s text begun k pairs found left filter candidates in
     subst At (let e : o ≡ o + 0 = omega arith in e) at
@@ -258,7 +306,7 @@ none_left s text begun o (suc n) pairs found left filter candidates at none =
     (λ i h none_yet. absurd (none_counted (Option Spot) is_none found i None (sym at.tally.count ∙ none) (omega (arith, h, at.tally.len)) (ap is_none none_yet))))
 
 -- at the end, when no candidate waits
-pub finished : (s : ℕ) (text : List ℕ) (begun : Begun) (pairs : List Pair) (found : List (Option Spot)) (left : ℕ) (filter : Bits) (batch : List Candidate) (i : ℕ) → IsAt s text begun (length text) pairs found left filter batch → batch ≡ [] → i < length pairs
+pub finished : (s : ℕ) (text : List ℕ) (begun : Begun) (pairs : List Pair) (found : List (Option Spot)) (left : ℕ) (filter : Groups) (batch : List Candidate) (i : ℕ) → IsAt s text begun (length text) pairs found left filter batch → batch ≡ [] → i < length pairs
     → answer_at found i ≡ option_or (answer_at begun.before i) (option_map (spot_in begun.text) (first_match s text (pair_at pairs i)))
 unfolding first_below
 finished s text begun pairs found left filter batch i at empty inside =
@@ -281,7 +329,7 @@ first_spot-more n s (t ∷ texts) text pair =
     or_or (Some x) b c = refl
 
 -- a text more has been searched
-pub text_done : (s : ℕ) (texts : List (List ℕ)) (k : ℕ) (begun : Begun) (pairs : List Pair) (found : List (Option Spot)) (left : ℕ) (filter : Bits) (batch : List Candidate) (i : ℕ) → k < length texts → begun.text ≡ k
+pub text_done : (s : ℕ) (texts : List (List ℕ)) (k : ℕ) (begun : Begun) (pairs : List Pair) (found : List (Option Spot)) (left : ℕ) (filter : Groups) (batch : List Candidate) (i : ℕ) → k < length texts → begun.text ≡ k
     → IsAt s (get_or texts k []) begun (length (get_or texts k [])) pairs found left filter batch → batch ≡ [] → i < length pairs
     → answer_at begun.before i ≡ first_spot s (take k texts) (pair_at pairs i) → answer_at found i ≡ first_spot s (take (k + 1) texts) (pair_at pairs i)
 text_done s texts k begun pairs found left filter batch i inside text_is at empty low before =

@@ -6,7 +6,7 @@ use Rattle.std.specs.Option.{is_none, option_or}
 use Rattle.std.specs.Str.{bytes_eq}
 use Rattle.par2_spec.specs.Checksums.{Pair, crc32}
 use Rattle.par2_spec.specs.Windows.{first_match, is_match, window}
-use Rattle.par2_slices.specs.Filters.{Bits, Marks}
+use Rattle.par2_slices.specs.Filters.{AreAlike, Groups, Marks}
 use Rattle.par2_slices.specs.declared.batch.Candidate.{Candidate}
 use Rattle.par2_slices.specs.declared.batch.Spot.{Spot}
 use Rattle.par2_slices.specs.declared.wanted.Place.{Place}
@@ -46,8 +46,9 @@ pub record IsIndex (pairs : List Pair) (places : List Place) : Type 0 where
   pub each : (k : ℕ) → k < length places → IsPlace pairs (place_at places k)
   pub whole : (i : ℕ) → i < length pairs → (k : ℕ) × (k < length places) × ((place_at places k).index ≡ i)
 
--- these places hold each pair whose checksum is of the group
+-- these places are those of the pairs whose checksums are of the group
 pub record HoldsGroup (pairs : List Pair) (shift crc : ℕ) (group : List Place) : Type 0 where
+  pub only : (k : ℕ) → k < length group → (place_at group k).crc / 2 ^ shift ≡ crc / 2 ^ shift
   pub each : (k : ℕ) → k < length group → IsPlace pairs (place_at group k)
   pub whole : (i : ℕ) → i < length pairs → (pair_at pairs i).1 / 2 ^ shift ≡ crc / 2 ^ shift → (k : ℕ) × (k < length group) × ((place_at group k).index ≡ i)
 
@@ -94,14 +95,20 @@ pub record IsWindow (s : ℕ) (text : List ℕ) (candidate : Candidate) : Type 0
 unfoldable pub settled : ℕ → List ℕ → Pair → List Candidate → Option Spot → Option Spot
 settled s text pair candidates answer = fold (λ so_far candidate. advanced (is_match pair (window s text candidate.spot.offset)) candidate.spot so_far) answer candidates
 
--- how many pairs are open, and marks of their checksums
-pub record IsTally (pairs : List Pair) (found : List (Option Spot)) (left : ℕ) (filter : Bits) : Type 0 where
+-- the checksum is of the group of a pair's
+abbrev pub IsOfPair : List Pair → ℕ → ℕ → Type 0
+IsOfPair pairs shift crc = (i : ℕ) × (i < length pairs) × AreAlike shift (pair_at pairs i).1 crc
+
+-- how many pairs are open, and marks of their checksums; no group is marked, and no coarse one, but those of pairs
+pub record IsTally (pairs : List Pair) (found : List (Option Spot)) (left : ℕ) (filter : Groups) : Type 0 where
   pub len : length found ≡ length pairs
   pub count : left ≡ count_by is_none found
-  pub marked : (i : ℕ) → i < length pairs → answer_at found i ≡ None → Marks filter (pair_at pairs i).1
+  pub marked : (i : ℕ) → i < length pairs → answer_at found i ≡ None → Marks filter.fine (pair_at pairs i).1
+  pub only : (crc : ℕ) → Marks filter.fine crc → IsOfPair pairs filter.fine.shift crc
+  pub coarse_only : (crc : ℕ) → Marks filter.coarse crc → IsOfPair pairs filter.coarse.shift crc
 
 -- a search that has looked at the offsets below `offset`: what it has found, and what the candidates add to it
-pub record IsAt (s : ℕ) (text : List ℕ) (begun : Begun) (offset : ℕ) (pairs : List Pair) (found : List (Option Spot)) (left : ℕ) (filter : Bits) (batch : List Candidate) : Type 0 where
+pub record IsAt (s : ℕ) (text : List ℕ) (begun : Begun) (offset : ℕ) (pairs : List Pair) (found : List (Option Spot)) (left : ℕ) (filter : Groups) (batch : List Candidate) : Type 0 where
   pub tally : IsTally pairs found left filter
   pub answers : (i : ℕ) → i < length pairs → settled s text (pair_at pairs i) batch (answer_at found i) ≡ answer_below s text begun offset pairs i
   pub candidates : (k : ℕ) → k < length batch → IsWindow s text (candidate_at batch k)

@@ -55,10 +55,11 @@ fn behind(table: &[u32; 256]) -> [u32; 256]
 }
 
 impl Rolling {
-    /// For windows of `s` bytes. The value is that of no window before `start`.
+    /// For windows of `s` bytes. Before `start` the value is 0, that of no bytes.
     pub fn new(alloc: Global, s: u64) -> Result<Rolling, AllocError>
         requires { 1 ≤ s }
-        ensures { IfOk result (λ rolling. rolling.size ≡ s) }
+        ensures size { IfOk result (λ rolling. rolling.size ≡ s) }
+        ensures value { IfOk result (λ rolling. rolling.value ≡ 0) }
     {
         let first = leaving_table(s);
         let second = behind(&first);

@@ -5,6 +5,7 @@ ghost use Rattle.std.specs.List.{count_by};
 ghost use Rattle.std.specs.Option.{is_none};
 ghost use Rattle.par2_spec.specs.Checksums.{crc32};
 ghost use Rattle.par2_spec.specs.Windows.{first_match, window};
+ghost use Rattle.par2_slices.specs.Filters.{AreFor};
 ghost use Rattle.par2_slices.specs.Searches.{advanced, candidate_at, has_checksums, is_awaited, answer_at, pair_at, place_at, first_spot, settled, Begun, IsAt, IsPlace, IsTally, IsWaiting, IsWindow};
 
 use crate::batch::{Candidate, Spot, digests};
@@ -95,6 +96,7 @@ impl Search {
             (λ search. IsTally wanted.now search.found.items search.left search.filter) }
         ensures open { IfOk result (λ search. (i : ℕ)
             → answer_at search.found.items i ≡ None) }
+        ensures size { IfOk result (λ search. AreFor (length wanted.now) search.filter.fine) }
         ensures batch { IfOk result (λ search. search.batch.items ≡ []) }
     {
         let pairs = wanted.pairs();

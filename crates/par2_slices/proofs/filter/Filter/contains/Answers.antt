@@ -1,6 +1,6 @@
 use Rattle.std.proofs.Common.{◌≡◌, ◌∙◌, get_or, ◌/◌, ◌^◌, ◌%◌, sym, ap, subst, arith}
 use Rattle.std.proofs.lemmas.List.{get_or_read}
-use Rattle.par2_slices.specs.Filters.{Bits, Marks}
+use Rattle.par2_slices.specs.Filters.{Groups, Marks}
 use Rattle.std.specs.Int.{bit_at}
 use Rattle.std.proofs.lemmas.Bool.{eqb-true, eq-eqb}
 use Rattle.par2_slices.proofs.Groups.{within}
@@ -11,7 +11,7 @@ index-requires c = omega (arith, within c.args.crc c.self.inside.shift c.ranges.
 
 pub returns : goal.returns
 returns c =
-    let Has : Bits → Type 0 = λ bits. Marks bits c.args.crc in
+    let Has : Groups → Type 0 = λ groups. Marks groups.fine c.args.crc in
     let items = c.self.inside.words.items in
     let word = c.args.crc / 2 ^ c.self.inside.shift in
     let read : c.index.result.now ≡ get_or items word 0 = get_or_read items word c.index.result.now (omega (arith, within c.args.crc c.self.inside.shift c.ranges.crc.fits c.self.invariant.low, c.self.invariant.len)) c.index.ensures 0 in

@@ -1,7 +1,7 @@
 use Rattle.std.proofs.Common.{ℕ, ◌≡◌, get_or, ◌*◌, ◌/◌, ◌%◌, ◌^◌, ◌<◌, length, length-set, set, sym, ◌∙◌, subst, arith}
 use Rattle.std.specs.Prelude.{◌⊎◌, bit_or}
 use Rattle.std.proofs.lemmas.List.{get_or_read}
-use Rattle.par2_slices.specs.Filters.{Bits, Marks}
+use Rattle.par2_slices.specs.Filters.{AreAlike, Groups, Marks}
 use Rattle.par2_slices.proofs.Groups.{within, marked, kept_by_insert, only_by_insert, covered_by_insert}
 use Rattle.par2_slices.proofs.filter.Filter.insert.Goals as goal
 
@@ -22,7 +22,7 @@ returns-clause-kept c other is =
     let place = c.args.crc / 2 ^ c.self.inside.shift in
     let held : place < length items = omega (arith, within c.args.crc c.self.inside.shift c.ranges.crc.fits c.self.invariant.low, c.self.invariant.len) in
     let read : c.index_mut.result.now ≡ get_or items place 0 = get_or_read items place c.index_mut.result.now held c.index_mut.ensures.value 0 in
-    let Has : Bits → Type 0 = λ bits. Marks bits other in
+    let Has : Groups → Type 0 = λ groups. Marks groups.fine other in
     rw read (kept_by_insert c.self.inside.shift c.args.crc items held other (subst Has (sym c.self.view_is) is))
 
 pub returns-clause-only : goal.returns-clause-only
@@ -31,9 +31,19 @@ returns-clause-only c other is =
     let place = c.args.crc / 2 ^ c.self.inside.shift in
     let held : place < length items = omega (arith, within c.args.crc c.self.inside.shift c.ranges.crc.fits c.self.invariant.low, c.self.invariant.len) in
     let read : c.index_mut.result.now ≡ get_or items place 0 = get_or_read items place c.index_mut.result.now held c.index_mut.ensures.value 0 in
-    let Only : Bits → Type 0 = λ bits. (other / 2 ^ bits.shift ≡ c.args.crc / 2 ^ bits.shift) × (other % 64 ≡ c.args.crc % 64) ⊎ Marks bits other in
+    let Only : Groups → Type 0 = λ groups. AreAlike groups.fine.shift c.args.crc other ⊎ Marks groups.fine other in
     let After : ℕ → Type 0 = λ word. Marks (record { shift = c.self.inside.shift; words = set items place (bit_or word (1 * 2 ^ (c.args.crc % 64) % 2 ^ 64)) }) other in
     subst Only c.self.view_is (only_by_insert c.self.inside.shift c.args.crc items held other (subst After read is))
+
+pub returns-clause-coarse : goal.returns-clause-coarse
+returns-clause-coarse c other is =
+    let items = c.self.inside.coarse.items in
+    let place = c.args.crc / 2 ^ 19 in
+    let held : place < length items = omega (arith, within c.args.crc 19 c.ranges.crc.fits (omega arith), c.self.invariant.coarse_len) in
+    let read : c.index_mut-2.result.now ≡ get_or items place 0 = get_or_read items place c.index_mut-2.result.now held c.index_mut-2.ensures.value 0 in
+    let Only : Groups → Type 0 = λ groups. AreAlike groups.coarse.shift c.args.crc other ⊎ Marks groups.coarse other in
+    let After : ℕ → Type 0 = λ word. Marks (record { shift = 19; words = set items place (bit_or word (1 * 2 ^ (c.args.crc % 64) % 2 ^ 64)) }) other in
+    subst Only c.self.view_is (only_by_insert 19 c.args.crc items held other (subst After read is))
 
 pub invariant_of-self : goal.invariant_of-self
 invariant_of-self c =

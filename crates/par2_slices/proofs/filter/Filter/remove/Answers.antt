@@ -1,8 +1,8 @@
-use Rattle.std.proofs.Common.{ℕ, ◌≡◌, ◌∙◌, get_or, ◌*◌, ◌/◌, ◌%◌, ◌^◌, ◌<◌, length, length-set, set, sym, ap, subst, arith}
+use Rattle.std.proofs.Common.{ℕ, ◌≡◌, ◌∙◌, get_or, ◌*◌, ◌/◌, ◌%◌, ◌^◌, ◌<◌, length, length-set, set, sym, subst, arith}
 use Rattle.std.specs.Prelude.{bit_and}
 use Rattle.std.specs.Int.{w64, bit_not}
 use Rattle.std.proofs.lemmas.List.{get_or_read}
-use Rattle.par2_slices.specs.Filters.{Bits, Marks}
+use Rattle.par2_slices.specs.Filters.{AreAlike, Groups, Marks}
 use Rattle.par2_slices.proofs.Groups.{within, gone, kept_by_remove, only_by_remove}
 use Rattle.par2_slices.proofs.filter.Filter.remove.Goals as goal
 
@@ -23,8 +23,9 @@ returns-clause-kept c other differs is =
     let place = c.args.crc / 2 ^ c.self.inside.shift in
     let held : place < length items = omega (arith, within c.args.crc c.self.inside.shift c.ranges.crc.fits c.self.invariant.low, c.self.invariant.len) in
     let read : c.index_mut.result.now ≡ get_or items place 0 = get_or_read items place c.index_mut.result.now held c.index_mut.ensures.value 0 in
-    let Has : Bits → Type 0 = λ bits. Marks bits other in
-    let apart : (other / 2 ^ c.self.inside.shift ≡ c.args.crc / 2 ^ c.self.inside.shift) × (other % 64 ≡ c.args.crc % 64) → ⊥ = λ both. differs (ap (λ (bits : Bits). other / 2 ^ bits.shift) (sym c.self.view_is) ∙ both.0 ∙ ap (λ (bits : Bits). c.args.crc / 2 ^ bits.shift) c.self.view_is, both.1) in
+    let Has : Groups → Type 0 = λ groups. Marks groups.fine other in
+    let Apart : Groups → Type 0 = λ groups. AreAlike groups.fine.shift c.args.crc other → ⊥ in
+    let apart : AreAlike c.self.inside.shift c.args.crc other → ⊥ = subst Apart (sym c.self.view_is) differs in
     rw read (kept_by_remove c.self.inside.shift c.args.crc items held other apart (subst Has (sym c.self.view_is) is))
 
 pub returns-clause-only : goal.returns-clause-only
@@ -33,7 +34,7 @@ returns-clause-only c other is =
     let place = c.args.crc / 2 ^ c.self.inside.shift in
     let held : place < length items = omega (arith, within c.args.crc c.self.inside.shift c.ranges.crc.fits c.self.invariant.low, c.self.invariant.len) in
     let read : c.index_mut.result.now ≡ get_or items place 0 = get_or_read items place c.index_mut.result.now held c.index_mut.ensures.value 0 in
-    let Has : Bits → Type 0 = λ bits. Marks bits other in
+    let Has : Groups → Type 0 = λ groups. Marks groups.fine other in
     let After : ℕ → Type 0 = λ word. Marks (record { shift = c.self.inside.shift; words = set items place (bit_and word (bit_not w64 (1 * 2 ^ (c.args.crc % 64) % 2 ^ 64))) }) other in
     subst Has c.self.view_is (only_by_remove c.self.inside.shift c.args.crc items held other (subst After read is))
 

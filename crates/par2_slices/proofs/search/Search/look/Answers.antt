@@ -5,7 +5,7 @@ use Rattle.std.specs.List.{count_by}
 use Rattle.par2_spec.specs.Checksums.{Pair}
 use Rattle.par2_slices.specs.declared.search.Search.{Search}
 use Rattle.par2_slices.specs.declared.wanted.Place.{Place}
-use Rattle.par2_slices.specs.Filters.{Bits}
+use Rattle.par2_slices.specs.Filters.{Groups}
 use Rattle.par2_slices.specs.Searches.{is_awaited, answer_at, place_at, IsAt}
 use Rattle.par2_slices.proofs.Searching.{unawaited, unmark, unmarked}
 use Rattle.par2_slices.proofs.search.Search.look.Goals as goal
@@ -36,11 +36,12 @@ returns-then-not-is_waiting g c =
       | else-pairs-gt0 w ↦ ap (λ (search : Search). search.filter) w.self-is
     ]
     in
-    let shift_is : c.if-pairs-gt0.self.filter.shift ≡ c.shift.result = ap (λ (bits : Bits). bits.shift) filter_is ∙ sym c.shift.ensures.value in
+    let shift_is : c.if-pairs-gt0.self.filter.fine.shift ≡ c.shift.result = ap (λ (groups : Groups). groups.fine.shift) filter_is ∙ sym c.shift.ensures.value in
     let Other : ℕ → ℕ → Type 0 = λ other shift. (other / 2 ^ shift ≡ crc / 2 ^ shift) × (other % 64 ≡ crc % 64) → ⊥ in
     unmark s text g.begun (o + 1) wanted c.if-pairs-gt0.self.found.items c.if-pairs-gt0.self.left c.if-pairs-gt0.self.filter c.remove.new.self c.if-pairs-gt0.self.batch.items crc c.shift.result group after c.group-group.ensures
     (λ k h low none. let both : true ≡ false = sym (c.is_waiting.ensures.1 (k, h, low, ap (λ found. answer_at found (place_at group k).index) c.deref-2.ensures.value ∙ none)) ∙ c.if-not-is_waiting.true in cc)
     (λ other differs is. let Its : ℕ → Type 0 = Other other in c.remove.ensures.kept other (subst Its (sym shift_is) differs) is)
+    c.remove.ensures.shift c.remove.ensures.only c.remove.ensures.coarse
 
 pub returns-else-not-is_waiting : goal.returns-else-not-is_waiting
 returns-else-not-is_waiting g c =

@@ -3,7 +3,7 @@ use Rattle.std.specs.Prelude.{Option}
 use Rattle.par2_spec.specs.Checksums.{Pair}
 use Rattle.par2_slices.specs.declared.batch.Spot.{Spot}
 use Rattle.par2_slices.specs.Searches.{answer_at, IsTally}
-use Rattle.par2_slices.proofs.Searching.{none_answered, never_answered}
+use Rattle.par2_slices.proofs.Searching.{filled_more, none_answered, never_answered}
 use Rattle.par2_slices.proofs.search.Search.new.Goals as goal
 
 pub returns-clause-tally : goal.returns-clause-tally
@@ -12,9 +12,22 @@ returns-clause-tally c =
     let found : List (Option Spot) = c.in_ok-vec.field-0.items in
     let filled = c.in_ok-vec.ensures.items_if_clones_equal in
     let Tally : List Pair → Type 0 = λ ps. IsTally ps found (length pairs) c.loop-pair.filter in
-    subst Tally c.pairs-pairs.ensures (none_answered pairs found (length pairs) c.loop-pair.filter (filled (λ y h. search rules)) refl (λ i h. c.loop-pair.invariant i (omega arith)))
+    subst Tally c.pairs-pairs.ensures (none_answered pairs found (length pairs) c.loop-pair.filter (filled (λ y h. search rules)) refl (λ i h. c.loop-pair.invariant.marked i (omega arith)) c.loop-pair.invariant.only c.loop-pair.invariant.coarse_only)
 
 pub returns-clause-open : goal.returns-clause-open
 returns-clause-open c i =
     let filled = c.in_ok-vec.ensures.items_if_clones_equal in
     ap (λ (found : List (Option Spot)). answer_at found i) (filled (λ y h. search rules)) ∙ never_answered (length c.pairs-pairs.result.now) i
+
+pub loop-pair-preserved : goal.loop-pair-preserved
+loop-pair-preserved c =
+    filled_more c.pairs-pairs.result.now c.loop-pair.pair-index c.in_ok-filter.filter c.loop-pair.filter c.insert.new.self c.loop-pair.invariant c.loop-pair-test.true _
+    c.insert.ensures.shift c.insert.ensures.coarse_shift c.insert.ensures.size c.insert.ensures.marked c.insert.ensures.kept c.insert.ensures.only c.insert.ensures.coarse (search rules)
+
+pub loop-pair-init : goal.loop-pair-init
+loop-pair-init c = record {
+  marked = λ k h. absurd (omega (arith, h));
+  only = λ crc is. absurd (c.in_ok-filter.ensures.fine crc is);
+  coarse_only = λ crc is. absurd (c.in_ok-filter.ensures.coarse crc is);
+  size = refl;
+}

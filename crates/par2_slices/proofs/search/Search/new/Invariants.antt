@@ -1,7 +1,5 @@
-use Rattle.std.proofs.Common.{ℕ, ◌<◌}
-use Rattle.par2_slices.specs.Filters.{Marks}
-use Rattle.par2_slices.specs.Searches.{pair_at}
+use Rattle.par2_slices.proofs.Searching.{IsFilled}
 use Rattle.par2_slices.proofs.search.Search.new.Given as goal
 
 abbrev pub invariant-loop-pair : goal.invariant-loop-pair
-invariant-loop-pair l = (k : ℕ) → k < l.pair-index → Marks l.filter (pair_at l.pairs k).1
+invariant-loop-pair l = IsFilled l.pairs l.pair-index l.initial.filter l.filter
