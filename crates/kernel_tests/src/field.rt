@@ -1,6 +1,6 @@
 ghost use Rattle.std.specs.Prelude.{◌≡◌, ◌≤◌, ◌%◌, length, IfOk};
 
-use par2_gf16::{Factor, Gf};
+use par2_gf16::{Columns, Factor, Gf};
 use std::alloc::{AllocError, Global};
 
 // the product of two elements, bit by bit
@@ -133,7 +133,7 @@ fn products_are_added_and_taken_back(rt: HostRuntime) -> Result<(), AllocError> 
     Ok(())
 }
 
-// Whether a copy of `dst` becomes by the tables, and by the factor, what it becomes word by word.
+// Whether a copy of `dst` becomes by the tables, by the factor and by columns what it becomes word by word.
 fn is_as_word_by_word(
     alloc: Global,
     gf: &Gf,
@@ -148,9 +148,12 @@ fn is_as_word_by_word(
     gf.mul_add(c, src, &mut by_steps);
     let mut by_factor = Vec::from_slice(alloc, dst)?;
     gf.mul_add_by(&Factor::new(c), src, &mut by_factor);
+    let mut by_columns = Vec::from_slice(alloc, dst)?;
+    let columns = Columns::new(alloc, src, 0, dst.len() / 2)?;
+    gf.mul_add_columns(&Factor::new(c), &columns, &mut by_columns);
     let mut wanted = Vec::from_slice(alloc, dst)?;
     plain_mul_add(c, src, &mut wanted);
-    Ok(by_steps == wanted && by_factor == wanted)
+    Ok(by_steps == wanted && by_factor == wanted && by_columns == wanted)
 }
 
 // The last four are random.
@@ -178,5 +181,31 @@ fn every_length_as_word_by_word(rt: HostRuntime) -> Result<(), AllocError> {
     for words in 0..=65usize {
         assert_eq!(rt; first_other(rt.alloc(), &gf, words)?, None, "{words} words");
     }
+    Ok(())
+}
+
+// Four words of zeros after some words of a text that ends within the second were added to them.
+fn words_added(alloc: Global, gf: &Gf, from: usize, to: usize) -> Result<[u8; 8], AllocError>
+    requires order { from ≤ to }
+    requires room { to ≤ 4 }
+{
+    let columns = Columns::new(alloc, &[1, 2, 3], from, to)?;
+    let mut words = [0; 8];
+    gf.mul_add_columns(&Factor::new(1), &columns, &mut words);
+    Ok(words)
+}
+
+#[test]
+fn zeros_follow_a_text_that_ends(rt: HostRuntime) -> Result<(), AllocError> {
+    let gf = Gf::new(rt.alloc())?;
+    assert_eq!(rt;
+        words_added(rt.alloc(), &gf, 0, 4)?,
+        [1, 2, 3, 0, 0, 0, 0, 0]
+    );
+    assert_eq!(rt;
+        words_added(rt.alloc(), &gf, 1, 2)?,
+        [0, 0, 3, 0, 0, 0, 0, 0]
+    );
+    assert_eq!(rt; words_added(rt.alloc(), &gf, 3, 4)?, [0; 8]);
     Ok(())
 }

@@ -98,30 +98,26 @@ masked v long = zip2_splat bit_and v 32 15 long ∙ map_all (λ x. bit_and x 15)
 pub shifted : (v : List ℕ) → length v ≡ 32 → zip2 down v (replicate 32 4) ≡ map (λ x. x / 16) v
 shifted v long = zip2_splat down v 32 4 long
 
-small_places : (g : ℕ → ℕ) → ((x : ℕ) → x < 256 → g x < 16) → (v js : List ℕ) → Each1 (Fits w8) v → js ≡ map g v → Each1 (λ j. j < 16) js
-small_places g small [] js fits e = subst (Each1 (λ j. j < 16)) (sym e) tt
-small_places g small (x ∷ xs) js fits e = subst (Each1 (λ j. j < 16)) (sym e) (small x fits.0.fits, small_places g small xs (map g xs) fits.1 refl)
+pub small_places : (g : ℕ → ℕ) → ((x : ℕ) → x < 256 → g x < 16) → (v js : List ℕ) → Each1 (Fits w8) v → js ≡ map g v → (i : ℕ) → get_or js i 0 < 16
+small_places g small v js fits e i = subst (λ xs. get_or xs i 0 < 16) (sym e) (go v i fits)
+  where
+    go : (xs : List ℕ) (k : ℕ) → Each1 (Fits w8) xs → get_or (map g xs) k 0 < 16
+    go [] k h = omega arith
+    go (x ∷ xs) zero h = small x h.0.fits
+    go (x ∷ xs) (suc k) h = go xs k h.1
 
-pub places_ok : (g : ℕ → ℕ) → ((x : ℕ) → x < 256 → g x < 16) → (v js : List ℕ) → IsVector v → js ≡ map g v → SwzOk w8 16 32 0 js
-places_ok g small v js fits e =
-    SwzOk-from_below w8 16 2 32 0 js refl (let k : 0 + length js ≤ 32 = omega (arith, ap length e, length-map v g, fits.0) in k) (small_places g small v js fits.1 e)
+pub places_ok : (js : List ℕ) → length js ≡ 32 → ((i : ℕ) → get_or js i 0 < 16) → SwzOk w8 16 32 0 js
+places_ok js long small = SwzOk-from_below w8 16 2 32 0 js refl (let k : 0 + length js ≤ 32 = omega (arith, long) in k) (Each1-from_get_or (λ j. j < 16) js 0 (λ i h. small i))
 
-lane_fits : (v : List ℕ) (i : ℕ) → Each1 (Fits w8) v → get_or v i 0 < 256
-lane_fits [] i h = omega arith
-lane_fits (x ∷ xs) zero h = h.0.fits
-lane_fits (x ∷ xs) (suc i) h = lane_fits xs i h.1
-
-pub looked_up : (f g : ℕ → ℕ) → ((x : ℕ) → x < 256 → g x < 16) → (t v js : List ℕ) → IsTable f t → IsVector v → js ≡ map g v → swz_l w8 16 t 0 js ≡ map (λ x. f (g x)) v
-looked_up f g small t v js table fits e =
-    let long : length js ≡ 32 = ap length e ∙ length-map v g ∙ fits.0 in
-    ext_get_or 0 _ _ (length-swz_l w8 16 t 0 js ∙ long ∙ sym (length-map v (λ x. f (g x)) ∙ fits.0)) (λ i h.
-    let lt : i < 32 = omega (arith, length-swz_l w8 16 t 0 js) in
-    let is : get_or js i 0 ≡ g (get_or v i 0) = ap (λ l. get_or l i 0) e ∙ get_or-map g v i 0 0 (omega (arith, fits.0)) in
-    let below : get_or js i 0 < 16 = omega (arith, small (get_or v i 0) (lane_fits v i fits.1)) in
-    get_or-swz_l_below w8 16 t 0 js i (omega arith) below
-    ∙ table.each (16 * ((0 + i) / 16) + get_or js i 0) (omega arith)
-    ∙ ap f ((let k : (16 * ((0 + i) / 16) + get_or js i 0) % 16 ≡ get_or js i 0 = omega arith in k) ∙ is)
-    ∙ sym (get_or-map (λ x. f (g x)) v i 0 0 (omega (arith, fits.0))))
+pub looked_up : (f : ℕ → ℕ) (t js : List ℕ) → IsTable f t → length js ≡ 32 → ((i : ℕ) → get_or js i 0 < 16) → swz_l w8 16 t 0 js ≡ map f js
+looked_up f t js table long small =
+    ext_get_or 0 _ _ (length-swz_l w8 16 t 0 js ∙ sym (length-map js f)) (λ i h.
+    let lt : i < length js = omega (arith, length-swz_l w8 16 t 0 js) in
+    let below : get_or js i 0 < 16 = small i in
+    get_or-swz_l_below w8 16 t 0 js i lt below
+    ∙ table.each (16 * ((0 + i) / 16) + get_or js i 0) (omega (arith, long))
+    ∙ ap f (let k : (16 * ((0 + i) / 16) + get_or js i 0) % 16 ≡ get_or js i 0 = omega arith in k)
+    ∙ sym (get_or-map f js i 0 0 lt))
 
 -- two vectors that were computed lane by lane, one from xs and one from ys
 pub zip2_of_two : (f : ℕ → ℕ → ℕ) (g h : ℕ → ℕ) (xs ys : List ℕ) → zip2 f (map g xs) (map h ys) ≡ zip2 (λ x y. f (g x) (h y)) xs ys
@@ -129,10 +125,10 @@ zip2_of_two f g h [] ys = refl
 zip2_of_two f g h (x ∷ xs) [] = refl
 zip2_of_two f g h (x ∷ xs) (y ∷ ys) = ap (λ zs. f (g x) (h y) ∷ zs) (zip2_of_two f g h xs ys)
 
-pub zip2_same : (f g : ℕ → ℕ → ℕ) → ((x y : ℕ) → x < 256 → y < 256 → f x y ≡ g x y) → (xs ys : List ℕ) → Each1 (Fits w8) xs → Each1 (Fits w8) ys → zip2 f xs ys ≡ zip2 g xs ys
+pub zip2_same : (f g : ℕ → ℕ → ℕ) → ((x y : ℕ) → x < 256 → y < 256 → f x y ≡ g x y) → (xs ys : List ℕ) → Each1 (λ x. x < 256) xs → Each1 (λ y. y < 256) ys → zip2 f xs ys ≡ zip2 g xs ys
 zip2_same f g same [] ys a b = refl
 zip2_same f g same (x ∷ xs) [] a b = refl
-zip2_same f g same (x ∷ xs) (y ∷ ys) a b = ap₂ (λ z zs. z ∷ zs) (same x y a.0.fits b.0.fits) (zip2_same f g same xs ys a.1 b.1)
+zip2_same f g same (x ∷ xs) (y ∷ ys) a b = ap₂ (λ z zs. z ∷ zs) (same x y a.0 b.0) (zip2_same f g same xs ys a.1 b.1)
 
 -- ---- sums in place
 

@@ -3,3 +3,5 @@ pub mod LaneLaws
 pub mod NibbleLaws
 pub mod BlockLaws
 pub mod TableLaws
+pub mod Parts
+pub mod ColumnLaws

@@ -1,13 +1,15 @@
 //! Thirty-two words at a time. A word is the sum of its four nibbles, each in its place, so its product is the sum of
 //! theirs, and those are looked up.
 
-ghost use Rattle.std.specs.Prelude.{◌≡◌, ℕ, ◌+◌, ◌*◌, ◌/◌, ◌%◌, ◌^◌, ◌<◌, ◌≤◌, length, map, bit_xor};
+ghost use Rattle.std.specs.Prelude.{◌≡◌, ℕ, ◌+◌, ◌*◌, ◌/◌, ◌%◌, ◌^◌, ◌<◌, ◌≤◌, List, length, map, slice_index, take, drop, bit_xor};
 ghost use Rattle.std.specs.Simd.Lanes.{zip2};
 ghost use Rattle.par2_spec.specs.Field.{mul};
 ghost use Rattle.par2_gf16.specs.Steps.{AddsWithin, IsTable};
+ghost use Rattle.par2_gf16.specs.Nibbles.{AreNibbles, HasNibbles};
 
 use crate::doubling::doubled;
 use crate::lanes;
+use crate::nibbles::Nibbles;
 use std::marker::Model;
 use std::simd::prelude::*;
 
@@ -82,8 +84,9 @@ impl Factor {
 
     // the lower bytes of the products of words
     #[inline(always)]
-    fn lower_bytes(&self, low: u8x32, high: u8x32) -> u8x32
-        ensures value { result ≡ zip2 (λ l h. mul self.now (l + 256 * h) % 256) low high }
+    fn lower_bytes(&self, nibbles: Nibbles) -> u8x32
+        ensures value { (low high : List ℕ) → AreNibbles low high nibbles
+            → result ≡ zip2 (λ l h. mul self.now (l + 256 * h) % 256) low high }
         ensures fits { self.now < 2 ^ 16 }
     {
         four_looked_up(
@@ -91,23 +94,22 @@ impl Factor {
             self.second.low,
             self.third.low,
             self.fourth.low,
-            low,
-            high,
+            nibbles,
         )
     }
 
     // the higher bytes of the products of words
     #[inline(always)]
-    fn higher_bytes(&self, low: u8x32, high: u8x32) -> u8x32
-        ensures { result ≡ zip2 (λ l h. mul self.now (l + 256 * h) / 256) low high }
+    fn higher_bytes(&self, nibbles: Nibbles) -> u8x32
+        ensures { (low high : List ℕ) → AreNibbles low high nibbles
+            → result ≡ zip2 (λ l h. mul self.now (l + 256 * h) / 256) low high }
     {
         four_looked_up(
             self.first.high,
             self.second.high,
             self.third.high,
             self.fourth.high,
-            low,
-            high,
+            nibbles,
         )
     }
 
@@ -118,13 +120,33 @@ impl Factor {
         requires same { length src.now ≡ length dst.old }
         ensures { AddsWithin self.now src.now dst.old dst.new n (n + 32) }
     {
-        let (low, high) = lanes::words_at(src, 2 * n);
-        let lows = self.lower_bytes(low, high);
-        let highs = self.higher_bytes(low, high);
+        self.add_nibbles(nibbles_at(src, n), dst, n);
+    }
+
+    // adds the products for the thirty-two words from word n on, which have these nibbles
+    #[inline(always)]
+    pub(crate) fn add_nibbles(&self, nibbles: Nibbles, dst: &mut [u8], n: usize)
+        requires fits { 2 * n + 64 ≤ length dst.old }
+        ensures { (src : List ℕ) → ((i : ℕ) → slice_index src i < 256)
+            → HasNibbles (take 64 (drop (2 * n) src)) nibbles
+            → AddsWithin self.now src dst.old dst.new n (n + 32) }
+    {
+        let lows = self.lower_bytes(nibbles);
+        let highs = self.higher_bytes(nibbles);
         let (first, second) = lanes::interleaved(lows, highs);
         lanes::add_vector(dst, 2 * n, first);
         lanes::add_vector(dst, 2 * n + 32, second);
     }
+}
+
+// the nibbles of the thirty-two words from word n on
+#[inline(always)]
+pub(crate) fn nibbles_at(src: &[u8], n: usize) -> Nibbles
+    requires { 2 * n + 64 ≤ length src.now }
+    ensures { HasNibbles (take 64 (drop (2 * n) src.now)) result }
+{
+    let (low, high) = lanes::words_at(src, 2 * n);
+    Nibbles::new(low, high)
 }
 
 #[inline(always)]
@@ -141,14 +163,20 @@ fn four_looked_up(
     second: u8x32,
     third: u8x32,
     fourth: u8x32,
-    low: u8x32,
-    high: u8x32,
+    nibbles: Nibbles,
 ) -> u8x32
-    ensures { (f g h k : ℕ → ℕ) → IsTable f first
-        → IsTable g second → IsTable h third → IsTable k fourth → result ≡ zip2 (λ x y.
+    ensures { (f g h k : ℕ → ℕ) (low high : List ℕ) → IsTable f first
+        → IsTable g second → IsTable h third → IsTable k fourth
+        → AreNibbles low high nibbles → result ≡ zip2 (λ x y.
         bit_xor (bit_xor (f (x % 16)) (g (x / 16))) (bit_xor (h (y % 16)) (k (y / 16)))) low high }
 {
-    let lower = lanes::sum(lanes::look_low(first, low), lanes::look_high(second, low));
-    let higher = lanes::sum(lanes::look_low(third, high), lanes::look_high(fourth, high));
+    let lower = lanes::sum(
+        lanes::looked_up(first, nibbles.first),
+        lanes::looked_up(second, nibbles.second),
+    );
+    let higher = lanes::sum(
+        lanes::looked_up(third, nibbles.third),
+        lanes::looked_up(fourth, nibbles.fourth),
+    );
     lanes::sum(lower, higher)
 }

@@ -75,20 +75,31 @@ pub(crate) fn higher_bytes(v: u16x32) -> u8x32
     (v >> u16x32::splat(8)).cast::<u8>()
 }
 
-// looks the lower nibble of each lane up
+// the lower nibble of each lane
 #[inline(always)]
-pub(crate) fn look_low(table: u8x32, v: u8x32) -> u8x32
-    ensures { (f : ℕ → ℕ) → IsTable f table → result ≡ map (λ x. f (x % 16)) v }
+pub(crate) fn low_nibbles(v: u8x32) -> u8x32
+    ensures value { result ≡ map (λ x. x % 16) v }
+    ensures small { (i : ℕ) → slice_index result i < 16 }
 {
-    table.swizzle_dyn_within::<16>(v & u8x32::splat(15))
+    v & u8x32::splat(15)
 }
 
-// looks the higher nibble of each lane up
+// the higher nibble of each lane
 #[inline(always)]
-pub(crate) fn look_high(table: u8x32, v: u8x32) -> u8x32
-    ensures { (f : ℕ → ℕ) → IsTable f table → result ≡ map (λ x. f (x / 16)) v }
+pub(crate) fn high_nibbles(v: u8x32) -> u8x32
+    ensures value { result ≡ map (λ x. x / 16) v }
+    ensures small { (i : ℕ) → slice_index result i < 16 }
 {
-    table.swizzle_dyn_within::<16>(v >> u8x32::splat(4))
+    v >> u8x32::splat(4)
+}
+
+// looks each lane up
+#[inline(always)]
+pub(crate) fn looked_up(table: u8x32, v: u8x32) -> u8x32
+    requires { (i : ℕ) → slice_index v i < 16 }
+    ensures { (f : ℕ → ℕ) → IsTable f table → result ≡ map f v }
+{
+    table.swizzle_dyn_within::<16>(v)
 }
 
 #[inline(always)]

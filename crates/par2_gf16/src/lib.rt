@@ -2,12 +2,15 @@
 //! a polynomial over bits, bit i being the coefficient of `x ^ i`, and the sum of two elements is their exclusive or.
 #![tactic(auto)]
 
+mod columns;
 mod doubling;
 mod factor;
 mod lanes;
+mod nibbles;
 mod steps;
 mod tables;
 mod words;
 
+pub use columns::Columns;
 pub use factor::Factor;
 pub use tables::Gf;

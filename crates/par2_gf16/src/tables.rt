@@ -6,6 +6,7 @@ ghost use Rattle.par2_gf16.specs.Products.{IsInverse, AddsProducts};
 ghost use Rattle.par2_gf16.specs.Steps.{AddsWithin};
 ghost use Rattle.par2_gf16.specs.Tables.{AreTables};
 
+use crate::columns::Columns;
 use crate::doubling::doubled;
 use crate::factor::Factor;
 use crate::steps::add_block;
@@ -135,7 +136,7 @@ impl Gf {
         for block in 0..blocks {
             add_block(c, src, dst, 16 * block);
         }
-        self.add_words_from(c, src, dst, 16 * blocks);
+        self.add_words(c, src, dst, 16 * blocks, dst.len() / 2);
     }
 
     /// To each word of `dst`, the lower byte first, adds the product of the factor and the word of `src`. This is for
@@ -150,27 +151,39 @@ impl Gf {
         for block in 0..blocks {
             factor.add_block(src, dst, 32 * block);
         }
-        self.add_words_from(factor.element(), src, dst, 32 * blocks);
+        self.add_words(factor.element(), src, dst, 32 * blocks, dst.len() / 2);
     }
 
-    // adds the products for the words from word `from` on
-    fn add_words_from(&self, c: u16, src: &[u8], dst: &mut [u8], from: usize)
-        requires fits { 2 * from ≤ length dst.old }
-        requires same { length src.now ≡ length dst.old }
-        ensures { AddsWithin c src.now dst.old dst.new from (length dst.old / 2) }
+    /// Adds the product of the factor and each of the text's words to the word of `dst` at its place. This is for texts
+    /// that go to many targets: what can be done without the factor is done once, in the columns.
+    pub fn mul_add_columns(&self, factor: &Factor, columns: &Columns, dst: &mut [u8])
+        requires room { 2 * columns.now.to ≤ length dst.old }
+        ensures { AddsWithin factor.now columns.now.text dst.old dst.new
+            columns.now.from columns.now.to }
     {
-        for i in from..dst.len() / 2 {
+        let behind = columns.add_blocks(factor, dst);
+        self.add_words(factor.element(), columns.text(), dst, behind, columns.end());
+    }
+
+    // Adds the products for the words from one place up to another. Zeros follow a source that ends sooner.
+    fn add_words(&self, c: u16, src: &[u8], dst: &mut [u8], from: usize, to: usize)
+        requires order { from ≤ to }
+        requires room { 2 * to ≤ length dst.old }
+        ensures { AddsWithin c src.now dst.old dst.new from to }
+    {
+        let end = src.len().div_ceil(2).min(to).max(from);
+        for i in from..end {
             self.add_word(c, src, dst, i);
         }
     }
 
     // adds the product for word i
     fn add_word(&self, c: u16, src: &[u8], dst: &mut [u8], i: usize)
-        requires fits { 2 * i + 1 < length dst.old }
-        requires same { length src.now ≡ length dst.old }
+        requires source { 2 * i < length src.now }
+        requires room { 2 * i + 1 < length dst.old }
         ensures { AddsWithin c src.now dst.old dst.new i (i + 1) }
     {
-        let p = self.mul(c, word_at(src, 2 * i));
+        let p = self.mul(c, word_at(src, i));
         add_at(dst, 2 * i, p);
     }
 

@@ -1,6 +1,7 @@
 //! Words in bytes, the lower byte first.
 
 ghost use Rattle.std.specs.Prelude.{◌≡◌, ◌+◌, ◌*◌, ◌/◌, ◌%◌, ◌<◌, length, slice_index, slice_set, bit_xor};
+ghost use Rattle.par2_spec.specs.Slices.{word};
 
 // adds p to the word at byte `at`
 #[inline(always)]
@@ -15,10 +16,16 @@ pub(crate) fn add_at(dst: &mut [u8], at: usize, p: u16)
     dst[at + 1] ^= high;
 }
 
+// Word i. Zero follows a last byte that is half a word.
 #[inline(always)]
-pub(crate) fn word_at(src: &[u8], at: usize) -> u16
-    requires { at + 1 < length src.now }
-    ensures { result ≡ slice_index src.now at + 256 * slice_index src.now (at + 1) }
+pub(crate) fn word_at(src: &[u8], i: usize) -> u16
+    requires { 2 * i < length src.now }
+    ensures { result ≡ word i src.now }
 {
-    u16::from_le_bytes([src[at], src[at + 1]])
+    let high = if 2 * i + 1 < src.len() {
+        src[2 * i + 1]
+    } else {
+        0
+    };
+    u16::from_le_bytes([src[2 * i], high])
 }

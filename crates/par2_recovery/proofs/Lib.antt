@@ -1,7 +1,5 @@
 pub mod RankTests
 pub mod Dots
-pub mod AddsAfter
-pub mod Parts
 pub mod Adding
 pub mod Ranks
 pub mod Combined

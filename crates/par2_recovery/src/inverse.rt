@@ -150,7 +150,7 @@ fn known_factors(
     let texts = coefficient_texts(alloc, gf, kept, numbers)?;
     let sources = borrowed(alloc, &texts)?;
     let zeros = blank(alloc, inverse.len(), 2 * numbers.len())?;
-    let products = with_products(gf, inverse, &sources, zeros, numbers.len());
+    let products = with_products(alloc, gf, inverse, &sources, zeros, numbers.len())?;
     rows_of(alloc, &products)
 }
 
@@ -182,6 +182,6 @@ pub(crate) fn combined(
     let slices = bytes_of(alloc, kept)?;
     fit_texts(&slices);
     let zeros = blank(alloc, inverse.len(), size)?;
-    let sums = with_products(gf, &factors, known, zeros, size / 2);
-    Ok(with_products(gf, &inverse, &slices, sums, size / 2))
+    let sums = with_products(alloc, gf, &factors, known, zeros, size / 2)?;
+    with_products(alloc, gf, &inverse, &slices, sums, size / 2)
 }

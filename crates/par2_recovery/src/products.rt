@@ -1,85 +1,38 @@
 //! Sums of products of factors and texts.
 
-ghost use Rattle.std.specs.Prelude.{◌≡◌, ℕ, ◌+◌, ◌*◌, ◌^◌, ◌<◌, ◌≤◌, length, map, slice_index};
+ghost use Rattle.std.specs.Prelude.{◌≡◌, ℕ, ◌+◌, ◌*◌, ◌^◌, ◌<◌, ◌≤◌, length, map, slice_index, IfOk};
 ghost use Rattle.par2_gf16.specs.Steps.{AddsWithin};
 ghost use Rattle.par2_matrix.specs.Echelon.{OneChanged, list_at, lists_of};
 ghost use Rattle.par2_recovery.specs.Products.{AddsSource, Adds, AreBytes};
 ghost use Rattle.par2_recovery.specs.Views.{texts_of};
 
-use par2_gf16::{Factor, Gf};
+use par2_gf16::{Columns, Factor, Gf};
+use std::alloc::{AllocError, Global};
 
-/// How many words of every text are taken at a time, so that what is written stays in the cache.
+/// How many words of every text are taken at a time, so that a source's nibbles and what is written stay in the caches.
 const BLOCK: usize = 4096;
 
-// Adds the factor times the words of the source to those of the target, both from word `from` on.
-fn add_whole_words(
-    gf: &Gf,
-    factor: &Factor,
-    source: &[u8],
-    target: &mut [u8],
-    from: usize,
-    to: usize,
-)
-    requires order { from ≤ to }
-    requires source { 2 * to ≤ length source.now }
-    requires target { 2 * to ≤ length target.old }
-    ensures { AddsWithin factor.now source.now target.old target.new from to }
-{
-    gf.mul_add_by(
-        factor,
-        &source[2 * from..2 * to],
-        &mut target[2 * from..2 * to],
-    );
-}
-
-// Adds the factor times the last byte of the source, where it is half a word.
-fn add_last_byte(gf: &Gf, factor: &Factor, source: &[u8], target: &mut [u8], at: usize)
-    requires source { length source.now ≡ 2 * at + 1 }
-    requires target { 2 * at + 1 < length target.old }
-    ensures { AddsWithin factor.now source.now target.old target.new at (at + 1) }
-{
-    let last = [source[2 * at], 0];
-    gf.mul_add_by(factor, &last, &mut target[2 * at..2 * (at + 1)]);
-}
-
-// Adds the factor times the words of the source from `from` up to `to` to those of the target. Zeros follow a source
-// that ends sooner.
-fn add_words(gf: &Gf, factor: &Factor, source: &[u8], target: &mut [u8], from: usize, to: usize)
-    requires order { from ≤ to }
-    requires target { 2 * to ≤ length target.old }
-    ensures added { AddsWithin factor.now source.now target.old target.new from to }
+// Adds the factor times the words of the source to those of the target.
+fn add_words(gf: &Gf, factor: &Factor, source: &Columns, target: &mut [u8])
+    requires room { 2 * source.now.to ≤ length target.old }
+    ensures added { AddsWithin factor.now source.now.text target.old target.new
+        source.now.from source.now.to }
     ensures bytes { (k : ℕ) → slice_index target.new k < 2 ^ 8 }
 {
-    let end = source.len().min(2 * to);
-    let whole = end / 2;
-    if whole < from {
-        return;
-    }
-    add_whole_words(gf, factor, source, target, from, whole);
-    if end % 2 == 1 {
-        add_last_byte(gf, factor, source, target, whole);
-    }
+    gf.mul_add_columns(factor, source, target);
 }
 
 // Adds to list r.
-fn add_to(
-    gf: &Gf,
-    lists: &mut [Vec<u8>],
-    r: usize,
-    factor: &Factor,
-    source: &[u8],
-    from: usize,
-    to: usize,
-)
+fn add_to(gf: &Gf, lists: &mut [Vec<u8>], r: usize, factor: &Factor, source: &Columns)
     requires place { r < length lists.old }
-    requires order { from ≤ to }
-    requires room { 2 * to ≤ length (list_at (lists_of lists.old) r) }
+    requires room { 2 * source.now.to ≤ length (list_at (lists_of lists.old) r) }
     ensures changed { OneChanged (lists_of lists.old) (lists_of lists.new) r }
-    ensures added { AddsWithin factor.now source.now
-        (list_at (lists_of lists.old) r) (list_at (lists_of lists.new) r) from to }
+    ensures added { AddsWithin factor.now source.now.text
+        (list_at (lists_of lists.old) r) (list_at (lists_of lists.new) r)
+        source.now.from source.now.to }
     ensures bytes { (k : ℕ) → slice_index (list_at (lists_of lists.new) r) k < 2 ^ 8 }
 {
-    add_words(gf, factor, source, lists[r].as_mut_slice(), from, to);
+    add_words(gf, factor, source, lists[r].as_mut_slice());
 }
 
 #[inline(always)]
@@ -100,27 +53,19 @@ fn factor_at(rows: &[Vec<u16>], r: usize, k: usize) -> u16
 }
 
 // Adds the multiples of a source, which is the k-th one, to all targets.
-fn add_source(
-    gf: &Gf,
-    factors: &[Vec<u16>],
-    k: usize,
-    source: &[u8],
-    targets: &mut [Vec<u8>],
-    from: usize,
-    to: usize,
-)
+fn add_source(gf: &Gf, factors: &[Vec<u16>], k: usize, source: &Columns, targets: &mut [Vec<u8>])
     requires rows { length factors.now ≡ length targets.old }
     requires factors { (r : ℕ)
         → r < length factors.now → k < length (list_at (lists_of factors.now) r) }
-    requires order { from ≤ to }
-    requires room { (r : ℕ)
-        → r < length targets.old → 2 * to ≤ length (list_at (lists_of targets.old) r) }
-    ensures { AddsSource (λ r. slice_index (list_at (lists_of factors.now) r) k) source.now
-        (lists_of targets.old) (lists_of targets.new) from to (length targets.old) }
+    requires room { (r : ℕ) → r < length targets.old
+        → 2 * source.now.to ≤ length (list_at (lists_of targets.old) r) }
+    ensures { AddsSource (λ r. slice_index (list_at (lists_of factors.now) r) k) source.now.text
+        (lists_of targets.old) (lists_of targets.new)
+        source.now.from source.now.to (length targets.old) }
 {
     for r in 0..targets.len() {
         let factor = Factor::new(factor_at(factors, r, k));
-        add_to(gf, targets, r, &factor, source, from, to);
+        add_to(gf, targets, r, &factor, source);
     }
 }
 
@@ -134,71 +79,76 @@ pub(crate) fn source_at<'a>(sources: &[&'a [u8]], k: usize) -> &'a [u8]
 
 // Adds the multiples of all sources, in some columns.
 fn add_columns(
+    alloc: Global,
     gf: &Gf,
     factors: &[Vec<u16>],
     sources: &[&[u8]],
     targets: &mut [Vec<u8>],
     from: usize,
     to: usize,
-)
+) -> Result<(), AllocError>
     requires rows { length factors.now ≡ length targets.old }
     requires factors { (r : ℕ)
         → r < length factors.now → length sources.now ≤ length (list_at (lists_of factors.now) r) }
     requires order { from ≤ to }
     requires room { (r : ℕ)
         → r < length targets.old → 2 * to ≤ length (list_at (lists_of targets.old) r) }
-    ensures { Adds (lists_of factors.now) (texts_of sources.now)
-        (lists_of targets.old) (lists_of targets.new) from to (length sources.now) }
+    ensures { IfOk result (λ _. Adds (lists_of factors.now) (texts_of sources.now)
+        (lists_of targets.old) (lists_of targets.new) from to (length sources.now)) }
 {
     for k in 0..sources.len() {
-        let source = source_at(sources, k);
-        add_source(gf, factors, k, source, targets, from, to);
+        let source = Columns::new(alloc, source_at(sources, k), from, to)?;
+        add_source(gf, factors, k, &source, targets);
     }
+    Ok(())
 }
 
 /// To each of the first `words` words of each target, adds the sum of the sources' words there, each times its factor
 /// in the row of the target. All sources are read once, some columns of all of them at a time.
 fn add_products(
+    alloc: Global,
     gf: &Gf,
     factors: &[Vec<u16>],
     sources: &[&[u8]],
     targets: &mut [Vec<u8>],
     words: usize,
-)
+) -> Result<(), AllocError>
     requires rows { length factors.now ≡ length targets.old }
     requires factors { (r : ℕ)
         → r < length factors.now → length sources.now ≤ length (list_at (lists_of factors.now) r) }
     requires room { (r : ℕ)
         → r < length targets.old → 2 * words ≤ length (list_at (lists_of targets.old) r) }
-    ensures { Adds (lists_of factors.now) (texts_of sources.now)
-        (lists_of targets.old) (lists_of targets.new) 0 words (length sources.now) }
+    ensures { IfOk result (λ _. Adds (lists_of factors.now) (texts_of sources.now)
+        (lists_of targets.old) (lists_of targets.new) 0 words (length sources.now)) }
 {
     for block in 0..words.div_ceil(BLOCK) {
         let from = block * BLOCK;
         let to = from + BLOCK.min(words - from);
-        add_columns(gf, factors, sources, targets, from, to);
+        add_columns(alloc, gf, factors, sources, targets, from, to)?;
     }
+    Ok(())
 }
 
 /// The texts after `add_products`.
 pub(crate) fn with_products(
+    alloc: Global,
     gf: &Gf,
     factors: &[Vec<u16>],
     sources: &[&[u8]],
     targets: Vec<Vec<u8>>,
     words: usize,
-) -> Vec<Vec<u8>>
+) -> Result<Vec<Vec<u8>>, AllocError>
     requires rows { length factors.now ≡ length targets.items }
     requires factors { (r : ℕ)
         → r < length factors.now → length sources.now ≤ length (list_at (lists_of factors.now) r) }
     requires room { (r : ℕ)
         → r < length targets.items → 2 * words ≤ length (list_at (lists_of targets.items) r) }
-    ensures { Adds (lists_of factors.now) (texts_of sources.now)
-        (lists_of targets.items) (lists_of result.items) 0 words (length sources.now) }
+    ensures { IfOk result (λ sums. Adds (lists_of factors.now) (texts_of sources.now)
+        (lists_of targets.items) (lists_of sums.items) 0 words (length sources.now)) }
 {
     let mut sums = targets;
-    add_products(gf, factors, sources, sums.as_mut_slice(), words);
-    sums
+    add_products(alloc, gf, factors, sources, sums.as_mut_slice(), words)?;
+    Ok(sums)
 }
 
 /// What the type says of each byte of each text, for proofs.

@@ -83,7 +83,7 @@ fn recovery_of(
 {
     let factors = factors(alloc, gf, slices.len(), first, count)?;
     let zeros = blank(alloc, count as usize, size)?;
-    Ok(with_products(gf, &factors, slices, zeros, size / 2))
+    with_products(alloc, gf, &factors, slices, zeros, size / 2)
 }
 
 // What the type says of each byte, for proofs.

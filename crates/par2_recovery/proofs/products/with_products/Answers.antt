@@ -12,5 +12,5 @@ returns c =
     let F = lists_of c.args.factors.now in
     let X = texts_of c.args.sources.now in
     let from_old : Adds F X (lists_of c.args.targets.items) (lists_of new) 0 c.args.words (length c.args.sources.now) =
-    subst (λ xs. Adds F X (lists_of xs) (lists_of new) 0 c.args.words (length c.args.sources.now)) c.as_mut_slice.ensures.value c.add_products.ensures in
+    subst (λ xs. Adds F X (lists_of xs) (lists_of new) 0 c.args.words (length c.args.sources.now)) c.as_mut_slice.ensures.value c.in_ok-add_products.ensures in
     subst (λ xs. Adds F X (lists_of c.args.targets.items) (lists_of xs) 0 c.args.words (length c.args.sources.now)) (sym (with_items_is c.args.targets new size)) from_old

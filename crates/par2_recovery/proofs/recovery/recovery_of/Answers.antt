@@ -1,6 +1,8 @@
 use Rattle.std.proofs.Common.{◌≡◌, ◌<◌, ◌≤◌, ◌*◌, ◌/◌, ◌∙◌, sym, ap, subst, map, arith, length}
 use Rattle.std.specs.List.{range_with_len}
-use Rattle.par2_spec.specs.Recovery.{coefficients}
+use Rattle.std.proofs.lemmas.Result.{IfOk-weaker}
+use Rattle.par2_spec.specs.Recovery.{coefficients, recovery}
+use Rattle.par2_spec.specs.Slices.{padded}
 use Rattle.par2_matrix.specs.Echelon.{lists_of, list_at}
 use Rattle.par2_matrix.proofs.Words.{length-lists_of}
 use Rattle.par2_recovery.specs.Products.{Adds}
@@ -31,9 +33,15 @@ returns c =
     let F = lists_of c.in_ok-factors.factors.items in
     let X = texts_of c.args.slices.now in
     let n : length c.args.slices.now ≡ length X = sym (length-texts_of c.args.slices.now) in
-    let added : Adds F X (lists_of c.in_ok-zeros.zeros.items) (lists_of c.with_products.result.items) 0 (c.args.size / 2) (length X) =
-    subst (λ m. Adds F X (lists_of c.in_ok-zeros.zeros.items) (lists_of c.with_products.result.items) 0 (c.args.size / 2) m) n
-    (subst (λ xs. Adds (lists_of xs) X (lists_of c.in_ok-zeros.zeros.items) (lists_of c.with_products.result.items) 0 (c.args.size / 2) (length c.args.slices.now)) c.deref.ensures.value c.with_products.ensures) in
-    are_recovery c.args.size c.args.first c.args.count F X (lists_of c.in_ok-zeros.zeros.items) (lists_of c.with_products.result.items) c.requires.even c.requires.bytes
+    let zeros = lists_of c.in_ok-zeros.zeros.items in
+    IfOk-weaker c.with_products.result
+    (λ sums. Adds (lists_of c.deref.result.now) X zeros (lists_of sums.items) 0 (c.args.size / 2) (length c.args.slices.now))
+    (λ texts. lists_of texts.items ≡ map (recovery c.args.size (map (padded c.args.size) X)) (range_with_len c.args.first c.args.count))
+    (λ sums sum.
+    let added : Adds F X zeros (lists_of sums.items) 0 (c.args.size / 2) (length X) =
+    subst (λ m. Adds F X zeros (lists_of sums.items) 0 (c.args.size / 2) m) n
+    (subst (λ xs. Adds (lists_of xs) X zeros (lists_of sums.items) 0 (c.args.size / 2) (length c.args.slices.now)) c.deref.ensures.value sum) in
+    are_recovery c.args.size c.args.first c.args.count F X zeros (lists_of sums.items) c.requires.even c.requires.bytes
     (subst (λ m. F ≡ map (coefficients (range_with_len 0 m)) (range_with_len c.args.first c.args.count)) n c.in_ok-factors.ensures)
-    c.in_ok-zeros.ensures added
+    c.in_ok-zeros.ensures added)
+    c.with_products.ensures

@@ -1,13 +1,4 @@
-use Rattle.std.proofs.Common.{◌++◌, ◌*◌}
-use Rattle.par2_gf16.proofs.BlockLaws.{block_added, products_in_bytes, both_added}
 use Rattle.par2_gf16.proofs.factor.Factor.add_block.Goals as goal
 
 pub returns : goal.returns
-returns c =
-    let first = c.interleaved.result.0 in
-    let second = c.interleaved.result.1 in
-    block_added c.args.self.now 32 c.args.src.now c.args.dst.now c.add_vector-2.new.dst (first ++ second) c.args.n
-    (products_in_bytes c.args.self.now c.args.src.now c.words_at.result.0 c.words_at.result.1 c.lower_bytes-lows.result c.higher_bytes-highs.result (first ++ second) c.args.n
-    c.lower_bytes-lows.ensures.fits c.type_inv.src
-    c.words_at.ensures c.lower_bytes-lows.ensures.value c.higher_bytes-highs.ensures c.interleaved.ensures)
-    (both_added c.args.dst.now c.add_vector.new.dst c.add_vector-2.new.dst first second (2 * c.args.n) c.add_vector.ensures c.add_vector-2.ensures)
+returns c = c.add_nibbles.ensures c.args.src.now (λ i. (c.type_inv.src i).fits) c.nibbles_at.ensures

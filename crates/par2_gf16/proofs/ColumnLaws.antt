@@ -1,0 +1,19 @@
+-- Columns, block by block.
+use Rattle.std.proofs.Common.{ℕ, ◌+◌, ◌*◌, ◌<◌, ◌≡◌, inl, inr, sym, ap, subst, ◌∙◌, ◌-◌, arith, List, [], ◌∷◌, ◌++◌, length, length-append, get_or}
+use Rattle.std.proofs.lemmas.Bool.{cases_eq}
+use Rattle.std.proofs.lemmas.List.{get_or_append_left, get_or-append_right}
+use Rattle.std.specs.Prelude.{take, drop}
+use Rattle.par2_gf16.specs.Nibbles.{HasNibbles, AreSplit}
+use Rattle.par2_gf16.specs.declared.nibbles.Nibbles.{Nibbles}
+
+-- one block more
+pub next_block : (text : List ℕ) (from n : ℕ) (blocks : List Nibbles) (block : Nibbles) → length blocks ≡ n → AreSplit text from blocks
+    → HasNibbles (take 64 (drop (2 * (from + 32 * n)) text)) block → AreSplit text from (blocks ++ block ∷ [])
+next_block text from n blocks block count split has = λ j none low. elim (cases_eq j n) [
+  | inl same ↦
+      subst (λ k. HasNibbles (take 64 (drop (2 * (from + 32 * k)) text)) (get_or (blocks ++ block ∷ []) k none)) (sym same)
+      (subst (λ b. HasNibbles (take 64 (drop (2 * (from + 32 * n)) text)) b) (sym (get_or-append_right blocks (block ∷ []) n n none count (omega arith) ∙ ap (λ i. get_or (block ∷ []) i none) (let e : n - n ≡ 0 = omega arith in e))) has)
+  | inr other ↦
+      let before : j < length blocks = omega (arith, length-append blocks (block ∷ []), count) in
+      subst (λ b. HasNibbles (take 64 (drop (2 * (from + 32 * j)) text)) b) (sym (get_or_append_left blocks (block ∷ []) none j before)) (split j none before)
+]

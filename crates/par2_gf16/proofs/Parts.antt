@@ -1,0 +1,41 @@
+-- Words that are added one part after another, and where a source ends.
+use Rattle.std.proofs.Common.{ℕ, ◌+◌, ◌*◌, ◌<◌, ◌≤◌, ◌≡◌, inl, inr, refl, sym, ap, ap₂, ◌∙◌, arith, List, length, bit_xor}
+use Rattle.std.proofs.lemmas.Bool.{cases_lt}
+use Rattle.std.proofs.lemmas.List.{get_or_past}
+use Rattle.std.specs.Int.Bits.{xor_zero_r}
+use Rattle.par2_spec.specs.Field.{mul}
+use Rattle.par2_spec.specs.Slices.{word}
+use Rattle.par2_spec.proofs.FieldOrder.{product-zero}
+use Rattle.par2_gf16.specs.Steps.{AddsWithin}
+
+-- one part after another
+pub adds_after : (c : ℕ) (src old mid new : List ℕ) (a b d : ℕ) → a ≤ b → b ≤ d → AddsWithin c src old mid a b → AddsWithin c src mid new b d → AddsWithin c src old new a d
+adds_after c src old mid new a b d ab bd first second = record {
+  same_length = second.same_length ∙ first.same_length;
+  inside = λ i g l room. go i g l room;
+  below = λ i l. second.below i (omega arith) ∙ first.below i l;
+  above = λ i l. second.above i l ∙ first.above i (omega arith);
+}
+  where
+    go : (i : ℕ) → a ≤ i → i < d → 2 * i + 1 < length old → word i new ≡ bit_xor (word i old) (mul c (word i src))
+    go i g l room = elim (cases_lt i b) [
+      | inl before ↦ second.below i before ∙ first.inside i g before room
+      | inr after ↦ second.inside i after l (omega (arith, first.same_length)) ∙ ap (λ v. bit_xor v (mul c (word i src))) (first.above i after)
+    ]
+
+-- past the end of a source nothing is added
+pub nothing_past : (c : ℕ) (src old : List ℕ) (from to : ℕ) → ((i : ℕ) → from ≤ i → i < to → length src ≤ 2 * i) → AddsWithin c src old old from to
+nothing_past c src old from to h = record {
+  same_length = refl;
+  inside = λ i low high fits. sym (ap (λ x. bit_xor (word i old) x) (ap (mul c) (none i (h i low high)) ∙ product-zero c) ∙ xor_zero_r (word i old));
+  below = λ i low. refl;
+  above = λ i low. refl;
+}
+  where
+    none : (i : ℕ) → length src ≤ 2 * i → word i src ≡ 0
+    none i past = ap₂ (λ x y. x + 256 * y) (get_or_past src (2 * i) 0 past) (get_or_past src (2 * i + 1) 0 (omega arith))
+
+-- so the words up to its end are all
+pub up_to_end : (c : ℕ) (src old new : List ℕ) (from end to : ℕ) → from ≤ end → end ≤ to → ((i : ℕ) → end ≤ i → i < to → length src ≤ 2 * i)
+    → AddsWithin c src old new from end → AddsWithin c src old new from to
+up_to_end c src old new from end to low high past added = adds_after c src old new new from end to low high added (nothing_past c src new end to past)

@@ -1,0 +1,25 @@
+use Rattle.std.proofs.Common.{◌+◌, ◌*◌, ◌≡◌, ◌<◌, subst, sym, arith, length}
+use Rattle.std.specs.Prelude.{take, drop}
+use Rattle.par2_gf16.specs.Steps.{AddsWithin}
+use Rattle.par2_gf16.specs.Columns.{WordRange}
+use Rattle.par2_gf16.specs.Nibbles.{HasNibbles}
+use Rattle.par2_gf16.proofs.Parts.{adds_after}
+use Rattle.par2_gf16.proofs.columns.Columns.add_blocks.Goals as goal
+
+pub loop-block-preserved : goal.loop-block-preserved
+loop-block-preserved c =
+    let it = c.self.inside in
+    let n = c.loop-block.block in
+    let at = it.from + 32 * n in
+    let factor = c.args.factor.now in
+    let old = c.args.dst.now in
+    let mid = c.loop-block.dst in
+    let new = c.add_nibbles.new.dst in
+    let low : n < length it.blocks.items = omega (arith, c.loop-block-test.true, c.len-block-end.ensures) in
+    let has = subst (λ b. HasNibbles (take 64 (drop (2 * at) it.text.now)) b) (sym c.index.ensures) (c.self.invariant.split n c.index.result.now low) in
+    let before : AddsWithin factor it.text.now old mid it.from at =
+    subst (λ (w : WordRange). AddsWithin factor w.text old mid w.from (w.from + 32 * n)) (sym c.self.view_is) c.loop-block.invariant in
+    let after = adds_after factor it.text.now old mid new it.from at (at + 32) (omega arith) (omega arith) before (c.add_nibbles.ensures it.text.now c.self.invariant.fits has) in
+    let is : at + 32 ≡ it.from + 32 * (n + 1) = omega arith in
+    subst (λ (w : WordRange). AddsWithin factor w.text old new w.from (w.from + 32 * (n + 1))) c.self.view_is
+    (subst (λ to. AddsWithin factor it.text.now old new it.from to) is after)
