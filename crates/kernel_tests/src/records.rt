@@ -1,7 +1,7 @@
 //! What a set says of a file.
 
 use par2_packets::{FileRecord, Pair};
-use par2_records::file_record;
+use par2_recovery::file_record;
 use std::alloc::{AllocError, Global};
 use std::test::Fail;
 

@@ -3,6 +3,7 @@
 
 mod elements;
 mod exponents;
+mod file_records;
 mod inverse;
 mod products;
 mod rebuild_slices;
@@ -10,6 +11,7 @@ mod recovery;
 mod set_record;
 
 pub use exponents::rank;
+pub use file_records::file_record;
 pub use rebuild_slices::{RebuildFault, Survivors, rebuild};
 pub use recovery::{recovery_slice, recovery_slices};
 pub use set_record::{SetRecord, file_records};

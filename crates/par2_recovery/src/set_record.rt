@@ -14,11 +14,11 @@ ghost use Rattle.par2_spec.specs.Commands.{files_of};
 ghost use Rattle.par2_packets.specs.View.{id_number};
 ghost use Rattle.par2_recovery.specs.Views.{AreRecords, names_of};
 
+use crate::file_records::file_record_by_md5;
 use crate::recovery::bytes_of;
 use par2_digests::text_digests;
 use par2_folder::{Folder, Name};
 use par2_packets::{DuplicateId, FileRecord, sort_ids};
-use par2_records::file_record_by_md5;
 use std::alloc::{AllocError, Global};
 
 /// What a set says of its files.

@@ -1,5 +1,4 @@
 //! What a set says of a file, made from the file's bytes.
-#![tactic(auto)]
 
 ghost use Rattle.std.specs.Prelude.{◌≡◌, ◌≤◌, take, IfOk};
 ghost use Rattle.md5.specs.Md5.{md5};
@@ -11,7 +10,7 @@ use par2_packets::{FileRecord, file_id};
 use par2_slices::pairs_of;
 use std::alloc::{AllocError, Global};
 
-/// How many bytes of a file have a digest of their own.
+// How many bytes of a file have a digest of their own.
 const HEAD: usize = 16384;
 
 // The first n bytes, or all where there are fewer.
@@ -21,9 +20,9 @@ fn first_bytes(bytes: &[u8], n: usize) -> &[u8]
     if n < bytes.len() { &bytes[..n] } else { bytes }
 }
 
-/// What a set of slice size `s` says of the file of this name and these bytes, whose MD5 is given.
+// What a set of slice size `s` says of the file of this name and these bytes, whose MD5 is given.
 #[tactic(auto, unfolding(par2_spec::specs::Volumes::record_of))]
-pub fn file_record_by_md5(
+pub(crate) fn file_record_by_md5(
     alloc: Global,
     name: &str,
     bytes: &[u8],
