@@ -5,5 +5,6 @@ pub mod Steps
 pub mod Filling
 pub mod Below
 mod Disks
+mod Lent
 pub mod Snapshots
 pub mod Walks

@@ -5,5 +5,6 @@ pub mod Directories
 pub mod Disk
 pub mod Fuse
 pub mod Below
+pub mod Lent
 pub mod Snapshots
 pub mod Walks

@@ -3,6 +3,7 @@
 
 mod bytes;
 mod change;
+mod changes;
 mod current;
 mod directory;
 mod disk;
@@ -21,6 +22,7 @@ mod walk;
 
 pub use bytes::Bytes;
 pub use change::Change;
+pub use changes::{Changes, copies_of};
 pub use disk::DiskStore;
 pub use failures::Failures;
 pub use fingerprint::fingerprints_along;

@@ -1,8 +1,8 @@
 //! One folder, the changes that lead back, and those that lead forward again.
 use crate::prepared::Task;
-use crate::spelling::{copies_of, lent, spell_action};
+use crate::spelling::{lent, spell_action};
 use crate::{Changes, Journals, Prepared, Steps};
-use par2_folder::{Change, Folder};
+use par2_folder::{Change, Folder, copies_of};
 use par2_journal_bytes::{JournalParts, Version, encode};
 use std::alloc::{AllocError, Global};
 use std::marker::Model;

@@ -5,10 +5,9 @@ ghost use Rattle.par2_spec.specs.Folders.{fingerprint};
 ghost use Rattle.par2_spec.specs.Journals.{Spells};
 ghost use Rattle.par2_journal_bytes.specs.Views.{changes_of, lent_entries_of};
 ghost use Rattle.par2_journal.specs.Written.{SpellsWhere, HasNext, entries_with, halfway_with, settled_with};
-ghost use Rattle.par2_folder.specs.Views.{change_of};
 
 use crate::Changes;
-use par2_folder::{Bytes, Change, Folder, fingerprints_along};
+use par2_folder::{Change, Folder, fingerprints_along};
 use par2_journal_bytes::{HalfwayParts, JournalParts, Version, encode};
 use std::alloc::{AllocError, Global};
 
@@ -65,33 +64,6 @@ pub(crate) fn pass_through(
         ≡ map fingerprint (folders_after folder.old.files (changes_of changes.old))) }
 {
     Ok(Fingerprints::along(alloc, folder, changes)?.after_each)
-}
-
-fn copy_of(alloc: Global, change: &Change) -> Result<Change, AllocError>
-    ensures { IfOk result (λ copy. change_of copy ≡ change_of change.now) }
-{
-    match change {
-        Change::Write(name, bytes) => Ok(Change::Write(
-            name.copied(),
-            Bytes::copy_of(alloc, bytes.as_slice())?,
-        )),
-        Change::Replace(name, bytes) => Ok(Change::Replace(
-            name.copied(),
-            Bytes::copy_of(alloc, bytes.as_slice())?,
-        )),
-        Change::Rename(from, to) => Ok(Change::Rename(from.copied(), to.copied())),
-        Change::Remove(name) => Ok(Change::Remove(name.copied())),
-    }
-}
-
-pub(crate) fn copies_of(alloc: Global, changes: &[Change]) -> Result<Vec<Change>, AllocError>
-    ensures { IfOk result (λ copies. changes_of copies.items ≡ changes_of changes.now) }
-{
-    let mut copies = Vec::new(alloc);
-    for change in changes {
-        copies.push(copy_of(alloc, change)?)?;
-    }
-    Ok(copies)
 }
 
 // The entries, lent: no bytes are copied. They are lent for as long as the reference to them, since the parts of a

@@ -14,8 +14,8 @@ ghost use Rattle.par2_journal.specs.Opened.{session_at, session_before, way_left
 
 use crate::Session;
 use crate::opening::{can_apply, session_from};
-use crate::spelling::{copies_of, pass_through};
-use par2_folder::{Change, Folder};
+use crate::spelling::pass_through;
+use par2_folder::{Change, Folder, copies_of};
 use par2_spec::JournalFault;
 use std::alloc::{AllocError, Global};
 

@@ -3,7 +3,6 @@ mod Choices
 mod Given
 mod Ids
 mod IndexBytes
-mod Lent
 mod Listed
 mod Lost
 mod Numbered

@@ -1,6 +1,5 @@
 pub mod Causes
 pub mod Findings
-pub mod Lent
 pub mod Matches
 pub mod Outputs
 pub mod Parts

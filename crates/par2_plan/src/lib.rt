@@ -2,7 +2,6 @@
 #![tactic(auto)]
 
 mod candidates;
-mod changes;
 mod create;
 mod finding;
 mod index;
@@ -19,8 +18,8 @@ mod report;
 mod verify;
 mod words;
 
-pub use changes::Changes;
 pub use create::plan_create;
+pub use par2_folder::Changes;
 pub use par2_spec::{CreateArgs, Fault, Verdict};
 pub use purge::plan_purge;
 pub use repair::plan_repair;

@@ -2,9 +2,9 @@ use Rattle.std.proofs.Common.{List, map, refl, ap, ◌∙◌}
 use Rattle.par2_spec.specs.Changes as defined
 use Rattle.par2_folder.specs.Views.{change_of}
 use Rattle.par2_folder.specs.declared.change.Change.{Change}
-use Rattle.par2_plan.specs.Lent.{with_changes}
-use Rattle.par2_plan.proofs.Lent.{refilled}
-use Rattle.par2_plan.proofs.changes.Changes.as_mut_slice.Goals as goal
+use Rattle.par2_folder.specs.Lent.{with_changes}
+use Rattle.par2_folder.proofs.Lent.{refilled}
+use Rattle.par2_folder.proofs.changes.Changes.as_mut_slice.Goals as goal
 
 pub returns : goal.returns
 returns c =

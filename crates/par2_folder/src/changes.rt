@@ -1,5 +1,8 @@
-//! A list of changes.
-use par2_folder::{Change, Folder};
+//! Lists of changes.
+ghost use Rattle.std.specs.Prelude.{◌≡◌, map, IfOk};
+ghost use Rattle.par2_folder.specs.Views.{change_of};
+
+use crate::{Change, Folder};
 use std::alloc::{AllocError, Global};
 use std::marker::Model;
 
@@ -28,7 +31,7 @@ impl Changes {
     ghost use Rattle.std.specs.Borrow.{sem};
     ghost use Rattle.par2_spec.specs.Changes.{takes_all, state_after_all, way_back};
     ghost use Rattle.par2_folder.specs.Views.{change_of};
-    ghost use Rattle.par2_plan.specs.Lent.{LendsChanges};
+    ghost use Rattle.par2_folder.specs.Lent.{LendsChanges};
 
     /// No change.
     pub fn new(alloc: Global) -> Self
@@ -84,4 +87,15 @@ impl Changes {
     {
         folder.apply_all(&mut self.items)
     }
+}
+
+/// Copies of the changes, in order.
+pub fn copies_of(alloc: Global, changes: &[Change]) -> Result<Vec<Change>, AllocError>
+    ensures { IfOk result (λ copies. map change_of copies.items ≡ map change_of changes.now) }
+{
+    let mut copies = Vec::new(alloc);
+    for change in changes {
+        copies.push(Change::copy_of(alloc, change)?)?;
+    }
+    Ok(copies)
 }

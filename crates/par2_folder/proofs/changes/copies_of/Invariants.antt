@@ -1,0 +1,6 @@
+use Rattle.std.proofs.Common.{◌≡◌, map, take}
+use Rattle.par2_folder.specs.Views.{change_of}
+use Rattle.par2_folder.proofs.changes.copies_of.Given as goal
+
+abbrev pub invariant-loop-change : goal.invariant-loop-change
+invariant-loop-change l = map change_of l.copies.items ≡ map change_of (take l.change-index l.changes)
