@@ -1,6 +1,6 @@
 -- The base and the further files that are there.
 use Rattle.std.proofs.Common.{◌≡◌, ℕ, ◌+◌, ◌<◌, ◌^◌, List, [], ◌∷◌, map, refl, sym, ap, ◌∙◌, Bool, true, false, not, cond, arith, IsTrue, length, ◌⊎◌, subst}
-use Rattle.std.specs.Prelude.{Option, Some, None, Result, Ok, Err, option_map, is_ok, IsOk}
+use Rattle.std.specs.Prelude.{Option, Some, None, Result, Ok, Err, IfErr, option_map, is_ok, IsOk}
 use Rattle.std.specs.List.{AllByRecursion, position_from}
 use Rattle.std.specs.Str.{bytes_eq}
 use Rattle.std.proofs.lemmas.Bool.{or_from, false_from_ne_true}
@@ -22,6 +22,11 @@ use Rattle.par2_plan.specs.Readings.{present_from}
 pub passed_on : {X Y : Type 0} (view : X → Y) (r : Result X Fault) (whole : Result Y Fault) (fault : Fault)
     → (y : Fault) × (r ≡ Err y) × (y ≡ fault) → (fault ≡ Memory) ⊎ (whole ≡ Err fault) → Gives view r whole
 passed_on view r whole fault p h = subst (λ x. Gives view x whole) (sym (p.1 ∙ ap Err p.2)) h
+
+-- the same of a cause that holds of the step's fault
+pub refused_so : {X : Type 0} (r : Result X Fault) (Cause : Fault → Type 0) (fault : Fault)
+    → (y : Fault) × (r ≡ Err y) × (y ≡ fault) → Cause fault → IfErr r Cause
+refused_so r Cause fault p h = subst (λ x. IfErr x Cause) (sym (p.1 ∙ ap Err p.2)) h
 
 -- ---- what is no name is no file's
 

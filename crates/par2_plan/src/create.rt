@@ -36,14 +36,8 @@ fn set_of_inputs(alloc: Global, folder: &Folder, args: &CreateArgs) -> Result<Se
     ensures order { IfOk result (λ set. files_of folder.now.files (names_of set)
         ≡ in_id_order (files_of folder.now.files (map string_bytes args.now.inputs.items))) }
 {
-    let names = match input_names(alloc, &args.inputs) {
-        Ok(names) => names,
-        Err(fault) => return Err(fault),
-    };
-    match no_duplicate(alloc, &names) {
-        Ok(()) => {}
-        Err(fault) => return Err(fault),
-    }
+    let names = input_names(alloc, &args.inputs)?;
+    no_duplicate(alloc, &names)?;
     if let Some(fault) = files_fault(folder, &names, args.slice) {
         return Err(fault);
     }
@@ -51,10 +45,7 @@ fn set_of_inputs(alloc: Global, folder: &Folder, args: &CreateArgs) -> Result<Se
         Ok(records) => records,
         Err(AllocError) => return Err(Fault::Memory),
     };
-    match set_of(records, args.slice) {
-        Ok(set) => Ok(set),
-        Err(fault) => Err(fault),
-    }
+    set_of(records, args.slice)
 }
 
 // The changes that write the outputs of a create with which nothing is wrong.
@@ -96,18 +87,9 @@ pub fn plan_create(alloc: Global, folder: &Folder, args: &CreateArgs) -> Result<
     ensures leads { IfOk result (λ changes. effects folder.now.files changes
         ≡ after folder.now.files (Create (create_args_of args.now))) }
 {
-    let base = match index_name(args) {
-        Ok(base) => base,
-        Err(fault) => return Err(fault),
-    };
-    let set = match set_of_inputs(alloc, folder, args) {
-        Ok(set) => set,
-        Err(fault) => return Err(fault),
-    };
-    let volumes = match volumes(alloc, &base, args.first, args.count) {
-        Ok(volumes) => volumes,
-        Err(fault) => return Err(fault),
-    };
+    let base = index_name(args)?;
+    let set = set_of_inputs(alloc, folder, args)?;
+    let volumes = volumes(alloc, &base, args.first, args.count)?;
     if let Some(fault) = there_already(folder, args.overwrite, &base, &volumes) {
         return Err(fault);
     }

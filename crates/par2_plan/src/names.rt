@@ -102,10 +102,8 @@ fn volume_at(alloc: Global, base: &Name, first: u32, count: u32, i: u32) -> Resu
 {
     let first = first + volumes_before(i);
     let count = volume_size(count, i);
-    match volume_name(alloc, base, first, count) {
-        Ok(name) => Ok(Volume { name, first, count }),
-        Err(fault) => Err(fault),
-    }
+    let name = volume_name(alloc, base, first, count)?;
+    Ok(Volume { name, first, count })
 }
 
 // Adds volume i, where there is one.
@@ -130,10 +128,7 @@ fn add_volume(
     if volumes_before(i) >= count {
         return Ok(());
     }
-    let volume = match volume_at(alloc, base, first, count, i) {
-        Ok(volume) => volume,
-        Err(fault) => return Err(fault),
-    };
+    let volume = volume_at(alloc, base, first, count, i)?;
     match volumes.push(volume) {
         Ok(()) => Ok(()),
         Err(AllocFailed { .. }) => Err(Fault::Memory),
@@ -152,10 +147,7 @@ pub fn volumes(alloc: Global, base: &Name, first: u32, count: u32) -> Result<Vec
 {
     let mut volumes = Vec::new(alloc);
     for i in 0..MOST_VOLUMES {
-        match add_volume(alloc, &mut volumes, base, first, count, i) {
-            Ok(()) => {}
-            Err(fault) => return Err(fault),
-        }
+        add_volume(alloc, &mut volumes, base, first, count, i)?;
     }
     Ok(volumes)
 }

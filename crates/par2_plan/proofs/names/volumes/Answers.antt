@@ -1,8 +1,11 @@
 use Rattle.std.proofs.Common.{◌≡◌, ◌++◌, ◌∙◌, inl, inr, sym, ap, subst, None, Some, ◌⊎◌, arith}
+use Rattle.std.proofs.lemmas.Result.{err_from_is_err_and}
+use Rattle.par2_spec.specs.declared.Fault.{Fault}
 use Rattle.par2_spec.specs.declared.Fault.TheVariants.{Memory}
 use Rattle.par2_plan.specs.Causes.{long_name}
 use Rattle.par2_plan.specs.Outputs.{volume_if, volumes_of, names_of}
 use Rattle.par2_plan.proofs.Numbered.{volumes_below, volumes_more, none_long, one_is_long}
+use Rattle.par2_plan.proofs.Present.{refused_so}
 use Rattle.par2_plan.proofs.names.volumes.Goals as goal
 
 pub loop-i-preserved : goal.loop-i-preserved
@@ -12,17 +15,20 @@ loop-i-preserved c =
     let count = c.args.count in
     let i = c.loop-i.i in
     let before = volumes_below base first count i in (
-      c.in-Ok.ensures.volumes ∙ ap (λ vs. vs ++ volume_if base first count i) c.loop-i.invariant.0 ∙ sym (volumes_more base first count i),
-      subst (λ vs. long_name (names_of vs) ≡ None) (sym (volumes_more base first count i)) (none_long before (volume_if base first count i) c.loop-i.invariant.1 c.in-Ok.ensures.accepted),
+      c.in_ok-add_volume.ensures.volumes ∙ ap (λ vs. vs ++ volume_if base first count i) c.loop-i.invariant.0 ∙ sym (volumes_more base first count i),
+      subst (λ vs. long_name (names_of vs) ≡ None) (sym (volumes_more base first count i)) (none_long before (volume_if base first count i) c.loop-i.invariant.1 c.in_ok-add_volume.ensures.accepted),
     )
 
 pub returns-clause-accepted : goal.returns-clause-accepted
 returns-clause-accepted c =
     subst (λ i. long_name (names_of (volumes_below c.args.base.now c.args.first c.args.count i)) ≡ None) (let e : c.loop-i.i ≡ 17 = omega arith in e) c.loop-i.invariant.1
 
-pub returns-in-Err-clause-refused : goal.returns-in-Err-clause-refused
-returns-in-Err-clause-refused c =
-    elim c.in-Err.ensures.refused as (λ _. (c.in-Err.fault ≡ Memory) ⊎ (long_name (names_of (volumes_of c.args.base.now c.args.first c.args.count)) ≡ Some c.in-Err.fault)) [
+pub returns-in_err-add_volume-clause-refused : goal.returns-in_err-add_volume-clause-refused
+returns-in_err-add_volume-clause-refused c =
+    let fault : Fault = c.in_err-add_volume.field-0.0 in
+    let IsCause : Fault → Type 0 = (λ fault. (fault ≡ Memory) ⊎ (long_name (names_of (volumes_of c.args.base.now c.args.first c.args.count)) ≡ Some fault)) in
+    refused_so _ IsCause fault (err_from_is_err_and c.from_residual.result c.from_residual.ensures.1)
+    (elim c.in_err-add_volume.ensures.refused as (λ _. IsCause fault) [
       | inl memory ↦ inl memory
-      | inr long ↦ inr (one_is_long c.args.base.now c.args.first c.args.count c.loop-i.i c.in-Err.fault c.loop-i-test.true long)
-    ]
+      | inr long ↦ inr (one_is_long c.args.base.now c.args.first c.args.count c.loop-i.i fault c.loop-i-test.true long)
+    ])
