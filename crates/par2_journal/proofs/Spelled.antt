@@ -2,7 +2,7 @@
 use Rattle.std.proofs.Common.{◌≡◌, ◌≢◌, ℕ, zero, suc, ◌+◌, ◌-◌, ◌<◌, ◌≤◌, List, [], ◌∷◌, ◌++◌, length, map, take, drop, get_or, set, Option, Some, None, Result, Ok, Err, Vec, true, refl, sym, ap, subst, ◌∙◌, append-nil, length-set, arith}
 use Rattle.std.specs.Prelude.{reverse, IfOk}
 use Rattle.std.specs.declared.alloc.Global.{Global}
-use Rattle.std.proofs.lemmas.List.{reverse-reverse, take-append-drop, length-reverse, length-take-le, reverse-append, get_or_default, drop_all, map-append, map-set, take-map}
+use Rattle.std.proofs.lemmas.List.{reverse-reverse, take-append-drop, length-reverse, length-take-le, reverse-append, get_or_default, drop_all, map-append, take-map}
 use Rattle.par2_spec.specs.Folders.{Folder, fingerprint}
 use Rattle.par2_spec.specs.Changes.{Change, FolderState, effect, folders_after, state_after_all, takes_all, way_back}
 use Rattle.par2_spec.specs.Commands.{Action}
@@ -11,9 +11,8 @@ use Rattle.par2_spec.specs.Journals.{Journal, Spells}
 use Rattle.par2_spec.specs.Opening.{settled_journal, halfway_journal, halfway_where, journals_of}
 use Rattle.par2_spec.specs.declared.Version.TheVariants.{Two}
 use Rattle.par2_journal.specs.Ready.{Kind, Changing, Undoing, Redoing, Ready, IsReady, CanBe, next_of, changes_of, committed}
-use Rattle.par2_journal.specs.Written.{SpellsWhere, AreSpelled, HasNext, turn_of, entries_with, halfway_with, settled_with}
+use Rattle.par2_journal.specs.Written.{Turn, SpellsWhere, AreSpelled, HasNext, turn_of, entries_with, halfway_with, settled_with}
 use Rattle.par2_journal.specs.declared.spelling.Journals.{Journals}
-use Rattle.par2_journal.specs.declared.spelling.Turn.{Turn}
 use Rattle.par2_spec.proofs.SessionLaws.{next_taken}
 use Rattle.par2_journal.proofs.Acting.{same_session}
 use Rattle.par2_journal.proofs.Turned.{at, undone_to, redone_to, next_undo_is, next_redo_is}
@@ -142,9 +141,6 @@ pub taken_and_one : {A X : Type 0} (v : A → X) (list front new : List A) (xs :
 taken_and_one v list front new xs n b seen cut more =
     ap (map v) (more ∙ ap (λ l. l ++ b ∷ []) cut) ∙ map-append v (take n list) (b ∷ []) ∙ ap (λ l. l ++ v b ∷ []) (sym (take-map v n list) ∙ ap (take n) seen)
 
-pub one_set : {A X : Type 0} (v : A → X) (list : List A) (xs : List X) (i : ℕ) (b : A) → map v list ≡ xs → map v (set list i b) ≡ set xs i (v b)
-one_set v list xs i b seen = map-set v list i b ∙ ap (λ l. set l i (v b)) seen
-
 -- what is ready can be applied
 next_entry : (folder : FolderState) (entries : List (List Change)) → walks folder entries ≡ true → entries ≢ [] → takes_all folder (next_of entries) ≡ true
 next_entry folder [] h some = absurd (some refl)
@@ -180,17 +176,30 @@ module _ (xs : List (List Change)) (n : ℕ) (within : n ≤ length xs) (folder 
   can_here : CanBe ready.kind (at folder xs n room)
   can_here = subst (CanBe ready.kind) (sym same) can
 
-  module _ (turn : Turn) (does : turn ≡ turn_of ready.kind) (entries : List (List Change)) (lent : entries ≡ xs) where
-    pub ready_next : HasNext turn n (length entries)
-    ready_next =
-        subst (λ t. HasNext t n (length entries)) (sym does)
-        (subst (λ l. HasNext (turn_of ready.kind) n (length l)) (sym lent) (has_next xs n folder room ready.kind within can_here))
+  next_here : (kind : Kind) → ready.kind ≡ kind → HasNext (turn_of kind) n (length xs)
+  next_here kind is = subst (λ k. HasNext (turn_of k) n (length xs)) is (has_next xs n folder room ready.kind within can_here)
 
-    pub ready_spelled : {E : Type 0} (r : Result Journals E) (cs : List Change) → cs ≡ changes_of ready.kind s
+  pub undo_entry : ready.kind ≡ Undoing → (entries : List (List Change)) → entries ≡ xs → get_or entries (n - 1) [] ≡ changes_of ready.kind s
+  undo_entry is entries lent =
+      let next = next_here Undoing is in
+      let i = n - 1 in
+      let one : i + 1 ≡ n = omega (arith, next.0) in
+      let lt : i < length xs = omega (arith, next.0, next.1) in
+      ap (λ l. get_or l i []) lent ∙ sym (next_undo_is xs i lt (get_or xs i []) (get_or_default xs i [] (get_or xs i []) lt) n one)
+      ∙ ap (λ (t : KeptSession). next_of t.undos) same ∙ ap (λ k. changes_of k s) (sym is)
+
+  pub redo_entry : ready.kind ≡ Redoing → (entries : List (List Change)) → entries ≡ xs → get_or entries n [] ≡ changes_of ready.kind s
+  redo_entry is entries lent =
+      let lt = next_here Redoing is in
+      ap (λ l. get_or l n []) lent ∙ sym (next_redo_is xs n lt (get_or xs n []) (get_or_default xs n [] (get_or xs n []) lt))
+      ∙ ap (λ (t : KeptSession). next_of t.redos) same ∙ ap (λ k. changes_of k s) (sym is)
+
+  module _ (turn : Turn) (does : turn ≡ turn_of ready.kind) (entries : List (List Change)) (lent : entries ≡ xs) where
+    pub ready_spelled : {E : Type 0} (r q : Result Journals E) → q ≡ r → (cs : List Change) → cs ≡ changes_of ready.kind s
         → IfOk r (λ j. SpellsWhere j.halfway (halfway_with (fingerprint folder.files) n entries (map fingerprint (folders_after folder.files cs)) (way_back folder.files cs)))
         → IfOk r (λ j. Spells j.after.items (settled_with (fingerprint (state_after_all folder cs).files) (entries_with turn n entries (way_back folder.files cs))))
-        → IfOk r (λ j. (action : Action) (before : KeptSession) → OnlyGrew before s → IsReady action before ready s → AreSpelled j (journals_of Two (session_of_kept s) action (changes_of ready.kind s)))
-    ready_spelled r cs are half after =
-        subst (λ (t : KeptSession). IfOk r (λ j. (action : Action) (before : KeptSession) → OnlyGrew before t → IsReady action before ready t → AreSpelled j (journals_of Two (session_of_kept t) action (changes_of ready.kind t))))
-        same
-        (action_spelled r xs entries n within folder room turn ready cs does lent (are ∙ ap (changes_of ready.kind) (sym same)) can_here half after)
+        → IfOk q (λ j. (action : Action) (before : KeptSession) → OnlyGrew before s → IsReady action before ready s → AreSpelled j (journals_of Two (session_of_kept s) action (changes_of ready.kind s)))
+    ready_spelled r q is cs are half after =
+        let told = λ (o : Result Journals _) (t : KeptSession). IfOk o (λ j. (action : Action) (before : KeptSession) → OnlyGrew before t → IsReady action before ready t → AreSpelled j (journals_of Two (session_of_kept t) action (changes_of ready.kind t))) in
+        subst (λ o. told o s) (sym is)
+        (subst (told r) same (action_spelled r xs entries n within folder room turn ready cs does lent (are ∙ ap (changes_of ready.kind) (sym same)) can_here half after))

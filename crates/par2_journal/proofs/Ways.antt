@@ -1,6 +1,7 @@
 -- Changes and entries that a kept folder takes in turn, and their ways back.
-use Rattle.std.proofs.Common.{◌≡◌, true, ◌&&◌, List, [], ◌∷◌, ◌++◌, length, refl, sym, ap, ◌∙◌, append_assoc, append-nil, length-append, arith}
+use Rattle.std.proofs.Common.{◌≡◌, ℕ, ◌<◌, true, ◌&&◌, get_or, set, List, [], ◌∷◌, ◌++◌, length, refl, sym, ap, ◌∙◌, append_assoc, append-nil, length-append, arith}
 use Rattle.std.specs.Prelude.{is_none}
+use Rattle.std.proofs.lemmas.List.{get_or_default, get_or-set_same, set-set, set-get_or}
 use Rattle.par2_spec.specs.Changes.{Change, FolderState, change_refusal, effect, inverse, state_after, takes_all, state_after_all, way_back}
 use Rattle.par2_spec.specs.Sessions.{walks}
 use Rattle.par2_spec.proofs.FolderLaws.{both_first, both_second, both_true, state_files, state_all_back, way_back_taken, changes_back, way_back-append, state_after_all-append}
@@ -141,3 +142,31 @@ back_leads f g cs ds taken moved is = ap (state_after_all g) is ∙ ap (λ s. st
 
 pub back_again : (f g : FolderState) (cs ds : List Change) → takes_all f cs ≡ true → g ≡ state_after_all f cs → ds ≡ way_back f.files cs → way_back g.files ds ≡ cs
 back_again f g cs ds taken moved is = ap (way_back g.files) is ∙ ap (λ (s : FolderState). way_back s.files (way_back f.files cs)) moved ∙ changes_back f cs taken
+
+-- ---- of an entry among others
+
+module _ (f g : FolderState) (xs : List (List Change)) (i : ℕ) (within : i < length xs) (d turned : List Change) (taken : takes_all f (get_or xs i []) ≡ true)
+    (moved : g ≡ state_after_all f (get_or xs i d)) (is : turned ≡ way_back f.files (get_or xs i d)) where
+  here : (e : List Change) → get_or xs i e ≡ get_or xs i d
+  here e = get_or_default xs i e d within
+
+  there : (e : List Change) → get_or (set xs i turned) i e ≡ turned
+  there e = get_or-set_same xs i turned e within
+
+  taken_here : takes_all f (get_or xs i d) ≡ true
+  taken_here = ap (takes_all f) (sym (here [])) ∙ taken
+
+  pub entry_length : length (get_or (set xs i turned) i []) ≡ length (get_or xs i [])
+  entry_length = ap length (there []) ∙ ap length is ∙ back_length f (get_or xs i d) ∙ ap length (sym (here []))
+
+  pub entry_taken : (e : List Change) → takes_all g (get_or (set xs i turned) i e) ≡ true
+  entry_taken e = ap (takes_all g) (there e) ∙ back_taken f g (get_or xs i d) turned taken_here moved is
+
+  pub entry_leads : (e : List Change) → state_after_all g (get_or (set xs i turned) i e) ≡ f
+  entry_leads e = ap (state_after_all g) (there e) ∙ back_leads f g (get_or xs i d) turned taken_here moved is
+
+  pub entry_again : (e again : List Change) → again ≡ way_back g.files (get_or (set xs i turned) i e) → set (set xs i turned) i again ≡ xs
+  entry_again e again back =
+      set-set xs i turned again
+      ∙ ap (set xs i) (back ∙ ap (way_back g.files) (there e) ∙ back_again f g (get_or xs i d) turned taken_here moved is)
+      ∙ set-get_or xs i d

@@ -6,9 +6,8 @@ use Rattle.par2_spec.specs.Journals.{Journal, Spells}
 use Rattle.par2_spec.specs.Opening.{JournalPair}
 use Rattle.par2_spec.specs.declared.Version.TheVariants.{Two}
 use Rattle.par2_journal.specs.Ready.{Kind, Changing, Undoing, Redoing}
+use Rattle.par2_journal_bytes.specs.Fronts.{Begins}
 use Rattle.par2_journal.specs.declared.spelling.Journals.{Journals}
-use Rattle.par2_journal.specs.declared.spelling.Turn.{Turn}
-use Rattle.par2_journal.specs.declared.spelling.Turn.TheVariants.{Add, Undo, Redo}
 
 -- a text that spells the journal, or neither
 abbrev pub SpellsWhere : Option (Vec ℕ Global) → Option Journal → Type 0
@@ -20,6 +19,13 @@ SpellsWhere (Some text) (Some j) = Spells text.items j
 -- the texts spell the two journals
 abbrev pub AreSpelled : Journals → JournalPair → Type 0
 AreSpelled journals pair = SpellsWhere journals.halfway pair.before × Spells journals.after.items pair.after
+
+-- what an action does to the list of entries: the way back of a command becomes the entry before the cursor, and those
+-- behind it go; or the way back takes the place of the entry before the cursor, or of that behind it
+pub data Turn : Type 0 where
+  Add : Turn
+  Undo : Turn
+  Redo : Turn
 
 -- what committing does to the entries
 abbrev pub turn_of : Kind → Turn
@@ -44,6 +50,12 @@ abbrev pub halfway_with : List ℕ → ℕ → List (List Change) → List (List
 halfway_with print cursor entries prints [] = None
 halfway_with print cursor entries prints (change ∷ back) =
     Some (record { version = Two; fingerprint = print; cursor = cursor; entries = entries; halfway = Some (record { fingerprints = prints; back = change ∷ back }) })
+
+-- with these fingerprints and this way back, the text spells each halfway journal that the front begins
+abbrev pub CompletesHalfway : List ℕ → Option (Vec ℕ Global) → List (List ℕ) → List Change → Type 0
+CompletesHalfway front text prints back =
+    (print : List ℕ) (cursor : ℕ) (entries : List (List Change))
+    → Begins front Two print cursor entries → SpellsWhere text (halfway_with print cursor entries prints back)
 
 -- the settled journal of these entries and this cursor
 abbrev pub settled_with : List ℕ → List (List Change) × ℕ → Journal

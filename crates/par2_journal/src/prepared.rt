@@ -1,5 +1,4 @@
 //! What a session has made ready, and the steps that are told of it.
-use crate::spelling::Turn;
 use crate::{NothingToRedo, NothingToUndo};
 use par2_folder::{Change, Name};
 use par2_plan::{Changes, Fault};
@@ -137,23 +136,6 @@ pub enum Task {
     Change(Changes),
     Undo,
     Redo,
-}
-
-impl Task {
-    ghost use Rattle.std.specs.Prelude.{◌≡◌};
-    ghost use Rattle.par2_journal.specs.Kinds.{kind_of};
-    ghost use Rattle.par2_journal.specs.Written.{turn_of};
-
-    // What it does to the list of entries.
-    pub(crate) fn turn(&self) -> Turn
-        ensures { result ≡ turn_of (kind_of self.now) }
-    {
-        match self {
-            Task::Change(_) => Turn::Add,
-            Task::Undo => Turn::Undo,
-            Task::Redo => Turn::Redo,
-        }
-    }
 }
 
 /// An action that a session has made ready: what it does, and the steps that are told of it.

@@ -1,9 +1,8 @@
 //! One folder, the changes that lead back, and those that lead forward again.
 use crate::prepared::Task;
-use crate::spelling::{lent, spell_action};
+use crate::spelling::{spell_command, spell_entry, spell_settled};
 use crate::{Changes, Journals, Prepared, Steps};
-use par2_folder::{Change, Folder, copies_of};
-use par2_journal_bytes::{JournalParts, Version, encode};
+use par2_folder::{Change, Folder};
 use std::alloc::{AllocError, Global};
 use std::marker::Model;
 use thiserror::Error;
@@ -142,18 +141,7 @@ impl Session {
             (λ bytes. Spells bytes.items (settled_journal Two (session_of_kept self.now))) }
     {
         let fingerprint = self.folder.fingerprint(alloc)?;
-        let stored = self.entries.as_slice();
-        let entries = lent(alloc, &stored)?;
-        encode(
-            alloc,
-            &JournalParts {
-                version: Version::Two,
-                fingerprint,
-                cursor: self.cursor,
-                entries: &entries,
-                halfway: None,
-            },
-        )
+        spell_settled(alloc, &self.entries, self.cursor, fingerprint)
     }
 
     // Room for as many files and one more entry.
@@ -212,7 +200,7 @@ impl Session {
     }
 
     /// The journals of what was prepared for an action. The folder makes the changes and is turned back, also where
-    /// memory runs out. Of a command's changes no bytes are copied but into the journals.
+    /// memory runs out. Of the changes no bytes are copied but into the journals.
     pub fn journals(
         &mut self,
         alloc: Global,
@@ -226,28 +214,22 @@ impl Session {
             → OnlyGrew before self.old → IsReady action before prepared.old self.old
             → AreSpelled journals (journals_of Two (session_of_kept self.old) action changes)) }
     {
-        let turn = prepared.task.turn();
-        if let Task::Change(changes) = &mut prepared.task {
-            let changes = changes.as_mut_slice();
-            return spell_action(
-                alloc,
-                turn,
-                &self.entries,
-                self.cursor,
-                &mut self.folder,
-                changes,
-            );
+        let cursor = self.cursor;
+        let folder = &mut self.folder;
+        match &mut prepared.task {
+            Task::Change(changes) => {
+                let changes = changes.as_mut_slice();
+                spell_command(alloc, &self.entries, cursor, folder, changes)
+            }
+            Task::Undo => {
+                let at = cursor - 1;
+                spell_entry(alloc, &mut self.entries, at, cursor, at, folder)
+            }
+            Task::Redo => {
+                let next = cursor + 1;
+                spell_entry(alloc, &mut self.entries, cursor, cursor, next, folder)
+            }
         }
-        // The journal spells an entry both as it is and turned, so it is a copy that is turned.
-        let mut changes = copies_of(alloc, self.changes(prepared))?;
-        spell_action(
-            alloc,
-            turn,
-            &self.entries,
-            self.cursor,
-            &mut self.folder,
-            &mut changes,
-        )
     }
 
     /// Does what was prepared, and answers its steps. It takes no memory.

@@ -1,14 +1,16 @@
 //! The journals of a session, and the fingerprints that stand in them.
-ghost use Rattle.std.specs.Prelude.{◌≡◌, ◌≤◌, IfOk, IsTrue, length, map, ◌∷◌, Some, slice_get};
+ghost use Rattle.std.specs.Prelude.{◌≡◌, ◌≤◌, ◌<◌, ◌∷◌, ◌++◌, ◌+◌, [], IfOk, IsTrue, length, map, get_or, set, slice_get, take, Some};
 ghost use Rattle.par2_spec.specs.Changes.{folders_after, state_after_all, takes_all, way_back};
 ghost use Rattle.par2_spec.specs.Folders.{fingerprint};
 ghost use Rattle.par2_spec.specs.Journals.{Spells};
+ghost use Rattle.par2_spec.specs.declared.Version.TheVariants.{Two};
+ghost use Rattle.par2_journal_bytes.specs.Fronts.{Begins};
 ghost use Rattle.par2_journal_bytes.specs.Views.{changes_of, lent_entries_of};
-ghost use Rattle.par2_journal.specs.Written.{SpellsWhere, HasNext, entries_with, halfway_with, settled_with};
+ghost use Rattle.par2_journal.specs.Written.{SpellsWhere, CompletesHalfway, halfway_with, settled_with};
 
 use crate::Changes;
 use par2_folder::{Change, Folder, fingerprints_along};
-use par2_journal_bytes::{HalfwayParts, JournalParts, Version, encode};
+use par2_journal_bytes::{HalfwayParts, JournalParts, Version, begin, encode, finish};
 use std::alloc::{AllocError, Global};
 
 // The fingerprints of a folder along some changes.
@@ -16,41 +18,43 @@ use std::alloc::{AllocError, Global};
 pub struct Fingerprints {
     pub before: [u8; 16],
     pub after_each: Vec<[u8; 16]>,
+    pub after_all: [u8; 16],
+}
+
+// The fingerprint after the last change, or before where there is none.
+fn last_of(before: [u8; 16], after_each: &[[u8; 16]]) -> [u8; 16]
+    ensures { slice_get (before ∷ after_each.now) (length after_each.now) ≡ Some result }
+{
+    after_each.last().copied().unwrap_or(before)
 }
 
 impl Fingerprints {
-    // Applies the changes in order, so that they become the way back, and answers the fingerprint before them and
-    // after each. Where memory runs out for these, the changes are applied all the same.
-    pub(crate) fn along(
+    // The fingerprint before the changes, which aren't applied, and after each.
+    pub(crate) fn of(
         alloc: Global,
-        folder: &mut Folder,
-        changes: &mut [Change],
+        folder: &Folder,
+        changes: &[Change],
     ) -> Result<Fingerprints, AllocError>
-        requires { IsTrue (takes_all folder.old (changes_of changes.old)) }
-        ensures folder { folder.new ≡ state_after_all folder.old (changes_of changes.old) }
-        ensures way_back { changes_of changes.new
-            ≡ way_back folder.old.files (changes_of changes.old) }
-        ensures before { IfOk result (λ prints. prints.before ≡ fingerprint folder.old.files) }
+        requires { IsTrue (takes_all folder.now (changes_of changes.now)) }
+        ensures before { IfOk result (λ prints. prints.before ≡ fingerprint folder.now.files) }
         ensures after_each { IfOk result (λ prints. prints.after_each.items
-            ≡ map fingerprint (folders_after folder.old.files (changes_of changes.old))) }
+            ≡ map fingerprint (folders_after folder.now.files (changes_of changes.now))) }
+        ensures after_all { IfOk result (λ prints. prints.after_all
+            ≡ fingerprint (state_after_all folder.now (changes_of changes.now)).files) }
     {
-        let fingerprints = fingerprints_along(alloc, folder, changes);
-        folder.apply_all(changes);
-        let mut after_each = fingerprints?;
+        let mut after_each = fingerprints_along(alloc, folder, changes)?;
         let before = after_each.remove(0);
-        Ok(Fingerprints { before, after_each })
-    }
-
-    // That after the last change, or before where there is none.
-    pub(crate) fn after_all(&self) -> [u8; 16]
-        ensures { slice_get (self.now.before ∷ self.now.after_each.items)
-            (length self.now.after_each.items) ≡ Some result }
-    {
-        self.after_each.last().copied().unwrap_or(self.before)
+        let after_all = last_of(before, &after_each);
+        Ok(Fingerprints {
+            before,
+            after_each,
+            after_all,
+        })
     }
 }
 
-// Applies the changes as `Fingerprints::along` does, and answers the fingerprint after each.
+// Applies the changes in order, so that they become the way back, and answers the fingerprint after each. Where memory
+// runs out for these, the changes are applied all the same.
 pub(crate) fn pass_through(
     alloc: Global,
     folder: &mut Folder,
@@ -63,15 +67,14 @@ pub(crate) fn pass_through(
     ensures fingerprints { IfOk result (λ list. list.items
         ≡ map fingerprint (folders_after folder.old.files (changes_of changes.old))) }
 {
-    Ok(Fingerprints::along(alloc, folder, changes)?.after_each)
+    let fingerprints = Fingerprints::of(alloc, folder, changes);
+    folder.apply_all(changes);
+    Ok(fingerprints?.after_each)
 }
 
 // The entries, lent: no bytes are copied. They are lent for as long as the reference to them, since the parts of a
 // journal have one lifetime.
-pub(crate) fn lent<'a>(
-    alloc: Global,
-    entries: &'a &[Changes],
-) -> Result<Vec<&'a [Change]>, AllocError>
+fn lent<'a>(alloc: Global, entries: &'a &[Changes]) -> Result<Vec<&'a [Change]>, AllocError>
     ensures { IfOk result (λ list. lent_entries_of list.items ≡ entries.now.now) }
 {
     let mut list = Vec::new(alloc);
@@ -90,132 +93,168 @@ pub struct Journals {
     pub after: Vec<u8>,
 }
 
-// What an action does to the list of entries.
-#[derive(Clone, Copy, Debug, Drop)]
-pub enum Turn {
-    // The way back of a command becomes the entry before the cursor, and those behind it go.
-    Add,
-    // The way back takes the place of the entry before the cursor, or of that behind it.
-    Undo,
-    Redo,
-}
-
-// An action whose changes were applied to the folder, while the entries are as before: what its journals are made of.
-#[derive(Clone, Copy, Debug, Drop)]
-struct Passed<'a> {
-    turn: Turn,
-    entries: &'a [Changes],
-    cursor: usize,
-    // The fingerprints before the changes, after each and after all of them.
-    before: [u8; 16],
-    after_each: &'a [[u8; 16]],
-    after_all: [u8; 16],
-    back: &'a [Change],
-}
-
-impl<'a> Passed<'a> {
-    fn halfway(self, alloc: Global) -> Result<Option<Vec<u8>>, AllocError>
-        requires cursor { self.cursor ≤ length self.entries.now }
-        requires each { length self.after_each.now ≡ length self.back.now }
-        ensures { IfOk result
-            (λ text. SpellsWhere text (halfway_with self.entry.before self.entry.cursor
-            self.entry.entries.now self.entry.after_each.now (changes_of self.entry.back.now))) }
-    {
-        if self.back.is_empty() {
-            return Ok(None);
-        }
-        let entries = lent(alloc, &self.entries)?;
-        let text = encode(
-            alloc,
-            &JournalParts {
-                version: Version::Two,
-                fingerprint: self.before,
-                cursor: self.cursor,
-                entries: &entries,
-                halfway: Some(HalfwayParts {
-                    fingerprints: self.after_each,
-                    back: self.back,
-                }),
-            },
-        )?;
-        Ok(Some(text))
-    }
-
-    // The entries and the cursor afterwards.
-    fn turned(&self, alloc: Global) -> Result<(Vec<&[Change]>, usize), AllocError>
-        requires { HasNext self.now.turn self.now.cursor (length self.now.entries.now) }
-        ensures turned { IfOk result (λ p. (lent_entries_of p.0.items, p.1) ≡ entries_with
-            self.now.turn self.now.cursor self.now.entries.now (changes_of self.now.back.now)) }
-        ensures cursor { IfOk result (λ p. p.1 ≤ length p.0.items) }
-    {
-        let mut list = lent(alloc, &self.entries)?;
-        match self.turn {
-            Turn::Add => {
-                list.truncate(self.cursor);
-                list.push(self.back)?;
-                Ok((list, self.cursor + 1))
-            }
-            Turn::Undo => {
-                let at = self.cursor - 1;
-                list[at] = self.back;
-                Ok((list, at))
-            }
-            Turn::Redo => {
-                let at = self.cursor;
-                list[at] = self.back;
-                Ok((list, at + 1))
-            }
-        }
-    }
-
-    fn after(self, alloc: Global) -> Result<Vec<u8>, AllocError>
-        requires { HasNext self.turn self.cursor (length self.entries.now) }
-        ensures { IfOk result (λ text. Spells text.items (settled_with self.entry.after_all
-            (entries_with self.entry.turn self.entry.cursor self.entry.entries.now
-            (changes_of self.entry.back.now)))) }
-    {
-        let (entries, cursor) = self.turned(alloc)?;
-        encode(
-            alloc,
-            &JournalParts {
-                version: Version::Two,
-                fingerprint: self.after_all,
-                cursor,
-                entries: &entries,
-                halfway: None,
-            },
-        )
-    }
-
-    // Both journals.
-    fn spell(self, alloc: Global) -> Result<Journals, AllocError>
-        requires next { HasNext self.turn self.cursor (length self.entries.now) }
-        requires each { length self.after_each.now ≡ length self.back.now }
-        ensures halfway { IfOk result (λ journals.
-            SpellsWhere journals.halfway (halfway_with self.entry.before self.entry.cursor
-            self.entry.entries.now self.entry.after_each.now (changes_of self.entry.back.now))) }
-        ensures after { IfOk result (λ journals. Spells journals.after.items
-            (settled_with self.entry.after_all (entries_with self.entry.turn
-            self.entry.cursor self.entry.entries.now (changes_of self.entry.back.now)))) }
-    {
-        let halfway = self.halfway(alloc)?;
-        let after = self.after(alloc)?;
-        Ok(Journals { halfway, after })
-    }
-}
-
-// The journals of an action with these changes, which are applied to the folder and turned back, also where memory
-// runs out.
-pub(crate) fn spell_action(
+// The journal of a session that no action has left.
+fn settled(
     alloc: Global,
-    turn: Turn,
+    entries: &[&[Change]],
+    cursor: usize,
+    fingerprint: [u8; 16],
+) -> Result<Vec<u8>, AllocError>
+    requires { cursor ≤ length entries.now }
+    ensures { IfOk result (λ text.
+        Spells text.items (settled_with fingerprint (lent_entries_of entries.now, cursor))) }
+{
+    encode(
+        alloc,
+        &JournalParts {
+            version: Version::Two,
+            fingerprint,
+            cursor,
+            entries,
+            halfway: None,
+        },
+    )
+}
+
+/// The journal of a session with these entries.
+pub(crate) fn spell_settled(
+    alloc: Global,
+    entries: &[Changes],
+    cursor: usize,
+    fingerprint: [u8; 16],
+) -> Result<Vec<u8>, AllocError>
+    requires { cursor ≤ length entries.now }
+    ensures { IfOk result (λ text.
+        Spells text.items (settled_with fingerprint (entries.now, cursor))) }
+{
+    let entries = lent(alloc, &entries)?;
+    settled(alloc, &entries, cursor, fingerprint)
+}
+
+// The halfway journal up to its entries.
+fn front(
+    alloc: Global,
+    entries: &[Changes],
+    cursor: usize,
+    before: [u8; 16],
+) -> Result<Vec<u8>, AllocError>
+    requires { cursor ≤ length entries.now }
+    ensures { IfOk result (λ front. Begins front.items Two before cursor entries.now) }
+{
+    let entries = lent(alloc, &entries)?;
+    begin(alloc, Version::Two, before, cursor, &entries)
+}
+
+// The halfway journal that begins so, where there is a way back.
+fn halfway(
+    front: Vec<u8>,
+    after_each: &[[u8; 16]],
+    back: &[Change],
+) -> Result<Option<Vec<u8>>, AllocError>
+    requires { length after_each.now ≡ length back.now }
+    ensures { IfOk result (λ text.
+        CompletesHalfway front.items text after_each.now (changes_of back.now)) }
+{
+    if back.is_empty() {
+        return Ok(None);
+    }
+    let parts = HalfwayParts {
+        fingerprints: after_each,
+        back,
+    };
+    Ok(Some(finish(front, &Some(parts))?))
+}
+
+// Both journals of an action with this way back, of which the halfway one begins so. Afterwards the session has these
+// entries.
+fn both(
+    alloc: Global,
+    front: Vec<u8>,
+    fingerprints: &Fingerprints,
+    back: &[Change],
+    entries: &[&[Change]],
+    cursor: usize,
+) -> Result<Journals, AllocError>
+    requires cursor { cursor ≤ length entries.now }
+    requires each { length fingerprints.now.after_each.items ≡ length back.now }
+    ensures halfway { IfOk result (λ journals. CompletesHalfway front.items journals.halfway
+        fingerprints.now.after_each.items (changes_of back.now)) }
+    ensures after { IfOk result (λ journals. Spells journals.after.items (settled_with
+        fingerprints.now.after_all (lent_entries_of entries.now, cursor))) }
+{
+    let halfway = halfway(front, &fingerprints.after_each, back)?;
+    let after = settled(alloc, entries, cursor, fingerprints.after_all)?;
+    Ok(Journals { halfway, after })
+}
+
+// The entries before the cursor, and behind them the way back of a command.
+fn with_command<'a>(
+    alloc: Global,
+    entries: &'a &[Changes],
+    cursor: usize,
+    back: &'a [Change],
+) -> Result<Vec<&'a [Change]>, AllocError>
+    requires { cursor ≤ length entries.now.now }
+    ensures list { IfOk result (λ list. lent_entries_of list.items
+        ≡ take cursor entries.now.now ++ changes_of back.now ∷ []) }
+    ensures count { IfOk result (λ list. length list.items ≡ cursor + 1) }
+{
+    let mut list = lent(alloc, entries)?;
+    list.truncate(cursor);
+    list.push(back)?;
+    Ok(list)
+}
+
+fn spell_made(
+    alloc: Global,
+    front: Vec<u8>,
+    fingerprints: &Fingerprints,
+    entries: &[Changes],
+    cursor: usize,
+    back: &[Change],
+) -> Result<Journals, AllocError>
+    requires cursor { cursor ≤ length entries.now }
+    requires each { length fingerprints.now.after_each.items ≡ length back.now }
+    ensures halfway { IfOk result (λ journals. CompletesHalfway front.items journals.halfway
+        fingerprints.now.after_each.items (changes_of back.now)) }
+    ensures after { IfOk result (λ journals. Spells journals.after.items (settled_with
+        fingerprints.now.after_all (take cursor entries.now ++ changes_of back.now ∷ [], cursor + 1))) }
+{
+    let list = with_command(alloc, &entries, cursor, back)?;
+    both(alloc, front, fingerprints, back, &list, cursor + 1)
+}
+
+fn spell_turned(
+    alloc: Global,
+    front: Vec<u8>,
+    fingerprints: &Fingerprints,
+    entries: &[Changes],
+    at: usize,
+    cursor: usize,
+) -> Result<Journals, AllocError>
+    requires cursor { cursor ≤ length entries.now }
+    requires place { at < length entries.now }
+    requires each { length fingerprints.now.after_each.items ≡ length (get_or entries.now at []) }
+    ensures halfway { IfOk result (λ journals. CompletesHalfway front.items journals.halfway
+        fingerprints.now.after_each.items (get_or entries.now at [])) }
+    ensures after { IfOk result (λ journals. Spells journals.after.items (settled_with
+        fingerprints.now.after_all (entries.now, cursor))) }
+{
+    let list = lent(alloc, &entries)?;
+    both(alloc, front, fingerprints, list[at], &list, cursor)
+}
+
+/// The journals of a command with these changes, which are made and turned back, also where memory runs out. Nothing of
+/// them is copied but into the journals.
+pub(crate) fn spell_command(
+    alloc: Global,
     entries: &[Changes],
     cursor: usize,
     folder: &mut Folder,
     changes: &mut [Change],
 ) -> Result<Journals, AllocError>
     requires applies { IsTrue (takes_all folder.old (changes_of changes.old)) }
-    requires next { HasNext turn cursor (length entries.now) }
+    requires cursor { cursor ≤ length entries.now }
     ensures folder { folder.new ≡ folder.old }
     ensures changes { changes_of changes.new ≡ changes_of changes.old }
     ensures halfway { IfOk result (λ journals.
@@ -223,26 +262,50 @@ pub(crate) fn spell_action(
         (map fingerprint (folders_after folder.old.files (changes_of changes.old)))
         (way_back folder.old.files (changes_of changes.old)))) }
     ensures after { IfOk result (λ journals. Spells journals.after.items (settled_with
-        (fingerprint (state_after_all folder.old (changes_of changes.old)).files) (entries_with
-        turn cursor entries.now (way_back folder.old.files (changes_of changes.old))))) }
+        (fingerprint (state_after_all folder.old (changes_of changes.old)).files) (
+          take cursor
+              entries.now ++ way_back folder.old.files (changes_of changes.old) ∷ [],
+          cursor + 1,
+        ))) }
 {
-    let fingerprints = match Fingerprints::along(alloc, folder, changes) {
-        Ok(fingerprints) => fingerprints,
-        Err(fault) => {
-            folder.apply_all(changes);
-            return Err(fault);
-        }
-    };
-    let passed = Passed {
-        turn,
-        entries,
-        cursor,
-        before: fingerprints.before,
-        after_each: &fingerprints.after_each,
-        after_all: fingerprints.after_all(),
-        back: &*changes,
-    };
-    let answer = passed.spell(alloc);
+    let fingerprints = Fingerprints::of(alloc, folder, changes)?;
+    let front = front(alloc, entries, cursor, fingerprints.before)?;
     folder.apply_all(changes);
+    let answer = spell_made(alloc, front, &fingerprints, entries, cursor, changes);
+    folder.apply_all(changes);
+    answer
+}
+
+/// The journals of an undo or redo of entry `at`, which is made and turned back, also where memory runs out. `next` is
+/// the cursor afterwards. The halfway journal is begun before the entry is turned, so nothing of it is copied but into
+/// the journals.
+pub(crate) fn spell_entry(
+    alloc: Global,
+    entries: &mut [Changes],
+    at: usize,
+    cursor: usize,
+    next: usize,
+    folder: &mut Folder,
+) -> Result<Journals, AllocError>
+    requires applies { IsTrue (takes_all folder.old (get_or entries.old at [])) }
+    requires place { at < length entries.old }
+    requires cursor { cursor ≤ length entries.old }
+    requires next { next ≤ length entries.old }
+    ensures folder { folder.new ≡ folder.old }
+    ensures entries { entries.new ≡ entries.old }
+    ensures halfway { let changes = get_or entries.old at [] in IfOk result (λ journals.
+        SpellsWhere journals.halfway (halfway_with (fingerprint folder.old.files) cursor entries.old
+        (map fingerprint (folders_after folder.old.files changes))
+        (way_back folder.old.files changes))) }
+    ensures after { let changes = get_or entries.old at [] in IfOk result (λ journals.
+        Spells journals.after.items (settled_with
+        (fingerprint (state_after_all folder.old changes).files)
+        (set entries.old at (way_back folder.old.files changes), next))) }
+{
+    let fingerprints = Fingerprints::of(alloc, folder, entries[at].as_slice())?;
+    let front = front(alloc, entries, cursor, fingerprints.before)?;
+    entries[at].turn(folder);
+    let answer = spell_turned(alloc, front, &fingerprints, entries, at, next);
+    entries[at].turn(folder);
     answer
 }

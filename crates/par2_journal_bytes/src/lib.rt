@@ -13,4 +13,4 @@ pub use journal::{Halfway, HalfwayParts, Journal, JournalParts};
 pub use laws::one_reading;
 pub use par2_spec::Version;
 pub use reading::decode;
-pub use writing::encode;
+pub use writing::{begin, encode, finish};

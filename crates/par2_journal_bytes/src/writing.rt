@@ -6,6 +6,7 @@ ghost use Rattle.par2_spec.specs.Names.{is_name};
 ghost use Rattle.par2_spec.specs.Folders.{counted};
 ghost use Rattle.par2_spec.specs.Journals as journals;
 ghost use Rattle.par2_folder.specs.Views.{change_of};
+ghost use Rattle.par2_journal_bytes.specs.Fronts.{Begins, Finishes};
 ghost use Rattle.par2_journal_bytes.specs.Views.{changes_of, lent_entries_of, halfway_from, journal_from};
 
 use crate::digest::digest_of;
@@ -146,8 +147,43 @@ fn append_cursor(out: &mut Vec<u8>, version: Version, cursor: usize) -> Result<(
     }
 }
 
+/// The bytes of a journal as far as its entries go, for [`finish`].
+#[tactic(auto, unfolding(crate::specs::Fronts::front_bytes))]
+pub fn begin(
+    alloc: Global,
+    version: Version,
+    fingerprint: [u8; 16],
+    cursor: usize,
+    entries: &[&[Change]],
+) -> Result<Vec<u8>, AllocError>
+    requires { journals.IsCursor version cursor (length entries.now) }
+    ensures { IfOk result (λ front. Begins front.items
+        version fingerprint cursor (lent_entries_of entries.now)) }
+{
+    let mut out = Vec::new(alloc);
+    out.extend_from_slice(heading(version))?;
+    append_digest(&mut out, fingerprint)?;
+    append_cursor(&mut out, version, cursor)?;
+    append_number(&mut out, entries.len() as u64)?;
+    append_entries(&mut out, entries)?;
+    Ok(out)
+}
+
+/// The bytes of a journal that was begun, with its halfway part.
+#[tactic(auto, unfolding(par2_spec::specs::Journals::spelling, par2_spec::specs::Journals::journal_bytes, crate::specs::Fronts::front_bytes))]
+pub fn finish(front: Vec<u8>, halfway: &Option<HalfwayParts<'_>>) -> Result<Vec<u8>, AllocError>
+    requires some { IfSome halfway.now (λ h. 1 ≤ length h.back.now) }
+    requires each { IfSome halfway.now (λ h. length h.fingerprints.now ≡ length h.back.now) }
+    ensures { IfOk result (λ bytes. Finishes front.items (halfway_from halfway.now) bytes.items) }
+{
+    let mut out = front;
+    append_halfway(&mut out, halfway)?;
+    let digest = digest_of(&out);
+    append_digest(&mut out, digest)?;
+    Ok(out)
+}
+
 /// The bytes of the journal with these parts.
-#[tactic(auto, unfolding(par2_spec::specs::Journals::spelling, par2_spec::specs::Journals::journal_bytes))]
 pub fn encode(alloc: Global, parts: &JournalParts<'_>) -> Result<Vec<u8>, AllocError>
     requires cursor { journals.IsCursor parts.now.version parts.now.cursor
         (length parts.now.entries.now) }
@@ -156,14 +192,12 @@ pub fn encode(alloc: Global, parts: &JournalParts<'_>) -> Result<Vec<u8>, AllocE
         ≡ length h.back.now) }
     ensures { IfOk result (λ bytes. journals.Spells bytes.items (journal_from parts.now)) }
 {
-    let mut out = Vec::new(alloc);
-    out.extend_from_slice(heading(parts.version))?;
-    append_digest(&mut out, parts.fingerprint)?;
-    append_cursor(&mut out, parts.version, parts.cursor)?;
-    append_number(&mut out, parts.entries.len() as u64)?;
-    append_entries(&mut out, parts.entries)?;
-    append_halfway(&mut out, &parts.halfway)?;
-    let digest = digest_of(&out);
-    append_digest(&mut out, digest)?;
-    Ok(out)
+    let front = begin(
+        alloc,
+        parts.version,
+        parts.fingerprint,
+        parts.cursor,
+        parts.entries,
+    )?;
+    finish(front, &parts.halfway)
 }

@@ -1,65 +1,48 @@
 use Rattle.std.proofs.Common.{◌-◌, sym, ap, ◌∙◌, vec_len, vec_capacity}
-use Rattle.par2_spec.specs.Changes.{FolderState}
-use Rattle.par2_journal_bytes.specs.Views as views
 use Rattle.par2_journal.specs.Kinds.{kind_of}
-use Rattle.par2_journal.specs.Kept.{kept_session}
 use Rattle.par2_journal.specs.Ready.{Kind, Ready, changes_of}
-use Rattle.par2_journal.specs.Written.{turn_of}
-use Rattle.par2_journal.proofs.Spelled.{ready_applies, ready_next, ready_spelled}
+use Rattle.par2_journal.specs.Written.{Add, Undo, Redo, turn_of}
+use Rattle.par2_journal.proofs.Spelled.{ready_applies, ready_spelled, undo_entry, redo_entry}
+use Rattle.par2_journal.proofs.session.Session.journals.Goals.{in-Change, in-Undo, in-Redo}
 use Rattle.par2_journal.proofs.session.Session.journals.Goals as goal
 
-pub spell_action-requires-clause-applies : goal.spell_action-requires-clause-applies
-spell_action-requires-clause-applies c =
+pub spell_entry-requires-clause-applies : goal.spell_entry-requires-clause-applies
+spell_entry-requires-clause-applies c =
     let s = c.self.inside in
     let room = vec_capacity s.entries - vec_len s.entries in
-    let kind = ap (λ (r : Ready). r.kind) (sym c.prepared.view_is) ∙ ap kind_of c.in-Change.is in
-    let are = c.as_mut_slice-changes.ensures.value ∙ sym (ap (λ (k : Kind). changes_of k c.args.self.now) kind) in
-    ready_applies s.entries.items s.cursor c.self.invariant.within s.folder room c.args.self.now c.self.view_is c.args.prepared.now c.requires.can
-    c.self.invariant.walks (views.changes_of c.as_mut_slice-changes.result.now) are
+    let kind = ap (λ (r : Ready). r.kind) (sym c.prepared.view_is) ∙ ap kind_of c.in-Undo.is in
+    let are = undo_entry s.entries.items s.cursor c.self.invariant.within s.folder room c.args.self.now c.self.view_is c.args.prepared.now c.requires.can kind c.deref_mut.result.now c.deref_mut.ensures.value in
+    ready_applies s.entries.items s.cursor c.self.invariant.within s.folder room c.args.self.now c.self.view_is c.args.prepared.now c.requires.can c.self.invariant.walks _ are
 
-pub spell_action-requires-clause-next : goal.spell_action-requires-clause-next
-spell_action-requires-clause-next c =
+pub spell_entry-requires-in-Redo-clause-applies : goal.spell_entry-requires-in-Redo-clause-applies
+spell_entry-requires-in-Redo-clause-applies c =
     let s = c.self.inside in
     let room = vec_capacity s.entries - vec_len s.entries in
-    let does = c.turn-turn.ensures ∙ ap (λ (r : Ready). turn_of r.kind) c.prepared.view_is in
-    ready_next s.entries.items s.cursor c.self.invariant.within s.folder room c.args.self.now c.self.view_is c.args.prepared.now c.requires.can
-    c.turn-turn.result does c.deref.result.now c.deref.ensures.value
-
-pub returns-in-Change-clause-journals : goal.returns-in-Change-clause-journals
-returns-in-Change-clause-journals c =
-    let s = c.self.inside in
-    let room = vec_capacity s.entries - vec_len s.entries in
-    let does = c.turn-turn.ensures ∙ ap (λ (r : Ready). turn_of r.kind) c.prepared.view_is in
-    let kind = ap (λ (r : Ready). r.kind) (sym c.prepared.view_is) ∙ ap kind_of c.in-Change.is in
-    let are = c.as_mut_slice-changes.ensures.value ∙ sym (ap (λ (k : Kind). changes_of k c.args.self.now) kind) in
-    ready_spelled s.entries.items s.cursor c.self.invariant.within s.folder room c.args.self.now c.self.view_is c.args.prepared.now c.requires.can
-    c.turn-turn.result does c.deref.result.now c.deref.ensures.value c.spell_action.result (views.changes_of c.as_mut_slice-changes.result.now) are c.spell_action.ensures.halfway c.spell_action.ensures.after
-
-pub spell_action-requires-2-clause-applies : goal.spell_action-requires-2-clause-applies
-spell_action-requires-2-clause-applies c =
-    let s = c.self.inside in
-    let room = vec_capacity s.entries - vec_len s.entries in
-    let are = ap views.changes_of c.deref_mut.ensures.value ∙ c.in_ok-changes.ensures ∙ c.changes.ensures ∙ ap (λ (r : Ready). changes_of r.kind c.args.self.now) c.prepared.view_is in
-    ready_applies s.entries.items s.cursor c.self.invariant.within s.folder room c.args.self.now c.self.view_is c.args.prepared.now c.requires.can
-    c.self.invariant.walks (views.changes_of c.deref_mut.result.now) are
-
-pub spell_action-requires-2-clause-next : goal.spell_action-requires-2-clause-next
-spell_action-requires-2-clause-next c =
-    let s = c.self.inside in
-    let room = vec_capacity s.entries - vec_len s.entries in
-    let does = c.turn-turn.ensures ∙ ap (λ (r : Ready). turn_of r.kind) c.prepared.view_is in
-    ready_next s.entries.items s.cursor c.self.invariant.within s.folder room c.args.self.now c.self.view_is c.args.prepared.now c.requires.can
-    c.turn-turn.result does c.deref-2.result.now c.deref-2.ensures.value
-
-pub returns-clause-unchanged : goal.returns-clause-unchanged
-returns-clause-unchanged c =
-    ap (λ (f : FolderState). kept_session (record { folder = f; entries = c.self.inside.entries; cursor = c.self.inside.cursor })) c.spell_action-2.ensures.folder ∙ c.self.view_is
+    let kind = ap (λ (r : Ready). r.kind) (sym c.prepared.view_is) ∙ ap kind_of c.in-Redo.is in
+    let are = redo_entry s.entries.items s.cursor c.self.invariant.within s.folder room c.args.self.now c.self.view_is c.args.prepared.now c.requires.can kind c.deref_mut-in-Redo.result.now c.deref_mut-in-Redo.ensures.value in
+    ready_applies s.entries.items s.cursor c.self.invariant.within s.folder room c.args.self.now c.self.view_is c.args.prepared.now c.requires.can c.self.invariant.walks _ are
 
 pub returns-clause-journals : goal.returns-clause-journals
 returns-clause-journals c =
     let s = c.self.inside in
     let room = vec_capacity s.entries - vec_len s.entries in
-    let does = c.turn-turn.ensures ∙ ap (λ (r : Ready). turn_of r.kind) c.prepared.view_is in
-    let are = ap views.changes_of c.deref_mut.ensures.value ∙ c.in_ok-changes.ensures ∙ c.changes.ensures ∙ ap (λ (r : Ready). changes_of r.kind c.args.self.now) c.prepared.view_is in
-    ready_spelled s.entries.items s.cursor c.self.invariant.within s.folder room c.args.self.now c.self.view_is c.args.prepared.now c.requires.can
-    c.turn-turn.result does c.deref-2.result.now c.deref-2.ensures.value c.spell_action-2.result (views.changes_of c.deref_mut.result.now) are c.spell_action-2.ensures.halfway c.spell_action-2.ensures.after
+    elim c.match-prepared.branch [
+      | in-Change w ↦
+          let is = ap (λ (r : Ready). r.kind) (sym c.prepared.view_is) ∙ ap kind_of w.in-Change.is in
+          let are = w.as_mut_slice-changes.ensures.value ∙ sym (ap (λ (k : Kind). changes_of k c.args.self.now) is) in
+          ready_spelled s.entries.items s.cursor c.self.invariant.within s.folder room c.args.self.now c.self.view_is c.args.prepared.now c.requires.can
+          Add (sym (ap turn_of is)) w.deref.result.now w.deref.ensures.value w.spell_command.result c.match-prepared.result w.result-is
+          _ are w.spell_command.ensures.halfway w.spell_command.ensures.after
+      | in-Undo w ↦
+          let is = ap (λ (r : Ready). r.kind) (sym c.prepared.view_is) ∙ ap kind_of w.in-Undo.is in
+          let are = undo_entry s.entries.items s.cursor c.self.invariant.within s.folder room c.args.self.now c.self.view_is c.args.prepared.now c.requires.can is w.deref_mut.result.now w.deref_mut.ensures.value in
+          ready_spelled s.entries.items s.cursor c.self.invariant.within s.folder room c.args.self.now c.self.view_is c.args.prepared.now c.requires.can
+          Undo (sym (ap turn_of is)) w.deref_mut.result.now w.deref_mut.ensures.value w.spell_entry.result c.match-prepared.result w.result-is
+          _ are w.spell_entry.ensures.halfway w.spell_entry.ensures.after
+      | in-Redo w ↦
+          let is = ap (λ (r : Ready). r.kind) (sym c.prepared.view_is) ∙ ap kind_of w.in-Redo.is in
+          let are = redo_entry s.entries.items s.cursor c.self.invariant.within s.folder room c.args.self.now c.self.view_is c.args.prepared.now c.requires.can is w.deref_mut-in-Redo.result.now w.deref_mut-in-Redo.ensures.value in
+          ready_spelled s.entries.items s.cursor c.self.invariant.within s.folder room c.args.self.now c.self.view_is c.args.prepared.now c.requires.can
+          Redo (sym (ap turn_of is)) w.deref_mut-in-Redo.result.now w.deref_mut-in-Redo.ensures.value w.spell_entry-in-Redo.result c.match-prepared.result w.result-is
+          _ are w.spell_entry-in-Redo.ensures.halfway w.spell_entry-in-Redo.ensures.after
+    ]

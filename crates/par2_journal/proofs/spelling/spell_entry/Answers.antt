@@ -1,0 +1,37 @@
+use Rattle.std.proofs.Common.{[], length, ap, ◌∙◌, arith}
+use Rattle.std.proofs.lemmas.List.{get_or_default}
+use Rattle.par2_journal_bytes.specs.Views.{changes_of}
+use Rattle.par2_journal.proofs.Ways.{entry_length, entry_taken, entry_leads, entry_again}
+use Rattle.par2_journal.proofs.Spelled.{folders_count}
+use Rattle.par2_journal.proofs.spelling.spell_entry.Goals as goal
+
+pub spell_turned-answer-requires-clause-each : goal.spell_turned-answer-requires-clause-each
+spell_turned-answer-requires-clause-each c =
+    let entries = c.args.entries.now in
+    let turned = c.turn.ensures in
+    omega (
+      arith,
+      ap length c.in_ok-fingerprints.ensures.after_each,
+      folders_count c.args.folder.now.files (changes_of c.as_slice.result.now),
+      ap length c.as_slice.ensures,
+      ap length c.index-entries-at.is,
+      ap length (get_or_default entries c.args.at [] c.index-entries-at.result c.requires.place),
+      entry_length c.args.folder.now c.turn.new.folder entries c.args.at c.requires.place c.index-entries-at-2.result c.turn.new.self c.requires.applies turned.folder turned.way_back,
+    )
+
+pub turn-requires-2 : goal.turn-requires-2
+turn-requires-2 c =
+    let turned = c.turn.ensures in
+    entry_taken c.args.folder.now c.turn.new.folder c.args.entries.now c.args.at c.requires.place c.index-entries-at-2.result c.turn.new.self c.requires.applies turned.folder turned.way_back c.index-entries-at-3.result
+
+pub returns-clause-folder : goal.returns-clause-folder
+returns-clause-folder c =
+    let turned = c.turn.ensures in
+    c.turn-2.ensures.folder
+    ∙ entry_leads c.args.folder.now c.turn.new.folder c.args.entries.now c.args.at c.requires.place c.index-entries-at-2.result c.turn.new.self c.requires.applies turned.folder turned.way_back c.index-entries-at-3.result
+
+pub returns-clause-entries : goal.returns-clause-entries
+returns-clause-entries c =
+    let turned = c.turn.ensures in
+    entry_again c.args.folder.now c.turn.new.folder c.args.entries.now c.args.at c.requires.place c.index-entries-at-2.result c.turn.new.self c.requires.applies turned.folder turned.way_back c.index-entries-at-3.result
+    c.turn-2.new.self c.turn-2.ensures.way_back
