@@ -281,13 +281,30 @@ pub record IsNext (whole folder : Folder) (i : ℕ) (name bytes : List ℕ) : Ty
   pub is_new : has folder name ≡ false
   pub files : entries (map_of.insert folder name bytes) ≡ take (i + 1) (entries whole)
 
+listed_at : (whole : Folder) (i : ℕ) (name d : List ℕ) → i < length (names whole) → name ≡ get_or (names whole) i d → IsAt (entries whole) name i
+listed_at whole i name d lt is =
+    let all = entries whole in
+    let in_range : i < length all = omega (arith, length-map all (λ (file : File). file.0)) in
+    record { in_range = in_range; has_name = sym (is ∙ get_or_default (names whole) i d [] lt ∙ get_or-map (λ (file : File). file.0) all i ([], []) [] in_range) }
+
+listed_is_there : (whole : Folder) (i : ℕ) (name d : List ℕ) → i < length (names whole) → name ≡ get_or (names whole) i d → IsTrue (has whole name)
+listed_is_there whole i name d lt is =
+    let all = entries whole in
+    ap is_some (map_of.get-entries whole name ∙ find_at all (is_true _ (entries_sorted whole)) name i (listed_at whole i name d lt is))
+
+-- a name that was listed is that of a file, as long as the folder stays
+pub still_there : (whole folder : Folder) (list : List (List ℕ)) (i : ℕ) (name : List ℕ) → folder ≡ whole → list ≡ names whole → i < length list → name ≡ get_or list i name → IsTrue (has folder name)
+still_there whole folder list i name same listed lt is =
+    subst (λ (f : Folder). IsTrue (has f name)) (sym same)
+    (listed_is_there whole i name name (subst (λ l. i < length l) listed lt) (is ∙ ap (λ l. get_or l i name) listed))
+
 pub next_file : (whole folder : Folder) (i : ℕ) (name bytes d : List ℕ) → entries folder ≡ take i (entries whole) → i < length (names whole) → name ≡ get_or (names whole) i d → map_of.get whole name ≡ Some bytes → IsNext whole folder i name bytes
 next_file whole folder i name bytes d so_far lt is found =
     let all = entries whole in
     let sorted : IsSortedByName all = is_true _ (entries_sorted whole) in
-    let in_range : i < length all = omega (arith, length-map all (λ (file : File). file.0)) in
-    let named : (file_at all i).0 ≡ name = sym (is ∙ get_or_default (names whole) i d [] lt ∙ get_or-map (λ (file : File). file.0) all i ([], []) [] in_range) in
-    let here : IsAt all name i = record { in_range = in_range; has_name = named } in
+    let here : IsAt all name i = listed_at whole i name d lt is in
+    let in_range = here.in_range in
+    let named = here.has_name in
     let its_bytes : bytes ≡ (file_at all i).1 = let same = sym found ∙ map_of.get-entries whole name ∙ find_at all sorted name i here in cc in
     let so_many : length (take i all) ≡ i = length-take-le i all (omega arith) in
     let gap : IsGapFor (take i all) name i = record {

@@ -1,4 +1,4 @@
--- A store over a directory, and how often it has failed.
+-- A store over a directory, how often it has failed, and how often it was asked for what can't be done.
 use Rattle.std.specs.Prelude.{ℕ}
 use Rattle.par2_folder.specs.declared.disk.DiskStore.{DiskStore}
 
@@ -8,3 +8,6 @@ directory_of store = store.directory
 
 abbrev pub disk_failures : {D : Type 0} → DiskStore D → ℕ
 disk_failures store = store.failures.count
+
+abbrev pub disk_impossible : {D : Type 0} → DiskStore D → ℕ
+disk_impossible store = store.impossible.count

@@ -1,4 +1,4 @@
--- What a store in memory holds, and how often it has failed.
+-- What a store in memory holds, how often it has failed, and how often it was asked for what can't be done.
 use Rattle.std.specs.Prelude.{ℕ}
 use Rattle.par2_spec.specs.Stores.{Contents}
 use Rattle.par2_folder.specs.declared.memory.MemoryStore.{MemoryStore}
@@ -8,3 +8,6 @@ memory_contents store = record { files = store.folder.files; journal = store.jou
 
 abbrev pub memory_failures : MemoryStore → ℕ
 memory_failures store = store.failures.count
+
+abbrev pub memory_impossible : MemoryStore → ℕ
+memory_impossible store = store.impossible.count

@@ -1,9 +1,10 @@
 //! A store over a directory.
-ghost use Rattle.std.specs.Prelude.{◌≡◌, ◌⊎◌, ◌<◌, ◌≤◌, IfOk, IsErr, IsErrOf, IsTrue, IsFalse, None, Ok, OnErr, OnOk, option_map};
+ghost use Rattle.std.specs.Prelude.{◌≡◌, ◌+◌, ◌⊎◌, ◌<◌, ◌≤◌, IfOk, IsErr, IsErrOf, IsTrue, IsFalse, None, Ok, OnErr, OnOk, option_map};
 ghost use Rattle.par2_spec.specs.Changes.{Rename, Remove, is_applicable};
+ghost use Rattle.par2_spec.specs.Folders.{has};
 ghost use Rattle.par2_spec.specs.Stores.{changed};
-ghost use Rattle.par2_folder.specs.Directories.{path_of, bytes_at, put_at};
-ghost use Rattle.par2_folder.specs.Disk.{directory_of, disk_failures};
+ghost use Rattle.par2_folder.specs.Directories.{path_of, put_at};
+ghost use Rattle.par2_folder.specs.Disk.{directory_of, disk_failures, disk_impossible};
 
 use crate::current::CurrentDirectory;
 use crate::directory::{Directory, Found, Place};
@@ -17,39 +18,70 @@ use std::fs::Files;
 pub struct DiskStore<D: Directory> {
     directory: D,
     failures: Failures,
+    // Those of calls that can't be done, as far as the store has seen it.
+    impossible: Failures,
 }
 
 impl<'r, R: Files + AllocGlobal> DiskStore<CurrentDirectory<'r, R>> {
     /// The current directory, by a runtime that reaches it. It has not failed yet.
     pub fn new(rt: &'r R) -> DiskStore<CurrentDirectory<'r, R>>
         ensures failures { disk_failures result ≡ 0 }
+        ensures impossible { disk_impossible result ≡ 0 }
     {
         DiskStore {
             directory: CurrentDirectory::new(rt),
             failures: Failures::new(),
+            impossible: Failures::new(),
         }
     }
 }
 
 impl<D: Directory> DiskStore<D> {
-    // The bytes of the file at a place, if there is one. What is no file can't be read.
-    fn read_at(&self, alloc: Global, place: Place<'_>) -> Result<Option<Vec<u8>>, ReadFault>
+    // The bytes of the journal, if there is one. What is no file can't be read.
+    fn find_journal(&self, alloc: Global) -> Result<Option<Vec<u8>>, ReadFault>
         ensures bytes { let directory = directory_of self.now in D.honest directory
             → IfOk result (λ found. option_map (λ bytes. bytes.items) found
-            ≡ bytes_at (D.contents directory) (D.temporary directory) place.entry) }
+            ≡ (D.contents directory).journal) }
         ensures barred { let directory = directory_of self.now in D.honest directory
-            → D.barred directory (path_of place.entry) → IsErrOf result ReadFault.Store }
+            → D.barred directory (path_of Place.Journal) → IsErrOf result ReadFault.Store }
         ensures absent { let directory = directory_of self.now in D.honest directory
-            → bytes_at (D.contents directory) (D.temporary directory) place.entry ≡ None
+            → (D.contents directory).journal ≡ None
             → (result ≡ Ok None) ⊎ IsErrOf result ReadFault.Store }
     {
-        match self.directory.find(place) {
+        match self.directory.find(Place::Journal) {
             Ok(Found::Nothing) => Ok(None),
-            Ok(Found::File(size)) => match self.directory.read(alloc, place, size) {
+            Ok(Found::File(size)) => match self.directory.read(alloc, Place::Journal, size) {
                 Ok(bytes) => Ok(Some(bytes)),
                 Err(fault) => Err(fault),
             },
             Ok(Found::Other) | Err(StoreFault) => Err(ReadFault::Store),
+        }
+    }
+
+    // Counts a call that can't be done.
+    fn refuse(&mut self) -> StoreFault
+        ensures directory { directory_of self.new ≡ directory_of self.old }
+        ensures failures { disk_failures self.new ≡ disk_failures self.old }
+        ensures impossible { disk_impossible self.new ≡ disk_impossible self.old + 1 }
+    {
+        self.impossible.rise();
+        StoreFault
+    }
+
+    // The size of the file that has the name. Where none has it, what was asked for can't be done.
+    fn find_file(&mut self, name: &Name) -> Result<u64, StoreFault>
+        ensures file { let directory = directory_of self.old in D.honest directory
+            → OnOk result (IsTrue (has (D.contents directory).files name.now)) }
+        ensures directory { directory_of self.new ≡ directory_of self.old }
+        ensures failures { disk_failures self.new ≡ disk_failures self.old }
+        ensures possible { let directory = directory_of self.old in D.honest directory
+            → IsTrue (has (D.contents directory).files name.now)
+            → disk_impossible self.new ≡ disk_impossible self.old }
+        ensures grows { disk_impossible self.old ≤ disk_impossible self.new }
+    {
+        match self.directory.find(Place::File(name))? {
+            Found::File(size) => Ok(size),
+            Found::Nothing | Found::Other => Err(self.refuse()),
         }
     }
 
@@ -78,6 +110,7 @@ impl<D: Directory> DiskStore<D> {
             D.honest directory → D.barred directory (path_of place.entry) ⊎ D.barred directory
             (path_of Place.Temporary) → IsErr result × (directory_of self.new ≡ directory) }
         ensures failures { disk_failures self.new ≡ disk_failures self.old }
+        ensures possible { disk_impossible self.new ≡ disk_impossible self.old }
     {
         if !self.is_free(place) || !self.is_free(Place::Temporary) {
             return Err(StoreFault);
@@ -102,14 +135,18 @@ impl<D: Directory> DiskStore<D> {
             ⊎ (D.contents (directory_of self.new)
             ≡ changed (D.contents (directory_of self.old)) (Rename from.now to.now))) }
         ensures failures { disk_failures self.new ≡ disk_failures self.old }
+        ensures possible { let directory = directory_of self.old in D.honest directory
+            → IsTrue (is_applicable (D.contents directory).files (Rename from.now to.now))
+            → disk_impossible self.new ≡ disk_impossible self.old }
+        ensures grows { disk_impossible self.old ≤ disk_impossible self.new }
     {
-        let Ok(Found::File(_)) = self.directory.find(Place::File(from)) else {
-            return Err(StoreFault);
-        };
-        let Ok(Found::Nothing) = self.directory.find(Place::File(to)) else {
-            return Err(StoreFault);
-        };
-        self.directory.rename(from, to)
+        let _size = self.find_file(from)?;
+        match self.directory.find(Place::File(to))? {
+            Found::Nothing => self.directory.rename(from, to),
+            Found::File(_) => Err(self.refuse()),
+            // No file has the name, and yet it can't be given.
+            Found::Other => Err(StoreFault),
+        }
     }
 
     // Removes a file.
@@ -127,10 +164,12 @@ impl<D: Directory> DiskStore<D> {
             ⊎ (D.contents (directory_of self.new)
             ≡ changed (D.contents (directory_of self.old)) (Remove name.now))) }
         ensures failures { disk_failures self.new ≡ disk_failures self.old }
+        ensures possible { let directory = directory_of self.old in D.honest directory
+            → IsTrue (is_applicable (D.contents directory).files (Remove name.now))
+            → disk_impossible self.new ≡ disk_impossible self.old }
+        ensures grows { disk_impossible self.old ≤ disk_impossible self.new }
     {
-        let Ok(Found::File(_)) = self.directory.find(Place::File(name)) else {
-            return Err(StoreFault);
-        };
+        let _size = self.find_file(name)?;
         self.directory.remove(name)
     }
 
@@ -144,6 +183,7 @@ impl<D: Directory> DiskStore<D> {
         ensures steady { OnOk result (disk_failures self.new ≡ disk_failures self.old) }
         ensures memory { IsErrOf result ReadFault.Memory
             → disk_failures self.new ≡ disk_failures self.old }
+        ensures impossible { disk_impossible self.new ≡ disk_impossible self.old }
     {
         if let Err(ReadFault::Store) = &answer {
             self.failures.rise();
@@ -158,6 +198,7 @@ impl<D: Directory> DiskStore<D> {
         ensures later { disk_failures self.old ≤ disk_failures self.new }
         ensures cause { OnErr result (disk_failures self.old < disk_failures self.new) }
         ensures steady { OnOk result (disk_failures self.new ≡ disk_failures self.old) }
+        ensures impossible { disk_impossible self.new ≡ disk_impossible self.old }
     {
         if answer.is_err() {
             self.failures.rise();
@@ -167,7 +208,7 @@ impl<D: Directory> DiskStore<D> {
 }
 
 impl<D: Directory> FolderStore for DiskStore<D> {
-    ghost use Rattle.par2_folder.specs.Disk.{directory_of, disk_failures};
+    ghost use Rattle.par2_folder.specs.Disk.{directory_of, disk_failures, disk_impossible};
 
     ghost honest = { λ store. D.honest (directory_of store) };
 
@@ -175,22 +216,23 @@ impl<D: Directory> FolderStore for DiskStore<D> {
 
     ghost failures = { disk_failures };
 
+    ghost impossible = { disk_impossible };
+
     fn names(&mut self, alloc: Global) -> Result<Vec<Name>, ReadFault> {
         let answer = self.directory.names(alloc);
         self.counted_read(answer)
     }
 
     fn read(&mut self, alloc: Global, name: &Name) -> Result<Vec<u8>, ReadFault> {
-        let answer = match self.read_at(alloc, Place::File(name)) {
-            Ok(Some(bytes)) => Ok(bytes),
-            Ok(None) => Err(ReadFault::Store),
-            Err(fault) => Err(fault),
+        let answer = match self.find_file(name) {
+            Ok(size) => self.directory.read(alloc, Place::File(name), size),
+            Err(StoreFault) => Err(ReadFault::Store),
         };
         self.counted_read(answer)
     }
 
     fn read_journal(&mut self, alloc: Global) -> Result<Option<Vec<u8>>, ReadFault> {
-        let answer = self.read_at(alloc, Place::Journal);
+        let answer = self.find_journal(alloc);
         self.counted_read(answer)
     }
 

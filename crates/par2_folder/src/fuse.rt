@@ -67,9 +67,9 @@ impl<S: FolderStore> FuseStore<S> {
 }
 
 impl<S: FolderStore> FolderStore for FuseStore<S> {
-    ghost use Rattle.std.specs.Prelude.{◌≡◌, ◌⊎◌, ◌+◌, ◌<◌, ◌≤◌, IfOk, OnOk, OnErr, IsErr, IsErrOf, IsFalse, Some, None, option_map};
+    ghost use Rattle.std.specs.Prelude.{◌≡◌, ◌⊎◌, ◌+◌, ◌<◌, ◌≤◌, IfOk, OnOk, OnErr, IsErr, IsErrOf, IsTrue, IsFalse, Some, None, option_map};
     ghost use Rattle.std.specs.FinMap.{get};
-    ghost use Rattle.par2_spec.specs.Folders.{names};
+    ghost use Rattle.par2_spec.specs.Folders.{has, names};
     ghost use Rattle.par2_spec.specs.Changes.{Replace, Rename, Remove, is_applicable};
     ghost use Rattle.par2_spec.specs.Stores.{changed, journaled};
     ghost use Rattle.par2_folder.specs.Fuse.{inner_store, fuse_failures, calls_left, HasPassed, IsBlown, WorksNext};
@@ -79,6 +79,8 @@ impl<S: FolderStore> FolderStore for FuseStore<S> {
     ghost contents = { λ store. S.contents (inner_store store) };
 
     ghost failures = { λ store. S.failures (inner_store store) + fuse_failures store };
+
+    ghost impossible = { λ store. S.impossible (inner_store store) };
 
     fn names(&mut self, alloc: Global) -> Result<Vec<Name>, ReadFault>
         ensures honest { S.honest (inner_store self.old) → S.honest (inner_store self.new) }
@@ -94,6 +96,8 @@ impl<S: FolderStore> FolderStore for FuseStore<S> {
             ≡ S.failures (inner_store self.old) + fuse_failures self.old) }
         ensures memory { IsErrOf result ReadFault.Memory → S.failures (inner_store self.new)
             + fuse_failures self.new ≡ S.failures (inner_store self.old) + fuse_failures self.old }
+        ensures possible { S.impossible (inner_store self.new)
+            ≡ S.impossible (inner_store self.old) }
         ensures passed { 0 < calls_left self.old → HasPassed self.old self.new }
         ensures blown { calls_left self.old ≡ 0
             → IsErrOf result ReadFault.Store × IsBlown self.old self.new }
@@ -122,6 +126,11 @@ impl<S: FolderStore> FolderStore for FuseStore<S> {
             ≡ S.failures (inner_store self.old) + fuse_failures self.old) }
         ensures memory { IsErrOf result ReadFault.Memory → S.failures (inner_store self.new)
             + fuse_failures self.new ≡ S.failures (inner_store self.old) + fuse_failures self.old }
+        ensures possible { S.honest (inner_store self.old)
+            → IsTrue (has (S.contents (inner_store self.old)).files name.now)
+            → S.impossible (inner_store self.new) ≡ S.impossible (inner_store self.old) }
+        ensures grows { S.impossible (inner_store self.old)
+            ≤ S.impossible (inner_store self.new) }
         ensures passed { 0 < calls_left self.old → HasPassed self.old self.new }
         ensures blown { calls_left self.old ≡ 0
             → IsErrOf result ReadFault.Store × IsBlown self.old self.new }
@@ -147,6 +156,8 @@ impl<S: FolderStore> FolderStore for FuseStore<S> {
             ≡ S.failures (inner_store self.old) + fuse_failures self.old) }
         ensures memory { IsErrOf result ReadFault.Memory → S.failures (inner_store self.new)
             + fuse_failures self.new ≡ S.failures (inner_store self.old) + fuse_failures self.old }
+        ensures possible { S.impossible (inner_store self.new)
+            ≡ S.impossible (inner_store self.old) }
         ensures passed { 0 < calls_left self.old → HasPassed self.old self.new }
         ensures blown { calls_left self.old ≡ 0
             → IsErrOf result ReadFault.Store × IsBlown self.old self.new }
@@ -173,6 +184,8 @@ impl<S: FolderStore> FolderStore for FuseStore<S> {
             < S.failures (inner_store self.new) + fuse_failures self.new) }
         ensures steady { OnOk result (S.failures (inner_store self.new) + fuse_failures self.new
             ≡ S.failures (inner_store self.old) + fuse_failures self.old) }
+        ensures possible { S.impossible (inner_store self.new)
+            ≡ S.impossible (inner_store self.old) }
         ensures passed { 0 < calls_left self.old → HasPassed self.old self.new }
         ensures worked { S.honest (inner_store self.old) → WorksNext self.old
             → (S.failures (inner_store self.old) < S.failures (inner_store self.new))
@@ -207,6 +220,11 @@ impl<S: FolderStore> FolderStore for FuseStore<S> {
             < S.failures (inner_store self.new) + fuse_failures self.new) }
         ensures steady { OnOk result (S.failures (inner_store self.new) + fuse_failures self.new
             ≡ S.failures (inner_store self.old) + fuse_failures self.old) }
+        ensures possible { S.honest (inner_store self.old) → IsTrue (is_applicable
+            (S.contents (inner_store self.old)).files (Rename from.now to.now))
+            → S.impossible (inner_store self.new) ≡ S.impossible (inner_store self.old) }
+        ensures grows { S.impossible (inner_store self.old)
+            ≤ S.impossible (inner_store self.new) }
         ensures passed { 0 < calls_left self.old → HasPassed self.old self.new }
         ensures worked { S.honest (inner_store self.old) → WorksNext self.old
             → (S.failures (inner_store self.old) < S.failures (inner_store self.new))
@@ -242,6 +260,11 @@ impl<S: FolderStore> FolderStore for FuseStore<S> {
             < S.failures (inner_store self.new) + fuse_failures self.new) }
         ensures steady { OnOk result (S.failures (inner_store self.new) + fuse_failures self.new
             ≡ S.failures (inner_store self.old) + fuse_failures self.old) }
+        ensures possible { S.honest (inner_store self.old) → IsTrue (is_applicable
+            (S.contents (inner_store self.old)).files (Remove name.now))
+            → S.impossible (inner_store self.new) ≡ S.impossible (inner_store self.old) }
+        ensures grows { S.impossible (inner_store self.old)
+            ≤ S.impossible (inner_store self.new) }
         ensures passed { 0 < calls_left self.old → HasPassed self.old self.new }
         ensures worked { S.honest (inner_store self.old) → WorksNext self.old
             → (S.failures (inner_store self.old) < S.failures (inner_store self.new))
@@ -272,6 +295,8 @@ impl<S: FolderStore> FolderStore for FuseStore<S> {
             < S.failures (inner_store self.new) + fuse_failures self.new) }
         ensures steady { OnOk result (S.failures (inner_store self.new) + fuse_failures self.new
             ≡ S.failures (inner_store self.old) + fuse_failures self.old) }
+        ensures possible { S.impossible (inner_store self.new)
+            ≡ S.impossible (inner_store self.old) }
         ensures passed { 0 < calls_left self.old → HasPassed self.old self.new }
         ensures worked { S.honest (inner_store self.old) → WorksNext self.old
             → (S.failures (inner_store self.old) < S.failures (inner_store self.new))

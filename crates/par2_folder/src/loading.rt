@@ -16,6 +16,7 @@ pub fn read_folder<S: FolderStore>(alloc: Global, store: &mut S) -> Result<Folde
     ensures steady { OnOk result (S.failures store.new ≡ S.failures store.old) }
     ensures memory { IsErrOf result ReadFault.Memory
         → S.failures store.new ≡ S.failures store.old }
+    ensures possible { S.honest store.old → S.impossible store.new ≡ S.impossible store.old }
 {
     let names = match store.names(alloc) {
         Ok(names) => names,

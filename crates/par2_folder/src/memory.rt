@@ -9,26 +9,31 @@ pub struct MemoryStore {
     folder: Folder,
     journal: Option<Bytes>,
     failures: Failures,
+    // Those of calls that can't be done.
+    impossible: Failures,
 }
 
 impl MemoryStore {
-    ghost use Rattle.std.specs.Prelude.{◌≡◌, ◌+◌, ◌<◌, None, OnOk, OnErr, IfErr, Some};
+    ghost use Rattle.std.specs.Prelude.{◌≡◌, ◌+◌, ◌<◌, [], ◌∷◌, None, IsErr, IsOk, IsTrue, IsFalse, OnOk, OnErr, IfErr, Some};
     ghost use Rattle.std.specs.FinMap.{empty};
-    ghost use Rattle.par2_spec.specs.Changes.{Replace};
+    ghost use Rattle.par2_spec.specs.Changes.{Replace, is_applicable, places_taken};
     ghost use Rattle.par2_spec.specs.Stores.{Contents, changed};
-    ghost use Rattle.par2_folder.specs.Memory.{memory_contents, memory_failures};
+    ghost use Rattle.par2_folder.specs.Memory.{memory_contents, memory_failures, memory_impossible};
+    ghost use Rattle.par2_folder.specs.Views.{change_of};
 
     /// A store without files and without a journal, which has not failed yet.
     pub fn new(alloc: Global) -> Self
         ensures files { (memory_contents result).files ≡ empty }
         ensures journal { (memory_contents result).journal ≡ None }
         ensures failures { memory_failures result ≡ 0 }
+        ensures impossible { memory_impossible result ≡ 0 }
     {
         MemoryStore {
             alloc,
             folder: Folder::new(alloc),
             journal: None,
             failures: Failures::new(),
+            impossible: Failures::new(),
         }
     }
 
@@ -36,15 +41,27 @@ impl MemoryStore {
     fn fault(&mut self) -> StoreFault
         ensures contents { memory_contents self.new ≡ memory_contents self.old }
         ensures failures { memory_failures self.new ≡ memory_failures self.old + 1 }
+        ensures impossible { memory_impossible self.new ≡ memory_impossible self.old }
     {
         self.failures.rise();
         StoreFault
+    }
+
+    // Counts a failure of a call that can't be done.
+    fn refuse(&mut self) -> StoreFault
+        ensures contents { memory_contents self.new ≡ memory_contents self.old }
+        ensures failures { memory_failures self.new ≡ memory_failures self.old + 1 }
+        ensures impossible { memory_impossible self.new ≡ memory_impossible self.old + 1 }
+    {
+        self.impossible.rise();
+        self.fault()
     }
 
     // Makes a place for one more file: as many as there are files, so that many puts copy each file a few times.
     fn make_place(&mut self) -> Result<(), AllocError>
         ensures contents { memory_contents self.new ≡ memory_contents self.old }
         ensures failures { memory_failures self.new ≡ memory_failures self.old }
+        ensures impossible { memory_impossible self.new ≡ memory_impossible self.old }
         ensures place { OnOk result (0 < self.new.folder.vacant) }
     {
         if self.folder.vacant() == 0 {
@@ -60,6 +77,7 @@ impl MemoryStore {
             ≡ changed (memory_contents self.old) (Replace name.now bytes.now)) }
         ensures err { OnErr result (memory_contents self.new ≡ memory_contents self.old) }
         ensures failures { memory_failures self.new ≡ memory_failures self.old }
+        ensures impossible { memory_impossible self.new ≡ memory_impossible self.old }
     {
         let copy = Bytes::copy_of(self.alloc, bytes)?;
         let mut change = if self.folder.get(name).is_some() {
@@ -73,16 +91,41 @@ impl MemoryStore {
             Err(_) => unreachable!(),
         }
     }
+
+    // Makes a change that takes no place, or counts that it can't be made.
+    #[tactic(auto, unfolding(par2_spec::specs::Changes::change_refusal, par2_spec::specs::Changes::is_applicable))]
+    fn change(&mut self, mut change: Change) -> Result<(), StoreFault>
+        requires { places_taken (change_of change ∷ []) ≡ 0 }
+        ensures made { IsTrue (is_applicable (memory_contents self.old).files (change_of change))
+            → IsOk result
+            × (memory_contents self.new ≡ changed (memory_contents self.old) (change_of change)) }
+        ensures refused { IsFalse (is_applicable
+            (memory_contents self.old).files (change_of change)) → IsErr result
+            × (memory_contents self.new ≡ memory_contents self.old) }
+        ensures cause { OnErr result (memory_failures self.new ≡ memory_failures self.old + 1) }
+        ensures steady { OnOk result (memory_failures self.new ≡ memory_failures self.old) }
+        ensures possible { OnOk result (memory_impossible self.new
+            ≡ memory_impossible self.old) }
+        ensures impossible { OnErr result (memory_impossible self.new
+            ≡ memory_impossible self.old + 1) }
+    {
+        match self.folder.apply(&mut change) {
+            Ok(()) => Ok(()),
+            Err(_) => Err(self.refuse()),
+        }
+    }
 }
 
 impl FolderStore for MemoryStore {
-    ghost use Rattle.par2_folder.specs.Memory.{memory_contents, memory_failures};
+    ghost use Rattle.par2_folder.specs.Memory.{memory_contents, memory_failures, memory_impossible};
 
     ghost honest = { λ _. Unit {0} };
 
     ghost contents = { memory_contents };
 
     ghost failures = { memory_failures };
+
+    ghost impossible = { memory_impossible };
 
     fn names(&mut self, alloc: Global) -> Result<Vec<Name>, ReadFault> {
         match self.folder.names(alloc) {
@@ -98,7 +141,7 @@ impl FolderStore for MemoryStore {
                 Err(AllocError) => Err(ReadFault::Memory),
             },
             None => {
-                self.failures.rise();
+                let _fault = self.refuse();
                 Err(ReadFault::Store)
             }
         }
@@ -123,21 +166,12 @@ impl FolderStore for MemoryStore {
 
     #[tactic(auto, unfolding(par2_spec::specs::Changes::change_refusal, par2_spec::specs::Changes::is_applicable))]
     fn rename(&mut self, from: &Name, to: &Name) -> Result<(), StoreFault> {
-        match self
-            .folder
-            .apply(&mut Change::Rename(from.copied(), to.copied()))
-        {
-            Ok(()) => Ok(()),
-            Err(_) => Err(self.fault()),
-        }
+        self.change(Change::Rename(from.copied(), to.copied()))
     }
 
     #[tactic(auto, unfolding(par2_spec::specs::Changes::change_refusal, par2_spec::specs::Changes::is_applicable))]
     fn remove(&mut self, name: &Name) -> Result<(), StoreFault> {
-        match self.folder.apply(&mut Change::Remove(name.copied())) {
-            Ok(()) => Ok(()),
-            Err(_) => Err(self.fault()),
-        }
+        self.change(Change::Remove(name.copied()))
     }
 
     fn put_journal(&mut self, bytes: &[u8]) -> Result<(), StoreFault> {

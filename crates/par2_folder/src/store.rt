@@ -1,7 +1,7 @@
 //! A place that keeps a flat folder and a journal.
-ghost use Rattle.std.specs.Prelude.{◌≡◌, ◌⊎◌, ◌<◌, ◌≤◌, ℕ, IfOk, OnOk, OnErr, IsErr, IsErrOf, IsFalse, Some, None, option_map};
+ghost use Rattle.std.specs.Prelude.{◌≡◌, ◌⊎◌, ◌<◌, ◌≤◌, ℕ, IfOk, OnOk, OnErr, IsErr, IsErrOf, IsTrue, IsFalse, Some, None, option_map};
 ghost use Rattle.std.specs.FinMap.{get};
-ghost use Rattle.par2_spec.specs.Folders.{names};
+ghost use Rattle.par2_spec.specs.Folders.{has, names};
 ghost use Rattle.par2_spec.specs.Changes.{Replace, Rename, Remove, is_applicable};
 ghost use Rattle.par2_spec.specs.Stores.{Contents, changed, journaled};
 
@@ -35,6 +35,10 @@ pub trait FolderStore {
     /// How often it has failed.
     ghost failures: { Self → ℕ };
 
+    /// How often it was asked for what can't be done: to read or remove a name that no file has, or to rename one that
+    /// none has or to one that is taken.
+    ghost impossible: { Self → ℕ };
+
     /// The names of the files, in order.
     fn names(&mut self, alloc: Global) -> Result<Vec<Name>, ReadFault>
         ensures honest { honest self.old → honest self.new }
@@ -45,7 +49,8 @@ pub trait FolderStore {
         ensures cause { IsErrOf result ReadFault.Store → failures self.old < failures self.new }
         ensures steady { OnOk result (failures self.new ≡ failures self.old) }
         ensures memory { IsErrOf result ReadFault.Memory
-            → failures self.new ≡ failures self.old };
+            → failures self.new ≡ failures self.old }
+        ensures possible { impossible self.new ≡ impossible self.old };
 
     /// The bytes of a file. To read a name that no file has is a failure.
     fn read(&mut self, alloc: Global, name: &Name) -> Result<Vec<u8>, ReadFault>
@@ -59,7 +64,11 @@ pub trait FolderStore {
         ensures cause { IsErrOf result ReadFault.Store → failures self.old < failures self.new }
         ensures steady { OnOk result (failures self.new ≡ failures self.old) }
         ensures memory { IsErrOf result ReadFault.Memory
-            → failures self.new ≡ failures self.old };
+            → failures self.new ≡ failures self.old }
+        ensures possible { honest self.old
+            → IsTrue (has (contents self.old).files name.now)
+            → impossible self.new ≡ impossible self.old }
+        ensures grows { impossible self.old ≤ impossible self.new };
 
     /// The journal, if there is one.
     fn read_journal(&mut self, alloc: Global) -> Result<Option<Vec<u8>>, ReadFault>
@@ -71,7 +80,8 @@ pub trait FolderStore {
         ensures cause { IsErrOf result ReadFault.Store → failures self.old < failures self.new }
         ensures steady { OnOk result (failures self.new ≡ failures self.old) }
         ensures memory { IsErrOf result ReadFault.Memory
-            → failures self.new ≡ failures self.old };
+            → failures self.new ≡ failures self.old }
+        ensures possible { impossible self.new ≡ impossible self.old };
 
     /// Writes a file, or other bytes over those of the file that has the name.
     fn put(&mut self, name: &Name, bytes: &[u8]) -> Result<(), StoreFault>
@@ -83,7 +93,8 @@ pub trait FolderStore {
             ⊎ (contents self.new ≡ changed (contents self.old) (Replace name.now bytes.now))) }
         ensures later { failures self.old ≤ failures self.new }
         ensures cause { OnErr result (failures self.old < failures self.new) }
-        ensures steady { OnOk result (failures self.new ≡ failures self.old) };
+        ensures steady { OnOk result (failures self.new ≡ failures self.old) }
+        ensures possible { impossible self.new ≡ impossible self.old };
 
     /// Gives a file another name. Where no file has the first name, or one has the second, it does nothing and fails.
     fn rename(&mut self, from: &Name, to: &Name) -> Result<(), StoreFault>
@@ -98,7 +109,11 @@ pub trait FolderStore {
             ⊎ (contents self.new ≡ changed (contents self.old) (Rename from.now to.now))) }
         ensures later { failures self.old ≤ failures self.new }
         ensures cause { OnErr result (failures self.old < failures self.new) }
-        ensures steady { OnOk result (failures self.new ≡ failures self.old) };
+        ensures steady { OnOk result (failures self.new ≡ failures self.old) }
+        ensures possible { honest self.old
+            → IsTrue (is_applicable (contents self.old).files (Rename from.now to.now))
+            → impossible self.new ≡ impossible self.old }
+        ensures grows { impossible self.old ≤ impossible self.new };
 
     /// Removes a file. Where no file has the name, it does nothing and fails.
     fn remove(&mut self, name: &Name) -> Result<(), StoreFault>
@@ -113,7 +128,11 @@ pub trait FolderStore {
             ⊎ (contents self.new ≡ changed (contents self.old) (Remove name.now))) }
         ensures later { failures self.old ≤ failures self.new }
         ensures cause { OnErr result (failures self.old < failures self.new) }
-        ensures steady { OnOk result (failures self.new ≡ failures self.old) };
+        ensures steady { OnOk result (failures self.new ≡ failures self.old) }
+        ensures possible { honest self.old
+            → IsTrue (is_applicable (contents self.old).files (Remove name.now))
+            → impossible self.new ≡ impossible self.old }
+        ensures grows { impossible self.old ≤ impossible self.new };
 
     /// Writes the journal whole, over the one that is there.
     fn put_journal(&mut self, bytes: &[u8]) -> Result<(), StoreFault>
@@ -124,5 +143,6 @@ pub trait FolderStore {
             ≡ contents self.old) ⊎ (contents self.new ≡ journaled (contents self.old) bytes.now)) }
         ensures later { failures self.old ≤ failures self.new }
         ensures cause { OnErr result (failures self.old < failures self.new) }
-        ensures steady { OnOk result (failures self.new ≡ failures self.old) };
+        ensures steady { OnOk result (failures self.new ≡ failures self.old) }
+        ensures possible { impossible self.new ≡ impossible self.old };
 }

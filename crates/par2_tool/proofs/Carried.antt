@@ -1,5 +1,5 @@
 -- What comes of an action on a store that was opened.
-use Rattle.std.proofs.Common.{◌≡◌, inl, inr, ◌<◌, ◌≤◌, ℕ, List, Option, Some, None, Result, Ok, Err, Bool, true, false, refl, sym, ap, subst, ◌∙◌, arith}
+use Rattle.std.proofs.Common.{◌≡◌, inl, inr, ℕ, List, Option, Some, None, Result, Ok, Err, Bool, true, false, refl, sym, ap, subst, ◌∙◌, arith}
 use Rattle.par2_spec.specs.Changes.{Change}
 use Rattle.par2_spec.specs.Commands.{Action, Do, Undo, Redo}
 use Rattle.par2_spec.specs.History as history

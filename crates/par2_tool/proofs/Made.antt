@@ -1,8 +1,9 @@
 -- Changes that were made one after the other in a store.
-use Rattle.std.proofs.Common.{◌≡◌, ◌<◌, ◌+◌, ℕ, List, [], ◌∷◌, ◌++◌, length, map, get_or, take, refl, sym, ap, ◌∙◌}
+use Rattle.std.proofs.Common.{◌≡◌, ◌<◌, ◌+◌, ℕ, zero, suc, List, [], ◌∷◌, ◌++◌, length, map, get_or, take, IsTrue, refl, sym, ap, subst, ◌∙◌, arith}
 use Rattle.std.proofs.lemmas.List.{take_more}
 use Rattle.std.proofs.lemmas.List.{map-append}
 use Rattle.par2_spec.specs.Changes as defined
+use Rattle.par2_spec.proofs.FolderLaws.{both_first, both_second}
 use Rattle.par2_spec.specs.Stores.{Contents, changed}
 use Rattle.par2_folder.specs.declared.change.Change.{Change}
 use Rattle.par2_folder.specs.Views.{change_of}
@@ -29,6 +30,20 @@ made_next k changes i item within is =
     ∙ ap (all_changed k) (sym (map-append change_of (take i changes) (item ∷ [])))
     ∙ ap (λ x. all_changed k (map change_of (take i changes ++ x ∷ []))) is
     ∙ ap (λ l. all_changed k (map change_of l)) (sym (take_more changes i item within))
+
+-- where changes apply one after the other, each does behind those before it
+applicable_next : (k : Contents) (changes : List Change) (i : ℕ) (item : Change) → i < length changes → item ≡ get_or changes i item → IsTrue (defined.are_applicable k.files (map change_of changes))
+    → IsTrue (defined.is_applicable (all_changed k (map change_of (take i changes))).files (change_of item))
+unfolding defined.are_applicable
+applicable_next k [] i item within is all = absurd (omega (arith, within))
+applicable_next k (c ∷ cs) zero item within is all = subst (λ x. IsTrue (defined.is_applicable k.files (change_of x))) (sym is) (both_first _ _ all)
+applicable_next k (c ∷ cs) (suc i) item within is all = applicable_next (changed k (change_of c)) cs i item (omega (arith, within)) is (both_second _ _ all)
+
+-- so does it where they were made
+pub applicable_here : (k now : Contents) (changes : List Change) (i : ℕ) (item : Change) → now ≡ all_changed k (map change_of (take i changes)) → i < length changes → item ≡ get_or changes i item
+    → IsTrue (defined.are_applicable k.files (map change_of changes)) → IsTrue (defined.is_applicable now.files (change_of item))
+applicable_here k now changes i item made within is all =
+    subst (λ (c : Contents). IsTrue (defined.is_applicable c.files (change_of item))) (sym made) (applicable_next k changes i item within is all)
 
 -- what was made ready applies the changes that were asked for
 pub same_changes : (old mid : KeptSession) (kind : Kind) → OnlyGrew old mid → changes_of kind old ≡ changes_of kind mid

@@ -1,10 +1,10 @@
 -- What a store opens as, and what a stop leaves of it.
-use Rattle.std.proofs.Common.{◌≡◌, ◌⊎◌, inl, inr, ℕ, Bool, true, false, not, ◌&&◌, List, ◌∷◌, length, take, drop, ◌-◌, Option, Some, None, Result, Ok, Err, refl, sym, ap, subst, ◌∙◌, arith}
+use Rattle.std.proofs.Common.{◌≡◌, ◌⊎◌, inl, inr, ℕ, Bool, true, false, not, ◌&&◌, IsTrue, List, ◌∷◌, length, take, drop, ◌-◌, Option, Some, None, Result, Ok, Err, refl, sym, ap, subst, ◌∙◌, arith}
 use Rattle.std.specs.Prelude.{reverse, position, OnErr, Vec, if◌then◌else◌}
 use Rattle.std.specs.Str.{bytes_eq}
 use Rattle.std.specs.declared.alloc.Global.{Global}
 use Rattle.par2_spec.specs.Folders.{Folder, fingerprint}
-use Rattle.par2_spec.specs.Changes.{Change, effects}
+use Rattle.par2_spec.specs.Changes.{Change, are_applicable, effects}
 use Rattle.par2_spec.specs.Sessions.{Session}
 use Rattle.par2_spec.specs.Journals.{Journal, Halfway, Spells}
 use Rattle.par2_spec.specs.Opening.{Opened, Settled, ToTakeBack, Started, Opens, OpensAs, is_valid, leads_through, new_session, opened, opened_at, opened_by, session_of, settled_journal, started, taken_back, TellsApart}
@@ -114,6 +114,12 @@ takes_back old new files text s back read opens done = record {
   begun = subst (λ f. Opens f text (Ok (ToTakeBack s back))) (sym (ap (λ (k : Contents). k.files) read)) opens;
   taken = done;
 }
+
+-- the changes of the way back can be made one after the other
+pub way_applies : (contents : Contents) (files : Folder) (text : List ℕ) (s : Session) (back : List Change) → IsRead contents files text → Opens files text (Ok (ToTakeBack s back)) → IsTrue (are_applicable contents.files back)
+way_applies contents files text s back read opens =
+    let by = begun_by files text s back opens in
+    subst (λ (f : Folder). IsTrue (are_applicable f back)) (sym (ap (λ (k : Contents). k.files) read)) (taken_back_leads by.0 files s back by.2).0
 
 -- wherever that stops, the store opens as it did
 pub opens_still : (old new : Contents) (files : Folder) (text : List ℕ) (s : Session) (back : List Change) → IsRead old files text → Opens files text (Ok (ToTakeBack s back)) → TellsApartBack old → IsStillBegun s back old new → OpensAsBefore old new

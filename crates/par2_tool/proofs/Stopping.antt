@@ -1,9 +1,9 @@
 -- A command that is stopped anywhere leaves a store that opens as before it or after it.
-use Rattle.std.proofs.Common.{◌≡◌, ◌≢◌, ◌⊎◌, inl, inr, ℕ, ◌≤◌, List, [], ◌∷◌, length, take, Option, Some, None, Result, Ok, Err, Vec, true, refl, sym, ap, subst, ◌∙◌, arith}
+use Rattle.std.proofs.Common.{◌≡◌, ◌≢◌, ◌⊎◌, inl, inr, ℕ, ◌≤◌, List, [], ◌∷◌, length, take, Option, Some, None, Result, Ok, Err, Vec, true, IsTrue, refl, sym, ap, subst, ◌∙◌, arith}
 use Rattle.std.specs.Prelude.{IfOk}
 use Rattle.std.specs.declared.alloc.Global.{Global}
 use Rattle.std.proofs.lemmas.List.{take_all}
-use Rattle.par2_spec.specs.Changes.{Change, effects, takes_all}
+use Rattle.par2_spec.specs.Changes.{Change, are_applicable, effects, takes_all}
 use Rattle.par2_spec.specs.Commands.{Action}
 use Rattle.par2_spec.specs.Folders.{Folder}
 use Rattle.par2_spec.specs.Journals.{Spells}
@@ -92,6 +92,12 @@ after_spelled old mid action ready grew is journals spelled = subst (λ (s : Ses
 pub written_journal : (old mid : KeptSession) (action : Action) (ready : Ready) → OnlyGrew old mid → IsReady action old ready mid → (journals : Journals) → AreSpelled journals (journals_of Two (session_of_kept mid) action (changes_of ready.kind mid))
     → (k : Contents) → HasJournalOf (session_of_kept (committed ready.kind mid)) (written_down k journals (changes_of ready.kind mid))
 written_journal old mid action ready grew is journals spelled k = (journals.after.items, refl, after_spelled old mid action ready grew is journals spelled)
+
+-- what was made ready can be applied to a store with the session's folder
+pub ready_applies : (old mid : KeptSession) (ready : Ready) → OnlyGrew old mid → CanWalk old → CanBe ready.kind mid → (k : Contents) → k.files ≡ old.folder.files → (cs : List Change) → cs ≡ changes_of ready.kind mid → IsTrue (are_applicable k.files cs)
+ready_applies old mid ready grew walks can k files cs is =
+    let taken = kind_taken ready.kind mid (grown_can_walk old mid walks grew) can in
+    subst (λ f. IsTrue (are_applicable f cs)) (grew.files ∙ sym files) (subst (λ l. IsTrue (are_applicable mid.folder.files l)) (sym is) (taken_are_applicable mid.folder _ taken))
 
 module _ (old mid : KeptSession) (action : Action) (ready : Ready) (grew : OnlyGrew old mid) (is : IsReady action old ready mid) (walks : CanWalk old) (journals : Journals)
     (spelled : AreSpelled journals (journals_of Two (session_of_kept mid) action (changes_of ready.kind mid))) (k : Contents) (files : k.files ≡ old.folder.files) where

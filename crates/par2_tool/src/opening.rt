@@ -1,6 +1,7 @@
 //! A store is opened as a session.
-ghost use Rattle.std.specs.Prelude.{◌≡◌, ◌<◌, ◌≤◌, IfOk, IfErr, OnErr, IsErrOf, OnOk, Ok};
+ghost use Rattle.std.specs.Prelude.{◌≡◌, ◌<◌, ◌≤◌, IfOk, IfErr, OnErr, IsErrOf, IsTrue, OnOk, Ok};
 ghost use Rattle.par2_journal.specs.Opened.{session_before, way_left};
+ghost use Rattle.par2_spec.specs.Changes.{are_applicable};
 ghost use Rattle.par2_spec.specs.Sessions.{session_of_kept};
 ghost use Rattle.par2_tool.specs.Held.{kept, IsOpening, Holds, OpensAsBefore, TellsApartBack};
 ghost use Rattle.par2_spec.specs.Opening.{Started as Opening, new_session};
@@ -77,6 +78,9 @@ fn take_back<S: FolderStore>(
     ensures later { S.failures store.old ≤ S.failures store.new }
     ensures counted { IfErr result (IsCounted (S.failures store.old) (S.failures store.new)) }
     ensures steady { OnOk result (S.failures store.new ≡ S.failures store.old) }
+    ensures possible { S.honest store.old
+        → IsTrue (are_applicable (S.contents store.old).files (way_left halfway))
+        → S.impossible store.new ≡ S.impossible store.old }
 {
     let after = match halfway.settled(alloc) {
         Ok(after) => after,
@@ -114,6 +118,8 @@ fn open_with<S: FolderStore>(
     ensures later { S.failures store.old ≤ S.failures store.new }
     ensures counted { IfErr result (IsCounted (S.failures store.old) (S.failures store.new)) }
     ensures steady { OnOk result (S.failures store.new ≡ S.failures store.old) }
+    ensures possible { S.honest store.old → IsRead (S.contents store.old) folder.files text.now
+        → S.impossible store.new ≡ S.impossible store.old }
 {
     match Session::open(alloc, folder, text) {
         Ok(Opened::Settled(session)) => Ok(Started {
@@ -155,6 +161,7 @@ pub fn open_store<S: FolderStore>(alloc: Global, store: &mut S) -> Result<Starte
     ensures later { S.failures store.old ≤ S.failures store.new }
     ensures counted { IfErr result (IsCounted (S.failures store.old) (S.failures store.new)) }
     ensures steady { OnOk result (S.failures store.new ≡ S.failures store.old) }
+    ensures possible { S.honest store.old → S.impossible store.new ≡ S.impossible store.old }
 {
     let folder = match read_folder(alloc, store) {
         Ok(folder) => folder,
@@ -184,6 +191,7 @@ fn open_for_verify<S: FolderStore>(alloc: Global, store: &mut S) -> Result<Start
     ensures later { S.failures store.old ≤ S.failures store.new }
     ensures counted { IfErr result (IsCounted (S.failures store.old) (S.failures store.new)) }
     ensures steady { OnOk result (S.failures store.new ≡ S.failures store.old) }
+    ensures possible { S.honest store.old → S.impossible store.new ≡ S.impossible store.old }
 {
     let mut folder = match read_folder(alloc, store) {
         Ok(folder) => folder,
@@ -219,6 +227,7 @@ pub(crate) fn open_for<S: FolderStore>(
     ensures later { S.failures store.old ≤ S.failures store.new }
     ensures counted { IfErr result (IsCounted (S.failures store.old) (S.failures store.new)) }
     ensures steady { OnOk result (S.failures store.new ≡ S.failures store.old) }
+    ensures possible { S.honest store.old → S.impossible store.new ≡ S.impossible store.old }
 {
     match command {
         Command::Verify { .. } => open_for_verify(alloc, store),

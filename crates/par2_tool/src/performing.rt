@@ -68,6 +68,9 @@ pub fn perform<S: FolderStore>(
         (S.contents store.old).files (S.contents store.new).files) }
     ensures later { S.failures store.old ≤ S.failures store.new }
     ensures steady { OnOk result (S.failures store.new ≡ S.failures store.old) }
+    ensures possible { S.honest store.old
+        → (S.contents store.old).files ≡ session.old.folder.files
+        → S.impossible store.new ≡ S.impossible store.old }
 {
     // What a stop leaves opens only where the session's entries can be walked: the call's contract says so.
     let _folder = session.folder();

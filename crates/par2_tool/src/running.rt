@@ -86,6 +86,7 @@ fn carry_out<S: FolderStore>(
         (S.contents store.old) (S.contents store.new)) }
     ensures later { S.failures store.old ≤ S.failures store.new }
     ensures steady { OnOk result (S.failures store.new ≡ S.failures store.old) }
+    ensures possible { S.honest store.old → S.impossible store.new ≡ S.impossible store.old }
 {
     let Started {
         mut session,
@@ -120,6 +121,7 @@ pub fn run<S: FolderStore, O: Write, E: Write>(
         × (S.honest store.old → Leaves (map string_bytes words.now) told
         (S.contents store.old) (S.contents store.new)) }
     ensures later { S.failures store.old ≤ S.failures store.new }
+    ensures possible { S.honest store.old → S.impossible store.new ≡ S.impossible store.old }
 {
     let command = match read_words(alloc, words) {
         Ok(command) => command,

@@ -1,5 +1,6 @@
 //! Changes are written down in a store, between two journals.
-ghost use Rattle.std.specs.Prelude.{◌≡◌, ◌⊎◌, ◌<◌, ◌≤◌, ℕ, map, length, take, OnOk, OnErr};
+ghost use Rattle.std.specs.Prelude.{◌≡◌, ◌⊎◌, ◌<◌, ◌≤◌, ℕ, map, length, take, OnOk, OnErr, IsTrue};
+ghost use Rattle.par2_spec.specs.Changes.{is_applicable, are_applicable};
 ghost use Rattle.par2_spec.specs.Stores.{changed};
 ghost use Rattle.par2_folder.specs.Views.{change_of};
 ghost use Rattle.par2_tool.specs.Performed.{all_changed, begun, written_down, IsStoppedAt};
@@ -19,6 +20,9 @@ fn write_change<S: FolderStore>(store: &mut S, change: &Change) -> Result<(), St
     ensures later { S.failures store.old ≤ S.failures store.new }
     ensures cause { OnErr result (S.failures store.old < S.failures store.new) }
     ensures steady { OnOk result (S.failures store.new ≡ S.failures store.old) }
+    ensures possible { S.honest store.old
+        → IsTrue (is_applicable (S.contents store.old).files (change_of change.now))
+        → S.impossible store.new ≡ S.impossible store.old }
 {
     match change {
         Change::Write(name, bytes) => store.put(name, bytes.as_slice()),
@@ -39,6 +43,9 @@ fn write_changes<S: FolderStore>(store: &mut S, changes: &[Change]) -> Result<()
     ensures later { S.failures store.old ≤ S.failures store.new }
     ensures cause { OnErr result (S.failures store.old < S.failures store.new) }
     ensures steady { OnOk result (S.failures store.new ≡ S.failures store.old) }
+    ensures possible { S.honest store.old
+        → IsTrue (are_applicable (S.contents store.old).files (map change_of changes.now))
+        → S.impossible store.new ≡ S.impossible store.old }
 {
     for change in changes {
         match write_change(store, change) {
@@ -60,6 +67,7 @@ fn begin<S: FolderStore>(store: &mut S, halfway: &Option<Vec<u8>>) -> Result<(),
     ensures later { S.failures store.old ≤ S.failures store.new }
     ensures cause { OnErr result (S.failures store.old < S.failures store.new) }
     ensures steady { OnOk result (S.failures store.new ≡ S.failures store.old) }
+    ensures possible { S.impossible store.new ≡ S.impossible store.old }
 {
     match halfway {
         Some(text) => store.put_journal(text),
@@ -82,6 +90,9 @@ pub fn write_down<S: FolderStore>(
     ensures later { S.failures store.old ≤ S.failures store.new }
     ensures cause { OnErr result (S.failures store.old < S.failures store.new) }
     ensures steady { OnOk result (S.failures store.new ≡ S.failures store.old) }
+    ensures possible { S.honest store.old
+        → IsTrue (are_applicable (S.contents store.old).files (map change_of changes.now))
+        → S.impossible store.new ≡ S.impossible store.old }
 {
     begin(store, &journals.halfway)?;
     write_changes(store, changes)?;

@@ -46,13 +46,15 @@ impl WantingStore {
 impl FolderStore for WantingStore {
     ghost use Rattle.std.specs.Prelude.{None};
     ghost use Rattle.std.specs.FinMap.{empty};
-    ghost use Rattle.par2_folder.specs.Memory.{memory_failures};
+    ghost use Rattle.par2_folder.specs.Memory.{memory_failures, memory_impossible};
 
     ghost honest = { λ _. ⊥ };
 
     ghost contents = { λ _. record { files = empty; journal = None } };
 
     ghost failures = { λ store. memory_failures store.inner };
+
+    ghost impossible = { λ store. memory_impossible store.inner };
 
     fn names(&mut self, alloc: Global) -> Result<Vec<Name>, ReadFault> {
         if self.has_memory() {

@@ -2,7 +2,8 @@ use Rattle.std.proofs.Common.{◌∙◌, ◌≡◌, ◌<◌, ◌≤◌, length, 
 use Rattle.std.specs.FinMap as map_of
 use Rattle.std.specs.FinMap.{entries}
 use Rattle.par2_spec.specs.Folders.{names}
-use Rattle.par2_folder.proofs.Sorted.{begins_empty, next_file, is_whole}
+use Rattle.par2_folder.proofs.Sorted.{begins_empty, still_there, next_file, is_whole}
+use Rattle.par2_spec.specs.Stores.{Contents}
 use Rattle.par2_folder.proofs.Filling.{tried}
 use Rattle.par2_folder.proofs.loading.read_folder.Goals as goal
 
@@ -12,6 +13,7 @@ loop-name-init g c = record {
   same = c.in-Ok.ensures.same;
   later = c.in-Ok.ensures.later;
   steady = c.in-Ok.ensures.steady;
+  possible = λ _. c.in-Ok.ensures.possible;
   listed = λ h. c.deref-name-items.ensures.value ∙ c.in-Ok.ensures.names h;
   files = λ h. ap entries (c.in-Ok-reserve.ensures.files ∙ c.new-folder.ensures.files) ∙ begins_empty (g.S.FolderStore.contents c.args.store.now).files;
   places = let room = c.in-Ok-reserve.ensures.ok in omega (arith, c.len.ensures, c.deref-name-items.ensures.len);
@@ -26,6 +28,9 @@ loop-name-preserved g c =
       same = λ h. c.in-Ok-read.ensures.same (so_far.honest h) ∙ so_far.same h;
       later = omega (arith, so_far.later, c.in-Ok-read.ensures.later);
       steady = c.in-Ok-read.ensures.steady ∙ so_far.steady;
+      possible = λ h.
+          let files = ap (λ (k : Contents). k.files) (so_far.same h) in
+          c.in-Ok-read.ensures.possible (so_far.honest h) (still_there _ _ _ _ _ files (so_far.listed h) c.loop-name-test.true c.name-item.is) ∙ so_far.possible h;
       listed = so_far.listed;
       files = λ h.
           let whole = (g.S.FolderStore.contents c.args.store.now).files in
@@ -39,6 +44,12 @@ loop-name-preserved g c =
           ap entries (after.written next.is_new room) ∙ next.files;
       places = after.places _ _ so_far.places c.loop-name-test.true;
     }
+
+pub returns-in-Err-read-clause-possible : goal.returns-in-Err-read-clause-possible
+returns-in-Err-read-clause-possible g c h =
+    let so_far = c.loop-name.invariant in
+    let files = ap (λ (k : Contents). k.files) (so_far.same h) in
+    c.in-Err-read.ensures.possible (so_far.honest h) (still_there _ _ _ _ _ files (so_far.listed h) c.loop-name-test.true c.name-item.is) ∙ so_far.possible h
 
 pub returns-clause-files : goal.returns-clause-files
 returns-clause-files g c h = is_whole _ _ c.loop-name.name-index (c.loop-name.invariant.files h) (subst (λ l. length l ≤ c.loop-name.name-index) (c.loop-name.invariant.listed h) c.loop-name-test.false)

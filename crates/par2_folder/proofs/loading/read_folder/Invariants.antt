@@ -11,6 +11,7 @@ invariant-loop-name g l =
       same : S.honest l.fn.store → S.contents l.store ≡ S.contents l.fn.store;
       later : S.failures l.fn.store ≤ S.failures l.store;
       steady : S.failures l.store ≡ S.failures l.fn.store;
+      possible : S.honest l.fn.store → S.impossible l.store ≡ S.impossible l.fn.store;
       listed : S.honest l.fn.store → l.name-items ≡ names (S.contents l.fn.store).files;
       files : S.honest l.fn.store → entries l.folder.files ≡ take l.name-index (entries (S.contents l.fn.store).files);
       places : length l.name-items ≤ l.folder.vacant + l.name-index;

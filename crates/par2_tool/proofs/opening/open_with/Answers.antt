@@ -7,7 +7,7 @@ use Rattle.par2_spec.specs.declared.JournalFault.TheVariants.{JournalInvalid, Fo
 use Rattle.par2_journal.specs.Opened.{opened_of, session_before, way_left}
 use Rattle.par2_tool.specs.Held.{Holds, OpensAsBefore, kept}
 use Rattle.par2_tool.proofs.Made.{is_new}
-use Rattle.par2_tool.proofs.Reopened.{any_err, holds_settled, holds_taken_back, opens_read, opens_refused, opens_still, takes_back}
+use Rattle.par2_tool.proofs.Reopened.{any_err, holds_settled, holds_taken_back, opens_read, opens_refused, opens_still, takes_back, way_applies}
 use Rattle.par2_tool.proofs.opening.open_with.Goals as goal
 
 pub returns-in_err-session-in-Ok-Begun-clause-stopped : goal.returns-in_err-session-in-Ok-Begun-clause-stopped
@@ -93,3 +93,15 @@ returns-in_ok-session-in-Ok-Begun-clause-left g c honest read =
     let halfway = c.in-Ok-Begun.halfway in
     let opens = subst (λ found. Opens files text (Ok (opened_of found))) c.in-Ok-Begun.field-0-is c.in-Ok-Begun.ensures.opened in
     inr (takes_back (g.S.FolderStore.contents c.args.store.now) (g.S.FolderStore.contents c.take_back.new.store) files text (session_of_kept (session_before halfway)) (way_left halfway) read opens (c.in_ok-session-in-Ok-Begun.ensures.done honest))
+
+pub returns-in_err-session-in-Ok-Begun-clause-possible : goal.returns-in_err-session-in-Ok-Begun-clause-possible
+returns-in_err-session-in-Ok-Begun-clause-possible g c honest read =
+    let halfway = c.in-Ok-Begun.halfway in
+    let opens = subst (λ found. Opens c.args.folder.files c.args.text.now (Ok (opened_of found))) c.in-Ok-Begun.field-0-is c.in-Ok-Begun.ensures.opened in
+    c.take_back.ensures.possible honest (way_applies (g.S.FolderStore.contents c.args.store.now) _ _ (session_of_kept (session_before halfway)) (way_left halfway) read opens)
+
+pub returns-in_ok-session-in-Ok-Begun-clause-possible : goal.returns-in_ok-session-in-Ok-Begun-clause-possible
+returns-in_ok-session-in-Ok-Begun-clause-possible g c honest read =
+    let halfway = c.in-Ok-Begun.halfway in
+    let opens = subst (λ found. Opens c.args.folder.files c.args.text.now (Ok (opened_of found))) c.in-Ok-Begun.field-0-is c.in-Ok-Begun.ensures.opened in
+    c.take_back.ensures.possible honest (way_applies (g.S.FolderStore.contents c.args.store.now) _ _ (session_of_kept (session_before halfway)) (way_left halfway) read opens)

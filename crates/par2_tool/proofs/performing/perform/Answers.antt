@@ -15,7 +15,7 @@ use Rattle.par2_journal.specs.Ready.{changes_of, committed}
 use Rattle.par2_tool.specs.Held.{TellsApartAlong, OpensAsBeforeOrAfter}
 use Rattle.par2_tool.specs.Performed.{written_down, AreSomeMade, HoldsJournaled, IsStoppedAt, IsWritten}
 use Rattle.par2_tool.proofs.Verified.{as_it_was, verify_leaves, verify_refused, written_by}
-use Rattle.par2_tool.proofs.Stopping.{none_made, written_holds, written_journal, stopped_opens, asked_in_order}
+use Rattle.par2_tool.proofs.Stopping.{none_made, ready_applies, written_holds, written_journal, stopped_opens, asked_in_order}
 use Rattle.par2_tool.proofs.performing.perform.Goals as goal
 
 pub returns-in-Ok-clause-session : goal.returns-in-Ok-clause-session
@@ -101,3 +101,21 @@ returns-in-Err-write_down-clause-in_order g c honest =
     let stop = subst (λ (cs : List defined.Change). IsStoppedAt start journals cs new) made (c.in-Err-write_down.ensures.stopped honest) in
     subst (λ (x : Command). AreSomeMade (changes_asked (session_of_kept c.args.session.now) (command_of x)) start.files new.files) (sym c.in-Act.is)
     (asked_in_order c.args.session.now mid (action_of c.in-Act.action) ready c.in-Ok-prepare.ensures.kept c.in-Ok-prepare.ensures.ready start journals new stop)
+
+pub returns-in-Ok-write_down-clause-possible : goal.returns-in-Ok-write_down-clause-possible
+returns-in-Ok-write_down-clause-possible g c honest files =
+    let ready = c.in-Ok-prepare.prepared in
+    let mid = c.prepare.new.self in
+    let made : map change_of c.changes.result.now ≡ changes_of ready.kind mid = c.changes.ensures ∙ (λ i. changes_of (c.in-Ok-journals.ensures.prepared i).kind (c.in-Ok-journals.ensures.unchanged i)) in
+    c.write_down.ensures.possible honest
+    (ready_applies c.args.session.now mid ready c.in-Ok-prepare.ensures.kept c.folder-folder.ensures.walks c.in-Ok-prepare.ensures.ready.fits.can
+    (g.S.FolderStore.contents c.args.store.now) files _ made)
+
+pub returns-in-Err-write_down-clause-possible : goal.returns-in-Err-write_down-clause-possible
+returns-in-Err-write_down-clause-possible g c honest files =
+    let ready = c.in-Ok-prepare.prepared in
+    let mid = c.prepare.new.self in
+    let made : map change_of c.changes.result.now ≡ changes_of ready.kind mid = c.changes.ensures ∙ (λ i. changes_of (c.in-Ok-journals.ensures.prepared i).kind (c.in-Ok-journals.ensures.unchanged i)) in
+    c.write_down.ensures.possible honest
+    (ready_applies c.args.session.now mid ready c.in-Ok-prepare.ensures.kept c.folder-folder.ensures.walks c.in-Ok-prepare.ensures.ready.fits.can
+    (g.S.FolderStore.contents c.args.store.now) files _ made)

@@ -3,7 +3,7 @@ use Rattle.std.proofs.lemmas.List.{take-map}
 use Rattle.par2_spec.specs.Stores.{Contents, changed}
 use Rattle.par2_folder.specs.Views.{change_of}
 use Rattle.par2_tool.specs.Performed.{all_changed}
-use Rattle.par2_tool.proofs.Made.{made_next}
+use Rattle.par2_tool.proofs.Made.{applicable_here, made_next}
 use Rattle.par2_tool.proofs.writing.write_changes.Goals as goal
 
 pub returns-in-Err-clause-stopped : goal.returns-in-Err-clause-stopped
@@ -27,6 +27,11 @@ returns-in-Err-clause-stopped g c honest =
       )
     ]
 
+pub returns-in-Err-clause-possible : goal.returns-in-Err-clause-possible
+returns-in-Err-clause-possible g c h all =
+    let held = c.loop-change.invariant in
+    c.in-Err.ensures.possible (held.honest h) (applicable_here _ _ _ _ c.change-item.result (held.made h) c.loop-change-test.true c.change-item.is all) ∙ held.possible h all
+
 pub loop-change-preserved : goal.loop-change-preserved
 loop-change-preserved g c =
     let held = c.loop-change.invariant in
@@ -39,4 +44,6 @@ loop-change-preserved g c =
           ∙ made_next (g.S.FolderStore.contents c.args.store.now) c.args.changes.now c.loop-change.change-index item c.loop-change-test.true c.change-item.is;
       later = omega (arith, held.later, c.write_change.ensures.later);
       steady = c.in-Ok.ensures.steady ∙ held.steady;
+      possible = λ h all.
+          c.write_change.ensures.possible (held.honest h) (applicable_here _ _ _ _ item (held.made h) c.loop-change-test.true c.change-item.is all) ∙ held.possible h all;
     }

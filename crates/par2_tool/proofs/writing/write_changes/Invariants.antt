@@ -1,4 +1,5 @@
-use Rattle.std.proofs.Common.{◌≡◌, ◌≤◌, map, take}
+use Rattle.std.proofs.Common.{◌≡◌, ◌≤◌, IsTrue, map, take}
+use Rattle.par2_spec.specs.Changes.{are_applicable}
 use Rattle.par2_folder.specs.Views.{change_of}
 use Rattle.par2_tool.specs.Performed.{all_changed}
 use Rattle.par2_tool.proofs.writing.write_changes.Given as goal
@@ -9,4 +10,5 @@ invariant-loop-change g l = record {
   made : g.S.FolderStore.honest l.initial.store → g.S.FolderStore.contents l.store ≡ all_changed (g.S.FolderStore.contents l.initial.store) (map change_of (take l.change-index l.changes));
   later : g.S.FolderStore.failures l.initial.store ≤ g.S.FolderStore.failures l.store;
   steady : g.S.FolderStore.failures l.store ≡ g.S.FolderStore.failures l.initial.store;
+  possible : g.S.FolderStore.honest l.initial.store → IsTrue (are_applicable (g.S.FolderStore.contents l.initial.store).files (map change_of l.changes)) → g.S.FolderStore.impossible l.store ≡ g.S.FolderStore.impossible l.initial.store;
 }
