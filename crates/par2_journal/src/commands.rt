@@ -7,7 +7,7 @@ use par2_spec::Action;
 use std::alloc::{AllocError, Global};
 
 impl Session {
-    ghost use Rattle.std.specs.Prelude.{◌≡◌, map, string_bytes, IfOk, IfErr, IsTrue, ◌⊎◌, Ok, Err, drop, OnOk, OnErr};
+    ghost use Rattle.std.specs.Prelude.{◌≡◌, [], map, string_bytes, IfOk, IfErr, IsErrOf, IsTrue, ◌⊎◌, Ok, Err, drop, OnOk, OnErr};
     ghost use Rattle.std.specs.List.{AllByRecursion};
     ghost use Rattle.par2_spec.specs.Changes.{are_applicable};
     ghost use Rattle.par2_spec.specs.Commands.{Do, Undo, Redo, Create, Repair, Purge};
@@ -92,6 +92,7 @@ impl Session {
     fn prepare_undo(&self, alloc: Global) -> Result<Prepared, SessionFault>
         ensures ready { IfOk result (λ prepared. IsReady Undo self.now prepared self.now) }
         ensures refused { IfErr result (MayRefuse Undo self.now) }
+        ensures at_the_end { self.now.undos ≡ [] → IsErrOf result SessionFault.NothingToUndo }
     {
         if self.undo_depth() == 0 {
             return Err(SessionFault::NothingToUndo);
@@ -108,6 +109,7 @@ impl Session {
     fn prepare_redo(&self, alloc: Global) -> Result<Prepared, SessionFault>
         ensures ready { IfOk result (λ prepared. IsReady Redo self.now prepared self.now) }
         ensures refused { IfErr result (MayRefuse Redo self.now) }
+        ensures at_the_end { self.now.redos ≡ [] → IsErrOf result SessionFault.NothingToRedo }
     {
         if self.redo_depth() == 0 {
             return Err(SessionFault::NothingToRedo);
@@ -129,6 +131,10 @@ impl Session {
         ensures leads { IfOk result (λ _.
             LeadsToAfterAsked self.old.folder.files (action_of action.now)) }
         ensures refused { IfErr result (MayRefuse (action_of action.now) self.old) }
+        ensures nothing_to_undo { action_of action.now ≡ Undo → self.old.undos ≡ []
+            → IsErrOf result SessionFault.NothingToUndo }
+        ensures nothing_to_redo { action_of action.now ≡ Redo → self.old.redos ≡ []
+            → IsErrOf result SessionFault.NothingToRedo }
     {
         match action {
             Action::Create(args) => Ok(self.prepare_create(alloc, args)?),

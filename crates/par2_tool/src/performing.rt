@@ -1,5 +1,6 @@
 //! A command is performed on a store and its session.
-ghost use Rattle.std.specs.Prelude.{◌≡◌, ◌<◌, ◌≤◌, Ok, IfOk, IfErr, OnOk, OnErr};
+ghost use Rattle.std.specs.Prelude.{◌≡◌, ◌<◌, ◌≤◌, [], Ok, IfOk, IfErr, IsErrOf, OnOk, OnErr};
+ghost use Rattle.par2_spec.specs.Commands.{Undo, Redo};
 ghost use Rattle.par2_spec.specs.Rules.{LeadsToAfterAsked};
 ghost use Rattle.par2_spec.specs.Sessions.{session_of_kept, session_after, changes_asked};
 ghost use Rattle.par2_spec.specs.Views.{command_of};
@@ -71,6 +72,10 @@ pub fn perform<S: FolderStore>(
     ensures possible { S.honest store.old
         → (S.contents store.old).files ≡ session.old.folder.files
         → S.impossible store.new ≡ S.impossible store.old }
+    ensures nothing_to_undo { command_of command.now ≡ Undo → session.old.undos ≡ []
+        → IsErrOf result (PerformFault.Session SessionFault.NothingToUndo) }
+    ensures nothing_to_redo { command_of command.now ≡ Redo → session.old.redos ≡ []
+        → IsErrOf result (PerformFault.Session SessionFault.NothingToRedo) }
 {
     // What a stop leaves opens only where the session's entries can be walked: the call's contract says so.
     let _folder = session.folder();
