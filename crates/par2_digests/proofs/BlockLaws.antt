@@ -1,28 +1,10 @@
 -- The blocks of a message and their words.
-use Rattle.std.proofs.Common.{◌≡◌, ℕ, zero, suc, ◌+◌, ◌*◌, ◌<◌, ◌≤◌, List, [], ◌∷◌, length, take, drop, get_or, inl, inr, ap, refl, sym, ◌∙◌, arith}
-use Rattle.std.proofs.lemmas.Bool.{cases_lt}
-use Rattle.std.proofs.lemmas.List.{same_lists, get_or-take, get_or-drop, drop-take, take-take, length-append, length-map, get_or-map, get_or_append_left, get_or_at, drop-drop}
+use Rattle.std.proofs.Common.{◌≡◌, ℕ, suc, ◌+◌, ◌*◌, ◌<◌, ◌≤◌, List, [], ◌∷◌, ◌++◌, take, drop, get_or, ap, ap₂, refl, sym, ◌∙◌, arith}
+use Rattle.std.proofs.lemmas.List.{get_or-take, get_or-drop, drop-take, take-take, drop-drop}
 use Rattle.md5.specs.Md5.{block_words, compress, hash_after, word_at}
-use Rattle.par2_digests.specs.Lanes.{lane_words}
+use Rattle.par2_digests.specs.Lanes.{four_words_at}
 
 -- ---- words
-
-count_of_words : (b : List ℕ) (n : ℕ) → length (block_words b n) ≡ n
-unfolding block_words
-count_of_words b zero = refl
-count_of_words b (suc n) = omega (arith, length-append (block_words b n) (word_at b (4 * n) ∷ []), count_of_words b n)
-
-word_of_block : (b : List ℕ) (n i d : ℕ) → i < n → get_or (block_words b n) i d ≡ word_at b (4 * i)
-unfolding block_words
-word_of_block b zero i d h = absurd (omega arith)
-word_of_block b (suc n) i d h = elim (cases_lt i n) [
-  | inl below ↦
-      let within : i < length (block_words b n) = omega (arith, count_of_words b n) in
-      get_or_append_left (block_words b n) (word_at b (4 * n) ∷ []) d i within ∙ word_of_block b n i d below
-  | inr above ↦
-      let last : n ≡ i = omega arith in
-      rw (← last) (get_or_at (block_words b n) (word_at b (4 * n)) [] d n (count_of_words b n))
-]
 
 byte_of_part : (text : List ℕ) (n at i j : ℕ) → i + j < n → get_or (take n (drop at text)) (i + j) 0 ≡ get_or text (at + i + j) 0
 byte_of_part text n at i j h =
@@ -36,23 +18,41 @@ word_in_text text n at i h =
     get_or-take n (drop at text) i 0 (omega arith) ∙ get_or-drop at text i 0 in
     rw (first, byte_of_part text n at i 1 (omega arith), byte_of_part text n at i 2 (omega arith), byte_of_part text n at i 3 (omega arith)) refl
 
--- sixteen vectors hold the words of such a block in a lane
-pub words_of_lane : {V : Type 0} (at : V → ℕ → ℕ) (words : List V) (text : List ℕ) (k start offset : ℕ) → length words ≡ 16
-    → ((i : ℕ) (none : V) → i < 16 → at (get_or words i none) k ≡ word_at text (start + (offset + 4 * i)))
-    → lane_words at k words ≡ block_words (take 64 (drop (start + offset) text)) 16
-words_of_lane at [] text k start offset count each = absurd (omega arith)
-words_of_lane at (first ∷ others) text k start offset count each =
-    let words : List _ = first ∷ others in
-    let block = take 64 (drop (start + offset) text) in
-    let len : length (lane_words at k words) ≡ 16 = length-map words _ ∙ count in
-    same_lists (lane_words at k words) (block_words block 16) (len ∙ sym (count_of_words block 16)) (λ i d h.
-    let low : i < 16 = omega arith in
-    let place : start + (offset + 4 * i) ≡ start + offset + 4 * i = omega arith in
-    get_or-map (λ word. at word k) words i first d (omega arith)
-    ∙ each i first low
-    ∙ ap (word_at text) place
-    ∙ sym (word_in_text text 64 (start + offset) (4 * i) (omega arith))
-    ∙ sym (word_of_block block 16 i d low))
+four_alike : (a b c d x y z w : ℕ) → a ≡ x → b ≡ y → c ≡ z → d ≡ w → a ∷ b ∷ c ∷ d ∷ [] ≡ x ∷ y ∷ z ∷ w ∷ []
+four_alike a b c d x y z w ax by cz dw = rw (ax, by, cz, dw) refl
+
+-- four words of that block
+four_in_text : (text : List ℕ) (at i : ℕ) → i + 16 ≤ 64 → four_words_at (take 64 (drop at text)) i ≡ four_words_at text (at + i)
+four_in_text text at i h =
+    let second : at + (i + 4) ≡ at + i + 4 = omega arith in
+    let third : at + (i + 8) ≡ at + i + 8 = omega arith in
+    let fourth : at + (i + 12) ≡ at + i + 12 = omega arith in
+    four_alike _ _ _ _ _ _ _ _ (word_in_text text 64 at i (omega arith))
+    (word_in_text text 64 at (i + 4) (omega arith) ∙ ap (word_at text) second)
+    (word_in_text text 64 at (i + 8) (omega arith) ∙ ap (word_at text) third)
+    (word_in_text text 64 at (i + 12) (omega arith) ∙ ap (word_at text) fourth)
+
+by_fours : (b : List ℕ) → block_words b 16 ≡ four_words_at b 0 ++ (four_words_at b 16 ++ (four_words_at b 32 ++ four_words_at b 48))
+unfolding block_words
+by_fours b = refl
+
+-- the words of that block, from its four quarters
+pub words_of_quarters : (text first second third fourth : List ℕ) (start offset : ℕ) → first ≡ four_words_at text (start + offset)
+    → second ≡ four_words_at text (start + (offset + 16)) → third ≡ four_words_at text (start + (offset + 32)) → fourth ≡ four_words_at text (start + (offset + 48))
+    → first ++ (second ++ (third ++ fourth)) ≡ block_words (take 64 (drop (start + offset) text)) 16
+words_of_quarters text first second third fourth start offset a b c d =
+    let at : ℕ = start + offset in
+    let block : List ℕ = take 64 (drop at text) in
+    let place-a : start + offset ≡ at + 0 = omega arith in
+    let place-b : start + (offset + 16) ≡ at + 16 = omega arith in
+    let place-c : start + (offset + 32) ≡ at + 32 = omega arith in
+    let place-d : start + (offset + 48) ≡ at + 48 = omega arith in
+    let quarter : (i p : ℕ) → i + 16 ≤ 64 → p ≡ at + i → four_words_at text p ≡ four_words_at block i =
+    λ i p h place. ap (four_words_at text) place ∙ sym (four_in_text text at i h) in
+    ap₂ (λ (x y : List ℕ). x ++ y) (a ∙ quarter 0 _ (omega arith) place-a)
+    (ap₂ (λ (x y : List ℕ). x ++ y) (b ∙ quarter 16 _ (omega arith) place-b)
+    (ap₂ (λ (x y : List ℕ). x ++ y) (c ∙ quarter 32 _ (omega arith) place-c) (d ∙ quarter 48 _ (omega arith) place-d)))
+    ∙ sym (by_fours block)
 
 -- ---- blocks
 

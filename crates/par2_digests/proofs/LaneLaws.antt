@@ -1,9 +1,10 @@
 -- Operations on vectors, read at one lane.
-use Rattle.std.proofs.Common.{below_more, ◌≡◌, ℕ, ◌<◌, List, map, length, get_or, ap₂, sym, ◌∙◌, arith}
-use Rattle.std.proofs.lemmas.List.{get_or-map, length-map}
+use Rattle.std.proofs.Common.{below_more, refl, ◌≡◌, ℕ, ◌-◌, ◌<◌, ◌≤◌, List, [], ◌∷◌, ◌++◌, map, length, get_or, ap₂, sym, ◌∙◌, arith}
+use Rattle.std.proofs.lemmas.List.{get_or-append_right, get_or-map, get_or_append_left, length-map}
 use Rattle.std.proofs.lemmas.Simd.{get_or-zip2, length-zip2}
 use Rattle.std.specs.Prelude.{slice_index}
-use Rattle.par2_digests.specs.Lanes.{lane_words}
+use Rattle.par2_digests.specs.Lanes.{AreOfFour, lane_words, quad_words}
+use Rattle.par2_digests.specs.declared.quads.Quad.{Quad}
 use lib.Lanes.{zip2}
 
 -- what holds at each of eight lanes
@@ -37,3 +38,64 @@ lane_of_pair f g h n x y u v k lx ly lu lv low =
 -- word i of a lane
 pub word_of_lane : {V : Type 0} (at : V → ℕ → ℕ) (words : List V) (k i : ℕ) (none : V) → i < length words → at (get_or words i none) k ≡ slice_index (lane_words at k words) i
 word_of_lane at words k i none h = sym (get_or-map (λ word. at word k) words i none 0 h)
+
+-- ---- four lanes
+
+all_of_four : (x : List ℕ) → IsVector 4 x → get_or x 0 0 ∷ get_or x 1 0 ∷ get_or x 2 0 ∷ get_or x 3 0 ∷ [] ≡ x
+all_of_four [] count = absurd (omega (arith, count))
+all_of_four (a ∷ []) count = absurd (omega (arith, count))
+all_of_four (a ∷ b ∷ []) count = absurd (omega (arith, count))
+all_of_four (a ∷ b ∷ c ∷ []) count = absurd (omega (arith, count))
+all_of_four (a ∷ b ∷ c ∷ d ∷ []) count = refl
+all_of_four (a ∷ b ∷ c ∷ d ∷ e ∷ others) count = absurd (omega (arith, count))
+
+-- the lanes of two vectors of four
+pub first_four : (x y : List ℕ) → IsVector 4 x → get_or (x ++ y) 0 0 ∷ get_or (x ++ y) 1 0 ∷ get_or (x ++ y) 2 0 ∷ get_or (x ++ y) 3 0 ∷ [] ≡ x
+first_four x y count =
+    rw (get_or_append_left x y 0 0 (omega (arith, count)), get_or_append_left x y 0 1 (omega (arith, count)), get_or_append_left x y 0 2 (omega (arith, count)), get_or_append_left x y 0 3 (omega (arith, count)))
+    (all_of_four x count)
+
+pub last_four : (x y : List ℕ) → IsVector 4 x → IsVector 4 y → get_or (x ++ y) 4 0 ∷ get_or (x ++ y) 5 0 ∷ get_or (x ++ y) 6 0 ∷ get_or (x ++ y) 7 0 ∷ [] ≡ y
+last_four x y count-x count-y =
+    rw (get_or-append_right x y 4 4 0 count-x (omega arith), get_or-append_right x y 4 5 0 count-x (omega arith), get_or-append_right x y 4 6 0 count-x (omega arith), get_or-append_right x y 4 7 0 count-x (omega arith))
+    (all_of_four y count-y)
+
+-- each vector is that of `low` and behind it that of `high`
+pub record ArePairs (q low high : Quad (List ℕ)) : Type 0 where
+  pub first : q.first ≡ low.first ++ high.first
+  pub second : q.second ≡ low.second ++ high.second
+  pub third : q.third ≡ low.third ++ high.third
+  pub fourth : q.fourth ≡ low.fourth ++ high.fourth
+  pub sizes : AreOfFour low
+
+-- the words in a lane of eight, of two vectors of four each
+pub low_lane : (q low high : Quad (List ℕ)) (k : ℕ) → k < 4 → ArePairs q low high → quad_words slice_index k q ≡ quad_words slice_index k low
+low_lane q low high k below pairs =
+    rw (
+      pairs.first,
+      pairs.second,
+      pairs.third,
+      pairs.fourth,
+      get_or_append_left low.first high.first 0 k (omega (arith, pairs.sizes.first)),
+      get_or_append_left low.second high.second 0 k (omega (arith, pairs.sizes.second)),
+      get_or_append_left low.third high.third 0 k (omega (arith, pairs.sizes.third)),
+      get_or_append_left low.fourth high.fourth 0 k (omega (arith, pairs.sizes.fourth)),
+    ) refl
+
+pub high_lane : (q low high : Quad (List ℕ)) (k : ℕ) → 4 ≤ k → ArePairs q low high → quad_words slice_index k q ≡ quad_words slice_index (k - 4) high
+high_lane q low high k above pairs =
+    rw (
+      pairs.first,
+      pairs.second,
+      pairs.third,
+      pairs.fourth,
+      get_or-append_right low.first high.first 4 k 0 pairs.sizes.first above,
+      get_or-append_right low.second high.second 4 k 0 pairs.sizes.second above,
+      get_or-append_right low.third high.third 4 k 0 pairs.sizes.third above,
+      get_or-append_right low.fourth high.fourth 4 k 0 pairs.sizes.fourth above,
+    ) refl
+
+-- what holds at each of four lanes
+pub each_of_four : (P : ℕ → Type 0) → P 0 → P 1 → P 2 → P 3 → (k : ℕ) → k < 4 → P k
+each_of_four P p0 p1 p2 p3 =
+    below_more P 3 (below_more P 2 (below_more P 1 (below_more P 0 (λ k h. absurd (omega arith)) p0) p1) p2) p3

@@ -1,5 +1,7 @@
 -- What a lane of some vectors holds.
-use Rattle.std.specs.Prelude.{ℕ, List, [], ◌∷◌, map}
+use Rattle.std.specs.Prelude.{ℕ, List, [], ◌∷◌, ◌+◌, ◌≡◌, length, map}
+use Rattle.md5.specs.Md5.{word_at}
+use Rattle.par2_digests.specs.declared.quads.Quad.{Quad}
 use Rattle.par2_digests.specs.declared.steps.State.{State}
 
 -- the four variables in lane k, where `at` reads a vector's lane
@@ -9,3 +11,18 @@ lane at k state = at state.a k ∷ at state.b k ∷ at state.c k ∷ at state.d 
 -- the words in lane k
 abbrev pub lane_words : {V : Type 0} → (V → ℕ → ℕ) → ℕ → List V → List ℕ
 lane_words at k words = map (λ word. at word k) words
+
+-- the four words of a text from `at` on
+abbrev pub four_words_at : List ℕ → ℕ → List ℕ
+four_words_at text at = word_at text at ∷ word_at text (at + 4) ∷ word_at text (at + 8) ∷ word_at text (at + 12) ∷ []
+
+-- the four words in lane k
+abbrev pub quad_words : {V : Type 0} → (V → ℕ → ℕ) → ℕ → Quad V → List ℕ
+quad_words at k quad = at quad.first k ∷ at quad.second k ∷ at quad.third k ∷ at quad.fourth k ∷ []
+
+-- each vector has four lanes
+pub record AreOfFour (quad : Quad (List ℕ)) : Type 0 where
+  pub first : length quad.first ≡ 4
+  pub second : length quad.second ≡ 4
+  pub third : length quad.third ≡ 4
+  pub fourth : length quad.fourth ≡ 4

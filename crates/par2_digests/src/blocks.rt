@@ -8,20 +8,25 @@ ghost use Rattle.par2_digests.specs.Lanes.{lane, lane_words};
 use crate::lanes::Lanes;
 use crate::steps::{State, Words, compressed};
 
-// Reads the words of the blocks that begin `offset` bytes behind each start.
+// The words of the blocks that begin `offset` bytes behind each start.
 #[inline(always)]
-fn read_words<V: Lanes>(words: &mut Words<V>, bytes: &[u8], starts: &[usize], offset: usize)
+fn read_words<V: Lanes>(bytes: &[u8], starts: &[usize], offset: usize) -> Words<V>
     requires enough { V.count ≤ length starts.now }
     requires room { offset + 64 ≤ length bytes.now }
     requires within { (k : ℕ) → k < V.count
         → slice_index starts.now k + offset + 64 ≤ length bytes.now }
     ensures { (k : ℕ) → k < V.count
-        → lane_words V.at k words.new
+        → lane_words V.at k result
         ≡ block_words (take 64 (drop (slice_index starts.now k + offset) bytes.now)) 16 }
 {
-    for i in 0..16usize {
-        words[i] = V::gathered(bytes, starts, offset + 4 * i);
-    }
+    let a = V::four_words(bytes, starts, offset);
+    let b = V::four_words(bytes, starts, offset + 16);
+    let c = V::four_words(bytes, starts, offset + 32);
+    let d = V::four_words(bytes, starts, offset + 48);
+    [
+        a.first, a.second, a.third, a.fourth, b.first, b.second, b.third, b.fourth, c.first,
+        c.second, c.third, c.fourth, d.first, d.second, d.third, d.fourth,
+    ]
 }
 
 /// The hash values after `count` blocks more of each message, which begin at the starts. A block's words go through
@@ -46,7 +51,7 @@ pub(crate) fn absorbed<V: Lanes>(
 {
     let mut after = state;
     for block in 0..count {
-        read_words(words, bytes, starts, 64 * block);
+        *words = read_words(bytes, starts, 64 * block);
         after = compressed(after, words);
     }
     after
@@ -67,6 +72,6 @@ pub(crate) fn after_block<V: Lanes>(
         → lane V.at k result
         ≡ compress (lane V.at k state) (take 64 (drop (slice_index starts.now k) bytes.now)) }
 {
-    read_words(words, bytes, starts, 0);
+    *words = read_words(bytes, starts, 0);
     compressed(state, words)
 }

@@ -2,9 +2,11 @@
 
 ghost use Rattle.std.specs.Prelude.{◌≡◌, ◌≤◌, ◌<◌, ◌+◌, ℕ, length, slice_index};
 ghost use Rattle.std.specs.Int.{w32, rotate_left};
-ghost use Rattle.md5.specs.Md5.{add32, f_fn, g_fn, h_fn, i_fn, word_at};
+ghost use Rattle.md5.specs.Md5.{add32, f_fn, g_fn, h_fn, i_fn};
+ghost use Rattle.par2_digests.specs.Lanes.{four_words_at, quad_words};
 
-use crate::words::{f_words, gathered_words, h_words, i_words, plus_g_words, rotated_words};
+use crate::quads::{Quad, four_words};
+use crate::words::{f_words, h_words, i_words, plus_g_words, rotated_words};
 use std::simd::prelude::*;
 
 /// A word of each of several messages.
@@ -38,13 +40,14 @@ pub(crate) trait Lanes: Copy {
     fn rotated(x: Self, shift: u32) -> Self
         ensures { (k : ℕ) → k < count → at result k ≡ rotate_left w32 (at x k) shift };
 
-    /// The words that stand `offset` bytes behind each start.
-    fn gathered(bytes: &[u8], starts: &[usize], offset: usize) -> Self
+    /// Four words of each message, which stand `offset` bytes behind its start.
+    fn four_words(bytes: &[u8], starts: &[usize], offset: usize) -> Quad<Self>
         requires enough { count ≤ length starts.now }
+        requires room { offset + 16 ≤ length bytes.now }
         requires within { (k : ℕ) → k < count
-            → slice_index starts.now k + offset + 4 ≤ length bytes.now }
-        ensures { (k : ℕ) → k < count
-            → at result k ≡ word_at bytes.now (slice_index starts.now k + offset) };
+            → slice_index starts.now k + offset + 16 ≤ length bytes.now }
+        ensures { (k : ℕ) → k < count → quad_words at k result
+            ≡ four_words_at bytes.now (slice_index starts.now k + offset) };
 
     fn word(self, k: usize) -> u32
         requires { k < count }
@@ -92,8 +95,8 @@ impl<const N: usize> Lanes for Simd<u32, N> {
     }
 
     #[inline(always)]
-    fn gathered(bytes: &[u8], starts: &[usize], offset: usize) -> Self {
-        gathered_words(bytes, starts, offset)
+    fn four_words(bytes: &[u8], starts: &[usize], offset: usize) -> Quad<Self> {
+        four_words(bytes, starts, offset)
     }
 
     #[inline(always)]

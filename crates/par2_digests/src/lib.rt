@@ -14,6 +14,7 @@ mod lanes;
 mod midstate;
 mod padding;
 mod pending;
+mod quads;
 mod steps;
 mod tasks;
 mod texts;

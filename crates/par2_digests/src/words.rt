@@ -1,8 +1,8 @@
 //! The functions of a step (RFC 1321, 3.4) on vectors of words.
 
-ghost use Rattle.std.specs.Prelude.{◌≡◌, ◌≤◌, ◌<◌, ◌+◌, ℕ, length, slice_index};
+ghost use Rattle.std.specs.Prelude.{◌≡◌, ◌<◌, ℕ, slice_index};
 ghost use Rattle.std.specs.Int.{w32, rotate_left};
-ghost use Rattle.md5.specs.Md5.{add32, f_fn, g_fn, h_fn, i_fn, word_at};
+ghost use Rattle.md5.specs.Md5.{add32, f_fn, g_fn, h_fn, i_fn};
 
 use std::simd::prelude::*;
 
@@ -67,32 +67,4 @@ pub(crate) fn rotated_words<const N: usize>(x: Simd<u32, N>, shift: u32) -> Simd
 {
     let left = shift % 32;
     (x << Simd::splat(left)) | (x >> Simd::splat((32 - left) % 32))
-}
-
-#[inline(always)]
-fn word(bytes: &[u8], at: usize) -> u32
-    requires { at + 4 ≤ length bytes.now }
-    ensures { result ≡ word_at bytes.now at }
-{
-    u32::from_le_bytes([bytes[at], bytes[at + 1], bytes[at + 2], bytes[at + 3]])
-}
-
-/// The words that stand `offset` bytes behind each start.
-#[inline(always)]
-pub(crate) fn gathered_words<const N: usize>(
-    bytes: &[u8],
-    starts: &[usize],
-    offset: usize,
-) -> Simd<u32, N>
-    requires enough { N ≤ length starts.now }
-    requires within { (k : ℕ)
-        → k < N → slice_index starts.now k + offset + 4 ≤ length bytes.now }
-    ensures { (k : ℕ) → k < N
-        → slice_index result k ≡ word_at bytes.now (slice_index starts.now k + offset) }
-{
-    let mut words = [0; N];
-    for k in 0..N {
-        words[k] = word(bytes, starts[k] + offset);
-    }
-    Simd::from_array(words)
 }

@@ -1,0 +1,35 @@
+use Rattle.std.proofs.Common.{◌≡◌, ◌+◌, ◌-◌, ◌∙◌, ℕ, ap, arith, length, drop, get_or, inl, inr}
+use Rattle.std.proofs.lemmas.Bool.{cases_lt}
+use Rattle.std.proofs.lemmas.List.{get_or-drop, get_or-take}
+use Rattle.par2_digests.specs.Lanes.{four_words_at}
+use Rattle.par2_digests.proofs.LaneLaws.{ArePairs, high_lane, low_lane}
+use Rattle.par2_digests.proofs.quads.four_words.Goals as goal
+
+pub words_of_four-high-requires-clause-within : goal.words_of_four-high-requires-clause-within
+words_of_four-high-requires-clause-within g c = λ k low.
+    let starts = c.args.starts.now in
+    let there = get_or-take (length starts - 4) (drop 4 starts) k 0 (omega (arith, c.requires.enough, c.if-this-eq8.true, low)) ∙ get_or-drop 4 starts k 0 in
+    omega (arith, there, c.requires.within (4 + k) (omega (arith, low, c.if-this-eq8.true)))
+
+pub returns-then-this-eq8 : goal.returns-then-this-eq8
+returns-then-this-eq8 g c = λ k h.
+    let low = c.words_of_four-low.result in
+    let high = c.words_of_four-high.result in
+    let pairs : ArePairs c.quad_of.result low high = record {
+      first = c.quad_of.ensures.first ∙ c.joined.ensures;
+      second = c.quad_of.ensures.second ∙ c.joined-then-this-eq8.ensures;
+      third = c.quad_of.ensures.third ∙ c.joined-then-this-eq8-2.ensures;
+      fourth = c.quad_of.ensures.fourth ∙ c.joined-then-this-eq8-3.ensures;
+      sizes = c.words_of_four-low.ensures.lanes;
+    } in
+    elim (cases_lt k 4) [
+      | inl below ↦ low_lane c.quad_of.result low high k below pairs ∙ c.words_of_four-low.ensures.words k below
+      | inr above ↦
+          let starts = c.args.starts.now in
+          let j : ℕ = k - 4 in
+          let place : 4 + j ≡ k = omega (arith, above) in
+          let there = get_or-take (length starts - 4) (drop 4 starts) j 0 (omega (arith, c.requires.enough, c.if-this-eq8.true, h, above)) ∙ get_or-drop 4 starts j 0 ∙ ap (λ n. get_or starts n 0) place in
+          high_lane c.quad_of.result low high k above pairs
+          ∙ c.words_of_four-high.ensures.words j (omega (arith, c.if-this-eq8.true, h, above))
+          ∙ ap (λ start. four_words_at c.args.bytes.now (start + c.args.offset)) there
+    ]
