@@ -2,6 +2,7 @@
 use Rattle.std.proofs.Common.{◌≡◌, ℕ, zero, suc, ◌+◌, ◌<◌, ◌≤◌, ◌^◌, List, [], ◌∷◌, take, drop, slice_index, sym, ap, ◌∙◌, arith}
 use Rattle.std.proofs.lemmas.Nat.{from_le_bytes-to_le_bytes_4}
 use Rattle.md5.specs.Md5.{compress, digest_bytes, hash_after, word_at}
+use Rattle.par2_digests.specs.Lanes.{four_words_at}
 use Rattle.par2_digests.proofs.BlockLaws.{word_in_text}
 use Rattle.par2_digests.proofs.FeedLaws.{four_words}
 
@@ -35,14 +36,15 @@ module _ (hash : List ℕ) (fit : AreWords hash) where
   fourth_word = from_le_bytes-to_le_bytes_4 (slice_index hash 3) fit.d
 
 -- a hash value that stands in a text, read word by word
-pub hash_in_text : (text hash p : List ℕ) (at n a b c d : ℕ) → take 16 (drop at text) ≡ digest_bytes hash 4 → hash ≡ hash_after p n
-    → a ≡ word_at text (at + 0) → b ≡ word_at text (at + 4) → c ≡ word_at text (at + 8) → d ≡ word_at text (at + 12)
-    → a ∷ b ∷ c ∷ d ∷ [] ≡ hash
-hash_in_text text hash p at n a b c d here is a_is b_is c_is d_is =
+pub hash_in_text : (text hash p words : List ℕ) (at n : ℕ) → take 16 (drop at text) ≡ digest_bytes hash 4 → hash ≡ hash_after p n
+    → words ≡ four_words_at text (at + 0) → words ≡ hash
+hash_in_text text hash p words at n here is words_are =
     let fit : AreWords hash = rw is (are_words p n) in
+    let place = λ (i j : ℕ) (same : i ≡ at + j). ap (word_at text) same in
     let read = λ (i : ℕ) (h : i + 4 ≤ 16). sym (word_in_text text 16 at i h) ∙ ap (λ l. word_at l i) here in
-    (λ k. (a_is ∙ read 0 (omega arith) ∙ first_word hash fit) k
-    ∷ (b_is ∙ read 4 (omega arith) ∙ second_word hash fit) k
-    ∷ (c_is ∙ read 8 (omega arith) ∙ third_word hash fit) k
-    ∷ (d_is ∙ read 12 (omega arith) ∙ fourth_word hash fit) k ∷ [])
+    words_are
+    ∙ (λ k. (read 0 (omega arith) ∙ first_word hash fit) k
+    ∷ (place (at + 0 + 4) 4 (omega arith) ∙ read 4 (omega arith) ∙ second_word hash fit) k
+    ∷ (place (at + 0 + 8) 8 (omega arith) ∙ read 8 (omega arith) ∙ third_word hash fit) k
+    ∷ (place (at + 0 + 12) 12 (omega arith) ∙ read 12 (omega arith) ∙ fourth_word hash fit) k ∷ [])
     ∙ four_words hash p n is

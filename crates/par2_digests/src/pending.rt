@@ -43,11 +43,12 @@ fn state_of<V: Lanes>(pendings: &[Pending]) -> State<V>
         let at = HASH_LEN * k;
         bytes[at..at + HASH_LEN].copy_from_slice(&digest_of(pending.state.hash));
     }
+    let hash = V::four_words(&bytes, &STARTS, 0);
     State {
-        a: V::gathered(&bytes, &STARTS, 0),
-        b: V::gathered(&bytes, &STARTS, 4),
-        c: V::gathered(&bytes, &STARTS, 8),
-        d: V::gathered(&bytes, &STARTS, 12),
+        a: hash.first,
+        b: hash.second,
+        c: hash.third,
+        d: hash.fourth,
     }
 }
 

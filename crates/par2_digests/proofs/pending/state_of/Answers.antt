@@ -43,5 +43,5 @@ returns g c = λ k m none low within held.
     let starts : List ℕ = 0 ∷ 16 ∷ 32 ∷ 48 ∷ 64 ∷ 80 ∷ 96 ∷ 112 ∷ [] in
     let place : slice_index starts k ≡ 16 * k = each_lane (λ i. slice_index starts i ≡ 16 * i) refl refl refl refl refl refl refl refl k (omega (arith, c.requires.lanes)) in
     let here = c.loop-k.invariant.done k none (omega (arith, c.loop-k-test.false)) in
-    hash_in_text c.loop-k.bytes (get_or c.args.pendings.now k none).state.hash m (16 * k) _ _ _ _ _ here held.1.0
-    (rw place at (c.gathered.ensures k low)) (rw place at (c.gathered-2.ensures k low)) (rw place at (c.gathered-3.ensures k low)) (rw place at (c.gathered-4.ensures k low))
+    hash_in_text c.loop-k.bytes (get_or c.args.pendings.now k none).state.hash m _ (16 * k) _ here held.1.0
+    (rw place at (c.four_words-hash.ensures k low))
