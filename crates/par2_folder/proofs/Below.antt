@@ -1,5 +1,5 @@
 -- The files of a folder before a name, which changes from the name on leave as they are, and what is hashed of them.
-use Rattle.std.proofs.Common.{◌≡◌, ℕ, zero, suc, ◌-◌, ◌<◌, ◌≤◌, Bool, true, false, cond, List, [], ◌∷◌, ◌++◌, length, take, drop, Option, Some, None, inl, inr, refl, sym, ap, subst, ◌∙◌, arith, length-drop}
+use Rattle.std.proofs.Common.{◌≡◌, ℕ, zero, suc, ◌<◌, ◌≤◌, Bool, true, false, cond, List, [], ◌∷◌, ◌++◌, length, take, Option, Some, None, inl, inr, refl, sym, ap, subst, ◌∙◌, arith}
 use Rattle.std.specs.Ordering.{is_lt, is_eq, eq_by_cmp, ord_min}
 use Rattle.std.specs.declared.cmp.Ordering.{Ordering}
 use Rattle.std.specs.declared.cmp.Ordering.TheVariants.{Less, Equal, Greater}
@@ -9,12 +9,11 @@ use Rattle.std.specs.FinMap as map_of
 use Rattle.std.specs.FinMap.{entries, same_map, entries-from_sorted, get-from_sorted, get-retain_keys, get-insert, get-remove}
 use Rattle.std.specs.FinMap.Entries.{where_key, find-where_key, is_sorted-where_key}
 use Rattle.std.proofs.lemmas.Bool.{cases_lt}
-use Rattle.std.proofs.lemmas.List.{take-append-drop, take_all}
 use Rattle.std.proofs.lemmas.Grind.{flat_map-append}
 use Rattle.par2_spec.specs.Folders.{File, Folder, bytes_of, counted}
 use Rattle.par2_spec.specs.Changes.{Change, Write, Replace, Rename, Remove, effect}
 use Rattle.par2_folder.specs.View.{name_cmp, IsSortedByName, folder_of, file_at, IsAt, IsGapFor, IsKept}
-use Rattle.par2_folder.specs.Below.{is_below, folder_below, hashed, IsFrom}
+use Rattle.par2_folder.specs.Below.{is_below, folder_below, hashed, IsFrom, IsFront}
 use Rattle.par2_folder.proofs.Sorted.{same_names, holds, rises, turned, turned_back}
 
 -- ---- the files before a place
@@ -45,37 +44,49 @@ kept_where p files h =
     ∙ sym (get-from_sorted name_cmp _ q sorted)))
     ∙ entries-from_sorted name_cmp _ sorted
 
-module _ (files : List File) (kept : IsKept files) (name : List ℕ) (at : ℕ) where
-  pub below_gap : IsGapFor files name at → entries (folder_below name (folder_of files)) ≡ take at files
-  below_gap gap =
-      kept_where (is_below name) files kept.sorted
-      ∙ front_only (is_below name) files at gap.in_range (λ j lt. ap is_lt (gap.smaller_before j lt)) (λ j le lt. ap is_lt (gap.greater_after j le lt))
+-- a search tells how many names come before the name
+pub front_gap : (files : List File) (name : List ℕ) (at : ℕ) → IsGapFor files name at → IsFront (is_below name) files at
+front_gap files name at gap = record {
+  within = gap.in_range;
+  before = λ j lt. ap is_lt (gap.smaller_before j lt);
+  behind = λ j le lt. ap is_lt (gap.greater_after j le lt);
+}
 
-  pub below_at : IsAt files name at → entries (folder_below name (folder_of files)) ≡ take at files
-  below_at here = kept_where (is_below name) files kept.sorted ∙ front_only (is_below name) files at (omega (arith, here.in_range)) before after
-    where
-      before : (j : ℕ) → j < at → is_below name (file_at files j).0 ≡ true
-      before j lt = ap is_lt (subst (λ n. name_cmp (file_at files j).0 n ≡ Less) here.has_name (rises files kept.sorted j at lt here.in_range))
+pub front_at : (files : List File) → IsKept files → (name : List ℕ) (at : ℕ) → IsAt files name at → IsFront (is_below name) files at
+front_at files kept name at here = record { within = omega (arith, here.in_range); before = before; behind = behind }
+  where
+    before : (j : ℕ) → j < at → is_below name (file_at files j).0 ≡ true
+    before j lt = ap is_lt (subst (λ n. name_cmp (file_at files j).0 n ≡ Less) here.has_name (rises files kept.sorted j at lt here.in_range))
 
-      after : (j : ℕ) → at ≤ j → j < length files → is_below name (file_at files j).0 ≡ false
-      after j le lt =
-          elim (cases_lt at j) [
-            | inl later ↦ ap is_lt (turned name (file_at files j).0 (subst (λ n. name_cmp n (file_at files j).0 ≡ Less) here.has_name (rises files kept.sorted at j later lt)))
-            | inr ge ↦ let same : at ≡ j = omega arith in
-                subst (λ i. is_below name (file_at files i).0 ≡ false) same (ap is_lt (ap (λ n. name_cmp n name) here.has_name ∙ tied_itself nat_list_cmp_total name))
-          ]
+    behind : (j : ℕ) → at ≤ j → j < length files → is_below name (file_at files j).0 ≡ false
+    behind j le lt =
+        elim (cases_lt at j) [
+          | inl later ↦ ap is_lt (turned name (file_at files j).0 (subst (λ n. name_cmp n (file_at files j).0 ≡ Less) here.has_name (rises files kept.sorted at j later lt)))
+          | inr ge ↦ let same : at ≡ j = omega arith in
+              subst (λ i. is_below name (file_at files i).0 ≡ false) same (ap is_lt (ap (λ n. name_cmp n name) here.has_name ∙ tied_itself nat_list_cmp_total name))
+        ]
+
+-- the files that pass a test are those before a place
+pub front_entries : (test : List ℕ → Bool) (files : List File) → IsKept files → (count : ℕ) → IsFront test files count
+    → entries (map_of.retain_keys (folder_of files) test) ≡ take count files
+front_entries test files kept count front =
+    kept_where test files kept.sorted ∙ front_only test files count front.within front.before front.behind
+
+-- a test that more names pass has a longer front
+pub front_further : (test wider : List ℕ → Bool) (files : List File) (a b : ℕ) → IsFront test files a → IsFront wider files b
+    → ((name : List ℕ) → test name ≡ true → wider name ≡ true) → a ≤ b
+front_further test wider files a b front longer further = elim (cases_lt b a) [
+  | inl less ↦
+      let within : b < length files = omega (arith, front.within) in
+      let passes = further (file_at files b).0 (front.before b less) in
+      let fails = longer.behind b (omega arith) within in cc
+  | inr ge ↦ ge
+]
 
 -- ---- what is hashed
 
 pub hashed-append : (xs ys : List File) → hashed (xs ++ ys) ≡ hashed xs ++ hashed ys
 hashed-append xs ys = flat_map-append (λ file. counted file.0 ++ counted file.1) xs ys
-
--- what is hashed of the files before a place and of those from it on
-pub hashed_whole : (files : List File) (at : ℕ) → hashed (take at files) ++ hashed (take (length files - at) (drop at files)) ≡ hashed files
-hashed_whole files at =
-    ap (λ l. hashed (take at files) ++ hashed l) (take_all (length files - at) (drop at files) (omega (arith, length-drop at files)))
-    ∙ sym (hashed-append (take at files) (drop at files))
-    ∙ ap hashed (take-append-drop at files)
 
 -- ---- changes
 

@@ -7,4 +7,6 @@ pub mod Below
 mod Disks
 mod Lent
 pub mod Snapshots
+pub mod Borders
+pub mod RunLaws
 pub mod Walks

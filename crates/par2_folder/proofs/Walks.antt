@@ -1,95 +1,67 @@
--- The messages of the folders that a walk leads through, and their digests.
-use Rattle.std.proofs.Common.{◌≡◌, ℕ, suc, ◌+◌, ◌-◌, ◌<◌, ◌≤◌, Bool, true, false, ◌&&◌, IsTrue, get_or, append-nil, add-one, drop-cons, List, [], ◌∷◌, ◌++◌, length, map, take, drop, Result, Ok, Err, OnOk, refl, sym, ap, subst, ◌∙◌, append_assoc, arith}
-use Rattle.std.specs.FinMap.{entries}
-use Rattle.std.specs.List.{All}
-use Rattle.std.proofs.lemmas.List.{map-append, take-map, drop-map, length-map, take-take, drop-take, take-append-drop, drop_all}
+-- States of runs of folders, on their way from a border to the next along changes.
+use Rattle.std.proofs.Common.{◌≡◌, ℕ, zero, suc, ◌+◌, ◌<◌, ◌≤◌, Bool, true, false, cond, ◌&&◌, IsTrue, List, [], ◌∷◌, ◌++◌, length, map, take, drop, get_or, refl, sym, ap, subst, ◌∙◌, append_assoc, append-nil, add-one, drop-cons, arith}
+use Rattle.std.proofs.lemmas.List.{drop_all, map-append, take_more}
 use Rattle.md5.specs.Md5.{md5}
-use Rattle.par2_digests.specs.declared.midstate.Message.{Message}
-use Rattle.par2_digests.specs.Digests.{digest_at}
-use Rattle.par2_digests.specs.Messages.{message_of, message_at}
-use Rattle.par2_spec.specs.Folders.{File, Folder, fingerprint}
+use Rattle.par2_digests.specs.Messages.{HasAbsorbed}
+use Rattle.par2_digests.specs.declared.midstate.Midstate.{Midstate}
+use Rattle.par2_spec.specs.Folders.{Folder, fingerprint}
 use Rattle.par2_spec.specs.Changes as defined
 use Rattle.par2_spec.specs.Changes.{effect, is_applicable, are_applicable, folders_after}
-use Rattle.par2_folder.specs.View.{IsSortedByName, folder_of}
-use Rattle.par2_folder.specs.Below.{folder_below, hashed, IsFrom}
-use Rattle.par2_folder.specs.declared.snapshot.BorrowedFile.{BorrowedFile}
-use Rattle.par2_folder.specs.declared.change.Change.{Change}
-use Rattle.par2_folder.specs.declared.walk.Walk.{Walk}
+use Rattle.par2_folder.specs.View.{IsKept}
 use Rattle.par2_folder.specs.Views.{change_of}
-use Rattle.par2_folder.specs.Snapshots.{file_of, folder_in}
-use Rattle.par2_folder.specs.Walks.{IsWalk, fingerprints_in}
-use Rattle.par2_folder.proofs.Below.{effect_below, hashed-append, hashed_whole}
-use Rattle.par2_folder.proofs.Sorted.{fingerprint_of}
+use Rattle.par2_folder.specs.Borders.{begun, later_texts, run_texts, text_before, touches}
+use Rattle.par2_folder.specs.Runs.{AreTo, HaveAbsorbed}
+use Rattle.par2_folder.specs.Snapshots.{files_in, folder_in}
+use Rattle.par2_folder.specs.declared.border.Border.{Border}
+use Rattle.par2_folder.specs.declared.border.Border.TheVariants.{Beginning, End}
+use Rattle.par2_folder.specs.declared.change.Change.{Change}
+use Rattle.par2_folder.specs.declared.runs.Runs.{Runs}
+use Rattle.par2_folder.specs.declared.snapshot.Snapshot.{Snapshot}
+use Rattle.par2_folder.proofs.Borders.{no_text, text_on, whole_text}
 
--- a change from the name on leaves what is hashed of the files before it
-pub shared_on : (name : List ℕ) (folder next : Folder) (change : defined.Change) → IsFrom name change → next ≡ effect folder change
-    → hashed (entries (folder_below name next)) ≡ hashed (entries (folder_below name folder))
-shared_on name folder next change from is =
-    ap (λ f. hashed (entries (folder_below name f))) is ∙ ap (λ f. hashed (entries f)) (effect_below name folder change from)
+-- ---- states and texts one by one
 
--- ---- digests
+pub as_many : (states : List Midstate) (texts : List (List ℕ)) → HaveAbsorbed states texts → length texts ≡ length states
+as_many [] [] held = refl
+as_many [] (t ∷ texts) held = absurd held
+as_many (s ∷ states) [] held = absurd held
+as_many (s ∷ states) (t ∷ texts) held = ap suc (as_many states texts held.1)
 
-abbrev pub digest_of : List ℕ → Message → List ℕ
-digest_of shared message = md5 (shared ++ message_of message.parts.items)
+pub absorbed_at : (states : List Midstate) (texts : List (List ℕ)) (i : ℕ) (d : Midstate) → HaveAbsorbed states texts → i < length states → HasAbsorbed (get_or states i d) (get_or texts i [])
+absorbed_at [] texts i d held lt = absurd (omega arith)
+absorbed_at (s ∷ states) [] i d held lt = absurd held
+absorbed_at (s ∷ states) (t ∷ texts) zero d held lt = held.0
+absorbed_at (s ∷ states) (t ∷ texts) (suc i) d held lt = absorbed_at states texts i d held.1 (omega (arith, lt))
 
--- the first digests are those of the messages
-pub digests_of_all : (shared : List ℕ) (messages : List Message) (digests : List (List ℕ)) → length messages ≤ length digests
-    → ((k : ℕ) → k < length messages → digest_at digests k ≡ md5 (shared ++ message_at messages k))
-    → take (length messages) digests ≡ map (digest_of shared) messages
-digests_of_all shared [] digests enough each = refl
-digests_of_all shared (m ∷ messages) [] enough each = absurd (omega (arith, enough))
-digests_of_all shared (m ∷ messages) (d ∷ digests) enough each =
-    ap (λ x. x ∷ take (length messages) digests) (each 0 (omega arith))
-    ∙ ap (λ l. digest_of shared m ∷ l) (digests_of_all shared messages digests (omega (arith, enough)) (λ k lt. each (suc k) (omega (arith, lt))))
+-- the state at a place where a text is to come
+pub in_range : (states : List Midstate) (place : ℕ) (text : List ℕ) (texts : List (List ℕ)) → HaveAbsorbed (drop place states) (text ∷ texts) → place < length states
+in_range [] zero text texts held = absurd held
+in_range [] (suc place) text texts held = absurd held
+in_range (s ∷ states) zero text texts held = omega arith
+in_range (s ∷ states) (suc place) text texts held = let low = in_range states place text texts held in omega arith
 
--- one more message
-pub one_more : (shared : List ℕ) (prints : List (List ℕ)) (messages : List Message) (message : Message) (files : List File) → IsSortedByName files
-    → shared ++ message_of message.parts.items ≡ hashed files
-    → prints ++ map (digest_of shared) (messages ++ message ∷ []) ≡ (prints ++ map (digest_of shared) messages) ++ fingerprint (folder_of files) ∷ []
-one_more shared prints messages message files sorted is =
-    ap (λ l. prints ++ l) (map-append (digest_of shared) messages (message ∷ []))
-    ∙ sym (append_assoc prints (map (digest_of shared) messages) (digest_of shared message ∷ []))
-    ∙ ap (λ d. (prints ++ map (digest_of shared) messages) ++ d ∷ []) (ap md5 is ∙ sym (fingerprint_of files sorted))
+pub absorbed_here : (states : List Midstate) (place : ℕ) (d : Midstate) (text : List ℕ) (texts : List (List ℕ)) → HaveAbsorbed (drop place states) (text ∷ texts) → HasAbsorbed (get_or states place d) text
+absorbed_here [] zero d text texts held = absurd held
+absorbed_here [] (suc place) d text texts held = absurd held
+absorbed_here (s ∷ states) zero d text texts held = held.0
+absorbed_here (s ∷ states) (suc place) d text texts held = absorbed_here states place d text texts held
 
--- ---- a message
+absorbed_behind : (states : List Midstate) (place : ℕ) (text : List ℕ) (texts : List (List ℕ)) → HaveAbsorbed (drop place states) (text ∷ texts) → HaveAbsorbed (drop (suc place) states) texts
+absorbed_behind [] zero text texts held = absurd held
+absorbed_behind [] (suc place) text texts held = absurd held
+absorbed_behind (s ∷ []) zero text texts held = held.1
+absorbed_behind (s ∷ t ∷ states) zero text texts held = held.1
+absorbed_behind (s ∷ states) (suc place) text texts held = absorbed_behind states place text texts held
 
-pub whole_message : (items : List BorrowedFile) (at : ℕ) (front : List File) (parts : List ℕ) → front ≡ take at (map file_of items)
-    → parts ≡ hashed (map file_of (take (length items - at) (drop at items))) → hashed front ++ parts ≡ hashed (map file_of items)
-whole_message items at front parts before after =
-    (λ i. hashed (before i) ++ after i)
-    ∙ ap (λ l. hashed (take at (map file_of items)) ++ hashed l) (sym (take-map file_of (length items - at) (drop at items)) ∙ ap (take (length items - at)) (sym (drop-map file_of at items)))
-    ∙ ap (λ n. hashed (take at (map file_of items)) ++ hashed (take (n - at) (drop at (map file_of items)))) (sym (length-map items file_of))
-    ∙ hashed_whole (map file_of items) at
+-- one more digest
+pub digested_more : (digests new : List (List ℕ)) (digest : List ℕ) (texts : List (List ℕ)) (i : ℕ) → i < length texts → new ≡ digests ++ digest ∷ []
+    → digests ≡ map md5 (take i texts) → digest ≡ md5 (get_or texts i []) → new ≡ map md5 (take (i + 1) texts)
+digested_more digests new digest texts i lt pushed so_far is =
+    pushed
+    ∙ (λ k. so_far k ++ is k ∷ [])
+    ∙ sym (ap (map md5) (take_more texts i [] lt) ∙ map-append md5 (take i texts) (get_or texts i [] ∷ []))
 
-pub front_parts : (items : List BorrowedFile) (at : ℕ) (front : List File) → front ≡ take at (map file_of items) → hashed (map file_of (take at items)) ≡ hashed front
-front_parts items at front before = ap hashed (sym (take-map file_of at items) ∙ sym before)
-
--- ---- where memory doesn't run out
-
-pub on_ok : {A E : Type 0} {P Q R : Type 0} (r : Result A E) → OnOk r P → OnOk r Q → (P → Q → R) → OnOk r R
-on_ok (Ok x) p q f = f p q
-on_ok (Err e) p q f = tt
-
--- ---- a longer front
-
-taken_on : {A : Type 0} (xs : List A) (from to : ℕ) → from ≤ to → take from xs ++ take (to - from) (drop from xs) ≡ take to xs
-taken_on xs from to le =
-    let whole : from + (to - from) ≡ to = omega (arith, le) in
-    ap (λ l. take from xs ++ l) (sym (drop-take from (to - from) xs) ∙ ap (λ n. drop from (take n xs)) whole)
-    ∙ ap (λ l. l ++ drop from (take to xs)) (sym (take-take from to xs le))
-    ∙ take-append-drop from (take to xs)
-
-pub longer_front : (items : List BorrowedFile) (from to : ℕ) (front longer : List File) (parts : List ℕ) → from ≤ to
-    → front ≡ take from (map file_of items) → longer ≡ take to (map file_of items)
-    → parts ≡ hashed (map file_of (take (to - from) (drop from items))) → hashed front ++ parts ≡ hashed longer
-longer_front items from to front longer parts le before after is =
-    let files = map file_of items in
-    (λ i. hashed (before i) ++ is i)
-    ∙ ap (λ l. hashed (take from files) ++ hashed l) (sym (take-map file_of (to - from) (drop from items)) ∙ ap (take (to - from)) (sym (drop-map file_of from items)))
-    ∙ sym (hashed-append (take from files) (take (to - from) (drop from files)))
-    ∙ ap hashed (taken_on files from to le ∙ sym after)
-
--- ---- changes in order
+-- ---- a change
 
 both_first : (a b : Bool) → IsTrue (a && b) → IsTrue a
 both_first true b h = refl
@@ -107,67 +79,111 @@ rest_applicable : (folder : Folder) (change : defined.Change) (rest : List defin
 unfolding are_applicable
 rest_applicable folder change rest h = both_second _ _ h
 
-folders_first : (folder : Folder) (change : defined.Change) (rest : List defined.Change) → folders_after folder (change ∷ rest) ≡ effect folder change ∷ folders_after (effect folder change) rest
-unfolding folders_after
-folders_first folder change rest = refl
+later_first : (border : Border) (folder : Folder) (change : defined.Change) (rest : List defined.Change)
+    → later_texts border folder (change ∷ rest) ≡ begun border (effect folder change) change ++ later_texts border (effect folder change) rest
+unfolding later_texts
+later_first border folder change rest = refl
 
-pub folders_none : (folder : Folder) → folders_after folder [] ≡ []
-unfolding folders_after
-folders_none folder = refl
+later_none : (border : Border) (folder : Folder) → later_texts border folder [] ≡ []
+unfolding later_texts
+later_none border folder = refl
 
--- where a walk is, with these changes to come of those that it goes along
-pub record IsWithin (start walk : Walk) (changes rest : List Change) : Type 0 where
-  pub is_walk : IsWalk walk
-  pub few : length walk.messages.items ≤ 8
-  pub applicable : IsTrue (are_applicable (folder_in walk.snapshot) (map change_of rest))
-  pub from : All (λ change. IsFrom walk.name (change_of change)) rest
-  pub fingerprints : fingerprints_in walk ++ map fingerprint (folders_after (folder_in walk.snapshot) (map change_of rest))
-      ≡ fingerprints_in start ++ map fingerprint (folders_after (folder_in start.snapshot) (map change_of changes))
+-- the states that are left once a change is done
+next_parents : (from : Border) (folder : Folder) (change : defined.Change) (rest : List defined.Change) (states : List Midstate) (place : ℕ)
+    → HaveAbsorbed (drop place states) (run_texts from folder (change ∷ rest))
+    → HaveAbsorbed (drop (cond (touches from change) (place + 1) place) states) (run_texts from (effect folder change) rest)
+next_parents from folder change rest states place held = by_case (touches from change) refl (subst (λ l. HaveAbsorbed (drop place states) (text_before from folder ∷ l)) (later_first from folder change rest) held)
+  where
+    next : Folder
+    next = effect folder change
 
-module _ (start walk : Walk) (changes : List Change) (i : ℕ) (within : IsWithin start walk changes (drop i changes)) (lt : i < length changes) (change : Change) (is : change ≡ get_or changes i change) where
-  split : drop i changes ≡ change ∷ drop (suc i) changes
-  split = drop-cons changes i change lt ∙ ap (λ c. c ∷ drop (suc i) changes) (sym is)
+    by_case : (t : Bool) → touches from change ≡ t
+        → HaveAbsorbed (drop place states) (text_before from folder ∷ cond t (text_before from (effect folder change) ∷ []) [] ++ later_texts from (effect folder change) rest)
+        → HaveAbsorbed (drop (cond t (place + 1) place) states) (run_texts from (effect folder change) rest)
+    by_case true is h = rw add-one (absorbed_behind states place (text_before from folder) _ h)
+    by_case false is h = subst (λ text. HaveAbsorbed (drop place states) (text ∷ later_texts from (effect folder change) rest)) (sym (text_on from folder change is)) h
 
-  pub next_applicable : (roomy : Walk) → folder_in roomy.snapshot ≡ folder_in walk.snapshot → IsTrue (is_applicable (folder_in roomy.snapshot) (change_of change))
-  next_applicable roomy same =
-      let all = subst (λ l. IsTrue (are_applicable (folder_in walk.snapshot) (map change_of l))) split within.applicable in
-      subst (λ f. IsTrue (is_applicable f (change_of change))) (sym same) (first_applicable _ _ _ all)
+-- ---- a walk from a border to another
 
-  module _ (name : List ℕ) (from : All (λ c. IsFrom name (change_of c)) (drop i changes)) where
-    all_from : All (λ c. IsFrom name (change_of c)) (change ∷ drop (suc i) changes)
-    all_from = subst (All (λ c. IsFrom name (change_of c))) split from
+-- where the walk is, with these changes to come
+pub record IsWithin (from to : Border) (states : List Midstate) (folder : Folder) (changes : List Change) (snapshot : Snapshot) (runs : Runs) (place : ℕ) (rest : List Change) : Type 0 where
+  pub kept : IsKept (files_in snapshot)
+  pub few : length runs.pendings.items ≤ 8
+  pub applicable : IsTrue (are_applicable (folder_in snapshot) (map change_of rest))
+  pub parents : HaveAbsorbed (drop place states) (run_texts from (folder_in snapshot) (map change_of rest))
+  pub done : List (List ℕ)
+  pub reached : AreTo runs done
+  pub whole : done ++ later_texts to (folder_in snapshot) (map change_of rest) ≡ run_texts to folder (map change_of changes)
 
-    pub next_from : IsFrom name (change_of change)
-    next_from = all_from 0 change (omega arith)
+module _ (from to : Border) (states : List Midstate) (folder : Folder) (changes : List Change) where
+  module _ (snapshot : Snapshot) (runs : Runs) (place i : ℕ) (within : IsWithin from to states folder changes snapshot runs place (drop i changes)) (lt : i < length changes) (change : Change) (is : change ≡ get_or changes i change) where
+    split : drop i changes ≡ change ∷ drop (suc i) changes
+    split = drop-cons changes i change lt ∙ ap (λ c. c ∷ drop (suc i) changes) (sym is)
 
-    later_from : All (λ c. IsFrom name (change_of c)) (drop (suc i) changes)
-    later_from k d k_lt = all_from (suc k) d (omega (arith, k_lt))
+    rest : List defined.Change
+    rest = map change_of (drop (suc i) changes)
 
-    pub goes_on : (next : Walk) → IsWalk next → length next.messages.items ≤ 8 → next.name ≡ name
-        → folder_in next.snapshot ≡ effect (folder_in walk.snapshot) (change_of change)
-        → fingerprints_in next ≡ fingerprints_in walk ++ fingerprint (folder_in next.snapshot) ∷ []
-        → IsWithin start next changes (drop (i + 1) changes)
-    goes_on next kept few named folder fingerprints =
-        let rest = map change_of (drop (suc i) changes) in
-        let all = subst (λ l. IsTrue (are_applicable (folder_in walk.snapshot) (map change_of l))) split within.applicable in
-        rw add-one (record {
-          is_walk = kept;
-          few = few;
-          applicable = subst (λ f. IsTrue (are_applicable f rest)) (sym folder) (rest_applicable _ _ _ all);
-          from = subst (λ n. All (λ c. IsFrom n (change_of c)) (drop (suc i) changes)) (sym named) later_from;
-          fingerprints = ap (λ l. l ++ map fingerprint (folders_after (folder_in next.snapshot) rest)) fingerprints
-              ∙ append_assoc (fingerprints_in walk) (fingerprint (folder_in next.snapshot) ∷ []) (map fingerprint (folders_after (folder_in next.snapshot) rest))
-              ∙ ap (λ f. fingerprints_in walk ++ map fingerprint (f ∷ folders_after f rest)) folder
-              ∙ ap (λ l. fingerprints_in walk ++ map fingerprint l) (sym (folders_first (folder_in walk.snapshot) (change_of change) rest))
-              ∙ ap (λ l. fingerprints_in walk ++ map fingerprint (folders_after (folder_in walk.snapshot) (map change_of l))) (sym split)
-              ∙ within.fingerprints;
-        })
+    pub next_applicable : IsTrue (is_applicable (folder_in snapshot) (change_of change))
+    next_applicable = first_applicable _ _ _ (subst (λ l. IsTrue (are_applicable (folder_in snapshot) (map change_of l))) split within.applicable)
 
--- at the end
-pub arrived : (start walk : Walk) (changes : List Change) (i : ℕ) → IsWithin start walk changes (drop i changes) → length changes ≤ i
-    → fingerprints_in walk ≡ fingerprints_in start ++ map fingerprint (folders_after (folder_in start.snapshot) (map change_of changes))
-arrived start walk changes i within over =
-    sym (append-nil (fingerprints_in walk))
-    ∙ ap (λ l. fingerprints_in walk ++ map fingerprint l) (sym (folders_none (folder_in walk.snapshot)))
-    ∙ ap (λ l. fingerprints_in walk ++ map fingerprint (folders_after (folder_in walk.snapshot) (map change_of l))) (sym (drop_all i changes over))
-    ∙ within.fingerprints
+    module _ (next : Snapshot) (after : folder_in next ≡ effect (folder_in snapshot) (change_of change)) (there : ℕ) (place_is : there ≡ cond (touches from (change_of change)) (place + 1) place) where
+      pub parents_then : HaveAbsorbed (drop there states) (run_texts from (folder_in next) (map change_of (drop (suc i) changes)))
+      parents_then =
+          subst (λ n. HaveAbsorbed (drop n states) (run_texts from (folder_in next) (map change_of (drop (suc i) changes)))) (sym place_is)
+          (subst (λ f. HaveAbsorbed (drop (cond (touches from (change_of change)) (place + 1) place) states) (run_texts from f (map change_of (drop (suc i) changes)))) (sym after)
+          (next_parents from (folder_in snapshot) (change_of change) (map change_of (drop (suc i) changes)) states place
+          (subst (λ l. HaveAbsorbed (drop place states) (run_texts from (folder_in snapshot) (map change_of l))) split within.parents)))
+
+      pub goes_on : IsKept (files_in next) → (more : Runs) → length more.pendings.items ≤ 8
+          → AreTo more (within.done ++ begun to (folder_in next) (change_of change))
+          → IsWithin from to states folder changes next more there (drop (i + 1) changes)
+      goes_on kept more few reached =
+          let rest = map change_of (drop (suc i) changes) in
+          rw add-one (record {
+            kept = kept;
+            few = few;
+            applicable = subst (λ f. IsTrue (are_applicable f rest)) (sym after)
+                (rest_applicable _ _ _ (subst (λ l. IsTrue (are_applicable (folder_in snapshot) (map change_of l))) split within.applicable));
+            parents = parents_then;
+            done = within.done ++ begun to (folder_in next) (change_of change);
+            reached = reached;
+            whole = append_assoc within.done (begun to (folder_in next) (change_of change)) (later_texts to (folder_in next) rest)
+                ∙ ap (λ f. within.done ++ (begun to f (change_of change) ++ later_texts to f rest)) after
+                ∙ ap (λ l. within.done ++ l) (sym (later_first to (folder_in snapshot) (change_of change) rest))
+                ∙ ap (λ l. within.done ++ later_texts to (folder_in snapshot) (map change_of l)) (sym split)
+                ∙ within.whole;
+          })
+
+  -- at the end
+  pub arrived : (snapshot : Snapshot) (runs : Runs) (place i : ℕ) → IsWithin from to states folder changes snapshot runs place (drop i changes) → length changes ≤ i
+      → AreTo runs (run_texts to folder (map change_of changes))
+  arrived snapshot runs place i within over =
+      let none : later_texts to (folder_in snapshot) (map change_of (drop i changes)) ≡ [] =
+      ap (λ l. later_texts to (folder_in snapshot) (map change_of l)) (drop_all i changes over) ∙ later_none to (folder_in snapshot) in
+      subst (AreTo runs) (sym (append-nil within.done) ∙ ap (λ l. within.done ++ l) (sym none) ∙ within.whole) within.reached
+
+-- ---- before all names
+
+none_later : (folder : Folder) (changes : List defined.Change) → later_texts Beginning folder changes ≡ []
+unfolding later_texts
+none_later folder [] = refl
+none_later folder (change ∷ changes) = none_later (effect folder change) changes
+
+-- one state that has absorbed nothing
+pub sets_out : (folder : Folder) (changes : List defined.Change) (state : Midstate) → HasAbsorbed state [] → HaveAbsorbed (state ∷ []) (run_texts Beginning folder changes)
+sets_out folder changes state held =
+    subst (λ l. HaveAbsorbed (state ∷ []) (text_before Beginning folder ∷ l)) (sym (none_later folder changes)) (subst (HasAbsorbed state) (sym (no_text folder)) held, tt)
+
+-- ---- all folders
+
+fingerprint_is : (folder : Folder) → md5 (text_before End folder) ≡ fingerprint folder
+unfolding fingerprint
+fingerprint_is folder = ap md5 (whole_text folder)
+
+later_fingerprints : (folder : Folder) (changes : List defined.Change) → map md5 (later_texts End folder changes) ≡ map fingerprint (folders_after folder changes)
+unfolding later_texts folders_after
+later_fingerprints folder [] = refl
+later_fingerprints folder (change ∷ changes) = λ k. fingerprint_is (effect folder change) k ∷ later_fingerprints (effect folder change) changes k
+
+pub all_fingerprints : (folder : Folder) (changes : List defined.Change) → map md5 (run_texts End folder changes) ≡ map fingerprint (folder ∷ folders_after folder changes)
+all_fingerprints folder changes = λ k. fingerprint_is folder k ∷ later_fingerprints folder changes k

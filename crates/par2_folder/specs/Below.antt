@@ -1,10 +1,10 @@
 -- The files of a folder before a name, and the changes that leave them.
-use Rattle.std.specs.Prelude.{◌≡◌, ℕ, Bool, false, List, ◌++◌, flat_map}
+use Rattle.std.specs.Prelude.{◌≡◌, ◌<◌, ◌≤◌, ℕ, Bool, true, false, List, ◌++◌, length, flat_map}
 use Rattle.std.specs.FinMap as map_of
 use Rattle.std.specs.Ordering.{is_lt, ord_min}
 use Rattle.par2_spec.specs.Folders.{Folder, File, counted}
 use Rattle.par2_spec.specs.Changes.{Change, Write, Replace, Rename, Remove}
-use Rattle.par2_folder.specs.View.{name_cmp}
+use Rattle.par2_folder.specs.View.{file_at, name_cmp}
 
 -- whether another name comes before the name
 abbrev pub is_below : List ℕ → List ℕ → Bool
@@ -13,6 +13,12 @@ is_below name other = is_lt (name_cmp other name)
 -- the files whose names come before the name
 abbrev pub folder_below : List ℕ → Folder → Folder
 folder_below name folder = map_of.retain_keys folder (is_below name)
+
+-- the files before a place have names that pass the test, and those from it on don't
+pub record IsFront (test : List ℕ → Bool) (files : List File) (count : ℕ) : Type 0 where
+  pub within : count ≤ length files
+  pub before : (j : ℕ) → j < count → test (file_at files j).0 ≡ true
+  pub behind : (j : ℕ) → count ≤ j → j < length files → test (file_at files j).0 ≡ false
 
 -- what is hashed of files: their names and bytes, each behind its length
 abbrev pub hashed : List File → List ℕ

@@ -7,4 +7,5 @@ pub mod Fuse
 pub mod Below
 pub mod Lent
 pub mod Snapshots
-pub mod Walks
+pub mod Borders
+pub mod Runs

@@ -6,7 +6,7 @@ ghost use Rattle.par2_spec.specs.Changes.{takes_all, folders_after};
 ghost use Rattle.par2_folder.specs.Views.{change_of};
 ghost use Rattle.par2_folder.specs.Below.{hashed};
 
-use crate::walk::{Walk, first_name};
+use crate::walk::digests_along;
 use crate::{Bytes, Change, Folder, Name};
 use md5::{Digest, Md5};
 use std::alloc::{AllocError, Global};
@@ -40,11 +40,5 @@ pub fn fingerprints_along(
     ensures { let after = folders_after folder.now.files (map change_of changes.now) in
         IfOk result (λ list. list.items ≡ map fingerprint (folder.now.files ∷ after)) }
 {
-    let Some(name) = first_name(changes) else {
-        return Ok(vec![in alloc; folder.fingerprint(alloc)?]?);
-    };
-    let mut walk = Walk::new(alloc, folder.snapshot(alloc)?, name)?;
-    walk.add(alloc)?;
-    walk.go_along(alloc, changes)?;
-    walk.finish()
+    digests_along(alloc, folder, changes)
 }

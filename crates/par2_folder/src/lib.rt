@@ -1,6 +1,7 @@
 //! A flat folder in memory, changes that turn into their inverses, and stores that hold such a folder.
 #![tactic(auto)]
 
+mod border;
 mod bytes;
 mod change;
 mod changes;
@@ -16,6 +17,7 @@ mod memory;
 mod name;
 mod place;
 mod reading;
+mod runs;
 mod snapshot;
 mod store;
 mod walk;

@@ -1,12 +1,11 @@
 //! The files of a folder where they lie, led through changes that are not made.
-ghost use Rattle.std.specs.Prelude.{◌≡◌, ◌≤◌, length, map, take, Some, None, IfOk, IfErr, OnOk, IsTrue};
+ghost use Rattle.std.specs.Prelude.{◌≡◌, map, Some, None, IfOk, IfErr, OnOk, IsTrue};
 ghost use Rattle.std.specs.FinMap as map_of;
-ghost use Rattle.std.specs.FinMap.{entries};
 ghost use Rattle.par2_spec.specs.Folders.{has, bytes_of};
 ghost use Rattle.par2_spec.specs.Changes.{is_applicable, effect};
 ghost use Rattle.par2_folder.specs.View.{IsAt, IsGapFor, IsKept, folder_of, file_at};
 ghost use Rattle.par2_folder.specs.Views.{change_of};
-ghost use Rattle.par2_folder.specs.Below.{folder_below};
+ghost use Rattle.par2_folder.specs.Below.{IsFront, is_below};
 ghost use Rattle.par2_folder.specs.Snapshots.{file_of, files_in, folder_in};
 
 use crate::{Bytes, Change, Name};
@@ -41,9 +40,7 @@ fn search_borrowed(files: &[BorrowedFile], name: &Name) -> Result<usize, usize>
 // How many files have names that come before the name.
 pub fn count_below(files: &[BorrowedFile], name: &Name) -> usize
     requires { IsKept (map file_of files.now) }
-    ensures within { result ≤ length files.now }
-    ensures below { let files = map file_of files.now in
-        entries (folder_below name.now (folder_of files)) ≡ take result files }
+    ensures { IsFront (is_below name.now) (map file_of files.now) result }
 {
     match search_borrowed(files, name) {
         Ok(at) => at,

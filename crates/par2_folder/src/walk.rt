@@ -1,221 +1,166 @@
-//! The fingerprints of the folders that changes lead through, several at a time.
-ghost use Rattle.std.specs.Prelude.{◌≡◌, ◌≤◌, ◌<◌, ◌+◌, ◌++◌, ◌∷◌, [], length, map, IfOk, IfSome, IsNone, OnOk, IsTrue};
-ghost use Rattle.std.specs.FinMap.{entries};
-ghost use Rattle.par2_digests.specs.Messages.{message_of};
-ghost use Rattle.par2_spec.specs.Folders.{counted, fingerprint};
-ghost use Rattle.par2_spec.specs.Changes.{Change as DefinedChange, is_applicable, are_applicable};
-ghost use Rattle.par2_spec.specs.Changes.{effect, folders_after};
+//! The folders that changes lead through, side by side along the names.
+//!
+//! Before a border, neighbours among these folders are alike unless the change between them touches a name there. So
+//! they fall into runs, and one state that has absorbed the files before the border serves a run.
+ghost use Rattle.std.specs.Prelude.{◌≡◌, ◌≤◌, ◌<◌, ◌+◌, ◌++◌, ◌∷◌, ◌^◌, cond, ℕ, List, length, map, IfOk, OnOk, IsTrue};
+ghost use Rattle.md5.specs.Md5.{md5};
+ghost use Rattle.par2_digests.specs.Messages.{HasAbsorbed};
+ghost use Rattle.par2_spec.specs.Changes.{are_applicable};
 ghost use Rattle.par2_folder.specs.View.{IsKept};
 ghost use Rattle.par2_folder.specs.Views.{change_of};
-ghost use Rattle.par2_folder.specs.Below.{folder_below, hashed, IsFrom};
-ghost use Rattle.par2_folder.specs.Snapshots.{file_of, files_in, folder_in};
-ghost use Rattle.par2_folder.specs.Walks.{AreFrom, IsWalk, fingerprints_in};
+ghost use Rattle.par2_folder.specs.Borders.{IsFurther, begun, run_texts, text_before, touches};
+ghost use Rattle.par2_folder.specs.Runs.{AreTo, HaveAbsorbed, Reaches};
+ghost use Rattle.par2_folder.specs.Snapshots.{files_in, folder_in};
+ghost use Rattle.par2_folder.specs.declared.border.Border.TheVariants.{End};
 
-use crate::snapshot::{BorrowedFile, Snapshot, count_below};
-use crate::{Change, Name};
-use par2_digests::{LANES, Message, Midstate, Part};
+use crate::border::{Border, is_further, parts_between, touches};
+use crate::runs::Runs;
+use crate::snapshot::Snapshot;
+use crate::{Change, Folder, Name};
+use par2_digests::{Midstate, Pending};
 use std::alloc::{AllocError, Global};
 
-/// The first of the names that the changes touch, unless there is no change.
-pub fn first_name(changes: &[Change]) -> Option<Name>
-    ensures none { IsNone result → changes.now ≡ [] }
-    ensures some { IfSome result (λ name. AreFrom name changes.now) }
-{
-    changes.iter().map(|change| change.first_name()).min()
-}
+// The most borders at names: at each, the changes are gone along once.
+const MOST_BORDERS: usize = 64;
 
-// Adds the bytes behind their length.
-fn push_counted<'a>(parts: &mut Vec<Part<'a>>, bytes: &'a [u8]) -> Result<(), AllocError>
-    ensures { OnOk result
-        (message_of parts.new.items ≡ message_of parts.old.items ++ counted bytes.now) }
-{
-    parts.push(Part::Length(bytes.len() as u64))?;
-    parts.push(Part::Bytes(bytes))?;
-    Ok(())
-}
-
-// The files as parts of a message.
-fn parts_of<'a>(alloc: Global, files: &[BorrowedFile<'a>]) -> Result<Vec<Part<'a>>, AllocError>
-    ensures { IfOk result (λ parts. message_of parts.items ≡ hashed (map file_of files.now)) }
-{
-    let mut parts = Vec::with_capacity(alloc, files.len().saturating_mul(4))?;
-    for file in files {
-        push_counted(&mut parts, file.name.as_str().as_bytes())?;
-        push_counted(&mut parts, file.bytes.as_slice())?;
+// The names where borders are: of the first names that the changes touch, the least and others in order.
+fn border_names(alloc: Global, changes: &[Change]) -> Result<Vec<Name>, AllocError> {
+    let mut names = Vec::with_capacity(alloc, changes.len())?;
+    for change in changes {
+        names.push(change.first_name())?;
     }
-    Ok(parts)
+    names.sort()?;
+    let step = names.len().div_ceil(MOST_BORDERS).max(1);
+    names.into_iter().step_by(step).collect(alloc)
 }
 
-// The message of the files from the name on.
-fn message_from<'a>(
+// The state of a run, with the files of its first folder between the borders.
+fn run_of<'a>(
     alloc: Global,
+    state: Midstate,
     snapshot: &Snapshot<'a>,
-    name: &Name,
-) -> Result<Message<'a>, AllocError>
-    requires { IsKept (files_in snapshot.now) }
-    ensures { let below = entries (folder_below name.now (folder_in snapshot.now)) in
-        IfOk result (λ message. hashed below ++ message_of message.parts.items
-        ≡ hashed (files_in snapshot.now)) }
+    from: &Border,
+    to: &Border,
+) -> Result<Pending<'a>, AllocError>
+    requires kept { IsKept (files_in snapshot.now) }
+    requires further { IsFurther from.now to.now }
+    ensures { let folder = folder_in snapshot.now in
+        HasAbsorbed state (text_before from.now folder)
+        → IfOk result (λ run. Reaches run (text_before to.now folder)) }
 {
-    let at = count_below(&snapshot.files, name);
-    Ok(Message {
-        parts: parts_of(alloc, &snapshot.files[at..])?,
-    })
+    let parts = parts_between(alloc, snapshot, from, to)?;
+    Ok(Pending { state, parts })
 }
 
-/// A snapshot on its way along changes that touch no name before a name, the fingerprints so far, and the messages of
-/// those folders whose fingerprints come next, from that name on.
-#[derive(Drop)]
-pub struct Walk<'a> {
-    snapshot: Snapshot<'a>,
-    name: Name,
-    shared: Midstate,
-    messages: Vec<Message<'a>>,
-    fingerprints: Vec<[u8; 16]>,
+// The place of the state before the first border once the change is done.
+fn next_place(place: usize, from: &Border, change: &Change) -> usize
+    requires { place + 1 < 2 ^ 64 }
+    ensures { result ≡ cond (touches from.now (change_of change.now)) (place + 1) place }
+{
+    if touches(from, change) {
+        place + 1
+    } else {
+        place
+    }
 }
 
-impl<'a> Walk<'a> {
-    /// At the beginning.
-    pub fn new(alloc: Global, snapshot: Snapshot<'a>, name: Name) -> Result<Walk<'a>, AllocError>
-        requires { IsKept (files_in snapshot) }
-        ensures walk { IfOk result IsWalk }
-        ensures folder { IfOk result (λ walk. folder_in walk.snapshot
-            ≡ folder_in snapshot.entry) }
-        ensures name { IfOk result (λ walk. walk.name ≡ name) }
-        ensures empty { IfOk result (λ walk. walk.messages.items ≡ []) }
-        ensures fingerprints { IfOk result (λ walk. fingerprints_in walk ≡ []) }
-    {
-        let mut shared = Midstate::new();
-        let at = count_below(&snapshot.files, &name);
-        shared.absorb(&parts_of(alloc, &snapshot.files[..at])?);
-        Ok(Walk {
-            snapshot,
-            name,
-            shared,
-            messages: Vec::new(alloc),
-            fingerprints: Vec::new(alloc),
-        })
-    }
-
-    /// Adds the fingerprint of the folder where it is.
-    pub fn add(&mut self, alloc: Global) -> Result<(), AllocError>
-        requires { IsWalk self.old }
-        ensures walk { OnOk result (IsWalk self.new) }
-        ensures name { self.new.name ≡ self.old.name }
-        ensures folder { folder_in self.new.snapshot ≡ folder_in self.old.snapshot }
-        ensures count { OnOk result
-            (length self.new.messages.items ≡ length self.old.messages.items + 1) }
-        ensures fingerprints { OnOk result (fingerprints_in self.new
-            ≡ fingerprints_in self.old ++ fingerprint (folder_in self.old.snapshot) ∷ []) }
-    {
-        let message = message_from(alloc, &self.snapshot, &self.name)?;
-        self.messages.push(message)?;
+// Adds the run that the folder behind the change begins, if it begins one.
+fn follow<'a>(
+    alloc: Global,
+    runs: &mut Runs<'a>,
+    state: Midstate,
+    snapshot: &Snapshot<'a>,
+    change: &Change,
+    from: &Border,
+    to: &Border,
+) -> Result<(), AllocError>
+    requires few { length runs.old.pendings.items ≤ 8 }
+    requires kept { IsKept (files_in snapshot.now) }
+    requires further { IsFurther from.now to.now }
+    ensures few { OnOk result (length runs.new.pendings.items ≤ 8) }
+    ensures texts { (texts : List (List ℕ)) → let folder = folder_in snapshot.now in
+        AreTo runs.old texts → HasAbsorbed state (text_before from.now folder)
+        → OnOk result (AreTo runs.new (texts ++ begun to.now folder (change_of change.now))) }
+{
+    if touches(to, change) {
+        runs.push(run_of(alloc, state, snapshot, from, to)?)
+    } else {
         Ok(())
     }
+}
 
-    /// Goes on to the folder after the change.
-    pub fn apply(&mut self, change: &'a Change) -> Result<(), AllocError>
-        requires walk { IsWalk self.old }
-        requires applicable { let folder = folder_in self.old.snapshot in
-            IsTrue (is_applicable folder (change_of change.now)) }
-        requires from { IsFrom self.old.name (change_of change.now) }
-        ensures walk { OnOk result (IsWalk self.new) }
-        ensures name { self.new.name ≡ self.old.name }
-        ensures folder { OnOk result (folder_in self.new.snapshot
-            ≡ effect (folder_in self.old.snapshot) (change_of change.now)) }
-        ensures messages { self.new.messages.items ≡ self.old.messages.items }
-        ensures fingerprints { OnOk result (fingerprints_in self.new ≡ fingerprints_in self.old) }
-    {
-        self.snapshot.apply(change)
+// The states before a border, from those before an earlier one.
+fn states_before(
+    alloc: Global,
+    folder: &Folder,
+    changes: &[Change],
+    states: &[Midstate],
+    from: &Border,
+    to: &Border,
+) -> Result<Vec<Midstate>, AllocError>
+    requires further { IsFurther from.now to.now }
+    requires applicable { IsTrue (are_applicable folder.now.files (map change_of changes.now)) }
+    requires absorbed { let changes = map change_of changes.now in
+        HaveAbsorbed states.now (run_texts from.now folder.now.files changes) }
+    ensures { let changes = map change_of changes.now in
+        IfOk result (λ after. HaveAbsorbed after.items (run_texts to.now folder.now.files changes)) }
+{
+    let mut snapshot = folder.snapshot(alloc)?;
+    let mut runs = Runs::new(alloc);
+    let mut place = 0;
+    runs.push(run_of(alloc, states[place], &snapshot, from, to)?)?;
+    for change in changes {
+        snapshot.apply(change)?;
+        place = next_place(place, from, change);
+        follow(alloc, &mut runs, states[place], &snapshot, change, from, to)?;
     }
+    runs.finish()
+}
 
-    // Digests the messages.
-    fn digest_messages(&mut self) -> Result<(), AllocError>
-        requires walk { IsWalk self.old }
-        requires few { length self.old.messages.items ≤ 8 }
-        ensures walk { OnOk result (IsWalk self.new) }
-        ensures name { self.new.name ≡ self.old.name }
-        ensures folder { folder_in self.new.snapshot ≡ folder_in self.old.snapshot }
-        ensures empty { OnOk result (self.new.messages.items ≡ []) }
-        ensures fingerprints { OnOk result (fingerprints_in self.new ≡ fingerprints_in self.old) }
-    {
-        let digests = self.shared.digests(&self.messages);
-        self.fingerprints
-            .extend_from_slice(&digests[..self.messages.len()])?;
-        self.messages.clear();
-        Ok(())
-    }
-
-    // Absorbs the files between its name and a later one too. No message may be there, since each begins at its name.
-    fn share_below(&mut self, alloc: Global, name: Name) -> Result<(), AllocError>
-        requires walk { IsWalk self.old }
-        requires empty { self.old.messages.items ≡ [] }
-        ensures walk { OnOk result (IsWalk self.new) }
-        ensures name { OnOk result ((change : DefinedChange) → IsFrom self.old.name change
-            → IsFrom name change → IsFrom self.new.name change) }
-        ensures folder { folder_in self.new.snapshot ≡ folder_in self.old.snapshot }
-        ensures empty { self.new.messages.items ≡ [] }
-        ensures fingerprints { OnOk result (fingerprints_in self.new ≡ fingerprints_in self.old) }
-    {
-        let files = &self.snapshot.files;
-        let from = count_below(files, &self.name);
-        let to = count_below(files, &name);
-        if from < to {
-            self.shared.absorb(&parts_of(alloc, &files[from..to])?);
-            self.name = name;
-        }
-        Ok(())
-    }
-
-    // Makes room for one more message, along changes to come.
-    fn make_room(&mut self, alloc: Global, changes: &[Change]) -> Result<(), AllocError>
-        requires walk { IsWalk self.old }
-        requires few { length self.old.messages.items ≤ 8 }
-        requires from { AreFrom self.old.name changes.now }
-        ensures walk { OnOk result (IsWalk self.new) }
-        ensures few { OnOk result (length self.new.messages.items < 8) }
-        ensures from { OnOk result (AreFrom self.new.name changes.now) }
-        ensures folder { folder_in self.new.snapshot ≡ folder_in self.old.snapshot }
-        ensures fingerprints { OnOk result (fingerprints_in self.new ≡ fingerprints_in self.old) }
-    {
-        if self.messages.len() < LANES {
-            return Ok(());
-        }
-        self.digest_messages()?;
-        match first_name(changes) {
-            Some(name) => self.share_below(alloc, name),
-            None => Ok(()),
+// The states of all folders.
+fn states_along(
+    alloc: Global,
+    folder: &Folder,
+    changes: &[Change],
+) -> Result<Vec<Midstate>, AllocError>
+    requires { IsTrue (are_applicable folder.now.files (map change_of changes.now)) }
+    ensures { let changes = map change_of changes.now in
+        IfOk result (λ states. HaveAbsorbed states.items (run_texts End folder.now.files changes)) }
+{
+    let names = border_names(alloc, changes)?;
+    let mut border = Border::Beginning;
+    let mut states = vec![in alloc; Midstate::new()]?;
+    for name in &names {
+        if is_further(&border, name) {
+            let next = Border::At(name);
+            states = states_before(alloc, folder, changes, &states, &border, &next)?;
+            border = next;
         }
     }
+    states_before(alloc, folder, changes, &states, &border, &Border::End)
+}
 
-    /// Goes along the changes, and adds the fingerprint of the folder after each.
-    pub fn go_along(&mut self, alloc: Global, changes: &'a [Change]) -> Result<(), AllocError>
-        requires walk { IsWalk self.old }
-        requires few { length self.old.messages.items ≤ 8 }
-        requires applicable { let folder = folder_in self.old.snapshot in
-            IsTrue (are_applicable folder (map change_of changes.now)) }
-        requires from { AreFrom self.old.name changes.now }
-        ensures walk { OnOk result (IsWalk self.new) }
-        ensures few { OnOk result (length self.new.messages.items ≤ 8) }
-        ensures fingerprints { let folder = folder_in self.old.snapshot in
-            OnOk result (fingerprints_in self.new ≡ fingerprints_in self.old
-            ++ map fingerprint (folders_after folder (map change_of changes.now))) }
-    {
-        for (i, change) in changes.iter().enumerate() {
-            self.make_room(alloc, &changes[i..])?;
-            self.apply(change)?;
-            self.add(alloc)?;
-        }
-        Ok(())
+// The digests of what the states have absorbed.
+fn digests_of(alloc: Global, states: &[Midstate]) -> Result<Vec<[u8; 16]>, AllocError>
+    ensures { (texts : List (List ℕ)) → HaveAbsorbed states.now texts
+        → IfOk result (λ digests. digests.items ≡ map md5 texts) }
+{
+    let mut digests = Vec::with_capacity(alloc, states.len())?;
+    for state in states {
+        digests.push(state.digest())?;
     }
+    Ok(digests)
+}
 
-    /// At the end.
-    pub fn finish(mut self) -> Result<Vec<[u8; 16]>, AllocError>
-        requires walk { IsWalk self }
-        requires few { length self.messages.items ≤ 8 }
-        ensures { IfOk result (λ list. list.items ≡ fingerprints_in self.entry) }
-    {
-        self.digest_messages()?;
-        Ok(self.fingerprints)
-    }
+/// The digests of the folder's texts, and of those of the folders that the changes lead it through.
+pub fn digests_along(
+    alloc: Global,
+    folder: &Folder,
+    changes: &[Change],
+) -> Result<Vec<[u8; 16]>, AllocError>
+    requires { IsTrue (are_applicable folder.now.files (map change_of changes.now)) }
+    ensures { let changes = map change_of changes.now in
+        IfOk result (λ digests. digests.items ≡ map md5 (run_texts End folder.now.files changes)) }
+{
+    digests_of(alloc, &states_along(alloc, folder, changes)?)
 }

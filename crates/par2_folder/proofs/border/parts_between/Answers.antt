@@ -1,0 +1,11 @@
+use Rattle.par2_folder.proofs.Borders.{between, if_ok, no_less}
+use Rattle.par2_folder.proofs.border.parts_between.Goals as goal
+
+pub returns : goal.returns
+returns c =
+    let items = c.args.snapshot.now.files.items in
+    let front = rw c.deref.ensures.value at c.count_before-start.ensures in
+    let longer = rw c.deref-2.ensures.value at c.count_before-end.ensures in
+    let le = no_less items c.requires.kept c.args.from.now c.args.to.now c.count_before-start.result c.count_before-end.result front longer c.requires.further in
+    if_ok c.parts_of.result (rw c.deref-3.ensures.value at c.parts_of.ensures) (λ parts is.
+    between items c.requires.kept c.args.from.now c.args.to.now c.count_before-start.result c.count_before-end.result _ front longer le is)

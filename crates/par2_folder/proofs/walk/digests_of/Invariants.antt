@@ -1,0 +1,7 @@
+use Rattle.std.proofs.Common.{◌≡◌, ℕ, List, map, take}
+use Rattle.md5.specs.Md5.{md5}
+use Rattle.par2_folder.specs.Runs.{HaveAbsorbed}
+use Rattle.par2_folder.proofs.walk.digests_of.Given as goal
+
+abbrev pub invariant-loop-state : goal.invariant-loop-state
+invariant-loop-state l = (texts : List (List ℕ)) → HaveAbsorbed l.states texts → l.digests.items ≡ map md5 (take l.state-index texts)

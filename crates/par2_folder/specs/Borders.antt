@@ -1,0 +1,40 @@
+-- Borders among names, and the runs of folders that are alike before a border.
+use Rattle.std.specs.Prelude.{◌≡◌, ℕ, Bool, true, false, cond, List, [], ◌∷◌, ◌++◌}
+use Rattle.std.specs.FinMap as map_of
+use Rattle.par2_spec.specs.Folders.{Folder}
+use Rattle.par2_spec.specs.Changes.{Change, effect}
+use Rattle.par2_folder.specs.Below.{first_name, hashed, is_below}
+use Rattle.par2_folder.specs.declared.border.Border.{Border}
+use Rattle.par2_folder.specs.declared.border.Border.TheVariants.{Beginning, At, End}
+
+-- whether a name comes before the border
+abbrev pub is_before : Border → List ℕ → Bool
+is_before Beginning name = false
+is_before (At next) name = is_below next.now name
+is_before End name = true
+
+-- each name before the first border comes before the second too
+abbrev pub IsFurther : Border → Border → Type 0
+IsFurther from to = (name : List ℕ) → is_before from name ≡ true → is_before to name ≡ true
+
+-- whether the change touches a name before the border
+abbrev pub touches : Border → Change → Bool
+touches border change = is_before border (first_name change)
+
+-- what is hashed of the files before the border
+abbrev pub text_before : Border → Folder → List ℕ
+text_before border folder = hashed (map_of.entries (map_of.retain_keys folder (is_before border)))
+
+-- the text of the run that the folder behind a change begins, if it begins one
+abbrev pub begun : Border → Folder → Change → List (List ℕ)
+begun border after change = cond (touches border change) (text_before border after ∷ []) []
+
+-- the texts of the runs that the changes begin
+unfoldable pub later_texts : Border → Folder → List Change → List (List ℕ)
+unfolding effect
+later_texts border folder [] = []
+later_texts border folder (change ∷ changes) = begun border (effect folder change) change ++ later_texts border (effect folder change) changes
+
+-- the texts of all runs, in the order of their folders
+abbrev pub run_texts : Border → Folder → List Change → List (List ℕ)
+run_texts border folder changes = text_before border folder ∷ later_texts border folder changes

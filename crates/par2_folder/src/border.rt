@@ -1,0 +1,105 @@
+//! Borders among names, and what lies between two of them.
+ghost use Rattle.std.specs.Prelude.{◌≡◌, ◌++◌, map, IfOk, OnOk, IsTrue};
+ghost use Rattle.par2_digests.specs.Messages.{message_of};
+ghost use Rattle.par2_spec.specs.Folders.{counted};
+ghost use Rattle.par2_folder.specs.View.{IsKept};
+ghost use Rattle.par2_folder.specs.Views.{change_of};
+ghost use Rattle.par2_folder.specs.Below.{IsFront, hashed};
+ghost use Rattle.par2_folder.specs.Borders.{IsFurther, is_before, text_before, touches};
+ghost use Rattle.par2_folder.specs.Snapshots.{file_of, files_in, folder_in};
+ghost use Rattle.par2_folder.specs.declared.border.Border.TheVariants.{At};
+
+use crate::snapshot::{BorrowedFile, Snapshot, count_below};
+use crate::{Change, Name};
+use par2_digests::Part;
+use std::alloc::{AllocError, Global};
+
+/// A border among names: before all, before one, or behind all.
+#[derive(Clone, Copy)]
+pub enum Border<'a> {
+    Beginning,
+    At(&'a Name),
+    End,
+}
+
+// Whether the name comes before the border.
+fn is_before(border: &Border, name: &Name) -> bool
+    ensures { result ≡ is_before border.now name.now }
+{
+    match border {
+        Border::Beginning => false,
+        Border::At(next) => name < *next,
+        Border::End => true,
+    }
+}
+
+/// Whether the border comes before that at the name.
+pub fn is_further(border: &Border, name: &Name) -> bool
+    ensures { IsTrue result → IsFurther border.now (At name.entry) }
+{
+    match border {
+        Border::Beginning => true,
+        Border::At(before) => *before < name,
+        Border::End => false,
+    }
+}
+
+/// Whether the change touches a name before the border.
+pub fn touches(border: &Border, change: &Change) -> bool
+    ensures { result ≡ touches border.now (change_of change.now) }
+{
+    is_before(border, &change.first_name())
+}
+
+// How many files have names before the border.
+fn count_before(files: &[BorrowedFile], border: &Border) -> usize
+    requires { IsKept (map file_of files.now) }
+    ensures { IsFront (is_before border.now) (map file_of files.now) result }
+{
+    match border {
+        Border::Beginning => 0,
+        Border::At(name) => count_below(files, name),
+        Border::End => files.len(),
+    }
+}
+
+// Adds the bytes behind their length.
+fn push_counted<'a>(parts: &mut Vec<Part<'a>>, bytes: &'a [u8]) -> Result<(), AllocError>
+    ensures { OnOk result
+        (message_of parts.new.items ≡ message_of parts.old.items ++ counted bytes.now) }
+{
+    parts.push(Part::Length(bytes.len() as u64))?;
+    parts.push(Part::Bytes(bytes))?;
+    Ok(())
+}
+
+// The files as parts of a message.
+fn parts_of<'a>(alloc: Global, files: &[BorrowedFile<'a>]) -> Result<Vec<Part<'a>>, AllocError>
+    ensures { IfOk result (λ parts. message_of parts.items ≡ hashed (map file_of files.now)) }
+{
+    let mut parts = Vec::with_capacity(alloc, files.len().saturating_mul(4))?;
+    for file in files {
+        push_counted(&mut parts, file.name.as_str().as_bytes())?;
+        push_counted(&mut parts, file.bytes.as_slice())?;
+    }
+    Ok(parts)
+}
+
+/// The files between the borders, as parts of a message.
+pub fn parts_between<'a>(
+    alloc: Global,
+    snapshot: &Snapshot<'a>,
+    from: &Border,
+    to: &Border,
+) -> Result<Vec<Part<'a>>, AllocError>
+    requires kept { IsKept (files_in snapshot.now) }
+    requires further { IsFurther from.now to.now }
+    ensures { let folder = folder_in snapshot.now in
+        IfOk result (λ parts. text_before from.now folder ++ message_of parts.items
+        ≡ text_before to.now folder) }
+{
+    let files = &snapshot.files;
+    let start = count_before(files, from);
+    let end = count_before(files, to);
+    parts_of(alloc, &files[start..end])
+}
