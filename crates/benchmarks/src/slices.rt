@@ -3,7 +3,7 @@
 
 use crate::random::random_bytes;
 use md5::{Digest, Md5};
-use par2_slices::{Pair, Wanted, crc32, find, pair_of, slice_bytes, slice_count};
+use par2_slices::{Pair, Wanted, crc32, find_among, pair_of, slice_bytes, slice_count};
 use std::alloc::{AllocError, Global};
 use std::io;
 use std::rt::Clock;
@@ -99,9 +99,9 @@ fn search_round(
     wanted: &Wanted,
 ) -> io::Result<Round> {
     let start = Instant::now(rt)?;
-    let offsets = find(alloc, bytes, SLICE, wanted)?;
+    let spots = find_among(alloc, &[bytes], SLICE, wanted)?;
     let seconds = start.elapsed(rt)?.as_secs_f64();
-    let made = offsets.iter().filter(|offset| offset.is_some()).count();
+    let made = spots.iter().filter(|spot| spot.is_some()).count();
     Ok(Round { seconds, made })
 }
 

@@ -1,7 +1,8 @@
 //! What a set says of a file.
 
+use md5::{Digest, Md5};
 use par2_packets::{FileRecord, Pair};
-use par2_recovery::file_record;
+use par2_recovery::file_record_by_md5;
 use std::alloc::{AllocError, Global};
 use std::test::Fail;
 
@@ -15,7 +16,8 @@ fn record_of(
     if s == 0 {
         return Ok(None);
     }
-    Ok(Some(file_record(alloc, name, bytes, s)?))
+    let digest = Md5::digest(bytes);
+    Ok(Some(file_record_by_md5(alloc, name, bytes, digest, s)?))
 }
 
 // a digest as its hexadecimal digits spell it

@@ -1,7 +1,7 @@
 ghost use Rattle.std.specs.Prelude.{◌≤◌, length};
 
 use par2_slices::{
-    Pair, Rolling, Wanted, crc32, find, padded_crc32, padded_md5, pair_of, slice_bytes,
+    Pair, Rolling, Wanted, crc32, find_among, padded_crc32, padded_md5, pair_of, slice_bytes,
     slice_count, slice_into,
 };
 use std::alloc::{AllocError, Global};
@@ -59,7 +59,7 @@ fn rolling_over_padding(rt: HostRuntime) {
     assert!(rt; next == padded_crc32(b"b", 1 << 30) && next != whole);
 }
 
-// What `find` answers, for slices of at least one byte.
+// The offsets that `find_among` answers for one text, for slices of at least one byte.
 fn found(
     alloc: Global,
     bytes: &[u8],
@@ -69,10 +69,15 @@ fn found(
     if s == 0 {
         return Ok(Vec::new(alloc));
     }
-    find(alloc, bytes, s, &Wanted::new(alloc, pairs)?)
+    let spots = find_among(alloc, &[bytes], s, &Wanted::new(alloc, pairs)?)?;
+    let mut offsets = Vec::with_capacity(alloc, spots.len())?;
+    for spot in &spots {
+        offsets.push(spot.map(|spot| spot.offset))?;
+    }
+    Ok(offsets)
 }
 
-// What `find` answers for the pairs of these slices, of which those that are too long are left out.
+// The offsets of the pairs of these slices, of which those that are too long are left out.
 fn offsets(
     alloc: Global,
     bytes: &[u8],
@@ -161,7 +166,7 @@ fn plain_offset(bytes: &[u8], s: u64, pair: &Pair) -> Option<usize>
     None
 }
 
-// Whether `find` gives each pair what the plain search gives it.
+// Whether the search gives each pair what the plain search gives it.
 fn is_as_plain(alloc: Global, text: &[u8], s: u64, pairs: &[Pair]) -> Result<bool, AllocError>
     requires { 1 ≤ s }
 {

@@ -20,9 +20,9 @@ fn first_bytes(bytes: &[u8], n: usize) -> &[u8]
     if n < bytes.len() { &bytes[..n] } else { bytes }
 }
 
-// What a set of slice size `s` says of the file of this name and these bytes, whose MD5 is given.
+/// What a set of slice size `s` says of the file of this name and these bytes, whose MD5 is given.
 #[tactic(auto, unfolding(par2_spec::specs::Volumes::record_of))]
-pub(crate) fn file_record_by_md5(
+pub fn file_record_by_md5(
     alloc: Global,
     name: &str,
     bytes: &[u8],
@@ -43,17 +43,4 @@ pub(crate) fn file_record_by_md5(
         name: String::from_str(alloc, name)?,
         pairs: pairs_of(alloc, bytes, s)?,
     })
-}
-
-/// What a set of slice size `s` says of the file of this name and these bytes.
-pub fn file_record(
-    alloc: Global,
-    name: &str,
-    bytes: &[u8],
-    s: u64,
-) -> Result<FileRecord, AllocError>
-    requires { 1 ≤ s }
-    ensures { IfOk result (λ made. file_record_of made ≡ record_of s (name.now, bytes.now)) }
-{
-    file_record_by_md5(alloc, name, bytes, Md5::digest(bytes), s)
 }

@@ -44,6 +44,7 @@ fn have_crc32s(bytes: &[u8], s: u64, pairs: &[Pair]) -> bool
 /// Whether `count` pairs from pair `first` on, eight at most, have the MD5s of the slices of their numbers, which are
 /// whole.
 fn group_has_md5s(bytes: &[u8], s: usize, pairs: &[Pair], first: usize, count: usize) -> bool
+    requires size { 1 ≤ s }
     requires some { 1 ≤ count }
     requires few { count ≤ 8 }
     requires pairs { first + count ≤ length pairs.now }
@@ -61,6 +62,7 @@ fn group_has_md5s(bytes: &[u8], s: usize, pairs: &[Pair], first: usize, count: u
 
 /// Whether the first pairs have the MD5s of the slices of their numbers, which are whole.
 fn groups_have_md5s(bytes: &[u8], s: usize, pairs: &[Pair], count: usize) -> bool
+    requires size { 1 ≤ s }
     requires pairs { count ≤ length pairs.now }
     requires whole { count * s ≤ length bytes.now }
     ensures { IsTrue result ↔ HaveMd5s s bytes.now pairs.now 0 count }

@@ -1,5 +1,5 @@
 -- A search under way.
-use Rattle.std.proofs.Common.{◌≡◌, ℕ, zero, suc, ◌+◌, ◌*◌, ◌/◌, ◌%◌, ◌^◌, ◌<◌, Bool, true, false, cond, List, [], ◌∷◌, ◌++◌, length, length-take, map, drop, take, get_or, set, replicate, refl, sym, ap, ap₂, subst, ◌∙◌, get_or-set_same, get_or-set_other, inl, inr, arith}
+use Rattle.std.proofs.Common.{◌≡◌, ℕ, zero, suc, ◌+◌, ◌*◌, ◌/◌, ◌%◌, ◌^◌, ◌<◌, Bool, true, false, cond, List, [], ◌∷◌, ◌++◌, length, length-take, map, drop, take, get_or, set, replicate, refl, sym, ap, subst, ◌∙◌, get_or-set_same, get_or-set_other, inl, inr, arith}
 use Rattle.std.specs.Prelude.{◌⊎◌, ◌==◌, ◌&&◌, Option, Some, None, find, option_map}
 use Rattle.std.specs.List.{count_by, list_all, range_with_len}
 use Rattle.std.specs.Option.{is_none, option_or}
@@ -349,18 +349,6 @@ all_done s texts pairs found size each =
     (λ i h.
     let inside : i < length pairs = omega (arith, h, size) in
     each i inside ∙ sym (get_or-map (first_spot s texts) pairs i no_pair None inside))
-
--- the offset of the first spot in one text
-first_alone : (s : ℕ) (text : List ℕ) (pair : Pair) → option_map (λ spot. spot.offset) (first_spot s (text ∷ []) pair) ≡ first_match s text pair
-first_alone s text pair = step (first_match s text pair)
-  where
-    step : (o : Option ℕ) → option_map (λ (spot : Spot). spot.offset) (option_or (option_map (spot_in 0) o) None) ≡ o
-    step None = refl
-    step (Some x) = refl
-
-pub offsets_alone : (s : ℕ) (text : List ℕ) (pairs : List Pair) → map (option_map (λ spot. spot.offset)) (map (first_spot s (text ∷ [])) pairs) ≡ map (first_match s text) pairs
-offsets_alone s text [] = refl
-offsets_alone s text (pair ∷ pairs) = ap₂ (λ (o : Option ℕ) os. o ∷ os) (first_alone s text pair) (offsets_alone s text pairs)
 
 -- what a walk over the first n places of a group has settled
 pub record Settled (pairs : List Pair) (md5 : List ℕ) (crc : ℕ) (spot : Spot) (old : List (Option Spot)) (group : List Place) (n : ℕ) (found : List (Option Spot)) (count : ℕ) : Type 0 where

@@ -29,9 +29,9 @@ fn starts_from(first: usize, count: usize, s: usize) -> [usize; LANES]
 
 /// The MD5s of `count` slices, eight at most, of which the first is slice `first`. They are whole.
 pub fn slice_md5s(bytes: &[u8], s: usize, first: usize, count: usize) -> [[u8; 16]; LANES]
+    requires size { 1 ≤ s }
     requires some { 1 ≤ count }
     requires few { count ≤ 8 }
-    requires last { first + count < 2 ^ 64 }
     requires whole { (first + count) * s ≤ length bytes.now }
     ensures { (k : ℕ) → k < count
         → digest_at result k ≡ md5 (slice_at s bytes.now (first + k)) }
@@ -55,9 +55,9 @@ fn push_group(
     count: usize,
 ) -> Result<(), AllocError>
     requires before { pairs.old.items ≡ first_pairs s bytes.now first }
+    requires size { 1 ≤ s }
     requires some { 1 ≤ count }
     requires few { count ≤ 8 }
-    requires last { first + count < 2 ^ 64 }
     requires whole { (first + count) * s ≤ length bytes.now }
     ensures { OnOk result (pairs.new.items ≡ first_pairs s bytes.now (first + count)) }
 {
@@ -77,6 +77,7 @@ fn push_groups(
     count: usize,
 ) -> Result<(), AllocError>
     requires before { pairs.old.items ≡ first_pairs s bytes.now 0 }
+    requires size { 1 ≤ s }
     requires whole { count * s ≤ length bytes.now }
     ensures { OnOk result (pairs.new.items ≡ first_pairs s bytes.now count) }
 {

@@ -1,10 +1,10 @@
 //! The search for slices in a file by their checksums.
 
-ghost use Rattle.std.specs.Prelude.{None, option_map, ◌≡◌, ◌≤◌, ◌<◌, ◌+◌, ◌⊎◌, ◌↔◌, [], ℕ, List, IfOk, IsTrue, length, map, drop, slice_index};
+ghost use Rattle.std.specs.Prelude.{None, ◌≡◌, ◌≤◌, ◌<◌, ◌+◌, ◌⊎◌, ◌↔◌, [], ℕ, List, IfOk, IsTrue, length, map, drop, slice_index};
 ghost use Rattle.std.specs.List.{count_by};
 ghost use Rattle.std.specs.Option.{is_none};
 ghost use Rattle.par2_spec.specs.Checksums.{crc32};
-ghost use Rattle.par2_spec.specs.Windows.{first_match, window};
+ghost use Rattle.par2_spec.specs.Windows.{window};
 ghost use Rattle.par2_slices.specs.Filters.{AreFor};
 ghost use Rattle.par2_slices.specs.Searches.{advanced, candidate_at, has_checksums, is_awaited, answer_at, pair_at, place_at, first_spot, settled, Begun, IsAt, IsPlace, IsTally, IsWaiting, IsWindow};
 
@@ -399,13 +399,6 @@ fn bytes_from(bytes: &[u8], start: u64) -> &[u8]
     }
 }
 
-/// The offset of a spot.
-fn offset_of(spot: Option<Spot>) -> Option<usize>
-    ensures { result ≡ option_map (λ spot. spot.offset) spot }
-{
-    Some(spot?.offset)
-}
-
 /// The byte at a place, 0 past the end.
 fn byte_at(bytes: &[u8], at: usize) -> u8
     ensures { result ≡ slice_index bytes.now at }
@@ -437,23 +430,4 @@ pub fn find_among(
         search.search_text(wanted, text, bytes, s, &mut rolling);
     }
     Ok(search.found)
-}
-
-/// For each pair the least offset at which the window of `s` bytes of the file matches it, zeros standing past
-/// the end of the file; None where there is no such offset. It costs what `find_among` does.
-pub fn find(
-    alloc: Global,
-    bytes: &[u8],
-    s: u64,
-    wanted: &Wanted,
-) -> Result<Vec<Option<usize>>, AllocError>
-    requires { 1 ≤ s }
-    ensures { IfOk result (λ offsets. offsets.items ≡ map (first_match s bytes.now) wanted.now) }
-{
-    let spots = find_among(alloc, &[bytes], s, wanted)?;
-    let mut offsets = Vec::with_capacity(alloc, spots.len())?;
-    for spot in &spots {
-        offsets.push(offset_of(*spot))?;
-    }
-    Ok(offsets)
 }
