@@ -49,6 +49,11 @@ pub and_false : (a b : Bool) → b ≡ false → (a && b) ≡ false
 and_false true b h = h
 and_false false b h = refl
 
+-- ---- what a `?` answers
+
+pub refused_so : {X E : Type 0} (r : Result X E) (Cause : E → Type 0) (e : E) → (y : E) × (r ≡ Err y) × (y ≡ e) → Cause e → IfErr r Cause
+refused_so r Cause e p h = subst (λ x. IfErr x Cause) (sym (p.1 ∙ ap Err p.2)) h
+
 -- ---- with more room
 
 pub takes_roomier : (g h : FolderState) (cs : List Change) → takes_all g cs ≡ true → h.files ≡ g.files → g.vacant ≤ h.vacant → takes_all h cs ≡ true

@@ -274,13 +274,13 @@ fn open_journal(
         ..
     } = journal;
     match halfway {
-        None => match open_settled(alloc, folder, fingerprint, entries, cursor) {
-            Ok(session) => Ok(Opened::Settled(session)),
-            Err(refused) => Err(refused),
-        },
+        None => {
+            let session = open_settled(alloc, folder, fingerprint, entries, cursor)?;
+            Ok(Opened::Settled(session))
+        }
         Some(begun) => {
             let prints = begun.fingerprints;
-            match open_begun(
+            let found = open_begun(
                 alloc,
                 folder,
                 fingerprint,
@@ -288,10 +288,8 @@ fn open_journal(
                 begun.back,
                 entries,
                 cursor,
-            ) {
-                Ok(found) => Ok(Opened::Begun(found)),
-                Err(refused) => Err(refused),
-            }
+            )?;
+            Ok(Opened::Begun(found))
         }
     }
 }

@@ -212,11 +212,9 @@ pub(crate) fn open_begun(
         Ok(left) => left,
         Err(AllocError) => return Err((JournalFault::Memory, folder)),
     };
-    match take_back(alloc, folder, way, &wanted, entries, cursor) {
-        Ok(session) => Ok(Halfway {
-            session,
-            back: left,
-        }),
-        Err(refused) => Err(refused),
-    }
+    let session = take_back(alloc, folder, way, &wanted, entries, cursor)?;
+    Ok(Halfway {
+        session,
+        back: left,
+    })
 }

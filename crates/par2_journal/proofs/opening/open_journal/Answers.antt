@@ -1,26 +1,40 @@
-use Rattle.std.proofs.Common.{sym, ap, ◌∙◌}
+use Rattle.std.proofs.Common.{◌≡◌, ◌⊎◌, Err, sym, ap, ◌∙◌}
+use Rattle.std.proofs.lemmas.Result.{err_from_is_err_and}
+use Rattle.par2_spec.specs.Changes.{FolderState}
+use Rattle.par2_spec.specs.Folders.{Folder}
+use Rattle.par2_spec.specs.Journals.{Journal}
+use Rattle.par2_spec.specs.Opening as defined
+use Rattle.par2_spec.specs.declared.JournalFault.{JournalFault}
+use Rattle.par2_spec.specs.declared.JournalFault.TheVariants.{Memory}
 use Rattle.par2_journal_bytes.specs.Views.{changes_of, halfway_of, journal_of}
 use Rattle.par2_journal.specs.Opened.{begun_as}
-use Rattle.par2_journal.proofs.Reopened.{one_or, opened_settled, opened_begun}
+use Rattle.par2_journal.proofs.Reopened.{one_or, refused_so, opened_settled, opened_begun}
 use Rattle.par2_journal.proofs.opening.open_journal.Goals as goal
 
-pub returns-in-Ok-clause-opened : goal.returns-in-Ok-clause-opened
-returns-in-Ok-clause-opened c = opened_settled c.args.folder.files (journal_of c.args.journal) (ap halfway_of c.in-None.is) ∙ c.in-Ok.ensures.opened
+-- an opening is refused so
+abbrev IsRefused : Folder → Journal → JournalFault × FolderState → Type 0
+IsRefused folder j e = (e.0 ≡ Memory) ⊎ (defined.opened folder j ≡ Err e.0)
 
-pub returns-in-None-clause-refused : goal.returns-in-None-clause-refused
-returns-in-None-clause-refused c = one_or (λ e. opened_settled c.args.folder.files (journal_of c.args.journal) (ap halfway_of c.in-None.is) ∙ e) c.in-Err.ensures.refused
+pub returns-in_ok-session-in-None-clause-opened : goal.returns-in_ok-session-in-None-clause-opened
+returns-in_ok-session-in-None-clause-opened c = opened_settled c.args.folder.files (journal_of c.args.journal) (ap halfway_of c.in-None.is) ∙ c.in_ok-session-in-None.ensures.opened
 
-pub returns-in-Ok-open_begun-clause-opened : goal.returns-in-Ok-open_begun-clause-opened
-returns-in-Ok-open_begun-clause-opened c =
+pub returns-in_err-session-in-None-clause-refused : goal.returns-in_err-session-in-None-clause-refused
+returns-in_err-session-in-None-clause-refused c =
+    refused_so _ (IsRefused c.args.folder.files (journal_of c.args.journal)) c.in_err-session-in-None.field-0.0 (err_from_is_err_and c.from_residual.result c.from_residual.ensures.1)
+    (one_or (λ e. opened_settled c.args.folder.files (journal_of c.args.journal) (ap halfway_of c.in-None.is) ∙ e) c.in_err-session-in-None.ensures.refused)
+
+pub returns-in_ok-found-in-Some-clause-opened : goal.returns-in_ok-found-in-Some-clause-opened
+returns-in_ok-found-in-Some-clause-opened c =
     let j = journal_of c.args.journal in
     opened_begun c.args.folder.files j (record { fingerprints = c.in-Some.begun.fingerprints.items; back = changes_of c.in-Some.begun.back.items }) (ap halfway_of c.in-Some.is)
     ∙ ap (λ prints. begun_as c.args.folder.files j.fingerprint j.cursor j.entries prints (changes_of c.in-Some.begun.back.items)) (sym c.deref.ensures.value)
-    ∙ c.in-Ok-open_begun.ensures.opened
+    ∙ c.in_ok-found-in-Some.ensures.opened
 
-pub returns-clause-refused : goal.returns-clause-refused
-returns-clause-refused c =
+pub returns-in_err-found-in-Some-clause-refused : goal.returns-in_err-found-in-Some-clause-refused
+returns-in_err-found-in-Some-clause-refused c =
     let j = journal_of c.args.journal in
-    one_or (λ e. opened_begun c.args.folder.files j (record { fingerprints = c.in-Some.begun.fingerprints.items; back = changes_of c.in-Some.begun.back.items }) (ap halfway_of c.in-Some.is)
+    refused_so _ (IsRefused c.args.folder.files j) c.in_err-found-in-Some.field-0.0 (err_from_is_err_and c.from_residual-in_err-found-in-Some.result c.from_residual-in_err-found-in-Some.ensures.1)
+    (one_or (λ e. opened_begun c.args.folder.files j (record { fingerprints = c.in-Some.begun.fingerprints.items; back = changes_of c.in-Some.begun.back.items }) (ap halfway_of c.in-Some.is)
     ∙ ap (λ prints. begun_as c.args.folder.files j.fingerprint j.cursor j.entries prints (changes_of c.in-Some.begun.back.items)) (sym c.deref.ensures.value)
     ∙ e)
-    c.in-Err-open_begun.ensures.refused
+    c.in_err-found-in-Some.ensures.refused)
