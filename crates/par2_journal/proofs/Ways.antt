@@ -2,7 +2,8 @@
 use Rattle.std.proofs.Common.{◌≡◌, ℕ, ◌<◌, true, ◌&&◌, get_or, set, List, [], ◌∷◌, ◌++◌, length, refl, sym, ap, ◌∙◌, append_assoc, append-nil, length-append, arith}
 use Rattle.std.specs.Prelude.{is_none}
 use Rattle.std.proofs.lemmas.List.{get_or_default, get_or-set_same, set-set, set-get_or}
-use Rattle.par2_spec.specs.Changes.{Change, FolderState, change_refusal, effect, inverse, state_after, takes_all, state_after_all, way_back}
+use Rattle.par2_spec.specs.Folders.{Folder}
+use Rattle.par2_spec.specs.Changes.{Change, FolderState, change_refusal, effect, effects, inverse, state_after, takes_all, state_after_all, way_back}
 use Rattle.par2_spec.specs.Sessions.{walks}
 use Rattle.par2_spec.proofs.FolderLaws.{both_first, both_second, both_true, state_files, state_all_back, way_back_taken, changes_back, way_back-append, state_after_all-append}
 use Rattle.par2_journal.specs.Walked.{state_along, ways_back}
@@ -170,3 +171,17 @@ module _ (f g : FolderState) (xs : List (List Change)) (i : ℕ) (within : i < l
       set-set xs i turned again
       ∙ ap (set xs i) (back ∙ ap (way_back g.files) (there e) ∙ back_again f g (get_or xs i d) turned taken_here moved is)
       ∙ set-get_or xs i d
+
+-- ---- what went forth by changes, and can go back
+
+pub record WentForth (f : Folder) (after : FolderState) (way back : List Change) : Type 0 where
+  pub files : after.files ≡ effects f way
+  pub taken : takes_all after back ≡ true
+  pub leads : (state_after_all after back).files ≡ f
+
+pub went_forth : (f : Folder) (start after : FolderState) (way back : List Change) → start.files ≡ f → takes_all start way ≡ true → after ≡ state_after_all start way → back ≡ way_back start.files way → WentForth f after way back
+went_forth f start after way back same taken moved turned = record {
+  files = ap (λ (s : FolderState). s.files) moved ∙ state_files start way ∙ ap (λ g. effects g way) same;
+  taken = back_taken start after way back taken moved turned;
+  leads = ap (λ (s : FolderState). s.files) (back_leads start after way back taken moved turned) ∙ same;
+}
