@@ -5,7 +5,7 @@ use Rattle.std.specs.List.{concat}
 use Rattle.std.specs.Simd.{first_chunks}
 use Rattle.std.specs.Int.{w64, from_le_bytes}
 use Rattle.std.specs.Int.Bits.{xor_assoc, xor_zero_r}
-use Rattle.std.proofs.lemmas.Nat.{shr-shr}
+use Rattle.std.proofs.lemmas.Nat.{shr-shr, xor_comm}
 use Rattle.std.proofs.Math.Seq.{take-add}
 use Rattle.std.proofs.lemmas.List.{take_more, take_all, take-append-drop, append-nil}
 use Rattle.std.proofs.lemmas.List.Folds.{concat-append}
@@ -28,7 +28,7 @@ next m k sum w =
     ∙ sym (xor_assoc sum (steps (8 + m) (w / 2 ^ k % 256)) (steps m (w / 2 ^ (k + 8))))
 
 -- a word of eight bytes, a table for each
-pub by_tables : (w : ℕ) → steps 64 w ≡ bit_xor (bit_xor (bit_xor (bit_xor (bit_xor (bit_xor (bit_xor (steps 64 (w % 256)) (steps 56 (w / 2 ^ 8 % 256))) (steps 48 (w / 2 ^ 16 % 256))) (steps 40 (w / 2 ^ 24 % 256))) (steps 32 (w / 2 ^ 32 % 256))) (steps 24 (w / 2 ^ 40 % 256))) (steps 16 (w / 2 ^ 48 % 256))) (steps 8 (w / 2 ^ 56))
+by_tables : (w : ℕ) → steps 64 w ≡ bit_xor (bit_xor (bit_xor (bit_xor (bit_xor (bit_xor (bit_xor (steps 64 (w % 256)) (steps 56 (w / 2 ^ 8 % 256))) (steps 48 (w / 2 ^ 16 % 256))) (steps 40 (w / 2 ^ 24 % 256))) (steps 32 (w / 2 ^ 32 % 256))) (steps 24 (w / 2 ^ 40 % 256))) (steps 16 (w / 2 ^ 48 % 256))) (steps 8 (w / 2 ^ 56))
 by_tables w =
     let a : ℕ = steps 64 (w % 256) in
     let b : ℕ = bit_xor a (steps 56 (w / 2 ^ 8 % 256)) in
@@ -37,6 +37,25 @@ by_tables w =
     let e : ℕ = bit_xor d (steps 32 (w / 2 ^ 32 % 256)) in
     let f : ℕ = bit_xor e (steps 24 (w / 2 ^ 40 % 256)) in
     split 56 w ∙ next 48 8 a w ∙ next 40 16 b w ∙ next 32 24 c w ∙ next 24 32 d w ∙ next 16 40 e w ∙ next 8 48 f w
+
+four_more : (p a b c d : ℕ) → bit_xor (bit_xor (bit_xor (bit_xor p a) b) c) d ≡ bit_xor p (bit_xor (bit_xor (bit_xor a b) c) d)
+four_more p a b c d =
+    ap (λ t. bit_xor (bit_xor t c) d) (xor_assoc p a b) ∙ ap (λ t. bit_xor t d) (xor_assoc p (bit_xor a b) c) ∙ xor_assoc p (bit_xor (bit_xor a b) c) d
+
+-- the same, the four high bytes first
+pub by_tables_from_above : (w : ℕ) → bit_xor (bit_xor (bit_xor (bit_xor (bit_xor (bit_xor (bit_xor (steps 32 (w / 2 ^ 32 % 256)) (steps 24 (w / 2 ^ 40 % 256))) (steps 16 (w / 2 ^ 48 % 256))) (steps 8 (w / 2 ^ 56))) (steps 64 (w % 256))) (steps 56 (w / 2 ^ 8 % 256))) (steps 48 (w / 2 ^ 16 % 256))) (steps 40 (w / 2 ^ 24 % 256)) ≡ steps 64 w
+by_tables_from_above w =
+    let a : ℕ = steps 64 (w % 256) in
+    let b : ℕ = steps 56 (w / 2 ^ 8 % 256) in
+    let c : ℕ = steps 48 (w / 2 ^ 16 % 256) in
+    let d : ℕ = steps 40 (w / 2 ^ 24 % 256) in
+    let e : ℕ = steps 32 (w / 2 ^ 32 % 256) in
+    let f : ℕ = steps 24 (w / 2 ^ 40 % 256) in
+    let g : ℕ = steps 16 (w / 2 ^ 48 % 256) in
+    let h : ℕ = steps 8 (w / 2 ^ 56) in
+    let low : ℕ = bit_xor (bit_xor (bit_xor a b) c) d in
+    let high : ℕ = bit_xor (bit_xor (bit_xor e f) g) h in
+    four_more high a b c d ∙ xor_comm high low ∙ sym (four_more low e f g h) ∙ sym (by_tables w)
 
 -- a word, a table for each of its two low bytes
 pub by_two_tables : (w : ℕ) → steps 16 w ≡ bit_xor (bit_xor (steps 16 (w % 256)) (steps 8 (w / 2 ^ 8 % 256))) (w / 2 ^ 16)

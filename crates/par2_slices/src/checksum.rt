@@ -37,14 +37,15 @@ fn after_eight(remainder: u32, bytes: &[u8; 8]) -> u32
     ensures { result ≡ fold spec.crc_byte remainder bytes.now }
 {
     let word = (u64::from_le_bytes(*bytes) ^ remainder as u64) as usize;
-    entry(7, word % 256)
-        ^ entry(6, (word >> 8) % 256)
-        ^ entry(5, (word >> 16) % 256)
-        ^ entry(4, (word >> 24) % 256)
-        ^ entry(3, (word >> 32) % 256)
+    // The last four bytes come first: they don't hang on the remainder, so their sum is there before it.
+    entry(3, (word >> 32) % 256)
         ^ entry(2, (word >> 40) % 256)
         ^ entry(1, (word >> 48) % 256)
         ^ entry(0, word >> 56)
+        ^ entry(7, word % 256)
+        ^ entry(6, (word >> 8) % 256)
+        ^ entry(5, (word >> 16) % 256)
+        ^ entry(4, (word >> 24) % 256)
 }
 
 /// The remainder after some groups of eight bytes more.
