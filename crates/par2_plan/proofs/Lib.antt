@@ -1,5 +1,6 @@
 mod Answered
 mod Choices
+mod FromLast
 mod Given
 mod Ids
 mod IndexBytes

@@ -1,5 +1,5 @@
 -- The outputs of a create, by parts.
-use Rattle.std.specs.Prelude.{ℕ, ◌+◌, ◌-◌, nat_lt, List, [], ◌∷◌, ◌++◌, take, drop, map, flat_map, if◌then◌else◌}
+use Rattle.std.specs.Prelude.{ℕ, ◌≤◌, ◌+◌, ◌-◌, nat_lt, List, [], ◌∷◌, ◌++◌, take, drop, map, flat_map, if◌then◌else◌}
 use Rattle.std.specs.List.{enumerate_from}
 use Rattle.par2_spec.specs.Packets.{Packet, packet}
 use Rattle.par2_spec.specs.Folders.{Folder, File, has}
@@ -41,6 +41,16 @@ packets_from set_id first slices =
 abbrev pub slices_in : ℕ → List (List ℕ) → Volume → List (List ℕ)
 slices_in first slices volume = take volume.count (drop (volume.first - first) slices)
 
+-- the bytes of a volume, whose slices are among those that count up from the first one
+abbrev pub volume_text : List ℕ → List ℕ → ℕ → List (List ℕ) → Volume → List ℕ
+volume_text index set_id first slices volume =
+    index ++ flat_map packet (packets_from set_id volume.first (slices_in first slices volume))
+
+-- the exponents of the volumes rise, from a number on and below another
+abbrev pub AreRising : ℕ → List Volume → ℕ → Type 0
+AreRising from [] end = from ≤ end
+AreRising from (volume ∷ volumes) end = (from ≤ volume.first) × AreRising (volume.first + volume.count) volumes end
+
 -- a file is replaced where it is there already
 abbrev pub put : Folder → File → Change
 put folder file = if has folder file.0 then Replace file.0 file.1 else Write file.0 file.1
@@ -50,4 +60,4 @@ put folder file = if has folder file.0 then Replace file.0 file.1 else Write fil
 abbrev pub written : Folder → List ℕ → List ℕ → List ℕ → ℕ → List (List ℕ) → List Volume → List Change
 written folder base index set_id first slices volumes =
     put folder (base, index)
-    ∷ map (λ volume. put folder (volume.name, index ++ flat_map packet (packets_from set_id volume.first (slices_in first slices volume)))) volumes
+    ∷ map (λ volume. put folder (volume.name, volume_text index set_id first slices volume)) volumes

@@ -72,7 +72,7 @@ fn outputs_written(
         ≡ plans.create_changes folder.now.files (create_args_of args.now)) }
 {
     let parts = parts_of(alloc, folder, set, args.first, args.count)?;
-    changes_of(alloc, folder, base, &parts, volumes)
+    changes_of(alloc, folder, base, parts, volumes)
 }
 
 /// The changes of a create: its outputs are written in order. Memory is answered only where a growth is refused.

@@ -1,5 +1,5 @@
 //! The files that a create writes.
-ghost use Rattle.std.specs.Prelude.{◌≡◌, ◌≤◌, ◌-◌, ◌+◌, ◌%◌, ◌++◌, ◌∷◌, [], length, map, take, drop, flat_map, IsTrue, IfOk, OnOk};
+ghost use Rattle.std.specs.Prelude.{◌≡◌, ◌≤◌, ◌-◌, ◌+◌, ◌%◌, ◌++◌, length, map, take, drop, flat_map, IsTrue, IfOk, OnOk};
 ghost use Rattle.std.specs.List.{AllByRecursion, range_with_len};
 ghost use Rattle.par2_spec.specs.Names.{is_name};
 ghost use Rattle.par2_spec.specs.Packets.{packet};
@@ -10,7 +10,7 @@ ghost use Rattle.par2_folder.specs.Views.{change_of};
 ghost use Rattle.par2_packets.specs.View.{file_record_of};
 ghost use Rattle.par2_matrix.specs.Systems.{lists_of};
 ghost use Rattle.par2_recovery.specs.Views.{names_of};
-ghost use Rattle.par2_plan.specs.Outputs.{packets_from, slices_in, put, written};
+ghost use Rattle.par2_plan.specs.Outputs.{packets_from, slices_in, volume_text, AreRising, put, written};
 
 use crate::Changes;
 use crate::index::index_of;
@@ -146,6 +146,46 @@ fn volume_bytes(alloc: Global, parts: &Parts, volume: &Volume) -> Result<Vec<u8>
     Ok(bytes)
 }
 
+// The bytes of the last volume that is left, whose slices are dropped with those behind them.
+fn last_volume(alloc: Global, parts: &mut Parts, volume: &Volume) -> Result<Vec<u8>, AllocError>
+    requires from { parts.old.first ≤ volume.now.first }
+    requires to { volume.now.first + volume.now.count
+        ≤ parts.old.first + length parts.old.slices.items }
+    requires exponents { parts.old.first + length parts.old.slices.items ≤ 65536 }
+    requires sizes { AllByRecursion (λ slice. length slice % 4
+        ≡ 0) (lists_of parts.old.slices.items) }
+    ensures bytes { IfOk result (λ bytes. bytes.items ≡ volume_text parts.old.index.items
+        parts.old.set_id parts.old.first (lists_of parts.old.slices.items) volume.now) }
+    ensures index { parts.new.index.items ≡ parts.old.index.items }
+    ensures set_id { parts.new.set_id ≡ parts.old.set_id }
+    ensures first { parts.new.first ≡ parts.old.first }
+    ensures slices { OnOk result (parts.new.slices.items
+        ≡ take (volume.now.first - parts.old.first) parts.old.slices.items) }
+{
+    let bytes = volume_bytes(alloc, parts, volume)?;
+    parts.slices.truncate((volume.first - parts.first) as usize);
+    Ok(bytes)
+}
+
+// The bytes of the volumes in order. They are made from the last one on, which has most slices: so beside them stand, at
+// most, the slices that are left and those of one volume.
+fn volume_texts(alloc: Global, parts: Parts, volumes: &[Volume]) -> Result<Vec<Vec<u8>>, AllocError>
+    requires rising { AreRising parts.first volumes.now (parts.first + length parts.slices.items) }
+    requires exponents { parts.first + length parts.slices.items ≤ 65536 }
+    requires sizes { AllByRecursion (λ slice. length slice % 4 ≡ 0) (lists_of parts.slices.items) }
+    ensures { IfOk result (λ texts. lists_of texts.items ≡ map (volume_text parts.index.items
+        parts.set_id parts.first (lists_of parts.slices.items)) volumes.now) }
+{
+    let mut left = parts;
+    let mut texts = Vec::with_capacity(alloc, volumes.len())?;
+    for i in 0..volumes.len() {
+        let volume = &volumes[volumes.len() - 1 - i];
+        let bytes = last_volume(alloc, &mut left, volume)?;
+        texts.insert(0, bytes)?;
+    }
+    Ok(texts)
+}
+
 // A file is written, or replaced where it is there already.
 fn put(folder: &Folder, name: Name, bytes: Vec<u8>) -> Change
     ensures { change_of result ≡ put folder.now.files (name, bytes.items) }
@@ -157,27 +197,27 @@ fn put(folder: &Folder, name: Name, bytes: Vec<u8>) -> Change
     }
 }
 
-/// The changes that write the outputs: the index, and the volumes in order.
+/// The changes that write the outputs: the index, and the volumes in order. The slices of each volume are dropped as soon
+/// as it stands.
 pub fn changes_of(
     alloc: Global,
     folder: &Folder,
     base: Name,
-    parts: &Parts,
+    parts: Parts,
     volumes: &[Volume],
 ) -> Result<Changes, AllocError>
-    requires within { AllByRecursion (λ volume. (parts.now.first ≤ volume.first) × (volume.first
-        + volume.count ≤ parts.now.first + length parts.now.slices.items)) volumes.now }
-    requires exponents { parts.now.first + length parts.now.slices.items ≤ 65536 }
-    requires sizes { AllByRecursion (λ slice. length slice % 4
-        ≡ 0) (lists_of parts.now.slices.items) }
+    requires rising { AreRising parts.first volumes.now (parts.first + length parts.slices.items) }
+    requires exponents { parts.first + length parts.slices.items ≤ 65536 }
+    requires sizes { AllByRecursion (λ slice. length slice % 4 ≡ 0) (lists_of parts.slices.items) }
     ensures { IfOk result (λ changes. changes
-        ≡ written folder.now.files base parts.now.index.items parts.now.set_id parts.now.first
-        (lists_of parts.now.slices.items) volumes.now) }
+        ≡ written folder.now.files base parts.index.items parts.set_id parts.first
+        (lists_of parts.slices.items) volumes.now) }
 {
     let mut changes = Changes::new(alloc);
     changes.push(put(folder, base, Vec::from_slice(alloc, &parts.index)?))?;
+    let mut texts = volume_texts(alloc, parts, volumes)?;
     for volume in volumes {
-        let bytes = volume_bytes(alloc, parts, volume)?;
+        let bytes = texts.remove(0);
         changes.push(put(folder, volume.name.copied(), bytes))?;
     }
     Ok(changes)

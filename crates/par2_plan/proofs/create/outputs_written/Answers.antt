@@ -10,10 +10,9 @@ use Rattle.par2_spec.specs.Commands.{files_of}
 use Rattle.par2_spec.specs.Views.{create_args_of}
 use Rattle.par2_packets.specs.View.{file_record_of}
 use Rattle.par2_matrix.specs.Systems.{lists_of}
-use Rattle.par2_plan.specs.declared.names.Volume.{Volume}
-use Rattle.par2_plan.specs.Outputs.{volumes_of, written}
+use Rattle.par2_plan.specs.Outputs.{AreRising, volumes_of, written}
 use Rattle.par2_plan.proofs.Listed.{whole_words}
-use Rattle.par2_plan.proofs.Numbered.{volumes_within}
+use Rattle.par2_plan.proofs.Numbered.{volumes_rising}
 use Rattle.par2_plan.proofs.Passed.{IsHead, AreInputs, head_passed, inputs_passed, names_in_order, few_slices, few_in_order}
 use Rattle.par2_plan.proofs.Written.{create_written}
 use Rattle.par2_plan.proofs.create.outputs_written.Goals as goal
@@ -55,17 +54,17 @@ parts_of-requires-clause-exponents c =
     let head : IsHead (create_args_of c.args.args.now) = head_passed _ c.requires.head in
     head.exponents
 
-pub changes_of-requires-clause-within : goal.changes_of-requires-clause-within
-changes_of-requires-clause-within c =
+pub changes_of-requires-clause-rising : goal.changes_of-requires-clause-rising
+changes_of-requires-clause-rising c =
     let parts = c.in_ok-parts.parts in
     let base = string_bytes c.args.args.now.base in
     let first = c.args.args.now.first in
     let count = c.args.args.now.count in
     let size : length parts.slices.items ≡ count = sym (length-map parts.slices.items _) ∙ ap length c.in_ok-parts.ensures.slices ∙ length-map-range_with_len _ first count in
-    subst (AllByRecursion (λ (volume : Volume). (parts.first ≤ volume.first) × (volume.first + volume.count ≤ parts.first + length parts.slices.items))) (sym c.requires.volumes)
-    (subst (λ n. AllByRecursion (λ (volume : Volume). (parts.first ≤ volume.first) × (volume.first + volume.count ≤ parts.first + n)) (volumes_of base first count)) (sym size)
-    (subst (λ f. AllByRecursion (λ (volume : Volume). (f ≤ volume.first) × (volume.first + volume.count ≤ f + count)) (volumes_of base first count)) (sym c.in_ok-parts.ensures.first)
-    (volumes_within base first count)))
+    subst (λ volumes. AreRising parts.first volumes (parts.first + length parts.slices.items)) (sym c.requires.volumes)
+    (subst (λ n. AreRising parts.first (volumes_of base first count) (parts.first + n)) (sym size)
+    (subst (λ f. AreRising f (volumes_of base first count) (f + count)) (sym c.in_ok-parts.ensures.first)
+    (volumes_rising base first count)))
 
 pub changes_of-requires-clause-exponents : goal.changes_of-requires-clause-exponents
 changes_of-requires-clause-exponents c =

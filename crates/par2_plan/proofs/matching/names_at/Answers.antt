@@ -1,4 +1,4 @@
-use Rattle.std.proofs.Common.{◌≡◌, ◌∙◌, ◌<◌, ◌++◌, ◌∷◌, [], List, ℕ, length, map, take, sym, ap, ap₂}
+use Rattle.std.proofs.Common.{◌∙◌, ◌<◌, ◌++◌, ◌∷◌, [], List, ℕ, length, sym, ap₂}
 use Rattle.std.specs.Prelude.{Option, None, option_map, IfSome}
 use Rattle.std.proofs.lemmas.List.{map_more}
 use Rattle.par2_search.specs.Matching.{text_at}

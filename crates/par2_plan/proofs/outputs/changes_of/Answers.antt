@@ -1,35 +1,59 @@
-use Rattle.std.proofs.Common.{◌≡◌, ◌∙◌, ◌+◌, ◌≤◌, ◌++◌, ◌∷◌, [], List, ℕ, length, map, take, sym, ap, ap₂, subst, append_assoc}
-use Rattle.std.specs.Prelude.{flat_map}
-use Rattle.std.proofs.lemmas.List.{map_more}
+use Rattle.std.proofs.Common.{◌≡◌, ◌∙◌, ◌+◌, ◌<◌, ◌++◌, ◌∷◌, [], List, ℕ, Vec, Global, length, map, take, drop, sym, ap, ap₂, append_assoc, append-nil, length-drop, arith, rules}
+use Rattle.std.proofs.lemmas.List.{map_more, drop_more, length-map, take_all}
 use Rattle.par2_spec.specs.Changes.{Change}
-use Rattle.par2_spec.specs.Packets.{packet}
 use Rattle.par2_folder.specs.Views.{change_of}
 use Rattle.par2_matrix.specs.Systems.{lists_of}
-use Rattle.par2_plan.specs.Outputs.{packets_from, slices_in, put}
+use Rattle.par2_plan.specs.Outputs.{volume_text, put}
 use Rattle.par2_plan.specs.declared.names.Volume.{Volume}
-use Rattle.par2_plan.proofs.Listed.{all_get}
+use Rattle.par2_plan.proofs.FromLast.{first_of}
 use Rattle.par2_plan.proofs.outputs.changes_of.Goals as goal
 
-pub volume_bytes-requires : goal.volume_bytes-requires
-volume_bytes-requires c =
-    let parts = c.args.parts.now in
-    let IsWithin = λ (v : Volume). (parts.first ≤ v.first) × (v.first + v.count ≤ parts.first + length parts.slices.items) in
-    let within : IsWithin c.volume-item.result =
-    subst IsWithin (sym c.volume-item.is) (all_get IsWithin c.args.volumes.now c.loop-volume.volume-index c.volume-item.result c.loop-volume-test.true c.requires.within) in
-    record { from = within.0; to = within.1; exponents = c.requires.exponents; sizes = c.requires.sizes }
+pub loop-volume-init : goal.loop-volume-init
+loop-volume-init c = record { changes = sym (append-nil c.push.new.self); texts = c.in_ok-texts.ensures }
+
+pub remove-bytes-requires : goal.remove-bytes-requires
+remove-bytes-requires c =
+    let parts = c.args.parts in
+    let text = volume_text parts.index.items parts.set_id parts.first (lists_of parts.slices.items) in
+    let volumes : List Volume = c.args.volumes.now in
+    let i = c.loop-volume.volume-index in
+    let left = ap length c.loop-volume.invariant.texts in
+    let some : 0 < length c.loop-volume.texts.items =
+    omega (arith, left, length-map c.loop-volume.texts.items (λ (v : Vec ℕ Global). v.items), length-map (drop i volumes) text, length-drop i volumes, c.loop-volume-test.true) in
+    search (rules, some)
 
 pub loop-volume-preserved : goal.loop-volume-preserved
 loop-volume-preserved c =
-    let parts = c.args.parts.now in
+    let kept = c.loop-volume.invariant in
+    let parts = c.args.parts in
     let folder = c.args.folder.now.files in
+    let text = volume_text parts.index.items parts.set_id parts.first (lists_of parts.slices.items) in
+    let change = λ (v : Volume). put folder (v.name, text v) in
     let volumes : List Volume = c.args.volumes.now in
     let volume : Volume = c.volume-item.result in
     let i = c.loop-volume.volume-index in
-    let change = λ (v : Volume). put folder (v.name, parts.index.items ++ flat_map packet (packets_from parts.set_id v.first (slices_in parts.first (lists_of parts.slices.items) v))) in
-    let made : change_of c.put-in-loop-volume.result ≡ change volume =
-    c.put-in-loop-volume.ensures ∙ ap₂ (λ (name bytes : List ℕ). put folder (name, bytes)) c.copied.ensures c.in_ok-bytes.ensures in
-    let first : List Change = c.push.new.self in
-    c.in_ok-push-2.ensures.ok ∙ ap₂ (λ (cs : List Change) x. cs ++ x ∷ []) c.loop-volume.invariant made
-    ∙ append_assoc first (map change (take i volumes)) (change volume ∷ [])
-    ∙ ap (λ (cs : List Change). first ++ cs)
-    (ap (λ v. map change (take i volumes) ++ change v ∷ []) c.volume-item.is ∙ sym (map_more change volumes i volume c.loop-volume-test.true))
+    let low = c.loop-volume-test.true in
+    let here : drop i volumes ≡ volume ∷ drop (i + 1) volumes = drop_more volumes i volume low ∙ ap (λ v. v ∷ drop (i + 1) volumes) (sym c.volume-item.is) in
+    let first = first_of c.loop-volume.texts.items c.remove-bytes.result (text volume) (map text (drop (i + 1) volumes)) (kept.texts ∙ ap (map text) here) c.remove-bytes.ensures.value in
+    let made : change_of c.put-in-loop-volume.result ≡ change volume = c.put-in-loop-volume.ensures ∙ ap₂ (λ (name bytes : List ℕ). put folder (name, bytes)) c.copied.ensures first.0 in
+    let before : List Change = c.push.new.self in
+    record {
+      changes =
+          c.in_ok-push-2.ensures.ok ∙ ap₂ (λ (cs : List Change) x. cs ++ x ∷ []) kept.changes made
+          ∙ append_assoc before (map change (take i volumes)) (change volume ∷ [])
+          ∙ ap (λ (cs : List Change). before ++ cs)
+          (ap (λ v. map change (take i volumes) ++ change v ∷ []) c.volume-item.is ∙ sym (map_more change volumes i volume low));
+      texts = ap lists_of c.remove-bytes.ensures.items ∙ first.1;
+    }
+
+pub returns : goal.returns
+returns c =
+    let parts = c.args.parts in
+    let folder = c.args.folder.now.files in
+    let text = volume_text parts.index.items parts.set_id parts.first (lists_of parts.slices.items) in
+    let change = λ (v : Volume). put folder (v.name, text v) in
+    let volumes : List Volume = c.args.volumes.now in
+    let index = c.put.ensures ∙ ap (λ (bytes : List ℕ). put folder (c.args.base, bytes)) (c.in_ok-from_slice.ensures.items ∙ c.deref.ensures.value) in
+    let first : c.push.new.self ≡ put folder (c.args.base, parts.index.items) ∷ [] = c.in_ok-push.ensures.ok ∙ ap₂ (λ (cs : List Change) x. cs ++ x ∷ []) c.new-changes.ensures index in
+    c.loop-volume.invariant.changes
+    ∙ ap₂ (λ (cs : List Change) (vs : List Volume). cs ++ map change vs) first (take_all c.loop-volume.volume-index volumes (omega (arith, c.loop-volume-test.false)))
