@@ -5,7 +5,7 @@ ghost use Rattle.par2_printing.specs.Wrote.{writer_of, failures_of};
 
 use crate::text::WriteFault;
 use par2_folder::Failures;
-use std::io::Write;
+use std::io::{ErrorKind, Write};
 
 /// A writer, and how often it has failed, which contracts alone see.
 #[derive(Debug, Drop)]
@@ -42,8 +42,8 @@ impl<W: Write> Printer<W> {
         WriteFault
     }
 
-    // One call of the writer, and the only one: how many of the bytes it took. To fail, or to take none of them, counts
-    // as a failure.
+    // The writer takes some of the bytes: how many. A call that was interrupted is made again; to fail otherwise, or to
+    // take none of the bytes, counts as a failure.
     pub(crate) fn write(&mut self, bytes: &[u8]) -> Result<usize, WriteFault>
         ensures some { IfOk result (λ n. 0 < n) }
         ensures within { IfOk result (λ n. n ≤ length bytes.now) }
@@ -54,10 +54,14 @@ impl<W: Write> Printer<W> {
         ensures steady { OnOk result (failures_of self.new ≡ failures_of self.old) }
         ensures cause { OnErr result (failures_of self.old < failures_of self.new) }
     {
-        match self.writer.write(bytes) {
-            Ok(0) => Err(self.fault()),
-            Ok(n) => Ok(n),
-            Err(_) => Err(self.fault()),
+        for _ in 0..u64::MAX {
+            match self.writer.write(bytes) {
+                Ok(0) => return Err(self.fault()),
+                Ok(n) => return Ok(n),
+                Err(error) if error.kind() == ErrorKind::Interrupted => {}
+                Err(_) => return Err(self.fault()),
+            }
         }
+        Err(self.fault())
     }
 }
