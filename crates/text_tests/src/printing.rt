@@ -56,6 +56,47 @@ fn stops_after_five_bytes(rt: HostRuntime) {
     }
 }
 
+// Is interrupted at every other call, and takes a byte at the others.
+#[derive(Drop)]
+struct Halting {
+    held: Vec<u8>,
+    is_interrupted: bool,
+}
+
+impl Write for Halting {
+    ghost contents = { λ w. Some w.held.items };
+
+    fn write(&mut self, bytes: &[u8]) -> io::Result<usize> {
+        self.is_interrupted = !self.is_interrupted;
+        if self.is_interrupted {
+            return Err(io::Error::from(ErrorKind::Interrupted));
+        }
+        let count = bytes.len().min(1);
+        self.held.extend_from_slice(&bytes[..count])?;
+        Ok(count)
+    }
+
+    fn flush(&mut self) -> io::Result<()> {
+        Ok(())
+    }
+}
+
+// What such a writer holds after a line, and whether the line was written.
+fn after_interruptions(alloc: Global) -> (bool, Vec<u8>) {
+    let mut out = Printer::new(Halting {
+        held: Vec::new(alloc),
+        is_interrupted: false,
+    });
+    let step = write_step(&mut out, PrintedStep::Write("b"));
+    (step.is_ok(), out.into_inner().held)
+}
+
+#[test]
+fn goes_on_after_interruptions(rt: HostRuntime) {
+    let (is_written, held) = after_interruptions(rt.alloc());
+    assert!(rt; is_written && held.as_slice() == b"write b\n".as_slice());
+}
+
 // What one of the calls writes.
 #[derive(Clone, Copy)]
 enum Line {
