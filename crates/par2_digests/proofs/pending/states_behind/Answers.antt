@@ -6,7 +6,7 @@ use Rattle.md5.specs.Md5.{hash_after}
 use Rattle.par2_digests.specs.Feeds.{left}
 use Rattle.par2_digests.specs.Lanes.{lane}
 use Rattle.par2_digests.specs.Messages.{HasAbsorbed, message_of}
-use Rattle.par2_digests.specs.Pendings.{bytes_left}
+use Rattle.par2_digests.specs.Pendings.{bytes_to_absorb}
 use Rattle.par2_digests.specs.Tasks.{HasTaken, LeadsTo}
 use Rattle.par2_digests.specs.declared.midstate.Midstate.{Midstate}
 use Rattle.par2_digests.specs.declared.pending.Pending.{Pending}
@@ -41,7 +41,7 @@ loop-k-preserved g c =
                 let absorbed : HasAbsorbed state m = subst (λ (i : ℕ). HasAbsorbed (get_or pendings i none).state m) same held in
                 let here : c.index-pendings-k.result ≡ pending = c.index-pendings-k.is ∙ get_or_default pendings k _ none low in
                 let begun = λ (d : Task).
-                each_lane (λ i. i < length pendings → ((get_or tasks i d).hash ≡ None) × (left (get_or tasks i d).feed ≡ bytes_left (get_or pendings i none)))
+                each_lane (λ i. i < length pendings → ((get_or tasks i d).hash ≡ None) × (left (get_or tasks i d).feed ≡ bytes_to_absorb (get_or pendings i none)))
                 (λ h. (c.task.ensures.open, c.task.ensures.bytes none h))
                 (λ h. (c.task-2.ensures.open, c.task-2.ensures.bytes none h))
                 (λ h. (c.task-3.ensures.open, c.task-3.ensures.bytes none h))
