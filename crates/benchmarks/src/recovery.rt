@@ -75,7 +75,7 @@ fn survivors_of<'a>(
         exponent = exponent.wrapping_add(1);
     }
     Ok(Survivors {
-        slice: SMALL_SLICE,
+        slice_size: SMALL_SLICE,
         known,
         recovery,
     })

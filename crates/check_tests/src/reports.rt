@@ -39,7 +39,7 @@ fn folder_of<R: Abort + AllocGlobal>(rt: &R, text: &str, bytes: &[u8]) -> Result
 fn protected<R: Abort + AllocGlobal>(rt: &R) -> Result<Folder, Fail> {
     let mut folder = folder_of(rt, "a", b"abcdefgh")?;
     let args = CreateArgs {
-        slice: 4,
+        slice_size: 4,
         count: 1,
         first: 0,
         base: String::from_str(rt.alloc(), "t.par2")?,

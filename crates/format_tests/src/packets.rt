@@ -161,9 +161,9 @@ fn false_head(alloc: Global, claim: u64) -> Result<Vec<u8>, AllocError> {
 fn record(alloc: Global, id: [u8; 16]) -> FileRecord {
     FileRecord {
         id,
-        md5: [0; 16],
-        md5_16k: [0; 16],
-        length: 0,
+        digest: [0; 16],
+        digest_16k: [0; 16],
+        size: 0,
         name: String::new(alloc),
         pairs: Vec::new(alloc),
     }
@@ -176,9 +176,9 @@ fn record_of_a(alloc: Global) -> Result<FileRecord, AllocError> {
     let second = *b"\x1f\x76\x90\xeb\xdd\x9b\x4c\xaf\x8f\xab\x49\xca\x17\x57\xbf\x27";
     Ok(FileRecord {
         id: file_id(&whole, 8, "a"),
-        md5: whole,
-        md5_16k: whole,
-        length: 8,
+        digest: whole,
+        digest_16k: whole,
+        size: 8,
         name: String::from_str(alloc, "a")?,
         pairs: Vec::from_slice(alloc, &[(first, 0xed82cd11), (second, 0x08337bb5)])?,
     })
@@ -281,9 +281,9 @@ fn desc_agrees(packet: &Packet<'_>, file: &FileRecord) -> bool {
     let Some(desc) = read_desc(packet) else {
         return true;
     };
-    let digests_agree = desc.md5() == file.md5 && desc.md5_16k() == file.md5_16k;
+    let digests_agree = desc.digest() == file.digest && desc.digest_16k() == file.digest_16k;
     let name_agrees = desc.name_bytes() == file.name.as_bytes();
-    digests_agree && name_agrees && desc.id() == file.id && desc.length() == file.length
+    digests_agree && name_agrees && desc.id() == file.id && desc.size() == file.size
 }
 
 // Whether a packet, if it has checksums, has those of this file.
@@ -475,8 +475,8 @@ fn is_of_fox(packet: &Packet<'_>) -> bool {
 }
 
 fn is_fox(desc: &DescView<'_>) -> bool {
-    let id = file_id(&desc.md5_16k(), 45, "fox.txt");
-    desc.length() == 45 && desc.name_bytes() == b"fox.txt".as_slice() && desc.id() == id
+    let id = file_id(&desc.digest_16k(), 45, "fox.txt");
+    desc.size() == 45 && desc.name_bytes() == b"fox.txt".as_slice() && desc.id() == id
 }
 
 #[test]

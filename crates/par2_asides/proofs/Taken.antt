@@ -15,9 +15,8 @@ use Rattle.par2_spec.specs.declared.Fault.TheVariants.{Memory, NameTooLong}
 use Rattle.par2_spec.specs.Faults.{fault_where}
 use Rattle.par2_spec.specs.Folders.{Folder, File, IsFolder, files, names}
 use Rattle.par2_spec.specs.Names.{is_among, is_name, numbered}
-use Rattle.par2_spec.specs.Repairs.{aside}
-use Rattle.par2_spec.specs.Rules.{IsSound, target_names, taken_for}
-use Rattle.par2_spec.specs.Sets.{ParSet}
+use Rattle.par2_spec.specs.Repairs.{aside, taken_for}
+use Rattle.par2_spec.specs.Sets.{IsSound, target_names, ParSet}
 use Rattle.par2_spec.proofs.AsideNames.{name_is_short, numbered_is_name}
 use Rattle.par2_spec.proofs.NamesLaws.{among-append, clash, false_true, itself, other_name, same_name}
 use Rattle.par2_asides.specs.Asides.{HoldsNames, long_aside}

@@ -6,7 +6,7 @@ ghost use Rattle.par2_spec.specs.Folders as folders;
 ghost use Rattle.par2_spec.specs.Names as names;
 ghost use Rattle.par2_spec.specs.Packets.{accepted};
 ghost use Rattle.par2_spec.specs.Repairs as repairs;
-ghost use Rattle.par2_spec.specs.Rules.{target_names};
+ghost use Rattle.par2_spec.specs.Sets.{target_names};
 ghost use Rattle.par2_asides.specs.Asides.{HoldsNames};
 
 use crate::targets::target_names;

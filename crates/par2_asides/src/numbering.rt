@@ -4,8 +4,8 @@ ghost use Rattle.par2_spec.specs.Folders as folders;
 ghost use Rattle.par2_spec.specs.Names as names;
 ghost use Rattle.std.specs.List.{list_all};
 ghost use Rattle.par2_spec.specs.Names.{is_among, is_name};
-ghost use Rattle.par2_spec.specs.Repairs.{aside};
-ghost use Rattle.par2_spec.specs.Rules.{AreFew, taken_for, target_names};
+ghost use Rattle.par2_spec.specs.Repairs.{aside, AreFew, taken_for};
+ghost use Rattle.par2_spec.specs.Sets.{target_names};
 ghost use Rattle.par2_asides.specs.Asides.{HoldsNames, long_aside};
 
 use crate::targets::target_names;

@@ -1,6 +1,6 @@
 //! The names of a set's targets.
 ghost use Rattle.std.specs.Prelude.{IfOk};
-ghost use Rattle.par2_spec.specs.Rules.{target_names};
+ghost use Rattle.par2_spec.specs.Sets.{target_names};
 ghost use Rattle.par2_asides.specs.Asides.{HoldsNames};
 
 use par2_folder::Name;

@@ -2,7 +2,7 @@
 use Rattle.std.proofs.Common.{◌≡◌, ℕ, ◌+◌, ◌-◌, ◌*◌, ◌/◌, ◌%◌, ◌≤◌, ◌<◌, List, [], ◌∷◌, Option, Some, None, length, take, drop, ◌++◌, refl, ap, ap₂, sym, subst, ◌∙◌, arith, get_or, length-append, length-drop}
 use Rattle.std.proofs.lemmas.List.{drop_at, drop-drop, get_or-map, length-take-le, take-append-le, take_all}
 use Rattle.md5.specs.Md5.{hash_after}
-use Rattle.par2_digests.specs.Feeds.{hash_behind, left}
+use Rattle.par2_digests.specs.Feeds.{hash_behind, bytes_left}
 use Rattle.par2_digests.specs.Tasks.{HasBlocks, HaveBlocks, LeadsTo, LeadsWith, work, work_of, works}
 use Rattle.par2_digests.specs.declared.tasks.Task.{Task}
 use Rattle.par2_digests.proofs.FeedLaws.{blocks_alike, blocks_first, end_goes_on, goes_on}
@@ -53,7 +53,7 @@ fewer_left (Some x) bytes n m few held = tt
 fewer_left None bytes n m few held = omega (arith, held)
 
 pub fewer_blocks : (task : Task) (n m : ℕ) → m ≤ n → HasBlocks task n → HasBlocks task m
-fewer_blocks task n m few held = fewer_left task.hash (left task.feed) n m few held
+fewer_blocks task n m few held = fewer_left task.hash (bytes_left task.feed) n m few held
 
 -- all blocks that are left
 pub all_blocks_more : (done : Option (List ℕ)) (kept bytes hash last rest : List ℕ) → done ≡ None → LeadsWith done kept bytes hash last rest

@@ -1,7 +1,7 @@
 -- Messages on their way to their digests.
 use Rattle.std.specs.Prelude.{◌≡◌, ◌≤◌, ℕ, suc, ◌*◌, ◌/◌, List, Option, Some, None, length, take, drop, map}
 use Rattle.md5.specs.Md5.{hash_after}
-use Rattle.par2_digests.specs.Feeds.{hash_behind, left}
+use Rattle.par2_digests.specs.Feeds.{hash_behind, bytes_left}
 use Rattle.par2_digests.specs.declared.tasks.Task.{Task}
 
 -- the hash value is the last, and so is what is behind the blocks; or whole blocks lead from this hash value to both
@@ -10,7 +10,7 @@ LeadsWith (Some done) kept bytes hash last rest = (done ≡ last) × (take (leng
 LeadsWith None kept bytes hash last rest = (hash_behind hash bytes (length bytes / 64) ≡ last) × (drop (length bytes / 64 * 64) bytes ≡ rest)
 
 abbrev pub LeadsTo : Task → List ℕ → List ℕ → List ℕ → Type 0
-LeadsTo task hash last rest = LeadsWith task.hash task.rest (left task.feed) hash last rest
+LeadsTo task hash last rest = LeadsWith task.hash task.rest (bytes_left task.feed) hash last rest
 
 -- the hash value behind the whole blocks, and the bytes behind them
 abbrev pub HasEnded : Task → List ℕ → List ℕ → Type 0
@@ -26,7 +26,7 @@ HaveBlocks (Some done) bytes n = Unit
 HaveBlocks None bytes n = n * 64 ≤ length bytes
 
 abbrev pub HasBlocks : Task → ℕ → Type 0
-HasBlocks task n = HaveBlocks task.hash (left task.feed) n
+HasBlocks task n = HaveBlocks task.hash (bytes_left task.feed) n
 
 -- falls with each block until the hash value is there
 abbrev pub work_of : Option (List ℕ) → List ℕ → ℕ
@@ -34,7 +34,7 @@ work_of (Some done) bytes = 0
 work_of None bytes = suc (length bytes)
 
 abbrev pub work : Task → ℕ
-work task = work_of task.hash (left task.feed)
+work task = work_of task.hash (bytes_left task.feed)
 
 abbrev pub works : List Task → List ℕ
 works tasks = map work tasks

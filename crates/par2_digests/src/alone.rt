@@ -1,7 +1,7 @@
 //! A message by itself.
 
 ghost use Rattle.std.specs.Prelude.{◌≡◌, ◌*◌, ◌/◌, ◌%◌, length, take, drop};
-ghost use Rattle.par2_digests.specs.Feeds.{hash_behind, left};
+ghost use Rattle.par2_digests.specs.Feeds.{hash_behind, bytes_left};
 
 use crate::blocks::after_block;
 use crate::feeds::Feed;
@@ -10,9 +10,10 @@ use std::simd::prelude::*;
 
 /// The hash value behind the whole blocks of what the feed has left; the block then begins with what is behind them.
 pub(crate) fn hashed(hash: [u32; 4], feed: Feed, block: &mut [u8; 64]) -> [u32; 4]
-    ensures hash { result ≡ hash_behind hash (left feed.entry) (length (left feed.entry) / 64) }
-    ensures rest { take (length (left feed.entry) % 64) block.new
-        ≡ drop (length (left feed.entry) / 64 * 64) (left feed.entry) }
+    ensures hash { result ≡ hash_behind hash (bytes_left feed.entry) (length (bytes_left
+        feed.entry) / 64) }
+    ensures rest { take (length (bytes_left feed.entry) % 64) block.new
+        ≡ drop (length (bytes_left feed.entry) / 64 * 64) (bytes_left feed.entry) }
 {
     let mut feed = feed;
     let mut words = [Simd::splat(0); 16];

@@ -1,7 +1,7 @@
 //! The bytes of parts, block by block.
 
 ghost use Rattle.std.specs.Prelude.{true, false, ◌≡◌, ◌≤◌, ◌<◌, ◌+◌, ◌-◌, ◌*◌, ◌^◌, ◌++◌, [], ℕ, length, take, drop, min};
-ghost use Rattle.par2_digests.specs.Feeds.{left};
+ghost use Rattle.par2_digests.specs.Feeds.{bytes_left};
 ghost use Rattle.par2_digests.specs.Messages.{part_bytes};
 
 use crate::midstate::Part;
@@ -44,8 +44,8 @@ impl<'a> Feed<'a> {
         ensures count { result
             ≡ min (length (drop self.old.at (part_bytes self.old.part))) (length block.old - from) }
         ensures after { take (from + result) block.new
-            ≡ take from block.old ++ take result (left self.old) }
-        ensures rest { left self.new ≡ drop result (left self.old) }
+            ≡ take from block.old ++ take result (bytes_left self.old) }
+        ensures rest { bytes_left self.new ≡ drop result (bytes_left self.old) }
         ensures part { drop self.new.at (part_bytes self.new.part)
             ≡ drop result (drop self.old.at (part_bytes self.old.part)) }
         ensures parts { length self.new.parts.now + length self.new.ending.now
@@ -62,8 +62,8 @@ impl<'a> Feed<'a> {
     // Goes on to the next part, if there is one.
     fn go_on(&mut self) -> bool
         requires { drop self.old.at (part_bytes self.old.part) ≡ [] }
-        ensures same { left self.new ≡ left self.old }
-        ensures end { result ≡ false → left self.old ≡ [] }
+        ensures same { bytes_left self.new ≡ bytes_left self.old }
+        ensures end { result ≡ false → bytes_left self.old ≡ [] }
         ensures fewer { result ≡ true → length self.new.parts.now + length self.new.ending.now
             < length self.old.parts.now + length self.old.ending.now }
     {
@@ -82,7 +82,7 @@ impl<'a> Feed<'a> {
 
     /// How many blocks the part at hand has left.
     pub(crate) fn blocks_at_hand(&self) -> usize
-        ensures { result * 64 ≤ length (left self.now) }
+        ensures { result * 64 ≤ length (bytes_left self.now) }
     {
         match self.part {
             Part::Length(_) => 0,
@@ -92,9 +92,9 @@ impl<'a> Feed<'a> {
 
     /// Fills the blocks with the bytes that come next; how many there were.
     pub(crate) fn fill(&mut self, blocks: &mut [u8]) -> usize
-        ensures count { result ≡ min (length blocks.old) (length (left self.old)) }
-        ensures bytes { take result blocks.new ≡ take result (left self.old) }
-        ensures rest { left self.new ≡ drop result (left self.old) }
+        ensures count { result ≡ min (length blocks.old) (length (bytes_left self.old)) }
+        ensures bytes { take result blocks.new ≡ take result (bytes_left self.old) }
+        ensures rest { bytes_left self.new ≡ drop result (bytes_left self.old) }
     {
         let mut filled = self.copy_part(blocks, 0);
         while filled < blocks.len() && self.go_on() {

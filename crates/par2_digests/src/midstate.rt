@@ -3,7 +3,7 @@
 ghost use Rattle.std.specs.Prelude.{◌≡◌, ◌≤◌, ◌<◌, ◌++◌, ◌+◌, ◌-◌, ◌*◌, ◌/◌, ◌%◌, ◌^◌, [], ◌∷◌, replicate, None, ℕ, List, length, take, drop, get_or};
 ghost use Rattle.md5.specs.Md5.{md5, padding};
 ghost use Rattle.par2_digests.specs.Digests.{digest_at};
-ghost use Rattle.par2_digests.specs.Feeds.{hash_behind, left};
+ghost use Rattle.par2_digests.specs.Feeds.{hash_behind, bytes_left};
 ghost use Rattle.par2_digests.specs.Messages.{HasAbsorbed, message_at, message_of, part_bytes};
 ghost use Rattle.par2_digests.specs.declared.midstate.Part.{Part};
 
@@ -93,7 +93,7 @@ fn task<'a>(
     requires { k < 8 }
     ensures open { result.hash ≡ None }
     ensures bytes { (none : List Part) → k < length messages.now
-        → left result.feed
+        → bytes_left result.feed
         ≡ rest.now ++ (message_at messages.now k ++ message_of (get_or endings.now k none)) }
 {
     let parts: &[Part] = if k < messages.len() {

@@ -1,7 +1,7 @@
 //! States that absorb parts of their own, side by side.
 
 ghost use Rattle.std.specs.Prelude.{◌≡◌, ◌≤◌, ◌<◌, ◌++◌, None, ℕ, List, length, get_or};
-ghost use Rattle.par2_digests.specs.Feeds.{left};
+ghost use Rattle.par2_digests.specs.Feeds.{bytes_left};
 ghost use Rattle.par2_digests.specs.Lanes.{lane};
 ghost use Rattle.par2_digests.specs.Messages.{HasAbsorbed, message_of};
 ghost use Rattle.par2_digests.specs.Pendings.{bytes_to_absorb};
@@ -55,7 +55,7 @@ fn state_of<V: Lanes>(pendings: &[Pending]) -> State<V>
 // What is to do for the parts.
 fn task_of<'a>(pending: &'a Pending<'a>) -> Task<'a>
     ensures open { result.hash ≡ None }
-    ensures bytes { left result.feed ≡ bytes_to_absorb pending.now }
+    ensures bytes { bytes_left result.feed ≡ bytes_to_absorb pending.now }
 {
     let state = &pending.state;
     let feed = Feed {
@@ -75,7 +75,7 @@ fn task_of<'a>(pending: &'a Pending<'a>) -> Task<'a>
 fn task<'a>(pendings: &'a [Pending<'a>], k: usize) -> Task<'a>
     ensures open { result.hash ≡ None }
     ensures bytes { (none : Pending) → k < length pendings.now
-        → left result.feed ≡ bytes_to_absorb (get_or pendings.now k none) }
+        → bytes_left result.feed ≡ bytes_to_absorb (get_or pendings.now k none) }
 {
     if k < pendings.len() {
         return task_of(&pendings[k]);

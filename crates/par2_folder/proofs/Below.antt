@@ -10,10 +10,10 @@ use Rattle.std.specs.FinMap.{entries, same_map, entries-from_sorted, get-from_so
 use Rattle.std.specs.FinMap.Entries.{where_key, find-where_key, is_sorted-where_key}
 use Rattle.std.proofs.lemmas.Bool.{cases_lt}
 use Rattle.std.proofs.lemmas.Grind.{flat_map-append}
-use Rattle.par2_spec.specs.Folders.{File, Folder, bytes_of, counted}
+use Rattle.par2_spec.specs.Folders.{File, Folder, bytes_of, behind_length}
 use Rattle.par2_spec.specs.Changes.{Change, Write, Replace, Rename, Remove, effect}
-use Rattle.par2_folder.specs.View.{name_cmp, IsSortedByName, folder_of, file_at, IsAt, IsGapFor, IsKept}
-use Rattle.par2_folder.specs.Below.{is_below, folder_below, hashed, IsFrom, IsFront}
+use Rattle.par2_folder.specs.Sorting.{name_cmp, IsSortedByName, folder_of, file_at, IsAt, IsGapFor, IsKept}
+use Rattle.par2_folder.specs.Below.{is_below, folder_below, fingerprint_input, IsFrom, IsFront}
 use Rattle.par2_folder.proofs.Sorted.{same_names, holds, rises, turned, turned_back}
 
 -- ---- the files before a place
@@ -85,8 +85,8 @@ front_further test wider files a b front longer further = elim (cases_lt b a) [
 
 -- ---- what is hashed
 
-pub hashed-append : (xs ys : List File) → hashed (xs ++ ys) ≡ hashed xs ++ hashed ys
-hashed-append xs ys = flat_map-append (λ file. counted file.0 ++ counted file.1) xs ys
+pub hashed-append : (xs ys : List File) → fingerprint_input (xs ++ ys) ≡ fingerprint_input xs ++ fingerprint_input ys
+hashed-append xs ys = flat_map-append (λ file. behind_length file.0 ++ behind_length file.1) xs ys
 
 -- ---- changes
 

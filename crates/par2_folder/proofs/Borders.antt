@@ -10,8 +10,8 @@ use Rattle.std.proofs.lemmas.List.{take-map, drop-map, take-take, drop-take, tak
 use Rattle.par2_spec.specs.Folders.{File, Folder}
 use Rattle.par2_spec.specs.Changes as defined
 use Rattle.par2_spec.specs.Changes.{effect}
-use Rattle.par2_folder.specs.View.{IsKept, folder_of, name_cmp}
-use Rattle.par2_folder.specs.Below.{hashed, is_below, IsFront}
+use Rattle.par2_folder.specs.Sorting.{IsKept, folder_of, name_cmp}
+use Rattle.par2_folder.specs.Below.{fingerprint_input, is_below, IsFront}
 use Rattle.par2_folder.specs.Borders.{IsFurther, is_before, text_before, touches}
 use Rattle.par2_folder.specs.declared.border.Border.{Border}
 use Rattle.par2_folder.specs.declared.border.Border.TheVariants.{Beginning, At, End}
@@ -55,14 +55,14 @@ module _ (items : List BorrowedFile) (kept : IsKept (map file_of items)) (from t
   no_less front longer further = front_further (is_before from) (is_before to) (map file_of items) start end front longer further
 
   pub between : (parts : List ℕ) → IsFront (is_before from) (map file_of items) start → IsFront (is_before to) (map file_of items) end → start ≤ end
-      → parts ≡ hashed (map file_of (take (end - start) (drop start items)))
+      → parts ≡ fingerprint_input (map file_of (take (end - start) (drop start items)))
       → text_before from (folder_of (map file_of items)) ++ parts ≡ text_before to (folder_of (map file_of items))
   between parts front longer le is =
       let files = map file_of items in
-      (λ i. hashed (front_entries (is_before from) files kept start front i) ++ is i)
-      ∙ ap (λ l. hashed (take start files) ++ hashed l) (sym (take-map file_of (end - start) (drop start items)) ∙ ap (take (end - start)) (sym (drop-map file_of start items)))
+      (λ i. fingerprint_input (front_entries (is_before from) files kept start front i) ++ is i)
+      ∙ ap (λ l. fingerprint_input (take start files) ++ fingerprint_input l) (sym (take-map file_of (end - start) (drop start items)) ∙ ap (take (end - start)) (sym (drop-map file_of start items)))
       ∙ sym (hashed-append (take start files) (take (end - start) (drop start files)))
-      ∙ ap hashed (taken_on files start end le ∙ sym (front_entries (is_before to) files kept end longer))
+      ∙ ap fingerprint_input (taken_on files start end le ∙ sym (front_entries (is_before to) files kept end longer))
 
 -- ---- changes
 
@@ -73,18 +73,18 @@ same_none folder other =
 -- a change that touches no name before the border leaves the text
 pub text_on : (border : Border) (folder : Folder) (change : defined.Change) → touches border change ≡ false
     → text_before border (effect folder change) ≡ text_before border folder
-text_on Beginning folder change h = ap (λ f. hashed (entries f)) (same_none (effect folder change) folder)
-text_on (At name) folder change h = ap (λ f. hashed (entries f)) (effect_below name.now folder change h)
+text_on Beginning folder change h = ap (λ f. fingerprint_input (entries f)) (same_none (effect folder change) folder)
+text_on (At name) folder change h = ap (λ f. fingerprint_input (entries f)) (effect_below name.now folder change h)
 text_on End folder change h = cc
 
 -- before the end is the whole folder
-pub whole_text : (folder : Folder) → text_before End folder ≡ hashed (entries folder)
-whole_text folder = ap (λ f. hashed (entries f)) (same_map nat_list_cmp_total same_names _ _ (λ q. get-retain_keys folder (is_before End) q (λ x e. refl)))
+pub whole_text : (folder : Folder) → text_before End folder ≡ fingerprint_input (entries folder)
+whole_text folder = ap (λ f. fingerprint_input (entries f)) (same_map nat_list_cmp_total same_names _ _ (λ q. get-retain_keys folder (is_before End) q (λ x e. refl)))
 
 nothing_kept : IsKept []
 nothing_kept = record { sorted = refl; each = tt }
 
 pub no_text : (folder : Folder) → text_before Beginning folder ≡ []
 no_text folder =
-    ap (λ f. hashed (entries f)) (same_none folder (folder_of []))
-    ∙ ap hashed (front_entries (is_before Beginning) [] nothing_kept 0 (none_before []))
+    ap (λ f. fingerprint_input (entries f)) (same_none folder (folder_of []))
+    ∙ ap fingerprint_input (front_entries (is_before Beginning) [] nothing_kept 0 (none_before []))

@@ -7,7 +7,7 @@ use Rattle.std.specs.declared.cmp.Ordering.{Ordering}
 use Rattle.std.specs.FinMap as map_of
 use Rattle.std.proofs.lemmas.List.{length-map, get_or-map, map-set}
 use Rattle.par2_spec.specs.Folders.{File, Folder, has, bytes_of}
-use Rattle.par2_folder.specs.View.{name_cmp, folder_of, file_at, IsAt, IsGapFor, IsFile, IsKept}
+use Rattle.par2_folder.specs.Sorting.{name_cmp, folder_of, file_at, IsAt, IsGapFor, IsFile, IsKept}
 use Rattle.par2_folder.specs.declared.snapshot.BorrowedFile.{BorrowedFile}
 use Rattle.par2_folder.specs.Snapshots.{file_of}
 use Rattle.par2_folder.proofs.Sorted.{Makes, searched_folder, inserted, exchanged, removed, bytes_at}

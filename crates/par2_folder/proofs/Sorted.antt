@@ -14,9 +14,9 @@ use Rattle.std.specs.FinMap.{entries, is_sorted, find, put, IsAntisymmetric, sli
 use Rattle.std.specs.FinMap.Entries.{where_key, find-where_key, is_sorted-where_key}
 use Rattle.std.proofs.lemmas.List.{length-map, get_or-map, length-take-le, get_or-take, take_all, drop_all, take_more, get_or_default}
 use Rattle.std.proofs.lemmas.List.Sorted.{IsNonDecreasingBy-from_default}
-use Rattle.par2_spec.specs.Folders.{File, Folder, IsFolder, has, names, counted, fingerprint}
+use Rattle.par2_spec.specs.Folders.{File, Folder, IsFolder, has, names, behind_length, fingerprint}
 use Rattle.md5.specs.Md5.{md5}
-use Rattle.par2_folder.specs.View.{name_cmp, IsSortedByName, folder_of, file_at, IsAt, IsGapFor, IsFile, IsKept}
+use Rattle.par2_folder.specs.Sorting.{name_cmp, IsSortedByName, folder_of, file_at, IsAt, IsGapFor, IsFile, IsKept}
 
 pub same_names : IsAntisymmetric name_cmp
 same_names = slice_cmp-IsAntisymmetric nat_cmp-IsAntisymmetric
@@ -267,9 +267,9 @@ stays_absent folder gone name none = get-remove nat_list_cmp_total folder gone n
     either true o h = refl
     either false o h = h
 
-pub fingerprint_of : (files : List File) → IsSortedByName files → fingerprint (folder_of files) ≡ md5 (flat_map (λ (file : File). counted file.0 ++ counted file.1) files)
+pub fingerprint_of : (files : List File) → IsSortedByName files → fingerprint (folder_of files) ≡ md5 (flat_map (λ (file : File). behind_length file.0 ++ behind_length file.1) files)
 unfolding fingerprint
-fingerprint_of files h = ap (λ l. md5 (flat_map (λ (file : File). counted file.0 ++ counted file.1) l)) (files_of files h)
+fingerprint_of files h = ap (λ l. md5 (flat_map (λ (file : File). behind_length file.0 ++ behind_length file.1) l)) (files_of files h)
 
 -- ---- a folder that is filled file by file, in the order of another folder's names
 

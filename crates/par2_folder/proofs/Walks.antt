@@ -7,7 +7,7 @@ use Rattle.par2_digests.specs.declared.midstate.Midstate.{Midstate}
 use Rattle.par2_spec.specs.Folders.{Folder, fingerprint}
 use Rattle.par2_spec.specs.Changes as defined
 use Rattle.par2_spec.specs.Changes.{effect, is_applicable, are_applicable, folders_after}
-use Rattle.par2_folder.specs.View.{IsKept}
+use Rattle.par2_folder.specs.Sorting.{IsKept}
 use Rattle.par2_folder.specs.Views.{change_of}
 use Rattle.par2_folder.specs.Borders.{begun, later_texts, run_texts, text_before, touches}
 use Rattle.par2_folder.specs.Runs.{AreTo, HaveAbsorbed}

@@ -2,9 +2,9 @@
 use Rattle.std.specs.Prelude.{◌≡◌, ◌<◌, ◌≤◌, ℕ, Bool, true, false, List, ◌++◌, length, flat_map}
 use Rattle.std.specs.FinMap as map_of
 use Rattle.std.specs.Ordering.{is_lt, ord_min}
-use Rattle.par2_spec.specs.Folders.{Folder, File, counted}
+use Rattle.par2_spec.specs.Folders.{Folder, File, behind_length}
 use Rattle.par2_spec.specs.Changes.{Change, Write, Replace, Rename, Remove}
-use Rattle.par2_folder.specs.View.{file_at, name_cmp}
+use Rattle.par2_folder.specs.Sorting.{file_at, name_cmp}
 
 -- whether another name comes before the name
 abbrev pub is_below : List ℕ → List ℕ → Bool
@@ -21,8 +21,8 @@ pub record IsFront (test : List ℕ → Bool) (files : List File) (count : ℕ) 
   pub behind : (j : ℕ) → count ≤ j → j < length files → test (file_at files j).0 ≡ false
 
 -- what is hashed of files: their names and bytes, each behind its length
-abbrev pub hashed : List File → List ℕ
-hashed files = flat_map (λ file. counted file.0 ++ counted file.1) files
+abbrev pub fingerprint_input : List File → List ℕ
+fingerprint_input files = flat_map (λ file. behind_length file.0 ++ behind_length file.1) files
 
 -- the first of the names that a change touches
 abbrev pub first_name : Change → List ℕ

@@ -3,7 +3,7 @@ use Rattle.std.specs.Prelude.{◌≡◌, ℕ, Bool, true, false, cond, List, [],
 use Rattle.std.specs.FinMap as map_of
 use Rattle.par2_spec.specs.Folders.{Folder}
 use Rattle.par2_spec.specs.Changes.{Change, effect}
-use Rattle.par2_folder.specs.Below.{first_name, hashed, is_below}
+use Rattle.par2_folder.specs.Below.{first_name, fingerprint_input, is_below}
 use Rattle.par2_folder.specs.declared.border.Border.{Border}
 use Rattle.par2_folder.specs.declared.border.Border.TheVariants.{Beginning, At, End}
 
@@ -23,7 +23,7 @@ touches border change = is_before border (first_name change)
 
 -- what is hashed of the files before the border
 abbrev pub text_before : Border → Folder → List ℕ
-text_before border folder = hashed (map_of.entries (map_of.retain_keys folder (is_before border)))
+text_before border folder = fingerprint_input (map_of.entries (map_of.retain_keys folder (is_before border)))
 
 -- the text of the run that the folder behind a change begins, if it begins one
 abbrev pub begun : Border → Folder → Change → List (List ℕ)

@@ -4,7 +4,7 @@ use Rattle.std.specs.FinMap as map_of
 use Rattle.std.specs.Fs.{metadata_len, file_type, IsFile}
 use Rattle.std.specs.declared.fs.attrs.Metadata.{Metadata}
 use Rattle.par2_spec.specs.Changes.{Replace}
-use Rattle.par2_spec.specs.Stores.{Contents, changed, journaled}
+use Rattle.par2_spec.specs.Stores.{Contents, with_change, with_journal}
 use Rattle.par2_folder.specs.declared.directory.Place.{Place}
 use Rattle.par2_folder.specs.declared.directory.Place.TheVariants as place
 use Rattle.par2_folder.specs.declared.directory.Found.{Found}
@@ -24,8 +24,8 @@ bytes_at contents temporary place.Temporary = temporary
 
 -- the contents with these bytes in the file at a place
 abbrev pub put_at : Contents → Place → List ℕ → Contents
-put_at contents (place.File name) bytes = changed contents (Replace name.now bytes)
-put_at contents place.Journal bytes = journaled contents bytes
+put_at contents (place.File name) bytes = with_change contents (Replace name.now bytes)
+put_at contents place.Journal bytes = with_journal contents bytes
 put_at contents place.Temporary bytes = contents
 
 -- what is found at a place, where these bytes stand in a file or something else is in the way

@@ -1,11 +1,11 @@
-pub mod View
+pub mod Sorting
 pub mod Views
 pub mod Memory
 pub mod Directories
 pub mod Disk
 pub mod Fuse
 pub mod Below
-pub mod Lent
+pub mod Lending
 pub mod Snapshots
 pub mod Borders
 pub mod Runs

@@ -1,7 +1,7 @@
 -- The files of a snapshot, and the folder that they make.
 use Rattle.std.specs.Prelude.{List, map}
 use Rattle.par2_spec.specs.Folders.{File, Folder}
-use Rattle.par2_folder.specs.View.{folder_of}
+use Rattle.par2_folder.specs.Sorting.{folder_of}
 use Rattle.par2_folder.specs.declared.snapshot.BorrowedFile.{BorrowedFile}
 use Rattle.par2_folder.specs.declared.snapshot.Snapshot.{Snapshot}
 

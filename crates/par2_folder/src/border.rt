@@ -1,10 +1,10 @@
 //! Borders among names, and what lies between two of them.
 ghost use Rattle.std.specs.Prelude.{◌≡◌, ◌++◌, map, IfOk, OnOk, IsTrue};
 ghost use Rattle.par2_digests.specs.Messages.{message_of};
-ghost use Rattle.par2_spec.specs.Folders.{counted};
-ghost use Rattle.par2_folder.specs.View.{IsKept};
+ghost use Rattle.par2_spec.specs.Folders.{behind_length};
+ghost use Rattle.par2_folder.specs.Sorting.{IsKept};
 ghost use Rattle.par2_folder.specs.Views.{change_of};
-ghost use Rattle.par2_folder.specs.Below.{IsFront, hashed};
+ghost use Rattle.par2_folder.specs.Below.{IsFront, fingerprint_input};
 ghost use Rattle.par2_folder.specs.Borders.{IsFurther, is_before, text_before, touches};
 ghost use Rattle.par2_folder.specs.Snapshots.{file_of, files_in, folder_in};
 ghost use Rattle.par2_folder.specs.declared.border.Border.TheVariants.{At};
@@ -66,7 +66,7 @@ fn count_before(files: &[BorrowedFile], border: &Border) -> usize
 // Adds the bytes behind their length.
 fn push_counted<'a>(parts: &mut Vec<Part<'a>>, bytes: &'a [u8]) -> Result<(), AllocError>
     ensures { OnOk result
-        (message_of parts.new.items ≡ message_of parts.old.items ++ counted bytes.now) }
+        (message_of parts.new.items ≡ message_of parts.old.items ++ behind_length bytes.now) }
 {
     parts.push(Part::Length(bytes.len() as u64))?;
     parts.push(Part::Bytes(bytes))?;
@@ -75,7 +75,8 @@ fn push_counted<'a>(parts: &mut Vec<Part<'a>>, bytes: &'a [u8]) -> Result<(), Al
 
 // The files as parts of a message.
 fn parts_of<'a>(alloc: Global, files: &[BorrowedFile<'a>]) -> Result<Vec<Part<'a>>, AllocError>
-    ensures { IfOk result (λ parts. message_of parts.items ≡ hashed (map file_of files.now)) }
+    ensures { IfOk result (λ parts. message_of parts.items ≡ fingerprint_input (map file_of
+        files.now)) }
 {
     let mut parts = Vec::with_capacity(alloc, files.len().saturating_mul(4))?;
     for file in files {

@@ -31,7 +31,7 @@ impl Changes {
     ghost use Rattle.std.specs.Borrow.{sem};
     ghost use Rattle.par2_spec.specs.Changes.{takes_all, state_after_all, way_back};
     ghost use Rattle.par2_folder.specs.Views.{change_of};
-    ghost use Rattle.par2_folder.specs.Lent.{LendsChanges};
+    ghost use Rattle.par2_folder.specs.Lending.{LendsChanges};
 
     /// No change.
     pub fn new(alloc: Global) -> Self

@@ -2,7 +2,7 @@
 ghost use Rattle.std.specs.Prelude.{◌≡◌, ◌⊎◌, ℕ, List, Option, Some, IfOk, IfSome, OnOk, OnErr, IsTrue};
 ghost use Rattle.par2_spec.specs.Folders.{names};
 ghost use Rattle.par2_spec.specs.Changes.{Rename, Remove, is_applicable};
-ghost use Rattle.par2_spec.specs.Stores.{Contents, changed};
+ghost use Rattle.par2_spec.specs.Stores.{Contents, with_change};
 ghost use Rattle.par2_folder.specs.Directories.{path_of, bytes_at, put_at, StandsAs};
 
 use crate::{Name, ReadFault, StoreFault};
@@ -97,20 +97,20 @@ pub trait Directory {
         ensures done { honest self.old → (barred self.old to.now → ⊥)
             → IsTrue (is_applicable (contents self.old).files (Rename from.now to.now))
             → OnOk result (contents self.new
-            ≡ changed (contents self.old) (Rename from.now to.now)) }
+            ≡ with_change (contents self.old) (Rename from.now to.now)) }
         ensures all_or_none { honest self.old → (barred self.old to.now → ⊥)
             → IsTrue (is_applicable (contents self.old).files (Rename from.now to.now))
             → OnErr result ((contents self.new ≡ contents self.old)
-            ⊎ (contents self.new ≡ changed (contents self.old) (Rename from.now to.now))) };
+            ⊎ (contents self.new ≡ with_change (contents self.old) (Rename from.now to.now))) };
 
     /// Removes a file.
     fn remove(&mut self, name: &Name) -> Result<(), StoreFault>
         ensures honest { honest self.old → honest self.new }
         ensures done { honest self.old
             → IsTrue (is_applicable (contents self.old).files (Remove name.now))
-            → OnOk result (contents self.new ≡ changed (contents self.old) (Remove name.now)) }
+            → OnOk result (contents self.new ≡ with_change (contents self.old) (Remove name.now)) }
         ensures all_or_none { honest self.old
             → IsTrue (is_applicable (contents self.old).files (Remove name.now))
             → OnErr result ((contents self.new ≡ contents self.old)
-            ⊎ (contents self.new ≡ changed (contents self.old) (Remove name.now))) };
+            ⊎ (contents self.new ≡ with_change (contents self.old) (Remove name.now))) };
 }

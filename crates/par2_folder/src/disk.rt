@@ -2,7 +2,7 @@
 ghost use Rattle.std.specs.Prelude.{◌≡◌, ◌+◌, ◌⊎◌, ◌<◌, ◌≤◌, IfOk, IsErr, IsErrOf, IsTrue, IsFalse, None, Ok, OnErr, OnOk, option_map};
 ghost use Rattle.par2_spec.specs.Changes.{Rename, Remove, is_applicable};
 ghost use Rattle.par2_spec.specs.Folders.{has};
-ghost use Rattle.par2_spec.specs.Stores.{changed};
+ghost use Rattle.par2_spec.specs.Stores.{with_change};
 ghost use Rattle.par2_folder.specs.Directories.{path_of, put_at};
 ghost use Rattle.par2_folder.specs.Disk.{directory_of, disk_failures, disk_impossible};
 
@@ -129,11 +129,11 @@ impl<D: Directory> DiskStore<D> {
             → IsErr result × (directory_of self.new ≡ directory) }
         ensures done { D.honest (directory_of self.old) → OnOk result
             (D.contents (directory_of self.new)
-            ≡ changed (D.contents (directory_of self.old)) (Rename from.now to.now)) }
+            ≡ with_change (D.contents (directory_of self.old)) (Rename from.now to.now)) }
         ensures all_or_none { D.honest (directory_of self.old) → OnErr result
             ((D.contents (directory_of self.new) ≡ D.contents (directory_of self.old))
             ⊎ (D.contents (directory_of self.new)
-            ≡ changed (D.contents (directory_of self.old)) (Rename from.now to.now))) }
+            ≡ with_change (D.contents (directory_of self.old)) (Rename from.now to.now))) }
         ensures failures { disk_failures self.new ≡ disk_failures self.old }
         ensures possible { let directory = directory_of self.old in D.honest directory
             → IsTrue (is_applicable (D.contents directory).files (Rename from.now to.now))
@@ -158,11 +158,11 @@ impl<D: Directory> DiskStore<D> {
             → IsErr result × (directory_of self.new ≡ directory) }
         ensures done { D.honest (directory_of self.old) → OnOk result
             (D.contents (directory_of self.new)
-            ≡ changed (D.contents (directory_of self.old)) (Remove name.now)) }
+            ≡ with_change (D.contents (directory_of self.old)) (Remove name.now)) }
         ensures all_or_none { D.honest (directory_of self.old) → OnErr result
             ((D.contents (directory_of self.new) ≡ D.contents (directory_of self.old))
             ⊎ (D.contents (directory_of self.new)
-            ≡ changed (D.contents (directory_of self.old)) (Remove name.now))) }
+            ≡ with_change (D.contents (directory_of self.old)) (Remove name.now))) }
         ensures failures { disk_failures self.new ≡ disk_failures self.old }
         ensures possible { let directory = directory_of self.old in D.honest directory
             → IsTrue (is_applicable (D.contents directory).files (Remove name.now))

@@ -1,10 +1,10 @@
 //! What tells folders apart.
 ghost use Rattle.std.specs.Prelude.{◌≡◌, ℕ, List, ◌++◌, ◌∷◌, map, IfOk, IsTrue};
 ghost use Rattle.md5.specs.Md5.{Holds};
-ghost use Rattle.par2_spec.specs.Folders.{counted, fingerprint};
+ghost use Rattle.par2_spec.specs.Folders.{behind_length, fingerprint};
 ghost use Rattle.par2_spec.specs.Changes.{takes_all, folders_after};
 ghost use Rattle.par2_folder.specs.Views.{change_of};
-ghost use Rattle.par2_folder.specs.Below.{hashed};
+ghost use Rattle.par2_folder.specs.Below.{fingerprint_input};
 
 use crate::walk::digests_along;
 use crate::{Bytes, Change, Folder, Name};
@@ -13,7 +13,7 @@ use std::alloc::{AllocError, Global};
 
 // Adds the bytes behind their length to what is hashed.
 fn hash_counted(hasher: &mut Md5, bytes: &[u8])
-    ensures { (m : List ℕ) → Holds hasher.old m → Holds hasher.new (m ++ counted bytes.now) }
+    ensures { (m : List ℕ) → Holds hasher.old m → Holds hasher.new (m ++ behind_length bytes.now) }
 {
     let length = bytes.len() as u64;
     hasher.update(length.to_le_bytes().as_slice());
@@ -22,7 +22,8 @@ fn hash_counted(hasher: &mut Md5, bytes: &[u8])
 
 // Adds the files to what is hashed.
 pub(crate) fn hash_files(hasher: &mut Md5, files: &[(Name, Bytes)])
-    ensures { (m : List ℕ) → Holds hasher.old m → Holds hasher.new (m ++ hashed files.now) }
+    ensures { (m : List ℕ) → Holds hasher.old m → Holds hasher.new (m
+        ++ fingerprint_input files.now) }
 {
     for (name, bytes) in files {
         hash_counted(hasher, name.as_str().as_bytes());

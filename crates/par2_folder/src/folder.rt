@@ -19,13 +19,17 @@ impl Model for Folder {
     ghost use Rattle.std.specs.Prelude.{◌-◌, vec_len, vec_capacity};
     ghost use Rattle.par2_spec.specs.Changes.{FolderState};
     ghost use Rattle.par2_spec.specs.Codes.{folder_state_code};
-    ghost use Rattle.par2_folder.specs.View.{IsKept, folder_of};
+    ghost use Rattle.par2_folder.specs.Sorting.{IsKept, folder_of};
 
     ghost Value = { FolderState };
 
     ghost coded = { folder_state_code };
 
-    ghost view = { λ a. record { files = folder_of a.files.items; vacant = vec_capacity a.files - vec_len a.files } };
+    ghost view = { λ a. record {
+      files = folder_of a.files.items;
+      vacant = vec_capacity a.files -
+          vec_len a.files;
+    } };
 
     ghost invariant = { λ a. IsKept a.files.items };
 }
@@ -36,7 +40,7 @@ impl Folder {
     ghost use Rattle.par2_spec.specs.Folders.{has, names, fingerprint, IsFolder};
     ghost use Rattle.par2_spec.specs.Changes.{Rename, change_refusal, state_after, inverse, takes_all, state_after_all, way_back};
     ghost use Rattle.par2_folder.specs.Views.{change_of};
-    ghost use Rattle.par2_folder.specs.View.{IsKept};
+    ghost use Rattle.par2_folder.specs.Sorting.{IsKept};
     ghost use Rattle.par2_folder.specs.Snapshots.{files_in, folder_in};
 
     /// The folder without files. It has no vacant places.

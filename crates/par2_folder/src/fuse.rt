@@ -71,7 +71,7 @@ impl<S: FolderStore> FolderStore for FuseStore<S> {
     ghost use Rattle.std.specs.FinMap.{get};
     ghost use Rattle.par2_spec.specs.Folders.{has, names};
     ghost use Rattle.par2_spec.specs.Changes.{Replace, Rename, Remove, is_applicable};
-    ghost use Rattle.par2_spec.specs.Stores.{changed, journaled};
+    ghost use Rattle.par2_spec.specs.Stores.{with_change, with_journal};
     ghost use Rattle.par2_folder.specs.Fuse.{inner_store, fuse_failures, calls_left, HasPassed, IsBlown, WorksNext};
 
     ghost honest = { λ store. S.honest (inner_store store) };
@@ -173,11 +173,11 @@ impl<S: FolderStore> FolderStore for FuseStore<S> {
         ensures honest { S.honest (inner_store self.old) → S.honest (inner_store self.new) }
         ensures done { S.honest (inner_store self.old)
             → OnOk result (S.contents (inner_store self.new)
-            ≡ changed (S.contents (inner_store self.old)) (Replace name.now bytes.now)) }
+            ≡ with_change (S.contents (inner_store self.old)) (Replace name.now bytes.now)) }
         ensures all_or_none { S.honest (inner_store self.old)
             → OnErr result ((S.contents (inner_store self.new) ≡ S.contents (inner_store self.old))
             ⊎ (S.contents (inner_store self.new)
-            ≡ changed (S.contents (inner_store self.old)) (Replace name.now bytes.now))) }
+            ≡ with_change (S.contents (inner_store self.old)) (Replace name.now bytes.now))) }
         ensures later { S.failures (inner_store self.old) + fuse_failures self.old
             ≤ S.failures (inner_store self.new) + fuse_failures self.new }
         ensures cause { OnErr result (S.failures (inner_store self.old) + fuse_failures self.old
@@ -190,7 +190,7 @@ impl<S: FolderStore> FolderStore for FuseStore<S> {
         ensures worked { S.honest (inner_store self.old) → WorksNext self.old
             → (S.failures (inner_store self.old) < S.failures (inner_store self.new))
             ⊎ (S.contents (inner_store self.new)
-            ≡ changed (S.contents (inner_store self.old)) (Replace name.now bytes.now)) }
+            ≡ with_change (S.contents (inner_store self.old)) (Replace name.now bytes.now)) }
         ensures blown { calls_left self.old ≡ 0 → IsErr result × IsBlown self.old self.new }
     {
         if self.passes() {
@@ -209,11 +209,11 @@ impl<S: FolderStore> FolderStore for FuseStore<S> {
             × (S.contents (inner_store self.new) ≡ S.contents (inner_store self.old)) }
         ensures done { S.honest (inner_store self.old)
             → OnOk result (S.contents (inner_store self.new)
-            ≡ changed (S.contents (inner_store self.old)) (Rename from.now to.now)) }
+            ≡ with_change (S.contents (inner_store self.old)) (Rename from.now to.now)) }
         ensures all_or_none { S.honest (inner_store self.old)
             → OnErr result ((S.contents (inner_store self.new) ≡ S.contents (inner_store self.old))
             ⊎ (S.contents (inner_store self.new)
-            ≡ changed (S.contents (inner_store self.old)) (Rename from.now to.now))) }
+            ≡ with_change (S.contents (inner_store self.old)) (Rename from.now to.now))) }
         ensures later { S.failures (inner_store self.old) + fuse_failures self.old
             ≤ S.failures (inner_store self.new) + fuse_failures self.new }
         ensures cause { OnErr result (S.failures (inner_store self.old) + fuse_failures self.old
@@ -229,7 +229,7 @@ impl<S: FolderStore> FolderStore for FuseStore<S> {
         ensures worked { S.honest (inner_store self.old) → WorksNext self.old
             → (S.failures (inner_store self.old) < S.failures (inner_store self.new))
             ⊎ (S.contents (inner_store self.new)
-            ≡ changed (S.contents (inner_store self.old)) (Rename from.now to.now)) }
+            ≡ with_change (S.contents (inner_store self.old)) (Rename from.now to.now)) }
         ensures blown { calls_left self.old ≡ 0 → IsErr result × IsBlown self.old self.new }
     {
         if self.passes() {
@@ -249,11 +249,11 @@ impl<S: FolderStore> FolderStore for FuseStore<S> {
             × (S.contents (inner_store self.new) ≡ S.contents (inner_store self.old)) }
         ensures done { S.honest (inner_store self.old)
             → OnOk result (S.contents (inner_store self.new)
-            ≡ changed (S.contents (inner_store self.old)) (Remove name.now)) }
+            ≡ with_change (S.contents (inner_store self.old)) (Remove name.now)) }
         ensures all_or_none { S.honest (inner_store self.old)
             → OnErr result ((S.contents (inner_store self.new) ≡ S.contents (inner_store self.old))
             ⊎ (S.contents (inner_store self.new)
-            ≡ changed (S.contents (inner_store self.old)) (Remove name.now))) }
+            ≡ with_change (S.contents (inner_store self.old)) (Remove name.now))) }
         ensures later { S.failures (inner_store self.old) + fuse_failures self.old
             ≤ S.failures (inner_store self.new) + fuse_failures self.new }
         ensures cause { OnErr result (S.failures (inner_store self.old) + fuse_failures self.old
@@ -269,7 +269,7 @@ impl<S: FolderStore> FolderStore for FuseStore<S> {
         ensures worked { S.honest (inner_store self.old) → WorksNext self.old
             → (S.failures (inner_store self.old) < S.failures (inner_store self.new))
             ⊎ (S.contents (inner_store self.new)
-            ≡ changed (S.contents (inner_store self.old)) (Remove name.now)) }
+            ≡ with_change (S.contents (inner_store self.old)) (Remove name.now)) }
         ensures blown { calls_left self.old ≡ 0 → IsErr result × IsBlown self.old self.new }
     {
         if self.passes() {
@@ -284,11 +284,11 @@ impl<S: FolderStore> FolderStore for FuseStore<S> {
     fn put_journal(&mut self, bytes: &[u8]) -> Result<(), StoreFault>
         ensures honest { S.honest (inner_store self.old) → S.honest (inner_store self.new) }
         ensures done { S.honest (inner_store self.old) → OnOk result (S.contents
-            (inner_store self.new) ≡ journaled (S.contents (inner_store self.old)) bytes.now) }
+            (inner_store self.new) ≡ with_journal (S.contents (inner_store self.old)) bytes.now) }
         ensures all_or_none { S.honest (inner_store self.old)
             → OnErr result ((S.contents (inner_store self.new) ≡ S.contents (inner_store self.old))
             ⊎ (S.contents (inner_store self.new)
-            ≡ journaled (S.contents (inner_store self.old)) bytes.now)) }
+            ≡ with_journal (S.contents (inner_store self.old)) bytes.now)) }
         ensures later { S.failures (inner_store self.old) + fuse_failures self.old
             ≤ S.failures (inner_store self.new) + fuse_failures self.new }
         ensures cause { OnErr result (S.failures (inner_store self.old) + fuse_failures self.old
@@ -301,7 +301,7 @@ impl<S: FolderStore> FolderStore for FuseStore<S> {
         ensures worked { S.honest (inner_store self.old) → WorksNext self.old
             → (S.failures (inner_store self.old) < S.failures (inner_store self.new))
             ⊎ (S.contents (inner_store self.new)
-            ≡ journaled (S.contents (inner_store self.old)) bytes.now) }
+            ≡ with_journal (S.contents (inner_store self.old)) bytes.now) }
         ensures blown { calls_left self.old ≡ 0 → IsErr result × IsBlown self.old self.new }
     {
         if self.passes() {

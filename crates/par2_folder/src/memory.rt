@@ -17,7 +17,7 @@ impl MemoryStore {
     ghost use Rattle.std.specs.Prelude.{◌≡◌, ◌+◌, ◌<◌, [], ◌∷◌, None, IsErr, IsOk, IsTrue, IsFalse, OnOk, OnErr, IfErr, Some};
     ghost use Rattle.std.specs.FinMap.{empty};
     ghost use Rattle.par2_spec.specs.Changes.{Replace, is_applicable, places_taken};
-    ghost use Rattle.par2_spec.specs.Stores.{Contents, changed};
+    ghost use Rattle.par2_spec.specs.Stores.{Contents, with_change};
     ghost use Rattle.par2_folder.specs.Memory.{memory_contents, memory_failures, memory_impossible};
     ghost use Rattle.par2_folder.specs.Views.{change_of};
 
@@ -74,7 +74,7 @@ impl MemoryStore {
     #[tactic(auto, unfolding(par2_spec::specs::Changes::change_refusal, par2_spec::specs::Changes::effect))]
     fn write(&mut self, name: &Name, bytes: &[u8]) -> Result<(), AllocError>
         ensures done { OnOk result (memory_contents self.new
-            ≡ changed (memory_contents self.old) (Replace name.now bytes.now)) }
+            ≡ with_change (memory_contents self.old) (Replace name.now bytes.now)) }
         ensures err { OnErr result (memory_contents self.new ≡ memory_contents self.old) }
         ensures failures { memory_failures self.new ≡ memory_failures self.old }
         ensures impossible { memory_impossible self.new ≡ memory_impossible self.old }
@@ -98,7 +98,8 @@ impl MemoryStore {
         requires { places_taken (change_of change ∷ []) ≡ 0 }
         ensures made { IsTrue (is_applicable (memory_contents self.old).files (change_of change))
             → IsOk result
-            × (memory_contents self.new ≡ changed (memory_contents self.old) (change_of change)) }
+            × (memory_contents self.new ≡ with_change (memory_contents self.old) (change_of
+            change)) }
         ensures refused { IsFalse (is_applicable
             (memory_contents self.old).files (change_of change)) → IsErr result
             × (memory_contents self.new ≡ memory_contents self.old) }

@@ -1,7 +1,7 @@
 //! Sorted files, and what an edit at a place does to the folder that they make.
 ghost use Rattle.std.specs.Prelude.{◌≡◌, ℕ, ◌+◌, ◌<◌, List, IfOk, IfErr, Some, None, vec_len, vec_capacity};
 ghost use Rattle.std.specs.FinMap as map_of;
-ghost use Rattle.par2_folder.specs.View.{IsAt, IsGapFor, IsKept, folder_of, file_at};
+ghost use Rattle.par2_folder.specs.Sorting.{IsAt, IsGapFor, IsKept, folder_of, file_at};
 
 use crate::{Bytes, Name};
 use std::mem;

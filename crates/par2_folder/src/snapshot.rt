@@ -3,7 +3,7 @@ ghost use Rattle.std.specs.Prelude.{◌≡◌, map, Some, None, IfOk, IfErr, OnO
 ghost use Rattle.std.specs.FinMap as map_of;
 ghost use Rattle.par2_spec.specs.Folders.{has, bytes_of};
 ghost use Rattle.par2_spec.specs.Changes.{is_applicable, effect};
-ghost use Rattle.par2_folder.specs.View.{IsAt, IsGapFor, IsKept, folder_of, file_at};
+ghost use Rattle.par2_folder.specs.Sorting.{IsAt, IsGapFor, IsKept, folder_of, file_at};
 ghost use Rattle.par2_folder.specs.Views.{change_of};
 ghost use Rattle.par2_folder.specs.Below.{IsFront, is_below};
 ghost use Rattle.par2_folder.specs.Snapshots.{file_of, files_in, folder_in};

@@ -3,7 +3,7 @@ ghost use Rattle.std.specs.Prelude.{◌≡◌, ◌⊎◌, ◌<◌, ◌≤◌, �
 ghost use Rattle.std.specs.FinMap.{get};
 ghost use Rattle.par2_spec.specs.Folders.{has, names};
 ghost use Rattle.par2_spec.specs.Changes.{Replace, Rename, Remove, is_applicable};
-ghost use Rattle.par2_spec.specs.Stores.{Contents, changed, journaled};
+ghost use Rattle.par2_spec.specs.Stores.{Contents, with_change, with_journal};
 
 use crate::Name;
 use std::alloc::Global;
@@ -87,10 +87,10 @@ pub trait FolderStore {
     fn put(&mut self, name: &Name, bytes: &[u8]) -> Result<(), StoreFault>
         ensures honest { honest self.old → honest self.new }
         ensures done { honest self.old → OnOk result (contents self.new
-            ≡ changed (contents self.old) (Replace name.now bytes.now)) }
+            ≡ with_change (contents self.old) (Replace name.now bytes.now)) }
         ensures all_or_none { honest self.old
             → OnErr result ((contents self.new ≡ contents self.old)
-            ⊎ (contents self.new ≡ changed (contents self.old) (Replace name.now bytes.now))) }
+            ⊎ (contents self.new ≡ with_change (contents self.old) (Replace name.now bytes.now))) }
         ensures later { failures self.old ≤ failures self.new }
         ensures cause { OnErr result (failures self.old < failures self.new) }
         ensures steady { OnOk result (failures self.new ≡ failures self.old) }
@@ -103,10 +103,10 @@ pub trait FolderStore {
             → IsFalse (is_applicable (contents self.old).files (Rename from.now to.now))
             → IsErr result × (contents self.new ≡ contents self.old) }
         ensures done { honest self.old → OnOk result (contents self.new
-            ≡ changed (contents self.old) (Rename from.now to.now)) }
+            ≡ with_change (contents self.old) (Rename from.now to.now)) }
         ensures all_or_none { honest self.old
             → OnErr result ((contents self.new ≡ contents self.old)
-            ⊎ (contents self.new ≡ changed (contents self.old) (Rename from.now to.now))) }
+            ⊎ (contents self.new ≡ with_change (contents self.old) (Rename from.now to.now))) }
         ensures later { failures self.old ≤ failures self.new }
         ensures cause { OnErr result (failures self.old < failures self.new) }
         ensures steady { OnOk result (failures self.new ≡ failures self.old) }
@@ -122,10 +122,10 @@ pub trait FolderStore {
             → IsFalse (is_applicable (contents self.old).files (Remove name.now))
             → IsErr result × (contents self.new ≡ contents self.old) }
         ensures done { honest self.old
-            → OnOk result (contents self.new ≡ changed (contents self.old) (Remove name.now)) }
+            → OnOk result (contents self.new ≡ with_change (contents self.old) (Remove name.now)) }
         ensures all_or_none { honest self.old
             → OnErr result ((contents self.new ≡ contents self.old)
-            ⊎ (contents self.new ≡ changed (contents self.old) (Remove name.now))) }
+            ⊎ (contents self.new ≡ with_change (contents self.old) (Remove name.now))) }
         ensures later { failures self.old ≤ failures self.new }
         ensures cause { OnErr result (failures self.old < failures self.new) }
         ensures steady { OnOk result (failures self.new ≡ failures self.old) }
@@ -138,9 +138,10 @@ pub trait FolderStore {
     fn put_journal(&mut self, bytes: &[u8]) -> Result<(), StoreFault>
         ensures honest { honest self.old → honest self.new }
         ensures done { honest self.old
-            → OnOk result (contents self.new ≡ journaled (contents self.old) bytes.now) }
+            → OnOk result (contents self.new ≡ with_journal (contents self.old) bytes.now) }
         ensures all_or_none { honest self.old → OnErr result ((contents self.new
-            ≡ contents self.old) ⊎ (contents self.new ≡ journaled (contents self.old) bytes.now)) }
+            ≡ contents self.old) ⊎ (contents self.new ≡ with_journal (contents self.old)
+            bytes.now)) }
         ensures later { failures self.old ≤ failures self.new }
         ensures cause { OnErr result (failures self.old < failures self.new) }
         ensures steady { OnOk result (failures self.new ≡ failures self.old) }

@@ -6,7 +6,7 @@ ghost use Rattle.std.specs.Prelude.{◌≡◌, ◌≤◌, ◌<◌, ◌+◌, ◌+
 ghost use Rattle.md5.specs.Md5.{md5};
 ghost use Rattle.par2_digests.specs.Messages.{HasAbsorbed};
 ghost use Rattle.par2_spec.specs.Changes.{are_applicable};
-ghost use Rattle.par2_folder.specs.View.{IsKept};
+ghost use Rattle.par2_folder.specs.Sorting.{IsKept};
 ghost use Rattle.par2_folder.specs.Views.{change_of};
 ghost use Rattle.par2_folder.specs.Borders.{IsFurther, begun, run_texts, text_before, touches};
 ghost use Rattle.par2_folder.specs.Runs.{AreTo, HaveAbsorbed, Reaches};

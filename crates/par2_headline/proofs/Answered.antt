@@ -5,10 +5,9 @@ use Rattle.par2_spec.specs.Commands.{Command, Repair, Action, Do}
 use Rattle.par2_spec.specs.Folders.{Folder}
 use Rattle.par2_spec.specs.History.{History, folders, history_after, in_front, unless_refused}
 use Rattle.par2_spec.specs.Opening.{is_valid}
-use Rattle.par2_spec.specs.Plans.{changes_of}
+use Rattle.par2_spec.specs.Plans.{changes_of, LeadsToAfter, LeadsToAfterAsked}
 use Rattle.par2_spec.specs.Refusals.{refusal, after}
-use Rattle.par2_spec.specs.Rules.{LeadsToAfter, LeadsToAfterAsked}
-use Rattle.par2_spec.specs.Sessions.{Session, session_with, session_after, changes_asked, applied, planned, history_of}
+use Rattle.par2_spec.specs.Sessions.{Session, session_with, session_after, changes_asked, session_unless, changes_unless, history_of}
 use Rattle.par2_spec.specs.Texts.{Step, step_of}
 use Rattle.par2_spec.specs.declared.Fault.{Fault}
 
@@ -28,7 +27,7 @@ module _ (s t : Session) (base : List ℕ) (extras : List (List ℕ)) (purge : B
   command = Repair base extras purge
 
   -- by what the definitions answer
-  by_refusal : (refused : Option Fault) → applied s (Do command) (planned refused (changes_of s.folder command)) ≡ Ok t
+  by_refusal : (refused : Option Fault) → session_unless s (Do command) (changes_unless refused (changes_of s.folder command)) ≡ Ok t
       → (refused ≡ None → LeadsToAfter s.folder command) → (refused ≡ None) × (t.folder ≡ after s.folder command)
   unfolding session_with
   by_refusal None step leads =
@@ -53,7 +52,7 @@ module _ (s t : Session) (base : List ℕ) (extras : List (List ℕ)) (purge : B
       → IfOk r (λ steps. steps ≡ map step_of (changes_of s.folder command))
   unfolding changes_asked
   told (Ok steps) is asked =
-      let Tells : Option Fault → Type 0 = λ refused. IfOk (planned refused (changes_of s.folder command)) (λ changes. steps ≡ map step_of changes) in
+      let Tells : Option Fault → Type 0 = λ refused. IfOk (changes_unless refused (changes_of s.folder command)) (λ changes. steps ≡ map step_of changes) in
       subst Tells is.accepted asked
   told (Err e) is asked = tt
 

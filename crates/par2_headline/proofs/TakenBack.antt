@@ -7,9 +7,9 @@ use Rattle.std.proofs.lemmas.List.{replicate_more}
 use Rattle.par2_spec.specs.Changes.{Change}
 use Rattle.par2_spec.specs.Commands.{Action, Undo}
 use Rattle.par2_spec.specs.Folders.{Folder}
-use Rattle.par2_spec.specs.History.{History, Run, Ended, Accepted, Passed, history_after, undone, folders}
+use Rattle.par2_spec.specs.History.{History, Run, Ended, Accepted, Passed, history_after, after_undo, folders}
 use Rattle.par2_spec.specs.Opening.{is_valid}
-use Rattle.par2_spec.specs.Rules.{LeadsToAfterAsked}
+use Rattle.par2_spec.specs.Plans.{LeadsToAfterAsked}
 use Rattle.par2_spec.specs.Sessions.{KeptSession, Session, folders_along, history_of, session_after, changes_asked, session_of_kept, session_with, kept_undone}
 use Rattle.par2_journal.specs.Ready.{next_of}
 use Rattle.par2_headline.proofs.Answered.{GoesAlong}
@@ -51,7 +51,7 @@ none_beyond m folder older e =
     let none : length {A = Folder} [] ≡ suc (length older) = ap length (sym (drop-nil m) ∙ e) in omega (arith, none)
 
 -- an accepted undo leaves one folder fewer
-one_fewer : (m : ℕ) (now : Folder) (older newer fs : List Folder) (next : History) → undone now older newer ≡ Ok next → drop (suc m) (now ∷ older) ≡ fs → drop m (folders next) ≡ fs
+one_fewer : (m : ℕ) (now : Folder) (older newer fs : List Folder) (next : History) → after_undo now older newer ≡ Ok next → drop (suc m) (now ∷ older) ≡ fs → drop m (folders next) ≡ fs
 one_fewer m now [] newer fs next step left = absurd (cc)
 one_fewer m now (folder ∷ older) newer fs next step left =
     let same : record { older = older; now = folder; newer = now ∷ newer } ≡ next = cc in
@@ -70,8 +70,8 @@ module _ (laws : AreLaws) (start end : History) (old new : KeptSession) (n i : �
   -- an accepted undo goes on
   goes_on : old.undos ≢ [] → new ≡ kept_undone old (next_of old.undos) → IsOnTheWay start end new n (i + 1)
   unfolding left history_after history_of
-  goes_on some undone =
-      let step = undo_by old.folder.files old.undos old.redos some ∙ ap Ok (sym (laws.kept old (next_of old.undos))) ∙ ap (λ (s : KeptSession). Ok (session_of_kept s)) (sym undone) in
+  goes_on some after_undo =
+      let step = undo_by old.folder.files old.undos old.redos some ∙ ap Ok (sym (laws.kept old (next_of old.undos))) ∙ ap (λ (s : KeptSession). Ok (session_of_kept s)) (sym after_undo) in
       let next = laws.accepted (session_of_kept old) (session_of_kept new) Undo way.valid tt step in
       record {
         valid = laws.valid (session_of_kept old) (session_of_kept new) Undo way.valid tt step;
@@ -82,6 +82,6 @@ module _ (laws : AreLaws) (start end : History) (old new : KeptSession) (n i : �
   -- and the next undo is accepted
   pub next_is_accepted : {A E : Type 0} (r : Result A E) → (IsErr r ↔ (old.undos ≡ [])) → OnOk r (new ≡ kept_undone old (next_of old.undos)) → IsOnTheWay start end new n (i + 1)
   unfolding left history_of folders_along
-  next_is_accepted (Ok done) refused undone = goes_on (λ none. false≢true (refused.1 none)) undone
-  next_is_accepted (Err fault) refused undone =
+  next_is_accepted (Ok done) refused after_undo = goes_on (λ none. false≢true (refused.1 none)) after_undo
+  next_is_accepted (Err fault) refused after_undo =
       absurd (none_beyond left start.now start.older (ap (λ undos. drop left (folders_along old.folder.files undos)) (sym (refused.0 refl)) ∙ ahead))

@@ -4,26 +4,26 @@ use Rattle.std.proofs.Math.Seq.{drop-cons}
 use Rattle.std.specs.Prelude.{IsErr, OnErr}
 use Rattle.std.proofs.lemmas.List.{get_or-map, length-map, drop_all}
 use Rattle.par2_spec.specs.Views.{action_of}
-use Rattle.par2_spec.specs.declared.asked.Action as given
+use Rattle.par2_spec.specs.declared.commands.Action as given
 use Rattle.par2_spec.specs.Changes.{Change}
 use Rattle.par2_spec.specs.Commands.{Action, Do, Undo, Redo, Command}
 use Rattle.par2_spec.specs.History.{History, history_after, Run, Accepted, Passed, MayBeRefused, IsChanging, Refusal, NothingToUndo, NothingToRedo}
-use Rattle.par2_spec.specs.Sessions.{Session, KeptSession, OnlyGrew, CanWalk, session_of_kept, session_after, session_with, changes_asked, applied, first_entry, history_of, kept_undone, kept_redone}
+use Rattle.par2_spec.specs.Sessions.{Session, KeptSession, OnlyGrew, CanWalk, session_of_kept, session_after, session_with, changes_asked, session_unless, first_entry, history_of, kept_undone, kept_redone}
 use Rattle.par2_spec.proofs.SessionLaws.{accepted_next, refused_alike, done_of_kept, undone_of_kept, redone_of_kept, walked_is_valid}
-use Rattle.par2_journal.specs.Ready.{Kind, Changing, Undoing, Redoing, IsKindOf, changes_of, committed, next_of}
+use Rattle.par2_journal.specs.Ready.{Kind, Changing, Undoing, Redoing, IsKindOf, changes_by_kind, after_commit, next_of}
 use Rattle.par2_spec.specs.Opening.{is_valid}
-use Rattle.par2_spec.specs.Rules.{LeadsToAfterAsked}
+use Rattle.par2_spec.specs.Plans.{LeadsToAfterAsked}
 
 pub same_session : (old new : KeptSession) → OnlyGrew old new → session_of_kept new ≡ session_of_kept old
 same_session old new grew = λ i. record { folder = grew.files i; undos = grew.undos i; redos = grew.redos i }
 
 -- a command that was made ready
 pub command_done : (old mid : KeptSession) (command : Command) (kind : Kind) → IsChanging (Do command) → OnlyGrew old mid → IsKindOf (Do command) kind
-    → changes_asked (session_of_kept old) (Do command) ≡ Ok (changes_of kind old)
-    → session_after (session_of_kept old) (Do command) ≡ Ok (session_of_kept (committed kind mid))
+    → changes_asked (session_of_kept old) (Do command) ≡ Ok (changes_by_kind kind old)
+    → session_after (session_of_kept old) (Do command) ≡ Ok (session_of_kept (after_commit kind mid))
 unfolding session_after
 command_done old mid command (Changing changes) changing grew is asked =
-    ap (applied (session_of_kept old) (Do command)) asked
+    ap (session_unless (session_of_kept old) (Do command)) asked
     ∙ ap (λ (s : Session). Ok (session_with s (Do command) changes)) (sym (same_session old mid grew))
     ∙ ap Ok (sym (done_of_kept mid command changes changing))
 command_done old mid command Undoing changing grew is asked = absurd is
@@ -56,11 +56,11 @@ redo_done s some = redo_by s s.redos some
 -- an empty side refuses
 no_undo : (s : KeptSession) → s.undos ≡ [] → session_after (session_of_kept s) Undo ≡ Err NothingToUndo
 unfolding session_after changes_asked
-no_undo s none = ap (λ entries. applied (session_of_kept s) Undo (first_entry NothingToUndo entries)) none
+no_undo s none = ap (λ entries. session_unless (session_of_kept s) Undo (first_entry NothingToUndo entries)) none
 
 no_redo : (s : KeptSession) → s.redos ≡ [] → session_after (session_of_kept s) Redo ≡ Err NothingToRedo
 unfolding session_after changes_asked
-no_redo s none = ap (λ entries. applied (session_of_kept s) Redo (first_entry NothingToRedo entries)) none
+no_redo s none = ap (λ entries. session_unless (session_of_kept s) Redo (first_entry NothingToRedo entries)) none
 
 pub undo_refused : (s : KeptSession) → s.undos ≡ [] → MayBeRefused (history_of (session_of_kept s)) Undo
 undo_refused s none = subst (λ (r : Result History Refusal). IsErr r) (sym (refused_alike (session_of_kept s) Undo NothingToUndo (no_undo s none))) refl

@@ -6,12 +6,12 @@ use Rattle.par2_spec.specs.Commands.{Command, Do, Undo, Redo}
 use Rattle.par2_spec.specs.Refusals.{refusal}
 use Rattle.par2_spec.specs.Plans as plans
 use Rattle.par2_spec.specs.History as history
-use Rattle.par2_spec.specs.Sessions.{KeptSession, OnlyGrew, session_of_kept, changes_asked, planned, first_entry}
+use Rattle.par2_spec.specs.Sessions.{KeptSession, OnlyGrew, session_of_kept, changes_asked, changes_unless, first_entry}
 use Rattle.par2_spec.specs.Texts.{Step, step_of}
 use Rattle.par2_spec.proofs.FolderLaws.{takes_applicable}
 use Rattle.par2_spec.specs.declared.Fault.{Fault}
-use Rattle.par2_journal.specs.Ready.{Ready, Changing, Undoing, Redoing, Fits, IsKindOf, IsReady, changes_of, next_of}
-use Rattle.par2_journal.specs.Faulted.{MayFail, MayRefuse}
+use Rattle.par2_journal.specs.Ready.{Ready, Changing, Undoing, Redoing, Fits, IsKindOf, IsReady, changes_by_kind, next_of}
+use Rattle.par2_journal.specs.Refusals.{MayFail, MayRefuse}
 use Rattle.par2_spec.specs.History.{IsChanging}
 use Rattle.par2_journal.proofs.Acting.{command_done, undo_done, redo_done}
 use Rattle.par2_journal.specs.declared.prepared.SessionFault.{SessionFault}
@@ -21,7 +21,7 @@ use Rattle.par2_journal.specs.declared.prepared.SessionFault.TheVariants.{Plan, 
 refused_plan : (s : KeptSession) (command : Command) (fault : Fault) → MayFail command s fault → MayRefuse (Do command) s (Plan fault)
 unfolding changes_asked
 refused_plan s command fault (inl memory) = inl (ap Plan memory)
-refused_plan s command fault (inr cause) = inr (ap (λ r. planned r (plans.changes_of s.folder.files command)) cause)
+refused_plan s command fault (inr cause) = inr (ap (λ r. changes_unless r (plans.changes_of s.folder.files command)) cause)
 
 pub refused_for : {A : Type 0} (r : Result A SessionFault) (s : KeptSession) (command : Command) (fault : Fault) → IsErrAnd r (λ e. e ≡ Plan fault) → MayFail command s fault
     → IfErr r (MayRefuse (Do command) s)
@@ -55,8 +55,8 @@ module _ (old new : KeptSession) (command : Command) (changes : List Change) (ch
   unfolding changes_asked
   ready_command ready is fits =
       let kind : IsKindOf (Do command) ready.kind = subst (IsKindOf (Do command)) (sym is) tt in
-      let asked : changes_asked (session_of_kept old) (Do command) ≡ Ok (changes_of ready.kind old) =
-      ap (λ r. planned r (plans.changes_of old.folder.files command)) accepted ∙ ap Ok (sym are ∙ ap (λ k. changes_of k old) (sym is)) in
+      let asked : changes_asked (session_of_kept old) (Do command) ≡ Ok (changes_by_kind ready.kind old) =
+      ap (λ r. changes_unless r (plans.changes_of old.folder.files command)) accepted ∙ ap Ok (sym are ∙ ap (λ k. changes_by_kind k old) (sym is)) in
       record {
         fits = fits;
         kind = kind;

@@ -6,12 +6,12 @@ use Rattle.std.specs.Str.{bytes_eq}
 use Rattle.par2_spec.specs.Folders.{Folder, fingerprint}
 use Rattle.par2_spec.specs.Changes.{Change, FolderState, effect, effects, is_applicable, are_applicable, places_taken, takes_all, state_after_all, folders_after}
 use Rattle.par2_spec.specs.Sessions.{Session}
-use Rattle.par2_spec.specs.Journals.{Journal, Halfway, Spells}
+use Rattle.par2_spec.specs.Journals.{Journal, HalfwayPart, Spells}
 use Rattle.par2_spec.specs.Opening as defined
 use Rattle.par2_spec.specs.Opening.{leads_through, is_valid}
 use Rattle.par2_spec.specs.declared.JournalFault.{JournalFault}
 use Rattle.par2_spec.specs.declared.JournalFault.TheVariants.{JournalInvalid, Memory, FolderChanged}
-use Rattle.par2_journal.specs.Opened.{session_at, journal_with, begun_as, OpensAsIs}
+use Rattle.par2_journal.specs.Opening.{session_at, journal_with, halfway_as, OpensAsIs}
 use Rattle.par2_spec.proofs.FolderLaws.{takes_applicable, taken_are_applicable, both_first, both_second, more_room_all, state_files}
 use Rattle.par2_spec.proofs.StopLaws.{through_applies}
 
@@ -64,43 +64,43 @@ takes_roomier g h cs taken files vacant =
 pub same_files_after : (g h : FolderState) (cs : List Change) → h.files ≡ g.files → (state_after_all h cs).files ≡ (state_after_all g cs).files
 same_files_after g h cs files = state_files h cs ∙ ap (λ f. effects f cs) files ∙ sym (state_files g cs)
 
--- ---- what a begun command opens as
+-- ---- what a halfway command opens as
 
 module _ (f : Folder) (print : List ℕ) (n : ℕ) (entries : List (List Change)) (prints : List (List ℕ)) (back cs : List Change) (wanted : List (List ℕ))
     (place : position (bytes_eq (fingerprint f)) (print ∷ prints) ≡ Some (length wanted)) (list : wanted ≡ reverse (take (length wanted) (print ∷ prints))) (cut : cs ≡ drop (length back - length wanted) back) where
   answer : List Change → List (List ℕ) → Result defined.Opened JournalFault
-  answer d w = if leads_through f d w && is_valid (session_at (effects f d) n entries) then Ok (defined.ToTakeBack (session_at (effects f d) n entries) d) else Err JournalInvalid
+  answer d w = if leads_through f d w && is_valid (session_at (effects f d) n entries) then Ok (defined.Halfway (session_at (effects f d) n entries) d) else Err JournalInvalid
 
-  begun_is : begun_as f print n entries prints back ≡ answer cs wanted
+  halfway_is : halfway_as f print n entries prints back ≡ answer cs wanted
   unfolding answer defined.taken_back
-  begun_is =
-      ap (defined.opened_at f (journal_with print n entries) (record { fingerprints = prints; back = back })) place
+  halfway_is =
+      ap (defined.opened_if_found f (journal_with print n entries) (record { fingerprints = prints; back = back })) place
       ∙ (λ i. answer (sym cut i) (sym list i))
 
-  pub begun_ok : (s : Session) → leads_through f cs wanted ≡ true → is_valid (session_at (effects f cs) n entries) ≡ true → s ≡ session_at (effects f cs) n entries → begun_as f print n entries prints back ≡ Ok (defined.ToTakeBack s cs)
+  pub halfway_ok : (s : Session) → leads_through f cs wanted ≡ true → is_valid (session_at (effects f cs) n entries) ≡ true → s ≡ session_at (effects f cs) n entries → halfway_as f print n entries prints back ≡ Ok (defined.Halfway s cs)
   unfolding answer
-  begun_ok s leads valid is =
+  halfway_ok s leads valid is =
       let t = session_at (effects f cs) n entries in
-      begun_is
-      ∙ ap (λ b. if b && is_valid t then Ok (defined.ToTakeBack t cs) else Err JournalInvalid) leads
-      ∙ ap (λ b. if b then Ok (defined.ToTakeBack t cs) else Err JournalInvalid) valid
-      ∙ ap (λ x. Ok (defined.ToTakeBack x cs)) (sym is)
+      halfway_is
+      ∙ ap (λ b. if b && is_valid t then Ok (defined.Halfway t cs) else Err JournalInvalid) leads
+      ∙ ap (λ b. if b then Ok (defined.Halfway t cs) else Err JournalInvalid) valid
+      ∙ ap (λ x. Ok (defined.Halfway x cs)) (sym is)
 
-  pub begun_refused : (leads_through f cs wanted && is_valid (session_at (effects f cs) n entries)) ≡ false → begun_as f print n entries prints back ≡ Err JournalInvalid
+  pub halfway_refused : (leads_through f cs wanted && is_valid (session_at (effects f cs) n entries)) ≡ false → halfway_as f print n entries prints back ≡ Err JournalInvalid
   unfolding answer
-  begun_refused h =
+  halfway_refused h =
       let t = session_at (effects f cs) n entries in
-      begun_is ∙ ap (λ b. if b then Ok (defined.ToTakeBack t cs) else Err JournalInvalid) h
+      halfway_is ∙ ap (λ b. if b then Ok (defined.Halfway t cs) else Err JournalInvalid) h
 
 -- ---- of a whole journal
 
-pub opened_settled : (f : Folder) (j : Journal) → j.halfway ≡ None → defined.opened f j ≡ defined.opened_by f (journal_with j.fingerprint j.cursor j.entries) None
+pub opened_settled : (f : Folder) (j : Journal) → j.halfway ≡ None → defined.opened f j ≡ defined.opened_by_part f (journal_with j.fingerprint j.cursor j.entries) None
 unfolding defined.opened
-opened_settled f j h = ap (defined.opened_by f j) h
+opened_settled f j h = ap (defined.opened_by_part f j) h
 
-pub opened_begun : (f : Folder) (j : Journal) (h : Halfway) → j.halfway ≡ Some h → defined.opened f j ≡ begun_as f j.fingerprint j.cursor j.entries h.fingerprints h.back
+pub opened_halfway : (f : Folder) (j : Journal) (h : HalfwayPart) → j.halfway ≡ Some h → defined.opened f j ≡ halfway_as f j.fingerprint j.cursor j.entries h.fingerprints h.back
 unfolding defined.opened defined.taken_back
-opened_begun f j h is = ap (defined.opened_by f j) is
+opened_halfway f j h is = ap (defined.opened_by_part f j) is
 
 pub all_opened : {V F : Type 0} (r : Result V F) (view : V → defined.Opened) (f : Folder) (text : List ℕ) (j : Journal) → Spells text j → IfOk r (λ v. defined.opened f j ≡ Ok (view v)) → IfOk r (λ v. defined.Opens f text (Ok (view v)))
 unfolding defined.Opens

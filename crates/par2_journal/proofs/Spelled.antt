@@ -6,12 +6,12 @@ use Rattle.std.proofs.lemmas.List.{reverse-reverse, take-append-drop, length-rev
 use Rattle.par2_spec.specs.Folders.{Folder, fingerprint}
 use Rattle.par2_spec.specs.Changes.{Change, FolderState, effect, folders_after, state_after_all, takes_all, way_back}
 use Rattle.par2_spec.specs.Commands.{Action}
-use Rattle.par2_spec.specs.Sessions.{Session, KeptSession, OnlyGrew, CanWalk, walks, session_of_kept, session_after, session_with, applied, kept_done, kept_undone, kept_redone}
+use Rattle.par2_spec.specs.Sessions.{Session, KeptSession, OnlyGrew, CanWalk, walks, session_of_kept, session_after, session_with, session_unless, kept_done, kept_undone, kept_redone}
 use Rattle.par2_spec.specs.Journals.{Journal, Spells}
 use Rattle.par2_spec.specs.Opening.{settled_journal, halfway_journal, halfway_where, journals_of}
 use Rattle.par2_spec.specs.declared.Version.TheVariants.{Two}
-use Rattle.par2_journal.specs.Ready.{Kind, Changing, Undoing, Redoing, Ready, IsReady, CanBe, next_of, changes_of, committed}
-use Rattle.par2_journal.specs.Written.{Turn, SpellsWhere, AreSpelled, HasNext, turn_of, entries_with, halfway_with, settled_with}
+use Rattle.par2_journal.specs.Ready.{Kind, Changing, Undoing, Redoing, Ready, IsReady, CanBe, next_of, changes_by_kind, after_commit}
+use Rattle.par2_journal.specs.Spelling.{Turn, SpellsWhere, AreSpelled, HasNext, turn_of, entries_with, halfway_with, settled_with}
 use Rattle.par2_journal.specs.declared.spelling.Journals.{Journals}
 use Rattle.par2_spec.proofs.SessionLaws.{next_taken}
 use Rattle.par2_journal.proofs.Acting.{same_session}
@@ -79,8 +79,8 @@ done_after xs n within folder room cs =
     λ i. record { version = Two; fingerprint = fingerprint (state_after_all folder cs).files; cursor = count i; entries = entries i; halfway = None }
 
 pub after_at : (xs : List (List Change)) (n : ℕ) (folder : FolderState) (room : ℕ) (kind : Kind) → HasNext (turn_of kind) n (length xs)
-    → settled_with (fingerprint (state_after_all folder (changes_of kind (at folder xs n room))).files) (entries_with (turn_of kind) n xs (way_back folder.files (changes_of kind (at folder xs n room))))
-    ≡ settled_journal Two (session_of_kept (committed kind (at folder xs n room)))
+    → settled_with (fingerprint (state_after_all folder (changes_by_kind kind (at folder xs n room))).files) (entries_with (turn_of kind) n xs (way_back folder.files (changes_by_kind kind (at folder xs n room))))
+    ≡ settled_journal Two (session_of_kept (after_commit kind (at folder xs n room)))
 after_at xs n folder room (Changing cs) next = done_after xs n next folder room cs
 after_at xs n folder room Undoing next =
     let i = n - 1 in
@@ -115,22 +115,22 @@ has_next xs n folder room Redoing within can = below xs n (λ over. can (drop_al
 ok_same : {F : Type 0} (x : Result Session F) (a b : Session) → x ≡ Ok a → x ≡ Ok b → a ≡ b
 ok_same x a b e h = cc
 
-same_changes : (kind : Kind) (before s : KeptSession) → OnlyGrew before s → changes_of kind s ≡ changes_of kind before
+same_changes : (kind : Kind) (before s : KeptSession) → OnlyGrew before s → changes_by_kind kind s ≡ changes_by_kind kind before
 same_changes (Changing cs) before s grew = refl
 same_changes Undoing before s grew = ap next_of grew.undos
 same_changes Redoing before s grew = ap next_of grew.redos
 
 pub asked_session : (action : Action) (before s : KeptSession) (ready : Ready) → OnlyGrew before s → IsReady action before ready s
-    → session_of_kept (committed ready.kind s) ≡ session_with (session_of_kept s) action (changes_of ready.kind s)
+    → session_of_kept (after_commit ready.kind s) ≡ session_with (session_of_kept s) action (changes_by_kind ready.kind s)
 unfolding session_after
 asked_session action before s ready grew is =
-    let same = ok_same (session_after (session_of_kept before) action) (session_with (session_of_kept before) action (changes_of ready.kind before)) (session_of_kept (committed ready.kind s)) (ap (applied (session_of_kept before) action) is.asked) is.leads in
+    let same = ok_same (session_after (session_of_kept before) action) (session_with (session_of_kept before) action (changes_by_kind ready.kind before)) (session_of_kept (after_commit ready.kind s)) (ap (session_unless (session_of_kept before) action) is.asked) is.leads in
     sym same ∙ (λ i. session_with (sym (same_session before s grew) i) action (sym (same_changes ready.kind before s grew) i))
 
 pub both_spelled : (journals : Journals) (action : Action) (s : KeptSession) (ready : Ready) (before : KeptSession) → OnlyGrew before s → IsReady action before ready s
-    → SpellsWhere journals.halfway (halfway_where Two (session_of_kept s) (changes_of ready.kind s))
-    → Spells journals.after.items (settled_journal Two (session_of_kept (committed ready.kind s)))
-    → AreSpelled journals (journals_of Two (session_of_kept s) action (changes_of ready.kind s))
+    → SpellsWhere journals.halfway (halfway_where Two (session_of_kept s) (changes_by_kind ready.kind s))
+    → Spells journals.after.items (settled_journal Two (session_of_kept (after_commit ready.kind s)))
+    → AreSpelled journals (journals_of Two (session_of_kept s) action (changes_by_kind ready.kind s))
 unfolding journals_of
 both_spelled journals action s ready before grew is halfway after =
     (halfway, subst (λ t. Spells journals.after.items (settled_journal Two t)) (asked_session action before s ready grew is) after)
@@ -146,20 +146,20 @@ next_entry : (folder : FolderState) (entries : List (List Change)) → walks fol
 next_entry folder [] h some = absurd (some refl)
 next_entry folder (entry ∷ entries) h some = (next_taken folder (entry ∷ entries) entry entries h refl).0
 
-pub kind_taken : (kind : Kind) (s : KeptSession) → CanWalk s → CanBe kind s → takes_all s.folder (changes_of kind s) ≡ true
+pub kind_taken : (kind : Kind) (s : KeptSession) → CanWalk s → CanBe kind s → takes_all s.folder (changes_by_kind kind s) ≡ true
 kind_taken (Changing cs) s h can = can.0
 kind_taken Undoing s h can = next_entry s.folder s.undos h.back can
 kind_taken Redoing s h can = next_entry s.folder s.redos h.forth can
 
 action_spelled : {E : Type 0} (r : Result Journals E) (xs entries : List (List Change)) (n : ℕ) → n ≤ length xs → (folder : FolderState) (room : ℕ) (turn : Turn) (ready : Ready) (cs : List Change)
-    → turn ≡ turn_of ready.kind → entries ≡ xs → cs ≡ changes_of ready.kind (at folder xs n room) → CanBe ready.kind (at folder xs n room)
+    → turn ≡ turn_of ready.kind → entries ≡ xs → cs ≡ changes_by_kind ready.kind (at folder xs n room) → CanBe ready.kind (at folder xs n room)
     → IfOk r (λ j. SpellsWhere j.halfway (halfway_with (fingerprint folder.files) n entries (map fingerprint (folders_after folder.files cs)) (way_back folder.files cs)))
     → IfOk r (λ j. Spells j.after.items (settled_with (fingerprint (state_after_all folder cs).files) (entries_with turn n entries (way_back folder.files cs))))
-    → IfOk r (λ j. (action : Action) (before : KeptSession) → OnlyGrew before (at folder xs n room) → IsReady action before ready (at folder xs n room) → AreSpelled j (journals_of Two (session_of_kept (at folder xs n room)) action (changes_of ready.kind (at folder xs n room))))
+    → IfOk r (λ j. (action : Action) (before : KeptSession) → OnlyGrew before (at folder xs n room) → IsReady action before ready (at folder xs n room) → AreSpelled j (journals_of Two (session_of_kept (at folder xs n room)) action (changes_by_kind ready.kind (at folder xs n room))))
 action_spelled (Err e) xs entries n within folder room turn ready cs te ee ce can half after = tt
 action_spelled (Ok j) xs entries n within folder room turn ready cs te ee ce can half after = λ action before grew is.
     both_spelled j action (at folder xs n room) ready before grew is
-    (halfway_at xs n within folder room j.halfway (changes_of ready.kind (at folder xs n room)) (way_back folder.files (changes_of ready.kind (at folder xs n room))) refl
+    (halfway_at xs n within folder room j.halfway (changes_by_kind ready.kind (at folder xs n room)) (way_back folder.files (changes_by_kind ready.kind (at folder xs n room))) refl
     (subst (λ d. SpellsWhere j.halfway (halfway_with (fingerprint folder.files) n xs (map fingerprint (folders_after folder.files d)) (way_back folder.files d))) ce
     (subst (λ es. SpellsWhere j.halfway (halfway_with (fingerprint folder.files) n es (map fingerprint (folders_after folder.files cs)) (way_back folder.files cs))) ee half)))
     (subst (λ (t : Journal). Spells j.after.items t)
@@ -169,9 +169,9 @@ action_spelled (Ok j) xs entries n within folder room turn ready cs te ee ce can
 
 -- of a session by its fields, for which something is ready
 module _ (xs : List (List Change)) (n : ℕ) (within : n ≤ length xs) (folder : FolderState) (room : ℕ) (s : KeptSession) (same : at folder xs n room ≡ s) (ready : Ready) (can : CanBe ready.kind s) where
-  pub ready_applies : CanWalk (at folder xs n room) → (cs : List Change) → cs ≡ changes_of ready.kind s → takes_all folder cs ≡ true
+  pub ready_applies : CanWalk (at folder xs n room) → (cs : List Change) → cs ≡ changes_by_kind ready.kind s → takes_all folder cs ≡ true
   ready_applies walks cs are =
-      ap (takes_all folder) are ∙ ap (λ (t : KeptSession). takes_all t.folder (changes_of ready.kind s)) same ∙ kind_taken ready.kind s (subst CanWalk same walks) can
+      ap (takes_all folder) are ∙ ap (λ (t : KeptSession). takes_all t.folder (changes_by_kind ready.kind s)) same ∙ kind_taken ready.kind s (subst CanWalk same walks) can
 
   can_here : CanBe ready.kind (at folder xs n room)
   can_here = subst (CanBe ready.kind) (sym same) can
@@ -179,27 +179,27 @@ module _ (xs : List (List Change)) (n : ℕ) (within : n ≤ length xs) (folder 
   next_here : (kind : Kind) → ready.kind ≡ kind → HasNext (turn_of kind) n (length xs)
   next_here kind is = subst (λ k. HasNext (turn_of k) n (length xs)) is (has_next xs n folder room ready.kind within can_here)
 
-  pub undo_entry : ready.kind ≡ Undoing → (entries : List (List Change)) → entries ≡ xs → get_or entries (n - 1) [] ≡ changes_of ready.kind s
+  pub undo_entry : ready.kind ≡ Undoing → (entries : List (List Change)) → entries ≡ xs → get_or entries (n - 1) [] ≡ changes_by_kind ready.kind s
   undo_entry is entries lent =
       let next = next_here Undoing is in
       let i = n - 1 in
       let one : i + 1 ≡ n = omega (arith, next.0) in
       let lt : i < length xs = omega (arith, next.0, next.1) in
       ap (λ l. get_or l i []) lent ∙ sym (next_undo_is xs i lt (get_or xs i []) (get_or_default xs i [] (get_or xs i []) lt) n one)
-      ∙ ap (λ (t : KeptSession). next_of t.undos) same ∙ ap (λ k. changes_of k s) (sym is)
+      ∙ ap (λ (t : KeptSession). next_of t.undos) same ∙ ap (λ k. changes_by_kind k s) (sym is)
 
-  pub redo_entry : ready.kind ≡ Redoing → (entries : List (List Change)) → entries ≡ xs → get_or entries n [] ≡ changes_of ready.kind s
+  pub redo_entry : ready.kind ≡ Redoing → (entries : List (List Change)) → entries ≡ xs → get_or entries n [] ≡ changes_by_kind ready.kind s
   redo_entry is entries lent =
       let lt = next_here Redoing is in
       ap (λ l. get_or l n []) lent ∙ sym (next_redo_is xs n lt (get_or xs n []) (get_or_default xs n [] (get_or xs n []) lt))
-      ∙ ap (λ (t : KeptSession). next_of t.redos) same ∙ ap (λ k. changes_of k s) (sym is)
+      ∙ ap (λ (t : KeptSession). next_of t.redos) same ∙ ap (λ k. changes_by_kind k s) (sym is)
 
   module _ (turn : Turn) (does : turn ≡ turn_of ready.kind) (entries : List (List Change)) (lent : entries ≡ xs) where
-    pub ready_spelled : {E : Type 0} (r q : Result Journals E) → q ≡ r → (cs : List Change) → cs ≡ changes_of ready.kind s
+    pub ready_spelled : {E : Type 0} (r q : Result Journals E) → q ≡ r → (cs : List Change) → cs ≡ changes_by_kind ready.kind s
         → IfOk r (λ j. SpellsWhere j.halfway (halfway_with (fingerprint folder.files) n entries (map fingerprint (folders_after folder.files cs)) (way_back folder.files cs)))
         → IfOk r (λ j. Spells j.after.items (settled_with (fingerprint (state_after_all folder cs).files) (entries_with turn n entries (way_back folder.files cs))))
-        → IfOk q (λ j. (action : Action) (before : KeptSession) → OnlyGrew before s → IsReady action before ready s → AreSpelled j (journals_of Two (session_of_kept s) action (changes_of ready.kind s)))
+        → IfOk q (λ j. (action : Action) (before : KeptSession) → OnlyGrew before s → IsReady action before ready s → AreSpelled j (journals_of Two (session_of_kept s) action (changes_by_kind ready.kind s)))
     ready_spelled r q is cs are half after =
-        let told = λ (o : Result Journals _) (t : KeptSession). IfOk o (λ j. (action : Action) (before : KeptSession) → OnlyGrew before t → IsReady action before ready t → AreSpelled j (journals_of Two (session_of_kept t) action (changes_of ready.kind t))) in
+        let told = λ (o : Result Journals _) (t : KeptSession). IfOk o (λ j. (action : Action) (before : KeptSession) → OnlyGrew before t → IsReady action before ready t → AreSpelled j (journals_of Two (session_of_kept t) action (changes_by_kind ready.kind t))) in
         subst (λ o. told o s) (sym is)
-        (subst (told r) same (action_spelled r xs entries n within folder room turn ready cs does lent (are ∙ ap (changes_of ready.kind) (sym same)) can_here half after))
+        (subst (told r) same (action_spelled r xs entries n within folder room turn ready cs does lent (are ∙ ap (changes_by_kind ready.kind) (sym same)) can_here half after))

@@ -6,7 +6,7 @@ use Rattle.par2_spec.specs.Sessions.{walks}
 use Rattle.par2_spec.specs.declared.ChangeFault.{ChangeFault}
 use Rattle.par2_spec.proofs.FolderLaws.{changes_back}
 use Rattle.std.proofs.lemmas.List.{length-take-le, length-map, map-append, take_all, drop_all, take-append-drop}
-use Rattle.par2_journal.specs.Walked.{state_along, ways_back}
+use Rattle.par2_journal.specs.Walks.{state_along, ways_back}
 use Rattle.par2_journal.proofs.Each.{IsTurned, all_reversed, front_reversed, rest_seen, reached}
 use Rattle.par2_journal.proofs.Each as each
 use Rattle.par2_journal.proofs.Ways.{takes_none, takes_next, takes_more, after_none, after_more, back_none, back_more, back_length, walks_none, walks_next, walks_more, along_none, along_one, ways_none, ways_more, ways_length, ways_walk, ways_lead, ways_twice}

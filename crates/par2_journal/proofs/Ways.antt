@@ -6,7 +6,7 @@ use Rattle.par2_spec.specs.Folders.{Folder}
 use Rattle.par2_spec.specs.Changes.{Change, FolderState, change_refusal, effect, effects, inverse, state_after, takes_all, state_after_all, way_back}
 use Rattle.par2_spec.specs.Sessions.{walks}
 use Rattle.par2_spec.proofs.FolderLaws.{both_first, both_second, both_true, state_files, state_all_back, way_back_taken, changes_back, way_back-append, state_after_all-append}
-use Rattle.par2_journal.specs.Walked.{state_along, ways_back}
+use Rattle.par2_journal.specs.Walks.{state_along, ways_back}
 
 module _ (s : FolderState) where
   pub takes_none : takes_all s [] ≡ true

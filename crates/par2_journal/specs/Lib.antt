@@ -1,8 +1,8 @@
-pub mod Stepped
+pub mod Steps
 pub mod Ready
 pub mod Kinds
-pub mod Kept
-pub mod Faulted
-pub mod Walked
-pub mod Written
-pub mod Opened
+pub mod Sessions
+pub mod Refusals
+pub mod Walks
+pub mod Spelling
+pub mod Opening

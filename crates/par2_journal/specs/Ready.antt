@@ -2,8 +2,7 @@
 use Rattle.std.specs.Prelude.{◌≡◌, ◌≢◌, ◌<◌, ℕ, zero, suc, List, [], ◌∷◌, map, IsTrue, Ok}
 use Rattle.std.specs.Prelude.{refl}
 use Rattle.std.specs.Coded.{Coded, code_by, coded×, coded_ℕ, coded_list}
-use Rattle.par2_spec.specs.Codes.{change_code}
-use Rattle.par2_spec.specs.SessionCodes.{step_code}
+use Rattle.par2_spec.specs.Codes.{change_code, step_code}
 use Rattle.par2_spec.specs.Changes.{Change, takes_all}
 use Rattle.par2_spec.specs.Commands.{Action, Do, Undo, Redo}
 use Rattle.par2_spec.specs.Sessions.{KeptSession, session_of_kept, session_after, changes_asked, kept_done, kept_undone, kept_redone}
@@ -25,10 +24,10 @@ next_of [] = []
 next_of (entry ∷ entries) = entry
 
 -- the changes that committing applies
-abbrev pub changes_of : Kind → KeptSession → List Change
-changes_of (Changing changes) s = changes
-changes_of Undoing s = next_of s.undos
-changes_of Redoing s = next_of s.redos
+abbrev pub changes_by_kind : Kind → KeptSession → List Change
+changes_by_kind (Changing changes) s = changes
+changes_by_kind Undoing s = next_of s.undos
+changes_by_kind Redoing s = next_of s.redos
 
 -- there is something to apply, and room for it
 abbrev pub CanBe : Kind → KeptSession → Type 0
@@ -39,13 +38,13 @@ CanBe Redoing s = s.redos ≢ []
 -- it can be committed
 pub record Fits (ready : Ready) (s : KeptSession) : Type 0 where
   pub can : CanBe ready.kind s
-  pub steps : ready.steps ≡ map step_of (changes_of ready.kind s)
+  pub steps : ready.steps ≡ map step_of (changes_by_kind ready.kind s)
 
 -- the session afterwards
-abbrev pub committed : Kind → KeptSession → KeptSession
-committed (Changing changes) s = kept_done s changes
-committed Undoing s = kept_undone s (next_of s.undos)
-committed Redoing s = kept_redone s (next_of s.redos)
+abbrev pub after_commit : Kind → KeptSession → KeptSession
+after_commit (Changing changes) s = kept_done s changes
+after_commit Undoing s = kept_undone s (next_of s.undos)
+after_commit Redoing s = kept_redone s (next_of s.redos)
 
 -- what is made ready is of the kind that was asked for
 abbrev pub IsKindOf : Action → Kind → Type 0
@@ -59,8 +58,8 @@ IsKindOf action kind = ⊥
 pub record IsReady (action : Action) (old : KeptSession) (ready : Ready) (new : KeptSession) : Type 0 where
   pub fits : Fits ready new
   pub kind : IsKindOf action ready.kind
-  pub asked : changes_asked (session_of_kept old) action ≡ Ok (changes_of ready.kind old)
-  pub leads : session_after (session_of_kept old) action ≡ Ok (session_of_kept (committed ready.kind new))
+  pub asked : changes_asked (session_of_kept old) action ≡ Ok (changes_by_kind ready.kind old)
+  pub leads : session_after (session_of_kept old) action ≡ Ok (session_of_kept (after_commit ready.kind new))
 
 -- how a model stores it
 abbrev pub kind_number : Kind → ℕ × List Change

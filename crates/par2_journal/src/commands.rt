@@ -13,12 +13,12 @@ impl Session {
     ghost use Rattle.par2_spec.specs.Commands.{Do, Undo, Redo, Create, Repair, Purge};
     ghost use Rattle.par2_spec.specs.History.{Run, MayBeRefused, folders, IsChanging};
     ghost use Rattle.par2_spec.specs.Reports.{report_in};
-    ghost use Rattle.par2_spec.specs.Rules.{LeadsToAfterAsked};
+    ghost use Rattle.par2_spec.specs.Plans.{LeadsToAfterAsked};
     ghost use Rattle.par2_spec.specs.Sessions.{OnlyGrew, CanWalk, session_of_kept, session_after, changes_asked, history_of};
     ghost use Rattle.par2_spec.specs.Texts.{step_of};
     ghost use Rattle.par2_spec.specs.Views.{action_of, create_args_of};
     ghost use Rattle.par2_plan.specs.Views.{report_of};
-    ghost use Rattle.par2_journal.specs.Faulted.{MayFail, MayRefuse};
+    ghost use Rattle.par2_journal.specs.Refusals.{MayFail, MayRefuse};
     ghost use Rattle.par2_journal.specs.Ready.{Changing, Fits, IsReady};
 
     // Steps and room for what a command is planned as.

@@ -7,11 +7,11 @@ ghost use Rattle.par2_spec.specs.Opening as defined;
 ghost use Rattle.par2_spec.specs.Opening.{is_valid, leads, Opens};
 ghost use Rattle.par2_spec.specs.declared.JournalFault.TheVariants.{JournalInvalid, Memory};
 ghost use Rattle.par2_journal_bytes.specs.Reading.{IsSealed};
-ghost use Rattle.par2_journal_bytes.specs.Views.{changes_of, entries_of, journal_of};
-ghost use Rattle.par2_journal.specs.Opened.{session_at, journal_with, opened_of, OpensAsIs};
-ghost use Rattle.par2_journal.specs.Walked.{state_along, ways_back};
+ghost use Rattle.par2_journal_bytes.specs.Views.{changes_in, entries_of, journal_of};
+ghost use Rattle.par2_journal.specs.Opening.{session_at, journal_with, opened_of, OpensAsIs};
+ghost use Rattle.par2_journal.specs.Walks.{state_along, ways_back};
 
-use crate::taking_back::{Halfway, open_begun};
+use crate::taking_back::{Halfway, open_halfway};
 use crate::{Changes, Session};
 use par2_folder::{Change, Folder};
 use par2_journal_bytes::{DecodeFault, Journal, decode};
@@ -24,13 +24,13 @@ use std::alloc::{AllocError, Global};
 // become the change that takes it back.
 fn apply_first(folder: &mut Folder, changes: &mut [Change]) -> usize
     ensures within { result ≤ length changes.old }
-    ensures taken { IsTrue (takes_all folder.old (take result (changes_of changes.old))) }
+    ensures taken { IsTrue (takes_all folder.old (take result (changes_in changes.old))) }
     ensures folder { folder.new
-        ≡ state_after_all folder.old (take result (changes_of changes.old)) }
-    ensures changes { changes_of changes.new ≡ reverse (way_back folder.old.files
-        (take result (changes_of changes.old))) ++ drop result (changes_of changes.old) }
+        ≡ state_after_all folder.old (take result (changes_in changes.old)) }
+    ensures changes { changes_in changes.new ≡ reverse (way_back folder.old.files
+        (take result (changes_in changes.old))) ++ drop result (changes_in changes.old) }
     ensures refused { result < length changes.old
-        → IsFalse (takes_all folder.old (changes_of changes.old)) }
+        → IsFalse (takes_all folder.old (changes_in changes.old)) }
 {
     let mut applied = 0;
     for change in changes.iter_mut() {
@@ -44,13 +44,13 @@ fn apply_first(folder: &mut Folder, changes: &mut [Change]) -> usize
 
 // Applies all of the changes in order, so that they become the way back, or none where one is refused.
 fn turn_whole(folder: &mut Folder, changes: &mut [Change]) -> bool
-    ensures result { result ≡ takes_all folder.old (changes_of changes.old) }
+    ensures result { result ≡ takes_all folder.old (changes_in changes.old) }
     ensures folder { IsTrue result
-        → folder.new ≡ state_after_all folder.old (changes_of changes.old) }
+        → folder.new ≡ state_after_all folder.old (changes_in changes.old) }
     ensures way_back { IsTrue result
-        → changes_of changes.new ≡ way_back folder.old.files (changes_of changes.old) }
+        → changes_in changes.new ≡ way_back folder.old.files (changes_in changes.old) }
     ensures unchanged { IsFalse result
-        → (folder.new ≡ folder.old) × (changes_of changes.new ≡ changes_of changes.old) }
+        → (folder.new ≡ folder.old) × (changes_in changes.new ≡ changes_in changes.old) }
 {
     let applied = apply_first(folder, changes);
     if applied == changes.len() {
@@ -65,9 +65,9 @@ fn turn_whole(folder: &mut Folder, changes: &mut [Change]) -> bool
 
 // Whether all of the changes can be applied in order. Folder and changes are as before.
 pub(crate) fn can_apply(folder: &mut Folder, changes: &mut [Change]) -> bool
-    ensures result { result ≡ takes_all folder.old (changes_of changes.old) }
+    ensures result { result ≡ takes_all folder.old (changes_in changes.old) }
     ensures folder { folder.new ≡ folder.old }
-    ensures changes { changes_of changes.new ≡ changes_of changes.old }
+    ensures changes { changes_in changes.new ≡ changes_in changes.old }
 {
     if !turn_whole(folder, changes) {
         return false;
@@ -169,7 +169,7 @@ fn settle(
 }
 
 fn changes_from(alloc: Global, items: Vec<Change>) -> Result<Changes, AllocError>
-    ensures { IfOk result (λ changes. changes ≡ changes_of items.items) }
+    ensures { IfOk result (λ changes. changes ≡ changes_in items.items) }
 {
     let mut changes = Changes::new(alloc);
     for change in items {
@@ -223,8 +223,8 @@ pub(crate) fn session_from(
 #[derive(Debug, Drop)]
 pub enum Opened {
     Settled(Session),
-    /// A command was begun, and is to be taken back.
-    Begun(Halfway),
+    /// A stop left a command halfway, which is to be taken back.
+    Halfway(Halfway),
 }
 
 // Opens by a journal of a session that no command has left.
@@ -236,10 +236,10 @@ fn open_settled(
     cursor: usize,
 ) -> Result<Session, (JournalFault, Folder)>
     requires { cursor ≤ length entries.items }
-    ensures opened { IfOk result (λ session. defined.opened_by folder.files
+    ensures opened { IfOk result (λ session. defined.opened_by_part folder.files
         (journal_with fingerprint cursor (entries_of entries.items)) None
         ≡ Ok (defined.Settled (session_of_kept session))) }
-    ensures refused { IfErr result (λ e. (e.0 ≡ Memory) ⊎ (defined.opened_by folder.files
+    ensures refused { IfErr result (λ e. (e.0 ≡ Memory) ⊎ (defined.opened_by_part folder.files
         (journal_with fingerprint cursor (entries_of entries.items)) None ≡ Err e.0)) }
     ensures files { IfErr result (λ e. e.1.files ≡ folder.files) }
 {
@@ -278,18 +278,18 @@ fn open_journal(
             let session = open_settled(alloc, folder, fingerprint, entries, cursor)?;
             Ok(Opened::Settled(session))
         }
-        Some(begun) => {
-            let prints = begun.fingerprints;
-            let found = open_begun(
+        Some(part) => {
+            let prints = part.fingerprints;
+            let found = open_halfway(
                 alloc,
                 folder,
                 fingerprint,
                 &prints,
-                begun.back,
+                part.back,
                 entries,
                 cursor,
             )?;
-            Ok(Opened::Begun(found))
+            Ok(Opened::Halfway(found))
         }
     }
 }

@@ -25,25 +25,25 @@ impl Model for Steps {
     ghost use Rattle.std.specs.Prelude.{List, map};
     ghost use Rattle.std.specs.Coded.{coded_list};
     ghost use Rattle.par2_spec.specs.Texts as defined;
-    ghost use Rattle.par2_spec.specs.SessionCodes.{step_code};
-    ghost use Rattle.par2_journal.specs.Stepped.{stepped};
+    ghost use Rattle.par2_spec.specs.Codes.{step_code};
+    ghost use Rattle.par2_journal.specs.Steps.{step_view};
 
     ghost Value = { List defined.Step };
 
     ghost coded = { coded_list step_code };
 
-    ghost view = { λ a. map stepped a.items.items };
+    ghost view = { λ a. map step_view a.items.items };
 }
 
 impl Step {
     ghost use Rattle.std.specs.Prelude.{◌≡◌};
     ghost use Rattle.par2_spec.specs.Texts.{step_of};
     ghost use Rattle.par2_folder.specs.Views.{change_of};
-    ghost use Rattle.par2_journal.specs.Stepped.{stepped};
+    ghost use Rattle.par2_journal.specs.Steps.{step_view};
 
     // The step of a change.
     fn of(change: &Change) -> Step
-        ensures { stepped result ≡ step_of (change_of change.now) }
+        ensures { step_view result ≡ step_of (change_of change.now) }
     {
         match change {
             Change::Write(name, _) => Step::Write(name.copied()),
@@ -58,7 +58,7 @@ impl Steps {
     ghost use Rattle.std.specs.Prelude.{◌≡◌, map, length, IfOk};
     ghost use Rattle.par2_spec.specs.Texts.{step_of};
     ghost use Rattle.par2_folder.specs.Views.{change_of};
-    ghost use Rattle.par2_journal.specs.Stepped.{stepped};
+    ghost use Rattle.par2_journal.specs.Steps.{step_view};
 
     /// The steps of these changes.
     pub fn of(alloc: Global, changes: &[Change]) -> Result<Steps, AllocError>
@@ -73,7 +73,7 @@ impl Steps {
 
     /// The steps in order.
     pub fn as_slice(&self) -> &[Step]
-        ensures { map stepped result.now ≡ self.now }
+        ensures { map step_view result.now ≡ self.now }
     {
         &self.items
     }

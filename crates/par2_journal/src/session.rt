@@ -28,13 +28,13 @@ pub struct Session {
 
 impl Model for Session {
     ghost use Rattle.par2_spec.specs.Sessions.{KeptSession};
-    ghost use Rattle.par2_spec.specs.SessionCodes.{kept_session_code};
+    ghost use Rattle.par2_spec.specs.Codes.{kept_session_code};
 
     ghost Value = { KeptSession };
 
     ghost coded = { kept_session_code };
 
-    ghost use Rattle.par2_journal.specs.Kept.{kept_session, IsKept};
+    ghost use Rattle.par2_journal.specs.Sessions.{kept_session, IsKept};
 
     ghost view = { kept_session };
 
@@ -50,9 +50,9 @@ impl Session {
     ghost use Rattle.par2_spec.specs.Opening.{settled_journal, journals_of};
     ghost use Rattle.par2_spec.specs.declared.Version.TheVariants.{Two};
     ghost use Rattle.par2_folder.specs.Views.{change_of};
-    ghost use Rattle.par2_journal.specs.Opened.{session_at};
-    ghost use Rattle.par2_journal.specs.Ready.{Fits, IsReady, changes_of, committed, next_of};
-    ghost use Rattle.par2_journal.specs.Written.{AreSpelled};
+    ghost use Rattle.par2_journal.specs.Opening.{session_at};
+    ghost use Rattle.par2_journal.specs.Ready.{Fits, IsReady, changes_by_kind, after_commit, next_of};
+    ghost use Rattle.par2_journal.specs.Spelling.{AreSpelled};
 
     /// The session on this folder, without a history.
     pub fn new(alloc: Global, folder: Folder) -> Session
@@ -190,7 +190,7 @@ impl Session {
     /// What committing does to the folder, in order.
     pub fn changes<'a>(&'a self, prepared: &'a Prepared) -> &'a [Change]
         requires { Fits prepared.now self.now }
-        ensures { map change_of result.now ≡ changes_of prepared.now.kind self.now }
+        ensures { map change_of result.now ≡ changes_by_kind prepared.now.kind self.now }
     {
         match &prepared.task {
             Task::Change(changes) => changes.as_slice(),
@@ -209,7 +209,7 @@ impl Session {
         requires { Fits prepared.old self.old }
         ensures unchanged { self.new ≡ self.old }
         ensures prepared { prepared.new ≡ prepared.old }
-        ensures journals { let changes = changes_of prepared.old.kind self.old in
+        ensures journals { let changes = changes_by_kind prepared.old.kind self.old in
             IfOk result (λ journals. (action : Asked) (before : KeptSession)
             → OnlyGrew before self.old → IsReady action before prepared.old self.old
             → AreSpelled journals (journals_of Two (session_of_kept self.old) action changes)) }
@@ -235,7 +235,7 @@ impl Session {
     /// Does what was prepared, and answers its steps. It takes no memory.
     pub fn commit(&mut self, prepared: Prepared) -> Steps
         requires { Fits prepared self.old }
-        ensures session { self.new ≡ committed prepared.kind self.old }
+        ensures session { self.new ≡ after_commit prepared.kind self.old }
         ensures steps { result ≡ prepared.steps }
     {
         let Prepared { task, steps } = prepared;

@@ -5,12 +5,12 @@ ghost use Rattle.par2_spec.specs.Folders.{fingerprint};
 ghost use Rattle.par2_spec.specs.Journals.{Spells};
 ghost use Rattle.par2_spec.specs.declared.Version.TheVariants.{Two};
 ghost use Rattle.par2_journal_bytes.specs.Fronts.{Begins};
-ghost use Rattle.par2_journal_bytes.specs.Views.{changes_of, lent_entries_of};
-ghost use Rattle.par2_journal.specs.Written.{SpellsWhere, CompletesHalfway, halfway_with, settled_with};
+ghost use Rattle.par2_journal_bytes.specs.Views.{changes_in, lent_entries_of};
+ghost use Rattle.par2_journal.specs.Spelling.{SpellsWhere, CompletesHalfway, halfway_with, settled_with};
 
 use crate::Changes;
 use par2_folder::{Change, Folder, fingerprints_along};
-use par2_journal_bytes::{HalfwayParts, JournalParts, Version, begin, encode, finish};
+use par2_journal_bytes::{HalfwayPartView, JournalView, Version, begin, encode, finish};
 use std::alloc::{AllocError, Global};
 
 // The fingerprints of a folder along some changes.
@@ -35,12 +35,12 @@ impl Fingerprints {
         folder: &Folder,
         changes: &[Change],
     ) -> Result<Fingerprints, AllocError>
-        requires { IsTrue (takes_all folder.now (changes_of changes.now)) }
+        requires { IsTrue (takes_all folder.now (changes_in changes.now)) }
         ensures before { IfOk result (λ prints. prints.before ≡ fingerprint folder.now.files) }
         ensures after_each { IfOk result (λ prints. prints.after_each.items
-            ≡ map fingerprint (folders_after folder.now.files (changes_of changes.now))) }
+            ≡ map fingerprint (folders_after folder.now.files (changes_in changes.now))) }
         ensures after_all { IfOk result (λ prints. prints.after_all
-            ≡ fingerprint (state_after_all folder.now (changes_of changes.now)).files) }
+            ≡ fingerprint (state_after_all folder.now (changes_in changes.now)).files) }
     {
         let mut after_each = fingerprints_along(alloc, folder, changes)?;
         let before = after_each.remove(0);
@@ -60,12 +60,12 @@ pub(crate) fn pass_through(
     folder: &mut Folder,
     changes: &mut [Change],
 ) -> Result<Vec<[u8; 16]>, AllocError>
-    requires { IsTrue (takes_all folder.old (changes_of changes.old)) }
-    ensures folder { folder.new ≡ state_after_all folder.old (changes_of changes.old) }
-    ensures way_back { changes_of changes.new
-        ≡ way_back folder.old.files (changes_of changes.old) }
+    requires { IsTrue (takes_all folder.old (changes_in changes.old)) }
+    ensures folder { folder.new ≡ state_after_all folder.old (changes_in changes.old) }
+    ensures way_back { changes_in changes.new
+        ≡ way_back folder.old.files (changes_in changes.old) }
     ensures fingerprints { IfOk result (λ list. list.items
-        ≡ map fingerprint (folders_after folder.old.files (changes_of changes.old))) }
+        ≡ map fingerprint (folders_after folder.old.files (changes_in changes.old))) }
 {
     let fingerprints = Fingerprints::of(alloc, folder, changes);
     folder.apply_all(changes);
@@ -106,7 +106,7 @@ fn settled(
 {
     encode(
         alloc,
-        &JournalParts {
+        &JournalView {
             version: Version::Two,
             fingerprint,
             cursor,
@@ -153,12 +153,12 @@ fn halfway(
 ) -> Result<Option<Vec<u8>>, AllocError>
     requires { length after_each.now ≡ length back.now }
     ensures { IfOk result (λ text.
-        CompletesHalfway front.items text after_each.now (changes_of back.now)) }
+        CompletesHalfway front.items text after_each.now (changes_in back.now)) }
 {
     if back.is_empty() {
         return Ok(None);
     }
-    let parts = HalfwayParts {
+    let parts = HalfwayPartView {
         fingerprints: after_each,
         back,
     };
@@ -178,7 +178,7 @@ fn both(
     requires cursor { cursor ≤ length entries.now }
     requires each { length fingerprints.now.after_each.items ≡ length back.now }
     ensures halfway { IfOk result (λ journals. CompletesHalfway front.items journals.halfway
-        fingerprints.now.after_each.items (changes_of back.now)) }
+        fingerprints.now.after_each.items (changes_in back.now)) }
     ensures after { IfOk result (λ journals. Spells journals.after.items (settled_with
         fingerprints.now.after_all (lent_entries_of entries.now, cursor))) }
 {
@@ -196,7 +196,7 @@ fn with_command<'a>(
 ) -> Result<Vec<&'a [Change]>, AllocError>
     requires { cursor ≤ length entries.now.now }
     ensures list { IfOk result (λ list. lent_entries_of list.items
-        ≡ take cursor entries.now.now ++ changes_of back.now ∷ []) }
+        ≡ take cursor entries.now.now ++ changes_in back.now ∷ []) }
     ensures count { IfOk result (λ list. length list.items ≡ cursor + 1) }
 {
     let mut list = lent(alloc, entries)?;
@@ -216,9 +216,13 @@ fn spell_made(
     requires cursor { cursor ≤ length entries.now }
     requires each { length fingerprints.now.after_each.items ≡ length back.now }
     ensures halfway { IfOk result (λ journals. CompletesHalfway front.items journals.halfway
-        fingerprints.now.after_each.items (changes_of back.now)) }
+        fingerprints.now.after_each.items (changes_in back.now)) }
     ensures after { IfOk result (λ journals. Spells journals.after.items (settled_with
-        fingerprints.now.after_all (take cursor entries.now ++ changes_of back.now ∷ [], cursor + 1))) }
+        fingerprints.now.after_all (
+          take cursor entries.now ++ changes_in back.now ∷ [],
+          cursor +
+              1,
+        ))) }
 {
     let list = with_command(alloc, &entries, cursor, back)?;
     both(alloc, front, fingerprints, back, &list, cursor + 1)
@@ -253,18 +257,18 @@ pub(crate) fn spell_command(
     folder: &mut Folder,
     changes: &mut [Change],
 ) -> Result<Journals, AllocError>
-    requires applies { IsTrue (takes_all folder.old (changes_of changes.old)) }
+    requires applies { IsTrue (takes_all folder.old (changes_in changes.old)) }
     requires cursor { cursor ≤ length entries.now }
     ensures folder { folder.new ≡ folder.old }
-    ensures changes { changes_of changes.new ≡ changes_of changes.old }
+    ensures changes { changes_in changes.new ≡ changes_in changes.old }
     ensures halfway { IfOk result (λ journals.
         SpellsWhere journals.halfway (halfway_with (fingerprint folder.old.files) cursor entries.now
-        (map fingerprint (folders_after folder.old.files (changes_of changes.old)))
-        (way_back folder.old.files (changes_of changes.old)))) }
+        (map fingerprint (folders_after folder.old.files (changes_in changes.old)))
+        (way_back folder.old.files (changes_in changes.old)))) }
     ensures after { IfOk result (λ journals. Spells journals.after.items (settled_with
-        (fingerprint (state_after_all folder.old (changes_of changes.old)).files) (
+        (fingerprint (state_after_all folder.old (changes_in changes.old)).files) (
           take cursor
-              entries.now ++ way_back folder.old.files (changes_of changes.old) ∷ [],
+              entries.now ++ way_back folder.old.files (changes_in changes.old) ∷ [],
           cursor + 1,
         ))) }
 {
@@ -277,7 +281,7 @@ pub(crate) fn spell_command(
 }
 
 /// The journals of an undo or redo of entry `at`, which is made and turned back, also where memory runs out. `next` is
-/// the cursor afterwards. The halfway journal is begun before the entry is turned, so nothing of it is copied but into
+/// the cursor afterwards. The halfway journal is part before the entry is turned, so nothing of it is copied but into
 /// the journals.
 pub(crate) fn spell_entry(
     alloc: Global,

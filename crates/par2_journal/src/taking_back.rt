@@ -1,4 +1,4 @@
-//! A command that was begun is taken back.
+//! A command that a stop left halfway is taken back.
 ghost use Rattle.std.specs.Prelude.{◌≡◌, ◌≤◌, ◌<◌, ◌⊎◌, ◌&&◌, ◌∷◌, reverse, take, Some, IfSome, IfOk, IfErr, IsTrue, IsFalse, length, position, Ok, Err, None, true};
 ghost use Rattle.std.specs.Str.{bytes_eq};
 ghost use Rattle.par2_spec.specs.Changes.{effects, places_taken, takes_all, state_after_all, way_back};
@@ -9,8 +9,8 @@ ghost use Rattle.par2_spec.specs.Opening as defined;
 ghost use Rattle.par2_spec.specs.Opening.{is_valid, leads_through, settled_journal};
 ghost use Rattle.par2_spec.specs.declared.JournalFault.TheVariants.{JournalInvalid, Memory};
 ghost use Rattle.par2_spec.specs.declared.Version.TheVariants.{Two};
-ghost use Rattle.par2_journal_bytes.specs.Views.{changes_of, entries_of};
-ghost use Rattle.par2_journal.specs.Opened.{session_at, session_before, way_left, begun_as};
+ghost use Rattle.par2_journal_bytes.specs.Views.{changes_in, entries_of};
+ghost use Rattle.par2_journal.specs.Opening.{session_at, session_before, way_left, halfway_as};
 
 use crate::Session;
 use crate::opening::{can_apply, session_from};
@@ -19,7 +19,7 @@ use par2_folder::{Change, Folder, copies_of};
 use par2_spec::JournalFault;
 use std::alloc::{AllocError, Global};
 
-/// A session of which a command was begun, as it was before the command.
+/// A session of which a stop left a command halfway, as it was before the command.
 #[derive(Debug, Drop)]
 pub struct Halfway {
     session: Session,
@@ -29,7 +29,7 @@ pub struct Halfway {
 impl Halfway {
     /// The changes that take the command back, in order.
     pub fn changes(&self) -> &[Change]
-        ensures { changes_of result.now ≡ way_left self.now }
+        ensures { changes_in result.now ≡ way_left self.now }
     {
         self.back.as_slice()
     }
@@ -73,15 +73,15 @@ fn goes_back(
     back: &mut [Change],
     wanted: &[[u8; 16]],
 ) -> Result<bool, AllocError>
-    requires room { places_taken (changes_of back.old) ≤ folder.old.vacant }
+    requires room { places_taken (changes_in back.old) ≤ folder.old.vacant }
     requires each { length wanted.now ≡ length back.old }
     ensures leads { IfOk result (λ leads. leads
-        ≡ leads_through folder.old.files (changes_of back.old) wanted.now) }
-    ensures taken { result ≡ Ok true → IsTrue (takes_all folder.old (changes_of back.old)) }
+        ≡ leads_through folder.old.files (changes_in back.old) wanted.now) }
+    ensures taken { result ≡ Ok true → IsTrue (takes_all folder.old (changes_in back.old)) }
     ensures folder { result ≡ Ok true
-        → folder.new ≡ state_after_all folder.old (changes_of back.old) }
+        → folder.new ≡ state_after_all folder.old (changes_in back.old) }
     ensures way_back { result ≡ Ok true
-        → changes_of back.new ≡ way_back folder.old.files (changes_of back.old) }
+        → changes_in back.new ≡ way_back folder.old.files (changes_in back.old) }
     ensures unchanged { (result ≡ Ok true → ⊥) → folder.new ≡ folder.old }
 {
     if !can_apply(folder, back) {
@@ -114,14 +114,14 @@ fn take_back(
     requires cursor { cursor ≤ length entries.items }
     requires each { length wanted.now ≡ length way.old }
     ensures leads { IfOk result
-        (λ _. IsTrue (leads_through folder.files (changes_of way.old) wanted.now)) }
+        (λ _. IsTrue (leads_through folder.files (changes_in way.old) wanted.now)) }
     ensures valid { IfOk result (λ _. IsTrue (is_valid (session_at
-        (effects folder.files (changes_of way.old)) cursor (entries_of entries.items)))) }
+        (effects folder.files (changes_in way.old)) cursor (entries_of entries.items)))) }
     ensures session { IfOk result (λ session. session_of_kept session ≡ session_at
-        (effects folder.files (changes_of way.old)) cursor (entries_of entries.items)) }
+        (effects folder.files (changes_in way.old)) cursor (entries_of entries.items)) }
     ensures refused { IfErr result (λ e. (e.0 ≡ Memory) ⊎ ((e.0 ≡ JournalInvalid) × IsFalse
-        (leads_through folder.files (changes_of way.old) wanted.now && is_valid (session_at
-        (effects folder.files (changes_of way.old)) cursor (entries_of entries.items))))) }
+        (leads_through folder.files (changes_in way.old) wanted.now && is_valid (session_at
+        (effects folder.files (changes_in way.old)) cursor (entries_of entries.items))))) }
     ensures files { IfErr result (λ e. e.1.files ≡ folder.files) }
 {
     match folder.reserve(way.len()) {
@@ -182,8 +182,8 @@ fn fingerprints_back(
     Ok(Some(known))
 }
 
-// Opens by the journal of a command that was begun.
-pub(crate) fn open_begun(
+// Opens by the journal of a halfway command.
+pub(crate) fn open_halfway(
     alloc: Global,
     folder: Folder,
     first: [u8; 16],
@@ -194,11 +194,11 @@ pub(crate) fn open_begun(
 ) -> Result<Halfway, (JournalFault, Folder)>
     requires cursor { cursor ≤ length entries.items }
     requires each { length others.now ≡ length back.items }
-    ensures opened { IfOk result (λ halfway. begun_as folder.files first cursor
-        (entries_of entries.items) others.now (changes_of back.items)
-        ≡ Ok (defined.ToTakeBack (session_of_kept (session_before halfway)) (way_left halfway))) }
-    ensures refused { IfErr result (λ e. (e.0 ≡ Memory) ⊎ (begun_as folder.files first cursor
-        (entries_of entries.items) others.now (changes_of back.items) ≡ Err e.0)) }
+    ensures opened { IfOk result (λ halfway. halfway_as folder.files first cursor
+        (entries_of entries.items) others.now (changes_in back.items)
+        ≡ Ok (defined.Halfway (session_of_kept (session_before halfway)) (way_left halfway))) }
+    ensures refused { IfErr result (λ e. (e.0 ≡ Memory) ⊎ (halfway_as folder.files first cursor
+        (entries_of entries.items) others.now (changes_in back.items) ≡ Err e.0)) }
     ensures files { IfErr result (λ e. e.1.files ≡ folder.files) }
 {
     let wanted = match fingerprints_back(alloc, &folder, first, others) {

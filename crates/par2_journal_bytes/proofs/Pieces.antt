@@ -7,10 +7,10 @@ use Rattle.std.proofs.lemmas.Bool.{leb-true, le-leb}
 use Rattle.std.proofs.lemmas.Option.{same_Some, cond_some}
 use Rattle.std.proofs.lemmas.List.Concat.{concat_is}
 use Rattle.par2_spec.specs.Names.{is_name}
-use Rattle.par2_spec.specs.Folders.{counted}
+use Rattle.par2_spec.specs.Folders.{behind_length}
 use Rattle.par2_spec.specs.Changes.{Change, Write, Replace, Rename, Remove}
-use Rattle.par2_spec.specs.Journals.{Halfway, IsFileBytes, IsDigest, IsChange, IsEntry, IsHalfway, name_bytes, change_bytes, entry_bytes, halfway_bytes}
-use Rattle.par2_journal_bytes.specs.Reading.{◌>>=◌, checked, block_at, number_at, name_at, counted_at, change_at, many_at, entry_at, halfway_at}
+use Rattle.par2_spec.specs.Journals.{HalfwayPart, IsFileBytes, IsDigest, IsChange, IsEntry, IsHalfwayPart, name_bytes, change_bytes, entry_bytes, halfway_bytes}
+use Rattle.par2_journal_bytes.specs.Reading.{◌>>=◌, some_where, block_at, number_at, name_at, behind_length_at, change_at, many_at, entry_at, halfway_at}
 use Rattle.par2_journal_bytes.proofs.Fields.{IsBytes, bind_some, Took, Took-then, Took-behind, IsRead, block_read, block_again, number_read, number_again, many_read}
 
 abbrev pub IsName : List ℕ → Type 0
@@ -22,7 +22,7 @@ name_takes : (bytes : List ℕ) (x : List ℕ × List ℕ) → IsBytes bytes →
 unfolding name_at
 name_takes [] x fits e = absurd cc
 name_takes (n ∷ bytes) x fits e =
-    let b = bind_some (block_at n bytes) (λ y. checked (is_name y.0) y) x e in
+    let b = bind_some (block_at n bytes) (λ y. some_where (is_name y.0) y) x e in
     let p = cond_some (is_name b.0.0) b.0 x b.2 in
     let t = (block_read n).takes bytes b.0 fits.1 b.1 in
     subst (λ (y : List ℕ × List ℕ). Took (n ∷ bytes) (name_bytes y.0) y.1 × IsName y.0) p.1
@@ -37,8 +37,8 @@ name_read = record { takes = name_takes; again = name_again }
 
 -- ---- bytes behind their number
 
-counted_takes : (bytes : List ℕ) (x : List ℕ × List ℕ) → IsBytes bytes → counted_at bytes ≡ Some x → Took bytes (counted x.0) x.1 × IsFileBytes x.0
-unfolding counted_at
+counted_takes : (bytes : List ℕ) (x : List ℕ × List ℕ) → IsBytes bytes → behind_length_at bytes ≡ Some x → Took bytes (behind_length x.0) x.1 × IsFileBytes x.0
+unfolding behind_length_at
 counted_takes bytes x fits e =
     let b = bind_some (number_at bytes) (λ n. block_at n.0 n.1) x e in
     let t = number_read.takes bytes b.0 fits b.1 in
@@ -46,15 +46,15 @@ counted_takes bytes x fits e =
     let both = Took-then bytes (to_le_bytes w64 b.0.0) b.0.1 x.0 x.1 t.0 u.0 in
     (subst (λ (k : ℕ). Took bytes (to_le_bytes w64 k ++ x.0) x.1) (sym u.1) both, subst (λ (k : ℕ). k < 2 ^ 64) (sym u.1) t.1)
 
-counted_again : (text rest : List ℕ) → IsFileBytes text → counted_at (counted text ++ rest) ≡ Some (text, rest)
-unfolding counted_at
+counted_again : (text rest : List ℕ) → IsFileBytes text → behind_length_at (behind_length text ++ rest) ≡ Some (text, rest)
+unfolding behind_length_at
 counted_again text rest h =
-    let apart : counted text ++ rest ≡ to_le_bytes w64 (length text) ++ (text ++ rest) = append_assoc (to_le_bytes w64 (length text)) text rest in
+    let apart : behind_length text ++ rest ≡ to_le_bytes w64 (length text) ++ (text ++ rest) = append_assoc (to_le_bytes w64 (length text)) text rest in
     ap (λ (s : List ℕ). number_at s >>= λ n. block_at n.0 n.1) apart
     ∙ ap (λ (o : Option (ℕ × List ℕ)). o >>= λ n. block_at n.0 n.1) (number_again (length text) (text ++ rest) h)
     ∙ block_again (length text) text rest refl
 
-counted_read : IsRead counted_at counted IsFileBytes
+counted_read : IsRead behind_length_at behind_length IsFileBytes
 counted_read = record { takes = counted_takes; again = counted_again }
 
 -- ---- two values that follow each other
@@ -86,11 +86,11 @@ unfolding change_at
 change_takes [] x fits e = absurd cc
 change_takes (zero ∷ bytes) x fits e = absurd cc
 change_takes (suc zero ∷ bytes) x fits e =
-    let t = two_take name_at counted_at name_bytes counted IsName IsFileBytes name_read counted_read Write bytes x fits.1 e in
-    subst (λ (c : Change). Took (1 ∷ bytes) (change_bytes c) x.1 × IsChange c) (sym t.2) (Took-behind 1 bytes (name_bytes t.0 ++ counted t.1) x.1 t.3, (t.4, t.5))
+    let t = two_take name_at behind_length_at name_bytes behind_length IsName IsFileBytes name_read counted_read Write bytes x fits.1 e in
+    subst (λ (c : Change). Took (1 ∷ bytes) (change_bytes c) x.1 × IsChange c) (sym t.2) (Took-behind 1 bytes (name_bytes t.0 ++ behind_length t.1) x.1 t.3, (t.4, t.5))
 change_takes (suc (suc zero) ∷ bytes) x fits e =
-    let t = two_take name_at counted_at name_bytes counted IsName IsFileBytes name_read counted_read Replace bytes x fits.1 e in
-    subst (λ (c : Change). Took (2 ∷ bytes) (change_bytes c) x.1 × IsChange c) (sym t.2) (Took-behind 2 bytes (name_bytes t.0 ++ counted t.1) x.1 t.3, (t.4, t.5))
+    let t = two_take name_at behind_length_at name_bytes behind_length IsName IsFileBytes name_read counted_read Replace bytes x fits.1 e in
+    subst (λ (c : Change). Took (2 ∷ bytes) (change_bytes c) x.1 × IsChange c) (sym t.2) (Took-behind 2 bytes (name_bytes t.0 ++ behind_length t.1) x.1 t.3, (t.4, t.5))
 change_takes (suc (suc (suc zero)) ∷ bytes) x fits e =
     let t = two_take name_at name_at name_bytes name_bytes IsName IsName name_read name_read Rename bytes x fits.1 e in
     subst (λ (c : Change). Took (3 ∷ bytes) (change_bytes c) x.1 × IsChange c) (sym t.2) (Took-behind 3 bytes (name_bytes t.0 ++ name_bytes t.1) x.1 t.3, (t.4, t.5))
@@ -102,8 +102,8 @@ change_takes (suc (suc (suc (suc (suc b)))) ∷ bytes) x fits e = absurd cc
 
 change_again : (c : Change) (rest : List ℕ) → IsChange c → change_at (change_bytes c ++ rest) ≡ Some (c, rest)
 unfolding change_at
-change_again (Write name bytes) rest h = two_again name_at counted_at name_bytes counted IsName IsFileBytes name_read counted_read Write name bytes rest h.0 h.1
-change_again (Replace name bytes) rest h = two_again name_at counted_at name_bytes counted IsName IsFileBytes name_read counted_read Replace name bytes rest h.0 h.1
+change_again (Write name bytes) rest h = two_again name_at behind_length_at name_bytes behind_length IsName IsFileBytes name_read counted_read Write name bytes rest h.0 h.1
+change_again (Replace name bytes) rest h = two_again name_at behind_length_at name_bytes behind_length IsName IsFileBytes name_read counted_read Replace name bytes rest h.0 h.1
 change_again (Rename from to) rest h = two_again name_at name_at name_bytes name_bytes IsName IsName name_read name_read Rename from to rest h.0 h.1
 change_again (Remove name) rest h = ap (λ (o : Option (List ℕ × List ℕ)). o >>= λ name. Some (Remove name.0, name.1)) (name_again name rest h)
 
@@ -136,25 +136,25 @@ entry_read = record { takes = entry_takes; again = entry_again }
 abbrev digests_text : List (List ℕ) → List ℕ
 digests_text ps = flat_map (λ (p : List ℕ). p) ps
 
-abbrev halfway_with : ℕ → List (List ℕ) × List ℕ → List Change × List ℕ → Option (Option Halfway × List ℕ)
-halfway_with n prints back = checked (leb 1 n) (Some (record { fingerprints = prints.0; back = back.0 }), back.1)
+abbrev halfway_with : ℕ → List (List ℕ) × List ℕ → List Change × List ℕ → Option (Option HalfwayPart × List ℕ)
+halfway_with n prints back = some_where (leb 1 n) (Some (record { fingerprints = prints.0; back = back.0 }), back.1)
 
-abbrev behind_prints : ℕ → List (List ℕ) × List ℕ → Option (Option Halfway × List ℕ)
+abbrev behind_prints : ℕ → List (List ℕ) × List ℕ → Option (Option HalfwayPart × List ℕ)
 behind_prints n prints = many_at change_at n prints.1 >>= halfway_with n prints
 
-abbrev behind_count : ℕ × List ℕ → Option (Option Halfway × List ℕ)
+abbrev behind_count : ℕ × List ℕ → Option (Option HalfwayPart × List ℕ)
 behind_count n = many_at (block_at 16) n.0 n.1 >>= behind_prints n.0
 
-halfway_takes : (bytes : List ℕ) (x : Option Halfway × List ℕ) → IsBytes bytes → halfway_at bytes ≡ Some x → Took bytes (halfway_bytes x.0) x.1 × IfSome x.0 IsHalfway
+halfway_takes : (bytes : List ℕ) (x : Option HalfwayPart × List ℕ) → IsBytes bytes → halfway_at bytes ≡ Some x → Took bytes (halfway_bytes x.0) x.1 × IfSome x.0 IsHalfwayPart
 unfolding halfway_at
 halfway_takes [] x fits e = absurd cc
 halfway_takes (zero ∷ bytes) x fits e =
-    subst (λ (y : Option Halfway × List ℕ). Took (0 ∷ bytes) (halfway_bytes y.0) y.1 × IfSome y.0 IsHalfway) (same_Some (None, bytes) x e) (record { parts = refl; fits = fits.1 }, tt)
+    subst (λ (y : Option HalfwayPart × List ℕ). Took (0 ∷ bytes) (halfway_bytes y.0) y.1 × IfSome y.0 IsHalfwayPart) (same_Some (None, bytes) x e) (record { parts = refl; fits = fits.1 }, tt)
 halfway_takes (suc zero ∷ bytes) x fits e =
     let a = bind_some (number_at bytes) behind_count x e in
     let b = bind_some (many_at (block_at 16) a.0.0 a.0.1) (behind_prints a.0.0) x a.2 in
     let c = bind_some (many_at change_at a.0.0 b.0.1) (halfway_with a.0.0 b.0) x b.2 in
-    let made : Halfway = record { fingerprints = b.0.0; back = c.0.0 } in
+    let made : HalfwayPart = record { fingerprints = b.0.0; back = c.0.0 } in
     let p = cond_some (leb 1 a.0.0) (Some made, c.0.1) x c.2 in
     let t = number_read.takes bytes a.0 fits.1 a.1 in
     let u = (many_read (block_at 16) (λ (p : List ℕ). p) IsDigest (block_read 16) a.0.0).takes a.0.1 b.0 t.0.fits b.1 in
@@ -163,7 +163,7 @@ halfway_takes (suc zero ∷ bytes) x fits e =
     let both = Took-then bytes (to_le_bytes w64 a.0.0 ++ digests_text b.0.0) b.0.1 (flat_map change_bytes c.0.0) c.0.1 front v.0 in
     let counted_so = subst (λ (k : ℕ). Took bytes (to_le_bytes w64 k ++ digests_text b.0.0 ++ flat_map change_bytes c.0.0) c.0.1) (sym v.1.0) both in
     let joined = subst (λ (s : List ℕ). Took bytes (to_le_bytes w64 (length c.0.0) ++ s ++ flat_map change_bytes c.0.0) c.0.1) (sym (concat_is b.0.0)) counted_so in
-    subst (λ (y : Option Halfway × List ℕ). Took (1 ∷ bytes) (halfway_bytes y.0) y.1 × IfSome y.0 IsHalfway) p.1 (
+    subst (λ (y : Option HalfwayPart × List ℕ). Took (1 ∷ bytes) (halfway_bytes y.0) y.1 × IfSome y.0 IsHalfwayPart) p.1 (
       Took-behind 1 bytes (to_le_bytes w64 (length c.0.0) ++ concat b.0.0 ++ flat_map change_bytes c.0.0) c.0.1 joined,
       record {
         some = subst (λ (k : ℕ). 1 ≤ k) (sym v.1.0) (leb-true 1 a.0.0 p.0);
@@ -174,11 +174,11 @@ halfway_takes (suc zero ∷ bytes) x fits e =
     )
 halfway_takes (suc (suc b) ∷ bytes) x fits e = absurd cc
 
-halfway_again : (o : Option Halfway) (rest : List ℕ) → IfSome o IsHalfway → halfway_at (halfway_bytes o ++ rest) ≡ Some (o, rest)
+halfway_again : (o : Option HalfwayPart) (rest : List ℕ) → IfSome o IsHalfwayPart → halfway_at (halfway_bytes o ++ rest) ≡ Some (o, rest)
 unfolding halfway_at
 halfway_again None rest h = refl
 halfway_again (Some b) rest given =
-    let h : IsHalfway b = given in
+    let h : IsHalfwayPart b = given in
     let n : ℕ = length b.back in
     let ways : List ℕ = flat_map change_bytes b.back in
     let apart : to_le_bytes w64 n ++ concat b.fingerprints ++ ways ++ rest ≡ to_le_bytes w64 n ++ (digests_text b.fingerprints ++ (ways ++ rest)) =
@@ -192,7 +192,7 @@ halfway_again (Some b) rest given =
     ∙ ap (λ (o : Option (ℕ × List ℕ)). o >>= behind_count) (number_again n (digests_text b.fingerprints ++ (ways ++ rest)) h.back.0)
     ∙ ap (λ (o : Option (List (List ℕ) × List ℕ)). o >>= behind_prints n) prints
     ∙ ap (λ (o : Option (List Change × List ℕ)). o >>= halfway_with n (b.fingerprints, ways ++ rest)) back
-    ∙ ap (λ (t : Bool). checked t (Some b, rest)) (le-leb 1 n h.some)
+    ∙ ap (λ (t : Bool). some_where t (Some b, rest)) (le-leb 1 n h.some)
 
-pub halfway_read : IsRead halfway_at halfway_bytes (λ o. IfSome o IsHalfway)
+pub halfway_read : IsRead halfway_at halfway_bytes (λ o. IfSome o IsHalfwayPart)
 halfway_read = record { takes = halfway_takes; again = halfway_again }

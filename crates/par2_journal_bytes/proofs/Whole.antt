@@ -10,10 +10,10 @@ use Rattle.std.proofs.lemmas.Slice.Eq.{bytes_eq-Decides}
 use Rattle.md5.specs.Md5.{md5}
 use Rattle.md5.proofs.StandardFacts.{length-md5}
 use Rattle.par2_spec.specs.Changes.{Change}
-use Rattle.par2_spec.specs.Journals.{Halfway, Journal, IsEntry, IsCursor, IsJournal, Spells, heading, cursor_bytes, entry_bytes, halfway_bytes, journal_bytes, spelling}
+use Rattle.par2_spec.specs.Journals.{HalfwayPart, Journal, IsEntry, IsCursor, IsJournal, Spells, heading, cursor_bytes, entry_bytes, halfway_bytes, journal_bytes, spelling}
 use Rattle.par2_spec.specs.declared.Version.{Version}
 use Rattle.par2_spec.specs.declared.Version.TheVariants.{One, Two}
-use Rattle.par2_journal_bytes.specs.Reading.{◌>>=◌, checked, block_at, number_at, many_at, entry_at, halfway_at, heading_at, cursor_at, cursor_in, parts_at, journal_at}
+use Rattle.par2_journal_bytes.specs.Reading.{◌>>=◌, some_where, block_at, number_at, many_at, entry_at, halfway_at, heading_at, cursor_at, cursor_in, parts_at, journal_at}
 use Rattle.par2_journal_bytes.proofs.Fields.{IsBytes, bind_some, Took, Took-then, block_read, block_again, number_read, number_again, many_read, bytes-take}
 use Rattle.par2_journal_bytes.proofs.Pieces.{entry_read, halfway_read}
 
@@ -79,9 +79,9 @@ at_most Two c n is = is
 
 -- ---- the parts, one after the other
 
-abbrev all_of : Version → List ℕ → ℕ → ℕ → List (List Change) → Option Halfway × List ℕ → Option Journal
+abbrev all_of : Version → List ℕ → ℕ → ℕ → List (List Change) → Option HalfwayPart × List ℕ → Option Journal
 all_of v print c n es b =
-    checked (leb (cursor_in v c n) n && eqb (length b.1) 0) (record { version = v; fingerprint = print; cursor = cursor_in v c n; entries = es; halfway = b.0 })
+    some_where (leb (cursor_in v c n) n && eqb (length b.1) 0) (record { version = v; fingerprint = print; cursor = cursor_in v c n; entries = es; halfway = b.0 })
 
 abbrev after_entries : Version → List ℕ → ℕ → ℕ → List (List Change) × List ℕ → Option Journal
 after_entries v print c n es = halfway_at es.1 >>= all_of v print c n es.0
@@ -154,7 +154,7 @@ parts_again j is =
     let tests : leb (cursor_in v s n) n && eqb 0 0 ≡ true =
     and_from (leb (cursor_in v s n) n) (eqb 0 0) (le-leb (cursor_in v s n) n (subst (λ (k : ℕ). k ≤ n) (sym (stored_back v j.cursor n is.cursor)) (at_most v j.cursor n is.cursor))) refl in
     let last : all_of v j.fingerprint s n j.entries (j.halfway, []) ≡ Some j =
-    ap (λ (t : Bool). checked t (let k : Journal = record { version = v; fingerprint = j.fingerprint; cursor = cursor_in v s n; entries = j.entries; halfway = j.halfway } in k)) tests
+    ap (λ (t : Bool). some_where t (let k : Journal = record { version = v; fingerprint = j.fingerprint; cursor = cursor_in v s n; entries = j.entries; halfway = j.halfway } in k)) tests
     ∙ ap (λ (c : ℕ). let k : Option Journal = Some (record { version = v; fingerprint = j.fingerprint; cursor = c; entries = j.entries; halfway = j.halfway }) in k) (stored_back v j.cursor n is.cursor) in
     ap (λ (t : List ℕ). heading_at t >>= after_heading) (right (heading v) j.fingerprint (cursor_bytes v j.cursor) (to_le_bytes w64 n) es (halfway_bytes j.halfway))
     ∙ ap (λ (o : Option (Version × List ℕ)). o >>= after_heading) (heading_again v (j.fingerprint ++ (cursor_bytes v j.cursor ++ (to_le_bytes w64 n ++ (es ++ end)))))
@@ -162,7 +162,7 @@ parts_again j is =
     ∙ ap (λ (o : Option (ℕ × List ℕ)). o >>= after_cursor v j.fingerprint) (cursor_again v j.cursor n (to_le_bytes w64 n ++ (es ++ end)) is.cursor is.count)
     ∙ ap (λ (o : Option (ℕ × List ℕ)). o >>= after_count v j.fingerprint s) (number_again n (es ++ end) is.count)
     ∙ ap (λ (o : Option (List (List Change) × List ℕ)). o >>= after_entries v j.fingerprint s n) ((many_read entry_at entry_bytes IsEntry entry_read n).again j.entries end (refl, is.entries))
-    ∙ ap (λ (o : Option (Option Halfway × List ℕ)). o >>= all_of v j.fingerprint s n j.entries) (halfway_read.again j.halfway [] is.halfway)
+    ∙ ap (λ (o : Option (Option HalfwayPart × List ℕ)). o >>= all_of v j.fingerprint s n j.entries) (halfway_read.again j.halfway [] is.halfway)
     ∙ last
 
 -- ---- with the digest

@@ -5,7 +5,7 @@ use Rattle.std.specs.Str.{bytes_eq}
 use Rattle.md5.specs.Md5.{md5}
 use Rattle.par2_spec.specs.Names.{is_name}
 use Rattle.par2_spec.specs.Changes.{Change, Write, Replace, Rename, Remove}
-use Rattle.par2_spec.specs.Journals.{Halfway, Journal, heading}
+use Rattle.par2_spec.specs.Journals.{HalfwayPart, Journal, heading}
 use Rattle.par2_spec.specs.declared.Version.{Version}
 use Rattle.par2_spec.specs.declared.Version.TheVariants.{One, Two}
 use Rattle.par2_journal_bytes.specs.declared.fault.DecodeFault.{DecodeFault}
@@ -26,8 +26,8 @@ abbrev pub Gives : {X Y : Type 0} → (X → Y) → Result X DecodeFault → Opt
 Gives view (Ok x) read = read ≡ Some (view x)
 Gives view (Err fault) read = Fails fault read
 
-abbrev pub checked : {A : Type 0} → Bool → A → Option A
-checked test x = if test then Some x else None
+abbrev pub some_where : {A : Type 0} → Bool → A → Option A
+some_where test x = if test then Some x else None
 
 -- as many bytes
 unfoldable pub block_at : ℕ → List ℕ → Option (List ℕ × List ℕ)
@@ -40,11 +40,11 @@ unfoldable pub name_at : List ℕ → Option (List ℕ × List ℕ)
 name_at [] = None
 name_at (n ∷ bytes) = do
   x ← block_at n bytes
-  checked (is_name x.0) x
+  some_where (is_name x.0) x
 
 -- bytes behind their length
-unfoldable pub counted_at : List ℕ → Option (List ℕ × List ℕ)
-counted_at bytes = do
+unfoldable pub behind_length_at : List ℕ → Option (List ℕ × List ℕ)
+behind_length_at bytes = do
   n ← number_at bytes
   block_at n.0 n.1
 
@@ -53,11 +53,11 @@ change_at [] = None
 change_at (zero ∷ bytes) = None
 change_at (suc zero ∷ bytes) = do
   name ← name_at bytes
-  content ← counted_at name.1
+  content ← behind_length_at name.1
   Some (Write name.0 content.0, content.1)
 change_at (suc (suc zero) ∷ bytes) = do
   name ← name_at bytes
-  content ← counted_at name.1
+  content ← behind_length_at name.1
   Some (Replace name.0 content.0, content.1)
 change_at (suc (suc (suc zero)) ∷ bytes) = do
   from ← name_at bytes
@@ -82,14 +82,14 @@ entry_at bytes = do
   n ← number_at bytes
   many_at change_at n.0 n.1
 
-unfoldable pub halfway_at : List ℕ → Option (Option Halfway × List ℕ)
+unfoldable pub halfway_at : List ℕ → Option (Option HalfwayPart × List ℕ)
 halfway_at [] = None
 halfway_at (zero ∷ bytes) = Some (None, bytes)
 halfway_at (suc zero ∷ bytes) = do
   n ← number_at bytes
   prints ← many_at (block_at 16) n.0 n.1
   back ← many_at change_at n.0 prints.1
-  checked (nat_le 1 n.0) (Some (record { fingerprints = prints.0; back = back.0 }), back.1)
+  some_where (nat_le 1 n.0) (Some (record { fingerprints = prints.0; back = back.0 }), back.1)
 halfway_at (suc (suc b) ∷ bytes) = None
 
 unfoldable pub heading_at : List ℕ → Option (Version × List ℕ)
@@ -116,7 +116,7 @@ parts_at bytes = do
   n ← number_at cursor.1
   entries ← many_at entry_at n.0 n.1
   halfway ← halfway_at entries.1
-  checked (nat_le (cursor_in version.0 cursor.0 n.0) n.0 && length halfway.1 == 0)
+  some_where (nat_le (cursor_in version.0 cursor.0 n.0) n.0 && length halfway.1 == 0)
       (record { version = version.0; fingerprint = print.0; cursor = cursor_in version.0 cursor.0 n.0; entries = entries.0; halfway = halfway.0 })
 
 -- the text ends with the digest of all that stands before it

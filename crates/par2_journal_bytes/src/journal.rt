@@ -15,13 +15,13 @@ pub struct Journal {
     pub cursor: usize,
     /// The oldest first.
     pub entries: Vec<Vec<Change>>,
-    /// There where a command was begun.
-    pub halfway: Option<Halfway>,
+    /// There where a command is halfway.
+    pub halfway: Option<HalfwayPart>,
 }
 
-/// A command that was begun.
+/// A command that a stop left halfway.
 #[derive(Debug, Drop)]
-pub struct Halfway {
+pub struct HalfwayPart {
     /// The fingerprint after each change of the command.
     pub fingerprints: Vec<[u8; 16]>,
     /// The changes that take the command back, in order.
@@ -30,17 +30,17 @@ pub struct Halfway {
 
 /// The parts that a journal is written from, as [`Journal`] has them. Nothing of them is copied.
 #[derive(Clone, Copy, Debug, Drop)]
-pub struct JournalParts<'a> {
+pub struct JournalView<'a> {
     pub version: Version,
     pub fingerprint: [u8; 16],
     pub cursor: usize,
     pub entries: &'a [&'a [Change]],
-    pub halfway: Option<HalfwayParts<'a>>,
+    pub halfway: Option<HalfwayPartView<'a>>,
 }
 
-/// The parts of a command that was begun, as [`Halfway`] has them.
+/// The parts of a halfway command, as [`HalfwayPart`] has them.
 #[derive(Clone, Copy, Debug, Drop)]
-pub struct HalfwayParts<'a> {
+pub struct HalfwayPartView<'a> {
     pub fingerprints: &'a [[u8; 16]],
     pub back: &'a [Change],
 }

@@ -9,7 +9,7 @@ mod reading;
 mod writing;
 
 pub use fault::DecodeFault;
-pub use journal::{Halfway, HalfwayParts, Journal, JournalParts};
+pub use journal::{HalfwayPart, HalfwayPartView, Journal, JournalView};
 pub use laws::one_reading;
 pub use par2_spec::Version;
 pub use reading::decode;

@@ -6,12 +6,12 @@ ghost use Rattle.par2_spec.specs.Journals.{Journal as Defined, Spells};
 ghost use Rattle.par2_folder.specs.Views.{change_of};
 ghost use Rattle.par2_journal_bytes.specs.Reading as reads;
 ghost use Rattle.par2_journal_bytes.specs.Reading.{Gives, IsSealed};
-ghost use Rattle.par2_journal_bytes.specs.Views.{changes_of, entries_of, halfway_of, journal_of};
+ghost use Rattle.par2_journal_bytes.specs.Views.{changes_in, entries_of, halfway_of, journal_of};
 ghost use Rattle.par2_journal_bytes.specs.declared.fault.DecodeFault.TheVariants.{JournalInvalid, Memory};
 
 use crate::digest::digest_of;
 use crate::journal::heading;
-use crate::{DecodeFault, Halfway, Journal};
+use crate::{DecodeFault, HalfwayPart, Journal};
 use par2_folder::{Bytes, Change, Name};
 use par2_spec::Version;
 use std::alloc::Global;
@@ -82,9 +82,9 @@ fn read_name(bytes: &[u8]) -> Result<(Name, &[u8]), DecodeFault>
     }
 }
 
-#[tactic(auto, unfolding(crate::specs::Reading::counted_at))]
+#[tactic(auto, unfolding(crate::specs::Reading::behind_length_at))]
 fn read_bytes(alloc: Global, bytes: &[u8]) -> Result<(Bytes, &[u8]), DecodeFault>
-    ensures { Gives (λ x. (x.0, x.1.now)) result (reads.counted_at bytes.now) }
+    ensures { Gives (λ x. (x.0, x.1.now)) result (reads.behind_length_at bytes.now) }
 {
     let (len, rest) = read_number(bytes)?;
     let (content, rest) = read_block(rest, len as usize)?;
@@ -125,7 +125,7 @@ fn read_changes(
     count: u64,
     bytes: &[u8],
 ) -> Result<(Vec<Change>, &[u8]), DecodeFault>
-    ensures { Gives (λ x. (changes_of x.0.items, x.1.now)) result
+    ensures { Gives (λ x. (changes_in x.0.items, x.1.now)) result
         (reads.many_at reads.change_at count bytes.now) }
 {
     let mut changes = Vec::new(alloc);
@@ -140,7 +140,7 @@ fn read_changes(
 
 #[tactic(auto, unfolding(crate::specs::Reading::entry_at))]
 fn read_entry(alloc: Global, bytes: &[u8]) -> Result<(Vec<Change>, &[u8]), DecodeFault>
-    ensures { Gives (λ x. (changes_of x.0.items, x.1.now)) result (reads.entry_at bytes.now) }
+    ensures { Gives (λ x. (changes_in x.0.items, x.1.now)) result (reads.entry_at bytes.now) }
 {
     let (count, rest) = read_number(bytes)?;
     read_changes(alloc, count, rest)
@@ -185,7 +185,7 @@ fn read_digests(
 }
 
 #[tactic(auto, unfolding(crate::specs::Reading::halfway_at))]
-fn read_halfway(alloc: Global, bytes: &[u8]) -> Result<(Option<Halfway>, &[u8]), DecodeFault>
+fn read_halfway(alloc: Global, bytes: &[u8]) -> Result<(Option<HalfwayPart>, &[u8]), DecodeFault>
     ensures { Gives (λ x. (halfway_of x.0, x.1.now)) result (reads.halfway_at bytes.now) }
 {
     match bytes {
@@ -197,7 +197,7 @@ fn read_halfway(alloc: Global, bytes: &[u8]) -> Result<(Option<Halfway>, &[u8]),
             if count == 0 {
                 return Err(DecodeFault::JournalInvalid);
             }
-            Ok((Some(Halfway { fingerprints, back }), rest))
+            Ok((Some(HalfwayPart { fingerprints, back }), rest))
         }
         _ => Err(DecodeFault::JournalInvalid),
     }

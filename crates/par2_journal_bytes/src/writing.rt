@@ -3,15 +3,15 @@ ghost use Rattle.std.specs.Prelude.{◌≡◌, ◌≤◌, ◌++◌, length, flat
 ghost use Rattle.std.specs.Int.{w64, to_le_bytes};
 ghost use Rattle.std.specs.List.{concat, AllByRecursion};
 ghost use Rattle.par2_spec.specs.Names.{is_name};
-ghost use Rattle.par2_spec.specs.Folders.{counted};
+ghost use Rattle.par2_spec.specs.Folders.{behind_length};
 ghost use Rattle.par2_spec.specs.Journals as journals;
 ghost use Rattle.par2_folder.specs.Views.{change_of};
 ghost use Rattle.par2_journal_bytes.specs.Fronts.{Begins, Finishes};
-ghost use Rattle.par2_journal_bytes.specs.Views.{changes_of, lent_entries_of, halfway_from, journal_from};
+ghost use Rattle.par2_journal_bytes.specs.Views.{changes_in, lent_entries_of, halfway_from, journal_from};
 
 use crate::digest::digest_of;
 use crate::journal::heading;
-use crate::{HalfwayParts, JournalParts};
+use crate::{HalfwayPartView, JournalView};
 use par2_folder::{Bytes, Change, Name};
 use par2_spec::Version;
 use std::alloc::{AllocError, Global};
@@ -32,7 +32,7 @@ fn append_name(out: &mut Vec<u8>, name: &Name) -> Result<(), AllocError>
 }
 
 fn append_bytes(out: &mut Vec<u8>, bytes: &Bytes) -> Result<(), AllocError>
-    ensures bytes { OnOk result (out.new.items ≡ out.old.items ++ counted bytes.now) }
+    ensures bytes { OnOk result (out.new.items ≡ out.old.items ++ behind_length bytes.now) }
     ensures fits { journals.IsFileBytes bytes.now }
 {
     let content = bytes.as_slice();
@@ -70,8 +70,8 @@ fn append_change(out: &mut Vec<u8>, change: &Change) -> Result<(), AllocError>
 
 fn append_changes(out: &mut Vec<u8>, changes: &[Change]) -> Result<(), AllocError>
     ensures bytes { OnOk result (out.new.items
-        ≡ out.old.items ++ flat_map journals.change_bytes (changes_of changes.now)) }
-    ensures changes { OnOk result (journals.IsEntry (changes_of changes.now)) }
+        ≡ out.old.items ++ flat_map journals.change_bytes (changes_in changes.now)) }
+    ensures changes { OnOk result (journals.IsEntry (changes_in changes.now)) }
 {
     for change in changes {
         append_change(out, change)?;
@@ -81,8 +81,8 @@ fn append_changes(out: &mut Vec<u8>, changes: &[Change]) -> Result<(), AllocErro
 
 fn append_entry(out: &mut Vec<u8>, entry: &[Change]) -> Result<(), AllocError>
     ensures bytes { OnOk result (out.new.items
-        ≡ out.old.items ++ journals.entry_bytes (changes_of entry.now)) }
-    ensures entry { OnOk result (journals.IsEntry (changes_of entry.now)) }
+        ≡ out.old.items ++ journals.entry_bytes (changes_in entry.now)) }
+    ensures entry { OnOk result (journals.IsEntry (changes_in entry.now)) }
 {
     append_number(out, entry.len() as u64)?;
     append_changes(out, entry)
@@ -116,12 +116,15 @@ fn append_digests(out: &mut Vec<u8>, digests: &[[u8; 16]]) -> Result<(), AllocEr
     Ok(())
 }
 
-fn append_halfway(out: &mut Vec<u8>, halfway: &Option<HalfwayParts<'_>>) -> Result<(), AllocError>
+fn append_halfway(
+    out: &mut Vec<u8>,
+    halfway: &Option<HalfwayPartView<'_>>,
+) -> Result<(), AllocError>
     requires some { IfSome halfway.now (λ h. 1 ≤ length h.back.now) }
     requires each { IfSome halfway.now (λ h. length h.fingerprints.now ≡ length h.back.now) }
     ensures bytes { OnOk result (out.new.items
         ≡ out.old.items ++ journals.halfway_bytes (halfway_from halfway.now)) }
-    ensures halfway { OnOk result (IfSome (halfway_from halfway.now) journals.IsHalfway) }
+    ensures halfway { OnOk result (IfSome (halfway_from halfway.now) journals.IsHalfwayPart) }
 {
     match halfway {
         None => {
@@ -171,7 +174,7 @@ pub fn begin(
 
 /// The bytes of a journal that was begun, with its halfway part.
 #[tactic(auto, unfolding(par2_spec::specs::Journals::spelling, par2_spec::specs::Journals::journal_bytes, crate::specs::Fronts::front_bytes))]
-pub fn finish(front: Vec<u8>, halfway: &Option<HalfwayParts<'_>>) -> Result<Vec<u8>, AllocError>
+pub fn finish(front: Vec<u8>, halfway: &Option<HalfwayPartView<'_>>) -> Result<Vec<u8>, AllocError>
     requires some { IfSome halfway.now (λ h. 1 ≤ length h.back.now) }
     requires each { IfSome halfway.now (λ h. length h.fingerprints.now ≡ length h.back.now) }
     ensures { IfOk result (λ bytes. Finishes front.items (halfway_from halfway.now) bytes.items) }
@@ -184,7 +187,7 @@ pub fn finish(front: Vec<u8>, halfway: &Option<HalfwayParts<'_>>) -> Result<Vec<
 }
 
 /// The bytes of the journal with these parts.
-pub fn encode(alloc: Global, parts: &JournalParts<'_>) -> Result<Vec<u8>, AllocError>
+pub fn encode(alloc: Global, parts: &JournalView<'_>) -> Result<Vec<u8>, AllocError>
     requires cursor { journals.IsCursor parts.now.version parts.now.cursor
         (length parts.now.entries.now) }
     requires some { IfSome parts.now.halfway (λ h. 1 ≤ length h.back.now) }

@@ -4,10 +4,9 @@ use Rattle.std.specs.Prelude.{bit_xor, fold}
 use Rattle.std.specs.List.{AllByRecursion, range_with_len}
 use Rattle.std.proofs.lemmas.Nat.{xor_lt}
 use Rattle.md5.proofs.StandardFacts.{length-md5}
-use Rattle.par2_spec.specs.Checksums.{crc_step, crc_steps, crc_byte, crc32, pair_of}
+use Rattle.par2_spec.specs.Checksums.{crc_step, crc_steps, crc_byte, crc32, pair_of, IsPair}
 use Rattle.par2_spec.specs.Slices.{slice_at, slice_count, slices}
 use Rattle.par2_spec.specs.Rank.{AreBytes}
-use Rattle.par2_spec.specs.Packing.{IsPair}
 
 -- ---- checksums
 

@@ -15,8 +15,7 @@ use Rattle.par2_spec.specs.Slices.{slice_count, slice_at, slices}
 use Rattle.par2_spec.specs.Names.{is_name}
 use Rattle.par2_spec.specs.Rank.{AreBytes}
 use Rattle.par2_spec.specs.Folders.{File}
-use Rattle.par2_spec.specs.Packing.{IsFileRecord}
-use Rattle.par2_spec.specs.Volumes.{record_of, id_of}
+use Rattle.par2_spec.specs.Volumes.{IsFileRecord, record_of, id_of}
 use Rattle.par2_spec.specs.Sets.{is_slice_size}
 use Rattle.par2_origins.specs.Packets.{AreDescribed}
 use Rattle.par2_origins.specs.Volumes.{AreInputs}

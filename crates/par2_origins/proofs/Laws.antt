@@ -11,13 +11,12 @@ use Rattle.par2_spec.specs.Folders.{Folder, File}
 use Rattle.par2_spec.specs.Rank.{is_repairable, IsRepairable, AreBytes, AnotherAgrees}
 use Rattle.par2_spec.specs.Sets.{MadeFrom}
 use Rattle.par2_spec.specs.Search.{candidates, known, NoCollision}
-use Rattle.par2_spec.specs.Repairs.{rebuilt_targets, after_repair, after_repair_and_purge}
+use Rattle.par2_spec.specs.Repairs.{rebuilt_targets, after_repair, after_repair_and_purge, Restores}
 use Rattle.par2_spec.specs.Commands.{Repair}
 use Rattle.par2_spec.specs.Refusals.{refusal}
 use Rattle.par2_spec.specs.declared.Fault.TheVariants.{NotRepairable}
-use Rattle.par2_spec.specs.Rules.{Restores}
-use Rattle.par2_spec.specs.Packing.{IsPair, IsFileRecord}
-use Rattle.par2_spec.specs.Volumes.{FileRecord, all_slices, in_id_order, index_packets, recovery_packets, main_bytes, desc_bytes, ifsc_bytes, recovery_bytes}
+use Rattle.par2_spec.specs.Checksums.{IsPair}
+use Rattle.par2_spec.specs.Volumes.{IsFileRecord, FileRecord, all_slices, in_id_order, index_packets, recovery_packets, main_bytes, desc_bytes, ifsc_bytes, recovery_bytes}
 
 -- bodies that were written say what was given
 pub record AreRead : Type 0 where

@@ -18,12 +18,11 @@ use Rattle.par2_spec.specs.Rank.{AreBytes, is_repairable, rank, IsRepairable}
 use Rattle.par2_spec.specs.Names.{distinct}
 use Rattle.par2_spec.specs.Folders.{Folder, File, has, bytes_of, names}
 use Rattle.par2_spec.specs.Volumes.{record_of, all_slices, in_id_order}
-use Rattle.par2_spec.specs.Sets.{ParSet, MadeFrom, set_of, target_of_file}
+use Rattle.par2_spec.specs.Sets.{ParSet, MadeFrom, set_of, target_of_file, target_names}
 use Rattle.par2_spec.specs.Search.{candidates, known, lost, survivors, NoCollision}
-use Rattle.par2_spec.specs.Repairs.{aside, put_aside, rebuilt_targets, after_repair, after_repair_and_purge}
+use Rattle.par2_spec.specs.Repairs.{aside, put_aside, rebuilt_targets, after_repair, after_repair_and_purge, AreFew}
 use Rattle.par2_spec.specs.Commands.{CreateArgs, Repair, files_of}
 use Rattle.par2_spec.specs.Refusals.{refusal, after, set_in, by_set, repair_refusal}
-use Rattle.par2_spec.specs.Rules.{AreFew, target_names}
 use Rattle.par2_origins.specs.Creates.{FollowsCreate, may_refuse, HaveAChoice}
 use Rattle.par2_origins.proofs.Laws.{AreRepaired, OthersAgree}
 use Rattle.par2_origins.proofs.Said.{all-append, all_of_each, same_some}

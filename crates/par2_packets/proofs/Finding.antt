@@ -8,7 +8,7 @@ use Rattle.std.proofs.lemmas.Slice.Eq.{bytes_eq-Decides}
 use Rattle.md5.specs.Md5.{md5}
 use Rattle.memchr.specs.Find.{OccursAt, NoneBefore, Nowhere}
 use Rattle.memchr.proofs.lemmas.MatchLemmas.{OccursAt-from_part}
-use Rattle.par2_spec.specs.Packets.{Packet, bytes_at, magic, claimed, begins_with_packet, first_packet, accepted, accepted_after}
+use Rattle.par2_spec.specs.Packets.{Packet, bytes_at, magic, claimed_length, begins_with_packet, first_packet, accepted, accepted_after}
 use Rattle.par2_spec.proofs.AcceptedLaws.{accepted-none}
 use Rattle.par2_spec.proofs.WrittenPackets.{in_front}
 
@@ -20,27 +20,27 @@ fourth_and_fifth a b c d e f h =
     let y = and_parts (a && b && c && d) e x.0 in
     ((and_parts (a && b && c) d y.0).1, y.1)
 
-pub claim_bounds : (text : List ℕ) → begins_with_packet text ≡ true → (64 ≤ claimed text) × (claimed text ≤ length text)
+pub claim_bounds : (text : List ℕ) → begins_with_packet text ≡ true → (64 ≤ claimed_length text) × (claimed_length text ≤ length text)
 unfolding begins_with_packet
 claim_bounds text h =
-    let p = fourth_and_fifth (leb 64 (length text)) (bytes_eq (bytes_at 0 8 text) magic) (eqb (claimed text % 4) 0) (leb 64 (claimed text)) (leb (claimed text) (length text))
-    (bytes_eq (md5 (bytes_at 32 (claimed text - 32) text)) (bytes_at 16 16 text)) h in
-    (leb-true 64 (claimed text) p.0, leb-true (claimed text) (length text) p.1)
+    let p = fourth_and_fifth (leb 64 (length text)) (bytes_eq (bytes_at 0 8 text) magic) (eqb (claimed_length text % 4) 0) (leb 64 (claimed_length text)) (leb (claimed_length text) (length text))
+    (bytes_eq (md5 (bytes_at 32 (claimed_length text - 32) text)) (bytes_at 16 16 text)) h in
+    (leb-true 64 (claimed_length text) p.0, leb-true (claimed_length text) (length text) p.1)
 
-pub body_length : (text : List ℕ) (p : Packet) → begins_with_packet text ≡ true → p ≡ first_packet text → 64 + length p.body ≡ claimed text
+pub body_length : (text : List ℕ) (p : Packet) → begins_with_packet text ≡ true → p ≡ first_packet text → 64 + length p.body ≡ claimed_length text
 unfolding first_packet
 body_length text p h e =
     let b = claim_bounds text h in
-    let same : length p.body ≡ length (bytes_at 64 (claimed text - 64) text) = ap (λ (q : Packet). length q.body) e in
-    let room : claimed text - 64 ≤ length (drop 64 text) = omega (arith, length-drop 64 text, b.0, b.1) in
-    let size : length (bytes_at 64 (claimed text - 64) text) ≡ claimed text - 64 = length-take-le (claimed text - 64) (drop 64 text) room in
+    let same : length p.body ≡ length (bytes_at 64 (claimed_length text - 64) text) = ap (λ (q : Packet). length q.body) e in
+    let room : claimed_length text - 64 ≤ length (drop 64 text) = omega (arith, length-drop 64 text, b.0, b.1) in
+    let size : length (bytes_at 64 (claimed_length text - 64) text) ≡ claimed_length text - 64 = length-take-le (claimed_length text - 64) (drop 64 text) room in
     omega (arith, same, size, b.0)
 
 pub found : (text : List ℕ) (p : Packet) (after : List ℕ) → begins_with_packet text ≡ true → p ≡ first_packet text → after ≡ drop (64 + length p.body) text → accepted text ≡ p ∷ accepted after
 found text p after h e a =
     let b = claim_bounds text h in
-    let rest : drop (claimed text) text ≡ after = ap (λ (n : ℕ). drop n text) (sym (body_length text p h e)) ∙ sym a in
-    in_front text h ∙ ap (λ (q : Packet). q ∷ accepted (drop (claimed text) text)) (sym e) ∙ ap (λ (t : List ℕ). p ∷ accepted t) rest
+    let rest : drop (claimed_length text) text ≡ after = ap (λ (n : ℕ). drop n text) (sym (body_length text p h e)) ∙ sym a in
+    in_front text h ∙ ap (λ (q : Packet). q ∷ accepted (drop (claimed_length text) text)) (sym e) ∙ ap (λ (t : List ℕ). p ∷ accepted t) rest
 
 -- ---- where none does
 
@@ -61,8 +61,8 @@ magic_there : (text : List ℕ) (k : ℕ) → begins_with_packet (drop k text) �
 unfolding begins_with_packet
 magic_there text k h =
     let here : List ℕ = drop k text in
-    let parts = first_and_second (leb 64 (length here)) (bytes_eq (bytes_at 0 8 here) magic) (eqb (claimed here % 4) 0) (leb 64 (claimed here)) (leb (claimed here) (length here))
-    (bytes_eq (md5 (bytes_at 32 (claimed here - 32) here)) (bytes_at 16 16 here)) h in
+    let parts = first_and_second (leb 64 (length here)) (bytes_eq (bytes_at 0 8 here) magic) (eqb (claimed_length here % 4) 0) (leb 64 (claimed_length here)) (leb (claimed_length here) (length here))
+    (bytes_eq (md5 (bytes_at 32 (claimed_length here - 32) here)) (bytes_at 16 16 here)) h in
     let long : 64 ≤ length here = leb-true 64 (length here) parts.0 in
     OccursAt-from_part text magic k (omega (arith, long, length-drop k text)) ((bytes_eq-Decides (bytes_at 0 8 here) magic).0 parts.1)
 

@@ -1,6 +1,6 @@
 -- What a body says that is long enough for it.
 use Rattle.std.specs.Prelude.{ℕ, ◌-◌, ◌/◌, List, length, take, drop, map}
-use Rattle.par2_spec.specs.Packets.{MainBody, DescBody, IfscBody, RecoveryBody, bytes_at, u32_at, u64_at, items_at, stripped}
+use Rattle.par2_spec.specs.Packets.{MainBody, DescBody, IfscBody, RecoveryBody, bytes_at, u32_at, u64_at, items_at, without_end_zeros}
 
 abbrev pub main_said : List ℕ → MainBody
 main_said body = record { slice_size = u64_at 0 body; ids = items_at 12 16 (u32_at 8 body) body }
@@ -11,7 +11,7 @@ desc_said body = record {
   digest = bytes_at 16 16 body;
   digest_16k = bytes_at 32 16 body;
   size = u64_at 48 body;
-  name = stripped (drop 56 body);
+  name = without_end_zeros (drop 56 body);
 }
 
 abbrev pub ifsc_said : List ℕ → IfscBody

@@ -3,7 +3,7 @@
 ghost use Rattle.std.specs.Prelude.{◌≡◌, ◌≤◌, ◌+◌, ◌-◌, ◌%◌, ◌++◌, length, map, flat_map, OnOk, OnErr, IfOk};
 ghost use Rattle.par2_spec.specs.Packets.{packet};
 ghost use Rattle.par2_spec.specs.Volumes.{packet_of, main_id, main_bytes, desc_bytes, ifsc_bytes, creator_bytes, recovery_bytes, padded_4};
-ghost use Rattle.par2_packets.specs.View.{file_record_of};
+ghost use Rattle.par2_packets.specs.Views.{file_record_of};
 
 use crate::bytes::{u32_bytes, u64_bytes};
 use crate::kind::type_of;
@@ -74,9 +74,9 @@ fn desc_body(alloc: Global, file: &FileRecord) -> Result<Vec<u8>, AllocError>
     ensures { IfOk result (λ body. body.items ≡ desc_bytes (file_record_of file.now)) }
 {
     let mut body = Vec::from_slice(alloc, &file.id)?;
-    body.extend_from_slice(&file.md5)?;
-    body.extend_from_slice(&file.md5_16k)?;
-    body.extend_from_slice(&u64_bytes(file.length))?;
+    body.extend_from_slice(&file.digest)?;
+    body.extend_from_slice(&file.digest_16k)?;
+    body.extend_from_slice(&u64_bytes(file.size))?;
     append_padded(&mut body, file.name.as_bytes())?;
     Ok(body)
 }

@@ -5,7 +5,7 @@ ghost use Rattle.std.specs.Int.{w128, from_le_bytes};
 ghost use Rattle.std.specs.List.{IsDistinct};
 ghost use Rattle.std.specs.List.Sorted.{IsStrictlyIncreasing};
 ghost use Rattle.std.specs.Str.{bytes_eq};
-ghost use Rattle.par2_packets.specs.View.{id_number};
+ghost use Rattle.par2_packets.specs.Views.{id_number};
 
 use crate::record::FileRecord;
 use byteorder::{ByteOrder, LittleEndian};

@@ -5,7 +5,7 @@ ghost use Rattle.std.specs.Iterator.{YieldsFirstBy, item_count};
 ghost use Rattle.std.specs.Str.{bytes_eq};
 ghost use Rattle.md5.specs.Md5.{md5};
 ghost use Rattle.par2_spec.specs.Packets as packets;
-ghost use Rattle.par2_packets.specs.View.{packet_of, packets_of};
+ghost use Rattle.par2_packets.specs.Views.{packet_of, packets_of};
 
 use crate::bytes::{block, u64_at};
 use crate::kind::kind_of;
@@ -31,7 +31,7 @@ fn digest_of(bytes: &[u8]) -> [u8; 16]
 // The length that the text claims for the packet at its front.
 fn claimed(text: &[u8]) -> u64
     requires { 16 ≤ length text.now }
-    ensures { result ≡ packets.claimed text.now }
+    ensures { result ≡ packets.claimed_length text.now }
 {
     u64_at(text, 8)
 }
@@ -70,8 +70,8 @@ fn begins_with_packet(text: &[u8]) -> bool
 // The packet at the front of the text.
 #[tactic(auto, unfolding(par2_spec::specs::Packets::first_packet))]
 fn first_packet(text: &[u8]) -> Packet<'_>
-    requires low { 64 ≤ packets.claimed text.now }
-    requires high { packets.claimed text.now ≤ length text.now }
+    requires low { 64 ≤ packets.claimed_length text.now }
+    requires high { packets.claimed_length text.now ≤ length text.now }
     ensures { packet_of result ≡ packets.first_packet text.now }
 {
     let claim = claimed(text) as usize;

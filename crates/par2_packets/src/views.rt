@@ -78,21 +78,21 @@ impl<'a> DescView<'a> {
     }
 
     /// The MD5 of the file.
-    pub fn md5(&self) -> [u8; 16]
+    pub fn digest(&self) -> [u8; 16]
         ensures { result ≡ self.now.digest }
     {
         block(self.body, 16)
     }
 
     /// The MD5 of its first 16,384 bytes, or of all where it is shorter.
-    pub fn md5_16k(&self) -> [u8; 16]
+    pub fn digest_16k(&self) -> [u8; 16]
         ensures { result ≡ self.now.digest_16k }
     {
         block(self.body, 32)
     }
 
     /// How many bytes the file has.
-    pub fn length(&self) -> u64
+    pub fn size(&self) -> u64
         ensures { result ≡ self.now.size }
     {
         u64_at(self.body, 48)
@@ -187,7 +187,7 @@ impl<'a> RecoveryView<'a> {
 
 // The bytes without the zeros at their end.
 fn stripped(bytes: &[u8]) -> &[u8]
-    ensures { result.now ≡ packets.stripped bytes.now }
+    ensures { result.now ≡ packets.without_end_zeros bytes.now }
 {
     let mut len = bytes.len();
     while len > 0 && bytes[len - 1] == 0 {

@@ -13,15 +13,15 @@ use Rattle.par2_spec.specs.Sets.{Target}
 use Rattle.par2_spec.proofs.NamesLaws.{among-append, AreDistinct, among-filter, distinct-filter}
 use Rattle.par2_search.specs.Matching.{Describe, Describes}
 use Rattle.par2_search.specs.declared.matching.Target as search
-use Rattle.par2_plan.specs.Matches.{chosen, passed_over, name_cmp, HoldsNames}
+use Rattle.par2_plan.specs.Matches.{items_where, passed_over, name_cmp, HoldsNames}
 
 -- ---- by flags
 
-pub chosen-map : {A : Type 0} (p : A → Bool) (xs : List A) → chosen (map p xs) xs ≡ filter p xs
+pub chosen-map : {A : Type 0} (p : A → Bool) (xs : List A) → items_where (map p xs) xs ≡ filter p xs
 chosen-map p [] = refl
 chosen-map {A} p (x ∷ xs) = step (p x) (chosen-map p xs)
   where
-    step : (b : Bool) → chosen (map p xs) xs ≡ filter p xs → chosen (b ∷ map p xs) (x ∷ xs) ≡ cond b (x ∷ filter p xs) (filter p xs)
+    step : (b : Bool) → items_where (map p xs) xs ≡ filter p xs → items_where (b ∷ map p xs) (x ∷ xs) ≡ cond b (x ∷ filter p xs) (filter p xs)
     step true h = ap (λ ys. x ∷ ys) h
     step false h = h
 
@@ -41,7 +41,7 @@ filter-map p g (x ∷ xs) = step (p (g x)) (filter-map p g xs)
     step true h = ap (λ ys. g x ∷ ys) h
     step false h = h
 
-pub chosen_end : {A : Type 0} (flags : List Bool) (xs : List A) → (xs ≡ []) ⊎ (flags ≡ []) → chosen flags xs ≡ []
+pub chosen_end : {A : Type 0} (flags : List Bool) (xs : List A) → (xs ≡ []) ⊎ (flags ≡ []) → items_where flags xs ≡ []
 chosen_end [] xs h = refl
 chosen_end (b ∷ flags) [] h = refl
 chosen_end (b ∷ flags) (x ∷ xs) (inl h) = absurd (let no : ⊥ = cc in no)

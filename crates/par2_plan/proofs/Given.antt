@@ -11,7 +11,7 @@ use Rattle.par2_spec.specs.Search.{is_intact, is_needing, needing, intact_names,
 use Rattle.par2_spec.proofs.FoundLaws.{all-filter}
 use Rattle.par2_spec.proofs.NamesLaws.{distinct_from_std, std_from_distinct, distinct-filter}
 use Rattle.par2_search.specs.Matching.{text_at, first_intact, without, matched_from, matched_numbers, NumbersAreNames}
-use Rattle.par2_plan.specs.Matches.{ArePlaces, chosen, intact_by}
+use Rattle.par2_plan.specs.Matches.{ArePlaces, items_where, intact_by}
 use Rattle.par2_plan.specs.Findings.{needs, matches_given}
 use Rattle.par2_plan.proofs.Choices.{chosen-map, passed_over-map}
 
@@ -53,7 +53,7 @@ module _ (folder : Folder) (set : ParSet) (searched : List (List ℕ)) where
   abbrev pub free_by : List (List ℕ)
   free_by = filter (λ name. not (is_among (intact_by (needs folder set) set.targets) name)) searched
 
-  pub chosen_needing : chosen (needs folder set) set.targets ≡ needing folder set
+  pub chosen_needing : items_where (needs folder set) set.targets ≡ needing folder set
   chosen_needing = chosen-map (is_needing folder set) set.targets
 
   pub given_by_names : matches_given folder set searched ≡ matched folder set.slice_size free_by (needing folder set)

@@ -13,10 +13,10 @@ use Rattle.par2_spec.specs.Volumes.{FileRecord, id_of, record_of}
 use Rattle.par2_spec.specs.declared.Fault.TheVariants.{DuplicateId}
 use Rattle.par2_spec.proofs.NamesLaws.{AreDistinct, distinct_from_std, std_from_distinct}
 use Rattle.par2_spec.proofs.ReadLaws.{distinct_by_length}
-use Rattle.par2_packets.specs.View.{file_record_of}
+use Rattle.par2_packets.specs.Views.{file_record_of}
 use Rattle.par2_packets.specs.declared.record.FileRecord as packets
 use Rattle.par2_recovery.specs.Views.{AreRecords}
-use Rattle.par2_plan.specs.Causes.{ids_fault}
+use Rattle.par2_plan.specs.Faults.{ids_fault}
 
 all_kept : (x : List ℕ) (xs : List (List ℕ)) → is_among xs x ≡ false → filter (λ other. not (bytes_eq x other)) xs ≡ xs
 all_kept x [] h = refl

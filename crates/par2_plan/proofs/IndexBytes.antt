@@ -8,7 +8,7 @@ use Rattle.par2_spec.specs.Packets.{packet}
 use Rattle.par2_spec.specs.Volumes.{packet_of, index_packets, main_id, main_bytes, desc_bytes, ifsc_bytes, creator_bytes}
 use Rattle.par2_spec.specs.Volumes as volumes
 use Rattle.par2_spec.specs.declared.Kind.TheVariants.{Main, FileDesc, Ifsc, Creator}
-use Rattle.par2_packets.specs.View.{file_record_of}
+use Rattle.par2_packets.specs.Views.{file_record_of}
 use Rattle.par2_packets.specs.declared.record.FileRecord.{FileRecord}
 
 -- a packet, packets made of items twice over, and a last packet

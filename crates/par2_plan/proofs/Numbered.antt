@@ -14,7 +14,7 @@ use Rattle.par2_spec.specs.declared.Fault.TheVariants.{NameTooLong}
 use Rattle.par2_spec.proofs.AsideNames.{name_is_short}
 use Rattle.par2_spec.proofs.ListsLaws.{any-map}
 use Rattle.par2_plan.specs.declared.names.Volume.{Volume}
-use Rattle.par2_plan.specs.Causes.{long_name}
+use Rattle.par2_plan.specs.Faults.{long_name}
 use Rattle.par2_plan.specs.Outputs.{AreRising, volume_at, volume_if, volumes_of, names_of}
 
 -- those with numbers below n

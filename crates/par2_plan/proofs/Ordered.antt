@@ -8,13 +8,13 @@ use Rattle.std.proofs.lemmas.List.Sums.{sum_by-cons}
 use Rattle.std.proofs.lemmas.List.FromFn.{length-map-range_with_len}
 use Rattle.par2_spec.specs.Slices.{slice_count, slice_at, slices}
 use Rattle.par2_spec.specs.Folders.{File}
-use Rattle.par2_spec.specs.Volumes.{id_number, inserted, in_id_order, all_slices}
+use Rattle.par2_spec.specs.Volumes.{id_number, insert_by_id, in_id_order, all_slices}
 
-all_inserted : (P : File → Type 0) (file : File) (files : List File) → P file → AllByRecursion P files → AllByRecursion P (inserted file files)
+all_inserted : (P : File → Type 0) (file : File) (files : List File) → P file → AllByRecursion P files → AllByRecursion P (insert_by_id file files)
 all_inserted P file [] h k = (h, tt)
 all_inserted P file (next ∷ files) h k = step (nat_le (id_number file) (id_number next)) (all_inserted P file files h k.1)
   where
-    step : (b : Bool) → AllByRecursion P (inserted file files) → AllByRecursion P (if b then file ∷ next ∷ files else next ∷ inserted file files)
+    step : (b : Bool) → AllByRecursion P (insert_by_id file files) → AllByRecursion P (if b then file ∷ next ∷ files else next ∷ insert_by_id file files)
     step true rest = (h, k)
     step false rest = (k.0, rest)
 
@@ -23,16 +23,16 @@ unfolding in_id_order
 all_ordered P [] h = tt
 all_ordered P (file ∷ files) h = all_inserted P file (in_id_order files) h.0 (all_ordered P files h.1)
 
-sum_inserted : (f : File → ℕ) (file : File) (files : List File) → sum_by f (inserted file files) ≡ f file + sum_by f files
+sum_inserted : (f : File → ℕ) (file : File) (files : List File) → sum_by f (insert_by_id file files) ≡ f file + sum_by f files
 sum_inserted f file [] = sum_by-cons f file []
 sum_inserted f file (next ∷ files) = step (nat_le (id_number file) (id_number next)) (sum_inserted f file files)
   where
-    step : (b : Bool) → sum_by f (inserted file files) ≡ f file + sum_by f files → sum_by f (if b then file ∷ next ∷ files else next ∷ inserted file files) ≡ f file + sum_by f (next ∷ files)
+    step : (b : Bool) → sum_by f (insert_by_id file files) ≡ f file + sum_by f files → sum_by f (if b then file ∷ next ∷ files else next ∷ insert_by_id file files) ≡ f file + sum_by f (next ∷ files)
     step true rest = sum_by-cons f file (next ∷ files)
     step false rest =
-        let front : sum_by f (next ∷ inserted file files) ≡ f next + sum_by f (inserted file files) = sum_by-cons f next (inserted file files) in
+        let front : sum_by f (next ∷ insert_by_id file files) ≡ f next + sum_by f (insert_by_id file files) = sum_by-cons f next (insert_by_id file files) in
         let whole : sum_by f (next ∷ files) ≡ f next + sum_by f files = sum_by-cons f next files in
-        let same : sum_by f (next ∷ inserted file files) ≡ f file + sum_by f (next ∷ files) = omega (arith, front, whole, rest) in
+        let same : sum_by f (next ∷ insert_by_id file files) ≡ f file + sum_by f (next ∷ files) = omega (arith, front, whole, rest) in
         same
 
 pub sum_ordered : (f : File → ℕ) (files : List File) → sum_by f (in_id_order files) ≡ sum_by f files

@@ -15,7 +15,7 @@ use Rattle.par2_spec.specs.declared.Fault.TheVariants.{BadName, NoSuchFile, Empt
 use Rattle.par2_spec.proofs.ListsLaws.{all-map}
 use Rattle.par2_spec.proofs.NamesLaws.{true_from_not}
 use Rattle.par2_plan.proofs.Ordered.{all_ordered, sum_ordered, length_ordered, slices_counted, few_files}
-use Rattle.par2_plan.specs.Causes.{head_fault, bad_name, duplicate_input, files_fault, ids_fault, inputs_fault}
+use Rattle.par2_plan.specs.Faults.{head_fault, bad_name, duplicate_input, files_fault, ids_fault, inputs_fault}
 
 -- ---- no fault among several
 

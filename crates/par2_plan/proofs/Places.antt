@@ -12,7 +12,7 @@ use Rattle.par2_spec.specs.Slices.{slice_count}
 use Rattle.par2_spec.specs.Folders.{Folder, File, has, bytes_of}
 use Rattle.par2_spec.specs.Commands.{files_of}
 use Rattle.par2_spec.specs.declared.Fault.TheVariants.{NoSuchFile, EmptyFile, TooManySlices}
-use Rattle.par2_plan.specs.Causes.{files_fault}
+use Rattle.par2_plan.specs.Faults.{files_fault}
 
 pub found_at : {X : Type 0} (p : X → Bool) (xs : List X) (i : ℕ) (d : X) → i < length xs → ((k : ℕ) → k < i → p (get_or xs k d) ≡ false) → p (get_or xs i d) ≡ true → position p xs ≡ Some i
 found_at p xs i d low none here =

@@ -3,9 +3,9 @@ use Rattle.std.proofs.Common.{◌≡◌, ◌∙◌, ℕ, List, [], sym, ap, subs
 use Rattle.par2_spec.specs.Commands.{Repair, Purge}
 use Rattle.par2_spec.specs.Faults.{then_fault}
 use Rattle.par2_spec.specs.Folders.{Folder}
-use Rattle.par2_spec.specs.Plans.{changes_of, purge_changes}
+use Rattle.par2_spec.specs.Plans.{changes_of, purge_changes, LeadsToAfter}
 use Rattle.par2_spec.specs.Refusals.{set_in, refusal, repair_refusal, purge_refusal, by_set}
-use Rattle.par2_spec.specs.Rules.{AreFew, LeadsToAfter}
+use Rattle.par2_spec.specs.Repairs.{AreFew}
 use Rattle.par2_spec.specs.Search.{candidates}
 use Rattle.par2_spec.specs.Sets.{ParSet}
 use Rattle.par2_spec.specs.declared.Fault.{Fault}

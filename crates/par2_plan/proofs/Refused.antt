@@ -18,7 +18,7 @@ use Rattle.par2_spec.proofs.CreateLaws.{names_of_outputs, create_applies}
 use Rattle.par2_spec.proofs.CommandLaws.{create_leads}
 use Rattle.par2_spec.specs.declared.Fault.{Fault}
 use Rattle.par2_spec.specs.declared.Fault.TheVariants.{BadSliceSize, BadCount, BadBase, NoInput, NoSuchFile, EmptyFile, TooManySlices}
-use Rattle.par2_plan.specs.Causes.{head_fault, bad_name, duplicate_input, files_fault, ids_fault, inputs_fault, long_name, there_already, create_fault}
+use Rattle.par2_plan.specs.Faults.{head_fault, bad_name, duplicate_input, files_fault, ids_fault, inputs_fault, long_name, there_already, create_fault}
 use Rattle.par2_plan.specs.Outputs.{volume_at, volumes_of, names_of, output_names}
 use Rattle.par2_plan.proofs.Numbered.{long_without_base}
 use Rattle.par2_plan.proofs.Passed.{head_passed}

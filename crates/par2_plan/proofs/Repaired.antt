@@ -9,12 +9,11 @@ use Rattle.par2_spec.specs.Checksums.{Pair}
 use Rattle.par2_spec.specs.Faults.{first_fault, fault_where}
 use Rattle.par2_spec.specs.Folders.{Folder, File, bytes_of}
 use Rattle.par2_spec.specs.Names.{is_among}
-use Rattle.par2_spec.specs.Plans.{matching, now_at, repair_changes, repair_removals}
+use Rattle.par2_spec.specs.Plans.{now_at, repair_changes, repair_removals}
+use Rattle.par2_spec.specs.Search.{matching, matches, known, lost, survivors, candidates, needing_names}
 use Rattle.par2_spec.specs.Rank.{is_repairable, rank}
 use Rattle.par2_spec.specs.Refusals.{repair_refusal}
 use Rattle.par2_spec.specs.Repairs.{aside, put_aside, names_without_match, rebuilt, rebuilt_targets, par_files, files_of_slices}
-use Rattle.par2_spec.specs.Rules.{needing_names}
-use Rattle.par2_spec.specs.Search.{matches, known, lost, survivors, candidates}
 use Rattle.par2_spec.specs.Sets.{ParSet, Target, set_of}
 use Rattle.par2_spec.specs.Windows.{found}
 use Rattle.par2_spec.specs.declared.Fault.{Fault}
@@ -25,7 +24,7 @@ use Rattle.par2_spec.proofs.ReadLaws.{lost_of}
 use Rattle.par2_spec.proofs.SearchLaws.{matches_of_needing}
 use Rattle.par2_sets.proofs.Lists.{filter_map-map}
 use Rattle.par2_asides.specs.Asides.{long_aside}
-use Rattle.par2_restore.specs.Restoring.{known_in, undetermined, wrong_digest, files_of}
+use Rattle.par2_restore.specs.Restoring.{known_in, undetermined_fault, wrong_digest, files_of}
 use Rattle.par2_plan.specs.Repairing.{unmatched_names, names_given, AreNeeding, IsWholeWhereMatched, AreRestoredFor, targets_by, renames, matches_taken, writes, asides_removed, files_removed, place_by, changes_by, removals_by, with_removals, repair_by}
 use Rattle.par2_plan.specs.declared.needing.Needing.{Needing}
 
@@ -95,7 +94,7 @@ none_to_repair survivors = (repairable-iff [] survivors).1 (λ v h k. no_element
     no_element [] h = tt
     no_element (x ∷ v) h = absurd (let no : ⊥ = cc in no)
 
-determined_without : (set : ParSet) (slices : List (Option (List ℕ))) → lost slices ≡ [] → undetermined set slices ≡ None
+determined_without : (set : ParSet) (slices : List (Option (List ℕ))) → lost slices ≡ [] → undetermined_fault set slices ≡ None
 determined_without set slices h =
     ap (λ (missing : List ℕ). fault_where (not (is_repairable missing (survivors set))) (NotRepairable (length missing) (rank missing (survivors set)))) h
     ∙ ap (λ b. fault_where (not b) (NotRepairable 0 (rank [] (survivors set)))) (none_to_repair (survivors set))
@@ -116,14 +115,14 @@ module _ (folder : Folder) (set : ParSet) (searched : List (List ℕ)) where
 
   -- ---- refusals
 
-  by_parts : repair_refusal folder set searched ≡ first_fault (undetermined set slices_known ∷ long_aside folder set (put_aside folder set) ∷ wrong_digest (rebuilt_targets folder set searched) ∷ [])
+  by_parts : repair_refusal folder set searched ≡ first_fault (undetermined_fault set slices_known ∷ long_aside folder set (put_aside folder set) ∷ wrong_digest (rebuilt_targets folder set searched) ∷ [])
   unfolding repair_refusal known
   by_parts = refl
 
-  pub not_repairable : (fault : Fault) → undetermined set slices_known ≡ Some fault → repair_refusal folder set searched ≡ Some fault
+  pub not_repairable : (fault : Fault) → undetermined_fault set slices_known ≡ Some fault → repair_refusal folder set searched ≡ Some fault
   not_repairable fault h = by_parts ∙ ap (λ f. first_fault (f ∷ long_aside folder set (put_aside folder set) ∷ wrong_digest (rebuilt_targets folder set searched) ∷ [])) h
 
-  module _ (told : undetermined set slices_known ≡ None) where
+  module _ (told : undetermined_fault set slices_known ≡ None) where
     pub too_long : (fault : Fault) → long_aside folder set (put_aside folder set) ≡ Some fault → repair_refusal folder set searched ≡ Some fault
     too_long fault h =
         by_parts ∙ ap₂ (λ f g. first_fault (f ∷ g ∷ wrong_digest (rebuilt_targets folder set searched) ∷ [])) told h
@@ -141,7 +140,7 @@ module _ (folder : Folder) (set : ParSet) (searched : List (List ℕ)) where
   -- ---- slices and files
 
   pub told_by : (names : List (List ℕ)) (slices : Option (List (List ℕ))) → names ≡ names_without_match ms → IsWholeWhereMatched folder set searched → AreRestoredFor set slices_known names slices
-      → undetermined set slices_known ≡ None
+      → undetermined_fault set slices_known ≡ None
   unfolding known
   told_by names None e whole h = determined_without set slices_known (whole (sym e ∙ h))
   told_by names (Some slices) e whole h = h.determined

@@ -12,7 +12,7 @@ use Rattle.par2_spec.specs.Volumes.{volumes, index_packets, main_id, record_of, 
 use Rattle.par2_spec.specs.Commands.{CreateArgs, files_of}
 use Rattle.par2_spec.specs.Plans.{create_changes}
 use Rattle.par2_plan.specs.declared.names.Volume.{Volume}
-use Rattle.par2_plan.specs.Outputs.{volume_at, volumes_of, put, packets_from, slices_in, written}
+use Rattle.par2_plan.specs.Outputs.{volume_at, volumes_of, put_change, packets_from, slices_in, output_changes}
 use Rattle.par2_plan.proofs.Listed.{map_passed, packets_within}
 
 part_fits : (b c p : ℕ) → b < c → b + min p (c - b) ≤ c
@@ -21,7 +21,7 @@ part_fits b c p h = omega (arith, h)
 pub create_written : (folder : Folder) (a : CreateArgs)
     → let ordered = in_id_order (files_of folder a.inputs) in
     let records = map (record_of a.slice_size) ordered in
-    written folder a.base (flat_map packet (index_packets a.slice_size records)) (main_id a.slice_size records) a.first
+    output_changes folder a.base (flat_map packet (index_packets a.slice_size records)) (main_id a.slice_size records) a.first
     (map (recovery a.slice_size (all_slices a.slice_size ordered)) (range_with_len a.first a.count)) (volumes_of a.base a.first a.count)
     ≡ create_changes folder a
 unfolding volumes
@@ -36,13 +36,13 @@ create_written folder a =
     let packets = index_packets s records in
     let index : List ℕ = flat_map packet packets in
     let slices : List (List ℕ) = map (recovery s texts) (range_with_len f c) in
-    let of_volume = λ (volume : Volume). put folder (volume.name, index ++ flat_map packet (packets_from id volume.first (slices_in f slices volume))) in
+    let of_volume = λ (volume : Volume). put_change folder (volume.name, index ++ flat_map packet (packets_from id volume.first (slices_in f slices volume))) in
     let output = λ (i : ℕ). (let file : File = (volume_name a.base (f + volumes_before i) (volume_size c i), flat_map packet (packets ++ recovery_packets s id texts (f + volumes_before i) (volume_size c i))) in file) in
-    ap (λ changes. put folder (a.base, index) ∷ changes)
+    ap (λ changes. put_change folder (a.base, index) ∷ changes)
     (map-map of_volume (volume_at a.base f c) (volume_numbers c)
-    ∙ map_passed (λ i. nat_lt (volumes_before i) c) (λ i. of_volume (volume_at a.base f c i)) (λ i. put folder (output i))
-    (λ i low. ap (λ bytes. put folder (volume_name a.base (f + volumes_before i) (volume_size c i), bytes))
+    ∙ map_passed (λ i. nat_lt (volumes_before i) c) (λ i. of_volume (volume_at a.base f c i)) (λ i. put_change folder (output i))
+    (λ i low. ap (λ bytes. put_change folder (volume_name a.base (f + volumes_before i) (volume_size c i), bytes))
     (ap (λ ps. index ++ flat_map packet ps) (packets_within s id texts f c (volumes_before i) (volume_size c i) (part_fits (volumes_before i) c (2 ^ i) (ltb-true (volumes_before i) c low)))
     ∙ sym (flat_map-append packet packets (recovery_packets s id texts (f + volumes_before i) (volume_size c i)))))
     (range_with_len 0 17)
-    ∙ sym (map-map (put folder) output (volume_numbers c)))
+    ∙ sym (map-map (put_change folder) output (volume_numbers c)))

@@ -1,4 +1,4 @@
-pub mod Causes
+pub mod Faults
 pub mod Findings
 pub mod Matches
 pub mod Outputs

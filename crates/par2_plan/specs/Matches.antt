@@ -10,11 +10,11 @@ use Rattle.par2_spec.specs.Names.{is_among}
 use Rattle.par2_spec.specs.Sets.{Target}
 
 -- the items whose flag is true
-abbrev pub chosen : {A : Type 0} → List Bool → List A → List A
-chosen (true ∷ flags) (x ∷ xs) = x ∷ chosen flags xs
-chosen (false ∷ flags) (x ∷ xs) = chosen flags xs
-chosen (b ∷ flags) [] = []
-chosen [] xs = []
+abbrev pub items_where : {A : Type 0} → List Bool → List A → List A
+items_where (true ∷ flags) (x ∷ xs) = x ∷ items_where flags xs
+items_where (false ∷ flags) (x ∷ xs) = items_where flags xs
+items_where (b ∷ flags) [] = []
+items_where [] xs = []
 
 -- the items whose flag is false
 abbrev pub passed_over : {A : Type 0} → List Bool → List A → List A

@@ -52,12 +52,12 @@ AreRising from [] end = from ≤ end
 AreRising from (volume ∷ volumes) end = (from ≤ volume.first) × AreRising (volume.first + volume.count) volumes end
 
 -- a file is replaced where it is there already
-abbrev pub put : Folder → File → Change
-put folder file = if has folder file.0 then Replace file.0 file.1 else Write file.0 file.1
+abbrev pub put_change : Folder → File → Change
+put_change folder file = if has folder file.0 then Replace file.0 file.1 else Write file.0 file.1
 
 -- the changes that write the outputs: the bytes of the index, the set's identifier, and recovery slices whose exponents
 -- count up from the first one
-abbrev pub written : Folder → List ℕ → List ℕ → List ℕ → ℕ → List (List ℕ) → List Volume → List Change
-written folder base index set_id first slices volumes =
-    put folder (base, index)
-    ∷ map (λ volume. put folder (volume.name, volume_text index set_id first slices volume)) volumes
+abbrev pub output_changes : Folder → List ℕ → List ℕ → List ℕ → ℕ → List (List ℕ) → List Volume → List Change
+output_changes folder base index set_id first slices volumes =
+    put_change folder (base, index)
+    ∷ map (λ volume. put_change folder (volume.name, volume_text index set_id first slices volume)) volumes

@@ -10,11 +10,10 @@ use Rattle.par2_spec.specs.Names.{is_among}
 use Rattle.par2_spec.specs.Plans.{repair_changes, repair_removals}
 use Rattle.par2_spec.specs.Refusals.{set_in}
 use Rattle.par2_spec.specs.Repairs.{names_without_match, put_aside, rebuilt, rebuilt_targets}
-use Rattle.par2_spec.specs.Rules.{needing_names}
+use Rattle.par2_spec.specs.Search.{needing_names, known, lost}
 use Rattle.par2_spec.specs.Search as search
-use Rattle.par2_spec.specs.Search.{all_pairs, known, lost}
-use Rattle.par2_spec.specs.Sets.{ParSet, Target}
-use Rattle.par2_restore.specs.Restoring.{targets_among, undetermined, IsAsDescribed}
+use Rattle.par2_spec.specs.Sets.{all_pairs, ParSet, Target}
+use Rattle.par2_restore.specs.Restoring.{targets_among, undetermined_fault, IsAsDescribed}
 use Rattle.par2_plan.specs.Findings.{matches_given}
 use Rattle.par2_plan.specs.Matches.{name_cmp}
 use Rattle.par2_plan.specs.declared.needing.Needing.{Needing}
@@ -44,7 +43,7 @@ IsWholeWhereMatched folder set searched = names_without_match (search.matches fo
 
 -- all slices of a set, of which the lost ones are rebuilt
 pub record AreRestored (set : ParSet) (known : List (Option (List ℕ))) (slices : List (List ℕ)) : Type 0 where
-  pub determined : undetermined set known ≡ None
+  pub determined : undetermined_fault set known ≡ None
   pub are_rebuilt : slices ≡ rebuilt set known
   pub count : length slices ≡ length (all_pairs set)
   pub sizes : AllByRecursion (λ slice. length slice ≡ set.slice_size) slices

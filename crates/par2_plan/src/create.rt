@@ -6,9 +6,9 @@ ghost use Rattle.par2_spec.specs.Refusals.{refusal, after};
 ghost use Rattle.par2_spec.specs.Volumes.{record_of, in_id_order};
 ghost use Rattle.par2_spec.specs.Plans as plans;
 ghost use Rattle.par2_spec.specs.Views.{create_args_of};
-ghost use Rattle.par2_packets.specs.View.{file_record_of};
+ghost use Rattle.par2_packets.specs.Views.{file_record_of};
 ghost use Rattle.par2_recovery.specs.Views.{names_of};
-ghost use Rattle.par2_plan.specs.Causes.{head_fault, inputs_fault};
+ghost use Rattle.par2_plan.specs.Faults.{head_fault, inputs_fault};
 ghost use Rattle.par2_plan.specs.Outputs.{volumes_of};
 
 use crate::Changes;
@@ -22,30 +22,31 @@ use par2_spec::{CreateArgs, Fault};
 use std::alloc::{AllocError, Global};
 
 // What a set says of the inputs, where nothing is wrong with them.
-#[tactic(auto, unfolding(crate::specs::Causes::inputs_fault))]
+#[tactic(auto, unfolding(crate::specs::Faults::inputs_fault))]
 fn set_of_inputs(alloc: Global, folder: &Folder, args: &CreateArgs) -> Result<SetRecord, Fault>
-    requires { 1 ≤ args.now.slice }
+    requires { 1 ≤ args.now.slice_size }
     ensures refused { IfErr result (λ fault. (fault ≡ Fault.Memory) ⊎ (inputs_fault
-        folder.now.files args.now.slice (map string_bytes args.now.inputs.items) ≡ Some fault)) }
-    ensures accepted { IfOk result (λ _. inputs_fault folder.now.files args.now.slice
+        folder.now.files args.now.slice_size (map string_bytes args.now.inputs.items)
+        ≡ Some fault)) }
+    ensures accepted { IfOk result (λ _. inputs_fault folder.now.files args.now.slice_size
         (map string_bytes args.now.inputs.items) ≡ None) }
-    ensures slice { IfOk result (λ set. set.slice ≡ args.now.slice) }
+    ensures slice { IfOk result (λ set. set.slice_size ≡ args.now.slice_size) }
     ensures files { IfOk result (λ set. map file_record_of set.files.items
-        ≡ map (record_of args.now.slice)
+        ≡ map (record_of args.now.slice_size)
         (in_id_order (files_of folder.now.files (map string_bytes args.now.inputs.items)))) }
     ensures order { IfOk result (λ set. files_of folder.now.files (names_of set)
         ≡ in_id_order (files_of folder.now.files (map string_bytes args.now.inputs.items))) }
 {
     let names = input_names(alloc, &args.inputs)?;
     no_duplicate(alloc, &names)?;
-    if let Some(fault) = files_fault(folder, &names, args.slice) {
+    if let Some(fault) = files_fault(folder, &names, args.slice_size) {
         return Err(fault);
     }
-    let records = match file_records(alloc, folder, &names, args.slice) {
+    let records = match file_records(alloc, folder, &names, args.slice_size) {
         Ok(records) => records,
         Err(AllocError) => return Err(Fault::Memory),
     };
-    set_of(records, args.slice)
+    set_of(records, args.slice_size)
 }
 
 // The changes that write the outputs of a create with which nothing is wrong.
@@ -58,11 +59,11 @@ fn outputs_written(
     volumes: &[Volume],
 ) -> Result<Changes, AllocError>
     requires head { head_fault (create_args_of args.now) ≡ None }
-    requires inputs { inputs_fault folder.now.files args.now.slice
+    requires inputs { inputs_fault folder.now.files args.now.slice_size
         (map string_bytes args.now.inputs.items) ≡ None }
     requires base { base ≡ string_bytes args.now.base }
-    requires slice { set.now.slice ≡ args.now.slice }
-    requires files { map file_record_of set.now.files.items ≡ map (record_of args.now.slice)
+    requires slice { set.now.slice_size ≡ args.now.slice_size }
+    requires files { map file_record_of set.now.files.items ≡ map (record_of args.now.slice_size)
         (in_id_order (files_of folder.now.files (map string_bytes args.now.inputs.items))) }
     requires order { files_of folder.now.files (names_of set.now)
         ≡ in_id_order (files_of folder.now.files (map string_bytes args.now.inputs.items)) }

@@ -9,7 +9,7 @@ ghost use Rattle.par2_spec.specs.Folders.{File, has, bytes_of};
 ghost use Rattle.par2_spec.specs.Volumes.{in_id_order};
 ghost use Rattle.par2_spec.specs.Commands.{files_of};
 ghost use Rattle.par2_recovery.specs.Views.{AreRecords, names_of};
-ghost use Rattle.par2_plan.specs.Causes.{duplicate_input, files_fault, ids_fault};
+ghost use Rattle.par2_plan.specs.Faults.{duplicate_input, files_fault, ids_fault};
 
 use par2_folder::{Folder, Name};
 use par2_packets::{DuplicateId, FileRecord};
@@ -97,7 +97,7 @@ fn are_too_many(folder: &Folder, names: &[Name], size: u64) -> bool
 }
 
 /// What is wrong with the files of these names.
-#[tactic(auto, unfolding(crate::specs::Causes::files_fault))]
+#[tactic(auto, unfolding(crate::specs::Faults::files_fault))]
 pub fn files_fault(folder: &Folder, names: &[Name], size: u64) -> Option<Fault>
     requires { 1 ≤ size }
     ensures { result ≡ files_fault folder.now.files size names.now }
@@ -119,7 +119,7 @@ pub fn files_fault(folder: &Folder, names: &[Name], size: u64) -> Option<Fault>
 pub fn set_of(records: Vec<FileRecord>, size: u64) -> Result<SetRecord, Fault>
     ensures refused { (files : List File)
         → AreRecords size files records.items → fault_of result ≡ ids_fault files }
-    ensures slice { IfOk result (λ set. set.slice ≡ size) }
+    ensures slice { IfOk result (λ set. set.slice_size ≡ size) }
     ensures files { IfOk result (λ set. (files : List File)
         → AreRecords size files records.items
         → AreRecords size (in_id_order files) set.files.items) }

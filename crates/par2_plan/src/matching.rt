@@ -7,7 +7,7 @@ ghost use Rattle.par2_spec.specs.Names.{is_among};
 ghost use Rattle.par2_spec.specs.Search as search;
 ghost use Rattle.par2_search.specs.Matching.{Describe, text_at};
 ghost use Rattle.par2_plan.specs.Findings.{needs, matches_given};
-ghost use Rattle.par2_plan.specs.Matches.{chosen, intact_by, HoldsNames, ArePlaces};
+ghost use Rattle.par2_plan.specs.Matches.{items_where, intact_by, HoldsNames, ArePlaces};
 
 use crate::candidates::texts_of;
 use par2_folder::{Folder, Name};
@@ -43,7 +43,7 @@ fn needing_targets<'s>(
     set: &'s ParSet,
     needing: &[bool],
 ) -> Result<Vec<par2_search::Target<'s>>, AllocError>
-    ensures { let all = chosen needing.now set.now.targets in
+    ensures { let all = items_where needing.now set.now.targets in
         IfOk result (λ targets. Describe targets.items all) }
 {
     let mut targets = Vec::new(alloc);

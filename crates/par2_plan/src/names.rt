@@ -4,7 +4,7 @@ ghost use Rattle.std.specs.List.{list_any};
 ghost use Rattle.par2_spec.specs.Names.{is_name, is_par_name};
 ghost use Rattle.par2_spec.specs.Folders.{has};
 ghost use Rattle.par2_spec.specs.Volumes as spec;
-ghost use Rattle.par2_plan.specs.Causes.{long_name, there_already};
+ghost use Rattle.par2_plan.specs.Faults.{long_name, there_already};
 ghost use Rattle.par2_plan.specs.Outputs.{volume_at, volume_if, volumes_of, names_of};
 
 use par2_folder::{Folder, Name};

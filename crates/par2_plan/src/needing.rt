@@ -3,7 +3,7 @@ ghost use Rattle.std.specs.Prelude.{◌≡◌, map, filter, IfOk};
 ghost use Rattle.std.specs.List.{IsDistinct};
 ghost use Rattle.std.specs.Str.{bytes_eq};
 ghost use Rattle.par2_spec.specs.Folders.{has};
-ghost use Rattle.par2_plan.specs.Matches.{chosen};
+ghost use Rattle.par2_plan.specs.Matches.{items_where};
 ghost use Rattle.par2_plan.specs.Repairing.{unmatched_names, AreNeeding};
 
 use crate::matching::{matches, needs};
@@ -26,7 +26,7 @@ pub struct Needing {
 
 // The names of the targets that are needing.
 fn needing_names(alloc: Global, set: &ParSet, needing: &[bool]) -> Result<Vec<Name>, AllocError>
-    ensures { let targets = chosen needing.now set.now.targets in
+    ensures { let targets = items_where needing.now set.now.targets in
         IfOk result (λ names. names.items ≡ map (λ t. t.name) targets) }
 {
     let mut names = Vec::new(alloc);

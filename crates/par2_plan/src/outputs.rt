@@ -7,10 +7,10 @@ ghost use Rattle.par2_spec.specs.Recovery.{recovery};
 ghost use Rattle.par2_spec.specs.Volumes.{index_packets, main_id, all_slices};
 ghost use Rattle.par2_spec.specs.Commands.{files_of};
 ghost use Rattle.par2_folder.specs.Views.{change_of};
-ghost use Rattle.par2_packets.specs.View.{file_record_of};
+ghost use Rattle.par2_packets.specs.Views.{file_record_of};
 ghost use Rattle.par2_matrix.specs.Systems.{lists_of};
 ghost use Rattle.par2_recovery.specs.Views.{names_of};
-ghost use Rattle.par2_plan.specs.Outputs.{packets_from, slices_in, volume_text, AreRising, put, written};
+ghost use Rattle.par2_plan.specs.Outputs.{packets_from, slices_in, volume_text, AreRising, put_change, output_changes};
 
 use crate::Changes;
 use crate::index::index_of;
@@ -39,14 +39,14 @@ fn slices_of(
     first: u32,
     count: u32,
 ) -> Result<Vec<Vec<u8>>, AllocError>
-    requires size { 1 ≤ set.now.slice }
-    requires even { set.now.slice % 2 ≡ 0 }
+    requires size { 1 ≤ set.now.slice_size }
+    requires even { set.now.slice_size % 2 ≡ 0 }
     requires names { AllByRecursion (λ name. IsTrue (is_name name)) (names_of set.now) }
     requires slices { length
-        (all_slices set.now.slice (files_of folder.now.files (names_of set.now))) ≤ 32768 }
+        (all_slices set.now.slice_size (files_of folder.now.files (names_of set.now))) ≤ 32768 }
     requires exponents { first + count ≤ 65536 }
     ensures { IfOk result (λ texts. lists_of texts.items
-        ≡ map (recovery set.now.slice (all_slices set.now.slice
+        ≡ map (recovery set.now.slice_size (all_slices set.now.slice_size
         (files_of folder.now.files (names_of set.now)))) (range_with_len first count)) }
 {
     if count == 0 {
@@ -64,24 +64,25 @@ pub fn parts_of(
     first: u32,
     count: u32,
 ) -> Result<Parts, AllocError>
-    requires size { 1 ≤ set.now.slice }
-    requires even { set.now.slice % 2 ≡ 0 }
+    requires size { 1 ≤ set.now.slice_size }
+    requires even { set.now.slice_size % 2 ≡ 0 }
     requires files { length set.now.files.items ≤ 32768 }
     requires names { AllByRecursion (λ name. IsTrue (is_name name)) (names_of set.now) }
     requires slices { length
-        (all_slices set.now.slice (files_of folder.now.files (names_of set.now))) ≤ 32768 }
+        (all_slices set.now.slice_size (files_of folder.now.files (names_of set.now))) ≤ 32768 }
     requires exponents { first + count ≤ 65536 }
     ensures index { IfOk result (λ parts. parts.index.items
-        ≡ flat_map packet (index_packets set.now.slice (map file_record_of set.now.files.items))) }
+        ≡ flat_map packet (index_packets set.now.slice_size (map file_record_of
+        set.now.files.items))) }
     ensures set_id { IfOk result (λ parts. parts.set_id
-        ≡ main_id set.now.slice (map file_record_of set.now.files.items)) }
+        ≡ main_id set.now.slice_size (map file_record_of set.now.files.items)) }
     ensures first { IfOk result (λ parts. parts.first ≡ first) }
     ensures slices { IfOk result (λ parts. lists_of parts.slices.items
-        ≡ map (recovery set.now.slice (all_slices set.now.slice
+        ≡ map (recovery set.now.slice_size (all_slices set.now.slice_size
         (files_of folder.now.files (names_of set.now)))) (range_with_len first count)) }
 {
-    let index = index_of(alloc, set.slice, &set.files)?;
-    let set_id = main_id(set.slice, &set.files);
+    let index = index_of(alloc, set.slice_size, &set.files)?;
+    let set_id = main_id(set.slice_size, &set.files);
     let slices = slices_of(alloc, folder, set, first, count)?;
     Ok(Parts {
         index,
@@ -188,7 +189,7 @@ fn volume_texts(alloc: Global, parts: Parts, volumes: &[Volume]) -> Result<Vec<V
 
 // A file is written, or replaced where it is there already.
 fn put(folder: &Folder, name: Name, bytes: Vec<u8>) -> Change
-    ensures { change_of result ≡ put folder.now.files (name, bytes.items) }
+    ensures { change_of result ≡ put_change folder.now.files (name, bytes.items) }
 {
     if folder.get(&name).is_some() {
         Change::Replace(name, Bytes::from(bytes))
@@ -210,7 +211,7 @@ pub fn changes_of(
     requires exponents { parts.first + length parts.slices.items ≤ 65536 }
     requires sizes { AllByRecursion (λ slice. length slice % 4 ≡ 0) (lists_of parts.slices.items) }
     ensures { IfOk result (λ changes. changes
-        ≡ written folder.now.files base parts.index.items parts.set_id parts.first
+        ≡ output_changes folder.now.files base parts.index.items parts.set_id parts.first
         (lists_of parts.slices.items) volumes.now) }
 {
     let mut changes = Changes::new(alloc);

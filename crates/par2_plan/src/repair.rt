@@ -6,11 +6,10 @@ ghost use Rattle.par2_spec.specs.Commands.{Repair};
 ghost use Rattle.par2_spec.specs.Folders.{bytes_of};
 ghost use Rattle.par2_spec.specs.Plans as plans;
 ghost use Rattle.par2_spec.specs.Refusals.{refusal, after, repair_refusal};
-ghost use Rattle.par2_spec.specs.Repairs.{aside, par_files, rebuilt_targets};
-ghost use Rattle.par2_spec.specs.Rules.{AreFew};
+ghost use Rattle.par2_spec.specs.Repairs.{aside, par_files, rebuilt_targets, AreFew};
 ghost use Rattle.par2_spec.specs.Search as search;
-ghost use Rattle.par2_spec.specs.Search.{all_pairs};
-ghost use Rattle.par2_restore.specs.Restoring.{known_in, undetermined, wrong_digest, files_of, IsAsDescribed};
+ghost use Rattle.par2_spec.specs.Sets.{all_pairs};
+ghost use Rattle.par2_restore.specs.Restoring.{known_in, undetermined_fault, wrong_digest, files_of, IsAsDescribed};
 ghost use Rattle.par2_plan.specs.Repairing.{IsWholeWhereMatched, AreRestoredFor, targets_by, changes_by, removals_by, with_removals, repair_by, WritesAsDescribed};
 
 use crate::Changes;
@@ -38,7 +37,8 @@ fn slices_for<'a>(
 ) -> Result<Option<Slices<'a>>, Fault>
     ensures refused { let known = known_in set.now
         (map (bytes_of folder.now.files) candidates.now) in
-        IfErr result (λ fault. (fault ≡ Fault.Memory) ⊎ (undetermined set.now known ≡ Some fault)) }
+        IfErr result (λ fault. (fault ≡ Fault.Memory) ⊎ (undetermined_fault set.now known
+        ≡ Some fault)) }
     ensures slices { let known = known_in set.now
         (map (bytes_of folder.now.files) candidates.now) in
         IfOk result (AreRestoredFor set.now known unmatched.now) }

@@ -4,7 +4,7 @@ ghost use Rattle.par2_spec.specs.Names as names;
 ghost use Rattle.par2_spec.specs.Sets as sets;
 ghost use Rattle.par2_spec.specs.Views.{create_args_of};
 ghost use Rattle.par2_spec.specs.Refusals.{are_counts, is_input_name};
-ghost use Rattle.par2_plan.specs.Causes.{head_fault, bad_name};
+ghost use Rattle.par2_plan.specs.Faults.{head_fault, bad_name};
 
 use par2_folder::Name;
 use par2_spec::{CreateArgs, Fault};
@@ -45,13 +45,13 @@ fn base_name(word: &str) -> Option<Name>
 }
 
 /// The name of the index, where nothing is wrong with the numbers, the base and the count of inputs.
-#[tactic(auto, unfolding(crate::specs::Causes::head_fault))]
+#[tactic(auto, unfolding(crate::specs::Faults::head_fault))]
 pub fn index_name(args: &CreateArgs) -> Result<Name, Fault>
     ensures refused { IfErr result (λ fault. head_fault (create_args_of args.now) ≡ Some fault) }
     ensures accepted { IfOk result (λ _. head_fault (create_args_of args.now) ≡ None) }
     ensures name { IfOk result (λ name. name ≡ string_bytes args.now.base) }
 {
-    if !is_slice_size(args.slice) {
+    if !is_slice_size(args.slice_size) {
         return Err(Fault::BadSliceSize);
     }
     if !are_counts(args.first, args.count) {

@@ -8,7 +8,7 @@ use Rattle.std.proofs.lemmas.List.Folds.{flat_map-map}
 use Rattle.std.proofs.Math.Seq.{drop-cons}
 use Rattle.std.proofs.Math.ListN.{get_or}
 use Rattle.std.specs.List.{flat_map}
-use Rattle.par2_printing.specs.Wrote.{TookAll, TookPart, Wrote, writer_of}
+use Rattle.par2_printing.specs.Writing.{TookAll, TookPart, Wrote, writer_of}
 use Rattle.par2_printing.specs.declared.printer.Printer.{Printer}
 
 pub appends_both : (a b c : Option (List ℕ)) (xs ys : List ℕ) → Appends a b xs → Appends b c ys → Appends a c (xs ++ ys)

@@ -1,2 +1,2 @@
-pub mod Wrote
-pub mod Printed
+pub mod Writing
+pub mod Views

@@ -1,8 +1,8 @@
 //! The line of a failure.
 ghost use Rattle.std.specs.Prelude.{◌≡◌, ◌++◌, ◌∷◌, ℕ, List, codes, map, string_bytes};
 ghost use Rattle.par2_spec.specs.Texts.{error_of, fault_text, line, lost_text, word_at};
-ghost use Rattle.par2_printing.specs.Printed.{words_given};
-ghost use Rattle.par2_printing.specs.Wrote.{Wrote};
+ghost use Rattle.par2_printing.specs.Views.{words_given};
+ghost use Rattle.par2_printing.specs.Writing.{Wrote};
 
 use crate::printer::Printer;
 use crate::text::{WriteFault, write_parts};

@@ -1,7 +1,7 @@
 //! Writers whose failures are counted.
 ghost use Rattle.std.specs.Prelude.{◌≡◌, ◌+◌, ◌<◌, ◌≤◌, [], length, take, IfOk, OnOk, OnErr};
 ghost use Rattle.std.specs.Io.KnownBytes.{Appends};
-ghost use Rattle.par2_printing.specs.Wrote.{writer_of, failures_of};
+ghost use Rattle.par2_printing.specs.Writing.{writer_of, failures_of};
 
 use crate::text::WriteFault;
 use par2_folder::Failures;

@@ -3,8 +3,8 @@ ghost use Rattle.std.specs.Prelude.{◌≡◌, ◌++◌, codes};
 ghost use Rattle.hex.specs.Hex.{encode_lower};
 ghost use Rattle.par2_spec.specs.Reports.{Report};
 ghost use Rattle.par2_spec.specs.Texts.{line, lost_text, of_all, target_line, verdict_text};
-ghost use Rattle.par2_printing.specs.Printed.{target_shown};
-ghost use Rattle.par2_printing.specs.Wrote.{Wrote};
+ghost use Rattle.par2_printing.specs.Views.{target_shown};
+ghost use Rattle.par2_printing.specs.Writing.{Wrote};
 
 use crate::printer::Printer;
 use crate::text::{WriteFault, write_parts};

@@ -1,8 +1,8 @@
 //! The lines of an accepted command.
 ghost use Rattle.std.specs.Prelude.{◌≡◌, ◌++◌, codes, decimal};
 ghost use Rattle.par2_spec.specs.Texts.{line, note_text, step_line};
-ghost use Rattle.par2_printing.specs.Printed.{step_shown};
-ghost use Rattle.par2_printing.specs.Wrote.{Wrote};
+ghost use Rattle.par2_printing.specs.Views.{step_shown};
+ghost use Rattle.par2_printing.specs.Writing.{Wrote};
 
 use crate::printer::Printer;
 use crate::text::{WriteFault, write_parts};

@@ -1,7 +1,7 @@
 //! Texts on a printer.
 ghost use Rattle.std.specs.Prelude.{◌≡◌, ◌++◌};
 ghost use Rattle.std.specs.List.{flat_map};
-ghost use Rattle.par2_printing.specs.Wrote.{Wrote};
+ghost use Rattle.par2_printing.specs.Writing.{Wrote};
 
 use crate::printer::Printer;
 use std::io::Write;

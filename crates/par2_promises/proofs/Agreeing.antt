@@ -5,8 +5,8 @@ use Rattle.std.proofs.lemmas.List.{length-map}
 use Rattle.par2_spec.specs.Windows.{found}
 use Rattle.par2_spec.specs.Rank.{Agrees}
 use Rattle.par2_spec.specs.Folders.{Folder, bytes_of}
-use Rattle.par2_spec.specs.Sets.{ParSet}
-use Rattle.par2_spec.specs.Search.{all_pairs, known}
+use Rattle.par2_spec.specs.Sets.{ParSet, all_pairs}
+use Rattle.par2_spec.specs.Search.{known}
 
 as_many : {A B : Type 0} (R : A → B → Type 0) (xs : List A) (ys : List B) → AllZip R xs ys → length ys ≡ length xs
 as_many R [] [] h = refl

@@ -13,7 +13,7 @@ use Rattle.std.specs.declared.cmp.Ordering.TheVariants.{Less, Equal, Greater}
 use Rattle.std.specs.Cmp.{nat_cmp_total, tied_itself}
 use Rattle.par2_spec.specs.declared.Kind.{Kind}
 use Rattle.par2_spec.specs.declared.Kind.TheVariants.{Main, FileDesc, Ifsc, Recovery, Creator, Other}
-use Rattle.par2_spec.specs.Packets.{Packet, RecoveryBody, accepted, accepted_after, begins_with_packet, claimed, first_packet, read_recovery}
+use Rattle.par2_spec.specs.Packets.{Packet, RecoveryBody, accepted, accepted_after, begins_with_packet, claimed_length, first_packet, read_recovery}
 use Rattle.par2_spec.specs.Rank.{AreBytes}
 use Rattle.par2_spec.specs.Folders.{Folder, bytes_of}
 use Rattle.par2_spec.specs.Sets.{ParSet, packets_with, recovery_of, set_of, other_par_names}
@@ -36,10 +36,10 @@ unfolding accepted_after
 packets_have n [] bytes = tt
 packets_have (suc n) (b ∷ text) bytes = packets_have n text bytes.1
 packets_have zero (b ∷ text) bytes =
-    step (begins_with_packet (b ∷ text)) (first_packet (b ∷ text)) (first_has (b ∷ text) bytes) (packets_have (claimed (b ∷ text) - 1) text bytes.1) (packets_have zero text bytes.1)
+    step (begins_with_packet (b ∷ text)) (first_packet (b ∷ text)) (first_has (b ∷ text) bytes) (packets_have (claimed_length (b ∷ text) - 1) text bytes.1) (packets_have zero text bytes.1)
   where
-    step : (begins : Bool) (p : Packet) → HasBytes p → AllByRecursion HasBytes (accepted_after (claimed (b ∷ text) - 1) text) → AllByRecursion HasBytes (accepted_after zero text)
-        → AllByRecursion HasBytes (if begins then p ∷ accepted_after (claimed (b ∷ text) - 1) text else accepted_after zero text)
+    step : (begins : Bool) (p : Packet) → HasBytes p → AllByRecursion HasBytes (accepted_after (claimed_length (b ∷ text) - 1) text) → AllByRecursion HasBytes (accepted_after zero text)
+        → AllByRecursion HasBytes (if begins then p ∷ accepted_after (claimed_length (b ∷ text) - 1) text else accepted_after zero text)
     step true p is behind next = (is, behind)
     step false p is behind next = next
 

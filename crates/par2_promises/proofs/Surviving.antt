@@ -8,9 +8,8 @@ use Rattle.std.specs.FinMap as map_of
 use Rattle.std.specs.FinMap.{get-entries}
 use Rattle.par2_spec.specs.Rank.{AreBytes, AreSurvivors}
 use Rattle.par2_spec.specs.Folders.{Folder}
-use Rattle.par2_spec.specs.Sets.{ParSet, set_of}
+use Rattle.par2_spec.specs.Sets.{ParSet, set_of, IsSound}
 use Rattle.par2_spec.specs.Search.{known}
-use Rattle.par2_spec.specs.Rules.{IsSound}
 use Rattle.par2_promises.specs.Premises.{HoldsBytes}
 use Rattle.par2_promises.specs.Slices.{recovery_slice}
 use Rattle.par2_promises.proofs.SliceSizes.{size_even}

@@ -13,8 +13,8 @@ use Rattle.par2_spec.specs.Checksums.{Pair}
 use Rattle.par2_spec.specs.Windows.{window, windows, is_match, found}
 use Rattle.par2_spec.specs.Rank.{AreBytes}
 use Rattle.par2_spec.specs.Folders.{Folder, bytes_of}
-use Rattle.par2_spec.specs.Sets.{ParSet}
-use Rattle.par2_spec.specs.Search.{all_pairs, known}
+use Rattle.par2_spec.specs.Sets.{ParSet, all_pairs}
+use Rattle.par2_spec.specs.Search.{known}
 use Rattle.par2_promises.specs.Premises.{HoldsBytes}
 use Rattle.par2_promises.proofs.Lists.{all-take, all-drop, all-append, all-range, all-map, all-flat_map, some-find}
 

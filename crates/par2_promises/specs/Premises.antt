@@ -6,7 +6,7 @@ use Rattle.par2_spec.specs.Folders.{Folder, File, files}
 use Rattle.par2_spec.specs.Volumes.{all_slices}
 use Rattle.par2_spec.specs.Sets.{MadeFrom}
 use Rattle.par2_spec.specs.Search.{candidates, NoCollision}
-use Rattle.par2_spec.specs.Rules.{AreFew}
+use Rattle.par2_spec.specs.Repairs.{AreFew}
 
 -- the set of the base was made from these files, cut into slices of s bytes, and what a repair
 -- finds of them is true

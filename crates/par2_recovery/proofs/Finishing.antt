@@ -19,7 +19,7 @@ use Rattle.par2_matrix.proofs.Views.{all_from}
 use Rattle.par2_matrix.proofs.Words.{word-lt}
 use Rattle.par2_recovery.specs.Inverses.{recovery_at, IsEliminated, lack, AreCombined}
 use Rattle.par2_recovery.specs.Products.{AreBytes}
-use Rattle.par2_recovery.specs.Survivors.{filled, lost_from, known_from, present, sum_at}
+use Rattle.par2_recovery.specs.Survivors.{with_lost_slices, lost_from, known_from, known_alone, sum_at}
 use Rattle.par2_recovery.proofs.Combined.{coefficients-lt, dot_padded}
 use Rattle.par2_recovery.proofs.Inverting.{inverted, differences, dot_differences, differences_vector, same_texts_by}
 use Rattle.par2_recovery.proofs.Rebuilding.{AreSized, AreKnown, IsFound, Meets, lost_is, rebuilt_from}
@@ -52,16 +52,16 @@ none_between : (s : ℕ) (known : List (Option (List ℕ))) (xs ys : List (List 
 none_between s known xs ys [] e hx hy w fits = tt
 none_between s known xs ys (r ∷ recs) e hx hy w fits = (
   dot_differences (coefficients (lost_from 0 known) r.0) w xs ys e ∙ ap₂ bit_xor (hx.0 w fits) (hy.0 w fits)
-      ∙ xor_self (bit_xor (word w r.1) (dot (coefficients (known_from 0 known) r.0) (map (word w) (present known)))),
+      ∙ xor_self (bit_xor (word w r.1) (dot (coefficients (known_from 0 known) r.0) (map (word w) (known_alone known)))),
   none_between s known xs ys recs e hx.1 hy.1 w fits,
 )
 
 -- what goes by the inverse into the lost slices are the lost slices
 pub are_rebuilt : (s : ℕ) (known : List (Option (List ℕ))) (recs kept_ones : List (ℕ × List ℕ)) (texts : List (List ℕ)) (system : Equations) (inverse made : List (List ℕ)) → s % 2 ≡ 0 → AreKnown s known
-    → map (padded s) texts ≡ present known → length texts ≡ length (known_from 0 known) → AreBytes texts → AllByRecursion (λ r. length r.1 ≡ s) recs → AreBytes (map (λ r. r.1) kept_ones)
+    → map (padded s) texts ≡ known_alone known → length texts ≡ length (known_from 0 known) → AreBytes texts → AllByRecursion (λ r. length r.1 ≡ s) recs → AreBytes (map (λ r. r.1) kept_ones)
     → IsEliminated (lost_from 0 known) recs kept_ones system → IsTheSolution system inverse → systems.rank system ≡ system.columns → OnlyZeroIsKilled system
     → AreCombined s inverse (known_from 0 known) texts kept_ones made
-    → IsRebuilt s known kept_ones (filled known made) × (length made ≡ length (lost_from 0 known))
+    → IsRebuilt s known kept_ones (with_lost_slices known made) × (length made ≡ length (lost_from 0 known))
 are_rebuilt s known recs kept_ones texts system inverse made even are_known same fit bytes sizes kept_bytes found solution full only combined =
     (rebuilt_from s known kept_ones made even are_known sized count are meets unique, count)
   where
@@ -106,14 +106,14 @@ are_rebuilt s known recs kept_ones texts system inverse made even are_known same
         only v (subst (λ n. IsVector n v) (sym found.columns) is) (found.kills v is (none_between s known others made kept_ones (number ∙ sym count) met meets w fits)))
 
 pub finished_ok : (s : ℕ) (known : List (Option (List ℕ))) (recs kept_ones : List (ℕ × List ℕ)) (texts : List (List ℕ)) (system : Equations) (inverse made : List (List ℕ)) → s % 2 ≡ 0 → AreKnown s known
-    → map (padded s) texts ≡ present known → length texts ≡ length (known_from 0 known) → AreBytes texts → AllByRecursion (λ r. length r.1 ≡ s) recs → AreBytes (map (λ r. r.1) kept_ones)
+    → map (padded s) texts ≡ known_alone known → length texts ≡ length (known_from 0 known) → AreBytes texts → AllByRecursion (λ r. length r.1 ≡ s) recs → AreBytes (map (λ r. r.1) kept_ones)
     → IsEliminated (lost_from 0 known) recs kept_ones system → IsTheSolution system inverse → systems.rank system ≡ system.columns → (systems.rank system ≡ system.columns) ↔ OnlyZeroIsKilled system
     → AreCombined s inverse (known_from 0 known) texts kept_ones made
-    → IsRebuilt s known (kept_slices (lost known) (map (λ r. r.0) recs) recs) (filled known made) × (length made ≡ length (lost known)) × IsRepairable (lost known) (map (λ r. r.0) recs)
+    → IsRebuilt s known (kept_slices (lost known) (map (λ r. r.0) recs) recs) (with_lost_slices known made) × (length made ≡ length (lost known)) × IsRepairable (lost known) (map (λ r. r.0) recs)
 finished_ok s known recs kept_ones texts system inverse made even are_known same fit bytes sizes kept_bytes found solution full iff combined =
     let both = are_rebuilt s known recs kept_ones texts system inverse made even are_known same fit bytes sizes kept_bytes found solution full (iff.0 full) combined in
-    subst (λ ns. IsRebuilt s known (kept_slices ns (map (λ r. r.0) recs) recs) (filled known made) × (length made ≡ length ns) × IsRepairable ns (map (λ r. r.0) recs)) (sym (lost_is known))
-    (subst (λ rs. IsRebuilt s known rs (filled known made)) found.are_kept both.0, both.1, found.repairable.0 (iff.0 full))
+    subst (λ ns. IsRebuilt s known (kept_slices ns (map (λ r. r.0) recs) recs) (with_lost_slices known made) × (length made ≡ length ns) × IsRepairable ns (map (λ r. r.0) recs)) (sym (lost_is known))
+    (subst (λ rs. IsRebuilt s known rs (with_lost_slices known made)) found.are_kept both.0, both.1, found.repairable.0 (iff.0 full))
 
 pub finished_err : (known : List (Option (List ℕ))) (recs kept_ones : List (ℕ × List ℕ)) (system : Equations) (missing rank : ℕ) → IsEliminated (lost_from 0 known) recs kept_ones system
     → (systems.rank system ≡ system.columns → ⊥) → (systems.rank system ≡ system.columns) ↔ OnlyZeroIsKilled system → missing ≡ length (lost_from 0 known) → rank ≡ systems.rank system

@@ -13,7 +13,7 @@ use Rattle.par2_spec.specs.Search.{lost}
 use Rattle.par2_spec.proofs.FieldProducts.{product-lt}
 use Rattle.par2_matrix.proofs.Views.{all_at, combination_words}
 use Rattle.par2_matrix.proofs.Words.{word-lt}
-use Rattle.par2_recovery.specs.Survivors.{filled, lost_from, known_from, present}
+use Rattle.par2_recovery.specs.Survivors.{with_lost_slices, lost_from, known_from, known_alone}
 use Rattle.par2_recovery.proofs.Combined.{coefficients-lt}
 
 -- ---- the numbers of the lost slices
@@ -36,12 +36,12 @@ known_of_map f a [] = refl
 known_of_map f a (None ∷ known) = known_of_map f (a + 1) known
 known_of_map f a (Some x ∷ known) = ap (λ ns. a ∷ ns) (known_of_map f (a + 1) known)
 
-pub present_of_map : {A B : Type 0} (f : A → B) (known : List (Option A)) → present (map (option_map f) known) ≡ map f (present known)
+pub present_of_map : {A B : Type 0} (f : A → B) (known : List (Option A)) → known_alone (map (option_map f) known) ≡ map f (known_alone known)
 present_of_map f [] = refl
 present_of_map f (None ∷ known) = present_of_map f known
 present_of_map f (Some x ∷ known) = ap (λ xs. f x ∷ xs) (present_of_map f known)
 
-pub length-present : {A : Type 0} (a : ℕ) (known : List (Option A)) → length (present known) ≡ length (known_from a known)
+pub length-present : {A : Type 0} (a : ℕ) (known : List (Option A)) → length (known_alone known) ≡ length (known_from a known)
 length-present a [] = refl
 length-present a (None ∷ known) = length-present (a + 1) known
 length-present a (Some x ∷ known) = ap suc (length-present (a + 1) known)
@@ -78,7 +78,7 @@ length-lost_from a (suc bound) (None ∷ known) h = let rest = length-lost_from 
 
 -- ---- all slices from the known and the lost ones
 
-pub length-filled : (a : ℕ) (known : List (Option (List ℕ))) (texts : List (List ℕ)) → length (filled known texts) ≡ length known
+pub length-filled : (a : ℕ) (known : List (Option (List ℕ))) (texts : List (List ℕ)) → length (with_lost_slices known texts) ≡ length known
 length-filled a [] texts = refl
 length-filled a (Some x ∷ known) texts = ap suc (length-filled a known texts)
 length-filled a (None ∷ known) [] = ap suc (length-filled a known [])
@@ -86,18 +86,18 @@ length-filled a (None ∷ known) (t ∷ texts) = ap suc (length-filled a known t
 
 -- the sum of a word's products over all slices is that over the known ones and that over the lost ones
 split : (e w a : ℕ) (known : List (Option (List ℕ))) (texts : List (List ℕ)) → length texts ≡ length (lost_from a known)
-    → dot (coefficients (range_with_len a (length known)) e) (map (word w) (filled known texts))
-    ≡ bit_xor (dot (coefficients (known_from a known) e) (map (word w) (present known))) (dot (coefficients (lost_from a known) e) (map (word w) texts))
+    → dot (coefficients (range_with_len a (length known)) e) (map (word w) (with_lost_slices known texts))
+    ≡ bit_xor (dot (coefficients (known_from a known) e) (map (word w) (known_alone known))) (dot (coefficients (lost_from a known) e) (map (word w) texts))
 unfolding dot
 split e w a [] [] h = refl
 split e w a [] (t ∷ texts) h = absurd (omega arith)
 split e w a (Some x ∷ known) texts h =
     ap (bit_xor (mul (coefficient e a) (word w x))) (split e w (a + 1) known texts h)
-    ∙ sym (xor_assoc (mul (coefficient e a) (word w x)) (dot (coefficients (known_from (a + 1) known) e) (map (word w) (present known))) (dot (coefficients (lost_from (a + 1) known) e) (map (word w) texts)))
+    ∙ sym (xor_assoc (mul (coefficient e a) (word w x)) (dot (coefficients (known_from (a + 1) known) e) (map (word w) (known_alone known))) (dot (coefficients (lost_from (a + 1) known) e) (map (word w) texts)))
 split e w a (None ∷ known) [] h = absurd (omega arith)
 split e w a (None ∷ known) (t ∷ texts) h =
     let here = mul (coefficient e a) (word w t) in
-    let ours = dot (coefficients (known_from (a + 1) known) e) (map (word w) (present known)) in
+    let ours = dot (coefficients (known_from (a + 1) known) e) (map (word w) (known_alone known)) in
     let others = dot (coefficients (lost_from (a + 1) known) e) (map (word w) texts) in
     ap (bit_xor here) (split e w (a + 1) known texts (omega arith))
     ∙ sym (xor_assoc here ours others) ∙ ap (λ x. bit_xor x others) (xor_comm here ours) ∙ xor_assoc ours here others
@@ -110,9 +110,9 @@ AreSized s texts = AllByRecursion (λ text. length text ≡ s) texts × AllByRec
 
 -- known slices of s bytes
 abbrev pub AreKnown : ℕ → List (Option (List ℕ)) → Type 0
-AreKnown s known = AreSized s (present known)
+AreKnown s known = AreSized s (known_alone known)
 
-sized_filled : (s : ℕ) (a : ℕ) (known : List (Option (List ℕ))) (texts : List (List ℕ)) → AreKnown s known → AreSized s texts → length texts ≡ length (lost_from a known) → AreSized s (filled known texts)
+sized_filled : (s : ℕ) (a : ℕ) (known : List (Option (List ℕ))) (texts : List (List ℕ)) → AreKnown s known → AreSized s texts → length texts ≡ length (lost_from a known) → AreSized s (with_lost_slices known texts)
 sized_filled s a [] texts k t h = (tt, tt)
 sized_filled s a (Some x ∷ known) texts k t h =
     let rest = sized_filled s (a + 1) known texts (k.0.1, k.1.1) t h in
@@ -150,10 +150,10 @@ pub record IsFound (s : ℕ) (found : List ℕ) : Type 0 where
 -- the lost texts give at each word what the recovery slice lacks
 abbrev pub Meets : ℕ → List (Option (List ℕ)) → List (List ℕ) → ℕ × List ℕ → Type 0
 Meets s known texts r = (w : ℕ) → 2 * w + 1 < s → dot (coefficients (lost_from 0 known) r.0) (map (word w) texts)
-    ≡ bit_xor (word w r.1) (dot (coefficients (known_from 0 known) r.0) (map (word w) (present known)))
+    ≡ bit_xor (word w r.1) (dot (coefficients (known_from 0 known) r.0) (map (word w) (known_alone known)))
 
 equation : (s e : ℕ) (known : List (Option (List ℕ))) (found : List ℕ) (texts : List (List ℕ)) → s % 2 ≡ 0 → AreKnown s known → AreSized s texts → length texts ≡ length (lost_from 0 known)
-    → IsFound s found → Meets s known texts (e, found) ↔ (recovery s (filled known texts) e ≡ found)
+    → IsFound s found → Meets s known texts (e, found) ↔ (recovery s (with_lost_slices known texts) e ≡ found)
 unfolding recovery
 equation s e known found texts even are_known sized count is = (
   λ h. whole ∙ all_words.1 (λ w low. parts w ∙ moved_back (ours w) (others w) (word w found) (h w low)),
@@ -161,7 +161,7 @@ equation s e known found texts even are_known sized count is = (
 )
   where
     ours : ℕ → ℕ
-    ours w = dot (coefficients (known_from 0 known) e) (map (word w) (present known))
+    ours w = dot (coefficients (known_from 0 known) e) (map (word w) (known_alone known))
 
     others : ℕ → ℕ
     others w = dot (coefficients (lost_from 0 known) e) (map (word w) texts)
@@ -169,19 +169,19 @@ equation s e known found texts even are_known sized count is = (
     rows : List ℕ
     rows = coefficients (range_with_len 0 (length known)) e
 
-    whole : recovery s (filled known texts) e ≡ combination s rows (filled known texts)
-    whole = ap (λ n. combination s (coefficients (range_with_len 0 n) e) (filled known texts)) (length-filled 0 known texts)
+    whole : recovery s (with_lost_slices known texts) e ≡ combination s rows (with_lost_slices known texts)
+    whole = ap (λ n. combination s (coefficients (range_with_len 0 n) e) (with_lost_slices known texts)) (length-filled 0 known texts)
 
-    parts : (w : ℕ) → dot rows (map (word w) (filled known texts)) ≡ bit_xor (ours w) (others w)
+    parts : (w : ℕ) → dot rows (map (word w) (with_lost_slices known texts)) ≡ bit_xor (ours w) (others w)
     parts w = split e w 0 known texts count
 
-    all_words : (combination s rows (filled known texts) ≡ found) ↔ ((w : ℕ) → 2 * w + 1 < s → dot rows (map (word w) (filled known texts)) ≡ word w found)
-    all_words = combination_words s rows (filled known texts) found even
-        (λ w. dot-lt (range_with_len 0 (length known)) e (map (word w) (filled known texts)) (words_small (filled known texts) w (sized_filled s 0 known texts are_known sized count).1))
+    all_words : (combination s rows (with_lost_slices known texts) ≡ found) ↔ ((w : ℕ) → 2 * w + 1 < s → dot rows (map (word w) (with_lost_slices known texts)) ≡ word w found)
+    all_words = combination_words s rows (with_lost_slices known texts) found even
+        (λ w. dot-lt (range_with_len 0 (length known)) e (map (word w) (with_lost_slices known texts)) (words_small (with_lost_slices known texts) w (sized_filled s 0 known texts are_known sized count).1))
         is.size is.bytes
 
 equations : (s : ℕ) (known : List (Option (List ℕ))) (texts : List (List ℕ)) (found : List (ℕ × List ℕ)) → s % 2 ≡ 0 → AreKnown s known → AreSized s texts → length texts ≡ length (lost_from 0 known)
-    → AllByRecursion (λ r. IsFound s r.1) found → AllByRecursion (λ r. Meets s known texts r) found ↔ AllByRecursion (λ r. recovery s (filled known texts) r.0 ≡ r.1) found
+    → AllByRecursion (λ r. IsFound s r.1) found → AllByRecursion (λ r. Meets s known texts r) found ↔ AllByRecursion (λ r. recovery s (with_lost_slices known texts) r.0 ≡ r.1) found
 equations s known texts [] even are_known sized count are = ((λ h. tt), (λ h. tt))
 equations s known texts (r ∷ found) even are_known sized count are =
     let here = equation s r.0 known r.1 texts even are_known sized count are.0 in
@@ -200,7 +200,7 @@ picked (Some x ∷ known) (t ∷ texts) = picked known texts
 AsKnown : List (Option (List ℕ)) → List (List ℕ) → Type 0
 AsKnown known texts = AllZip (λ slice text. ForSome slice (λ found. text ≡ found)) known texts
 
-filled_known : (a : ℕ) (known : List (Option (List ℕ))) (texts : List (List ℕ)) → length texts ≡ length (lost_from a known) → AsKnown known (filled known texts)
+filled_known : (a : ℕ) (known : List (Option (List ℕ))) (texts : List (List ℕ)) → length texts ≡ length (lost_from a known) → AsKnown known (with_lost_slices known texts)
 unfolding AsKnown
 filled_known a [] texts h = tt
 filled_known a (Some x ∷ known) texts h = ((λ y e. (cc)), filled_known (a + 1) known texts h)
@@ -222,7 +222,7 @@ picked_sized s (k ∷ known) [] h = (tt, tt)
 picked_sized s (None ∷ known) (t ∷ texts) h = let rest = picked_sized s known texts (h.0.1, h.1.1) in ((h.0.0, rest.0), (h.1.0, rest.1))
 picked_sized s (Some x ∷ known) (t ∷ texts) h = picked_sized s known texts (h.0.1, h.1.1)
 
-filled_picked : (known : List (Option (List ℕ))) (texts : List (List ℕ)) → AsKnown known texts → filled known (picked known texts) ≡ texts
+filled_picked : (known : List (Option (List ℕ))) (texts : List (List ℕ)) → AsKnown known texts → with_lost_slices known (picked known texts) ≡ texts
 unfolding AsKnown picked
 filled_picked [] [] h = refl
 filled_picked [] (t ∷ texts) h = absurd h
@@ -233,7 +233,7 @@ filled_picked (Some x ∷ known) (t ∷ texts) h = ap₂ (λ a b. a ∷ b) (sym 
 pub rebuilt_from : (s : ℕ) (known : List (Option (List ℕ))) (found : List (ℕ × List ℕ)) (texts : List (List ℕ)) → s % 2 ≡ 0 → AreKnown s known → AreSized s texts → length texts ≡ length (lost_from 0 known)
     → AllByRecursion (λ r. IsFound s r.1) found → AllByRecursion (λ r. Meets s known texts r) found
     → ((others : List (List ℕ)) → AreSized s others → length others ≡ length (lost_from 0 known) → AllByRecursion (λ r. Meets s known others r) found → others ≡ texts)
-    → IsRebuilt s known found (filled known texts)
+    → IsRebuilt s known found (with_lost_slices known texts)
 unfolding AsKnown
 rebuilt_from s known found texts even are_known sized count are meets only = record {
   agrees = record {
@@ -244,9 +244,9 @@ rebuilt_from s known found texts even are_known sized count are meets only = rec
   };
   only = λ others agrees.
       let lost_ones = picked known others in
-      let whole : filled known lost_ones ≡ others = filled_picked known others agrees.as_known in
+      let whole : with_lost_slices known lost_ones ≡ others = filled_picked known others agrees.as_known in
       let ours : AreSized s lost_ones = picked_sized s known others (agrees.sizes, agrees.bytes) in
       let number : length lost_ones ≡ length (lost_from 0 known) = picked_count 0 known others agrees.as_known in
       let met = (equations s known lost_ones found even are_known ours number are).1 (subst (λ slices. AllByRecursion (λ r. recovery s slices r.0 ≡ r.1) found) (sym whole) agrees.as_recovered) in
-      sym whole ∙ ap (filled known) (only lost_ones ours number met);
+      sym whole ∙ ap (with_lost_slices known) (only lost_ones ours number met);
 }

@@ -12,7 +12,7 @@ use Rattle.par2_spec.specs.Volumes as volumes
 use Rattle.par2_spec.specs.Volumes.{record_of, in_id_order}
 use Rattle.par2_spec.specs.Commands.{files_of}
 use Rattle.par2_spec.proofs.OrderLaws.{rising_records, files_of_ordered}
-use Rattle.par2_packets.specs.View.{file_record_of, id_number}
+use Rattle.par2_packets.specs.Views.{file_record_of, id_number}
 use Rattle.par2_packets.specs.declared.record.FileRecord.{FileRecord}
 
 pub record_push : (s : ℕ) (folder : Folder) (names : List (List ℕ)) (i : ℕ) (xs : List FileRecord) (x : FileRecord) (name bytes : List ℕ) → i < length names → name ≡ get_or names i [] → bytes ≡ bytes_of folder name

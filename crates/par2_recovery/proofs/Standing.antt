@@ -11,7 +11,7 @@ use Rattle.par2_spec.specs.Recovery.{dot, coefficients, combination}
 use Rattle.par2_spec.specs.Rank.{IsVector, IsRepairable, Kills, kept, kept_slices}
 use Rattle.par2_matrix.specs.Systems as systems
 use Rattle.par2_matrix.specs.Systems.{Equations, CutDown, IsIndependent, IsDependent, IsKilled, Solves, AreTexts, OnlyZeroIsKilled}
-use Rattle.par2_recovery.specs.Survivors.{recovered_of, known_of, present}
+use Rattle.par2_recovery.specs.Survivors.{recovered_of, known_of, known_alone}
 use Rattle.par2_recovery.specs.Elements.{IsUnit}
 use Rattle.par2_recovery.specs.Inverses.{recovery_at, CutByUnit, GivesUnit, IsEliminated}
 use Rattle.par2_recovery.proofs.Ranks.{Eliminated, is_kept, kept_is, dependent_is, one_kept, none_kept, none_offered, all_offered}
@@ -257,13 +257,13 @@ known_padded s (x ∷ slices) sizes bytes =
     let rest = known_padded s slices sizes.1 (λ r k. bytes (suc r) k) in
     ((length-padded-one s x.now sizes.0, rest.0), (bytes_padded (s - length x.now) x.now (bytes 0), rest.1))
 
-pub are_known : (s : ℕ) (known : List (Option (Bor (List ℕ)))) (slices : List (Bor (List ℕ))) → AllByRecursion (λ slice. length slice.now ≤ s) (present known) → texts_of slices ≡ texts_of (present known) → AreBytes (texts_of slices) → AreKnown s (known_of s known)
+pub are_known : (s : ℕ) (known : List (Option (Bor (List ℕ)))) (slices : List (Bor (List ℕ))) → AllByRecursion (λ slice. length slice.now ≤ s) (known_alone known) → texts_of slices ≡ texts_of (known_alone known) → AreBytes (texts_of slices) → AreKnown s (known_of s known)
 are_known s known slices sizes same bytes =
-    subst (AreSized s) (sym (present_of_map (λ (slice : Bor (List ℕ)). padded s slice.now) known)) (known_padded s (present known) sizes (subst AreBytes same bytes))
+    subst (AreSized s) (sym (present_of_map (λ (slice : Bor (List ℕ)). padded s slice.now) known)) (known_padded s (known_alone known) sizes (subst AreBytes same bytes))
 
-pub slices_are : (s : ℕ) (known : List (Option (Bor (List ℕ)))) (slices : List (Bor (List ℕ))) → texts_of slices ≡ texts_of (present known) → map (padded s) (texts_of slices) ≡ present (known_of s known)
+pub slices_are : (s : ℕ) (known : List (Option (Bor (List ℕ)))) (slices : List (Bor (List ℕ))) → texts_of slices ≡ texts_of (known_alone known) → map (padded s) (texts_of slices) ≡ known_alone (known_of s known)
 slices_are s known slices same =
-    ap (map (padded s)) same ∙ twice (present known) ∙ sym (present_of_map (λ (slice : Bor (List ℕ)). padded s slice.now) known)
+    ap (map (padded s)) same ∙ twice (known_alone known) ∙ sym (present_of_map (λ (slice : Bor (List ℕ)). padded s slice.now) known)
   where
     twice : (xs : List (Bor (List ℕ))) → map (padded s) (texts_of xs) ≡ map (λ slice. padded s slice.now) xs
     twice [] = refl

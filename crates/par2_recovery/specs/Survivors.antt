@@ -20,11 +20,11 @@ abbrev pub exponents_of : List (ℕ × Bor (List ℕ)) → List ℕ
 exponents_of recovery = map (λ r. r.0) (recovered_of recovery)
 
 -- the slices, of which the lost ones are these texts, in order
-abbrev pub filled : List (Option (List ℕ)) → List (List ℕ) → List (List ℕ)
-filled [] texts = []
-filled (Some slice ∷ known) texts = slice ∷ filled known texts
-filled (None ∷ known) [] = [] ∷ filled known []
-filled (None ∷ known) (text ∷ texts) = text ∷ filled known texts
+abbrev pub with_lost_slices : List (Option (List ℕ)) → List (List ℕ) → List (List ℕ)
+with_lost_slices [] texts = []
+with_lost_slices (Some slice ∷ known) texts = slice ∷ with_lost_slices known texts
+with_lost_slices (None ∷ known) [] = [] ∷ with_lost_slices known []
+with_lost_slices (None ∷ known) (text ∷ texts) = text ∷ with_lost_slices known texts
 
 -- the numbers of the lost slices, the first slice having the number a, and those of the known ones
 abbrev pub lost_from : {A : Type 0} → ℕ → List (Option A) → List ℕ
@@ -38,10 +38,10 @@ known_from a (None ∷ known) = known_from (a + 1) known
 known_from a (Some slice ∷ known) = a ∷ known_from (a + 1) known
 
 -- the known slices alone
-abbrev pub present : {A : Type 0} → List (Option A) → List A
-present [] = []
-present (None ∷ known) = present known
-present (Some slice ∷ known) = slice ∷ present known
+abbrev pub known_alone : {A : Type 0} → List (Option A) → List A
+known_alone [] = []
+known_alone (None ∷ known) = known_alone known
+known_alone (Some slice ∷ known) = slice ∷ known_alone known
 
 -- what a refusal says: of how many lost slices how many exponents are kept, and that they are too few
 abbrev pub IsTrueFault : List ℕ → List ℕ → RebuildFault → Type 0

@@ -3,7 +3,7 @@
 ghost use Rattle.std.specs.Prelude.{◌≡◌, ◌≤◌, take, IfOk};
 ghost use Rattle.md5.specs.Md5.{md5};
 ghost use Rattle.par2_spec.specs.Volumes.{record_of};
-ghost use Rattle.par2_packets.specs.View.{file_record_of};
+ghost use Rattle.par2_packets.specs.Views.{file_record_of};
 
 use md5::{Digest, Md5};
 use par2_packets::{FileRecord, file_id};
@@ -33,13 +33,13 @@ pub fn file_record_by_md5(
     requires digest { digest ≡ md5 bytes.now }
     ensures { IfOk result (λ made. file_record_of made ≡ record_of s (name.now, bytes.now)) }
 {
-    let md5_16k = Md5::digest(first_bytes(bytes, HEAD));
-    let length = bytes.len() as u64;
+    let digest_16k = Md5::digest(first_bytes(bytes, HEAD));
+    let size = bytes.len() as u64;
     Ok(FileRecord {
-        id: file_id(&md5_16k, length, name),
-        md5: digest,
-        md5_16k,
-        length,
+        id: file_id(&digest_16k, size, name),
+        digest,
+        digest_16k,
+        size,
         name: String::from_str(alloc, name)?,
         pairs: pairs_of(alloc, bytes, s)?,
     })

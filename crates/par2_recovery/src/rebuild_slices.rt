@@ -8,7 +8,7 @@ ghost use Rattle.par2_spec.specs.Rank.{IsRepairable, IsRebuilt, kept_slices};
 ghost use Rattle.par2_matrix.specs.Echelon.{list_at, lists_of};
 ghost use Rattle.par2_recovery.specs.Products.{AreBytes};
 ghost use Rattle.par2_recovery.specs.Views.{texts_of};
-ghost use Rattle.par2_recovery.specs.Survivors.{known_of, recovered_of, exponents_of, filled, lost_from, known_from, present, IsTrueFault};
+ghost use Rattle.par2_recovery.specs.Survivors.{known_of, recovered_of, exponents_of, with_lost_slices, lost_from, known_from, known_alone, IsTrueFault};
 ghost use Rattle.par2_recovery.specs.Inverses.{AreCombined};
 
 use crate::inverse::{Elimination, combined, eliminate};
@@ -20,7 +20,7 @@ use std::alloc::{AllocError, Global};
 #[derive(Drop)]
 pub struct Survivors<'a> {
     /// The slice size in bytes.
-    pub slice: usize,
+    pub slice_size: usize,
     /// For each slice its bytes, of which zeros may be missing at the end, or None where it is lost.
     pub known: Vec<Option<&'a [u8]>>,
     /// The recovery slices with their exponents, which rise.
@@ -84,7 +84,7 @@ fn known_numbers(alloc: Global, known: &[Option<&[u8]>]) -> Result<Vec<u32>, All
 
 // The known slices.
 fn known_slices<'a>(alloc: Global, known: &[Option<&'a [u8]>]) -> Result<Vec<&'a [u8]>, AllocError>
-    ensures { IfOk result (λ slices. slices.items ≡ present known.now) }
+    ensures { IfOk result (λ slices. slices.items ≡ known_alone known.now) }
 {
     let mut slices = Vec::new(alloc);
     for i in 0..known.len() {
@@ -104,20 +104,28 @@ fn lost_slices(
     inverse: &[Vec<u8>],
 ) -> Result<Vec<Vec<u8>>, AllocError>
     requires count { length survivors.now.known.items ≤ 32768 }
-    requires even { survivors.now.slice % 2 ≡ 0 }
+    requires even { survivors.now.slice_size % 2 ≡ 0 }
     requires inverse { (r : ℕ)
         → r < length inverse.now → length (list_at (lists_of inverse.now) r) ≡ 2 * length kept.now }
     requires inverse_bytes { AreBytes (lists_of inverse.now) }
-    ensures made { IfOk result (λ texts. AreCombined survivors.now.slice (lists_of inverse.now)
-        (known_from 0 survivors.now.known.items) (texts_of (present survivors.now.known.items))
+    ensures made { IfOk result (λ texts. AreCombined survivors.now.slice_size (lists_of inverse.now)
+        (known_from 0 survivors.now.known.items) (texts_of (known_alone survivors.now.known.items))
         (recovered_of kept.now) (lists_of texts.items)) }
-    ensures known { IfOk result (λ _. AreBytes (texts_of (present survivors.now.known.items))) }
+    ensures known { IfOk result (λ _. AreBytes (texts_of (known_alone survivors.now.known.items))) }
     ensures found { IfOk result (λ _. AreBytes (map (λ r. r.1) (recovered_of kept.now))) }
 {
     let numbers = known_numbers(alloc, &survivors.known)?;
     let known = known_slices(alloc, &survivors.known)?;
     fit_texts(&known);
-    combined(alloc, gf, inverse, kept, &numbers, &known, survivors.slice)
+    combined(
+        alloc,
+        gf,
+        inverse,
+        kept,
+        &numbers,
+        &known,
+        survivors.slice_size,
+    )
 }
 
 // What `rebuild` answers, but for want of memory.
@@ -127,17 +135,17 @@ fn solve(
     survivors: &Survivors,
 ) -> Result<Result<Vec<Vec<u8>>, RebuildFault>, AllocError>
     requires count { length survivors.now.known.items ≤ 32768 }
-    requires even { survivors.now.slice % 2 ≡ 0 }
+    requires even { survivors.now.slice_size % 2 ≡ 0 }
     requires known { AllByRecursion (λ slice. length slice.now
-        ≤ survivors.now.slice) (present survivors.now.known.items) }
+        ≤ survivors.now.slice_size) (known_alone survivors.now.known.items) }
     requires recovery { AllByRecursion (λ r. length r.1
-        ≡ survivors.now.slice) (recovered_of survivors.now.recovery.items) }
+        ≡ survivors.now.slice_size) (recovered_of survivors.now.recovery.items) }
     requires exponents { IsStrictlyIncreasing (exponents_of survivors.now.recovery.items) }
-    ensures { let known = known_of survivors.now.slice survivors.now.known.items in
+    ensures { let known = known_of survivors.now.slice_size survivors.now.known.items in
         let exponents = exponents_of survivors.now.recovery.items in
-        IfOk result (λ answer. MatchResult answer (λ texts. IsRebuilt survivors.now.slice known
+        IfOk result (λ answer. MatchResult answer (λ texts. IsRebuilt survivors.now.slice_size known
         (kept_slices (lost known) exponents (recovered_of survivors.now.recovery.items))
-        (filled known (lists_of texts.items)) × (length texts.items ≡ length (lost known))
+        (with_lost_slices known (lists_of texts.items)) × (length texts.items ≡ length (lost known))
         × IsRepairable (lost known) exponents) (IsTrueFault (lost known) exponents)) }
 {
     let lost = lost_numbers(alloc, &survivors.known)?;
@@ -154,22 +162,23 @@ fn solve(
 /// them: then of `missing` lost slices no more than `rank` exponents are kept.
 pub fn rebuild(alloc: Global, gf: &Gf, survivors: &Survivors) -> Result<Vec<Vec<u8>>, RebuildFault>
     requires count { length survivors.now.known.items ≤ 32768 }
-    requires even { survivors.now.slice % 2 ≡ 0 }
+    requires even { survivors.now.slice_size % 2 ≡ 0 }
     requires known { AllByRecursion (λ slice. length slice.now
-        ≤ survivors.now.slice) (present survivors.now.known.items) }
+        ≤ survivors.now.slice_size) (known_alone survivors.now.known.items) }
     requires recovery { AllByRecursion (λ r. length r.1
-        ≡ survivors.now.slice) (recovered_of survivors.now.recovery.items) }
+        ≡ survivors.now.slice_size) (recovered_of survivors.now.recovery.items) }
     requires exponents { IsStrictlyIncreasing (exponents_of survivors.now.recovery.items) }
-    ensures rebuilt { let known = known_of survivors.now.slice survivors.now.known.items in
-        IfOk result (λ texts. IsRebuilt survivors.now.slice known
+    ensures rebuilt { let known = known_of survivors.now.slice_size survivors.now.known.items in
+        IfOk result (λ texts. IsRebuilt survivors.now.slice_size known
         (kept_slices (lost known) (exponents_of survivors.now.recovery.items)
-        (recovered_of survivors.now.recovery.items)) (filled known (lists_of texts.items))) }
+        (recovered_of survivors.now.recovery.items)) (with_lost_slices known (lists_of
+        texts.items))) }
     ensures count { IfOk result (λ texts. length texts.items
-        ≡ length (lost (known_of survivors.now.slice survivors.now.known.items))) }
+        ≡ length (lost (known_of survivors.now.slice_size survivors.now.known.items))) }
     ensures repairable { IsOk result
-        → IsRepairable (lost (known_of survivors.now.slice survivors.now.known.items))
+        → IsRepairable (lost (known_of survivors.now.slice_size survivors.now.known.items))
         (exponents_of survivors.now.recovery.items) }
-    ensures refused { IfErr result (IsTrueFault (lost (known_of survivors.now.slice
+    ensures refused { IfErr result (IsTrueFault (lost (known_of survivors.now.slice_size
         survivors.now.known.items)) (exponents_of survivors.now.recovery.items)) }
 {
     solve(alloc, gf, survivors)?

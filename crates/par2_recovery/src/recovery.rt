@@ -143,15 +143,16 @@ pub(crate) fn slices_of<'a>(
     record: &SetRecord,
     folder: &'a Folder,
 ) -> Result<Vec<&'a [u8]>, AllocError>
-    requires size { 1 ≤ record.now.slice }
+    requires size { 1 ≤ record.now.slice_size }
     requires names { AllByRecursion (λ name. IsTrue (is_name name)) (names_of record.now) }
-    ensures slices { IfOk result (λ all. map (spec.padded record.now.slice) (texts_of all.items)
-        ≡ all_slices record.now.slice (files_of folder.now.files (names_of record.now))) }
+    ensures slices { IfOk result (λ all. map (spec.padded record.now.slice_size) (texts_of
+        all.items)
+        ≡ all_slices record.now.slice_size (files_of folder.now.files (names_of record.now))) }
     ensures bytes { IfOk result (λ all. AreBytes (texts_of all.items)) }
 {
     let mut all = Vec::new(alloc);
     for i in 0..record.files.len() {
-        all = with_slices(all, bytes_of(folder, name_at(record, i)), record.slice)?;
+        all = with_slices(all, bytes_of(folder, name_at(record, i)), record.slice_size)?;
     }
     Ok(all)
 }
@@ -166,18 +167,19 @@ pub fn recovery_slices(
     first: u32,
     count: u32,
 ) -> Result<Vec<Vec<u8>>, AllocError>
-    requires size { 1 ≤ record.now.slice }
-    requires even { record.now.slice % 2 ≡ 0 }
+    requires size { 1 ≤ record.now.slice_size }
+    requires even { record.now.slice_size % 2 ≡ 0 }
     requires names { AllByRecursion (λ name. IsTrue (is_name name)) (names_of record.now) }
     requires slices { length
-        (all_slices record.now.slice (files_of folder.now.files (names_of record.now))) ≤ 32768 }
+        (all_slices record.now.slice_size (files_of folder.now.files (names_of record.now)))
+        ≤ 32768 }
     requires exponents { first + count ≤ 65536 }
     ensures { IfOk result (λ texts. lists_of texts.items
-        ≡ map (recovery record.now.slice (all_slices record.now.slice
+        ≡ map (recovery record.now.slice_size (all_slices record.now.slice_size
         (files_of folder.now.files (names_of record.now)))) (range_with_len first count)) }
 {
     let slices = slices_of(alloc, record, folder)?;
-    recovery_of(alloc, gf, &slices, record.slice as usize, first, count)
+    recovery_of(alloc, gf, &slices, record.slice_size as usize, first, count)
 }
 
 /// The recovery slice of exponent `e` over the slices of the record's files. A file that is absent has no slices.
@@ -188,14 +190,15 @@ pub fn recovery_slice(
     folder: &Folder,
     e: u32,
 ) -> Result<Vec<u8>, AllocError>
-    requires size { 1 ≤ record.now.slice }
-    requires even { record.now.slice % 2 ≡ 0 }
+    requires size { 1 ≤ record.now.slice_size }
+    requires even { record.now.slice_size % 2 ≡ 0 }
     requires names { AllByRecursion (λ name. IsTrue (is_name name)) (names_of record.now) }
     requires slices { length
-        (all_slices record.now.slice (files_of folder.now.files (names_of record.now))) ≤ 32768 }
+        (all_slices record.now.slice_size (files_of folder.now.files (names_of record.now)))
+        ≤ 32768 }
     requires exponent { e < 65536 }
-    ensures { IfOk result (λ text. text.items ≡ recovery record.now.slice
-        (all_slices record.now.slice (files_of folder.now.files (names_of record.now))) e) }
+    ensures { IfOk result (λ text. text.items ≡ recovery record.now.slice_size
+        (all_slices record.now.slice_size (files_of folder.now.files (names_of record.now))) e) }
 {
     let mut texts = recovery_slices(alloc, gf, record, folder, e, 1)?;
     Ok(texts.remove(0))

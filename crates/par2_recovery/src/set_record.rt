@@ -11,7 +11,7 @@ ghost use Rattle.par2_spec.specs.Folders.{File};
 ghost use Rattle.par2_spec.specs.Names.{is_name};
 ghost use Rattle.par2_spec.specs.Volumes.{in_id_order};
 ghost use Rattle.par2_spec.specs.Commands.{files_of};
-ghost use Rattle.par2_packets.specs.View.{id_number};
+ghost use Rattle.par2_packets.specs.Views.{id_number};
 ghost use Rattle.par2_recovery.specs.Views.{AreRecords, names_of};
 
 use crate::file_records::file_record_by_md5;
@@ -25,7 +25,7 @@ use std::alloc::{AllocError, Global};
 #[derive(Drop)]
 pub struct SetRecord {
     /// The slice size in bytes.
-    pub slice: u64,
+    pub slice_size: u64,
     /// The files, in the order of their File IDs.
     pub files: Vec<FileRecord>,
 }
@@ -88,7 +88,7 @@ impl SetRecord {
     /// taken for the records, so there is no other fault than that two of them have one File ID.
     pub fn of_records(mut files: Vec<FileRecord>, s: u64) -> Result<SetRecord, DuplicateId>
         ensures distinct { IsOk result ↔ IsDistinct bytes_eq (map (λ file. file.id) files.items) }
-        ensures slice { IfOk result (λ set. set.slice ≡ s) }
+        ensures slice { IfOk result (λ set. set.slice_size ≡ s) }
         ensures rising { IfOk result
             (λ set. IsStrictlyIncreasing (map id_number set.files.items)) }
         ensures permutation { IfOk result (λ set. IsPermutation files.items set.files.items) }
@@ -100,6 +100,9 @@ impl SetRecord {
             → files_of folder (names_of set) ≡ in_id_order (files_of folder names)) }
     {
         sort_ids(files.as_mut_slice())?;
-        Ok(SetRecord { slice: s, files })
+        Ok(SetRecord {
+            slice_size: s,
+            files,
+        })
     }
 }

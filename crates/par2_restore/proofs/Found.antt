@@ -9,7 +9,7 @@ use Rattle.par2_spec.specs.Rank.{IsRebuilt, IsRepairable, is_independent, kept, 
 use Rattle.par2_spec.specs.Recovery.{dot, coefficients}
 use Rattle.par2_spec.specs.Search.{lost}
 use Rattle.par2_recovery.specs.Products.{AreBytes}
-use Rattle.par2_recovery.specs.Survivors.{present, filled, lost_from, recovered_of, exponents_of}
+use Rattle.par2_recovery.specs.Survivors.{known_alone, with_lost_slices, lost_from, recovered_of, exponents_of}
 use Rattle.par2_recovery.specs.Views.{texts_of}
 use Rattle.par2_recovery.specs.declared.rebuild_slices.Survivors as code
 use Rattle.par2_recovery.proofs.Rebuilding.{lost_is, lost_of_map, rebuilt_from}
@@ -19,7 +19,7 @@ use Rattle.par2_search.specs.Texts.{Window}
 use Rattle.par2_restore.specs.Survivors.{CanRebuild, AreRebuilt, AreEnough, known_among}
 use Rattle.par2_restore.specs.Texts.{IsFound}
 
-found_bytes : (windows : List Window) → All IsFound windows → AreBytes (texts_of (present windows))
+found_bytes : (windows : List Window) → All IsFound windows → AreBytes (texts_of (known_alone windows))
 found_bytes [] h r k = omega arith
 found_bytes (None ∷ windows) h r k = absurd (All-head IsFound None windows h)
 found_bytes (Some window ∷ windows) h zero k = All-head IsFound (Some window) windows h k
@@ -52,11 +52,11 @@ no_slice_kept exponents recovery = none_pass _ recovery (λ r. ap (list_any (λ 
 
 pub nothing_lost : (survivors : code.Survivors) → All IsFound survivors.known.items → lost (known_among survivors) ≡ []
 nothing_lost survivors all =
-    lost_is (known_among survivors) ∙ lost_of_map (λ slice. padded survivors.slice slice.now) 0 survivors.known.items ∙ none_lost 0 survivors.known.items all
+    lost_is (known_among survivors) ∙ lost_of_map (λ slice. padded survivors.slice_size slice.now) 0 survivors.known.items ∙ none_lost 0 survivors.known.items all
 
-pub found_are_rebuilt : (survivors : code.Survivors) → CanRebuild survivors → All IsFound survivors.known.items → AreRebuilt survivors (filled (known_among survivors) [])
+pub found_are_rebuilt : (survivors : code.Survivors) → CanRebuild survivors → All IsFound survivors.known.items → AreRebuilt survivors (with_lost_slices (known_among survivors) [])
 found_are_rebuilt survivors can all =
-    let s = survivors.slice in
+    let s = survivors.slice_size in
     let windows : List Window = survivors.known.items in
     let known : List (Option (List ℕ)) = known_among survivors in
     let exponents = exponents_of survivors.recovery.items in
@@ -64,10 +64,10 @@ found_are_rebuilt survivors can all =
     let nothing : lost known ≡ [] = nothing_lost survivors all in
     let kept_none : kept_slices (lost known) exponents recovery ≡ [] = ap (λ l. kept_slices l exponents recovery) nothing ∙ no_slice_kept exponents recovery in
     let count : 0 ≡ length (lost_from 0 known) = sym (ap length (sym (lost_is known) ∙ nothing)) in
-    let alone : IsRebuilt s known [] (filled known []) =
-    rebuilt_from s known [] [] can.even (are_known s windows (present windows) can.known refl (found_bytes windows all)) (tt, tt) count tt tt
+    let alone : IsRebuilt s known [] (with_lost_slices known []) =
+    rebuilt_from s known [] [] can.even (are_known s windows (known_alone windows) can.known refl (found_bytes windows all)) (tt, tt) count tt tt
     (λ others sized number met. nil_from_length others (number ∙ sym count)) in
-    subst (λ found. IsRebuilt s known found (filled known [])) (sym kept_none) alone
+    subst (λ found. IsRebuilt s known found (with_lost_slices known [])) (sym kept_none) alone
 
 pub found_are_enough : (survivors : code.Survivors) → All IsFound survivors.known.items → AreEnough survivors
 found_are_enough survivors all = subst (λ l. IsRepairable l (exponents_of survivors.recovery.items)) (sym (nothing_lost survivors all)) none_unknown

@@ -12,7 +12,7 @@ use Rattle.par2_recovery.specs.Survivors.{recovered_of, exponents_of, IsTrueFaul
 use Rattle.par2_recovery.specs.declared.rebuild_slices.RebuildFault.{RebuildFault}
 use Rattle.par2_recovery.specs.declared.rebuild_slices.RebuildFault.TheVariants as why
 use Rattle.par2_recovery.specs.declared.rebuild_slices.Survivors as code
-use Rattle.par2_restore.specs.Restoring.{undetermined}
+use Rattle.par2_restore.specs.Restoring.{undetermined_fault}
 use Rattle.par2_restore.specs.Survivors.{known_among, AreSurvivors, AreRebuilt, AreEnough, fault_of}
 
 pub rebuilt_for : (set : ParSet) (known : List (Option (List ℕ))) (found : code.Survivors) (slices : List (List ℕ)) → AreSurvivors set known found → AreRebuilt found slices
@@ -34,23 +34,23 @@ refused_where true P says h = absurd (h (says.0 refl))
 refused_where false P says h = refl
 
 true_fault : (set : ParSet) (known : List (Option (List ℕ))) → (IsTrue (is_repairable (lost known) (survivors set)) ↔ IsRepairable (lost known) (survivors set))
-    → (fault : RebuildFault) → IsTrueFault (lost known) (survivors set) fault → (fault_of fault ≡ Memory) ⊎ (undetermined set known ≡ Some (fault_of fault))
+    → (fault : RebuildFault) → IsTrueFault (lost known) (survivors set) fault → (fault_of fault ≡ Memory) ⊎ (undetermined_fault set known ≡ Some (fault_of fault))
 true_fault set known says why.Memory h = inl refl
 true_fault set known says (why.NotRepairable missing rank) h =
     let no : is_repairable (lost known) (survivors set) ≡ false = refused_where _ _ says h.2 in
-    let e : undetermined set known ≡ Some (fault_of (why.NotRepairable missing rank)) =
+    let e : undetermined_fault set known ≡ Some (fault_of (why.NotRepairable missing rank)) =
     ap₂ (λ b f. fault_where (not b) f) no (ap₂ (λ m r. fault_of (why.NotRepairable m r)) (sym h.0) (sym h.1)) in inr e
 
 pub fault_for : (set : ParSet) (known : List (Option (List ℕ))) (found : code.Survivors) → AreSurvivors set known found
     → (IsTrue (is_repairable (lost known) (survivors set)) ↔ IsRepairable (lost known) (survivors set))
-    → (fault : RebuildFault) → IsTrueFault (lost (known_among found)) (exponents_of found.recovery.items) fault → (fault_of fault ≡ Memory) ⊎ (undetermined set known ≡ Some (fault_of fault))
+    → (fault : RebuildFault) → IsTrueFault (lost (known_among found)) (exponents_of found.recovery.items) fault → (fault_of fault ≡ Memory) ⊎ (undetermined_fault set known ≡ Some (fault_of fault))
 fault_for set known found are says fault h =
     true_fault set known says fault
     (subst (λ recs. IsTrueFault (lost known) (map (λ r. r.0) recs) fault) are.recovery
     (subst (λ kn. IsTrueFault (lost kn) (exponents_of found.recovery.items) fault) are.known h))
 
 pub no_fault : (set : ParSet) (known : List (Option (List ℕ))) → (IsTrue (is_repairable (lost known) (survivors set)) ↔ IsRepairable (lost known) (survivors set))
-    → IsRepairable (lost known) (survivors set) → undetermined set known ≡ None
+    → IsRepairable (lost known) (survivors set) → undetermined_fault set known ≡ None
 no_fault set known says h =
     let yes : is_repairable (lost known) (survivors set) ≡ true = says.1 h in
     ap (λ b. fault_where (not b) (NotRepairable (length (lost known)) (rank (lost known) (survivors set)))) yes

@@ -8,8 +8,8 @@ use Rattle.par2_spec.specs.Folders.{File}
 use Rattle.par2_spec.specs.Names.{is_among}
 use Rattle.par2_spec.specs.Rank.{is_repairable, rank}
 use Rattle.par2_spec.specs.Repairs.{files_of_slices}
-use Rattle.par2_spec.specs.Search.{all_pairs, lost, survivors}
-use Rattle.par2_spec.specs.Sets.{ParSet, Target}
+use Rattle.par2_spec.specs.Search.{lost, survivors}
+use Rattle.par2_spec.specs.Sets.{all_pairs, ParSet, Target}
 use Rattle.par2_spec.specs.Windows.{found}
 use Rattle.par2_spec.specs.declared.Fault.{Fault}
 use Rattle.par2_spec.specs.declared.Fault.TheVariants.{NotRepairable, RepairFailed}
@@ -19,8 +19,8 @@ abbrev pub known_in : ParSet → List (List ℕ) → List (Option (List ℕ))
 known_in set texts = map (found set.slice_size texts) (all_pairs set)
 
 -- why the lost slices can't be rebuilt, if they can't
-abbrev pub undetermined : ParSet → List (Option (List ℕ)) → Option Fault
-undetermined set known =
+abbrev pub undetermined_fault : ParSet → List (Option (List ℕ)) → Option Fault
+undetermined_fault set known =
     let missing = lost known in
     fault_where (not (is_repairable missing (survivors set))) (NotRepairable (length missing) (rank missing (survivors set)))
 

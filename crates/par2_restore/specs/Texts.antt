@@ -14,11 +14,11 @@ abbrev pub slices_of : ℕ → List Slice → List (List ℕ)
 slices_of s slices = map (λ slice. padded s (text_of slice)) slices
 
 -- the windows, and between them these texts in order, none once there are no more
-abbrev pub merged : List Window → List (List ℕ) → List (List ℕ)
-merged [] texts = []
-merged (Some window ∷ windows) texts = window.now ∷ merged windows texts
-merged (None ∷ windows) [] = [] ∷ merged windows []
-merged (None ∷ windows) (text ∷ texts) = text ∷ merged windows texts
+abbrev pub windows_and_texts : List Window → List (List ℕ) → List (List ℕ)
+windows_and_texts [] texts = []
+windows_and_texts (Some window ∷ windows) texts = window.now ∷ windows_and_texts windows texts
+windows_and_texts (None ∷ windows) [] = [] ∷ windows_and_texts windows []
+windows_and_texts (None ∷ windows) (text ∷ texts) = text ∷ windows_and_texts windows texts
 
 -- a window that is there, of bytes
 abbrev pub IsFound : Window → Type 0

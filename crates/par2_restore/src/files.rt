@@ -1,7 +1,7 @@
 //! Files that are cut out of slices.
 ghost use Rattle.std.specs.Prelude.{◌≡◌, ◌⊎◌, ◌+◌, ◌≤◌, Some, None, length, IsTrue, IsFalse, IfOk, IfErr};
 ghost use Rattle.std.specs.List.{AllByRecursion};
-ghost use Rattle.par2_spec.specs.Search.{all_pairs};
+ghost use Rattle.par2_spec.specs.Sets.{all_pairs};
 ghost use Rattle.par2_restore.specs.Names.{HoldsNames};
 ghost use Rattle.par2_restore.specs.Restoring.{targets_among, target_at, has_digest, files_of, wrong_digest, IsAsDescribed};
 

@@ -3,13 +3,14 @@ ghost use Rattle.std.specs.Prelude.{◌≡◌, ◌⊎◌, ◌+◌, ◌^◌, ◌+
 ghost use Rattle.std.specs.List.{All, AllByRecursion, concat};
 ghost use Rattle.par2_matrix.specs.Systems.{lists_of};
 ghost use Rattle.par2_spec.specs.Repairs.{rebuilt};
-ghost use Rattle.par2_spec.specs.Search.{all_pairs, lost};
+ghost use Rattle.par2_spec.specs.Search.{lost};
+ghost use Rattle.par2_spec.specs.Sets.{all_pairs};
 ghost use Rattle.par2_spec.specs.Slices.{padded};
 ghost use Rattle.par2_search.specs.Texts.{texts_of};
-ghost use Rattle.par2_recovery.specs.Survivors.{exponents_of, filled, IsTrueFault};
-ghost use Rattle.par2_restore.specs.Restoring.{known_in, undetermined};
+ghost use Rattle.par2_recovery.specs.Survivors.{exponents_of, with_lost_slices, IsTrueFault};
+ghost use Rattle.par2_restore.specs.Restoring.{known_in, undetermined_fault};
 ghost use Rattle.par2_restore.specs.Survivors.{known_among, AreSurvivors, AreRebuilt, AreEnough, CanRebuild, fault_of};
-ghost use Rattle.par2_restore.specs.Texts.{merged, slices_of, text_of, IsFound};
+ghost use Rattle.par2_restore.specs.Texts.{windows_and_texts, slices_of, text_of, IsFound};
 
 use par2_gf16::Gf;
 use par2_recovery::{RebuildFault, Survivors, rebuild};
@@ -135,7 +136,7 @@ fn survivors_of<'a>(
     let slice_size = set.slice_size();
     let pairs = all_pairs(alloc, set)?;
     Ok(Survivors {
-        slice: slice_size as usize,
+        slice_size: slice_size as usize,
         known: found_windows(alloc, texts, slice_size, &pairs)?,
         recovery: Vec::from_slice(alloc, set.recovery())?,
     })
@@ -147,7 +148,7 @@ fn merged<'a>(
     windows: &[Option<&'a [u8]>],
     rebuilt: Vec<Vec<u8>>,
 ) -> Result<Vec<Slice<'a>>, AllocError>
-    ensures { let texts = merged windows.now (lists_of rebuilt.items) in
+    ensures { let texts = windows_and_texts windows.now (lists_of rebuilt.items) in
         IfOk result (λ slices. map text_of slices.items ≡ texts) }
 {
     let mut slices = Vec::with_capacity(alloc, windows.len())?;
@@ -196,7 +197,8 @@ fn are_found(windows: &[Option<&[u8]>]) -> bool
 fn lost_slices(alloc: Global, survivors: &Survivors) -> Result<Vec<Vec<u8>>, RebuildFault>
     requires { CanRebuild survivors.now }
     ensures rebuilt { let known = known_among survivors.now in
-        IfOk result (λ texts. AreRebuilt survivors.now (filled known (lists_of texts.items))) }
+        IfOk result (λ texts. AreRebuilt survivors.now (with_lost_slices known (lists_of
+        texts.items))) }
     ensures enough { IsOk result → AreEnough survivors.now }
     ensures refused { let exponents = exponents_of survivors.now.recovery.items in
         IfErr result (IsTrueFault (lost (known_among survivors.now)) exponents) }
@@ -217,7 +219,7 @@ fn slices_by<'a>(alloc: Global, survivors: &Survivors<'a>) -> Result<Slices<'a>,
 {
     let rebuilt = lost_slices(alloc, survivors)?;
     Ok(Slices {
-        slice_size: survivors.slice,
+        slice_size: survivors.slice_size,
         slices: merged(alloc, &survivors.known, rebuilt)?,
     })
 }
@@ -229,9 +231,10 @@ pub fn restored_slices<'a>(
     texts: &[&'a [u8]],
 ) -> Result<Slices<'a>, Fault>
     ensures refused { let known = known_in set.now (texts_of texts.now) in
-        IfErr result (λ fault. (fault ≡ Fault.Memory) ⊎ (undetermined set.now known ≡ Some fault)) }
+        IfErr result (λ fault. (fault ≡ Fault.Memory) ⊎ (undetermined_fault set.now known
+        ≡ Some fault)) }
     ensures determined { let known = known_in set.now (texts_of texts.now) in
-        IfOk result (λ _. undetermined set.now known ≡ None) }
+        IfOk result (λ _. undetermined_fault set.now known ≡ None) }
     ensures slices { let known = known_in set.now (texts_of texts.now) in
         IfOk result (λ slices. slices ≡ rebuilt set.now known) }
     ensures count { IfOk result (λ slices. length slices ≡ length (all_pairs set.now)) }

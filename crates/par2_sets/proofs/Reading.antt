@@ -11,20 +11,20 @@ use Rattle.std.specs.Borrow.{Bor}
 use Rattle.std.specs.FinMap.{entries}
 use Rattle.par2_sets.specs.Slices.{recovered_of, set_view}
 use Rattle.par2_sets.proofs.Exponents.{made_of}
-use Rattle.par2_sets.specs.Steps.{first_id, set_packets, described, checked}
+use Rattle.par2_sets.specs.Steps.{first_id, set_packets, descriptions_of, targets_or_fault}
 
 abbrev pub with_targets : List ℕ → List Packet → ℕ → List Target → Result ParSet Fault
 with_targets id packets s targets =
     Ok (record { id = id; slice_size = s; targets = targets; recovery = recovery_of packets s })
 
 abbrev pub with_names : List ℕ → List Packet → ℕ → List DescBody → Result ParSet Fault
-with_names id packets s ds = checked packets s ds >>= with_targets id packets s
+with_names id packets s ds = targets_or_fault packets s ds >>= with_targets id packets s
 
 abbrev pub with_descriptions : List ℕ → List Packet → ℕ → List DescBody → Result ParSet Fault
 with_descriptions id packets s ds = unless (are_in_profile s ds) BadSet >>= (λ _. with_names id packets s ds)
 
 abbrev pub with_size : List ℕ → List Packet → MainBody → Result ParSet Fault
-with_size id packets main = described packets main.ids >>= with_descriptions id packets main.slice_size
+with_size id packets main = descriptions_of packets main.ids >>= with_descriptions id packets main.slice_size
 
 abbrev pub with_main : List ℕ → List Packet → MainBody → Result ParSet Fault
 with_main id packets main = unless (is_slice_size main.slice_size) BadSet >>= (λ _. with_size id packets main)
@@ -56,10 +56,10 @@ module _ (files : Folder) (base id : List ℕ) (packets : List Packet) (main : M
       ∙ ap (λ b. unless b BadSet >>= (λ _. with_size id packets main)) begun.size
 
   -- the descriptions end in a fault
-  pub not_described : (fault : Fault) → described packets main.ids ≡ Err fault → set_of files base ≡ Err fault
+  pub not_described : (fault : Fault) → descriptions_of packets main.ids ≡ Err fault → set_of files base ≡ Err fault
   not_described fault h = at_size ∙ ap (λ r. r >>= with_descriptions id packets main.slice_size) h
 
-  module _ (ds : List DescBody) (read : described packets main.ids ≡ Ok ds) where
+  module _ (ds : List DescBody) (read : descriptions_of packets main.ids ≡ Ok ds) where
     at_descriptions : set_of files base ≡ with_descriptions id packets main.slice_size ds
     at_descriptions = at_size ∙ ap (λ r. r >>= with_descriptions id packets main.slice_size) read
 
@@ -72,11 +72,11 @@ module _ (files : Folder) (base id : List ℕ) (packets : List Packet) (main : M
       at_names = at_descriptions ∙ ap (λ r. r >>= (λ _. with_names id packets main.slice_size ds)) taken
 
       -- the targets end in a fault
-      pub not_checked : (fault : Fault) → checked packets main.slice_size ds ≡ Err fault → set_of files base ≡ Err fault
+      pub not_checked : (fault : Fault) → targets_or_fault packets main.slice_size ds ≡ Err fault → set_of files base ≡ Err fault
       not_checked fault h = at_names ∙ ap (λ r. r >>= with_targets id packets main.slice_size) h
 
       -- the set
-      pub all_read : (targets : List Target) → checked packets main.slice_size ds ≡ Ok targets → set_of files base ≡ with_targets id packets main.slice_size targets
+      pub all_read : (targets : List Target) → targets_or_fault packets main.slice_size ds ≡ Ok targets → set_of files base ≡ with_targets id packets main.slice_size targets
       all_read targets h = at_names ∙ ap (λ r. r >>= with_targets id packets main.slice_size) h
 
 -- the parts make the set

@@ -6,8 +6,7 @@ use Rattle.std.specs.FinMap.{from_sorted}
 use Rattle.std.specs.Map.{lookup}
 use Rattle.std.specs.Ordering.{nat_cmp, eq_by_cmp}
 use Rattle.par2_spec.specs.Packets.{Packet, read_recovery}
-use Rattle.par2_spec.specs.Sets.{ParSet, Target}
-use Rattle.par2_spec.specs.Rules.{IsSound}
+use Rattle.par2_spec.specs.Sets.{ParSet, Target, IsSound}
 use Rattle.std.specs.List.Sorted.{IsStrictlyIncreasing}
 
 -- an exponent with its recovery slice

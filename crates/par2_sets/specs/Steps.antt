@@ -24,8 +24,8 @@ set_packets folder base id =
     (flat_map accepted (bytes_of folder base ∷ map (bytes_of folder) (other_par_names folder base)))
 
 -- the descriptions of the files with these File IDs
-abbrev pub described : List Packet → List (List ℕ) → Result (List DescBody) Fault
-described packets ids = ok_or (all_some (map (description_of packets) ids)) NoDescription
+abbrev pub descriptions_of : List Packet → List (List ℕ) → Result (List DescBody) Fault
+descriptions_of packets ids = ok_or (all_some (map (description_of packets) ids)) NoDescription
 
 -- the checksums of a file's slices
 abbrev pub checksums_for : List Packet → ℕ → DescBody → Result (List Pair) Fault
@@ -33,9 +33,9 @@ checksums_for packets s d =
     ok_or (if d.size == 0 then Some [] else pairs_of packets d.id (slice_count s d.size)) NoChecksums
 
 -- the target of a description
-abbrev pub checked_target : List Packet → ℕ → DescBody → Result Target Fault
-checked_target packets s d = ok_or (target_of packets s d) NoChecksums
+abbrev pub target_or_fault : List Packet → ℕ → DescBody → Result Target Fault
+target_or_fault packets s d = ok_or (target_of packets s d) NoChecksums
 
 -- the targets of these descriptions
-abbrev pub checked : List Packet → ℕ → List DescBody → Result (List Target) Fault
-checked packets s ds = ok_or (all_some (map (target_of packets s) ds)) NoChecksums
+abbrev pub targets_or_fault : List Packet → ℕ → List DescBody → Result (List Target) Fault
+targets_or_fault packets s ds = ok_or (all_some (map (target_of packets s) ds)) NoChecksums

@@ -3,7 +3,7 @@
 ghost use Rattle.std.specs.Prelude.{◌≡◌, ◌≤◌, ℕ, List, map, option_map, IfOk};
 ghost use Rattle.par2_spec.specs.Packets as spec;
 ghost use Rattle.par2_spec.specs.Sets.{pairs_of};
-ghost use Rattle.par2_packets.specs.View.{packet_of};
+ghost use Rattle.par2_packets.specs.Views.{packet_of};
 ghost use Rattle.par2_sets.specs.Firsts.{HoldChecksums};
 ghost use Rattle.par2_sets.specs.Steps.{Gives, checksums_for};
 
@@ -68,10 +68,10 @@ pub(crate) fn pairs_for(
     ensures { (packets : List spec.Packet) → HoldChecksums packets firsts.now →
         Gives (λ list. list.items) result (checksums_for packets s description.now) }
 {
-    if description.length() == 0 {
+    if description.size() == 0 {
         return Ok(Vec::new(alloc));
     }
-    let count = slice_count(s, description.length());
+    let count = slice_count(s, description.size());
     let checksums = checksums_of(firsts, description.id(), count).ok_or(Fault::NoChecksums)?;
     pairs_in(alloc, checksums).map_err(|_: AllocError| Fault::Memory)
 }

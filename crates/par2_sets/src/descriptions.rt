@@ -3,9 +3,9 @@
 ghost use Rattle.std.specs.Prelude.{◌≡◌, List, map, IfOk};
 ghost use Rattle.par2_spec.specs.Packets as spec;
 ghost use Rattle.par2_spec.specs.Sets.{description_of};
-ghost use Rattle.par2_packets.specs.View.{packet_of};
+ghost use Rattle.par2_packets.specs.Views.{packet_of};
 ghost use Rattle.par2_sets.specs.Firsts.{HoldDescriptions};
-ghost use Rattle.par2_sets.specs.Steps.{Gives, described};
+ghost use Rattle.par2_sets.specs.Steps.{Gives, descriptions_of};
 
 use crate::firsts::keep_first;
 use par2_packets::{DescView, MainView, Packet, read_desc};
@@ -47,7 +47,7 @@ fn descriptions_by<'a>(
     main: &MainView,
 ) -> Result<Vec<DescView<'a>>, Fault>
     ensures { (packets : List spec.Packet) → HoldDescriptions packets firsts.now →
-        Gives (λ ds. ds.items) result (described packets main.now.ids) }
+        Gives (λ ds. ds.items) result (descriptions_of packets main.now.ids) }
 {
     let mut descriptions = Vec::new(alloc);
     for k in 0..main.count() {
@@ -65,7 +65,8 @@ pub(crate) fn descriptions<'a>(
     packets: &[Packet<'a>],
     main: &MainView,
 ) -> Result<Vec<DescView<'a>>, Fault>
-    ensures { Gives (λ ds. ds.items) result (described (map packet_of packets.now) main.now.ids) }
+    ensures { Gives (λ ds. ds.items) result (descriptions_of (map packet_of packets.now)
+        main.now.ids) }
 {
     let firsts = by_id(alloc, packets).map_err(|_: AllocError| Fault::Memory)?;
     descriptions_by(alloc, &firsts, main)

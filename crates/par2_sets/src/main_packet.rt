@@ -3,7 +3,7 @@
 ghost use Rattle.std.specs.Prelude.{◌≡◌, map};
 ghost use Rattle.md5.specs.Md5.{md5};
 ghost use Rattle.par2_spec.specs.Sets.{main_of, is_slice_size};
-ghost use Rattle.par2_packets.specs.View.{packet_of};
+ghost use Rattle.par2_packets.specs.Views.{packet_of};
 
 use md5::{Digest, Md5};
 use par2_packets::{MainView, Packet, read_main};

@@ -6,7 +6,7 @@ ghost use Rattle.par2_spec.specs.Folders.{bytes_of};
 ghost use Rattle.par2_spec.specs.Names.{is_par_name};
 ghost use Rattle.par2_spec.specs.Packets.{accepted};
 ghost use Rattle.par2_spec.specs.Sets.{packets_with, other_par_names};
-ghost use Rattle.par2_packets.specs.View.{packet_of};
+ghost use Rattle.par2_packets.specs.Views.{packet_of};
 ghost use Rattle.par2_sets.specs.Steps.{first_id, set_packets};
 
 use par2_folder::{Folder, Name};

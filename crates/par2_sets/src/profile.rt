@@ -33,7 +33,7 @@ fn have_few_slices(s: u64, descriptions: &[DescView]) -> bool
 {
     let mut left = MOST_SLICES;
     for description in descriptions {
-        let count = slice_count(s, description.length());
+        let count = slice_count(s, description.size());
         if count > left {
             return false;
         }

@@ -6,9 +6,8 @@ ghost use Rattle.std.specs.FinMap.{entries};
 ghost use Rattle.std.specs.List.Sorted.{IsStrictlyIncreasing};
 ghost use Rattle.std.specs.Ordering.{nat_cmp};
 ghost use Rattle.par2_spec.specs.Sets.{recovery_of};
-ghost use Rattle.par2_packets.specs.View.{packet_of};
-ghost use Rattle.par2_sets.specs.Slices.{KeepsFirst, slice_if};
-ghost use Rattle.par2_sets.specs.Slices.{entry_of, exponents_of, recovered_of};
+ghost use Rattle.par2_packets.specs.Views.{packet_of};
+ghost use Rattle.par2_sets.specs.Slices.{KeepsFirst, slice_if, entry_of, exponents_of, recovered_of};
 
 use par2_packets::{Packet, read_recovery};
 use std::alloc::{AllocError, Global};

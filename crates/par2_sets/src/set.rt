@@ -5,7 +5,7 @@ ghost use Rattle.std.specs.List.{AllByRecursion};
 ghost use Rattle.std.specs.List.Sorted.{IsStrictlyIncreasing};
 ghost use Rattle.std.specs.FinMap.{entries};
 ghost use Rattle.par2_spec.specs.Sets as sets;
-ghost use Rattle.par2_spec.specs.Rules.{IsSound};
+ghost use Rattle.par2_spec.specs.Sets.{IsSound};
 ghost use Rattle.par2_sets.specs.Slices.{recovered_of, exponents_of};
 
 use crate::Target;

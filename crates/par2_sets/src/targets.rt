@@ -2,9 +2,9 @@
 
 ghost use Rattle.std.specs.Prelude.{◌≡◌, ◌≤◌, List, map};
 ghost use Rattle.par2_spec.specs.Packets as spec;
-ghost use Rattle.par2_packets.specs.View.{packet_of};
+ghost use Rattle.par2_packets.specs.Views.{packet_of};
 ghost use Rattle.par2_sets.specs.Firsts.{HoldChecksums};
-ghost use Rattle.par2_sets.specs.Steps.{Gives, checked, checked_target};
+ghost use Rattle.par2_sets.specs.Steps.{Gives, targets_or_fault, target_or_fault};
 
 use crate::checksums::{Checksums, checksums_in, pairs_for};
 use par2_folder::Name;
@@ -71,12 +71,12 @@ fn target_of(
     requires size { 1 ≤ s }
     requires name { name.now ≡ description.now.name }
     ensures { (packets : List spec.Packet) → HoldChecksums packets checksums.now →
-        Gives (λ t. t) result (checked_target packets s description.now) }
+        Gives (λ t. t) result (target_or_fault packets s description.now) }
 {
     Ok(Target {
         name: name.copied(),
-        size: description.length(),
-        digest: description.md5(),
+        size: description.size(),
+        digest: description.digest(),
         pairs: pairs_for(alloc, checksums, s, description)?,
     })
 }
@@ -92,7 +92,7 @@ fn targets_by(
     requires size { 1 ≤ s }
     requires names { names.now ≡ map (λ d. d.name) descriptions.now }
     ensures { (packets : List spec.Packet) → HoldChecksums packets checksums.now →
-        Gives (λ targets. targets.items) result (checked packets s descriptions.now) }
+        Gives (λ targets. targets.items) result (targets_or_fault packets s descriptions.now) }
 {
     let mut targets = Vec::new(alloc);
     for (description, name) in descriptions.iter().zip(names) {
@@ -114,7 +114,7 @@ pub(crate) fn targets_of(
 ) -> Result<Vec<Target>, Fault>
     requires size { 1 ≤ s }
     requires names { names.now ≡ map (λ d. d.name) descriptions.now }
-    ensures { let all = checked (map packet_of packets.now) s descriptions.now in
+    ensures { let all = targets_or_fault (map packet_of packets.now) s descriptions.now in
         Gives (λ targets. targets.items) result all }
 {
     let checksums = checksums_in(alloc, packets).map_err(|_: AllocError| Fault::Memory)?;

@@ -12,7 +12,7 @@ use Rattle.md5.specs.Md5.{md5}
 use Rattle.par2_spec.specs.Checksums.{Pair, crc32}
 use Rattle.par2_spec.specs.Windows.{is_match, window, first_match}
 use Rattle.par2_slices.specs.Filters.{AreAlike, Bits, Groups, Marks}
-use Rattle.par2_slices.specs.Searches.{no_pair, IsOfPair, no_place, no_candidate, pair_at, place_at, candidate_at, answer_at, answer_below, spot_in, first_spot, first_spot_from, HoldsGroup, is_awaited, advanced, has_checksums, settled, first_below, Begun, IsWindow, IsTally, IsAt}
+use Rattle.par2_slices.specs.Searches.{no_pair, IsOfPair, no_place, no_candidate, pair_at, place_at, candidate_at, answer_at, answer_below, spot_in, first_spot, first_spot_from, HoldsGroup, is_awaited, after_window, has_checksums, after_candidates, first_below, Begun, IsWindow, IsTally, IsAt}
 use Rattle.par2_slices.specs.declared.batch.Candidate.{Candidate}
 use Rattle.par2_slices.specs.declared.batch.Spot.{Spot}
 use Rattle.par2_slices.specs.declared.wanted.Place.{Place}
@@ -33,60 +33,60 @@ first_below-more s text o pair =
 
 -- one offset more
 below-more : (s : ℕ) (text : List ℕ) (begun : Begun) (o : ℕ) (pairs : List Pair) (i : ℕ)
-    → answer_below s text begun (o + 1) pairs i ≡ advanced (is_match (pair_at pairs i) (window s text o)) (spot_in begun.text o) (answer_below s text begun o pairs i)
+    → answer_below s text begun (o + 1) pairs i ≡ after_window (is_match (pair_at pairs i) (window s text o)) (spot_in begun.text o) (answer_below s text begun o pairs i)
 below-more s text begun o pairs i =
     ap (λ f. option_or (answer_at begun.before i) (option_map (spot_in begun.text) f)) (first_below-more s text o (pair_at pairs i))
     ∙ step (answer_at begun.before i) (first_below s text o (pair_at pairs i)) (is_match (pair_at pairs i) (window s text o))
   where
     step : (before : Option Spot) (below : Option ℕ) (m : Bool)
         → option_or before (option_map (spot_in begun.text) (option_or below (cond m (Some o) None)))
-        ≡ advanced m (spot_in begun.text o) (option_or before (option_map (spot_in begun.text) below))
+        ≡ after_window m (spot_in begun.text o) (option_or before (option_map (spot_in begun.text) below))
     step (Some x) below m = refl
     step None (Some x) m = refl
     step None None true = refl
     step None None false = refl
 
 -- an answer that is there stands
-settled_some : (s : ℕ) (text : List ℕ) (pair : Pair) (candidates : List Candidate) (x : Spot) → settled s text pair candidates (Some x) ≡ Some x
-unfolding settled
+settled_some : (s : ℕ) (text : List ℕ) (pair : Pair) (candidates : List Candidate) (x : Spot) → after_candidates s text pair candidates (Some x) ≡ Some x
+unfolding after_candidates
 settled_some s text pair [] x = refl
 settled_some s text pair (candidate ∷ rest) x = settled_some s text pair rest x
 
-settled_open : (s : ℕ) (text : List ℕ) (pair : Pair) (candidates : List Candidate) (answer : Option Spot) → settled s text pair candidates answer ≡ None → answer ≡ None
+settled_open : (s : ℕ) (text : List ℕ) (pair : Pair) (candidates : List Candidate) (answer : Option Spot) → after_candidates s text pair candidates answer ≡ None → answer ≡ None
 settled_open s text pair candidates None is = refl
 settled_open s text pair candidates (Some x) is = sym (settled_some s text pair candidates x) ∙ is
 
 -- no candidate more
-settled_none : (s : ℕ) (text : List ℕ) (pair : Pair) (answer : Option Spot) → settled s text pair [] answer ≡ answer
-unfolding settled
+settled_none : (s : ℕ) (text : List ℕ) (pair : Pair) (answer : Option Spot) → after_candidates s text pair [] answer ≡ answer
+unfolding after_candidates
 settled_none s text pair answer = refl
 
-pub none_settled : (s : ℕ) (text : List ℕ) (pair : Pair) (candidates : List Candidate) (answer : Option Spot) → length candidates ≡ 0 → settled s text pair candidates answer ≡ answer
+pub none_settled : (s : ℕ) (text : List ℕ) (pair : Pair) (candidates : List Candidate) (answer : Option Spot) → length candidates ≡ 0 → after_candidates s text pair candidates answer ≡ answer
 none_settled s text pair [] answer none = settled_none s text pair answer
 none_settled s text pair (candidate ∷ rest) answer none = absurd (omega (arith, none))
 
 -- a candidate behind the others
-settled_more : (s : ℕ) (text : List ℕ) (pair : Pair) (candidates : List Candidate) (candidate : Candidate) (answer : Option Spot) → settled s text pair (candidates ++ candidate ∷ []) answer ≡ advanced (is_match pair (window s text candidate.spot.offset)) candidate.spot (settled s text pair candidates answer)
-unfolding settled
-settled_more s text pair candidates candidate answer = fold-append (λ (so_far : Option Spot) (c : Candidate). advanced (is_match pair (window s text c.spot.offset)) c.spot so_far) answer candidates (candidate ∷ [])
+settled_more : (s : ℕ) (text : List ℕ) (pair : Pair) (candidates : List Candidate) (candidate : Candidate) (answer : Option Spot) → after_candidates s text pair (candidates ++ candidate ∷ []) answer ≡ after_window (is_match pair (window s text candidate.spot.offset)) candidate.spot (after_candidates s text pair candidates answer)
+unfolding after_candidates
+settled_more s text pair candidates candidate answer = fold-append (λ (so_far : Option Spot) (c : Candidate). after_window (is_match pair (window s text c.spot.offset)) c.spot so_far) answer candidates (candidate ∷ [])
 
 -- candidate k in front of those behind it
 pub settled_from : (s : ℕ) (text : List ℕ) (pair : Pair) (candidates : List Candidate) (k : ℕ) (answer : Option Spot) → k < length candidates →
-    settled s text pair (drop k candidates) answer ≡ settled s text pair (drop (k + 1) candidates) (advanced (is_match pair (window s text (candidate_at candidates k).spot.offset)) (candidate_at candidates k).spot answer)
-unfolding settled
-settled_from s text pair candidates k answer inside = ap (λ cs. settled s text pair cs answer) (drop_more candidates k no_candidate inside)
+    after_candidates s text pair (drop k candidates) answer ≡ after_candidates s text pair (drop (k + 1) candidates) (after_window (is_match pair (window s text (candidate_at candidates k).spot.offset)) (candidate_at candidates k).spot answer)
+unfolding after_candidates
+settled_from s text pair candidates k answer inside = ap (λ cs. after_candidates s text pair cs answer) (drop_more candidates k no_candidate inside)
 
 -- where an answer stands, or nothing matches, it stays
-stays : (m : Bool) (spot : Spot) (old : Option Spot) → (old ≡ None → m ≡ false) → old ≡ advanced m spot old
+stays : (m : Bool) (spot : Spot) (old : Option Spot) → (old ≡ None → m ≡ false) → old ≡ after_window m spot old
 stays m spot None fails = ap (λ b. cond b (Some spot) None) (sym (fails refl))
 stays m spot (Some x) fails = refl
 
 -- the same where it may have advanced before
-kept : (m : Bool) (spot : Spot) (old now : Option Spot) → (now ≡ old) ⊎ (now ≡ advanced m spot old) → (now ≡ None → m ≡ false) → now ≡ advanced m spot old
+kept : (m : Bool) (spot : Spot) (old now : Option Spot) → (now ≡ old) ⊎ (now ≡ after_window m spot old) → (now ≡ None → m ≡ false) → now ≡ after_window m spot old
 kept m spot old now (inl same) fails = same ∙ stays m spot old (λ none. fails (same ∙ none))
 kept m spot old now (inr done) fails = done
 
-was_open : (m : Bool) (spot : Spot) (old now : Option Spot) → (now ≡ old) ⊎ (now ≡ advanced m spot old) → now ≡ None → old ≡ None
+was_open : (m : Bool) (spot : Spot) (old now : Option Spot) → (now ≡ old) ⊎ (now ≡ after_window m spot old) → now ≡ None → old ≡ None
 was_open m spot None now either none = refl
 was_open m spot (Some x) now (inl same) none = sym same ∙ none
 was_open m spot (Some x) now (inr done) none = sym done ∙ none
@@ -97,8 +97,8 @@ no_more s text begun o pairs found left filter candidates at none = record {
   answers = λ i h.
       let pair : Pair = pair_at pairs i in
       let m : Bool = is_match pair (window s text o) in
-      stays m (spot_in begun.text o) (settled s text pair candidates (answer_at found i)) (λ none_yet. none i h (settled_open s text pair candidates (answer_at found i) none_yet))
-      ∙ ap (advanced m (spot_in begun.text o)) (at.answers i h)
+      stays m (spot_in begun.text o) (after_candidates s text pair candidates (answer_at found i)) (λ none_yet. none i h (settled_open s text pair candidates (answer_at found i) none_yet))
+      ∙ ap (after_window m (spot_in begun.text o)) (at.answers i h)
       ∙ sym (below-more s text begun o pairs i);
   candidates = at.candidates;
 }
@@ -144,19 +144,19 @@ matches s text o digest crc pair digest_is crc_is =
 
 -- the window at the offset has been compared, and no candidate waits
 pub compared : (s : ℕ) (text : List ℕ) (begun : Begun) (o : ℕ) (pairs : List Pair) (old new : List (Option Spot)) (left after : ℕ) (filter marks : Groups) (candidates : List Candidate) (spot : Spot) (digest : List ℕ) (crc : ℕ) → IsAt s text begun o pairs old left filter candidates → candidates ≡ [] → spot ≡ spot_in begun.text o → digest ≡ md5 (window s text o) → crc ≡ crc32 (window s text o) → IsTally pairs new after marks →
-    ((i : ℕ) → i < length pairs → answer_at new i ≡ advanced (has_checksums digest crc (pair_at pairs i)) spot (answer_at old i)) →
+    ((i : ℕ) → i < length pairs → answer_at new i ≡ after_window (has_checksums digest crc (pair_at pairs i)) spot (answer_at old i)) →
     IsAt s text begun (o + 1) pairs new after marks candidates
 compared s text begun o pairs old new left after filter marks candidates spot digest crc at empty spot_is digest_is crc_is tally all = record {
   tally = tally;
   answers = λ i h.
       let pair : Pair = pair_at pairs i in
       let m : Bool = is_match pair (window s text o) in
-      let none : (answer : Option Spot) → settled s text pair candidates answer ≡ answer = λ answer. ap (λ cs. settled s text pair cs answer) empty ∙ settled_none s text pair answer in
+      let none : (answer : Option Spot) → after_candidates s text pair candidates answer ≡ answer = λ answer. ap (λ cs. after_candidates s text pair cs answer) empty ∙ settled_none s text pair answer in
       none (answer_at new i)
       ∙ all i h
-      ∙ ap (λ b. advanced b spot (answer_at old i)) (matches s text o digest crc pair digest_is crc_is)
-      ∙ ap (λ p. advanced m p (answer_at old i)) spot_is
-      ∙ ap (advanced m (spot_in begun.text o)) (sym (none (answer_at old i)) ∙ at.answers i h)
+      ∙ ap (λ b. after_window b spot (answer_at old i)) (matches s text o digest crc pair digest_is crc_is)
+      ∙ ap (λ p. after_window m p (answer_at old i)) spot_is
+      ∙ ap (after_window m (spot_in begun.text o)) (sym (none (answer_at old i)) ∙ at.answers i h)
       ∙ sym (below-more s text begun o pairs i);
   candidates = at.candidates;
 }
@@ -168,8 +168,8 @@ pushed s text begun pairs found left filter candidates candidate at text_is its 
   answers = λ i h.
       let pair : Pair = pair_at pairs i in
       settled_more s text pair candidates candidate (answer_at found i)
-      ∙ ap (advanced (is_match pair (window s text candidate.spot.offset)) candidate.spot) (at.answers i h)
-      ∙ ap (λ t. advanced (is_match pair (window s text candidate.spot.offset)) (spot_in t candidate.spot.offset) (answer_below s text begun candidate.spot.offset pairs i)) text_is
+      ∙ ap (after_window (is_match pair (window s text candidate.spot.offset)) candidate.spot) (at.answers i h)
+      ∙ ap (λ t. after_window (is_match pair (window s text candidate.spot.offset)) (spot_in t candidate.spot.offset) (answer_below s text begun candidate.spot.offset pairs i)) text_is
       ∙ sym (below-more s text begun candidate.spot.offset pairs i);
   candidates = λ k h.
       let Is : Candidate → Type 0 = λ c. IsWindow s text c in
@@ -181,12 +181,12 @@ pushed s text begun pairs found left filter candidates candidate at text_is its 
 
 -- the candidates have been compared
 pub emptied : (s : ℕ) (text : List ℕ) (begun : Begun) (o : ℕ) (pairs : List Pair) (old new : List (Option Spot)) (left after : ℕ) (filter marks : Groups) (candidates rest : List Candidate) → IsAt s text begun o pairs old left filter candidates → IsTally pairs new after marks → rest ≡ [] →
-    ((i : ℕ) → i < length pairs → answer_at new i ≡ settled s text (pair_at pairs i) candidates (answer_at old i)) →
+    ((i : ℕ) → i < length pairs → answer_at new i ≡ after_candidates s text (pair_at pairs i) candidates (answer_at old i)) →
     IsAt s text begun o pairs new after marks rest
 emptied s text begun o pairs old new left after filter marks candidates rest at tally empty all = record {
   tally = tally;
   answers = λ i h.
-      ap (λ cs. settled s text (pair_at pairs i) cs (answer_at new i)) empty
+      ap (λ cs. after_candidates s text (pair_at pairs i) cs (answer_at new i)) empty
       ∙ settled_none s text (pair_at pairs i) (answer_at new i)
       ∙ all i h
       ∙ at.answers i h;
@@ -287,7 +287,7 @@ unfolding first_below
 at_start s text begun pairs found left filter candidates tally found_is empty = record {
   tally = tally;
   answers = λ i h.
-      ap (λ cs. settled s text (pair_at pairs i) cs (answer_at found i)) empty
+      ap (λ cs. after_candidates s text (pair_at pairs i) cs (answer_at found i)) empty
       ∙ settled_none s text (pair_at pairs i) (answer_at found i)
       ∙ ap (λ f. answer_at f i) found_is
       ∙ or_nothing (answer_at begun.before i);
@@ -310,7 +310,7 @@ pub finished : (s : ℕ) (text : List ℕ) (begun : Begun) (pairs : List Pair) (
     → answer_at found i ≡ option_or (answer_at begun.before i) (option_map (spot_in begun.text) (first_match s text (pair_at pairs i)))
 unfolding first_below
 finished s text begun pairs found left filter batch i at empty inside =
-    sym (ap (λ cs. settled s text (pair_at pairs i) cs (answer_at found i)) empty ∙ settled_none s text (pair_at pairs i) (answer_at found i))
+    sym (ap (λ cs. after_candidates s text (pair_at pairs i) cs (answer_at found i)) empty ∙ settled_none s text (pair_at pairs i) (answer_at found i))
     ∙ at.answers i inside
 
 -- one text more
@@ -353,8 +353,8 @@ all_done s texts pairs found size each =
 -- what a walk over the first n places of a group has settled
 pub record Settled (pairs : List Pair) (md5 : List ℕ) (crc : ℕ) (spot : Spot) (old : List (Option Spot)) (group : List Place) (n : ℕ) (found : List (Option Spot)) (count : ℕ) : Type 0 where
   pub len : length found ≡ length old
-  pub each : (i : ℕ) → i < length pairs → (answer_at found i ≡ answer_at old i) ⊎ (answer_at found i ≡ advanced (has_checksums md5 crc (pair_at pairs i)) spot (answer_at old i))
-  pub done : (k : ℕ) → k < n → answer_at found (place_at group k).index ≡ advanced (has_checksums md5 crc (pair_at pairs (place_at group k).index)) spot (answer_at old (place_at group k).index)
+  pub each : (i : ℕ) → i < length pairs → (answer_at found i ≡ answer_at old i) ⊎ (answer_at found i ≡ after_window (has_checksums md5 crc (pair_at pairs i)) spot (answer_at old i))
+  pub done : (k : ℕ) → k < n → answer_at found (place_at group k).index ≡ after_window (has_checksums md5 crc (pair_at pairs (place_at group k).index)) spot (answer_at old (place_at group k).index)
   pub total : count + count_by is_none found ≡ count_by is_none old
 
 pub not_settled : (pairs : List Pair) (md5 : List ℕ) (crc : ℕ) (spot : Spot) (old : List (Option Spot)) (group : List Place) (n : ℕ) (found : List (Option Spot)) (count : ℕ) → Settled pairs md5 crc spot old group n found count → (place_at group n).index < length pairs → (answer_at found (place_at group n).index ≡ None → has_checksums md5 crc (pair_at pairs (place_at group n).index) ≡ false) → Settled pairs md5 crc spot old group (n + 1) found count
@@ -367,7 +367,7 @@ not_settled pairs md5 crc spot old group n found count so_far inside fails =
       done = λ k h. elim (cases_lt k n) [
         | inl early ↦ so_far.done k early
         | inr late ↦ (
-            let Done : ℕ → Type 0 = λ j. answer_at found (place_at group j).index ≡ advanced (has_checksums md5 crc (pair_at pairs (place_at group j).index)) spot (answer_at old (place_at group j).index) in
+            let Done : ℕ → Type 0 = λ j. answer_at found (place_at group j).index ≡ after_window (has_checksums md5 crc (pair_at pairs (place_at group j).index)) spot (answer_at old (place_at group j).index) in
             let here : n ≡ k = omega (arith, h, late) in
             subst Done here (kept m spot (answer_at old i) (answer_at found i) (so_far.each i inside) fails)
             )
@@ -384,10 +384,10 @@ one_settled pairs md5 crc spot old group n found count so_far size inside none m
     let m : ℕ → Bool = λ j. has_checksums md5 crc (pair_at pairs j) in
     let within : i < length found = omega (arith, inside, size, so_far.len) in
     let new : List (Option Spot) = set found i (Some spot) in
-    let Is : ℕ → Type 0 = λ j. answer_at new j ≡ advanced (m j) spot (answer_at old j) in
+    let Is : ℕ → Type 0 = λ j. answer_at new j ≡ after_window (m j) spot (answer_at old j) in
     let here : Is i = (
     get_or-set_same found i (Some spot) None within
-    ∙ sym (ap (λ b. advanced b spot (answer_at old i)) match_is ∙ ap (λ o. advanced true spot o) (was_open (m i) spot (answer_at old i) (answer_at found i) (so_far.each i inside) none))
+    ∙ sym (ap (λ b. after_window b spot (answer_at old i)) match_is ∙ ap (λ o. after_window true spot o) (was_open (m i) spot (answer_at old i) (answer_at found i) (so_far.each i inside) none))
     ) in
     let weight : Option Spot → ℕ = λ x. cond (is_none x) 1 0 in
     let weighed : count_by is_none new + weight (answer_at found i) ≡ count_by is_none found + 0 = sum_by-set weight found i (Some spot) None within in

@@ -61,8 +61,8 @@ abbrev pub IsWaiting : List Place → ℕ → List (Option Spot) → Type 0
 IsWaiting group crc found = (k : ℕ) × (k < length group) × ((place_at group k).crc % 64 ≡ crc % 64) × (answer_at found (place_at group k).index ≡ None)
 
 -- an answer after one window more
-abbrev pub advanced : Bool → Spot → Option Spot → Option Spot
-advanced matches spot answer = option_or answer (cond matches (Some spot) None)
+abbrev pub after_window : Bool → Spot → Option Spot → Option Spot
+after_window matches spot answer = option_or answer (cond matches (Some spot) None)
 
 -- whether these are the checksums of the pair
 abbrev pub has_checksums : List ℕ → ℕ → Pair → Bool
@@ -92,8 +92,8 @@ pub record IsWindow (s : ℕ) (text : List ℕ) (candidate : Candidate) : Type 0
   pub crc : candidate.crc ≡ crc32 (window s text candidate.spot.offset)
 
 -- an answer once the windows of the candidates have been compared with the pair, one after the other
-unfoldable pub settled : ℕ → List ℕ → Pair → List Candidate → Option Spot → Option Spot
-settled s text pair candidates answer = fold (λ so_far candidate. advanced (is_match pair (window s text candidate.spot.offset)) candidate.spot so_far) answer candidates
+unfoldable pub after_candidates : ℕ → List ℕ → Pair → List Candidate → Option Spot → Option Spot
+after_candidates s text pair candidates answer = fold (λ so_far candidate. after_window (is_match pair (window s text candidate.spot.offset)) candidate.spot so_far) answer candidates
 
 -- the checksum is of the group of a pair's
 abbrev pub IsOfPair : List Pair → ℕ → ℕ → Type 0
@@ -110,7 +110,7 @@ pub record IsTally (pairs : List Pair) (found : List (Option Spot)) (left : ℕ)
 -- a search that has looked at the offsets below `offset`: what it has found, and what the candidates add to it
 pub record IsAt (s : ℕ) (text : List ℕ) (begun : Begun) (offset : ℕ) (pairs : List Pair) (found : List (Option Spot)) (left : ℕ) (filter : Groups) (batch : List Candidate) : Type 0 where
   pub tally : IsTally pairs found left filter
-  pub answers : (i : ℕ) → i < length pairs → settled s text (pair_at pairs i) batch (answer_at found i) ≡ answer_below s text begun offset pairs i
+  pub answers : (i : ℕ) → i < length pairs → after_candidates s text (pair_at pairs i) batch (answer_at found i) ≡ answer_below s text begun offset pairs i
   pub candidates : (k : ℕ) → k < length batch → IsWindow s text (candidate_at batch k)
 
 -- where a slice of these checksums first stands, in texts of which the first has this number: the first text with a window

@@ -6,7 +6,7 @@ ghost use Rattle.std.specs.Option.{is_none};
 ghost use Rattle.par2_spec.specs.Checksums.{crc32};
 ghost use Rattle.par2_spec.specs.Windows.{window};
 ghost use Rattle.par2_slices.specs.Filters.{AreFor};
-ghost use Rattle.par2_slices.specs.Searches.{advanced, candidate_at, has_checksums, is_awaited, answer_at, pair_at, place_at, first_spot, settled, Begun, IsAt, IsPlace, IsTally, IsWaiting, IsWindow};
+ghost use Rattle.par2_slices.specs.Searches.{after_window, candidate_at, has_checksums, is_awaited, answer_at, pair_at, place_at, first_spot, after_candidates, Begun, IsAt, IsPlace, IsTally, IsWaiting, IsWindow};
 
 use crate::batch::{Candidate, Spot, digests};
 use crate::cutting::window_bytes;
@@ -61,10 +61,12 @@ fn settle(
     requires len { length found.old ≡ length pairs.now }
     ensures each { (i : ℕ) → i < length pairs.now
         → (answer_at found.new i ≡ answer_at found.old i) ⊎ (answer_at found.new i
-        ≡ advanced (has_checksums md5.now crc (pair_at pairs.now i)) spot (answer_at found.old i)) }
+        ≡ after_window (has_checksums md5.now crc (pair_at pairs.now i)) spot (answer_at found.old
+        i)) }
     ensures group { (k : ℕ) → k < length group.now → let i = (place_at group.now k).index in
         answer_at found.new i
-        ≡ advanced (has_checksums md5.now crc (pair_at pairs.now i)) spot (answer_at found.old i) }
+        ≡ after_window (has_checksums md5.now crc (pair_at pairs.now i)) spot (answer_at found.old
+        i) }
     ensures count { result + count_by is_none found.new ≡ count_by is_none found.old }
 {
     let mut count = 0;
@@ -125,7 +127,8 @@ impl Search {
         requires { IsTally wanted.now self.old.found.items self.old.left self.old.filter }
         ensures tally { IsTally wanted.now self.new.found.items self.new.left self.new.filter }
         ensures each { (i : ℕ) → i < length wanted.now → answer_at self.new.found.items i
-            ≡ advanced (has_checksums md5.now candidate.crc (pair_at wanted.now i)) candidate.spot
+            ≡ after_window (has_checksums md5.now candidate.crc (pair_at wanted.now i))
+            candidate.spot
             (answer_at self.old.found.items i) }
         ensures batch { self.new.batch.items ≡ self.old.batch.items }
         ensures filter { self.new.filter ≡ self.old.filter }
@@ -142,7 +145,8 @@ impl Search {
             → IsWindow s bytes.now (candidate_at self.old.batch.items k) }
         ensures tally { IsTally wanted.now self.new.found.items self.new.left self.new.filter }
         ensures each { (i : ℕ)
-            → i < length wanted.now → answer_at self.new.found.items i ≡ settled s bytes.now
+            → i < length wanted.now → answer_at self.new.found.items i
+            ≡ after_candidates s bytes.now
             (pair_at wanted.now i) self.old.batch.items (answer_at self.old.found.items i) }
         ensures batch { self.new.batch.items ≡ [] }
         ensures filter { self.new.filter ≡ self.old.filter }

@@ -10,11 +10,10 @@ use Rattle.par2_spec.specs.Folders.{Folder, has}
 use Rattle.par2_spec.specs.Changes.{Change, effects, are_applicable}
 use Rattle.par2_spec.specs.Sets.{ParSet, set_of}
 use Rattle.par2_spec.specs.Search.{candidates}
-use Rattle.par2_spec.specs.Repairs.{after_repair, after_repair_and_purge, after_purge, par_files}
+use Rattle.par2_spec.specs.Repairs.{after_repair, after_repair_and_purge, after_purge, par_files, FitsRepair}
 use Rattle.par2_spec.specs.Commands.{Command, Create, Verify, Repair, Purge}
 use Rattle.par2_spec.specs.Refusals.{set_in, by_set, after}
-use Rattle.par2_spec.specs.Plans.{changes_of, repair_changes, repair_removals, purge_changes}
-use Rattle.par2_spec.specs.Rules.{AreFewFor, LeadsToAfter, FitsRepair}
+use Rattle.par2_spec.specs.Plans.{changes_of, repair_changes, repair_removals, purge_changes, AreFewFor, LeadsToAfter}
 use Rattle.par2_spec.proofs.NamesLaws.{false_true}
 use Rattle.par2_spec.proofs.CommandLaws.{create_leads, removals_lead}
 use Rattle.par2_spec.proofs.CreateLaws.{create_applies}

@@ -11,11 +11,10 @@ use Rattle.std.proofs.lemmas.Fmt.{decimal_by_steps, decimal_injective}
 use Rattle.std.proofs.lemmas.List.Folds.{list_all-append}
 use Rattle.std.proofs.lemmas.List.FromFn.{length-map-range_with_len}
 use Rattle.std.proofs.lemmas.Map.Made.{length-le_from_is_member}
-use Rattle.par2_spec.specs.Names.{is_among, numbered}
+use Rattle.par2_spec.specs.Names.{is_among, numbered, IsLeastFree}
 use Rattle.par2_spec.specs.Folders.{Folder}
 use Rattle.par2_spec.specs.Sets.{ParSet}
-use Rattle.par2_spec.specs.Repairs.{aside}
-use Rattle.par2_spec.specs.Rules.{taken_for, AreFew, IsLeastFree}
+use Rattle.par2_spec.specs.Repairs.{aside, taken_for, AreFew}
 use Rattle.par2_spec.proofs.NamesLaws.{false_from_not, true_from_not, same_name, false_true, other_name, AreDistinct, std_from_distinct}
 
 -- ---- a numbered name tells its name

@@ -11,8 +11,7 @@ use Rattle.std.proofs.lemmas.Str.Ascii.{IsAscii-cons}
 use Rattle.par2_spec.specs.Names.{is_name, numbered}
 use Rattle.par2_spec.specs.Folders.{Folder}
 use Rattle.par2_spec.specs.Sets.{ParSet}
-use Rattle.par2_spec.specs.Repairs.{aside}
-use Rattle.par2_spec.specs.Rules.{AreFew, taken_for}
+use Rattle.par2_spec.specs.Repairs.{aside, AreFew, taken_for}
 use Rattle.par2_spec.proofs.NamesLaws.{clash, other_name, false_from_not}
 use Rattle.par2_spec.proofs.AsideLaws.{is_dotless, numbered_is, aside_is}
 

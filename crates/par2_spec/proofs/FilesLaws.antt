@@ -16,8 +16,7 @@ use Rattle.par2_spec.specs.Folders.{Folder, File, has, bytes_of, names}
 use Rattle.par2_spec.specs.Volumes.{record_of, all_slices}
 use Rattle.par2_spec.specs.Sets.{ParSet, Target, target_of_file, MadeFrom, is_slice_size}
 use Rattle.par2_spec.specs.Search.{is_intact, is_needing, needing, intact_names, matches, known, lost, survivors, NoCollision}
-use Rattle.par2_spec.specs.Repairs.{aside, put_aside, names_without_match, files_of_slices, rebuilt_targets, after_repair, after_repair_and_purge, par_files, is_par_file}
-use Rattle.par2_spec.specs.Rules.{FitsRepair, HoldsRepaired}
+use Rattle.par2_spec.specs.Repairs.{aside, put_aside, names_without_match, files_of_slices, rebuilt_targets, after_repair, after_repair_and_purge, par_files, is_par_file, FitsRepair, HoldsRepaired}
 use Rattle.par2_spec.proofs.NamesLaws.{true_from_not, same_name, itself, clash, false_true, among-filter, among-append, apart_by_test, image_of}
 use Rattle.par2_spec.proofs.FoundLaws.{slice_begins, all-filter, all_by_test}
 use Rattle.par2_spec.proofs.RankLaws.{all_weaker}

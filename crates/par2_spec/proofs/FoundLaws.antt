@@ -15,8 +15,7 @@ use Rattle.par2_spec.specs.Names.{is_among}
 use Rattle.par2_spec.specs.Folders.{Folder, bytes_of, has}
 use Rattle.par2_spec.specs.Sets.{ParSet, Target}
 use Rattle.par2_spec.specs.Search.{is_intact, is_needing, needing, intact_names, matches, known, lost}
-use Rattle.par2_spec.specs.Repairs.{names_without_match}
-use Rattle.par2_spec.specs.Rules.{slices_by_target, lost_of_unmatched}
+use Rattle.par2_spec.specs.Repairs.{names_without_match, slices_by_target, lost_of_unmatched}
 use Rattle.par2_spec.specs.Reports.{IsFound}
 use Rattle.par2_spec.proofs.NamesLaws.{true_from_not, same_name, itself, clash, false_true, among-filter}
 use Rattle.par2_spec.proofs.ListsLaws.{any-map, any-flat_map, in_range_some}

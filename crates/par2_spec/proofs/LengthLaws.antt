@@ -6,10 +6,8 @@ use Rattle.std.specs.List.{concat, AllByRecursion}
 use Rattle.std.proofs.lemmas.List.{length-append, length-take-le}
 use Rattle.std.proofs.lemmas.Grind.{div_ceil_times}
 use Rattle.par2_spec.specs.Slices.{slice_count}
-use Rattle.par2_spec.specs.Sets.{ParSet, Target}
-use Rattle.par2_spec.specs.Search.{all_pairs}
+use Rattle.par2_spec.specs.Sets.{ParSet, Target, all_pairs, IsSound}
 use Rattle.par2_spec.specs.Repairs.{cut_into, files_of_slices}
-use Rattle.par2_spec.specs.Rules.{IsSound}
 use Rattle.par2_spec.proofs.ReadLaws.{size_positive}
 
 length-concat : (s : ℕ) (texts : List (List ℕ)) → AllByRecursion (λ text. length text ≡ s) texts → length (concat texts) ≡ length texts * s

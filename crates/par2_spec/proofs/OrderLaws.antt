@@ -9,7 +9,7 @@ use Rattle.std.proofs.lemmas.List.Elements.{All-from_recursion, recursion_from_A
 use Rattle.std.proofs.lemmas.List.Sorted.{All-permutation, IsPermutation-sym, IsPermutation-refl, IsPermutation-trans, IsPermutation-cons, IsPermutation-swap, IsPermutation-map}
 use Rattle.std.proofs.lemmas.Map.Keys.{IsDistinct-IsPermutation}
 use Rattle.par2_spec.specs.Folders.{Folder, File, bytes_of}
-use Rattle.par2_spec.specs.Volumes.{FileRecord, record_of, id_number, inserted, in_id_order}
+use Rattle.par2_spec.specs.Volumes.{FileRecord, record_of, id_number, insert_by_id, in_id_order}
 use Rattle.par2_spec.specs.Commands.{files_of}
 use Rattle.par2_spec.proofs.NamesLaws.{clash}
 use Rattle.par2_spec.proofs.ListsLaws.{all-map}
@@ -89,32 +89,32 @@ no_fall n (x ∷ xs) h (suc i) (suc j) d le within = no_fall n xs h.1 i j d (ome
 pub moved-all : {A : Type 0} (P : A → Type 0) (xs ys : List A) → IsPermutation xs ys → AllByRecursion P xs → AllByRecursion P ys
 moved-all P xs ys m h = recursion_from_All P ys (All-permutation P xs ys m (All-from_recursion P xs h))
 
-moved-inserted : (file : File) (files : List File) → IsPermutation (file ∷ files) (inserted file files)
+moved-inserted : (file : File) (files : List File) → IsPermutation (file ∷ files) (insert_by_id file files)
 moved-inserted file [] = IsPermutation-refl (file ∷ [])
 moved-inserted file (next ∷ files) = step (nat_le (id_number file) (id_number next)) (moved-inserted file files)
   where
-    step : (b : Bool) → IsPermutation (file ∷ files) (inserted file files) → IsPermutation (file ∷ next ∷ files) (if b then file ∷ next ∷ files else next ∷ inserted file files)
+    step : (b : Bool) → IsPermutation (file ∷ files) (insert_by_id file files) → IsPermutation (file ∷ next ∷ files) (if b then file ∷ next ∷ files else next ∷ insert_by_id file files)
     step true later = IsPermutation-refl (file ∷ next ∷ files)
     step false later =
-        IsPermutation-trans (file ∷ next ∷ files) (next ∷ file ∷ files) (next ∷ inserted file files)
-        (IsPermutation-swap (file ∷ next ∷ files) (next ∷ file ∷ files) 0 1 (omega arith) (omega arith) refl) (IsPermutation-cons next (file ∷ files) (inserted file files) later)
+        IsPermutation-trans (file ∷ next ∷ files) (next ∷ file ∷ files) (next ∷ insert_by_id file files)
+        (IsPermutation-swap (file ∷ next ∷ files) (next ∷ file ∷ files) 0 1 (omega arith) (omega arith) refl) (IsPermutation-cons next (file ∷ files) (insert_by_id file files) later)
 
 pub moved-ordered : (files : List File) → IsPermutation files (in_id_order files)
 unfolding in_id_order
 moved-ordered [] = IsPermutation-refl []
-moved-ordered (file ∷ files) = IsPermutation-trans (file ∷ files) (file ∷ in_id_order files) (inserted file (in_id_order files)) (IsPermutation-cons file files (in_id_order files) (moved-ordered files)) (moved-inserted file (in_id_order files))
+moved-ordered (file ∷ files) = IsPermutation-trans (file ∷ files) (file ∷ in_id_order files) (insert_by_id file (in_id_order files)) (IsPermutation-cons file files (in_id_order files) (moved-ordered files)) (moved-inserted file (in_id_order files))
 
-climbs-inserted : (file : File) (files : List File) → Climbs id_number files → Climbs id_number (inserted file files)
+climbs-inserted : (file : File) (files : List File) → Climbs id_number files → Climbs id_number (insert_by_id file files)
 climbs-inserted file [] h = (tt, tt)
 climbs-inserted file (next ∷ files) h = step (nat_le (id_number file) (id_number next)) refl (climbs-inserted file files h.1)
   where
-    step : (b : Bool) → nat_le (id_number file) (id_number next) ≡ b → Climbs id_number (inserted file files) → Climbs id_number (if b then file ∷ next ∷ files else next ∷ inserted file files)
+    step : (b : Bool) → nat_le (id_number file) (id_number next) ≡ b → Climbs id_number (insert_by_id file files) → Climbs id_number (if b then file ∷ next ∷ files else next ∷ insert_by_id file files)
     step true e later =
         let most : id_number file ≤ id_number next = leb-true (id_number file) (id_number next) e in
         ((most, all_weaker (λ z. id_number next ≤ id_number z) (λ z. id_number file ≤ id_number z) (λ z l. omega (arith, most, l)) files h.0), h)
     step false e later =
         let less : id_number next < id_number file = leb-false (id_number file) (id_number next) e in
-        (moved-all (λ z. id_number next ≤ id_number z) (file ∷ files) (inserted file files) (moved-inserted file files) (omega (arith, less), h.0), later)
+        (moved-all (λ z. id_number next ≤ id_number z) (file ∷ files) (insert_by_id file files) (moved-inserted file files) (omega (arith, less), h.0), later)
 
 climbs-ordered : (files : List File) → Climbs id_number (in_id_order files)
 unfolding in_id_order

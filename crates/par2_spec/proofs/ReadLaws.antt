@@ -22,9 +22,9 @@ use Rattle.par2_spec.specs.Slices.{slice_count}
 use Rattle.par2_spec.specs.Names.{is_name, is_among, distinct}
 use Rattle.par2_spec.specs.Packets.{Packet, accepted, MainBody, DescBody, RecoveryBody, read_ifsc, read_recovery}
 use Rattle.par2_spec.specs.Folders.{Folder, has, bytes_of}
-use Rattle.par2_spec.specs.Sets.{ParSet, Target, ◌>>=◌, unless, all_some, is_slice_size, packets_with, main_of, description_of, pairs_of, target_of, are_in_profile, recovery_of, read_set, other_par_names, set_of}
+use Rattle.par2_spec.specs.Sets.{ParSet, Target, ◌>>=◌, unless, all_some, is_slice_size, packets_with, main_of, description_of, pairs_of, target_of, are_in_profile, recovery_of, read_set, other_par_names, set_of, IsSound}
 use Rattle.par2_spec.specs.Search.{candidates, known, lost}
-use Rattle.par2_spec.specs.Rules.{IsSound, AreFew, FitsRepair, lost_of_unmatched}
+use Rattle.par2_spec.specs.Repairs.{AreFew, FitsRepair, lost_of_unmatched}
 use Rattle.par2_spec.proofs.NamesLaws.{same_name, itself, clash, false_true, among-filter, among-append, AreDistinct, std_from_distinct}
 use Rattle.par2_spec.proofs.FoundLaws.{AreSized, lost_is}
 

@@ -14,10 +14,9 @@ use Rattle.par2_spec.specs.Folders.{Folder, has, bytes_of, names, File, laid_ove
 use Rattle.par2_spec.specs.Changes.{Write, Rename, Remove, effects, are_applicable}
 use Rattle.par2_spec.specs.Packets.{accepted}
 use Rattle.par2_spec.specs.Sets.{ParSet, Target}
-use Rattle.par2_spec.specs.Search.{matches, known, needing, is_needing, intact_names}
-use Rattle.par2_spec.specs.Repairs.{aside, put_aside, files_of_slices, cut_into, rebuilt, rebuilt_targets, matched_files, names_without_match, aside_files, after_repair, is_par_file, par_files, after_repair_and_purge}
-use Rattle.par2_spec.specs.Plans.{now_at, matching, repair_changes, repair_removals, purge_changes}
-use Rattle.par2_spec.specs.Rules.{FitsRepair, HoldsRepaired}
+use Rattle.par2_spec.specs.Search.{matches, known, needing, is_needing, intact_names, matching}
+use Rattle.par2_spec.specs.Repairs.{aside, put_aside, files_of_slices, cut_into, rebuilt, rebuilt_targets, matched_files, names_without_match, aside_files, after_repair, is_par_file, par_files, after_repair_and_purge, FitsRepair, HoldsRepaired}
+use Rattle.par2_spec.specs.Plans.{now_at, repair_changes, repair_removals, purge_changes}
 use Rattle.par2_spec.proofs.CommandLaws.{removals_lead}
 use Rattle.par2_spec.proofs.NamesLaws.{false_from_not, same_name, itself, clash, false_true, AreDistinct, among-filter, among-append, among_some, apart_by_test, distinct-map, distinct-filter, distinct_some, image_of, image_in, distinct-append, distinct_from_std}
 use Rattle.par2_spec.proofs.MovesLaws.{Move, CanMove, renames, sources, goals, arrived, renames_apply, renames_lead, writes_apply, writes_lead, get_put, get_laid, get_without, has_laid, has_without, has_by_names, laid_over-append, without-laid_over, without_without, same_without, removals_apply, names_once, all_laid}

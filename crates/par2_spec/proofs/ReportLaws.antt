@@ -12,11 +12,10 @@ use Rattle.par2_spec.specs.Windows.{found}
 use Rattle.par2_spec.specs.Names.{is_among}
 use Rattle.par2_spec.specs.declared.Fault.{Fault}
 use Rattle.par2_spec.specs.Folders.{Folder, has, bytes_of}
-use Rattle.par2_spec.specs.Sets.{ParSet, Target, set_of, ◌>>=◌}
+use Rattle.par2_spec.specs.Sets.{ParSet, Target, set_of, ◌>>=◌, IsSound}
 use Rattle.par2_spec.specs.Search.{is_intact, is_needing, needing, intact_names, matched, matches, match_of, candidates, known}
 use Rattle.par2_spec.specs.Repairs.{cut_into}
 use Rattle.par2_spec.specs.Refusals.{set_in}
-use Rattle.par2_spec.specs.Rules.{IsSound}
 use Rattle.par2_spec.specs.Reports.{State, Complete, Report, needing_state, state_of, report_of_target, report_of, report_in, found_of, states_by, IsByTarget, StatesFollow, IsFound, IntactAreFound, MatchedAreFound, HasIntactFile, IsFoundWhole}
 use Rattle.par2_spec.proofs.NamesLaws.{itself, false_true, AreDistinct, distinct_from_std, among-filter}
 use Rattle.par2_spec.proofs.AcceptedCommands.{set_in_reads}

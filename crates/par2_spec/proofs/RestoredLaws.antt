@@ -15,8 +15,8 @@ use Rattle.par2_spec.specs.Recovery.{recovery}
 use Rattle.par2_spec.specs.Rank.{Agrees, kept_slices, IsRepairable, kept}
 use Rattle.par2_spec.specs.Folders.{Folder, File, bytes_of}
 use Rattle.par2_spec.specs.Volumes.{record_of, all_slices}
-use Rattle.par2_spec.specs.Sets.{Target, target_of_file, MadeFrom}
-use Rattle.par2_spec.specs.Search.{all_pairs, known, lost, survivors, NoCollision}
+use Rattle.par2_spec.specs.Sets.{Target, target_of_file, MadeFrom, all_pairs}
+use Rattle.par2_spec.specs.Search.{known, lost, survivors, NoCollision}
 use Rattle.par2_spec.specs.Repairs.{rebuilt, cut_into, files_of_slices}
 use Rattle.par2_spec.proofs.NamesLaws.{false_true}
 use Rattle.par2_spec.proofs.ListsLaws.{all-append}

@@ -10,7 +10,7 @@ use lib.Utf8.{encode}
 use Rattle.md5.specs.Md5.{md5, digest_bytes, hash_after, compress, rounds, block_words}
 use Rattle.par2_spec.specs.declared.Fault.TheVariants.{BadSliceSize, BadCount, BadBase, NoInput, BadName, DuplicateInput}
 use Rattle.par2_spec.specs.declared.ChangeFault.TheVariants.{NameTaken, NoRoom, NoSuchName}
-use Rattle.par2_spec.specs.Folders.{Folder, File, has, fingerprint, counted}
+use Rattle.par2_spec.specs.Folders.{Folder, File, has, fingerprint, behind_length}
 use Rattle.par2_spec.specs.Changes.{FolderState, fault_unless, Write, Rename, Remove, change_refusal, state_after, effect}
 use Rattle.par2_spec.specs.Commands.{CreateArgs, Undo, Redo}
 use Rattle.par2_spec.specs.Names.{is_name}
@@ -24,7 +24,7 @@ use Rattle.par2_spec.proofs.ReadLaws.{entries-empty}
 -- d41d8cd98f00b204e9800998ecf8427e
 fingerprint_of_the_empty_folder : fingerprint map_of.empty ≡ 0xd4 ∷ 0x1d ∷ 0x8c ∷ 0xd9 ∷ 0x8f ∷ 0x00 ∷ 0xb2 ∷ 0x04 ∷ 0xe9 ∷ 0x80 ∷ 0x09 ∷ 0x98 ∷ 0xec ∷ 0xf8 ∷ 0x42 ∷ 0x7e ∷ []
 unfolding fingerprint md5 digest_bytes hash_after compress rounds block_words
-fingerprint_of_the_empty_folder = ap (λ es. md5 (flat_map (λ (file : File). counted file.0 ++ counted file.1) es)) (entries-empty (slice_cmp nat_cmp) (List ℕ))
+fingerprint_of_the_empty_folder = ap (λ es. md5 (flat_map (λ (file : File). behind_length file.0 ++ behind_length file.1) es)) (entries-empty (slice_cmp nat_cmp) (List ℕ))
 
 empty_state : FolderState
 empty_state = record { files = map_of.empty; vacant = 1 }

@@ -20,13 +20,13 @@ after_undo : Version → List (List Change) → Journal
 after_undo v entries = record { version = v; fingerprint = zeros 16; cursor = 0; entries = entries; halfway = None }
 
 -- of a repair that puts `a` aside and writes it
-begun : Version → Journal
-begun v = record { version = v; fingerprint = zeros 16; cursor = 0; entries = []; halfway = Some (record { fingerprints = zeros 16 ∷ zeros 16 ∷ []; back = Remove (codes "a") ∷ Rename (codes "a.1") (codes "a") ∷ [] }) }
+halfway : Version → Journal
+halfway v = record { version = v; fingerprint = zeros 16; cursor = 0; entries = []; halfway = Some (record { fingerprints = zeros 16 ∷ zeros 16 ∷ []; back = Remove (codes "a") ∷ Rename (codes "a.1") (codes "a") ∷ [] }) }
 
 journal_lengths : map (λ (j : Journal). length (spelling j))
-    (after_create One ∷ after_create Two ∷ after_undo One [] ∷ after_undo Two ((Write (codes "t.par2") (zeros 420) ∷ []) ∷ []) ∷ begun One ∷ begun Two ∷ [])
+    (after_create One ∷ after_create Two ∷ after_undo One [] ∷ after_undo Two ((Write (codes "t.par2") (zeros 420) ∷ []) ∷ []) ∷ halfway One ∷ halfway Two ∷ [])
     ≡ 65 ∷ 73 ∷ 49 ∷ 501 ∷ 99 ∷ 107 ∷ []
-unfolding spelling md5 digest_bytes hash_after compress rounds block_words zeros after_create after_undo begun
+unfolding spelling md5 digest_bytes hash_after compress rounds block_words zeros after_create after_undo halfway
 journal_lengths = refl
 
 numbered_names : (numbered (codes "a") 1 ≡ codes "a.1") × (numbered (codes "a") 12 ≡ codes "a.12")

@@ -7,8 +7,7 @@ use Rattle.std.proofs.lemmas.Bool.{and_parts, or_cases, or_left, or_right, false
 use Rattle.par2_spec.specs.Names.{is_among}
 use Rattle.par2_spec.specs.Folders.{Folder, bytes_of}
 use Rattle.par2_spec.specs.Sets.{ParSet, Target}
-use Rattle.par2_spec.specs.Search.{is_intact, matched, matches, needing, intact_names}
-use Rattle.par2_spec.specs.Rules.{AreFirstMatches}
+use Rattle.par2_spec.specs.Search.{is_intact, matched, matches, needing, intact_names, AreFirstMatches}
 use Rattle.par2_spec.proofs.NamesLaws.{same_name, itself, clash, false_true, AreDistinct, among-filter, among-append}
 
 -- the targets with their matches, and the matches alone

@@ -9,11 +9,10 @@ use Rattle.par2_spec.specs.Folders.{Folder}
 use Rattle.par2_spec.specs.Changes.{Change, Write, Replace, Rename, Remove, state_after, effects, are_applicable, way_back, FolderState, takes_all, state_after_all, places_taken}
 use Rattle.par2_spec.specs.Commands.{Command, Create, Verify, Repair, Purge, Action, Do, Undo, Redo}
 use Rattle.par2_spec.specs.Refusals.{refusal, after}
-use Rattle.par2_spec.specs.Plans.{changes_of}
-use Rattle.par2_spec.specs.History.{History, Refusal, Refused, NothingToUndo, NothingToRedo, in_front, done, unless_refused, undone, redone, history_after, Run, Ended, Accepted, Passed, folders, IsChanging}
-use Rattle.par2_spec.specs.Sessions.{Session, folders_along, history_of, first_entry, planned, changes_asked, others, session_with, applied, session_after, KeptSession, session_of_kept, walks, CanWalk, OnlyGrew, kept_done, kept_undone, kept_redone}
+use Rattle.par2_spec.specs.Plans.{changes_of, LeadsToAfter, LeadsToAfterAsked}
+use Rattle.par2_spec.specs.History.{History, Refusal, Refused, NothingToUndo, NothingToRedo, in_front, after_command, unless_refused, after_undo, after_redo, history_after, Run, Ended, Accepted, Passed, folders, IsChanging}
+use Rattle.par2_spec.specs.Sessions.{Session, folders_along, history_of, first_entry, changes_unless, changes_asked, others, session_with, session_unless, session_after, KeptSession, session_of_kept, walks, CanWalk, OnlyGrew, kept_done, kept_undone, kept_redone}
 use Rattle.par2_spec.specs.Opening.{leads, is_valid}
-use Rattle.par2_spec.specs.Rules.{LeadsToAfter, LeadsToAfterAsked}
 use Rattle.par2_spec.proofs.FolderLaws.{undo_changes, undo_are_applicable, state_files, taken_are_applicable, state_all_back, way_back_taken, changes_back, with_room, more_room_all, takes_applicable}
 use Rattle.par2_spec.proofs.NamesLaws.{false_true}
 
@@ -63,7 +62,7 @@ command_in_front : (s : Session) (cs : List Change) (folder : Folder) → are_ap
 unfolding history_of folders_along
 command_in_front s cs folder h e = λ i. record { older = sym (along_back s.folder cs s.undos h) i; now = sym e i; newer = [] }
 
-done_is : (s : Session) (command : Command) → LeadsToAfter s.folder command → done command (history_of s) ≡ history_of (session_with s (Do command) (changes_of s.folder command))
+done_is : (s : Session) (command : Command) → LeadsToAfter s.folder command → after_command command (history_of s) ≡ history_of (session_with s (Do command) (changes_of s.folder command))
 unfolding session_with history_of
 done_is s (Create a) l = command_in_front s (changes_of s.folder (Create a)) (after s.folder (Create a)) l.0 l.1
 done_is s (Verify base extras) l = refl
@@ -85,8 +84,8 @@ valid_done s (Purge base) v l = valid_command s (changes_of s.folder (Purge base
 abbrev IsNext : Session → Action → Session → Type 0
 IsNext s action t = (history_after (history_of s) action ≡ Ok (history_of t)) × (is_valid t ≡ true)
 
-done_next : (s t : Session) (command : Command) (o : Option Fault) → is_valid s ≡ true → (o ≡ None → LeadsToAfter s.folder command) → applied s (Do command) (planned o (changes_of s.folder command)) ≡ Ok t
-    → (unless_refused o (done command (history_of s)) ≡ Ok (history_of t)) × (is_valid t ≡ true)
+done_next : (s t : Session) (command : Command) (o : Option Fault) → is_valid s ≡ true → (o ≡ None → LeadsToAfter s.folder command) → session_unless s (Do command) (changes_unless o (changes_of s.folder command)) ≡ Ok t
+    → (unless_refused o (after_command command (history_of s)) ≡ Ok (history_of t)) × (is_valid t ≡ true)
 done_next s t command (Some fault) v l h = absurd (ok_no_err t (Refused fault) (sym h))
 done_next s t command None v l h =
     let e = same_ok (session_with s (Do command) (changes_of s.folder command)) t h in
@@ -95,8 +94,8 @@ done_next s t command None v l h =
 abbrev session_at : Folder → List (List Change) → List (List Change) → Session
 session_at folder undos redos = record { folder = folder; undos = undos; redos = redos }
 
-undo_next : (folder : Folder) (undos redos : List (List Change)) (t : Session) → is_valid (session_at folder undos redos) ≡ true → applied (session_at folder undos redos) Undo (first_entry NothingToUndo undos) ≡ Ok t
-    → (undone folder (folders_along folder undos) (folders_along folder redos) ≡ Ok (history_of t)) × (is_valid t ≡ true)
+undo_next : (folder : Folder) (undos redos : List (List Change)) (t : Session) → is_valid (session_at folder undos redos) ≡ true → session_unless (session_at folder undos redos) Undo (first_entry NothingToUndo undos) ≡ Ok t
+    → (after_undo folder (folders_along folder undos) (folders_along folder redos) ≡ Ok (history_of t)) × (is_valid t ≡ true)
 unfolding session_with history_of folders_along leads
 undo_next folder [] redos t v h = absurd (ok_no_err t NothingToUndo (sym h))
 undo_next folder (entry ∷ undos) redos t v h =
@@ -107,8 +106,8 @@ undo_next folder (entry ∷ undos) redos t v h =
       subst (λ u. is_valid u ≡ true) e (and_from _ _ first.1 (leads_back folder entry redos first.0 both.1)),
     )
 
-redo_next : (folder : Folder) (undos redos : List (List Change)) (t : Session) → is_valid (session_at folder undos redos) ≡ true → applied (session_at folder undos redos) Redo (first_entry NothingToRedo redos) ≡ Ok t
-    → (redone (folders_along folder undos) folder (folders_along folder redos) ≡ Ok (history_of t)) × (is_valid t ≡ true)
+redo_next : (folder : Folder) (undos redos : List (List Change)) (t : Session) → is_valid (session_at folder undos redos) ≡ true → session_unless (session_at folder undos redos) Redo (first_entry NothingToRedo redos) ≡ Ok t
+    → (after_redo (folders_along folder undos) folder (folders_along folder redos) ≡ Ok (history_of t)) × (is_valid t ≡ true)
 unfolding session_with history_of folders_along leads
 redo_next folder undos [] t v h = absurd (ok_no_err t NothingToRedo (sym h))
 redo_next folder undos (entry ∷ redos) t v h =
@@ -128,23 +127,23 @@ accepted_next s t Redo v l h = redo_next s.folder s.undos s.redos t v h
 
 -- ---- a refused action
 
-refused_command : (s : Session) (h : History) (cs : List Change) (command : Command) (o : Option Fault) (reason : Refusal) → applied s (Do command) (planned o cs) ≡ Err reason → unless_refused o h ≡ Err reason
+refused_command : (s : Session) (h : History) (cs : List Change) (command : Command) (o : Option Fault) (reason : Refusal) → session_unless s (Do command) (changes_unless o cs) ≡ Err reason → unless_refused o h ≡ Err reason
 refused_command s h cs command None reason e = absurd (ok_no_err (session_with s (Do command) cs) reason e)
 refused_command s h cs command (Some fault) reason e = ap Err (same_err (Refused fault) reason e)
 
-refused_undo : (folder : Folder) (undos redos : List (List Change)) (reason : Refusal) → applied (session_at folder undos redos) Undo (first_entry NothingToUndo undos) ≡ Err reason → undone folder (folders_along folder undos) (folders_along folder redos) ≡ Err reason
+refused_undo : (folder : Folder) (undos redos : List (List Change)) (reason : Refusal) → session_unless (session_at folder undos redos) Undo (first_entry NothingToUndo undos) ≡ Err reason → after_undo folder (folders_along folder undos) (folders_along folder redos) ≡ Err reason
 unfolding folders_along
 refused_undo folder [] redos reason e = ap Err (same_err NothingToUndo reason e)
 refused_undo folder (entry ∷ undos) redos reason e = absurd (ok_no_err (session_with (session_at folder (entry ∷ undos) redos) Undo entry) reason e)
 
-refused_redo : (folder : Folder) (undos redos : List (List Change)) (reason : Refusal) → applied (session_at folder undos redos) Redo (first_entry NothingToRedo redos) ≡ Err reason → redone (folders_along folder undos) folder (folders_along folder redos) ≡ Err reason
+refused_redo : (folder : Folder) (undos redos : List (List Change)) (reason : Refusal) → session_unless (session_at folder undos redos) Redo (first_entry NothingToRedo redos) ≡ Err reason → after_redo (folders_along folder undos) folder (folders_along folder redos) ≡ Err reason
 unfolding folders_along
 refused_redo folder undos [] reason e = ap Err (same_err NothingToRedo reason e)
 refused_redo folder undos (entry ∷ redos) reason e = absurd (ok_no_err (session_with (session_at folder undos (entry ∷ redos)) Redo entry) reason e)
 
 pub refused_alike : (s : Session) (action : Action) (reason : Refusal) → session_after s action ≡ Err reason → history_after (history_of s) action ≡ Err reason
 unfolding session_after changes_asked history_after history_of
-refused_alike s (Do command) reason e = refused_command s (done command (history_of s)) (changes_of s.folder command) command (refusal s.folder command) reason e
+refused_alike s (Do command) reason e = refused_command s (after_command command (history_of s)) (changes_of s.folder command) command (refusal s.folder command) reason e
 refused_alike s Undo reason e = refused_undo s.folder s.undos s.redos reason e
 refused_alike s Redo reason e = refused_redo s.folder s.undos s.redos reason e
 
@@ -191,7 +190,7 @@ one_undone n h folder older [] i k later = absurd (none_dropped n folder older k
 one_undone n h folder older (f ∷ fs) i k later =
     let next : History = record { older = fs; now = f; newer = h.now ∷ h.newer } in
     let r = later next k in
-    (r.0, Accepted (ap (λ o. undone h.now o h.newer) i) r.1, r.2)
+    (r.0, Accepted (ap (λ o. after_undo h.now o h.newer) i) r.1, r.2)
 
 -- n undos pass over n folders
 undos_pass : (n : ℕ) (h : History) (folder : Folder) (older : List Folder) → drop n (folders h) ≡ folder ∷ older → Undone n h folder older

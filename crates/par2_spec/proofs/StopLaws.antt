@@ -15,9 +15,8 @@ use Rattle.par2_spec.specs.declared.Version.TheVariants.{One, Two}
 use Rattle.par2_spec.specs.Folders.{Folder, fingerprint}
 use Rattle.par2_spec.specs.Changes.{Change, effect, effects, inverse, is_applicable, are_applicable, way_back, folders_after}
 use Rattle.par2_spec.specs.Sessions.{Session}
-use Rattle.par2_spec.specs.Journals.{Journal, Halfway, IsHalfway, IsJournal, Spells}
-use Rattle.par2_spec.specs.Opening.{settled_journal, halfway_journal, leads, session_of, is_valid, leads_through, Opened, Settled, ToTakeBack, taken_back, opened_at, opened_by, opened, TellsApart, session_opened, OpensAs, Opens}
-use Rattle.par2_spec.specs.Rules.{kept_in}
+use Rattle.par2_spec.specs.Journals.{Journal, HalfwayPart, IsHalfwayPart, IsJournal, Spells}
+use Rattle.par2_spec.specs.Opening.{settled_journal, halfway_journal, leads, session_of, is_valid, leads_through, Opened, Settled, Halfway, taken_back, opened_if_found, opened_by_part, opened, TellsApart, session_of_opened, OpensAs, Opens, kept_in}
 use Rattle.par2_spec.proofs.FolderLaws.{undo_changes, undo_change, undo_is_applicable, effects-append, way_back-append}
 use Rattle.par2_spec.proofs.NamesLaws.{itself, same_name, false_true}
 
@@ -195,19 +194,19 @@ print_of Two s = refl
 pub settled_opens : (v : Version) (s : Session) → is_valid s ≡ true → opened s.folder (settled_journal v s) ≡ Ok (Settled (kept_in v s))
 unfolding opened
 settled_opens v s h =
-    ap (λ o. opened_by s.folder (settled_journal v s) o) (not_halfway v s)
+    ap (λ o. opened_by_part s.folder (settled_journal v s) o) (not_halfway v s)
     ∙ ap (λ p. if not (bytes_eq (fingerprint s.folder) p) then Err (FolderChanged false) else if is_valid (session_of s.folder (settled_journal v s)) then Ok (Settled (session_of s.folder (settled_journal v s))) else Err JournalInvalid) (print_of v s)
     ∙ ap (λ b. if not b then Err (FolderChanged false) else if is_valid (session_of s.folder (settled_journal v s)) then Ok (Settled (session_of s.folder (settled_journal v s))) else Err JournalInvalid) (itself (fingerprint s.folder))
     ∙ ap (λ t. if is_valid t then Ok (Settled t) else Err JournalInvalid) (session_of_settled v s s.folder ∙ kept_folder v s)
     ∙ ap (λ b. if b then Ok (Settled (kept_in v s)) else Err JournalInvalid) (kept_is_valid v s h)
 
--- ---- a command that was begun
+-- ---- a halfway command
 
-abbrev begun : Folder → List Change → Halfway
-begun folder cs = record { fingerprints = map fingerprint (folders_after folder cs); back = way_back folder cs }
+abbrev part : Folder → List Change → HalfwayPart
+part folder cs = record { fingerprints = map fingerprint (folders_after folder cs); back = way_back folder cs }
 
 abbrev decided : Bool → Session → List Change → Result Opened JournalFault
-decided b s back = if b then Ok (ToTakeBack s back) else Err JournalInvalid
+decided b s back = if b then Ok (Halfway s back) else Err JournalInvalid
 
 applicable-take : (folder : Folder) (cs : List Change) (k : ℕ) → are_applicable folder cs ≡ true → are_applicable folder (take k cs) ≡ true
 unfolding are_applicable
@@ -218,7 +217,7 @@ applicable-take folder (c ∷ cs) (suc k) h =
 
 -- of the folder after the first k changes
 taken_from : (v : Version) (s : Session) (cs : List Change) (k : ℕ) → is_valid s ≡ true → are_applicable s.folder cs ≡ true → k ≤ length cs
-    → taken_back (effects s.folder (take k cs)) (halfway_journal v s cs) (begun s.folder cs) k ≡ Ok (ToTakeBack (kept_in v s) (way_back s.folder (take k cs)))
+    → taken_back (effects s.folder (take k cs)) (halfway_journal v s cs) (part s.folder cs) k ≡ Ok (Halfway (kept_in v s) (way_back s.folder (take k cs)))
 unfolding taken_back halfway_journal
 taken_from v s cs k valid applies le =
     let journal = halfway_journal v s cs in
@@ -237,7 +236,7 @@ taken_from v s cs k valid applies le =
 
 -- the halfway journal of a command opens each folder that the command passes through as the session from before it
 pub halfway_opens : (v : Version) (s : Session) (cs : List Change) (j : ℕ) → is_valid s ≡ true → are_applicable s.folder cs ≡ true → TellsApart s.folder cs → j ≤ length cs
-    → (back : List Change) × (opened (effects s.folder (take j cs)) (halfway_journal v s cs) ≡ Ok (ToTakeBack (kept_in v s) back))
+    → (back : List Change) × (opened (effects s.folder (take j cs)) (halfway_journal v s cs) ≡ Ok (Halfway (kept_in v s) back))
 unfolding opened halfway_journal
 halfway_opens v s cs j valid applies apart le =
     let journal = halfway_journal v s cs in
@@ -252,9 +251,9 @@ halfway_opens v s cs j valid applies apart le =
     sym (get_or-map fingerprint (passed s.folder cs) k g (fingerprint g) (let n : length (passed s.folder cs) ≡ length cs + 1 = length-passed s.folder cs in omega (arith, n, le_k)) ∙ ap fingerprint (passed_at s.folder cs k g le_k)) ∙ place.3 in
     let same : effects s.folder (take k cs) ≡ g = one_folder s.folder cs k j apart le_k le there in (
       way_back s.folder (take k cs),
-      ap (λ p. opened_at g journal (begun s.folder cs) (position (bytes_eq (fingerprint g)) (p ∷ map fingerprint (folders_after s.folder cs)))) (print_of v s)
-          ∙ ap (opened_at g journal (begun s.folder cs)) place.1
-          ∙ ap (λ f. taken_back f journal (begun s.folder cs) k) (sym same)
+      ap (λ p. opened_if_found g journal (part s.folder cs) (position (bytes_eq (fingerprint g)) (p ∷ map fingerprint (folders_after s.folder cs)))) (print_of v s)
+          ∙ ap (opened_if_found g journal (part s.folder cs)) place.1
+          ∙ ap (λ f. taken_back f journal (part s.folder cs) k) (sym same)
           ∙ taken_from v s cs k valid applies le_k,
     )
 
@@ -263,22 +262,22 @@ halfway_opens v s cs j valid applies apart le =
 -- what is to be taken back, where it is
 back_of : Result Opened JournalFault → Option (List Change)
 back_of (Ok (Settled s)) = None
-back_of (Ok (ToTakeBack s back)) = Some back
+back_of (Ok (Halfway s back)) = Some back
 back_of (Err fault) = None
 
 session_or : Session → Result Opened JournalFault → Session
 session_or other (Ok (Settled s)) = s
-session_or other (Ok (ToTakeBack s back)) = s
+session_or other (Ok (Halfway s back)) = s
 session_or other (Err fault) = other
 
-settled_is : (answer : Result Opened JournalFault) (s : Session) (back : List Change) → back_of answer ≡ None → answer ≡ Ok (ToTakeBack s back) → ⊥
+settled_is : (answer : Result Opened JournalFault) (s : Session) (back : List Change) → back_of answer ≡ None → answer ≡ Ok (Halfway s back) → ⊥
 unfolding back_of
 settled_is answer s back e h = false_true (ap is_some (sym e ∙ ap back_of h))
 
 -- the parts of an opening that takes back
 record TakesBack (folder : Folder) (journal : Journal) (s : Session) (back : List Change) : Type 0 where
-  halfway : Halfway
-  begun_there : journal.halfway ≡ Some halfway
+  halfway : HalfwayPart
+  halfway_there : journal.halfway ≡ Some halfway
   place : ℕ
   found : position (bytes_eq (fingerprint folder)) (journal.fingerprint ∷ halfway.fingerprints) ≡ Some place
   last : back ≡ drop (length halfway.back - place) halfway.back
@@ -286,8 +285,8 @@ record TakesBack (folder : Folder) (journal : Journal) (s : Session) (back : Lis
   session : s ≡ session_of (effects folder back) journal
   valid : is_valid s ≡ true
 
-taken_parts : (folder : Folder) (journal : Journal) (h : Halfway) (k : ℕ) (s : Session) (back : List Change) → journal.halfway ≡ Some h → position (bytes_eq (fingerprint folder)) (journal.fingerprint ∷ h.fingerprints) ≡ Some k
-    → taken_back folder journal h k ≡ Ok (ToTakeBack s back) → TakesBack folder journal s back
+taken_parts : (folder : Folder) (journal : Journal) (h : HalfwayPart) (k : ℕ) (s : Session) (back : List Change) → journal.halfway ≡ Some h → position (bytes_eq (fingerprint folder)) (journal.fingerprint ∷ h.fingerprints) ≡ Some k
+    → taken_back folder journal h k ≡ Ok (Halfway s back) → TakesBack folder journal s back
 unfolding taken_back back_of session_or
 taken_parts folder journal h k s back there found e =
     let some = drop (length h.back - k) h.back in
@@ -303,7 +302,7 @@ taken_parts folder journal h k s back there found e =
     prints : List (List ℕ)
     prints = reverse (take k (journal.fingerprint ∷ h.fingerprints))
 
-    step : (b : Bool) → (leads_through folder some prints && is_valid opened_as) ≡ b → decided b opened_as some ≡ Ok (ToTakeBack s back) → TakesBack folder journal s back
+    step : (b : Bool) → (leads_through folder some prints && is_valid opened_as) ≡ b → decided b opened_as some ≡ Ok (Halfway s back) → TakesBack folder journal s back
     step false i j = absurd (settled_is (Err JournalInvalid) s back refl j)
     step true i j =
         let parts = and_parts (leads_through folder some prints) (is_valid opened_as) i in
@@ -311,7 +310,7 @@ taken_parts folder journal h k s back there found e =
         let same_session : opened_as ≡ s = ap (session_or opened_as) j in
         record {
           halfway = h;
-          begun_there = there;
+          halfway_there = there;
           place = k;
           found = found;
           last = sym same_back;
@@ -320,23 +319,23 @@ taken_parts folder journal h k s back there found e =
           valid = ap is_valid (sym same_session) ∙ parts.1;
         }
 
-takes_back : (folder : Folder) (journal : Journal) (s : Session) (back : List Change) → opened folder journal ≡ Ok (ToTakeBack s back) → TakesBack folder journal s back
+takes_back : (folder : Folder) (journal : Journal) (s : Session) (back : List Change) → opened folder journal ≡ Ok (Halfway s back) → TakesBack folder journal s back
 unfolding opened back_of
 takes_back folder journal s back e = by_halfway journal.halfway refl e
   where
-    by_place : (h : Halfway) → journal.halfway ≡ Some h → (o : Option ℕ) → position (bytes_eq (fingerprint folder)) (journal.fingerprint ∷ h.fingerprints) ≡ o → opened_at folder journal h o ≡ Ok (ToTakeBack s back) → TakesBack folder journal s back
+    by_place : (h : HalfwayPart) → journal.halfway ≡ Some h → (o : Option ℕ) → position (bytes_eq (fingerprint folder)) (journal.fingerprint ∷ h.fingerprints) ≡ o → opened_if_found folder journal h o ≡ Ok (Halfway s back) → TakesBack folder journal s back
     by_place h there None i j = absurd (settled_is (Err (FolderChanged true)) s back refl j)
     by_place h there (Some k) i j = taken_parts folder journal h k s back there i j
 
-    by_print : (b : Bool) → (if not b then Err (FolderChanged false) else if is_valid (session_of folder journal) then Ok (Settled (session_of folder journal)) else Err JournalInvalid) ≡ Ok (ToTakeBack s back) → TakesBack folder journal s back
+    by_print : (b : Bool) → (if not b then Err (FolderChanged false) else if is_valid (session_of folder journal) then Ok (Settled (session_of folder journal)) else Err JournalInvalid) ≡ Ok (Halfway s back) → TakesBack folder journal s back
     by_print false j = absurd (settled_is (Err (FolderChanged false)) s back refl j)
     by_print true j = by_valid (is_valid (session_of folder journal)) j
       where
-        by_valid : (b : Bool) → (if b then Ok (Settled (session_of folder journal)) else Err JournalInvalid) ≡ Ok (ToTakeBack s back) → TakesBack folder journal s back
+        by_valid : (b : Bool) → (if b then Ok (Settled (session_of folder journal)) else Err JournalInvalid) ≡ Ok (Halfway s back) → TakesBack folder journal s back
         by_valid false k = absurd (settled_is (Err JournalInvalid) s back refl k)
         by_valid true k = absurd (settled_is (Ok (Settled (session_of folder journal))) s back refl k)
 
-    by_halfway : (o : Option Halfway) → journal.halfway ≡ o → opened_by folder journal o ≡ Ok (ToTakeBack s back) → TakesBack folder journal s back
+    by_halfway : (o : Option HalfwayPart) → journal.halfway ≡ o → opened_by_part folder journal o ≡ Ok (Halfway s back) → TakesBack folder journal s back
     by_halfway None i j = by_print (bytes_eq (fingerprint folder) journal.fingerprint) j
     by_halfway (Some h) i j = by_place h i (position (bytes_eq (fingerprint folder)) (journal.fingerprint ∷ h.fingerprints)) refl j
 
@@ -392,10 +391,10 @@ print_along folder prints back k (suc m) d size lt here h le =
     ∙ through_at folder back (reverse (take k prints)) m d h (omega (arith, size, le))
 
 -- from a folder on the way back the rest of it is taken back
-rest_taken : (folder : Folder) (journal : Journal) (h : Halfway) (s : Session) (back : List Change) (k a : ℕ) → k ≤ length h.back → k < length (journal.fingerprint ∷ h.fingerprints) → a ≤ k
+rest_taken : (folder : Folder) (journal : Journal) (h : HalfwayPart) (s : Session) (back : List Change) (k a : ℕ) → k ≤ length h.back → k < length (journal.fingerprint ∷ h.fingerprints) → a ≤ k
     → back ≡ drop (length h.back - k) h.back → leads_through folder back (reverse (take k (journal.fingerprint ∷ h.fingerprints))) ≡ true
     → s ≡ session_of (effects folder back) journal → is_valid s ≡ true
-    → taken_back (effects folder (take a back)) journal h (k - a) ≡ Ok (ToTakeBack s (drop a back))
+    → taken_back (effects folder (take a back)) journal h (k - a) ≡ Ok (Halfway s (drop a back))
 unfolding taken_back
 rest_taken folder journal h s back k a le_k lt le_a last through session valid =
     let prints = journal.fingerprint ∷ h.fingerprints in
@@ -415,11 +414,11 @@ within_all [] k d e lt = absurd (omega (arith, lt))
 within_all (x ∷ xs) zero d e lt = refl
 within_all (x ∷ xs) (suc k) d e lt = within_all xs k d e (omega (arith, lt))
 
-still_taken : (journal : Journal) (folder : Folder) (h : Halfway) (s : Session) (back : List Change) (k i : ℕ) → length h.fingerprints ≡ length h.back → k < length (journal.fingerprint ∷ h.fingerprints)
+still_taken : (journal : Journal) (folder : Folder) (h : HalfwayPart) (s : Session) (back : List Change) (k i : ℕ) → length h.fingerprints ≡ length h.back → k < length (journal.fingerprint ∷ h.fingerprints)
     → get_or (journal.fingerprint ∷ h.fingerprints) k (fingerprint folder) ≡ fingerprint folder
     → back ≡ drop (length h.back - k) h.back → leads_through folder back (reverse (take k (journal.fingerprint ∷ h.fingerprints))) ≡ true
     → s ≡ session_of (effects folder back) journal → is_valid s ≡ true → TellsApart folder back → i ≤ length back
-    → (rest : List Change) × (opened_at (effects folder (take i back)) journal h (position (bytes_eq (fingerprint (effects folder (take i back)))) (journal.fingerprint ∷ h.fingerprints)) ≡ Ok (ToTakeBack s rest))
+    → (rest : List Change) × (opened_if_found (effects folder (take i back)) journal h (position (bytes_eq (fingerprint (effects folder (take i back)))) (journal.fingerprint ∷ h.fingerprints)) ≡ Ok (Halfway s rest))
 still_taken journal folder h s back k i each lt here last through session valid apart le =
     let prints = journal.fingerprint ∷ h.fingerprints in
     let g = effects folder (take i back) in
@@ -435,35 +434,35 @@ still_taken journal folder h s back k i each lt here last through session valid 
     let alike : fingerprint (effects folder (take a back)) ≡ q = sym (print_along folder prints back k a q size lt start through (omega arith)) ∙ ap (λ n. get_or prints n q) turn ∙ place.3 in
     let same : effects folder (take a back) ≡ g = one_folder folder back a i apart (omega (arith, size)) le alike in (
       drop a back,
-      ap (opened_at g journal h) place.1 ∙ ap (taken_back g journal h) (sym turn) ∙ ap (λ f. taken_back f journal h (k - a)) (sym same)
+      ap (opened_if_found g journal h) place.1 ∙ ap (taken_back g journal h) (sym turn) ∙ ap (λ f. taken_back f journal h (k - a)) (sym same)
           ∙ rest_taken folder journal h s back k a le_k lt (omega arith) last through session valid,
     )
 
 -- where a halfway journal opens a folder, it opens each folder that the way back passes through as that session too
-pub still_opens : (journal : Journal) (folder : Folder) (s : Session) (back : List Change) (i : ℕ) → IsJournal journal → opened folder journal ≡ Ok (ToTakeBack s back) → TellsApart folder back → i ≤ length back
-    → (rest : List Change) × (opened (effects folder (take i back)) journal ≡ Ok (ToTakeBack s rest))
+pub still_opens : (journal : Journal) (folder : Folder) (s : Session) (back : List Change) (i : ℕ) → IsJournal journal → opened folder journal ≡ Ok (Halfway s back) → TellsApart folder back → i ≤ length back
+    → (rest : List Change) × (opened (effects folder (take i back)) journal ≡ Ok (Halfway s rest))
 unfolding opened
 still_opens journal folder s back i is e apart le =
     let t = takes_back folder journal s back e in
     let h = t.halfway in
     let k = t.place in
     let prints = journal.fingerprint ∷ h.fingerprints in
-    let shape : IsHalfway h = subst (λ o. IfSome o IsHalfway) t.begun_there is.halfway in
+    let shape : IsHalfwayPart h = subst (λ o. IfSome o IsHalfwayPart) t.halfway_there is.halfway in
     let each : length h.fingerprints ≡ length h.back = shape.each in
     let found = at_place (fingerprint folder) 0 prints k (sym (position_from-zero (bytes_eq (fingerprint folder)) prints) ∙ t.found) in
     let place : k ≡ found.0 = found.1 ∙ (let z : 0 + found.0 ≡ found.0 = omega arith in z) in
     let r = still_taken journal folder h s back k i each (subst (λ n. n < length prints) (sym place) found.2) (ap (λ n. get_or prints n (fingerprint folder)) place ∙ found.3) t.last t.through t.session t.valid apart le in
-    (r.0, ap (opened_by (effects folder (take i back)) journal) t.begun_there ∙ r.1)
+    (r.0, ap (opened_by_part (effects folder (take i back)) journal) t.halfway_there ∙ r.1)
 
 -- what is taken back applies and leads to the session's folder, and the session can be walked
-pub taken_back_leads : (journal : Journal) (folder : Folder) (s : Session) (back : List Change) → opened folder journal ≡ Ok (ToTakeBack s back) → (are_applicable folder back ≡ true) × (effects folder back ≡ s.folder) × (is_valid s ≡ true)
+pub taken_back_leads : (journal : Journal) (folder : Folder) (s : Session) (back : List Change) → opened folder journal ≡ Ok (Halfway s back) → (are_applicable folder back ≡ true) × (effects folder back ≡ s.folder) × (is_valid s ≡ true)
 taken_back_leads journal folder s back e =
     let t = takes_back folder journal s back e in
     (through_applies folder back (reverse (take t.place (journal.fingerprint ∷ t.halfway.fingerprints))) t.through, ap (λ u. u.folder) (sym t.session), t.valid)
 
 -- ---- in a store
 
-stored_opens : (folder : Folder) (text : List ℕ) (journal : Journal) (o : Opened) → Spells text journal → opened folder journal ≡ Ok o → OpensAs folder (Some text) (Ok (record { session = session_opened o; dropped = false }))
+stored_opens : (folder : Folder) (text : List ℕ) (journal : Journal) (o : Opened) → Spells text journal → opened folder journal ≡ Ok o → OpensAs folder (Some text) (Ok (record { session = session_of_opened o; dropped = false }))
 unfolding OpensAs Opens
 stored_opens folder text journal o spells e = (Ok o, inl (journal, spells, sym e), refl)
 
@@ -474,10 +473,10 @@ pub halfway_stored : (v : Version) (s : Session) (cs : List Change) (j : ℕ) (t
     → OpensAs (effects s.folder (take j cs)) (Some text) (Ok (record { session = kept_in v s; dropped = false }))
 halfway_stored v s cs j text valid applies apart le spells =
     let r = halfway_opens v s cs j valid applies apart le in
-    stored_opens (effects s.folder (take j cs)) text (halfway_journal v s cs) (ToTakeBack (kept_in v s) r.0) spells r.1
+    stored_opens (effects s.folder (take j cs)) text (halfway_journal v s cs) (Halfway (kept_in v s) r.0) spells r.1
 
-pub still_stored : (journal : Journal) (folder : Folder) (s : Session) (back : List Change) (i : ℕ) (text : List ℕ) → Spells text journal → opened folder journal ≡ Ok (ToTakeBack s back) → TellsApart folder back → i ≤ length back
+pub still_stored : (journal : Journal) (folder : Folder) (s : Session) (back : List Change) (i : ℕ) (text : List ℕ) → Spells text journal → opened folder journal ≡ Ok (Halfway s back) → TellsApart folder back → i ≤ length back
     → OpensAs (effects folder (take i back)) (Some text) (Ok (record { session = s; dropped = false }))
 still_stored journal folder s back i text spells e apart le =
     let r = still_opens journal folder s back i spells.0 e apart le in
-    stored_opens (effects folder (take i back)) text journal (ToTakeBack s r.0) spells r.1
+    stored_opens (effects folder (take i back)) text journal (Halfway s r.0) spells r.1

@@ -7,8 +7,7 @@ use Rattle.std.proofs.lemmas.Bool.{le-leb, eq-eqb, and_from}
 use Rattle.std.proofs.lemmas.List.{take_at, drop_at, length-append, append-nil}
 use Rattle.std.proofs.lemmas.Nat.{from_le_bytes-to_le_bytes_4, from_le_bytes-to_le_bytes_8}
 use Rattle.par2_spec.specs.declared.Kind.TheVariants.{Main, Ifsc, Recovery}
-use Rattle.par2_spec.specs.Checksums.{Pair}
-use Rattle.par2_spec.specs.Packing.{IsPair}
+use Rattle.par2_spec.specs.Checksums.{Pair, IsPair}
 use Rattle.par2_spec.specs.Packets.{bytes_at, u64_at, u32_at, items_at, MainBody, IfscBody, RecoveryBody, read_main, read_ifsc, read_recovery}
 use Rattle.par2_spec.specs.Volumes.{FileRecord, main_bytes, ifsc_bytes, pair_bytes, recovery_bytes}
 use Rattle.par2_spec.proofs.WrittenPackets.{part_at}

@@ -6,7 +6,7 @@ use Rattle.std.proofs.lemmas.Bool.{le-leb, or_parts, or_from, eq-eqb}
 use Rattle.std.proofs.lemmas.List.{take_at, drop_at, length-append, length-replicate, reverse-append, replicate_more}
 use Rattle.std.proofs.lemmas.List.Folds.{list_any-append, prefix_len-append, prefix_len-replicate}
 use Rattle.par2_spec.specs.declared.Kind.TheVariants.{FileDesc}
-use Rattle.par2_spec.specs.Packets.{bytes_at, u64_at, stripped, DescBody, read_desc}
+use Rattle.par2_spec.specs.Packets.{bytes_at, u64_at, without_end_zeros, DescBody, read_desc}
 use Rattle.par2_spec.specs.Volumes.{FileRecord, desc_bytes, padded_4}
 use Rattle.par2_spec.proofs.WrittenPackets.{part_at}
 use Rattle.par2_spec.proofs.WrittenBodies.{u64_there, if_true}
@@ -46,7 +46,7 @@ zeros_first k xs =
     ∙ ap (λ (b : Bool). cond b (length (zeros k) + prefix_len is_zero xs) (prefix_len is_zero (zeros k))) same
     ∙ ap (λ (n : ℕ). n + prefix_len is_zero xs) size
 
-pub stripped-padded : (name : List ℕ) (k : ℕ) → list_any (λ b. eqb b 0) name ≡ false → stripped (name ++ replicate k 0) ≡ name
+pub stripped-padded : (name : List ℕ) (k : ℕ) → list_any (λ b. eqb b 0) name ≡ false → without_end_zeros (name ++ replicate k 0) ≡ name
 stripped-padded name k none =
     let bytes : List ℕ = name ++ replicate k 0 in
     let size : length bytes ≡ length name + k = length-append name (replicate k 0) ∙ ap (λ (n : ℕ). length name + n) (length-replicate k 0) in
@@ -92,12 +92,12 @@ desc_reads file i d s low none =
     let e2 : bytes_at 16 16 body ≡ file.digest = ap (bytes_at 16 16) (at_16 file.id file.digest file.digest_16k n name) ∙ part_at file.id file.digest (file.digest_16k ++ (n ++ name)) 16 16 i d in
     let e3 : bytes_at 32 16 body ≡ file.digest_16k = ap (bytes_at 32 16) (at_32 file.id file.digest file.digest_16k n name) ∙ part_at (file.id ++ file.digest) file.digest_16k (n ++ name) 32 16 size32 s in
     let e4 : u64_at 48 body ≡ file.size = ap (u64_at 48) (at_48 file.id file.digest file.digest_16k n name) ∙ u64_there (file.id ++ (file.digest ++ file.digest_16k)) name 48 file.size size48 low in
-    let e5 : stripped (drop 56 body) ≡ file.name =
-    ap stripped (ap (drop 56) (at_56 file.id file.digest file.digest_16k n name) ∙ drop_at (file.id ++ (file.digest ++ (file.digest_16k ++ n))) name 56 size56)
+    let e5 : without_end_zeros (drop 56 body) ≡ file.name =
+    ap without_end_zeros (ap (drop 56) (at_56 file.id file.digest file.digest_16k n name) ∙ drop_at (file.id ++ (file.digest ++ (file.digest_16k ++ n))) name 56 size56)
     ∙ stripped-padded file.name ((4 - length file.name % 4) % 4) none in
-    if_true (leb 56 (length body)) (desc_of (bytes_at 0 16 body) (bytes_at 16 16 body) (bytes_at 32 16 body) (u64_at 48 body) (stripped (drop 56 body))) None t
-    ∙ ap (λ (x : List ℕ). desc_of x (bytes_at 16 16 body) (bytes_at 32 16 body) (u64_at 48 body) (stripped (drop 56 body))) e1
-    ∙ ap (λ (x : List ℕ). desc_of file.id x (bytes_at 32 16 body) (u64_at 48 body) (stripped (drop 56 body))) e2
-    ∙ ap (λ (x : List ℕ). desc_of file.id file.digest x (u64_at 48 body) (stripped (drop 56 body))) e3
-    ∙ ap (λ (x : ℕ). desc_of file.id file.digest file.digest_16k x (stripped (drop 56 body))) e4
+    if_true (leb 56 (length body)) (desc_of (bytes_at 0 16 body) (bytes_at 16 16 body) (bytes_at 32 16 body) (u64_at 48 body) (without_end_zeros (drop 56 body))) None t
+    ∙ ap (λ (x : List ℕ). desc_of x (bytes_at 16 16 body) (bytes_at 32 16 body) (u64_at 48 body) (without_end_zeros (drop 56 body))) e1
+    ∙ ap (λ (x : List ℕ). desc_of file.id x (bytes_at 32 16 body) (u64_at 48 body) (without_end_zeros (drop 56 body))) e2
+    ∙ ap (λ (x : List ℕ). desc_of file.id file.digest x (u64_at 48 body) (without_end_zeros (drop 56 body))) e3
+    ∙ ap (λ (x : ℕ). desc_of file.id file.digest file.digest_16k x (without_end_zeros (drop 56 body))) e4
     ∙ ap (λ (x : List ℕ). desc_of file.id file.digest file.digest_16k file.size x) e5

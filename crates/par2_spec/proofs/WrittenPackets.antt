@@ -11,9 +11,8 @@ use Rattle.std.proofs.lemmas.Slice.Eq.{bytes_eq-Decides}
 use Rattle.md5.specs.Md5.{md5}
 use Rattle.md5.proofs.StandardFacts.{length-md5}
 use Rattle.par2_spec.specs.declared.Kind.{Kind}
-use Rattle.par2_spec.specs.Packets.{bytes_at, u64_at, magic, type_of, kind_of, Packet, digested, packet, claimed, begins_with_packet, first_packet, accepted, accepted_after}
+use Rattle.par2_spec.specs.Packets.{bytes_at, u64_at, magic, type_of, kind_of, Packet, digest_input, packet, claimed_length, begins_with_packet, first_packet, accepted, accepted_after, IsPacket}
 use Rattle.par2_spec.proofs.AcceptedLaws.{accepted-found, accepted-none}
-use Rattle.par2_spec.specs.Packing.{IsPacket}
 
 pub part_at : (front mid rest : List ℕ) (o n : ℕ) → length front ≡ o → length mid ≡ n → bytes_at o n (front ++ (mid ++ rest)) ≡ mid
 part_at front mid rest o n a b = rw (drop_at front (mid ++ rest) o a) (take_at mid rest n b)
@@ -35,7 +34,7 @@ pub record IsMade (text m l d s k b t : List ℕ) : Type 0 where
 module_parts : (text m l d s k b t : List ℕ) → IsMade text m l d s k b t → (length m ≡ 8) × (length l ≡ 8) × (length d ≡ 16)
 module_parts text m l d s k b t h = (ap length h.magic, ap length h.claim, ap length h.digest ∙ length-md5 (s ++ (k ++ b)))
 
-claimed_is : (text m l d s k b t : List ℕ) → IsMade text m l d s k b t → claimed text ≡ 64 + length b
+claimed_is : (text m l d s k b t : List ℕ) → IsMade text m l d s k b t → claimed_length text ≡ 64 + length b
 unfolding u64_at
 claimed_is text m l d s k b t h =
     let lens = module_parts text m l d s k b t h in
@@ -69,50 +68,50 @@ begins : (text m l d s k b t : List ℕ) → IsMade text m l d s k b t → begin
 unfolding begins_with_packet u64_at
 begins text m l d s k b t h =
     let lens = module_parts text m l d s k b t h in
-    let claim : claimed text ≡ 64 + length b = claimed_is text m l d s k b t h in
+    let claim : claimed_length text ≡ 64 + length b = claimed_is text m l d s k b t h in
     let size_skb : length (s ++ (k ++ b)) ≡ 32 + length b = omega (arith, len3 s k b, h.set_id, h.kind) in
     let size_mld : length (m ++ (l ++ d)) ≡ 32 = omega (arith, len3 m l d, lens.0, lens.1, lens.2) in
     let size : length text ≡ 64 + length b + length t =
     ap length (h.is ∙ to_32 m l d s k b t) ∙ length-append (m ++ (l ++ d)) ((s ++ (k ++ b)) ++ t)
     ∙ omega (arith, length-append (s ++ (k ++ b)) t, size_skb, size_mld) in
     let front : bytes_at 0 8 text ≡ magic = ap (bytes_at 0 8) h.is ∙ take_at m (l ++ (d ++ (s ++ (k ++ (b ++ t))))) 8 lens.0 ∙ h.magic in
-    let rest : bytes_at 32 (claimed text - 32) text ≡ s ++ (k ++ b) =
-    ap (bytes_at 32 (claimed text - 32)) (h.is ∙ to_32 m l d s k b t) ∙ part_at (m ++ (l ++ d)) (s ++ (k ++ b)) t 32 (claimed text - 32) size_mld (omega (arith, size_skb, claim)) in
+    let rest : bytes_at 32 (claimed_length text - 32) text ≡ s ++ (k ++ b) =
+    ap (bytes_at 32 (claimed_length text - 32)) (h.is ∙ to_32 m l d s k b t) ∙ part_at (m ++ (l ++ d)) (s ++ (k ++ b)) t 32 (claimed_length text - 32) size_mld (omega (arith, size_skb, claim)) in
     let digest : bytes_at 16 16 text ≡ d =
     ap (bytes_at 16 16) (h.is ∙ to_16 m l d s k b t) ∙ part_at (m ++ l) d (s ++ (k ++ (b ++ t))) 16 16 (omega (arith, length-append m l, lens.0, lens.1)) lens.2 in
     let h1 : leb 64 (length text) ≡ true = le-leb 64 (length text) (omega (arith, size)) in
     let h2 : bytes_eq (bytes_at 0 8 text) magic ≡ true = (bytes_eq-Decides (bytes_at 0 8 text) magic).1 front in
-    let h3 : eqb (claimed text % 4) 0 ≡ true = eq-eqb (claimed text % 4) 0 (ap (λ (n : ℕ). n % 4) claim ∙ h.even) in
-    let h4 : leb 64 (claimed text) ≡ true = le-leb 64 (claimed text) (omega (arith, claim)) in
-    let h5 : leb (claimed text) (length text) ≡ true = le-leb (claimed text) (length text) (omega (arith, claim, size)) in
-    let h6 : bytes_eq (md5 (bytes_at 32 (claimed text - 32) text)) (bytes_at 16 16 text) ≡ true =
-    (bytes_eq-Decides (md5 (bytes_at 32 (claimed text - 32) text)) (bytes_at 16 16 text)).1 (ap md5 rest ∙ sym h.digest ∙ sym digest) in
+    let h3 : eqb (claimed_length text % 4) 0 ≡ true = eq-eqb (claimed_length text % 4) 0 (ap (λ (n : ℕ). n % 4) claim ∙ h.even) in
+    let h4 : leb 64 (claimed_length text) ≡ true = le-leb 64 (claimed_length text) (omega (arith, claim)) in
+    let h5 : leb (claimed_length text) (length text) ≡ true = le-leb (claimed_length text) (length text) (omega (arith, claim, size)) in
+    let h6 : bytes_eq (md5 (bytes_at 32 (claimed_length text - 32) text)) (bytes_at 16 16 text) ≡ true =
+    (bytes_eq-Decides (md5 (bytes_at 32 (claimed_length text - 32) text)) (bytes_at 16 16 text)).1 (ap md5 rest ∙ sym h.digest ∙ sym digest) in
     six _ _ _ _ _ _ h1 h2 h3 h4 h5 h6
 
 first : (text m l d s k b t : List ℕ) → IsMade text m l d s k b t → first_packet text ≡ record { set_id = s; kind = kind_of k; body = b }
 unfolding first_packet u64_at
 first text m l d s k b t h =
     let lens = module_parts text m l d s k b t h in
-    let claim : claimed text ≡ 64 + length b = claimed_is text m l d s k b t h in
+    let claim : claimed_length text ≡ 64 + length b = claimed_is text m l d s k b t h in
     let size32 : length (m ++ (l ++ d)) ≡ 32 = omega (arith, len3 m l d, lens.0, lens.1, lens.2) in
     let size48 : length (m ++ (l ++ (d ++ s))) ≡ 48 = omega (arith, len3 m l (d ++ s), length-append d s, lens.0, lens.1, lens.2, h.set_id) in
     let size64 : length (m ++ (l ++ (d ++ (s ++ k)))) ≡ 64 = omega (arith, len3 m l (d ++ (s ++ k)), len3 d s k, lens.0, lens.1, lens.2, h.set_id, h.kind) in
     let id : bytes_at 32 16 text ≡ s = ap (bytes_at 32 16) (h.is ∙ to_32s m l d s k b t) ∙ part_at (m ++ (l ++ d)) s (k ++ (b ++ t)) 32 16 size32 h.set_id in
     let kind : bytes_at 48 16 text ≡ k = ap (bytes_at 48 16) (h.is ∙ to_48 m l d s k b t) ∙ part_at (m ++ (l ++ (d ++ s))) k (b ++ t) 48 16 size48 h.kind in
-    let body : bytes_at 64 (claimed text - 64) text ≡ b = ap (bytes_at 64 (claimed text - 64)) (h.is ∙ to_64 m l d s k b t) ∙ part_at (m ++ (l ++ (d ++ (s ++ k)))) b t 64 (claimed text - 64) size64 (omega (arith, claim)) in
-    ap (λ (x : List ℕ). let p : Packet = record { set_id = x; kind = kind_of (bytes_at 48 16 text); body = bytes_at 64 (claimed text - 64) text } in p) id
-    ∙ ap (λ (x : List ℕ). let p : Packet = record { set_id = s; kind = kind_of x; body = bytes_at 64 (claimed text - 64) text } in p) kind
+    let body : bytes_at 64 (claimed_length text - 64) text ≡ b = ap (bytes_at 64 (claimed_length text - 64)) (h.is ∙ to_64 m l d s k b t) ∙ part_at (m ++ (l ++ (d ++ (s ++ k)))) b t 64 (claimed_length text - 64) size64 (omega (arith, claim)) in
+    ap (λ (x : List ℕ). let p : Packet = record { set_id = x; kind = kind_of (bytes_at 48 16 text); body = bytes_at 64 (claimed_length text - 64) text } in p) id
+    ∙ ap (λ (x : List ℕ). let p : Packet = record { set_id = s; kind = kind_of x; body = bytes_at 64 (claimed_length text - 64) text } in p) kind
     ∙ ap (λ (x : List ℕ). let p : Packet = record { set_id = s; kind = kind_of k; body = x } in p) body
 
-after : (text m l d s k b t : List ℕ) → IsMade text m l d s k b t → drop (claimed text) text ≡ t
+after : (text m l d s k b t : List ℕ) → IsMade text m l d s k b t → drop (claimed_length text) text ≡ t
 after text m l d s k b t h =
     let lens = module_parts text m l d s k b t h in
-    let claim : claimed text ≡ 64 + length b = claimed_is text m l d s k b t h in
+    let claim : claimed_length text ≡ 64 + length b = claimed_is text m l d s k b t h in
     let size : length (m ++ (l ++ (d ++ (s ++ (k ++ b))))) ≡ 64 + length b = omega (arith, len3 m l (d ++ (s ++ (k ++ b))), len3 d s (k ++ b), length-append k b, lens.0, lens.1, lens.2, h.set_id, h.kind) in
-    ap (drop (claimed text)) (h.is ∙ to_end m l d s k b t) ∙ drop_at (m ++ (l ++ (d ++ (s ++ (k ++ b))))) t (claimed text) (size ∙ sym claim)
+    ap (drop (claimed_length text)) (h.is ∙ to_end m l d s k b t) ∙ drop_at (m ++ (l ++ (d ++ (s ++ (k ++ b))))) t (claimed_length text) (size ∙ sym claim)
 
 -- where a packet stands at the front, the packets are that one and those behind it
-pub accepted_first : (text : List ℕ) → begins_with_packet text ≡ true → 1 ≤ claimed text → accepted text ≡ first_packet text ∷ accepted (drop (claimed text) text)
+pub accepted_first : (text : List ℕ) → begins_with_packet text ≡ true → 1 ≤ claimed_length text → accepted text ≡ first_packet text ∷ accepted (drop (claimed_length text) text)
 unfolding begins_with_packet
 accepted_first [] h one = absurd cc
 accepted_first (b ∷ text) h one = accepted-found b text h one
@@ -121,15 +120,15 @@ fourth : (a b c d e f : Bool) → (a && b && c && d && e && f) ≡ true → d �
 fourth a b c d e f h = (and_parts (a && b && c) d (and_parts (a && b && c && d) e (and_parts (a && b && c && d && e) f h).0).0).1
 
 -- a packet at the front claims a length of at least one byte
-one_at_least : (text : List ℕ) → begins_with_packet text ≡ true → 64 ≤ claimed text
+one_at_least : (text : List ℕ) → begins_with_packet text ≡ true → 64 ≤ claimed_length text
 unfolding begins_with_packet
 one_at_least text h =
-    leb-true 64 (claimed text)
-    (fourth (leb 64 (length text)) (bytes_eq (bytes_at 0 8 text) magic) (eqb (claimed text % 4) 0) (leb 64 (claimed text)) (leb (claimed text) (length text))
-    (bytes_eq (md5 (bytes_at 32 (claimed text - 32) text)) (bytes_at 16 16 text)) h)
+    leb-true 64 (claimed_length text)
+    (fourth (leb 64 (length text)) (bytes_eq (bytes_at 0 8 text) magic) (eqb (claimed_length text % 4) 0) (leb 64 (claimed_length text)) (leb (claimed_length text) (length text))
+    (bytes_eq (md5 (bytes_at 32 (claimed_length text - 32) text)) (bytes_at 16 16 text)) h)
 
-pub in_front : (text : List ℕ) → begins_with_packet text ≡ true → accepted text ≡ first_packet text ∷ accepted (drop (claimed text) text)
-in_front text h = accepted_first text h (let far : 64 ≤ claimed text = one_at_least text h in omega arith)
+pub in_front : (text : List ℕ) → begins_with_packet text ≡ true → accepted text ≡ first_packet text ∷ accepted (drop (claimed_length text) text)
+in_front text h = accepted_first text h (let far : 64 ≤ claimed_length text = one_at_least text h in omega arith)
 
 -- a packet that was written is read as it is, and what follows it as it was
 pub packet_then : (p : Packet) (t : List ℕ) → IsPacket p → accepted (packet p ++ t) ≡ p ∷ accepted t
@@ -137,7 +136,7 @@ unfolding packet
 packet_then p t is =
     let text : List ℕ = packet p ++ t in
     let l : List ℕ = to_le_bytes w64 (64 + length p.body) in
-    let d : List ℕ = md5 (digested p) in
+    let d : List ℕ = md5 (digest_input p) in
     let k : List ℕ = type_of p.kind in
     let joined : (m l d s k b t : List ℕ) → m ++ l ++ d ++ (s ++ k ++ b) ++ t ≡ m ++ (l ++ (d ++ (s ++ (k ++ (b ++ t))))) = λ m l d s k b t. simp append_assoc in
     let made : IsMade text magic l d p.set_id k p.body t = record {
@@ -148,12 +147,12 @@ packet_then p t is =
       set_id = is.set_id;
       kind = is.kind.0;
       small = is.small;
-      even = is.even;
+      even = is.multiple_of_4;
     } in
-    let one : 1 ≤ claimed text = omega (arith, claimed_is text magic l d p.set_id k p.body t made) in
+    let one : 1 ≤ claimed_length text = omega (arith, claimed_is text magic l d p.set_id k p.body t made) in
     accepted_first text (begins text magic l d p.set_id k p.body t made) one
-    ∙ ap (λ (q : Packet). q ∷ accepted (drop (claimed text) text)) (first text magic l d p.set_id k p.body t made)
-    ∙ ap (λ (q : Kind). let r : Packet = record { set_id = p.set_id; kind = q; body = p.body } in r ∷ accepted (drop (claimed text) text)) is.kind.1
+    ∙ ap (λ (q : Packet). q ∷ accepted (drop (claimed_length text) text)) (first text magic l d p.set_id k p.body t made)
+    ∙ ap (λ (q : Kind). let r : Packet = record { set_id = p.set_id; kind = q; body = p.body } in r ∷ accepted (drop (claimed_length text) text)) is.kind.1
     ∙ ap (λ (x : List ℕ). p ∷ accepted x) (after text magic l d p.set_id k p.body t made)
 
 fails_first : (a b c d e f : Bool) → a ≡ false → (a && b && c && d && e && f) ≡ false

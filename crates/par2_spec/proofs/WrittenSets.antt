@@ -7,11 +7,10 @@ use Rattle.std.proofs.lemmas.List.{length-append, length-replicate}
 use Rattle.md5.proofs.StandardFacts.{length-md5}
 use Rattle.par2_spec.specs.declared.Kind.{Kind}
 use Rattle.par2_spec.specs.declared.Kind.TheVariants.{Main, FileDesc, Ifsc, Recovery, Creator}
-use Rattle.par2_spec.specs.Packets.{Packet, packet, kind_of, accepted}
-use Rattle.par2_spec.specs.Packing.{IsCanonical, IsPacket, IsFileRecord}
+use Rattle.par2_spec.specs.Packets.{Packet, packet, kind_of, accepted, IsCanonical, IsPacket}
+use Rattle.par2_spec.specs.Volumes.{IsFileRecord, FileRecord, padded_4, main_bytes, desc_bytes, pair_bytes, ifsc_bytes, recovery_bytes, creator_bytes, main_id, packet_of, index_packets, recovery_packets}
 use Rattle.par2_spec.specs.Recovery.{recovery, combination, dot, coefficients}
 use Rattle.par2_spec.specs.Slices.{word}
-use Rattle.par2_spec.specs.Volumes.{FileRecord, padded_4, main_bytes, desc_bytes, pair_bytes, ifsc_bytes, recovery_bytes, creator_bytes, main_id, packet_of, index_packets, recovery_packets}
 use Rattle.par2_spec.proofs.WrittenPackets.{packets_then}
 use Rattle.par2_spec.proofs.WrittenBodies.{length_items, pair_lengths}
 
@@ -40,7 +39,7 @@ creator_known = (refl, refl)
 -- a packet of a body whose length is a multiple of 4
 made : (id : List ℕ) (kind : Kind) (body : List ℕ) (n : ℕ) → length id ≡ 16 → IsCanonical kind → length body ≡ 4 * n → n < 2 ^ 60 → IsPacket (packet_of id kind body)
 made id kind body n sixteen known size few =
-    record { set_id = sixteen; kind = known; small = omega (arith, size, few); even = omega (arith, size) }
+    record { set_id = sixteen; kind = known; small = omega (arith, size, few); multiple_of_4 = omega (arith, size) }
 
 -- ---- each packet
 

@@ -1,8 +1,9 @@
--- The two checksums of a slice, MD5 and CRC-32.
-use Rattle.std.specs.Prelude.{ℕ, zero, suc, ◌*◌, ◌/◌, ◌%◌, bit_xor, List, fold}
+-- The two checksums of a slice, MD5 (RFC 1321) and CRC-32 (ISO 3309), in that order (Parity Volume Set
+-- Specification 2.0, "Input File Slice Checksum packet").
+use Rattle.std.specs.Prelude.{ℕ, zero, suc, ◌*◌, ◌/◌, ◌%◌, bit_xor, List, fold, ◌≡◌, ◌<◌, ◌^◌, length}
 use Rattle.md5.specs.Md5.{md5}
 
--- CRC-32 (ISO 3309), the lowest bit first. One bit: the highest coefficient is shifted out and, where it is
+-- CRC-32, the lowest bit first. One bit: the highest coefficient is shifted out and, where it is
 -- 1, the generator polynomial is added
 abbrev pub crc_step : ℕ → ℕ
 crc_step c = bit_xor (c / 2) (c % 2 * 0xEDB88320)
@@ -24,3 +25,7 @@ Pair = List ℕ × ℕ
 
 abbrev pub pair_of : List ℕ → Pair
 pair_of slice = (md5 slice, crc32 slice)
+
+-- a digest of sixteen bytes and a checksum of 32 bits
+abbrev pub IsPair : Pair → Type 0
+IsPair pair = (length pair.0 ≡ 16) × (pair.1 < 2 ^ 32)

@@ -46,9 +46,9 @@ abbrev pub without : List (List ℕ) → Folder → Folder
 without gone folder = map_of.retain_keys folder (λ name. not (is_among gone name))
 
 -- bytes behind their length
-abbrev pub counted : List ℕ → List ℕ
-counted bytes = to_le_bytes w64 (length bytes) ++ bytes
+abbrev pub behind_length : List ℕ → List ℕ
+behind_length bytes = to_le_bytes w64 (length bytes) ++ bytes
 
 -- what tells folders apart: the MD5 of their names and bytes, each behind its length
 unfoldable pub fingerprint : Folder → List ℕ
-fingerprint folder = md5 (flat_map (λ file. counted file.0 ++ counted file.1) (files folder))
+fingerprint folder = md5 (flat_map (λ file. behind_length file.0 ++ behind_length file.1) (files folder))

@@ -22,31 +22,31 @@ abbrev pub in_front : Folder → History → History
 in_front folder h = record { older = h.now ∷ h.older; now = folder; newer = [] }
 
 -- a verify changes nothing
-abbrev pub done : Command → History → History
-done (Create a) h = in_front (after h.now (Create a)) h
-done (Verify base extras) h = h
-done (Repair base extras purge) h = in_front (after h.now (Repair base extras purge)) h
-done (Purge base) h = in_front (after h.now (Purge base)) h
+abbrev pub after_command : Command → History → History
+after_command (Create a) h = in_front (after h.now (Create a)) h
+after_command (Verify base extras) h = h
+after_command (Repair base extras purge) h = in_front (after h.now (Repair base extras purge)) h
+after_command (Purge base) h = in_front (after h.now (Purge base)) h
 
 -- a refused command changes nothing
 abbrev pub unless_refused : Option Fault → History → Result History Refusal
 unless_refused None h = Ok h
 unless_refused (Some fault) h = Err (Refused fault)
 
-abbrev pub undone : Folder → List Folder → List Folder → Result History Refusal
-undone now [] newer = Err NothingToUndo
-undone now (folder ∷ older) newer = Ok (record { older = older; now = folder; newer = now ∷ newer })
+abbrev pub after_undo : Folder → List Folder → List Folder → Result History Refusal
+after_undo now [] newer = Err NothingToUndo
+after_undo now (folder ∷ older) newer = Ok (record { older = older; now = folder; newer = now ∷ newer })
 
-abbrev pub redone : List Folder → Folder → List Folder → Result History Refusal
-redone older now [] = Err NothingToRedo
-redone older now (folder ∷ newer) = Ok (record { older = now ∷ older; now = folder; newer = newer })
+abbrev pub after_redo : List Folder → Folder → List Folder → Result History Refusal
+after_redo older now [] = Err NothingToRedo
+after_redo older now (folder ∷ newer) = Ok (record { older = now ∷ older; now = folder; newer = newer })
 
 -- the history after an action, or why the action is refused
 unfoldable pub history_after : History → Action → Result History Refusal
 unfolding refusal after
-history_after h (Do command) = unless_refused (refusal h.now command) (done command h)
-history_after h Undo = undone h.now h.older h.newer
-history_after h Redo = redone h.older h.now h.newer
+history_after h (Do command) = unless_refused (refusal h.now command) (after_command command h)
+history_after h Undo = after_undo h.now h.older h.newer
+history_after h Redo = after_redo h.older h.now h.newer
 
 -- an action may be refused although it could be done: a command, for want of memory
 abbrev pub MayBeRefused : History → Action → Type 0

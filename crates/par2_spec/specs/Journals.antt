@@ -4,13 +4,13 @@ use Rattle.std.specs.Int.{w64, to_le_bytes}
 use Rattle.std.specs.List.{concat, AllByRecursion}
 use Rattle.md5.specs.Md5.{md5}
 use Rattle.par2_spec.specs.Names.{is_name}
-use Rattle.par2_spec.specs.Folders.{counted}
+use Rattle.par2_spec.specs.Folders.{behind_length}
 use Rattle.par2_spec.specs.Changes.{Change, Write, Replace, Rename, Remove}
 use Rattle.par2_spec.specs.declared.Version.{Version}
 use Rattle.par2_spec.specs.declared.Version.TheVariants.{One, Two}
 
--- a command that was begun: the fingerprint after each of its changes, and the way back
-pub record Halfway : Type 0 where
+-- a command that a stop left halfway: the fingerprint after each of its changes, and the way back
+pub record HalfwayPart : Type 0 where
   pub fingerprints : List (List ℕ)
   pub back : List Change
 
@@ -22,7 +22,7 @@ pub record Journal : Type 0 where
   pub cursor : ℕ
   -- oldest first
   pub entries : List (List Change)
-  pub halfway : Option Halfway
+  pub halfway : Option HalfwayPart
 
 -- ---- spelling
 
@@ -38,15 +38,15 @@ abbrev pub name_bytes : List ℕ → List ℕ
 name_bytes name = length name ∷ name
 
 abbrev pub change_bytes : Change → List ℕ
-change_bytes (Write name bytes) = 1 ∷ name_bytes name ++ counted bytes
-change_bytes (Replace name bytes) = 2 ∷ name_bytes name ++ counted bytes
+change_bytes (Write name bytes) = 1 ∷ name_bytes name ++ behind_length bytes
+change_bytes (Replace name bytes) = 2 ∷ name_bytes name ++ behind_length bytes
 change_bytes (Rename from to) = 3 ∷ name_bytes from ++ name_bytes to
 change_bytes (Remove name) = 4 ∷ name_bytes name
 
 abbrev pub entry_bytes : List Change → List ℕ
 entry_bytes changes = to_le_bytes w64 (length changes) ++ flat_map change_bytes changes
 
-abbrev pub halfway_bytes : Option Halfway → List ℕ
+abbrev pub halfway_bytes : Option HalfwayPart → List ℕ
 halfway_bytes None = 0 ∷ []
 halfway_bytes (Some b) = 1 ∷ to_le_bytes w64 (length b.back) ++ concat b.fingerprints ++ flat_map change_bytes b.back
 
@@ -76,7 +76,7 @@ IsChange (Remove name) = IsTrue (is_name name)
 abbrev pub IsEntry : List Change → Type 0
 IsEntry changes = (length changes < 2 ^ 64) × AllByRecursion IsChange changes
 
-pub record IsHalfway (b : Halfway) : Type 0 where
+pub record IsHalfwayPart (b : HalfwayPart) : Type 0 where
   pub some : 1 ≤ length b.back
   pub each : length b.fingerprints ≡ length b.back
   pub fingerprints : AllByRecursion IsDigest b.fingerprints
@@ -92,7 +92,7 @@ pub record IsJournal (j : Journal) : Type 0 where
   pub cursor : IsCursor j.version j.cursor (length j.entries)
   pub count : length j.entries < 2 ^ 64
   pub entries : AllByRecursion IsEntry j.entries
-  pub halfway : IfSome j.halfway IsHalfway
+  pub halfway : IfSome j.halfway IsHalfwayPart
 
 -- the text is the spelling of the journal
 abbrev pub Spells : List ℕ → Journal → Type 0

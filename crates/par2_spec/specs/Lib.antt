@@ -25,7 +25,5 @@ pub mod History
 pub mod Sessions
 pub mod Journals
 pub mod Opening
-pub mod Rules
-pub mod SessionCodes
 pub mod Stores
-pub mod Packing
+pub mod Laws

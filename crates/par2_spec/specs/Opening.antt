@@ -1,13 +1,12 @@
 -- What a folder with a journal opens as.
 use Rattle.std.specs.Prelude.{◌≡◌, ◌⊎◌, ℕ, ◌-◌, ◌&&◌, Bool, true, false, not, List, [], ◌∷◌, ◌++◌, length, take, drop, reverse, position, Option, Some, None, Result, Ok, Err, if◌then◌else◌, map}
 use Rattle.std.specs.Str.{bytes_eq}
-use Rattle.std.specs.List.{AllByRecursion, Contains}
+use Rattle.std.specs.List.{AllByRecursion}
 use Rattle.par2_spec.specs.Folders.{Folder, fingerprint}
 use Rattle.par2_spec.specs.Changes.{Change, effect, effects, is_applicable, are_applicable, way_back, folders_after}
-use Rattle.par2_spec.specs.Commands.{Command, Create, Verify, Repair, Purge, Action, Do, Undo, Redo}
-use Rattle.par2_spec.specs.History.{Refusal}
+use Rattle.par2_spec.specs.Commands.{Action}
 use Rattle.par2_spec.specs.Sessions.{Session, session_with}
-use Rattle.par2_spec.specs.Journals.{Journal, Halfway, Spells}
+use Rattle.par2_spec.specs.Journals.{Journal, HalfwayPart, Spells}
 use Rattle.par2_spec.specs.declared.JournalFault.{JournalFault}
 use Rattle.par2_spec.specs.declared.JournalFault.TheVariants.{JournalInvalid, FolderChanged}
 use Rattle.par2_spec.specs.declared.Version.{Version}
@@ -20,6 +19,11 @@ unfoldable pub settled_journal : Version → Session → Journal
 unfolding fingerprint
 settled_journal One s = record { version = One; fingerprint = fingerprint s.folder; cursor = length s.undos; entries = reverse s.undos; halfway = None }
 settled_journal Two s = record { version = Two; fingerprint = fingerprint s.folder; cursor = length s.undos; entries = reverse s.undos ++ s.redos; halfway = None }
+
+-- what a journal keeps of a session: version 1 has no place for what could be redone
+abbrev pub kept_in : Version → Session → Session
+kept_in One s = record { folder = s.folder; undos = s.undos; redos = [] }
+kept_in Two s = s
 
 -- the journal of a session that is about to make these changes, at least one: the fingerprint after each, and
 -- the way back
@@ -74,41 +78,41 @@ leads_through folder (change ∷ changes) (print ∷ prints) =
 -- what a journal opens as: a session; or a command to be taken back by these changes, and the session afterwards
 pub data Opened : Type 0 where
   Settled : Session → Opened
-  ToTakeBack : Session → List Change → Opened
+  Halfway : Session → List Change → Opened
 
 -- the session that an opened journal leads to
-abbrev pub session_opened : Opened → Session
-session_opened (Settled s) = s
-session_opened (ToTakeBack s back) = s
+abbrev pub session_of_opened : Opened → Session
+session_of_opened (Settled s) = s
+session_of_opened (Halfway s back) = s
 
--- a folder after the first k changes of a command that was begun
-unfoldable pub taken_back : Folder → Journal → Halfway → ℕ → Result Opened JournalFault
+-- a folder after the first k changes of a halfway command
+unfoldable pub taken_back : Folder → Journal → HalfwayPart → ℕ → Result Opened JournalFault
 unfolding leads_through effects leads
 taken_back folder j h k =
     let back = drop (length h.back - k) h.back in
     let session = session_of (effects folder back) j in
     if leads_through folder back (reverse (take k (j.fingerprint ∷ h.fingerprints))) && is_valid session
-    then Ok (ToTakeBack session back)
+    then Ok (Halfway session back)
     else Err JournalInvalid
 
-abbrev pub opened_at : Folder → Journal → Halfway → Option ℕ → Result Opened JournalFault
-opened_at folder j h None = Err (FolderChanged true)
-opened_at folder j h (Some k) = taken_back folder j h k
+abbrev pub opened_if_found : Folder → Journal → HalfwayPart → Option ℕ → Result Opened JournalFault
+opened_if_found folder j h None = Err (FolderChanged true)
+opened_if_found folder j h (Some k) = taken_back folder j h k
 
 -- a settled journal wants the folder that it was made for. In a halfway one the folder is the one after the least
 -- number of changes whose fingerprint it has
-abbrev pub opened_by : Folder → Journal → Option Halfway → Result Opened JournalFault
-opened_by folder j None =
+abbrev pub opened_by_part : Folder → Journal → Option HalfwayPart → Result Opened JournalFault
+opened_by_part folder j None =
     if not (bytes_eq (fingerprint folder) j.fingerprint) then Err (FolderChanged false)
     else if is_valid (session_of folder j) then Ok (Settled (session_of folder j))
     else Err JournalInvalid
-opened_by folder j (Some h) =
-    opened_at folder j h (position (bytes_eq (fingerprint folder)) (j.fingerprint ∷ h.fingerprints))
+opened_by_part folder j (Some h) =
+    opened_if_found folder j h (position (bytes_eq (fingerprint folder)) (j.fingerprint ∷ h.fingerprints))
 
 -- what a folder with this journal opens as
 unfoldable pub opened : Folder → Journal → Result Opened JournalFault
 unfolding fingerprint taken_back leads
-opened folder j = opened_by folder j j.halfway
+opened folder j = opened_by_part folder j j.halfway
 
 -- what a folder with this text opens as: the journal that the text spells decides, and a text that spells none is
 -- refused
@@ -130,7 +134,7 @@ new_session folder = record { folder = folder; undos = []; redos = [] }
 
 -- a settled journal of another folder is dropped, a halfway one is refused
 abbrev pub started : Folder → Result Opened JournalFault → Result Started JournalFault
-started folder (Ok o) = Ok (record { session = session_opened o; dropped = false })
+started folder (Ok o) = Ok (record { session = session_of_opened o; dropped = false })
 started folder (Err (FolderChanged false)) = Ok (record { session = new_session folder; dropped = true })
 started folder (Err fault) = Err fault
 

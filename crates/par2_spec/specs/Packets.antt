@@ -1,5 +1,6 @@
--- Packets: their bytes, where they stand in a text, and what their bodies say.
-use Rattle.std.specs.Prelude.{ℕ, zero, suc, ◌+◌, ◌-◌, ◌*◌, ◌/◌, ◌%◌, ◌==◌, ◌&&◌, nat_le, Bool, List, [], ◌∷◌, ◌++◌, length, take, drop, map, Option, Some, None, if◌then◌else◌, codes}
+-- Packets: their bytes, where they stand in a text, and what their bodies say (Parity Volume Set Specification 2.0;
+-- each definition names its section).
+use Rattle.std.specs.Prelude.{ℕ, zero, suc, ◌+◌, ◌-◌, ◌*◌, ◌/◌, ◌%◌, ◌==◌, ◌&&◌, nat_le, Bool, List, [], ◌∷◌, ◌++◌, length, take, drop, map, Option, Some, None, if◌then◌else◌, codes, ◌≡◌, ◌<◌, ◌^◌}
 use Rattle.std.specs.Int.{w32, w64, to_le_bytes, from_le_bytes}
 use Rattle.std.specs.List.{range_with_len, suffix_len}
 use Rattle.std.specs.Str.{bytes_eq}
@@ -19,6 +20,7 @@ u64_at o text = from_le_bytes w64 (bytes_at o 8 text)
 unfoldable pub u32_at : ℕ → List ℕ → ℕ
 u32_at o text = from_le_bytes w32 (bytes_at o 4 text)
 
+-- the first eight bytes ("Packet Header")
 abbrev pub magic : List ℕ
 magic = codes "PAR2\0PKT"
 
@@ -26,7 +28,7 @@ magic = codes "PAR2\0PKT"
 abbrev pub type_prefix : List ℕ
 type_prefix = codes "PAR 2.0\0"
 
--- the sixteen bytes of a type
+-- the sixteen bytes of a type ("Packet Header" and the section of each packet)
 abbrev pub type_of : Kind → List ℕ
 type_of Main = type_prefix ++ codes "Main\0\0\0\0"
 type_of FileDesc = type_prefix ++ codes "FileDesc"
@@ -45,30 +47,42 @@ kind_of bytes =
     else if bytes_eq bytes (type_of Creator) then Creator
     else Other bytes
 
+-- a kind that its own sixteen bytes name: `Other` stands for no known type
+abbrev pub IsCanonical : Kind → Type 0
+IsCanonical kind = (length (type_of kind) ≡ 16) × (kind_of (type_of kind) ≡ kind)
+
+-- what tells packets apart ("Packet Header")
 pub record Packet : Type 0 where
   pub set_id : List ℕ
   pub kind : Kind
   pub body : List ℕ
 
 -- what the digest of a packet is taken of
-abbrev pub digested : Packet → List ℕ
-digested p = p.set_id ++ type_of p.kind ++ p.body
+abbrev pub digest_input : Packet → List ℕ
+digest_input p = p.set_id ++ type_of p.kind ++ p.body
 
--- the bytes of a packet
+-- the bytes of a packet ("Packet Header")
 unfoldable pub packet : Packet → List ℕ
-packet p = magic ++ to_le_bytes w64 (64 + length p.body) ++ md5 (digested p) ++ digested p
+packet p = magic ++ to_le_bytes w64 (64 + length p.body) ++ md5 (digest_input p) ++ digest_input p
+
+pub record IsPacket (p : Packet) : Type 0 where
+  pub set_id : length p.set_id ≡ 16
+  pub kind : IsCanonical p.kind
+  pub small : 64 + length p.body < 2 ^ 64
+  pub multiple_of_4 : (64 + length p.body) % 4 ≡ 0
 
 -- the length that a text claims for the packet at its front
-abbrev pub claimed : List ℕ → ℕ
-claimed text = u64_at 8 text
+abbrev pub claimed_length : List ℕ → ℕ
+claimed_length text = u64_at 8 text
 
--- an accepted packet stands at the front of the text
+-- an accepted packet stands at the front of the text ("Packet Header"). Which bytes are looked at, and that a packet
+-- whose MD5 is wrong is passed over byte by byte, are rules of this program
 unfoldable pub begins_with_packet : List ℕ → Bool
 unfolding u64_at
 begins_with_packet text =
     nat_le 64 (length text) && bytes_eq (bytes_at 0 8 text) magic
-    && claimed text % 4 == 0 && nat_le 64 (claimed text) && nat_le (claimed text) (length text)
-    && bytes_eq (md5 (bytes_at 32 (claimed text - 32) text)) (bytes_at 16 16 text)
+    && claimed_length text % 4 == 0 && nat_le 64 (claimed_length text) && nat_le (claimed_length text) (length text)
+    && bytes_eq (md5 (bytes_at 32 (claimed_length text - 32) text)) (bytes_at 16 16 text)
 
 -- the packet at the front of the text
 unfoldable pub first_packet : List ℕ → Packet
@@ -76,7 +90,7 @@ unfolding kind_of u64_at
 first_packet text = record {
   set_id = bytes_at 32 16 text;
   kind = kind_of (bytes_at 48 16 text);
-  body = bytes_at 64 (claimed text - 64) text;
+  body = bytes_at 64 (claimed_length text - 64) text;
 }
 
 -- the accepted packets of a text that begin after its first n bytes. Where one stands it is taken and
@@ -87,19 +101,19 @@ accepted_after n [] = []
 accepted_after (suc n) (b ∷ text) = accepted_after n text
 accepted_after zero (b ∷ text) =
     if begins_with_packet (b ∷ text)
-    then first_packet (b ∷ text) ∷ accepted_after (claimed (b ∷ text) - 1) text
+    then first_packet (b ∷ text) ∷ accepted_after (claimed_length (b ∷ text) - 1) text
     else accepted_after zero text
 
 -- the accepted packets of a text
 abbrev pub accepted : List ℕ → List Packet
 accepted text = accepted_after 0 text
 
--- what a Main says: the slice size and the File IDs of the recovery set
+-- what a Main says ("Main packet"): the slice size and the File IDs of the recovery set
 pub record MainBody : Type 0 where
   pub slice_size : ℕ
   pub ids : List (List ℕ)
 
--- what a FileDesc says
+-- what a FileDesc says ("File Description packet")
 pub record DescBody : Type 0 where
   pub id : List ℕ
   pub digest : List ℕ
@@ -107,19 +121,19 @@ pub record DescBody : Type 0 where
   pub size : ℕ
   pub name : List ℕ
 
--- what an IFSC says
+-- what an IFSC says ("Input File Slice Checksum packet")
 pub record IfscBody : Type 0 where
   pub id : List ℕ
   pub pairs : List Pair
 
--- what a RecvSlic says
+-- what a RecvSlic says ("Recovery Slice packet")
 pub record RecoveryBody : Type 0 where
   pub exponent : ℕ
   pub bytes : List ℕ
 
 -- the bytes without the zeros at their end
-abbrev pub stripped : List ℕ → List ℕ
-stripped bytes = take (length bytes - suffix_len (λ b. b == 0) bytes) bytes
+abbrev pub without_end_zeros : List ℕ → List ℕ
+without_end_zeros bytes = take (length bytes - suffix_len (λ b. b == 0) bytes) bytes
 
 -- whether a text is as long as a head and a number of items
 abbrev pub is_head_and_items : ℕ → ℕ → List ℕ → Bool
@@ -147,7 +161,7 @@ read_desc FileDesc body =
       digest = bytes_at 16 16 body;
       digest_16k = bytes_at 32 16 body;
       size = u64_at 48 body;
-      name = stripped (drop 56 body);
+      name = without_end_zeros (drop 56 body);
     })
     else None
 read_desc kind body = None

@@ -1,22 +1,18 @@
 -- The changes of a command, in the order in which they are made.
-use Rattle.std.specs.Prelude.{ℕ, Bool, not, List, [], ◌++◌, map, filter, filter_map, option_map, if◌then◌else◌}
+use Rattle.std.specs.Prelude.{ℕ, not, List, [], ◌++◌, map, filter, filter_map, option_map, if◌then◌else◌, ◌≡◌, Ok, IsTrue, None}
 use Rattle.par2_spec.specs.Names.{is_among}
 use Rattle.par2_spec.specs.Folders.{Folder, has}
-use Rattle.par2_spec.specs.Changes.{Change, Write, Replace, Rename, Remove}
-use Rattle.par2_spec.specs.Sets.{ParSet}
-use Rattle.par2_spec.specs.Search.{matches, candidates}
-use Rattle.par2_spec.specs.Repairs.{aside, put_aside, rebuilt_targets, par_files}
-use Rattle.par2_spec.specs.Commands.{CreateArgs, Command, Create, Verify, Repair, Purge, outputs_of}
-use Rattle.par2_spec.specs.Refusals.{set_in, by_set}
+use Rattle.par2_spec.specs.Changes.{Change, Write, Replace, Rename, Remove, are_applicable, effects}
+use Rattle.par2_spec.specs.Sets.{ParSet, set_of}
+use Rattle.par2_spec.specs.Search.{matches, candidates, matching}
+use Rattle.par2_spec.specs.Repairs.{aside, put_aside, rebuilt_targets, par_files, AreFew}
+use Rattle.par2_spec.specs.Commands.{CreateArgs, Command, Create, Verify, Repair, Purge, outputs_of, Action, Do, Undo, Redo}
+use Rattle.par2_spec.specs.Refusals.{set_in, by_set, after, refusal}
 
 -- a create writes its outputs in order. One that is there already is replaced
 abbrev pub create_changes : Folder → CreateArgs → List Change
 create_changes folder a =
     map (λ file. if has folder file.0 then Replace file.0 file.1 else Write file.0 file.1) (outputs_of folder a)
-
--- the names of the matches
-abbrev pub matching : Folder → ParSet → List (List ℕ) → List (List ℕ)
-matching folder set searched = filter_map (λ m. m.1) (matches folder set searched)
 
 -- where a match stands once the present needing targets are put aside
 abbrev pub now_at : Folder → ParSet → List ℕ → List ℕ
@@ -53,3 +49,20 @@ changes_of folder (Repair base extras purge) =
     else repair_changes folder set searched)
     (set_in folder base extras)
 changes_of folder (Purge base) = by_set [] (purge_changes folder) (set_in folder base [])
+
+-- where a repair reads a set, the numbers of its asides are written in full
+abbrev pub AreFewFor : Folder → Command → Type 0
+AreFewFor folder (Create a) = Unit {0}
+AreFewFor folder (Verify base extras) = Unit {0}
+AreFewFor folder (Repair base extras purge) = (set : ParSet) → set_of folder base ≡ Ok set → AreFew folder set
+AreFewFor folder (Purge base) = Unit {0}
+
+-- the changes of a command can be applied in order and lead to its folder
+abbrev pub LeadsToAfter : Folder → Command → Type 0
+LeadsToAfter folder command = IsTrue (are_applicable folder (changes_of folder command)) × (effects folder (changes_of folder command) ≡ after folder command)
+
+-- an action that is a command leads to its folder where it is accepted
+abbrev pub LeadsToAfterAsked : Folder → Action → Type 0
+LeadsToAfterAsked folder (Do command) = refusal folder command ≡ None → LeadsToAfter folder command
+LeadsToAfterAsked folder Undo = Unit {0}
+LeadsToAfterAsked folder Redo = Unit {0}

@@ -1,15 +1,18 @@
--- The folder after a repair and after a purge.
-use Rattle.std.specs.Prelude.{ℕ, ◌+◌, ◌==◌, ◌&&◌, Bool, IsTrue, not, List, [], ◌∷◌, ◌++◌, length, take, drop, map, filter, filter_map, find, zip, Option, is_none, unwrap_or, option_map}
+-- The folder after a repair and after a purge: rules of this program.
+use Rattle.std.specs.Prelude.{ℕ, ◌+◌, ◌&&◌, Bool, IsTrue, not, List, [], ◌∷◌, ◌++◌, length, take, drop, map, filter, filter_map, find, zip, Option, is_none, unwrap_or, option_map, ◌^◌, ◌<◌, flat_map, ◌≡◌, IsFalse, Some, None}
 use Rattle.std.specs.FinMap as map_of
-use Rattle.std.specs.List.{list_all, list_any, range_with_len, concat}
+use Rattle.std.specs.List.{list_all, list_any, range_with_len, concat, enumerate_from, IsDistinct, AllByRecursion}
 use Rattle.std.specs.Str.{bytes_eq}
 use Rattle.par2_spec.specs.Lists.{all_lists, all_texts}
-use Rattle.par2_spec.specs.Rank.{agrees, kept_slices}
+use Rattle.par2_spec.specs.Rank.{agrees, kept_slices, AreBytes, IsRepairable}
 use Rattle.par2_spec.specs.Names.{is_among, numbered, is_par_name}
 use Rattle.par2_spec.specs.Packets.{accepted}
 use Rattle.par2_spec.specs.Folders.{Folder, File, has, bytes_of, names, laid_over, without}
-use Rattle.par2_spec.specs.Sets.{ParSet, Target}
-use Rattle.par2_spec.specs.Search.{needing, matches, known, lost, survivors}
+use Rattle.par2_spec.specs.Sets.{ParSet, Target, target_names, MadeFrom}
+use Rattle.par2_spec.specs.Search.{needing, matches, known, lost, survivors, matching, needing_names, candidates, NoCollision}
+use Rattle.par2_spec.specs.Windows.{found}
+use Rattle.std.specs.Option.{ForSome}
+use Rattle.par2_spec.specs.Volumes.{all_slices}
 
 -- the list of slices that agrees with the known ones and the recovery slices of the kept exponents
 unfoldable pub rebuilt : ParSet → List (Option (List ℕ)) → List (List ℕ)
@@ -26,6 +29,14 @@ cut_into (n ∷ counts) items = take n items ∷ cut_into counts (drop n items)
 abbrev pub files_of_slices : ParSet → List (List ℕ) → List (Target × List ℕ)
 files_of_slices set slices =
     map (λ z. (z.0, take z.0.size (concat z.1))) (zip set.targets (cut_into (map (λ t. length t.pairs) set.targets) slices))
+
+-- the names that an aside keeps away from: those of the folder and of the targets
+abbrev pub taken_for : Folder → ParSet → List (List ℕ)
+taken_for folder set = names folder ++ target_names set
+
+-- so few that each number up to one more than they are is written in full
+abbrev pub AreFew : Folder → ParSet → Type 0
+AreFew folder set = length (taken_for folder set) + 1 < 2 ^ 64
 
 -- the least number from 1 on by which a name is neither in the folder nor a target's
 unfoldable pub aside : Folder → ParSet → List ℕ → List ℕ
@@ -47,15 +58,26 @@ unfolding matches known rebuilt
 rebuilt_targets folder set searched =
     filter (λ c. is_among (names_without_match (matches folder set searched)) c.0.name) (files_of_slices set (rebuilt set (known folder set searched)))
 
+-- each slice, with whether its target is needing and has no match, and where it is found
+abbrev pub slices_by_target : Folder → ParSet → List (List ℕ) → List (Bool × Option (List ℕ))
+slices_by_target folder set searched =
+    flat_map (λ t. map (λ pair. (is_among (names_without_match (matches folder set searched)) t.name, found set.slice_size (map (bytes_of folder) searched) pair)) t.pairs)
+    set.targets
+
+-- the numbers of the slices of needing targets without a match that are not found
+abbrev pub lost_of_unmatched : Folder → ParSet → List (List ℕ) → List ℕ
+lost_of_unmatched folder set searched =
+    map (λ z. z.0) (filter (λ z. z.1.0 && is_none z.1.1) (enumerate_from 0 (slices_by_target folder set searched)))
+
 -- the present needing targets, whose files are put aside
 abbrev pub put_aside : Folder → ParSet → List (List ℕ)
 put_aside folder set = filter (has folder) (map (λ t. t.name) (needing folder set))
 
 -- under their asides the old bytes of those that are nobody's match
 abbrev pub aside_files : Folder → ParSet → List (List ℕ) → List File
-aside_files folder set matching =
+aside_files folder set match_names =
     map (λ name. (aside folder set name, bytes_of folder name))
-    (filter (λ name. not (is_among matching name)) (put_aside folder set))
+    (filter (λ name. not (is_among match_names name)) (put_aside folder set))
 
 -- the folder after a repair: the asides and the needing targets over the folder without the needing
 -- targets' names and their matches' names
@@ -63,9 +85,9 @@ unfoldable pub after_repair : Folder → ParSet → List (List ℕ) → Folder
 unfolding matches rebuilt_targets aside laid_over
 after_repair folder set searched =
     let ms = matches folder set searched in
-    let matching = filter_map (λ m. m.1) ms in
+    let match_names = filter_map (λ m. m.1) ms in
     laid_over (matched_files folder ms ++ map (λ c. (c.0.name, c.1)) (rebuilt_targets folder set searched))
-    (laid_over (aside_files folder set matching) (without (map (λ m. m.0.name) ms ++ matching) folder))
+    (laid_over (aside_files folder set match_names) (without (map (λ m. m.0.name) ms ++ match_names) folder))
 
 -- the name ends in `.par2`, the file has an accepted packet of the set and none of another, and it is
 -- no target
@@ -89,3 +111,35 @@ after_repair_and_purge folder set searched =
 
 abbrev pub after_purge : Folder → ParSet → Folder
 after_purge folder set = without (par_files folder set) folder
+
+-- what a repair wants of the folder, the set and the names that are searched
+pub record FitsRepair (folder : Folder) (set : ParSet) (searched : List (List ℕ)) : Type 0 where
+  pub names_once : IsDistinct bytes_eq (target_names set)
+  pub all_there : IsTrue (list_all (has folder) searched)
+  pub few : AreFew folder set
+
+-- what a folder holds after a repair, file by file
+pub record HoldsRepaired (folder : Folder) (set : ParSet) (searched : List (List ℕ)) (after : Folder) : Type 0 where
+  -- each matched target the bytes of its match
+  pub matched_ones : AllByRecursion (λ m. ForSome m.1 (λ name. map_of.get after m.0.name ≡ Some (bytes_of folder name))) (matches folder set searched)
+  -- each other needing target its slices
+  pub written_ones : AllByRecursion (λ c. map_of.get after c.0.name ≡ Some c.1) (rebuilt_targets folder set searched)
+  -- under its aside each file that was put aside and is nobody's match
+  pub asides : (name : List ℕ) → IsTrue (is_among (put_aside folder set) name) → IsFalse (is_among (matching folder set searched) name) → map_of.get after (aside folder set name) ≡ Some (bytes_of folder name)
+  -- nothing under its aside, where a file that was put aside is a match
+  pub taken_asides : (name : List ℕ) → IsTrue (is_among (put_aside folder set) name)
+      → IsTrue (is_among (matching folder set searched) name)
+      → map_of.get after (aside folder set name) ≡ None
+  -- no match under its old name, where that is no needing target's
+  pub moved_away : (name : List ℕ) → IsTrue (is_among (matching folder set searched) name) → IsFalse (is_among (needing_names folder set) name) → map_of.get after name ≡ None
+  -- each other file as it was
+  pub others : (name : List ℕ) → IsFalse (is_among (needing_names folder set) name) → IsFalse (is_among (matching folder set searched) name)
+      → IsFalse (is_among (map (aside folder set) (put_aside folder set)) name) → map_of.get after name ≡ map_of.get folder name
+
+-- what holds of a repair where the further files are there, what it finds of the files that the set was made from is
+-- true, these hold bytes, and the lost slices are determined
+abbrev pub Restores : (folder : Folder) (base : List ℕ) (extras : List (List ℕ)) (files : List File) (s : ℕ) → MadeFrom folder base files s → Type 0 → Type 0
+Restores folder base extras files s m what =
+    let searched = candidates folder m.set extras in
+    IsTrue (list_all (has folder) extras) → AreFew folder m.set → NoCollision folder searched s (all_slices s files)
+    → AllByRecursion (λ file. AreBytes file.1) files → IsRepairable (lost (known folder m.set searched)) (survivors m.set) → what

@@ -1,14 +1,14 @@
--- What of a set is found in a folder, among the files that are searched.
-use Rattle.std.specs.Prelude.{◌≡◌, ℕ, ◌==◌, ◌&&◌, Bool, IsTrue, not, List, [], ◌∷◌, ◌++◌, length, map, flat_map, filter, find, zip, slice_get, Option, Some, None, is_none, option_to_list, option_and_then}
+-- What of a set is found in a folder, among the files that are searched: rules of this program.
+use Rattle.std.specs.Prelude.{◌≡◌, ℕ, ◌==◌, ◌&&◌, Bool, IsTrue, not, List, [], ◌∷◌, ◌++◌, length, map, filter, find, zip, slice_get, Option, Some, None, is_none, option_to_list, option_and_then, filter_map}
 use Rattle.std.specs.FinMap as map_of
 use Rattle.std.specs.List.{list_all, enumerate_from, AllByRecursion}
 use Rattle.std.specs.Str.{bytes_eq}
-use Rattle.par2_spec.specs.Checksums.{Pair, pair_of}
+use Rattle.par2_spec.specs.Checksums.{pair_of}
 use Rattle.par2_spec.specs.Slices.{slices}
 use Rattle.par2_spec.specs.Windows.{windows, is_match}
 use Rattle.par2_spec.specs.Names.{is_among, distinct}
 use Rattle.par2_spec.specs.Folders.{Folder, has, bytes_of}
-use Rattle.par2_spec.specs.Sets.{ParSet, Target}
+use Rattle.par2_spec.specs.Sets.{ParSet, Target, all_pairs}
 pub use Rattle.par2_spec.specs.Windows.{window, Matches, found, first_match}
 
 -- the names that are searched: those of the targets that are in the folder, then the extra ones
@@ -33,6 +33,10 @@ IsNeeding folder set t = IsTrue (is_needing folder set t)
 abbrev pub needing : Folder → ParSet → List Target
 needing folder set = filter (is_needing folder set) set.targets
 
+-- the names of its needing targets
+abbrev pub needing_names : Folder → ParSet → List (List ℕ)
+needing_names folder set = map (λ t. t.name) (needing folder set)
+
 -- the names of the intact targets
 abbrev pub intact_names : Folder → ParSet → List (List ℕ)
 intact_names folder set = map (λ t. t.name) (filter (λ t. not (is_needing folder set t)) set.targets)
@@ -50,9 +54,17 @@ matches folder set searched =
     zip (needing folder set)
     (matched folder set.slice_size (filter (λ name. not (is_among (intact_names folder set) name)) searched) (needing folder set))
 
--- the pairs of all slices, in order
-abbrev pub all_pairs : ParSet → List Pair
-all_pairs set = flat_map (λ t. t.pairs) set.targets
+-- the names of the matches
+abbrev pub matching : Folder → ParSet → List (List ℕ) → List (List ℕ)
+matching folder set searched = filter_map (λ m. m.1) (matches folder set searched)
+
+-- each target with the first of the searched names that is intact for it, is none of the intact targets' and
+-- none of the matches before
+abbrev pub AreFirstMatches : Folder → ℕ → List (List ℕ) → List (List ℕ) → List (List ℕ) → List (Target × Option (List ℕ)) → Type 0
+AreFirstMatches folder s searched intact before [] = Unit {0}
+AreFirstMatches folder s searched intact before (m ∷ ms) =
+    (m.1 ≡ find (λ name. is_intact s m.0 (bytes_of folder name) && not (is_among intact name) && not (is_among before name)) searched)
+    × AreFirstMatches folder s searched intact (before ++ option_to_list m.1) ms
 
 -- the slices of a set, where they are found in the files of these names
 unfoldable pub known : Folder → ParSet → List (List ℕ) → List (Option (List ℕ))

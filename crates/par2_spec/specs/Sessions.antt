@@ -32,14 +32,14 @@ abbrev pub first_entry : {F : Type 0} → F → List (List Change) → Result (L
 first_entry fault [] = Err fault
 first_entry fault (entry ∷ entries) = Ok entry
 
-abbrev pub planned : Option Fault → List Change → Result (List Change) Refusal
-planned None changes = Ok changes
-planned (Some fault) changes = Err (Refused fault)
+abbrev pub changes_unless : Option Fault → List Change → Result (List Change) Refusal
+changes_unless None changes = Ok changes
+changes_unless (Some fault) changes = Err (Refused fault)
 
 -- the changes that an action applies: of a command its own, of an undo or redo the next entry of that side
 unfoldable pub changes_asked : Session → Action → Result (List Change) Refusal
 unfolding refusal changes_of
-changes_asked s (Do command) = planned (refusal s.folder command) (changes_of s.folder command)
+changes_asked s (Do command) = changes_unless (refusal s.folder command) (changes_of s.folder command)
 changes_asked s Undo = first_entry NothingToUndo s.undos
 changes_asked s Redo = first_entry NothingToRedo s.redos
 
@@ -56,14 +56,14 @@ session_with s (Do command) changes = record { folder = effects s.folder changes
 session_with s Undo changes = record { folder = effects s.folder changes; undos = others s.undos; redos = way_back s.folder changes ∷ s.redos }
 session_with s Redo changes = record { folder = effects s.folder changes; undos = way_back s.folder changes ∷ s.undos; redos = others s.redos }
 
-abbrev pub applied : Session → Action → Result (List Change) Refusal → Result Session Refusal
-applied s action (Ok changes) = Ok (session_with s action changes)
-applied s action (Err refusal) = Err refusal
+abbrev pub session_unless : Session → Action → Result (List Change) Refusal → Result Session Refusal
+session_unless s action (Ok changes) = Ok (session_with s action changes)
+session_unless s action (Err refusal) = Err refusal
 
 -- the session after an action, or why the action is refused
 unfoldable pub session_after : Session → Action → Result Session Refusal
 unfolding changes_asked session_with
-session_after s action = applied s action (changes_asked s action)
+session_after s action = session_unless s action (changes_asked s action)
 
 -- ---- a session as it is kept
 

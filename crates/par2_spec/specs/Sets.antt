@@ -1,9 +1,10 @@
--- The set of a base: what the packets of a folder describe.
-use Rattle.std.specs.Prelude.{◌≡◌, ℕ, ◌^◌, ◌%◌, ◌==◌, ◌&&◌, nat_le, nat_lt, Bool, true, false, not, List, [], ◌∷◌, length, map, flat_map, filter, filter_map, sum_by, find, slice_get, Option, Some, None, Result, Ok, Err, ok_or, option_map, option_and_then, if◌then◌else◌}
+-- The set of a base: what the packets of a folder describe. What packets say is that of Parity Volume Set Specification
+-- 2.0; which of them are taken, and which sets are in the profile, are rules of this program.
+use Rattle.std.specs.Prelude.{◌≡◌, ℕ, ◌^◌, ◌%◌, ◌==◌, ◌&&◌, nat_le, nat_lt, Bool, true, false, not, List, [], ◌∷◌, length, map, flat_map, filter, filter_map, sum_by, find, slice_get, Option, Some, None, Result, Ok, Err, ok_or, option_map, option_and_then, if◌then◌else◌, ◌<◌, ◌≤◌, IsTrue}
 use Rattle.std.specs.FinMap as map_of
 use Rattle.std.specs.FinMap.{FinMap}
 use Rattle.std.specs.Ordering.{nat_cmp}
-use Rattle.std.specs.List.{list_all, AllByRecursion}
+use Rattle.std.specs.List.{list_all, AllByRecursion, IsDistinct}
 use Rattle.std.specs.Str.{bytes_eq}
 use Rattle.md5.specs.Md5.{md5}
 use Rattle.par2_spec.specs.Checksums.{Pair}
@@ -110,10 +111,28 @@ read_set base others = do
 abbrev pub other_par_names : Folder → List ℕ → List (List ℕ)
 other_par_names folder base = filter (λ name. is_par_name name && not (bytes_eq name base)) (names folder)
 
+-- the pairs of all slices, in order
+abbrev pub all_pairs : ParSet → List Pair
+all_pairs set = flat_map (λ t. t.pairs) set.targets
+
+-- the names of a set's targets
+abbrev pub target_names : ParSet → List (List ℕ)
+target_names set = map (λ t. t.name) set.targets
+
 -- the set of a base
 unfoldable pub set_of : Folder → List ℕ → Result ParSet Fault
 unfolding read_set
 set_of folder base = read_set (bytes_of folder base) (map (bytes_of folder) (other_par_names folder base))
+
+-- what holds of each set that reads: names that are names, each once, a slice size in the profile, a pair for each
+-- slice, no more slices than there are constants, and recovery slices of their size
+pub record IsSound (set : ParSet) : Type 0 where
+  pub are_names : IsTrue (list_all is_name (target_names set))
+  pub names_once : IsDistinct bytes_eq (target_names set)
+  pub size : IsTrue (is_slice_size set.slice_size)
+  pub pairs : AllByRecursion (λ t. length t.pairs ≡ slice_count set.slice_size t.size) set.targets
+  pub slices : length (all_pairs set) ≤ 32768
+  pub recovery : AllByRecursion (λ r. (r.0 < 65536) × (length r.1 ≡ set.slice_size)) (map_of.entries set.recovery)
 
 -- ---- a set that was made from certain files
 

@@ -1,4 +1,5 @@
--- Slices: the pieces of equal size into which a file is cut. A text is a list of bytes.
+-- Slices: the pieces of equal size into which a file is cut (Parity Volume Set Specification 2.0,
+-- "Description of the algorithm"). A text is a list of bytes.
 use Rattle.std.specs.Prelude.{ℕ, ◌+◌, ◌-◌, ◌*◌, ◌/◌, List, ◌++◌, length, take, drop, map, replicate, slice_index}
 use Rattle.std.specs.Int.{div_ceil}
 use Rattle.std.specs.List.{range_with_len}

@@ -9,9 +9,9 @@ pub record Contents : Type 0 where
   pub journal : Option (List ℕ)
 
 -- the contents after a change of the folder
-abbrev pub changed : Contents → Change → Contents
-changed contents change = record { files = effect contents.files change; journal = contents.journal }
+abbrev pub with_change : Contents → Change → Contents
+with_change contents change = record { files = effect contents.files change; journal = contents.journal }
 
 -- the contents with this journal
-abbrev pub journaled : Contents → List ℕ → Contents
-journaled contents bytes = record { files = contents.files; journal = Some bytes }
+abbrev pub with_journal : Contents → List ℕ → Contents
+with_journal contents bytes = record { files = contents.files; journal = Some bytes }

@@ -1,16 +1,16 @@
 -- What the values of the program say, without the room that their collections have.
 use Rattle.std.specs.Prelude.{ℕ, List, map, string_bytes}
 use Rattle.par2_spec.specs.Commands as asked_for
-use Rattle.par2_spec.specs.declared.asked.CreateArgs.{CreateArgs}
-use Rattle.par2_spec.specs.declared.asked.Action.{Action}
-use Rattle.par2_spec.specs.declared.asked.Action.TheVariants.{Create, Repair, Purge, Undo, Redo}
-use Rattle.par2_spec.specs.declared.asked.Command.{Command}
-use Rattle.par2_spec.specs.declared.asked.Command.TheVariants.{Verify, Act}
+use Rattle.par2_spec.specs.declared.commands.CreateArgs.{CreateArgs}
+use Rattle.par2_spec.specs.declared.commands.Action.{Action}
+use Rattle.par2_spec.specs.declared.commands.Action.TheVariants.{Create, Repair, Purge, Undo, Redo}
+use Rattle.par2_spec.specs.declared.commands.Command.{Command}
+use Rattle.par2_spec.specs.declared.commands.Command.TheVariants.{Verify, Act}
 
 abbrev pub create_args_of : CreateArgs → asked_for.CreateArgs
 create_args_of a = record {
   base = string_bytes a.base;
-  slice_size = a.slice;
+  slice_size = a.slice_size;
   count = a.count;
   first = a.first;
   overwrite = a.overwrite;

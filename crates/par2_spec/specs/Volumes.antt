@@ -1,10 +1,11 @@
--- The packets that describe files, and the files that a create writes.
-use Rattle.std.specs.Prelude.{ℕ, ◌+◌, ◌-◌, ◌/◌, ◌%◌, ◌^◌, min, nat_lt, nat_le, List, [], ◌∷◌, ◌++◌, length, take, map, flat_map, filter, replicate, if◌then◌else◌, codes}
+-- The packets that describe files, and the files that a create writes (Parity Volume Set Specification 2.0; each
+-- definition of a layout names its section. Which packets a file holds, and in which order, is a rule of this program).
+use Rattle.std.specs.Prelude.{ℕ, ◌+◌, ◌-◌, ◌/◌, ◌%◌, ◌^◌, min, nat_lt, nat_le, List, [], ◌∷◌, ◌++◌, length, take, map, flat_map, filter, replicate, if◌then◌else◌, codes, ◌≡◌, ◌==◌, ◌<◌, false}
 use Rattle.std.specs.Int.{w32, w64, w128, to_le_bytes, from_le_bytes}
-use Rattle.std.specs.List.{range_with_len}
+use Rattle.std.specs.List.{range_with_len, AllByRecursion, list_any}
 use Rattle.md5.specs.Md5.{md5}
 use Rattle.par2_spec.specs.Slices.{slices}
-use Rattle.par2_spec.specs.Checksums.{Pair, pair_of}
+use Rattle.par2_spec.specs.Checksums.{Pair, pair_of, IsPair}
 use Rattle.par2_spec.specs.Recovery.{recovery}
 use Rattle.par2_spec.specs.Packets.{Packet, packet}
 use Rattle.par2_spec.specs.Folders.{File, Folder, laid_over}
@@ -20,6 +21,18 @@ pub record FileRecord : Type 0 where
   pub name : List ℕ
   pub pairs : List Pair
 
+-- what a set can say of a file: its parts have their sizes, and its name has no zero byte
+pub record IsFileRecord (file : FileRecord) : Type 0 where
+  pub id : length file.id ≡ 16
+  pub digest : length file.digest ≡ 16
+  pub digest_16k : length file.digest_16k ≡ 16
+  pub size : file.size < 2 ^ 64
+  pub name : list_any (λ b. b == 0) file.name ≡ false
+  pub name_size : length file.name < 2 ^ 32
+  pub pairs : AllByRecursion IsPair file.pairs
+  pub pairs_size : length file.pairs < 2 ^ 32
+
+-- the File ID ("File Description packet")
 abbrev pub file_id : List ℕ → ℕ → List ℕ → List ℕ
 file_id digest_16k size name = md5 (digest_16k ++ to_le_bytes w64 size ++ name)
 
@@ -41,43 +54,49 @@ record_of s file = record {
   pairs = map pair_of (slices s file.1);
 }
 
--- the File ID as a little-endian number
+-- the File ID as a little-endian number, by which a Main is ordered ("Main packet")
 abbrev pub id_number : File → ℕ
 id_number file = from_le_bytes w128 (id_of file)
 
 -- a file among files in that order, before those whose number is not less
-abbrev pub inserted : File → List File → List File
-inserted file [] = file ∷ []
-inserted file (next ∷ files) = if nat_le (id_number file) (id_number next) then file ∷ next ∷ files else next ∷ inserted file files
+abbrev pub insert_by_id : File → List File → List File
+insert_by_id file [] = file ∷ []
+insert_by_id file (next ∷ files) = if nat_le (id_number file) (id_number next) then file ∷ next ∷ files else next ∷ insert_by_id file files
 
 -- the files in the order of their File IDs
 unfoldable pub in_id_order : List File → List File
 in_id_order [] = []
-in_id_order (file ∷ files) = inserted file (in_id_order files)
+in_id_order (file ∷ files) = insert_by_id file (in_id_order files)
 
 -- the bytes and as many zeros as bring them to a multiple of 4
 abbrev pub padded_4 : List ℕ → List ℕ
 padded_4 bytes = bytes ++ replicate ((4 - length bytes % 4) % 4) 0
 
+-- ("Main packet")
 abbrev pub main_bytes : ℕ → List FileRecord → List ℕ
 main_bytes s files = to_le_bytes w64 s ++ to_le_bytes w32 (length files) ++ flat_map (λ file. file.id) files
 
+-- ("File Description packet")
 abbrev pub desc_bytes : FileRecord → List ℕ
 desc_bytes file = file.id ++ file.digest ++ file.digest_16k ++ to_le_bytes w64 file.size ++ padded_4 file.name
 
+-- ("Input File Slice Checksum packet")
 abbrev pub pair_bytes : Pair → List ℕ
 pair_bytes pair = pair.0 ++ to_le_bytes w32 pair.1
 
+-- ("Input File Slice Checksum packet")
 abbrev pub ifsc_bytes : FileRecord → List ℕ
 ifsc_bytes file = file.id ++ flat_map pair_bytes file.pairs
 
+-- ("Recovery Slice packet")
 abbrev pub recovery_bytes : ℕ → List ℕ → List ℕ
 recovery_bytes e bytes = to_le_bytes w32 e ++ bytes
 
+-- ("Creator packet")
 abbrev pub creator_bytes : List ℕ
 creator_bytes = padded_4 (codes "par2 undo profile 1")
 
--- the Recovery Set ID
+-- the Recovery Set ID ("Packet Header")
 abbrev pub main_id : ℕ → List FileRecord → List ℕ
 main_id s files = md5 (main_bytes s files)
 
@@ -98,7 +117,7 @@ abbrev pub recovery_packets : ℕ → List ℕ → List (List ℕ) → ℕ → �
 recovery_packets s set_id texts e n =
     map (λ k. packet_of set_id Recovery (recovery_bytes k (recovery s texts k))) (range_with_len e n)
 
--- volume i of c recovery slices has 2 ^ i of them, the last one the rest
+-- volume i of c recovery slices has 2 ^ i of them, the last one the rest: a rule of this program
 abbrev pub volumes_before : ℕ → ℕ
 volumes_before i = 2 ^ i - 1
 
@@ -117,7 +136,7 @@ five_digits n = map (λ k. 48 + n / 10 ^ k % 10) (4 ∷ 3 ∷ 2 ∷ 1 ∷ 0 ∷ 
 abbrev pub stem : List ℕ → List ℕ
 stem base = take (length base - 5) base
 
--- STEM.volFFFFF+NNNNN.par2
+-- STEM.volFFFFF+NNNNN.par2 ("Naming convention"; five digits are a rule of this program)
 abbrev pub volume_name : List ℕ → ℕ → ℕ → List ℕ
 volume_name base first n =
     stem base ++ codes ".vol" ++ five_digits first ++ codes "+" ++ five_digits n ++ codes ".par2"

@@ -1,16 +1,16 @@
 //! Laws of create: each is the contract of a function that does nothing.
 
 ghost use Rattle.std.specs.Prelude.{◌≡◌, ◌∷◌, ℕ, List, [], IsTrue, IsPermutation, map, flat_map};
-ghost use Rattle.std.specs.Int.{w128, from_le_bytes};
 ghost use Rattle.std.specs.List.{IsDistinct};
-ghost use Rattle.std.specs.List.Sorted.{IsStrictlyIncreasing, IsNonDecreasingBy};
+ghost use Rattle.std.specs.List.Sorted.{IsNonDecreasingBy};
 ghost use Rattle.std.specs.Str.{bytes_eq};
 ghost use Rattle.par2_spec.specs.Folders.{Folder, File};
 ghost use Rattle.par2_spec.specs.Changes.{effects, are_applicable};
 ghost use Rattle.par2_spec.specs.Packets.{packet};
-ghost use Rattle.par2_spec.specs.Volumes.{FileRecord, volumes, record_of, id_number, in_id_order, index_packets, after_create};
+ghost use Rattle.par2_spec.specs.Volumes.{volumes, record_of, id_number, in_id_order, index_packets, after_create};
 ghost use Rattle.par2_spec.specs.Commands.{CreateArgs, files_of, outputs_of};
 ghost use Rattle.par2_spec.specs.Plans.{create_changes};
+ghost use Rattle.par2_spec.specs.Laws.{OnlyOneOrder};
 
 /// The outputs of a create have names of their own.
 pub fn outputs_are_distinct()
@@ -37,10 +37,7 @@ pub fn index_alone()
 pub fn files_in_order()
     ensures same { (files : List File) → IsPermutation files (in_id_order files) }
     ensures order { (files : List File) → IsNonDecreasingBy id_number (in_id_order files) }
-    ensures only { (s : ℕ) (files : List File) (records : List FileRecord)
-        → IsPermutation (map (record_of s) files) records
-        → IsStrictlyIncreasing (map (λ file. from_le_bytes w128 file.id) records)
-        → records ≡ map (record_of s) (in_id_order files) }
+    ensures only { OnlyOneOrder }
     ensures names { (folder : Folder) (names : List (List ℕ))
         → files_of folder (map (λ file. file.0) (in_id_order (files_of folder names)))
         ≡ in_id_order (files_of folder names) }

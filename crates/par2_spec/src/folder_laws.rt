@@ -3,6 +3,7 @@
 ghost use Rattle.std.specs.Prelude.{◌≡◌, ◌+◌, ◌≤◌, ℕ, List, None, IsTrue};
 ghost use Rattle.par2_spec.specs.Folders.{Folder, has};
 ghost use Rattle.par2_spec.specs.Changes.{Change, FolderState, effect, inverse, is_applicable, effects, way_back, are_applicable, change_refusal, state_after, takes_all, state_after_all, places_taken};
+ghost use Rattle.par2_spec.specs.Laws.{MorePlacesStay};
 
 /// The inverse of a change that applies gives the folder back, and its own inverse is the change.
 pub fn change_and_inverse()
@@ -50,11 +51,7 @@ pub fn more_places_do_no_harm()
     ensures taken { (state : FolderState) (places : ℕ) (changes : List Change)
         → IsTrue (takes_all state changes) → IsTrue
         (takes_all (record { files = state.files; vacant = state.vacant + places }) changes) }
-    ensures state { (state : FolderState) (places : ℕ) (changes : List Change)
-        → IsTrue (takes_all state changes)
-        → state_after_all (record { files = state.files; vacant = state.vacant + places }) changes
-        ≡ (let after = state_after_all state changes in
-        record { files = after.files; vacant = after.vacant + places }) }
+    ensures state { MorePlacesStay }
 {}
 
 /// A change that a kept folder took can be taken back: the folder takes the inverse, and files, vacant places and

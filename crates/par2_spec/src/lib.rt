@@ -1,8 +1,8 @@
 //! The definitions that every crate of this repository cites, and the plain enums that they speak of.
 #![tactic(auto)]
 
-mod asked;
 pub mod checksum_laws;
+mod commands;
 pub mod create_laws;
 pub mod field_laws;
 pub mod folder_laws;
@@ -15,7 +15,7 @@ pub mod search_laws;
 pub mod session_laws;
 pub mod stop_laws;
 
-pub use asked::{Action, Command, CreateArgs};
+pub use commands::{Action, Command, CreateArgs};
 use thiserror::Error;
 
 /// The type of a packet.
@@ -81,7 +81,7 @@ pub enum Fault {
 pub enum JournalFault {
     #[error("the journal is not valid")]
     JournalInvalid,
-    /// The journal, which is that of a command that was begun where `halfway` holds, is another folder's.
+    /// The journal, which is that of a halfway command where `halfway` holds, is another folder's.
     #[error("the folder is not as the journal left it")]
     FolderChanged { halfway: bool },
     #[error("out of memory")]

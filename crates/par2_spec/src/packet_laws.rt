@@ -1,11 +1,12 @@
 //! Laws of packets. Each is the contract of a function that does nothing.
 
-ghost use Rattle.std.specs.Prelude.{◌≡◌, ◌<◌, ◌^◌, ◌%◌, ◌++◌, ◌==◌, ℕ, List, [], ◌∷◌, Some, map, flat_map, length, drop, true, false};
-ghost use Rattle.std.specs.List.{AllByRecursion, list_any};
+ghost use Rattle.std.specs.Prelude.{◌≡◌, ◌<◌, ◌^◌, ◌%◌, ◌++◌, ℕ, List, [], ◌∷◌, Some, flat_map, length, drop, true, false};
+ghost use Rattle.std.specs.List.{AllByRecursion};
 ghost use Rattle.par2_spec.specs.declared.Kind.TheVariants.{Main, FileDesc, Ifsc, Recovery, Creator};
-ghost use Rattle.par2_spec.specs.Packets.{Packet, packet, claimed, begins_with_packet, first_packet, accepted, read_main, read_desc, read_ifsc, read_recovery};
-ghost use Rattle.par2_spec.specs.Volumes.{FileRecord, main_bytes, desc_bytes, ifsc_bytes, recovery_bytes, creator_bytes, main_id, packet_of, index_packets, recovery_packets};
-ghost use Rattle.par2_spec.specs.Packing.{IsPacket, IsPair, IsFileRecord};
+ghost use Rattle.par2_spec.specs.Packets.{Packet, packet, claimed_length, begins_with_packet, first_packet, accepted, read_ifsc, read_recovery, IsPacket};
+ghost use Rattle.par2_spec.specs.Volumes.{FileRecord, main_bytes, desc_bytes, ifsc_bytes, recovery_bytes, creator_bytes, main_id, packet_of, index_packets, IsFileRecord};
+ghost use Rattle.par2_spec.specs.Checksums.{IsPair};
+ghost use Rattle.par2_spec.specs.Laws.{MainIsRead, DescIsRead, RecoverySlicesAreRead};
 
 /// A text of fewer than 64 bytes has no packets.
 pub fn none_in_short_text()
@@ -15,7 +16,7 @@ pub fn none_in_short_text()
 /// Where a packet stands at the front, the packets are that one and those of what is behind it.
 pub fn packet_in_front()
     ensures { (text : List ℕ) → begins_with_packet text ≡ true
-        → accepted text ≡ first_packet text ∷ accepted (drop (claimed text) text) }
+        → accepted text ≡ first_packet text ∷ accepted (drop (claimed_length text) text) }
 {}
 
 /// Where none stands at the front, they are those of the text without its first byte.
@@ -32,23 +33,12 @@ pub fn packets_then_text()
 
 /// A Main that was written says what was given.
 pub fn main_is_read()
-    ensures { (s : ℕ) (files : List FileRecord) → s < 2 ^ 64 → length files < 2 ^ 32
-        → AllByRecursion (λ file. length file.id ≡ 16) files
-        → read_main Main (main_bytes s files)
-        ≡ Some (record { slice_size = s; ids = map (λ file. file.id) files }) }
+    ensures { MainIsRead }
 {}
 
 /// A FileDesc that was written says what was given.
 pub fn desc_is_read()
-    ensures { (file : FileRecord) → length file.id ≡ 16 → length file.digest ≡ 16
-        → length file.digest_16k ≡ 16 → file.size < 2 ^ 64 → list_any (λ b. b == 0) file.name
-        ≡ false → read_desc FileDesc (desc_bytes file) ≡ Some (record {
-          id = file.id;
-          digest = file.digest;
-          digest_16k = file.digest_16k;
-          size = file.size;
-          name = file.name;
-        }) }
+    ensures { DescIsRead }
 {}
 
 /// An IFSC that was written says what was given.
@@ -103,8 +93,5 @@ pub fn index_is_read()
 
 /// So are the recovery slices of a volume.
 pub fn recovery_slices_are_read()
-    ensures { (s : ℕ) (id : List ℕ) (slices : List (List ℕ)) (e n : ℕ) (text : List ℕ)
-        → length id ≡ 16 → s % 4 ≡ 0 → s < 2 ^ 60
-        → accepted (flat_map packet (recovery_packets s id slices e n) ++ text)
-        ≡ recovery_packets s id slices e n ++ accepted text }
+    ensures { RecoverySlicesAreRead }
 {}

@@ -1,12 +1,13 @@
 //! Laws of rank and of rebuilt slices: each is the contract of a function that does nothing.
 
-ghost use Rattle.std.specs.Prelude.{◌≡◌, ◌<◌, ◌≤◌, ◌%◌, ◌↔◌, ℕ, List, IsTrue, Option, length, map};
+ghost use Rattle.std.specs.Prelude.{◌≡◌, ◌≤◌, ◌↔◌, ℕ, List, IsTrue, Option, length, map};
 ghost use Rattle.std.specs.List.{AllByRecursion, Contains};
 ghost use Rattle.std.specs.FinMap as map_of;
-ghost use Rattle.par2_spec.specs.Rank.{is_repairable, IsRepairable, kept, IsKept, agrees, Agrees, AnotherAgrees, kept_slices, IsRebuilt, IsVector, Kills, AreSurvivors, TwoAgree};
+ghost use Rattle.par2_spec.specs.Rank.{is_repairable, IsRepairable, kept, IsKept, agrees, Agrees, AnotherAgrees, kept_slices, IsRebuilt, IsVector, Kills};
 ghost use Rattle.par2_spec.specs.Sets.{ParSet};
 ghost use Rattle.par2_spec.specs.Search.{lost, survivors};
 ghost use Rattle.par2_spec.specs.Repairs.{rebuilt};
+ghost use Rattle.par2_spec.specs.Laws.{AgreeingIsTested, RebuiltSlicesAgree, AgreeingListsAreOne, AgreeingListIsRebuilt, SomeSlicesAgree, TwoListsAgree};
 
 /// The tests over every vector and every text say what the words say.
 pub fn tests_say_the_words()
@@ -14,18 +15,12 @@ pub fn tests_say_the_words()
         → IsTrue (is_repairable lost survivors) ↔ IsRepairable lost survivors }
     ensures kept { (lost survivors : List ℕ) (e : ℕ)
         → Contains (kept lost survivors) e ↔ (Contains survivors e × IsKept lost survivors e) }
-    ensures agrees { (s : ℕ) (known : List (Option (List ℕ))) (recovered : List (ℕ
-        × List ℕ)) (slices : List (List ℕ)) → AllByRecursion (λ text. length text ≡ s) slices
-        → AllByRecursion (λ text. AllByRecursion (λ b. b < 256) text) slices
-        → IsTrue (agrees s known recovered slices) ↔ Agrees s known recovered slices }
+    ensures agrees { AgreeingIsTested }
 {}
 
 /// The rebuilt slices agree where some slices do, and where one list alone agrees they are that list.
 pub fn rebuilt_slices_agree()
-    ensures some { (set : ParSet) (known : List (Option (List ℕ))) (slices : List (List ℕ))
-        → Agrees set.slice_size known (kept_slices (lost known) (survivors set)
-        (map_of.entries set.recovery)) slices → Agrees set.slice_size known (kept_slices
-        (lost known) (survivors set) (map_of.entries set.recovery)) (rebuilt set known) }
+    ensures some { RebuiltSlicesAgree }
     ensures only { (set : ParSet) (known : List (Option (List ℕ))) (slices : List (List ℕ))
         → IsRebuilt set.slice_size known (kept_slices (lost known)
         (survivors set) (map_of.entries set.recovery)) slices → rebuilt set known ≡ slices }
@@ -33,16 +28,8 @@ pub fn rebuilt_slices_agree()
 
 /// Where the lost slices are determined, one list alone agrees, and what agrees is what is rebuilt.
 pub fn one_list_alone_agrees()
-    ensures one { (s : ℕ) (known : List (Option (List ℕ))) (recovery : List (ℕ
-        × List ℕ)) (one other : List (List ℕ))
-        → s % 2 ≡ 0 → IsRepairable (lost known) (map (λ r. r.0) recovery)
-        → Agrees s known (kept_slices (lost known) (map (λ r. r.0) recovery) recovery) one
-        → Agrees s known (kept_slices (lost known) (map (λ r. r.0) recovery) recovery) other
-        → one ≡ other }
-    ensures rebuilt { (set : ParSet) (known : List (Option (List ℕ))) (slices : List (List ℕ))
-        → set.slice_size % 2 ≡ 0 → IsRepairable (lost known) (survivors set)
-        → Agrees set.slice_size known (kept_slices (lost known)
-        (survivors set) (map_of.entries set.recovery)) slices → rebuilt set known ≡ slices }
+    ensures one { AgreeingListsAreOne }
+    ensures rebuilt { AgreeingListIsRebuilt }
 {}
 
 /// Where the lost slices are not determined, another list too agrees with all that survives.
@@ -62,16 +49,10 @@ pub fn kept_exponents_kill_as_all()
 /// Some slices agree with the known ones and with the recovery slices of the kept exponents, also where the surviving
 /// recovery slices contradict each other.
 pub fn some_slices_agree()
-    ensures { (s m : ℕ) (known : List (Option (List ℕ))) (recovery : List (ℕ
-        × List ℕ)) (text : ℕ → List ℕ) → AreSurvivors s m known recovery text
-        → let kept = kept_slices (lost known) (map (λ r. r.0) recovery) recovery in
-        (slices : List (List ℕ)) × Agrees s known kept slices }
+    ensures { SomeSlicesAgree }
 {}
 
 /// Where the lost slices are not determined, at least two lists do.
 pub fn two_lists_agree()
-    ensures { (s m : ℕ) (known : List (Option (List ℕ))) (recovery : List (ℕ
-        × List ℕ)) (text : ℕ → List ℕ) → AreSurvivors s m known recovery text
-        → 2 ≤ s → (IsRepairable (lost known) (map (λ r. r.0) recovery) → ⊥)
-        → TwoAgree s known (kept_slices (lost known) (map (λ r. r.0) recovery) recovery) }
+    ensures { TwoListsAgree }
 {}

@@ -1,15 +1,15 @@
 //! Laws of repair and purge: each is the contract of a function that does nothing.
 
 ghost use Rattle.std.specs.Prelude.{◌≡◌, ◌≤◌, ◌++◌, ℕ, List, IsTrue, Ok, length};
-ghost use Rattle.std.specs.List.{list_all, AllByRecursion};
-ghost use Rattle.par2_spec.specs.Names.{is_name};
+ghost use Rattle.std.specs.List.{list_all};
+ghost use Rattle.par2_spec.specs.Names.{is_name, IsLeastFree};
 ghost use Rattle.par2_spec.specs.Folders.{Folder, has};
 ghost use Rattle.par2_spec.specs.Changes.{effects, are_applicable};
 ghost use Rattle.par2_spec.specs.Sets.{ParSet, set_of};
-ghost use Rattle.par2_spec.specs.Search.{candidates, all_pairs};
-ghost use Rattle.par2_spec.specs.Repairs.{files_of_slices, aside, after_repair, after_repair_and_purge, after_purge};
+ghost use Rattle.par2_spec.specs.Search.{candidates};
+ghost use Rattle.par2_spec.specs.Repairs.{aside, after_repair, after_repair_and_purge, after_purge, FitsRepair, HoldsRepaired, AreFew, taken_for};
 ghost use Rattle.par2_spec.specs.Plans.{repair_changes, repair_removals, purge_changes};
-ghost use Rattle.par2_spec.specs.Rules.{IsSound, FitsRepair, HoldsRepaired, AreFew, IsLeastFree, taken_for};
+ghost use Rattle.par2_spec.specs.Laws.{FilesHaveTheirSize};
 
 /// An aside is always found: it is the least name that is free, it is a name where it is not too long, and
 /// different names have different asides.
@@ -67,8 +67,5 @@ pub fn purge_leads_to_its_folder()
 
 /// A file that is cut out of as many slices as the set has, each of its slice size, has the described length.
 pub fn written_files_have_their_length()
-    ensures { (set : ParSet) (slices : List (List ℕ)) → IsSound set
-        → length slices ≡ length (all_pairs set)
-        → AllByRecursion (λ text. length text ≡ set.slice_size) slices
-        → AllByRecursion (λ c. length c.1 ≡ c.0.size) (files_of_slices set slices) }
+    ensures { FilesHaveTheirSize }
 {}

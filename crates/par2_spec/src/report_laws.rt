@@ -3,9 +3,8 @@
 ghost use Rattle.std.specs.Prelude.{◌≡◌, ℕ, List, Ok};
 ghost use Rattle.std.specs.List.{AllByRecursion};
 ghost use Rattle.par2_spec.specs.Folders.{Folder};
-ghost use Rattle.par2_spec.specs.Sets.{ParSet, set_of};
+ghost use Rattle.par2_spec.specs.Sets.{ParSet, set_of, IsSound};
 ghost use Rattle.par2_spec.specs.Search.{candidates};
-ghost use Rattle.par2_spec.specs.Rules.{IsSound};
 ghost use Rattle.par2_spec.specs.Reports.{Report, report_in, IsByTarget, StatesFollow, IntactAreFound, MatchedAreFound, IsFoundWhole};
 
 /// A report says of each target what is said of it with its own slices, and its state by the matches in order.

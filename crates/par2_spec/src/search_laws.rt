@@ -2,9 +2,9 @@
 
 ghost use Rattle.std.specs.Prelude.{◌≡◌, ℕ, List, [], Ok, map};
 ghost use Rattle.par2_spec.specs.Folders.{Folder};
-ghost use Rattle.par2_spec.specs.Sets.{ParSet, set_of};
-ghost use Rattle.par2_spec.specs.Search.{candidates, known, lost, matches, needing, intact_names};
-ghost use Rattle.par2_spec.specs.Rules.{IsSound, AreFirstMatches, lost_of_unmatched};
+ghost use Rattle.par2_spec.specs.Sets.{ParSet, set_of, IsSound};
+ghost use Rattle.par2_spec.specs.Search.{candidates, known, lost, matches, needing, intact_names, AreFirstMatches};
+ghost use Rattle.par2_spec.specs.Repairs.{lost_of_unmatched};
 
 /// What holds of each set that reads.
 pub fn set_is_sound()

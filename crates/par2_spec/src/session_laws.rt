@@ -8,7 +8,7 @@ ghost use Rattle.par2_spec.specs.Commands.{Command, Action, Do, Undo, Redo};
 ghost use Rattle.par2_spec.specs.History.{History, Refusal, history_after, Run, folders, IsChanging};
 ghost use Rattle.par2_spec.specs.Sessions.{Session, history_of, session_with, session_after, KeptSession, session_of_kept, walks, CanWalk, OnlyGrew, kept_done, kept_undone, kept_redone};
 ghost use Rattle.par2_spec.specs.Opening.{leads, is_valid};
-ghost use Rattle.par2_spec.specs.Rules.{AreFewFor, LeadsToAfter, LeadsToAfterAsked};
+ghost use Rattle.par2_spec.specs.Plans.{AreFewFor, LeadsToAfter, LeadsToAfterAsked};
 
 /// The changes of each command apply in order and lead to its folder.
 pub fn commands_lead_to_their_folder()

@@ -1,13 +1,13 @@
 //! Laws of journals, for whatever a stopped run leaves: each is the contract of a function that does nothing.
 
-ghost use Rattle.std.specs.Prelude.{◌≡◌, ◌≤◌, ℕ, List, IsTrue, Ok, Some, false, length, take};
+ghost use Rattle.std.specs.Prelude.{◌≡◌, ℕ, List, IsTrue, Ok, Some, false};
 ghost use Rattle.par2_spec.specs.Folders.{Folder};
 ghost use Rattle.par2_spec.specs.Changes.{Change, effects, are_applicable};
 ghost use Rattle.par2_spec.specs.Sessions.{Session};
-ghost use Rattle.par2_spec.specs.Journals.{Journal, IsJournal, Spells};
-ghost use Rattle.par2_spec.specs.Opening.{settled_journal, halfway_journal, is_valid, opened, Settled, ToTakeBack, TellsApart, OpensAs};
-ghost use Rattle.par2_spec.specs.Rules.{kept_in};
+ghost use Rattle.par2_spec.specs.Journals.{Journal, Spells};
+ghost use Rattle.par2_spec.specs.Opening.{settled_journal, is_valid, opened, Settled, Halfway, OpensAs, kept_in};
 ghost use Rattle.par2_spec.specs.declared.Version.{Version};
+ghost use Rattle.par2_spec.specs.Laws.{HalfwayJournalOpensAsBefore, HalfwayTextOpensAsBefore, HalfwayJournalStillOpens, HalfwayTextStillOpens};
 
 /// The settled journal of a session opens its folder as the session.
 pub fn settled_journal_opens_as_the_session()
@@ -20,38 +20,24 @@ pub fn settled_journal_opens_as_the_session()
 
 /// The halfway journal of a command opens each folder that the command passes through as the session from before.
 pub fn halfway_journal_opens_as_before()
-    ensures opened { (v : Version) (s : Session) (changes : List Change) (j : ℕ)
-        → IsTrue (is_valid s) → IsTrue (are_applicable s.folder changes)
-        → TellsApart s.folder changes → j ≤ length changes → (back : List Change)
-        × (opened (effects s.folder (take j changes)) (halfway_journal v s changes)
-        ≡ Ok (ToTakeBack (kept_in v s) back)) }
-    ensures stored { (v : Version) (s : Session) (changes : List Change) (j : ℕ) (text : List ℕ)
-        → IsTrue (is_valid s) → IsTrue (are_applicable s.folder changes)
-        → TellsApart s.folder changes → j ≤ length changes
-        → Spells text (halfway_journal v s changes) → OpensAs (effects s.folder (take j changes))
-        (Some text) (Ok (record { session = kept_in v s; dropped = false })) }
+    ensures opened { HalfwayJournalOpensAsBefore }
+    ensures stored { HalfwayTextOpensAsBefore }
 {}
 
 /// Where a halfway journal opens a folder as a session, it opens each folder that the way back passes through as that
 /// session too.
 pub fn halfway_journal_still_opens()
-    ensures opened { (journal : Journal) (folder : Folder) (s : Session) (back : List Change)
-        (i : ℕ) → IsJournal journal → opened folder journal ≡ Ok (ToTakeBack s back)
-        → TellsApart folder back → i ≤ length back → (rest : List Change)
-        × (opened (effects folder (take i back)) journal ≡ Ok (ToTakeBack s rest)) }
-    ensures stored { (journal : Journal) (folder : Folder) (s : Session)
-        (back : List Change) (i : ℕ) (text : List ℕ) → Spells text journal → opened folder journal
-        ≡ Ok (ToTakeBack s back) → TellsApart folder back → i ≤ length back → OpensAs
-        (effects folder (take i back)) (Some text) (Ok (record { session = s; dropped = false })) }
+    ensures opened { HalfwayJournalStillOpens }
+    ensures stored { HalfwayTextStillOpens }
 {}
 
 /// What a halfway journal takes back can be applied and leads to the session's folder, and the session's entries can
 /// be applied.
 pub fn taking_back_leads_to_the_session()
     ensures applies { (journal : Journal) (folder : Folder) (s : Session) (back : List Change)
-        → opened folder journal ≡ Ok (ToTakeBack s back) → IsTrue (are_applicable folder back) }
+        → opened folder journal ≡ Ok (Halfway s back) → IsTrue (are_applicable folder back) }
     ensures leads { (journal : Journal) (folder : Folder) (s : Session) (back : List Change)
-        → opened folder journal ≡ Ok (ToTakeBack s back) → effects folder back ≡ s.folder }
+        → opened folder journal ≡ Ok (Halfway s back) → effects folder back ≡ s.folder }
     ensures valid { (journal : Journal) (folder : Folder) (s : Session) (back : List Change)
-        → opened folder journal ≡ Ok (ToTakeBack s back) → IsTrue (is_valid s) }
+        → opened folder journal ≡ Ok (Halfway s back) → IsTrue (is_valid s) }
 {}

@@ -4,18 +4,17 @@ use Rattle.std.specs.Prelude.{IfOk, OnOk}
 use Rattle.par2_spec.specs.Commands.{Action, Command, Do, Undo, Redo, Create, Verify, Repair, Purge}
 use Rattle.par2_spec.specs.Folders.{Folder}
 use Rattle.par2_spec.specs.Opening.{Started, OpensAs, new_session}
-use Rattle.par2_spec.specs.Plans.{changes_of}
+use Rattle.par2_spec.specs.Plans.{changes_of, LeadsToAfterAsked}
 use Rattle.par2_spec.specs.Refusals.{refusal}
 use Rattle.par2_spec.specs.Reports.{report_in}
-use Rattle.par2_spec.specs.Rules.{LeadsToAfterAsked}
-use Rattle.par2_spec.specs.Sessions.{Session, KeptSession, changes_asked, planned, session_after, session_of_kept}
+use Rattle.par2_spec.specs.Sessions.{Session, KeptSession, changes_asked, changes_unless, session_after, session_of_kept}
 use Rattle.par2_spec.specs.Stores.{Contents}
 use Rattle.par2_spec.specs.Texts.{Outcome, output_of}
-use Rattle.par2_tool.specs.Held.{Holds, IsOpening, kept}
-use Rattle.par2_tool.specs.Opened.{IsOpened, IsRead, OnlyTakesBack, StandsFor, started_of}
-use Rattle.par2_tool.specs.Performed.{IsAnswer, IsReport, IsVerify, IsWritten}
-use Rattle.par2_tool.specs.Refused.{IsRefused, failed}
-use Rattle.par2_tool.specs.Told.{IsBack, IsDone, IsFailed, SameOutput}
+use Rattle.par2_tool.specs.Holding.{Holds, IsOpening, with_history}
+use Rattle.par2_tool.specs.Opening.{IsOpened, IsRead, OnlyTakesBack, StandsFor, started_of}
+use Rattle.par2_tool.specs.Performing.{IsAnswer, IsReport, IsVerify, IsWritten}
+use Rattle.par2_tool.specs.Refusals.{IsRefused, failure_for}
+use Rattle.par2_tool.specs.Telling.{IsBack, IsDone, IsFailed, SameOutput}
 use Rattle.par2_tool.specs.declared.opening.Started as program
 use Rattle.par2_tool.specs.declared.performing.PerformFault.{PerformFault}
 use Rattle.par2_tool.specs.declared.performing.PerformFault.TheVariants.{Session as Refusing, Store}
@@ -33,8 +32,8 @@ pub opened_as_is : (contents : Contents) (files : Folder) (text : List ℕ) (sta
 opened_as_is contents files text started read opens on =
     opened_on contents started (subst (λ k. IsOpening k (Ok started)) (sym read) opens) (ap (λ (k : Contents). k.files) read ∙ sym on)
 
-pub opened_new : (contents : Contents) (files : Folder) → contents.journal ≡ None → files ≡ contents.files → IsOpened contents contents (kept (new_session files))
-opened_new contents files none same = opened_on contents (kept (new_session files)) (opens_new contents (new_session files) none (ap new_session same)) (sym same)
+pub opened_new : (contents : Contents) (files : Folder) → contents.journal ≡ None → files ≡ contents.files → IsOpened contents contents (with_history (new_session files))
+opened_new contents files none same = opened_on contents (with_history (new_session files)) (opens_new contents (new_session files) none (ap new_session same)) (sym same)
 
 -- what a store was opened as stands for itself
 pub stands : {E : Type 0} (action : Action) (honest : Type 0) (result : Result program.Started E) (old new : Contents)
@@ -65,7 +64,7 @@ no_way_back Redo is back = is
 
 same_asked : (s t : Session) (command : Command) → s.folder ≡ t.folder → changes_asked s (Do command) ≡ changes_asked t (Do command)
 unfolding changes_asked
-same_asked s t command on = ap (λ f. planned (refusal f command) (changes_of f command)) on
+same_asked s t command on = ap (λ f. changes_unless (refusal f command) (changes_of f command)) on
 
 -- a session that is kept, without room
 standing : Session → KeptSession
@@ -73,7 +72,7 @@ standing s = record { folder = record { files = s.folder; vacant = 0 }; undos = 
 
 -- a verify that is refused on one session is refused on another one on the same folder
 pub verify_failed : (action : Action) (old mid new : Contents) (o : Started) (s later : KeptSession) → IsVerify action → o.session.folder ≡ s.folder.files → IsOpened old mid o → new ≡ mid
-    → (before after : ℕ) (fault : PerformFault) → IsRefused action s later before after fault → IsFailed action old new (failed fault)
+    → (before after : ℕ) (fault : PerformFault) → IsRefused action s later before after fault → IsFailed action old new (failure_for fault)
 unfolding standing
 verify_failed (Do (Verify base extras)) old mid new o s later is on opening same before after fault refused =
     perform_failed (Do (Verify base extras)) old mid new (standing o.session) (standing o.session) o.dropped opening (λ back. absurd back) before after fault (refused_on fault refused) (λ _. same) (λ _. inl same)

@@ -4,7 +4,7 @@ use Rattle.par2_spec.specs.Changes.{Change}
 use Rattle.par2_spec.specs.Commands.{Action, Do, Undo, Redo}
 use Rattle.par2_spec.specs.History as history
 use Rattle.par2_spec.specs.Opening.{Started}
-use Rattle.par2_spec.specs.Sessions.{Session, KeptSession, session_of_kept, changes_asked, planned}
+use Rattle.par2_spec.specs.Sessions.{Session, KeptSession, session_of_kept, changes_asked, changes_unless}
 use Rattle.par2_spec.specs.Refusals.{refusal}
 use Rattle.par2_spec.specs.Stores.{Contents}
 use Rattle.par2_spec.specs.declared.Fault.{Fault}
@@ -12,10 +12,10 @@ use Rattle.par2_spec.specs.declared.Fault.TheVariants.{Memory}
 use Rattle.par2_spec.proofs.NamesLaws.{false_true}
 use Rattle.par2_journal.specs.declared.prepared.SessionFault.{SessionFault}
 use Rattle.par2_journal.specs.declared.prepared.SessionFault.TheVariants.{Plan, NothingToUndo, NothingToRedo}
-use Rattle.par2_tool.specs.Held.{TellsApartAlong, TellsApartBack, OpensAsBefore, OpensAsBeforeOrAfter}
-use Rattle.par2_tool.specs.Opened.{IsCounted, IsOpened, IsUnopened}
-use Rattle.par2_tool.specs.Refused.{IsRefused, IsSession, failed, unopened_as}
-use Rattle.par2_tool.specs.Told.{IsBack, IsCause, IsFailed, IsAtTheEnd, OpensAsBeforeOrAfterRun}
+use Rattle.par2_tool.specs.Holding.{TellsApartAlong, TellsApartBack, OpensAsBefore, OpensAsBeforeOrAfter}
+use Rattle.par2_tool.specs.Opening.{IsCounted, IsOpened, IsUnopened}
+use Rattle.par2_tool.specs.Refusals.{IsRefused, IsSession, failure_for, unopened_as}
+use Rattle.par2_tool.specs.Telling.{IsBack, IsCause, IsFailed, IsAtTheEnd, OpensAsBeforeOrAfterRun}
 use Rattle.par2_tool.specs.declared.opening.OpenFault.{OpenFault}
 use Rattle.par2_tool.specs.declared.opening.OpenFault.TheVariants as unopened
 use Rattle.par2_tool.specs.declared.performing.PerformFault.{PerformFault}
@@ -29,7 +29,7 @@ is_plan (Err (history.Refused fault)) = true
 is_plan (Err history.NothingToUndo) = false
 is_plan (Err history.NothingToRedo) = false
 
-planned_is_plan : (o : Option Fault) (cs : List Change) → is_plan (planned o cs) ≡ true
+planned_is_plan : (o : Option Fault) (cs : List Change) → is_plan (changes_unless o cs) ≡ true
 unfolding is_plan
 planned_is_plan None cs = refl
 planned_is_plan (Some fault) cs = refl
@@ -68,7 +68,7 @@ module _ (action : Action) (old mid new : Contents) (s later : KeptSession) (dro
       )
 
   pub perform_failed : (before after : ℕ) (fault : PerformFault) → IsRefused action s later before after fault → (IsSession fault → new ≡ mid)
-      → (TellsApartAlong (session_of_kept s) action → OpensAsBeforeOrAfter (session_of_kept s) action mid new) → IsFailed action old new (failed fault)
+      → (TellsApartAlong (session_of_kept s) action → OpensAsBeforeOrAfter (session_of_kept s) action mid new) → IsFailed action old new (failure_for fault)
   unfolding memory_of is_plan_fault is_plan
   perform_failed before after (Refusing (Plan reason)) refused same stopped =
       elim refused.0 [
@@ -103,7 +103,7 @@ opening_failed action old new unopened.Store is stopped = λ back _. all_stops (
 
 -- ---- why, whatever the store does
 
-pub perform_cause : (action : Action) (s later : KeptSession) (before middle after : ℕ) (fault : PerformFault) → middle ≡ before → IsRefused action s later middle after fault → IsCause action before after (failed fault)
+pub perform_cause : (action : Action) (s later : KeptSession) (before middle after : ℕ) (fault : PerformFault) → middle ≡ before → IsRefused action s later middle after fault → IsCause action before after (failure_for fault)
 unfolding memory_of is_plan_fault
 perform_cause action s later before middle after (Refusing (Plan reason)) steady refused =
     elim refused.0 [

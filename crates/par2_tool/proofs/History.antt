@@ -5,8 +5,8 @@ use Rattle.par2_spec.specs.Commands.{Action, Do, Undo, Redo, Create, Verify, Rep
 use Rattle.par2_spec.specs.Folders.{Folder}
 use Rattle.par2_spec.specs.History.{History, Refusal, Refused, MayBeRefused, Run, history_after}
 use Rattle.par2_spec.specs.History as history
-use Rattle.par2_spec.specs.Opening.{Opened, Settled, ToTakeBack, Started, OpensAs, Opens, opened, new_session, is_valid, leads, started}
-use Rattle.par2_spec.specs.Sessions.{Session, history_of, session_after, changes_asked, applied, planned}
+use Rattle.par2_spec.specs.Opening.{Opened, Settled, Halfway, Started, OpensAs, Opens, opened, new_session, is_valid, leads, started}
+use Rattle.par2_spec.specs.Sessions.{Session, history_of, session_after, changes_asked, session_unless, changes_unless}
 use Rattle.par2_spec.specs.Plans.{changes_of}
 use Rattle.par2_spec.specs.Refusals.{refusal}
 use Rattle.par2_spec.specs.declared.Fault.{Fault}
@@ -17,11 +17,11 @@ use Rattle.par2_spec.proofs.NamesLaws.{false_true}
 use Rattle.par2_spec.proofs.SessionLaws.{accepted_next, refused_alike}
 use Rattle.par2_spec.proofs.StopLaws.{taken_back_leads}
 use Rattle.par2_journal_bytes.proofs.Whole.{one_reading}
-use Rattle.par2_tool.specs.Opened.{IsOpened}
-use Rattle.par2_tool.specs.Performed.{IsWritten}
-use Rattle.par2_tool.specs.Held.{Holds, kept}
+use Rattle.par2_tool.specs.Opening.{IsOpened}
+use Rattle.par2_tool.specs.Performing.{IsWritten}
+use Rattle.par2_tool.specs.Holding.{Holds, with_history}
 use Rattle.par2_tool.specs.Runs.{Runs, Ended, Accepted, Passed}
-use Rattle.par2_tool.proofs.Reopened.{settled_on, begun_by}
+use Rattle.par2_tool.proofs.Reopened.{settled_on, halfway_by}
 
 -- ---- a store opens in one way
 
@@ -52,7 +52,7 @@ new_leads folder = refl
 
 started_leads : (folder : Folder) (text : List ℕ) (o : Result Opened JournalFault) (a : Started) → Opens folder text o → Ok a ≡ started folder o → is_valid a.session ≡ true
 started_leads folder text (Ok (Settled s)) a opens e = ap (λ (x : Started). is_valid x.session) (same_ok a _ e) ∙ (settled_on folder text s opens).1
-started_leads folder text (Ok (ToTakeBack s back)) a opens e = ap (λ (x : Started). is_valid x.session) (same_ok a _ e) ∙ (let by = begun_by folder text s back opens in (taken_back_leads by.0 folder s back by.2).2)
+started_leads folder text (Ok (Halfway s back)) a opens e = ap (λ (x : Started). is_valid x.session) (same_ok a _ e) ∙ (let by = halfway_by folder text s back opens in (taken_back_leads by.0 folder s back by.2).2)
 started_leads folder text (Err (FolderChanged false)) a opens e = ap (λ (x : Started). is_valid x.session) (same_ok a _ e) ∙ new_leads folder
 started_leads folder text (Err (FolderChanged true)) a opens e = absurd (ok_no_err a (FolderChanged true) e)
 started_leads folder text (Err JournalInvalid) a opens e = absurd (ok_no_err a JournalInvalid e)
@@ -67,7 +67,7 @@ start_leads folder (Some text) a p = started_leads folder text p.0 a p.1 p.2
 
 refused_after : (s : Session) (action : Action) (reason : Refusal) → changes_asked s action ≡ Err reason → history_after (history_of s) action ≡ Err reason
 unfolding session_after
-refused_after s action reason e = refused_alike s action reason (ap (applied s action) e)
+refused_after s action reason e = refused_alike s action reason (ap (session_unless s action) e)
 
 may_be_refused : (s : Session) (action : Action) (reason : Refusal) → changes_asked s action ≡ Err reason → MayBeRefused (history_of s) action
 may_be_refused s (Do command) reason e = tt
@@ -79,7 +79,7 @@ verify_stays : (s after : Session) (base : List ℕ) (extras : List (List ℕ)) 
 unfolding session_after changes_asked
 verify_stays s after base extras e = by_refusal (refusal s.folder (Verify base extras)) e
   where
-    by_refusal : (o : Option Fault) → applied s (Do (Verify base extras)) (planned o (changes_of s.folder (Verify base extras))) ≡ Ok after → s ≡ after
+    by_refusal : (o : Option Fault) → session_unless s (Do (Verify base extras)) (changes_unless o (changes_of s.folder (Verify base extras))) ≡ Ok after → s ≡ after
     by_refusal None h = same_ok s after h
     by_refusal (Some fault) h = absurd (ok_no_err after (Refused fault) (sym h))
 
@@ -89,11 +89,11 @@ written_holds : (action : Action) (s after : Session) (dropped : Bool) (old betw
 written_holds (Do (Verify base extras)) s after dropped old between new opened leads written =
     let end : Started = record { session = s; dropped = dropped } in
     (end, verify_stays s after base extras leads, subst (λ (k : Contents). Holds k end) (sym written) opened.holds)
-written_holds (Do (Create a)) s after dropped old between new opened leads written = (kept after, refl, written.0)
-written_holds (Do (Repair base extras purge)) s after dropped old between new opened leads written = (kept after, refl, written.0)
-written_holds (Do (Purge base)) s after dropped old between new opened leads written = (kept after, refl, written.0)
-written_holds Undo s after dropped old between new opened leads written = (kept after, refl, written.0)
-written_holds Redo s after dropped old between new opened leads written = (kept after, refl, written.0)
+written_holds (Do (Create a)) s after dropped old between new opened leads written = (with_history after, refl, written.0)
+written_holds (Do (Repair base extras purge)) s after dropped old between new opened leads written = (with_history after, refl, written.0)
+written_holds (Do (Purge base)) s after dropped old between new opened leads written = (with_history after, refl, written.0)
+written_holds Undo s after dropped old between new opened leads written = (with_history after, refl, written.0)
+written_holds Redo s after dropped old between new opened leads written = (with_history after, refl, written.0)
 
 -- ---- all of them
 

@@ -4,49 +4,49 @@ use Rattle.std.proofs.lemmas.List.{take_more}
 use Rattle.std.proofs.lemmas.List.{map-append}
 use Rattle.par2_spec.specs.Changes as defined
 use Rattle.par2_spec.proofs.FolderLaws.{both_first, both_second}
-use Rattle.par2_spec.specs.Stores.{Contents, changed}
+use Rattle.par2_spec.specs.Stores.{Contents, with_change}
 use Rattle.par2_folder.specs.declared.change.Change.{Change}
 use Rattle.par2_folder.specs.Views.{change_of}
 use Rattle.par2_spec.specs.Folders.{Folder}
 use Rattle.par2_spec.specs.Sessions.{KeptSession, OnlyGrew, session_of_kept}
 use Rattle.par2_spec.specs.Opening.{new_session}
-use Rattle.par2_journal.specs.Ready.{Kind, Changing, Undoing, Redoing, changes_of, next_of}
-use Rattle.par2_tool.specs.Performed.{all_changed}
+use Rattle.par2_journal.specs.Ready.{Kind, Changing, Undoing, Redoing, changes_by_kind, next_of}
+use Rattle.par2_tool.specs.Performing.{with_all_changes}
 
-changed_more : (k : Contents) (cs : List defined.Change) (c : defined.Change) → all_changed k (cs ++ c ∷ []) ≡ changed (all_changed k cs) c
+changed_more : (k : Contents) (cs : List defined.Change) (c : defined.Change) → with_all_changes k (cs ++ c ∷ []) ≡ with_change (with_all_changes k cs) c
 changed_more k [] c = refl
-changed_more k (d ∷ cs) c = changed_more (changed k d) cs c
+changed_more k (d ∷ cs) c = changed_more (with_change k d) cs c
 
 -- changes that are made one after the other are made in the folder alone
-pub all_changed_is : (k : Contents) (cs : List defined.Change) → all_changed k cs ≡ record { files = defined.effects k.files cs; journal = k.journal }
+pub all_changed_is : (k : Contents) (cs : List defined.Change) → with_all_changes k cs ≡ record { files = defined.effects k.files cs; journal = k.journal }
 unfolding defined.effects
 all_changed_is k [] = refl
-all_changed_is k (c ∷ cs) = all_changed_is (changed k c) cs
+all_changed_is k (c ∷ cs) = all_changed_is (with_change k c) cs
 
 pub made_next : (k : Contents) (changes : List Change) (i : ℕ) (item : Change) → i < length changes → item ≡ get_or changes i item
-    → changed (all_changed k (map change_of (take i changes))) (change_of item) ≡ all_changed k (map change_of (take (i + 1) changes))
+    → with_change (with_all_changes k (map change_of (take i changes))) (change_of item) ≡ with_all_changes k (map change_of (take (i + 1) changes))
 made_next k changes i item within is =
     sym (changed_more k (map change_of (take i changes)) (change_of item))
-    ∙ ap (all_changed k) (sym (map-append change_of (take i changes) (item ∷ [])))
-    ∙ ap (λ x. all_changed k (map change_of (take i changes ++ x ∷ []))) is
-    ∙ ap (λ l. all_changed k (map change_of l)) (sym (take_more changes i item within))
+    ∙ ap (with_all_changes k) (sym (map-append change_of (take i changes) (item ∷ [])))
+    ∙ ap (λ x. with_all_changes k (map change_of (take i changes ++ x ∷ []))) is
+    ∙ ap (λ l. with_all_changes k (map change_of l)) (sym (take_more changes i item within))
 
 -- where changes apply one after the other, each does behind those before it
 applicable_next : (k : Contents) (changes : List Change) (i : ℕ) (item : Change) → i < length changes → item ≡ get_or changes i item → IsTrue (defined.are_applicable k.files (map change_of changes))
-    → IsTrue (defined.is_applicable (all_changed k (map change_of (take i changes))).files (change_of item))
+    → IsTrue (defined.is_applicable (with_all_changes k (map change_of (take i changes))).files (change_of item))
 unfolding defined.are_applicable
 applicable_next k [] i item within is all = absurd (omega (arith, within))
 applicable_next k (c ∷ cs) zero item within is all = subst (λ x. IsTrue (defined.is_applicable k.files (change_of x))) (sym is) (both_first _ _ all)
-applicable_next k (c ∷ cs) (suc i) item within is all = applicable_next (changed k (change_of c)) cs i item (omega (arith, within)) is (both_second _ _ all)
+applicable_next k (c ∷ cs) (suc i) item within is all = applicable_next (with_change k (change_of c)) cs i item (omega (arith, within)) is (both_second _ _ all)
 
 -- so does it where they were made
-pub applicable_here : (k now : Contents) (changes : List Change) (i : ℕ) (item : Change) → now ≡ all_changed k (map change_of (take i changes)) → i < length changes → item ≡ get_or changes i item
+pub applicable_here : (k now : Contents) (changes : List Change) (i : ℕ) (item : Change) → now ≡ with_all_changes k (map change_of (take i changes)) → i < length changes → item ≡ get_or changes i item
     → IsTrue (defined.are_applicable k.files (map change_of changes)) → IsTrue (defined.is_applicable now.files (change_of item))
 applicable_here k now changes i item made within is all =
     subst (λ (c : Contents). IsTrue (defined.is_applicable c.files (change_of item))) (sym made) (applicable_next k changes i item within is all)
 
 -- what was made ready applies the changes that were asked for
-pub same_changes : (old mid : KeptSession) (kind : Kind) → OnlyGrew old mid → changes_of kind old ≡ changes_of kind mid
+pub same_changes : (old mid : KeptSession) (kind : Kind) → OnlyGrew old mid → changes_by_kind kind old ≡ changes_by_kind kind mid
 same_changes old mid (Changing changes) grew = refl
 same_changes old mid Undoing grew = ap next_of (sym grew.undos)
 same_changes old mid Redoing grew = ap next_of (sym grew.redos)

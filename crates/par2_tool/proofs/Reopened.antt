@@ -6,17 +6,17 @@ use Rattle.std.specs.declared.alloc.Global.{Global}
 use Rattle.par2_spec.specs.Folders.{Folder, fingerprint}
 use Rattle.par2_spec.specs.Changes.{Change, are_applicable, effects}
 use Rattle.par2_spec.specs.Sessions.{Session}
-use Rattle.par2_spec.specs.Journals.{Journal, Halfway, Spells}
-use Rattle.par2_spec.specs.Opening.{Opened, Settled, ToTakeBack, Started, Opens, OpensAs, is_valid, leads_through, new_session, opened, opened_at, opened_by, session_of, settled_journal, started, taken_back, TellsApart}
-use Rattle.par2_spec.specs.Stores.{Contents, journaled}
+use Rattle.par2_spec.specs.Journals.{Journal, HalfwayPart, Spells}
+use Rattle.par2_spec.specs.Opening.{Opened, Settled, Halfway, Started, Opens, OpensAs, is_valid, leads_through, new_session, opened, opened_if_found, opened_by_part, session_of, settled_journal, started, taken_back, TellsApart}
+use Rattle.par2_spec.specs.Stores.{Contents, with_journal}
 use Rattle.par2_spec.specs.declared.JournalFault.{JournalFault}
 use Rattle.par2_spec.specs.declared.JournalFault.TheVariants as fault
 use Rattle.par2_spec.specs.declared.JournalFault.TheVariants.{JournalInvalid, FolderChanged}
 use Rattle.par2_spec.specs.declared.Version.TheVariants.{Two}
 use Rattle.par2_spec.proofs.StopLaws.{settled_stored, still_stored, taken_back_leads}
-use Rattle.par2_tool.specs.Held.{Holds, IsOpening, OpensAsBefore, TellsApartBack, kept}
-use Rattle.par2_tool.specs.Opened.{IsRead, IsStillBegun, IsTakenBack, TakesBack}
-use Rattle.par2_tool.specs.Performed.{IsStoppedAt}
+use Rattle.par2_tool.specs.Holding.{Holds, IsOpening, OpensAsBefore, TellsApartBack, with_history}
+use Rattle.par2_tool.specs.Opening.{IsRead, IsStillHalfway, IsTakenBack, TakesBack}
+use Rattle.par2_tool.specs.Performing.{IsStoppedAt}
 use Rattle.par2_tool.proofs.Made.{all_changed_is}
 
 -- ---- what a folder opens as
@@ -36,18 +36,18 @@ settled_leads folder j s e = by_halfway j.halfway e
     by_print false h = let no : ⊥ = cc h in absurd no
     by_print true h = by_valid (is_valid (session_of folder j)) refl h
 
-    by_way : (b : Bool) (t : Session) (back : List Change) → (if b then Ok (ToTakeBack t back) else Err JournalInvalid) ≡ Ok (Settled s) → ⊥
+    by_way : (b : Bool) (t : Session) (back : List Change) → (if b then Ok (Halfway t back) else Err JournalInvalid) ≡ Ok (Settled s) → ⊥
     by_way false t back h = cc h
     by_way true t back h = cc h
 
-    by_place : (w : Halfway) (o : Option ℕ) → opened_at folder j w o ≡ Ok (Settled s) → ⊥
+    by_place : (w : HalfwayPart) (o : Option ℕ) → opened_if_found folder j w o ≡ Ok (Settled s) → ⊥
     by_place w None h = cc h
     by_place w (Some k) h =
         let back = drop (length w.back - k) w.back in
         let t = session_of (effects folder back) j in
         by_way (leads_through folder back (reverse (take k (j.fingerprint ∷ w.fingerprints))) && is_valid t) t back h
 
-    by_halfway : (o : Option Halfway) → opened_by folder j o ≡ Ok (Settled s) → (s.folder ≡ folder) × (is_valid s ≡ true)
+    by_halfway : (o : Option HalfwayPart) → opened_by_part folder j o ≡ Ok (Settled s) → (s.folder ≡ folder) × (is_valid s ≡ true)
     by_halfway None h = by_print (bytes_eq (fingerprint folder) j.fingerprint) h
     by_halfway (Some w) h = absurd (by_place w (position (bytes_eq (fingerprint folder)) (j.fingerprint ∷ w.fingerprints)) h)
 
@@ -58,10 +58,10 @@ settled_on folder text s (inl p) = settled_leads folder p.0 s (sym p.2)
 settled_on folder text s (inr p) = let no : ⊥ = cc p.1 in absurd no
 
 -- the journal of what is to be taken back
-pub begun_by : (folder : Folder) (text : List ℕ) (s : Session) (back : List Change) → Opens folder text (Ok (ToTakeBack s back)) → (j : Journal) × Spells text j × (opened folder j ≡ Ok (ToTakeBack s back))
+pub halfway_by : (folder : Folder) (text : List ℕ) (s : Session) (back : List Change) → Opens folder text (Ok (Halfway s back)) → (j : Journal) × Spells text j × (opened folder j ≡ Ok (Halfway s back))
 unfolding Opens
-begun_by folder text s back (inl p) = (p.0, p.1, sym p.2)
-begun_by folder text s back (inr p) = let no : ⊥ = cc p.1 in absurd no
+halfway_by folder text s back (inl p) = (p.0, p.1, sym p.2)
+halfway_by folder text s back (inr p) = let no : ⊥ = cc p.1 in absurd no
 
 -- ---- what a store opens as
 
@@ -82,66 +82,66 @@ opens_refused contents files text e named answer read (inr opens) same other is 
     opens_read contents files text (Err named) answer read (subst (λ f. Opens files text (Err f)) same opens) is
 
 -- without a journal a store opens as a new session
-pub opens_new : (contents : Contents) (s : Session) → contents.journal ≡ None → s ≡ new_session contents.files → IsOpening contents (Ok (kept s))
+pub opens_new : (contents : Contents) (s : Session) → contents.journal ≡ None → s ≡ new_session contents.files → IsOpening contents (Ok (with_history s))
 unfolding OpensAs
-opens_new contents s none is = subst (λ j. OpensAs contents.files j (Ok (kept s))) (sym none) (ap (λ t. Ok (kept t)) is)
+opens_new contents s none is = subst (λ j. OpensAs contents.files j (Ok (with_history s))) (sym none) (ap (λ t. Ok (with_history t)) is)
 
--- where no command was begun, the store that was read holds the session
-pub holds_settled : (contents : Contents) (files : Folder) (text : List ℕ) (s : Session) → IsRead contents files text → Opens files text (Ok (Settled s)) → Holds contents (kept s)
+-- where no command is halfway, the store that was read holds the session
+pub holds_settled : (contents : Contents) (files : Folder) (text : List ℕ) (s : Session) → IsRead contents files text → Opens files text (Ok (Settled s)) → Holds contents (with_history s)
 holds_settled contents files text s read opens = record {
   files = ap (λ (k : Contents). k.files) read ∙ sym (settled_on files text s opens).0;
-  opens = opens_read contents files text (Ok (Settled s)) (Ok (kept s)) read opens refl;
+  opens = opens_read contents files text (Ok (Settled s)) (Ok (with_history s)) read opens refl;
 }
 
 -- ---- what is taken back
 
 -- the store holds the session once the changes are made and its journal is put
-pub holds_taken_back : (old new : Contents) (files : Folder) (text : List ℕ) (s : Session) (back : List Change) → IsRead old files text → Opens files text (Ok (ToTakeBack s back)) → IsTakenBack s back old new → Holds new (kept s)
+pub holds_taken_back : (old new : Contents) (files : Folder) (text : List ℕ) (s : Session) (back : List Change) → IsRead old files text → Opens files text (Ok (Halfway s back)) → IsTakenBack s back old new → Holds new (with_history s)
 holds_taken_back old new files text s back read opens done =
-    let by = begun_by files text s back opens in
+    let by = halfway_by files text s back opens in
     let leads = taken_back_leads by.0 files s back by.2 in
     let home : effects old.files back ≡ s.folder = ap (λ (k : Contents). effects k.files back) read ∙ leads.1 in
     let is : new ≡ record { files = s.folder; journal = Some done.0 } =
-    done.2 ∙ ap (λ k. journaled k done.0) (all_changed_is old back) ∙ ap (λ f. record { files = f; journal = Some done.0 }) home in
-    subst (λ k. Holds k (kept s)) (sym is) (record { files = refl; opens = settled_stored Two s done.0 leads.2 done.1 })
+    done.2 ∙ ap (λ k. with_journal k done.0) (all_changed_is old back) ∙ ap (λ f. record { files = f; journal = Some done.0 }) home in
+    subst (λ k. Holds k (with_history s)) (sym is) (record { files = refl; opens = settled_stored Two s done.0 leads.2 done.1 })
 
-pub takes_back : (old new : Contents) (files : Folder) (text : List ℕ) (s : Session) (back : List Change) → IsRead old files text → Opens files text (Ok (ToTakeBack s back)) → IsTakenBack s back old new → TakesBack old new
+pub takes_back : (old new : Contents) (files : Folder) (text : List ℕ) (s : Session) (back : List Change) → IsRead old files text → Opens files text (Ok (Halfway s back)) → IsTakenBack s back old new → TakesBack old new
 takes_back old new files text s back read opens done = record {
   text = text;
   session = s;
   back = back;
   journal = ap (λ (k : Contents). k.journal) read;
-  begun = subst (λ f. Opens f text (Ok (ToTakeBack s back))) (sym (ap (λ (k : Contents). k.files) read)) opens;
+  halfway = subst (λ f. Opens f text (Ok (Halfway s back))) (sym (ap (λ (k : Contents). k.files) read)) opens;
   taken = done;
 }
 
 -- the changes of the way back can be made one after the other
-pub way_applies : (contents : Contents) (files : Folder) (text : List ℕ) (s : Session) (back : List Change) → IsRead contents files text → Opens files text (Ok (ToTakeBack s back)) → IsTrue (are_applicable contents.files back)
+pub way_applies : (contents : Contents) (files : Folder) (text : List ℕ) (s : Session) (back : List Change) → IsRead contents files text → Opens files text (Ok (Halfway s back)) → IsTrue (are_applicable contents.files back)
 way_applies contents files text s back read opens =
-    let by = begun_by files text s back opens in
+    let by = halfway_by files text s back opens in
     subst (λ (f : Folder). IsTrue (are_applicable f back)) (sym (ap (λ (k : Contents). k.files) read)) (taken_back_leads by.0 files s back by.2).0
 
 -- wherever that stops, the store opens as it did
-pub opens_still : (old new : Contents) (files : Folder) (text : List ℕ) (s : Session) (back : List Change) → IsRead old files text → Opens files text (Ok (ToTakeBack s back)) → TellsApartBack old → IsStillBegun s back old new → OpensAsBefore old new
-opens_still old new files text s back read opens apart stop = inr (kept s, opens_read old files text (Ok (ToTakeBack s back)) (Ok (kept s)) read opens refl, by_stop stop)
+pub opens_still : (old new : Contents) (files : Folder) (text : List ℕ) (s : Session) (back : List Change) → IsRead old files text → Opens files text (Ok (Halfway s back)) → TellsApartBack old → IsStillHalfway s back old new → OpensAsBefore old new
+opens_still old new files text s back read opens apart stop = inr (with_history s, opens_read old files text (Ok (Halfway s back)) (Ok (with_history s)) read opens refl, by_stop stop)
   where
-    by_stop : IsStillBegun s back old new → IsOpening new (Ok (kept s))
+    by_stop : IsStillHalfway s back old new → IsOpening new (Ok (with_history s))
     by_stop (inr done) = (holds_taken_back old new files text s back read opens done).opens
     by_stop (inl some) =
         let n = some.0 in
-        let by = begun_by files text s back opens in
+        let by = halfway_by files text s back opens in
         let at = ap (λ (k : Contents). k.files) read in
         let apart_from : TellsApart files back =
-        subst (λ f. TellsApart f back) at (apart text s back (ap (λ (k : Contents). k.journal) read) (subst (λ f. Opens f text (Ok (ToTakeBack s back))) (sym at) opens)) in
+        subst (λ f. TellsApart f back) at (apart text s back (ap (λ (k : Contents). k.journal) read) (subst (λ f. Opens f text (Ok (Halfway s back))) (sym at) opens)) in
         let is : new ≡ record { files = effects files (take n back); journal = Some text } =
         some.2 ∙ all_changed_is old (take n back) ∙ ap (λ (k : Contents). record { files = effects k.files (take n back); journal = k.journal }) read in
-        subst (λ k. IsOpening k (Ok (kept s))) (sym is) (still_stored by.0 files s back n text by.1 by.2 apart_from some.1)
+        subst (λ k. IsOpening k (Ok (with_history s))) (sym is) (still_stored by.0 files s back n text by.1 by.2 apart_from some.1)
 
 -- a stop on the way back: before the changes, behind some of them, or with everything done
-pub still_begun : (old new : Contents) (s : Session) (back : List Change) (after : Vec ℕ Global) → Spells after.items (settled_journal Two s) → IsStoppedAt old (record { halfway = None; after = after }) back new → IsStillBegun s back old new
-still_begun old new s back after spells (inl same) = inl (0, omega arith, same)
-still_begun old new s back after spells (inr (inl some)) = inl some
-still_begun old new s back after spells (inr (inr all)) = inr (after.items, spells, all)
+pub still_halfway : (old new : Contents) (s : Session) (back : List Change) (after : Vec ℕ Global) → Spells after.items (settled_journal Two s) → IsStoppedAt old (record { halfway = None; after = after }) back new → IsStillHalfway s back old new
+still_halfway old new s back after spells (inl same) = inl (0, omega arith, same)
+still_halfway old new s back after spells (inr (inl some)) = inl some
+still_halfway old new s back after spells (inr (inr all)) = inr (after.items, spells, all)
 
 -- what holds in any case holds after a refusal
 pub any_err : {T E : Type 0} (r : Result T E) (P : Type 0) → P → OnErr r P

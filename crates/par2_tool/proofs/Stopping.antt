@@ -9,18 +9,18 @@ use Rattle.par2_spec.specs.Folders.{Folder}
 use Rattle.par2_spec.specs.Journals.{Spells}
 use Rattle.par2_spec.specs.Opening.{OpensAs, TellsApart, halfway_where, journals_of, settled_journal}
 use Rattle.par2_spec.specs.Sessions.{Session, KeptSession, CanWalk, OnlyGrew, session_of_kept, changes_asked, kept_done, kept_undone, kept_redone}
-use Rattle.par2_spec.specs.Stores.{Contents, journaled}
+use Rattle.par2_spec.specs.Stores.{Contents, with_journal}
 use Rattle.par2_spec.specs.declared.Version.TheVariants.{Two}
 use Rattle.par2_spec.proofs.FolderLaws.{state_files, taken_are_applicable}
 use Rattle.par2_spec.proofs.SessionLaws.{done_can_walk, undone_can_walk, redone_can_walk, grown_can_walk, walked_is_valid}
 use Rattle.par2_spec.proofs.StopLaws.{settled_stored, halfway_stored}
-use Rattle.par2_journal.specs.Ready.{Kind, Changing, Undoing, Redoing, Ready, CanBe, IsReady, changes_of, committed, next_of}
-use Rattle.par2_journal.specs.Written.{SpellsWhere, AreSpelled}
+use Rattle.par2_journal.specs.Ready.{Kind, Changing, Undoing, Redoing, Ready, CanBe, IsReady, changes_by_kind, after_commit, next_of}
+use Rattle.par2_journal.specs.Spelling.{SpellsWhere, AreSpelled}
 use Rattle.par2_journal.specs.declared.spelling.Journals.{Journals}
 use Rattle.par2_journal.proofs.Acting.{same_session}
 use Rattle.par2_journal.proofs.Spelled.{asked_session, kind_taken}
-use Rattle.par2_tool.specs.Performed.{all_changed, begun, written_down, IsStoppedAt}
-use Rattle.par2_tool.specs.Held.{IsOpening, Holds, HasJournalOf, kept, TellsApartAlong, OpensAsBeforeOrAfter}
+use Rattle.par2_tool.specs.Performing.{with_all_changes, with_halfway, after_write_down, IsStoppedAt}
+use Rattle.par2_tool.specs.Holding.{IsOpening, Holds, HasJournalOf, with_history, TellsApartAlong, OpensAsBeforeOrAfter}
 use Rattle.par2_tool.proofs.Made.{all_changed_is, same_changes}
 
 -- ---- the session afterwards
@@ -33,12 +33,12 @@ redone_walks : (s : KeptSession) (entries : List (List Change)) → s.redos ≡ 
 redone_walks s [] e some walks = absurd (some refl)
 redone_walks s (cs ∷ rest) e some walks = redone_can_walk s cs rest walks e
 
-committed_walks : (kind : Kind) (s : KeptSession) → CanWalk s → CanBe kind s → CanWalk (committed kind s)
+committed_walks : (kind : Kind) (s : KeptSession) → CanWalk s → CanBe kind s → CanWalk (after_commit kind s)
 committed_walks (Changing cs) s walks can = done_can_walk s cs walks can.0
 committed_walks Undoing s walks can = undone_walks s s.undos refl can walks
 committed_walks Redoing s walks can = redone_walks s s.redos refl can walks
 
-committed_files : (kind : Kind) (s : KeptSession) → (committed kind s).folder.files ≡ effects s.folder.files (changes_of kind s)
+committed_files : (kind : Kind) (s : KeptSession) → (after_commit kind s).folder.files ≡ effects s.folder.files (changes_by_kind kind s)
 unfolding kept_done kept_undone kept_redone
 committed_files (Changing cs) s = state_files s.folder cs
 committed_files Undoing s = state_files s.folder (next_of s.undos)
@@ -46,12 +46,12 @@ committed_files Redoing s = state_files s.folder (next_of s.redos)
 
 -- ---- the contents
 
-begun_files : (k : Contents) (halfway : Option (Vec ℕ Global)) → (begun k halfway).files ≡ k.files
-begun_files k None = refl
-begun_files k (Some text) = refl
+halfway_files : (k : Contents) (halfway : Option (Vec ℕ Global)) → (with_halfway k halfway).files ≡ k.files
+halfway_files k None = refl
+halfway_files k (Some text) = refl
 
-changed_files : (k : Contents) (halfway : Option (Vec ℕ Global)) (cs : List Change) → (all_changed (begun k halfway) cs).files ≡ effects k.files cs
-changed_files k halfway cs = ap (λ (x : Contents). x.files) (all_changed_is (begun k halfway) cs) ∙ ap (λ f. effects f cs) (begun_files k halfway)
+changed_files : (k : Contents) (halfway : Option (Vec ℕ Global)) (cs : List Change) → (with_all_changes (with_halfway k halfway) cs).files ≡ effects k.files cs
+changed_files k halfway cs = ap (λ (x : Contents). x.files) (all_changed_is (with_halfway k halfway) cs) ∙ ap (λ f. effects f cs) (halfway_files k halfway)
 
 -- however far it came, some of the changes are made
 in_order : (k : Contents) (journals : Journals) (cs : List Change) (new : Contents) → IsStoppedAt k journals cs new → (n : ℕ) × (new.files ≡ effects k.files (take n cs))
@@ -67,77 +67,77 @@ none_made folder (Ok cs) = (0, refl)
 none_made folder (Err fault) = tt
 
 -- the session's journal opens its folder as the session
-pub settled_holds : (k : Contents) (s : KeptSession) (text : List ℕ) → CanWalk s → Spells text (settled_journal Two (session_of_kept s)) → k.files ≡ s.folder.files → Holds (journaled k text) (kept (session_of_kept s))
+pub settled_holds : (k : Contents) (s : KeptSession) (text : List ℕ) → CanWalk s → Spells text (settled_journal Two (session_of_kept s)) → k.files ≡ s.folder.files → Holds (with_journal k text) (with_history (session_of_kept s))
 settled_holds k s text walks spells files =
     record {
       files = files;
-      opens = subst (λ (f : Folder). OpensAs f (Some text) (Ok (kept (session_of_kept s)))) (sym files) (settled_stored Two (session_of_kept s) text (walked_is_valid s walks) spells);
+      opens = subst (λ (f : Folder). OpensAs f (Some text) (Ok (with_history (session_of_kept s)))) (sym files) (settled_stored Two (session_of_kept s) text (walked_is_valid s walks) spells);
     }
 
 -- what was made ready applies the changes that the action asks for
-asked_of_mid : (old mid : KeptSession) (action : Action) (ready : Ready) → OnlyGrew old mid → IsReady action old ready mid → changes_asked (session_of_kept old) action ≡ Ok (changes_of ready.kind mid)
+asked_of_mid : (old mid : KeptSession) (action : Action) (ready : Ready) → OnlyGrew old mid → IsReady action old ready mid → changes_asked (session_of_kept old) action ≡ Ok (changes_by_kind ready.kind mid)
 asked_of_mid old mid action ready grew is = is.asked ∙ ap Ok (same_changes old mid ready.kind grew)
 
-pub asked_in_order : (old mid : KeptSession) (action : Action) (ready : Ready) → OnlyGrew old mid → IsReady action old ready mid → (k : Contents) (journals : Journals) (new : Contents) → IsStoppedAt k journals (changes_of ready.kind mid) new
+pub asked_in_order : (old mid : KeptSession) (action : Action) (ready : Ready) → OnlyGrew old mid → IsReady action old ready mid → (k : Contents) (journals : Journals) (new : Contents) → IsStoppedAt k journals (changes_by_kind ready.kind mid) new
     → IfOk (changes_asked (session_of_kept old) action) (λ changes. (n : ℕ) × (new.files ≡ effects k.files (take n changes)))
 asked_in_order old mid action ready grew is k journals new stop =
-    subst (λ r. IfOk r (λ changes. (n : ℕ) × (new.files ≡ effects k.files (take n changes)))) (sym (asked_of_mid old mid action ready grew is)) (in_order k journals (changes_of ready.kind mid) new stop)
+    subst (λ r. IfOk r (λ changes. (n : ℕ) × (new.files ≡ effects k.files (take n changes)))) (sym (asked_of_mid old mid action ready grew is)) (in_order k journals (changes_by_kind ready.kind mid) new stop)
 
 -- the last journal is that of the session afterwards
-after_spelled : (old mid : KeptSession) (action : Action) (ready : Ready) → OnlyGrew old mid → IsReady action old ready mid → (journals : Journals) → AreSpelled journals (journals_of Two (session_of_kept mid) action (changes_of ready.kind mid))
-    → Spells journals.after.items (settled_journal Two (session_of_kept (committed ready.kind mid)))
+after_spelled : (old mid : KeptSession) (action : Action) (ready : Ready) → OnlyGrew old mid → IsReady action old ready mid → (journals : Journals) → AreSpelled journals (journals_of Two (session_of_kept mid) action (changes_by_kind ready.kind mid))
+    → Spells journals.after.items (settled_journal Two (session_of_kept (after_commit ready.kind mid)))
 unfolding journals_of
 after_spelled old mid action ready grew is journals spelled = subst (λ (s : Session). Spells journals.after.items (settled_journal Two s)) (sym (asked_session action old mid ready grew is)) spelled.1
 
-pub written_journal : (old mid : KeptSession) (action : Action) (ready : Ready) → OnlyGrew old mid → IsReady action old ready mid → (journals : Journals) → AreSpelled journals (journals_of Two (session_of_kept mid) action (changes_of ready.kind mid))
-    → (k : Contents) → HasJournalOf (session_of_kept (committed ready.kind mid)) (written_down k journals (changes_of ready.kind mid))
+pub written_journal : (old mid : KeptSession) (action : Action) (ready : Ready) → OnlyGrew old mid → IsReady action old ready mid → (journals : Journals) → AreSpelled journals (journals_of Two (session_of_kept mid) action (changes_by_kind ready.kind mid))
+    → (k : Contents) → HasJournalOf (session_of_kept (after_commit ready.kind mid)) (after_write_down k journals (changes_by_kind ready.kind mid))
 written_journal old mid action ready grew is journals spelled k = (journals.after.items, refl, after_spelled old mid action ready grew is journals spelled)
 
 -- what was made ready can be applied to a store with the session's folder
-pub ready_applies : (old mid : KeptSession) (ready : Ready) → OnlyGrew old mid → CanWalk old → CanBe ready.kind mid → (k : Contents) → k.files ≡ old.folder.files → (cs : List Change) → cs ≡ changes_of ready.kind mid → IsTrue (are_applicable k.files cs)
+pub ready_applies : (old mid : KeptSession) (ready : Ready) → OnlyGrew old mid → CanWalk old → CanBe ready.kind mid → (k : Contents) → k.files ≡ old.folder.files → (cs : List Change) → cs ≡ changes_by_kind ready.kind mid → IsTrue (are_applicable k.files cs)
 ready_applies old mid ready grew walks can k files cs is =
     let taken = kind_taken ready.kind mid (grown_can_walk old mid walks grew) can in
     subst (λ f. IsTrue (are_applicable f cs)) (grew.files ∙ sym files) (subst (λ l. IsTrue (are_applicable mid.folder.files l)) (sym is) (taken_are_applicable mid.folder _ taken))
 
 module _ (old mid : KeptSession) (action : Action) (ready : Ready) (grew : OnlyGrew old mid) (is : IsReady action old ready mid) (walks : CanWalk old) (journals : Journals)
-    (spelled : AreSpelled journals (journals_of Two (session_of_kept mid) action (changes_of ready.kind mid))) (k : Contents) (files : k.files ≡ old.folder.files) where
+    (spelled : AreSpelled journals (journals_of Two (session_of_kept mid) action (changes_by_kind ready.kind mid))) (k : Contents) (files : k.files ≡ old.folder.files) where
   cs : List Change
-  cs = changes_of ready.kind mid
+  cs = changes_by_kind ready.kind mid
 
   mid_walks : CanWalk mid
   mid_walks = grown_can_walk old mid walks grew
 
-  halfway_spelled : SpellsWhere journals.halfway (halfway_where Two (session_of_kept mid) (changes_of ready.kind mid))
+  halfway_spelled : SpellsWhere journals.halfway (halfway_where Two (session_of_kept mid) (changes_by_kind ready.kind mid))
   unfolding journals_of
   halfway_spelled = spelled.0
 
-  pub written_holds : Holds (written_down k journals (changes_of ready.kind mid)) (kept (session_of_kept (committed ready.kind mid)))
+  pub written_holds : Holds (after_write_down k journals (changes_by_kind ready.kind mid)) (with_history (session_of_kept (after_commit ready.kind mid)))
   written_holds =
-      settled_holds (all_changed (begun k journals.halfway) (changes_of ready.kind mid)) (committed ready.kind mid) journals.after.items (committed_walks ready.kind mid mid_walks is.fits.can) (after_spelled old mid action ready grew is journals spelled)
-      (changed_files k journals.halfway (changes_of ready.kind mid) ∙ ap (λ f. effects f (changes_of ready.kind mid)) (files ∙ sym grew.files) ∙ sym (committed_files ready.kind mid))
+      settled_holds (with_all_changes (with_halfway k journals.halfway) (changes_by_kind ready.kind mid)) (after_commit ready.kind mid) journals.after.items (committed_walks ready.kind mid mid_walks is.fits.can) (after_spelled old mid action ready grew is journals spelled)
+      (changed_files k journals.halfway (changes_by_kind ready.kind mid) ∙ ap (λ f. effects f (changes_by_kind ready.kind mid)) (files ∙ sym grew.files) ∙ sym (committed_files ready.kind mid))
 
   -- behind some of the changes
   passed_opens : (halfway : Option (Vec ℕ Global)) (changes : List Change) (n : ℕ) → SpellsWhere halfway (halfway_where Two (session_of_kept mid) changes) → takes_all mid.folder changes ≡ true → TellsApart mid.folder.files changes → n ≤ length changes
-      → (all_changed (begun k halfway) (take n changes) ≡ k) ⊎ IsOpening (all_changed (begun k halfway) (take n changes)) (Ok (kept (session_of_kept mid)))
-  passed_opens None [] n spells taken apart le = inl (ap (all_changed k) (take_all n [] (omega arith)))
+      → (with_all_changes (with_halfway k halfway) (take n changes) ≡ k) ⊎ IsOpening (with_all_changes (with_halfway k halfway) (take n changes)) (Ok (with_history (session_of_kept mid)))
+  passed_opens None [] n spells taken apart le = inl (ap (with_all_changes k) (take_all n [] (omega arith)))
   passed_opens None (c ∷ rest) n spells taken apart le = absurd spells
   passed_opens (Some text) [] n spells taken apart le = absurd spells
   passed_opens (Some text) (c ∷ rest) n spells taken apart le =
       let s = session_of_kept mid in
       let opens = halfway_stored Two s (c ∷ rest) n text.items (walked_is_valid mid mid_walks) (taken_are_applicable mid.folder (c ∷ rest) taken) apart le spells in
-      let is_there = all_changed_is (journaled k text.items) (take n (c ∷ rest)) ∙ ap (λ f. record { files = effects f (take n (c ∷ rest)); journal = Some text.items }) (files ∙ sym grew.files) in
-      inr (subst (λ (x : Contents). IsOpening x (Ok (kept s))) (sym is_there) opens)
+      let is_there = all_changed_is (with_journal k text.items) (take n (c ∷ rest)) ∙ ap (λ f. record { files = effects f (take n (c ∷ rest)); journal = Some text.items }) (files ∙ sym grew.files) in
+      inr (subst (λ (x : Contents). IsOpening x (Ok (with_history s))) (sym is_there) opens)
 
-  apart_from_mid : TellsApartAlong (session_of_kept old) action → TellsApart mid.folder.files (changes_of ready.kind mid)
+  apart_from_mid : TellsApartAlong (session_of_kept old) action → TellsApart mid.folder.files (changes_by_kind ready.kind mid)
   apart_from_mid apart =
-      subst (λ (f : Folder). TellsApart f (changes_of ready.kind mid)) (sym grew.files) (subst (λ r. IfOk r (TellsApart old.folder.files)) (asked_of_mid old mid action ready grew is) apart)
+      subst (λ (f : Folder). TellsApart f (changes_by_kind ready.kind mid)) (sym grew.files) (subst (λ r. IfOk r (TellsApart old.folder.files)) (asked_of_mid old mid action ready grew is) apart)
 
-  pub stopped_opens : (new : Contents) → IsStoppedAt k journals (changes_of ready.kind mid) new → TellsApartAlong (session_of_kept old) action → OpensAsBeforeOrAfter (session_of_kept old) action k new
+  pub stopped_opens : (new : Contents) → IsStoppedAt k journals (changes_by_kind ready.kind mid) new → TellsApartAlong (session_of_kept old) action → OpensAsBeforeOrAfter (session_of_kept old) action k new
   stopped_opens new (inl e) apart = inl e
   stopped_opens new (inr (inl s)) apart =
-      elim (passed_opens journals.halfway (changes_of ready.kind mid) s.0 halfway_spelled (kind_taken ready.kind mid mid_walks is.fits.can) (apart_from_mid apart) s.1) as (λ _. OpensAsBeforeOrAfter (session_of_kept old) action k new) [
+      elim (passed_opens journals.halfway (changes_by_kind ready.kind mid) s.0 halfway_spelled (kind_taken ready.kind mid mid_walks is.fits.can) (apart_from_mid apart) s.1) as (λ _. OpensAsBeforeOrAfter (session_of_kept old) action k new) [
         | inl none ↦ inl (s.2 ∙ none)
-        | inr opens ↦ inr (inl (subst (λ (t : Session). IsOpening new (Ok (kept t))) (same_session old mid grew) (subst (λ (x : Contents). IsOpening x (Ok (kept (session_of_kept mid)))) (sym s.2) opens)))
+        | inr opens ↦ inr (inl (subst (λ (t : Session). IsOpening new (Ok (with_history t))) (same_session old mid grew) (subst (λ (x : Contents). IsOpening x (Ok (with_history (session_of_kept mid)))) (sym s.2) opens)))
       ]
   stopped_opens new (inr (inr e)) apart =
-      inr (inr (session_of_kept (committed ready.kind mid), is.leads, subst (λ (x : Contents). Holds x (kept (session_of_kept (committed ready.kind mid)))) (sym e) written_holds))
+      inr (inr (session_of_kept (after_commit ready.kind mid), is.leads, subst (λ (x : Contents). Holds x (with_history (session_of_kept (after_commit ready.kind mid)))) (sym e) written_holds))

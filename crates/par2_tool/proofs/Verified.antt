@@ -5,21 +5,21 @@ use Rattle.par2_spec.specs.Commands.{Do, Verify}
 use Rattle.par2_spec.specs.Folders.{Folder}
 use Rattle.par2_spec.specs.Stores.{Contents}
 use Rattle.par2_spec.specs.Views.{action_of}
-use Rattle.par2_spec.specs.declared.asked.Action.{Action}
-use Rattle.par2_spec.specs.declared.asked.Action.TheVariants as given
+use Rattle.par2_spec.specs.declared.commands.Action.{Action}
+use Rattle.par2_spec.specs.declared.commands.Action.TheVariants as given
 use Rattle.par2_spec.specs.Plans.{changes_of}
 use Rattle.par2_spec.specs.Refusals.{refusal, set_in}
 use Rattle.par2_spec.specs.Reports.{Report, report_in, report_of}
 use Rattle.par2_spec.specs.Search.{candidates}
 use Rattle.par2_spec.specs.Sets.{ParSet, ◌>>=◌}
 use Rattle.par2_spec.specs.Faults.{fault_of}
-use Rattle.par2_spec.specs.Sessions.{Session, KeptSession, OnlyGrew, session_after, changes_asked, applied, planned}
+use Rattle.par2_spec.specs.Sessions.{Session, KeptSession, OnlyGrew, session_after, changes_asked, session_unless, changes_unless}
 use Rattle.par2_spec.specs.declared.Fault.{Fault}
 use Rattle.par2_spec.specs.declared.Fault.TheVariants.{Memory}
 use Rattle.par2_spec.proofs.NamesLaws.{false_true}
-use Rattle.par2_journal.specs.Faulted.{MayRefuse}
+use Rattle.par2_journal.specs.Refusals.{MayRefuse}
 use Rattle.par2_journal.specs.declared.prepared.SessionFault.TheVariants.{Plan}
-use Rattle.par2_tool.specs.Performed.{HoldsJournaled, IsWritten}
+use Rattle.par2_tool.specs.Performing.{HoldsJournaled, IsWritten}
 
 module _ (folder : Folder) (base : List ℕ) (extras : List (List ℕ)) where
   answer_of : Result ParSet Fault → Result Report Fault
@@ -47,13 +47,13 @@ module _ (folder : Folder) (base : List ℕ) (extras : List (List ℕ)) where
 pub verify_refused : (s : KeptSession) (base : List ℕ) (extras : List (List ℕ)) (fault : Fault) → (fault ≡ Memory) ⊎ (report_in s.folder.files base extras ≡ Err fault) → MayRefuse (Do (Verify base extras)) s (Plan fault)
 unfolding changes_asked
 verify_refused s base extras fault (inl memory) = inl (ap Plan memory)
-verify_refused s base extras fault (inr e) = inr (ap (λ o. planned o (changes_of s.folder.files (Verify base extras))) (refused s.folder.files base extras fault e))
+verify_refused s base extras fault (inr e) = inr (ap (λ o. changes_unless o (changes_of s.folder.files (Verify base extras))) (refused s.folder.files base extras fault e))
 
 -- the session stays
 pub verify_leaves : (s : Session) (base : List ℕ) (extras : List (List ℕ)) (report : Report) → report_in s.folder base extras ≡ Ok report → session_after s (Do (Verify base extras)) ≡ Ok s
 unfolding session_after changes_asked
 verify_leaves s base extras report e =
-    ap (λ o. applied s (Do (Verify base extras)) (planned o (changes_of s.folder (Verify base extras)))) (accepted s.folder base extras report e)
+    ap (λ o. session_unless s (Do (Verify base extras)) (changes_unless o (changes_of s.folder (Verify base extras)))) (accepted s.folder base extras report e)
 
 pub as_it_was : (s : KeptSession) → OnlyGrew s s
 as_it_was s = record { files = refl; undos = refl; redos = refl; vacant = omega arith; room = omega arith }

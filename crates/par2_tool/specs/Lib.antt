@@ -1,7 +1,7 @@
-pub mod Performed
-pub mod Held
-pub mod Opened
-pub mod Refused
-pub mod Asked
-pub mod Told
+pub mod Performing
+pub mod Holding
+pub mod Opening
+pub mod Refusals
+pub mod Asking
+pub mod Telling
 pub mod Runs

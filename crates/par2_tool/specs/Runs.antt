@@ -4,7 +4,7 @@ use Rattle.par2_spec.specs.Commands.{Action}
 use Rattle.par2_spec.specs.History as history
 use Rattle.par2_spec.specs.Stores.{Contents}
 use Rattle.par2_spec.specs.Texts.{Outcome}
-use Rattle.par2_tool.specs.Told.{IsDone, IsRefusedFor}
+use Rattle.par2_tool.specs.Telling.{IsDone, IsRefusedFor}
 
 -- runs of these actions lead from the one contents to the other, each accepted or refused; n are accepted
 pub data Runs : Contents → List Action → ℕ → Contents → Type 0 where

@@ -5,7 +5,7 @@ ghost use Rattle.par2_spec.specs.History.{Run};
 ghost use Rattle.par2_spec.specs.Opening.{Started};
 ghost use Rattle.par2_spec.specs.Sessions.{history_of};
 ghost use Rattle.par2_spec.specs.Stores.{Contents};
-ghost use Rattle.par2_tool.specs.Held.{Holds};
+ghost use Rattle.par2_tool.specs.Holding.{Holds};
 ghost use Rattle.par2_tool.specs.Runs.{Runs};
 
 /// Runs on one store, each of which opens it anew, go through the history that one lasting session would have, and the

@@ -1,12 +1,12 @@
 //! A store is opened as a session.
 ghost use Rattle.std.specs.Prelude.{◌≡◌, ◌<◌, ◌≤◌, IfOk, IfErr, OnErr, IsErrOf, IsTrue, OnOk, Ok};
-ghost use Rattle.par2_journal.specs.Opened.{session_before, way_left};
+ghost use Rattle.par2_journal.specs.Opening.{session_before, way_left};
 ghost use Rattle.par2_spec.specs.Changes.{are_applicable};
 ghost use Rattle.par2_spec.specs.Sessions.{session_of_kept};
-ghost use Rattle.par2_tool.specs.Held.{kept, IsOpening, Holds, OpensAsBefore, TellsApartBack};
+ghost use Rattle.par2_tool.specs.Holding.{with_history, IsOpening, Holds, OpensAsBefore, TellsApartBack};
 ghost use Rattle.par2_spec.specs.Opening.{Started as Opening, new_session};
 ghost use Rattle.par2_spec.specs.Views.{command_of};
-ghost use Rattle.par2_tool.specs.Opened.{started_of, unread_as, IsCounted, IsOpened, IsRead, IsUnopened, IsTakenBack, IsStillBegun, OnlyTakesBack, StandsFor};
+ghost use Rattle.par2_tool.specs.Opening.{started_of, unread_as, IsCounted, IsOpened, IsRead, IsUnopened, IsTakenBack, IsStillHalfway, OnlyTakesBack, StandsFor};
 
 use crate::writing::write_down;
 use par2_folder::{Folder, FolderStore, ReadFault, read_folder};
@@ -32,14 +32,14 @@ pub enum OpenFault {
     Memory,
     #[error("the journal is not valid")]
     JournalInvalid,
-    /// A command was begun in another folder than this one, so that it can't be taken back.
+    /// A command was left halfway in another folder than this one, so that it can't be taken back.
     #[error("the folder is not as the journal left it")]
     FolderChanged,
 }
 
 // A store that opens on this folder without a history.
 fn without_history(alloc: Global, folder: Folder) -> Started
-    ensures { started_of result ≡ kept (new_session folder.files) }
+    ensures { started_of result ≡ with_history (new_session folder.files) }
 {
     Started {
         session: Session::new(alloc, folder),
@@ -57,7 +57,7 @@ fn unread(fault: ReadFault) -> OpenFault
     }
 }
 
-// Takes a begun command back in the store, and settles its journal.
+// Takes a halfway command back in the store, and settles its journal.
 fn take_back<S: FolderStore>(
     alloc: Global,
     store: &mut S,
@@ -68,7 +68,7 @@ fn take_back<S: FolderStore>(
     ensures done { S.honest store.old → OnOk result (IsTakenBack
         (session_of_kept (session_before halfway)) (way_left halfway)
         (S.contents store.old) (S.contents store.new)) }
-    ensures stopped { S.honest store.old → OnErr result (IsStillBegun
+    ensures stopped { S.honest store.old → OnErr result (IsStillHalfway
         (session_of_kept (session_before halfway)) (way_left halfway)
         (S.contents store.old) (S.contents store.new)) }
     ensures memory { IsErrOf result OpenFault.Memory
@@ -126,7 +126,7 @@ fn open_with<S: FolderStore>(
             session,
             dropped: false,
         }),
-        Ok(Opened::Begun(halfway)) => {
+        Ok(Opened::Halfway(halfway)) => {
             let session = take_back(alloc, store, halfway)?;
             Ok(Started {
                 session,
@@ -143,7 +143,7 @@ fn open_with<S: FolderStore>(
     }
 }
 
-/// Opens a store as a session: its names, files and journal are read, and a command that was begun is taken back.
+/// Opens a store as a session: its names, files and journal are read, and a halfway command is taken back.
 /// Where the folder isn't as the journal of a finished command left it, the session is a new one. Nothing else is done
 /// to the store. After Store and Memory it opens as it did.
 pub fn open_store<S: FolderStore>(alloc: Global, store: &mut S) -> Result<Started, OpenFault>

@@ -1,12 +1,12 @@
 //! A command is performed on a store and its session.
 ghost use Rattle.std.specs.Prelude.{◌≡◌, ◌<◌, ◌≤◌, [], Ok, IfOk, IfErr, IsErrOf, OnOk, OnErr};
 ghost use Rattle.par2_spec.specs.Commands.{Undo, Redo};
-ghost use Rattle.par2_spec.specs.Rules.{LeadsToAfterAsked};
+ghost use Rattle.par2_spec.specs.Plans.{LeadsToAfterAsked};
 ghost use Rattle.par2_spec.specs.Sessions.{session_of_kept, session_after, changes_asked};
 ghost use Rattle.par2_spec.specs.Views.{command_of};
-ghost use Rattle.par2_tool.specs.Held.{TellsApartAlong, OpensAsBeforeOrAfter};
-ghost use Rattle.par2_tool.specs.Performed.{outcome_of, AreSomeMade, IsAnswer, IsVerify, IsWritten};
-ghost use Rattle.par2_tool.specs.Refused.{IsRefused, IsSession};
+ghost use Rattle.par2_tool.specs.Holding.{TellsApartAlong, OpensAsBeforeOrAfter};
+ghost use Rattle.par2_tool.specs.Performing.{outcome_of, AreSomeMade, IsAnswer, IsVerify, IsWritten};
+ghost use Rattle.par2_tool.specs.Refusals.{IsRefused, IsSession};
 
 use crate::writing::write_down;
 use par2_folder::FolderStore;

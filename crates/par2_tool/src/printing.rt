@@ -2,12 +2,12 @@
 ghost use Rattle.std.specs.Prelude.{◌≡◌, ◌++◌, map, flat_map};
 ghost use Rattle.par2_spec.specs.Texts.{done_text, note_text, step_line, target_line, report_text, output_of, error_of};
 ghost use Rattle.par2_spec.specs.Texts as texts;
-ghost use Rattle.par2_journal.specs.Stepped.{stepped};
+ghost use Rattle.par2_journal.specs.Steps.{step_view};
 ghost use Rattle.par2_plan.specs.Views.{state_of, target_report_of, report_of};
-ghost use Rattle.par2_printing.specs.Printed.{step_shown, state_shown, target_shown, words_given};
-ghost use Rattle.par2_printing.specs.Wrote.{Wrote};
-ghost use Rattle.par2_tool.specs.Performed.{outcome_of};
-ghost use Rattle.par2_tool.specs.Told.{Printed};
+ghost use Rattle.par2_printing.specs.Views.{step_shown, state_shown, target_shown, words_given};
+ghost use Rattle.par2_printing.specs.Writing.{Wrote};
+ghost use Rattle.par2_tool.specs.Performing.{outcome_of};
+ghost use Rattle.par2_tool.specs.Telling.{IsPrinted};
 
 use crate::performing::Outcome;
 use par2_journal::{Report, State, Step, TargetReport};
@@ -22,7 +22,7 @@ use std::io::Write;
 const WRITER_FAILED: u8 = 6;
 
 fn printed(step: &Step) -> PrintedStep<'_>
-    ensures { step_shown result ≡ stepped step.now }
+    ensures { step_shown result ≡ step_view step.now }
 {
     match step {
         Step::Write(name) => PrintedStep::Write(name.as_str()),
@@ -34,7 +34,7 @@ fn printed(step: &Step) -> PrintedStep<'_>
 
 fn write_steps<W: Write>(out: &mut Printer<W>, steps: &[Step]) -> Result<(), WriteFault>
     ensures { Wrote W.contents out.old out.new
-        (flat_map step_line (map stepped steps.now)) result }
+        (flat_map step_line (map step_view steps.now)) result }
 {
     for step in steps {
         write_step(out, printed(step))?;
@@ -44,7 +44,7 @@ fn write_steps<W: Write>(out: &mut Printer<W>, steps: &[Step]) -> Result<(), Wri
 
 fn write_all_done<W: Write>(out: &mut Printer<W>, steps: &[Step]) -> Result<(), WriteFault>
     ensures { Wrote W.contents out.old out.new
-        (done_text (map stepped steps.now)) result }
+        (done_text (map step_view steps.now)) result }
 {
     match write_steps(out, steps) {
         Ok(()) => write_done(out, steps.len()),
@@ -58,7 +58,7 @@ fn write_accepted<W: Write>(
     dropped: bool,
 ) -> Result<(), WriteFault>
     ensures { Wrote W.contents out.old out.new
-        (note_text dropped ++ done_text (map stepped steps.now)) result }
+        (note_text dropped ++ done_text (map step_view steps.now)) result }
 {
     match write_note(out, dropped) {
         Ok(()) => write_all_done(out, steps),
@@ -140,7 +140,7 @@ fn status_of(outcome: &Outcome) -> u8
 /// Prints what an accepted command answers on the output, steps below a note where the history was dropped, and
 /// answers the status.
 pub fn tell<W: Write>(out: &mut Printer<W>, outcome: &Outcome, dropped: bool) -> u8
-    ensures { Printed W.contents out.old out.new (output_of dropped (outcome_of outcome.now))
+    ensures { IsPrinted W.contents out.old out.new (output_of dropped (outcome_of outcome.now))
         (texts.status_of (outcome_of outcome.now)) result }
 {
     match write_outcome(out, outcome, dropped) {
@@ -186,7 +186,7 @@ fn status_of_failure(failure: Failure) -> u8
 
 /// Prints a failure on the error writer, and answers the status.
 pub fn fail<W: Write>(err: &mut Printer<W>, command: Option<&Command>, failure: Failure) -> u8
-    ensures { Printed W.contents err.old err.new
+    ensures { IsPrinted W.contents err.old err.new
         (error_of (words_given command.entry) failure) (texts.status_of_failure failure) result }
 {
     match write_failure(err, command, failure) {

@@ -2,9 +2,9 @@
 ghost use Rattle.std.specs.Prelude.{◌≡◌, ◌≤◌, Bool, IfOk, IfErr, OnOk, IsTrue, map, string_bytes};
 ghost use Rattle.par2_spec.specs.Sessions.{Session};
 ghost use Rattle.par2_spec.specs.Views.{command_of};
-ghost use Rattle.par2_tool.specs.Refused.{failed, unopened_as, unread_as};
-ghost use Rattle.par2_tool.specs.Performed.{outcome_of, IsAnswer};
-ghost use Rattle.par2_tool.specs.Told.{Told, IsBack, IsCause, IsDone, IsFailed, IsTold, Leaves, SameOutput, Shown};
+ghost use Rattle.par2_tool.specs.Refusals.{failure_for, unopened_as, unread_as};
+ghost use Rattle.par2_tool.specs.Performing.{outcome_of, IsAnswer};
+ghost use Rattle.par2_tool.specs.Telling.{Telling, IsBack, IsCause, IsDone, IsFailed, IsTold, Leaves, SameOutput, IsShown};
 
 use crate::opening::{OpenFault, Started, open_for};
 use crate::performing::{Outcome, PerformFault, perform};
@@ -36,7 +36,7 @@ fn unread(fault: WordsFault) -> Failure
 
 // Why a command failed.
 fn failure_of(fault: PerformFault) -> Failure
-    ensures { result ≡ failed fault }
+    ensures { result ≡ failure_for fault }
 {
     match fault {
         PerformFault::Session(SessionFault::Plan(fault)) => Failure::Refused(fault),
@@ -115,9 +115,9 @@ pub fn run<S: FolderStore, O: Write, E: Write>(
     err: &mut Printer<E>,
 ) -> u8
     ensures honest { S.honest store.old → S.honest store.new }
-    ensures told { (told : Told)
+    ensures told { (told : Telling)
         × IsTold (map string_bytes words.now) (S.failures store.old) (S.failures store.new) told
-        × Shown told O.contents out.old out.new E.contents err.old err.new result
+        × IsShown told O.contents out.old out.new E.contents err.old err.new result
         × (S.honest store.old → Leaves (map string_bytes words.now) told
         (S.contents store.old) (S.contents store.new)) }
     ensures later { S.failures store.old ≤ S.failures store.new }

@@ -1,9 +1,9 @@
 //! Changes are written down in a store, between two journals.
 ghost use Rattle.std.specs.Prelude.{◌≡◌, ◌⊎◌, ◌<◌, ◌≤◌, ℕ, map, length, take, OnOk, OnErr, IsTrue};
 ghost use Rattle.par2_spec.specs.Changes.{is_applicable, are_applicable};
-ghost use Rattle.par2_spec.specs.Stores.{changed};
+ghost use Rattle.par2_spec.specs.Stores.{with_change};
 ghost use Rattle.par2_folder.specs.Views.{change_of};
-ghost use Rattle.par2_tool.specs.Performed.{all_changed, begun, written_down, IsStoppedAt};
+ghost use Rattle.par2_tool.specs.Performing.{with_all_changes, with_halfway, after_write_down, IsStoppedAt};
 
 use par2_folder::{Change, FolderStore, StoreFault};
 use par2_journal::Journals;
@@ -13,10 +13,10 @@ use par2_journal::Journals;
 fn write_change<S: FolderStore>(store: &mut S, change: &Change) -> Result<(), StoreFault>
     ensures honest { S.honest store.old → S.honest store.new }
     ensures done { S.honest store.old → OnOk result (S.contents store.new
-        ≡ changed (S.contents store.old) (change_of change.now)) }
+        ≡ with_change (S.contents store.old) (change_of change.now)) }
     ensures stopped { S.honest store.old
         → OnErr result ((S.contents store.new ≡ S.contents store.old)
-        ⊎ (S.contents store.new ≡ changed (S.contents store.old) (change_of change.now))) }
+        ⊎ (S.contents store.new ≡ with_change (S.contents store.old) (change_of change.now))) }
     ensures later { S.failures store.old ≤ S.failures store.new }
     ensures cause { OnErr result (S.failures store.old < S.failures store.new) }
     ensures steady { OnOk result (S.failures store.new ≡ S.failures store.old) }
@@ -36,10 +36,10 @@ fn write_change<S: FolderStore>(store: &mut S, change: &Change) -> Result<(), St
 fn write_changes<S: FolderStore>(store: &mut S, changes: &[Change]) -> Result<(), StoreFault>
     ensures honest { S.honest store.old → S.honest store.new }
     ensures done { S.honest store.old → OnOk result (S.contents store.new
-        ≡ all_changed (S.contents store.old) (map change_of changes.now)) }
+        ≡ with_all_changes (S.contents store.old) (map change_of changes.now)) }
     ensures stopped { S.honest store.old
         → OnErr result ((n : ℕ) × (n ≤ length changes.now) × (S.contents store.new
-        ≡ all_changed (S.contents store.old) (take n (map change_of changes.now)))) }
+        ≡ with_all_changes (S.contents store.old) (take n (map change_of changes.now)))) }
     ensures later { S.failures store.old ≤ S.failures store.new }
     ensures cause { OnErr result (S.failures store.old < S.failures store.new) }
     ensures steady { OnOk result (S.failures store.new ≡ S.failures store.old) }
@@ -56,14 +56,14 @@ fn write_changes<S: FolderStore>(store: &mut S, changes: &[Change]) -> Result<()
     Ok(())
 }
 
-// Puts the journal of what is begun, where there is one.
+// Puts the halfway journal, where there is one.
 fn begin<S: FolderStore>(store: &mut S, halfway: &Option<Vec<u8>>) -> Result<(), StoreFault>
     ensures honest { S.honest store.old → S.honest store.new }
     ensures done { S.honest store.old
-        → OnOk result (S.contents store.new ≡ begun (S.contents store.old) halfway.now) }
+        → OnOk result (S.contents store.new ≡ with_halfway (S.contents store.old) halfway.now) }
     ensures stopped { S.honest store.old
         → OnErr result ((S.contents store.new ≡ S.contents store.old)
-        ⊎ (S.contents store.new ≡ begun (S.contents store.old) halfway.now)) }
+        ⊎ (S.contents store.new ≡ with_halfway (S.contents store.old) halfway.now)) }
     ensures later { S.failures store.old ≤ S.failures store.new }
     ensures cause { OnErr result (S.failures store.old < S.failures store.new) }
     ensures steady { OnOk result (S.failures store.new ≡ S.failures store.old) }
@@ -84,7 +84,7 @@ pub fn write_down<S: FolderStore>(
 ) -> Result<(), StoreFault>
     ensures honest { S.honest store.old → S.honest store.new }
     ensures done { S.honest store.old → OnOk result (S.contents store.new
-        ≡ written_down (S.contents store.old) journals.now (map change_of changes.now)) }
+        ≡ after_write_down (S.contents store.old) journals.now (map change_of changes.now)) }
     ensures stopped { S.honest store.old → OnErr result (IsStoppedAt
         (S.contents store.old) journals.now (map change_of changes.now) (S.contents store.new)) }
     ensures later { S.failures store.old ≤ S.failures store.new }

@@ -14,7 +14,7 @@ use Rattle.clap.specs.declared.parser.matches.ArgMatches.TheViews.{out-ArgMatche
 use Rattle.clap.proofs.OnLiterals.{clap_on_literals}
 use Rattle.par2_words.specs.Definition.{create_app, create_numbers_app, file_commands_app, par2_app, purge_app, repair_app, start_app, verify_app}
 use Rattle.par2_spec.specs.Commands.{Action, Undo, Redo}
-use Rattle.par2_words.specs.Meanings.{created, meant, purged, repaired, verified}
+use Rattle.par2_words.specs.Meanings.{create_meaning, meaning, purge_meaning, repair_meaning, verify_meaning}
 
 simple : is_simple par2_app ≡ true
 unfolding clap_on_literals create_app create_numbers_app file_commands_app par2_app purge_app repair_app start_app verify_app
@@ -25,7 +25,7 @@ unfolding clap_on_literals create_app create_numbers_app file_commands_app par2_
 free = refl
 
 abbrev is_known : Shape → Bool
-is_known s = is_some (meant (s.name, []))
+is_known s = is_some (meaning (s.name, []))
 
 all_known : list_all is_known (built par2_app).subs ≡ true
 unfolding clap_on_literals create_app create_numbers_app file_commands_app par2_app purge_app repair_app start_app verify_app
@@ -59,25 +59,25 @@ same_pick false false false false false true x y = refl
 same_pick false false false false false false x y = refl
 
 abbrev choices : List Row → Action × Action × Action × Action × Action × Action
-choices rows = (created rows, verified rows, repaired rows, purged rows, Undo, Redo)
+choices rows = (create_meaning rows, verify_meaning rows, repair_meaning rows, purge_meaning rows, Undo, Redo)
 
-any_rows : (n : Text) (rows : List Row) → is_some (meant (n, [])) ≡ is_some (meant (n, rows))
+any_rows : (n : Text) (rows : List Row) → is_some (meaning (n, [])) ≡ is_some (meaning (n, rows))
 any_rows n rows = same_pick (bytes_eq n (codes "create")) (bytes_eq n (codes "verify")) (bytes_eq n (codes "repair"))
     (bytes_eq n (codes "purge")) (bytes_eq n (codes "undo")) (bytes_eq n (codes "redo")) (choices []) (choices rows)
 
-known_in : (stop : Option (Text × List Text)) (p : Text × List Row) → entered (built par2_app) stop ≡ Some p → is_some (meant p) ≡ true
+known_in : (stop : Option (Text × List Text)) (p : Text × List Row) → entered (built par2_app) stop ≡ Some p → is_some (meaning p) ≡ true
 known_in None p e = absurd (some≢none p (sym e))
 known_in (Some q) p e = go (find (λ s. answers_to q.0 (label_of s)) (built par2_app).subs) refl e
   where
     go : (o : Option Shape) → find (λ s. answers_to q.0 (label_of s)) (built par2_app).subs ≡ o → option_map (λ s. rows_at s q.1) o ≡ Some p
-        → is_some (meant p) ≡ true
+        → is_some (meaning p) ≡ true
     go None found k = absurd (some≢none p (sym k))
     go (Some s) found k =
-        let name_known : is_some (meant (s.name, [])) ≡ true = find_all _ is_known (built par2_app).subs s found all_known in
-        let there : is_some (meant (rows_at s q.1)) ≡ true = sym (any_rows s.name (rows_at s q.1).1) ∙ name_known in
-        subst (λ (z : Text × List Row). is_some (meant z) ≡ true) (ap (λ o. unwrap_or o p) k) there
+        let name_known : is_some (meaning (s.name, [])) ≡ true = find_all _ is_known (built par2_app).subs s found all_known in
+        let there : is_some (meaning (rows_at s q.1)) ≡ true = sym (any_rows s.name (rows_at s q.1).1) ∙ name_known in
+        subst (λ (z : Text × List Row). is_some (meaning z) ≡ true) (ap (λ o. unwrap_or o p) k) there
 
-pub known : (words : List Text) (p : Text × List Row) → subcommand_of par2_app words ≡ Some p → is_some (meant p) ≡ true
+pub known : (words : List Text) (p : Text × List Row) → subcommand_of par2_app words ≡ Some p → is_some (meaning p) ≡ true
 known words p e = known_in (stop_after (built par2_app).top.rules (names_of (built par2_app)) (argument_words par2_app words)) p e
 
 named : {Z : Type 0} (o : Option (Box SubCommand Z)) (n : Text) (rows : List Row) → Some n ≡ option_map (λ b. (out-SubCommand (box_value b)).name.now) o

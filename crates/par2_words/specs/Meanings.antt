@@ -27,8 +27,8 @@ texts_of id rows = unwrap_or (all_of id rows) []
 abbrev pub flag_of : Text → List Row → Bool
 flag_of id rows = option_map_or (λ text. bytes_eq text (codes "true")) (first_of id rows) false
 
-abbrev pub created : List Row → Action
-created rows = Do (Create (record {
+abbrev pub create_meaning : List Row → Action
+create_meaning rows = Do (Create (record {
   base = text_of (codes "base") rows;
   slice_size = number_of 64 (codes "slice") rows;
   count = number_of 32 (codes "count") rows;
@@ -37,24 +37,24 @@ created rows = Do (Create (record {
   inputs = texts_of (codes "files") rows;
 }))
 
-abbrev pub verified : List Row → Action
-verified rows = Do (Verify (text_of (codes "base") rows) (texts_of (codes "files") rows))
+abbrev pub verify_meaning : List Row → Action
+verify_meaning rows = Do (Verify (text_of (codes "base") rows) (texts_of (codes "files") rows))
 
-abbrev pub repaired : List Row → Action
-repaired rows = Do (Repair (text_of (codes "base") rows) (texts_of (codes "files") rows) (flag_of (codes "purge") rows))
+abbrev pub repair_meaning : List Row → Action
+repair_meaning rows = Do (Repair (text_of (codes "base") rows) (texts_of (codes "files") rows) (flag_of (codes "purge") rows))
 
-abbrev pub purged : List Row → Action
-purged rows = Do (Purge (text_of (codes "base") rows))
+abbrev pub purge_meaning : List Row → Action
+purge_meaning rows = Do (Purge (text_of (codes "base") rows))
 
 -- what a subcommand's name and matches ask for
-abbrev pub meant : Text × List Row → Option Action
-meant p = if bytes_eq p.0 (codes "create") then Some (created p.1)
-    else (if bytes_eq p.0 (codes "verify") then Some (verified p.1)
-    else (if bytes_eq p.0 (codes "repair") then Some (repaired p.1)
-    else (if bytes_eq p.0 (codes "purge") then Some (purged p.1)
+abbrev pub meaning : Text × List Row → Option Action
+meaning p = if bytes_eq p.0 (codes "create") then Some (create_meaning p.1)
+    else (if bytes_eq p.0 (codes "verify") then Some (verify_meaning p.1)
+    else (if bytes_eq p.0 (codes "repair") then Some (repair_meaning p.1)
+    else (if bytes_eq p.0 (codes "purge") then Some (purge_meaning p.1)
     else (if bytes_eq p.0 (codes "undo") then Some Undo
     else (if bytes_eq p.0 (codes "redo") then Some Redo else None)))))
 
 -- what the words ask for by clap's matches
 abbrev pub asked_by : List Text → Option Action
-asked_by words = option_and_then meant (subcommand_of par2_app words)
+asked_by words = option_and_then meaning (subcommand_of par2_app words)

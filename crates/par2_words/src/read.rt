@@ -3,7 +3,7 @@ ghost use Rattle.std.specs.Prelude.{◌≡◌, ◌⊎◌, ℕ, List, [], IfOk, I
 ghost use Rattle.clap.specs.Words.{Text, fault_of, found_of, one_of, rows_of, kind_of, subcommand_of, takes};
 ghost use Rattle.par2_spec.specs.Views.{action_of, command_of};
 ghost use Rattle.par2_words.specs.Definition.{par2_app};
-ghost use Rattle.par2_words.specs.Meanings.{asked_by, meant, number_of, text_of, texts_of, flag_of, created, verified, repaired, purged};
+ghost use Rattle.par2_words.specs.Meanings.{asked_by, meaning, number_of, text_of, texts_of, flag_of, create_meaning, verify_meaning, repair_meaning, purge_meaning};
 
 use crate::definition::par2_command;
 use clap::ArgMatches;
@@ -59,7 +59,7 @@ fn has_flag(matches: &ArgMatches<'_>, id: &str) -> bool
     }
 }
 
-fn slice_of(matches: &ArgMatches<'_>) -> u64
+fn slice_size_of(matches: &ArgMatches<'_>) -> u64
     ensures { result ≡ number_of 64 (codes "slice") (rows_of (found_of matches.now)) }
 {
     matches.get_one::<u64>("slice").unwrap_or(0)
@@ -72,10 +72,10 @@ fn count_of(matches: &ArgMatches<'_>, id: &str) -> u32
 }
 
 fn create_of(alloc: Global, matches: &ArgMatches<'_>) -> Result<Action, AllocError>
-    ensures { IfOk result (λ a. action_of a ≡ created (rows_of (found_of matches.now))) }
+    ensures { IfOk result (λ a. action_of a ≡ create_meaning (rows_of (found_of matches.now))) }
 {
     Ok(Action::Create(CreateArgs {
-        slice: slice_of(matches),
+        slice_size: slice_size_of(matches),
         count: count_of(matches, "count"),
         first: count_of(matches, "first"),
         base: base_of(alloc, matches)?,
@@ -85,7 +85,7 @@ fn create_of(alloc: Global, matches: &ArgMatches<'_>) -> Result<Action, AllocErr
 }
 
 fn verify_of(alloc: Global, matches: &ArgMatches<'_>) -> Result<Command, AllocError>
-    ensures { IfOk result (λ c. command_of c ≡ verified (rows_of (found_of matches.now))) }
+    ensures { IfOk result (λ c. command_of c ≡ verify_meaning (rows_of (found_of matches.now))) }
 {
     Ok(Command::Verify {
         base: base_of(alloc, matches)?,
@@ -94,7 +94,7 @@ fn verify_of(alloc: Global, matches: &ArgMatches<'_>) -> Result<Command, AllocEr
 }
 
 fn repair_of(alloc: Global, matches: &ArgMatches<'_>) -> Result<Action, AllocError>
-    ensures { IfOk result (λ a. action_of a ≡ repaired (rows_of (found_of matches.now))) }
+    ensures { IfOk result (λ a. action_of a ≡ repair_meaning (rows_of (found_of matches.now))) }
 {
     Ok(Action::Repair {
         base: base_of(alloc, matches)?,
@@ -104,7 +104,7 @@ fn repair_of(alloc: Global, matches: &ArgMatches<'_>) -> Result<Action, AllocErr
 }
 
 fn purge_of(alloc: Global, matches: &ArgMatches<'_>) -> Result<Action, AllocError>
-    ensures { IfOk result (λ a. action_of a ≡ purged (rows_of (found_of matches.now))) }
+    ensures { IfOk result (λ a. action_of a ≡ purge_meaning (rows_of (found_of matches.now))) }
 {
     Ok(Action::Purge {
         base: base_of(alloc, matches)?,
@@ -113,10 +113,10 @@ fn purge_of(alloc: Global, matches: &ArgMatches<'_>) -> Result<Action, AllocErro
 
 // The command of a subcommand's name and matches.
 fn named(alloc: Global, name: &str, matches: &ArgMatches<'_>) -> Result<Command, WordsFault>
-    ensures command { IfOk result (λ c. meant (name.now, rows_of (found_of matches.now))
+    ensures command { IfOk result (λ c. meaning (name.now, rows_of (found_of matches.now))
         ≡ Some (command_of c)) }
     ensures fault { IfErr result (λ e. e ≡ WordsFault.Memory
-        ⊎ meant (name.now, rows_of (found_of matches.now)) ≡ None) }
+        ⊎ meaning (name.now, rows_of (found_of matches.now)) ≡ None) }
 {
     match name {
         "create" => Ok(Command::Act(create_of(alloc, matches)?)),

@@ -7,7 +7,7 @@ use Rattle.std.specs.List.Sorted.{IsStrictlyIncreasing}
 use Rattle.par2_spec.specs.Names.{is_name}
 use Rattle.par2_packets.proofs.Ids.{increasing}
 use Rattle.par2_packets.specs.declared.record.FileRecord.{FileRecord}
-use Rattle.par2_recovery.specs.Survivors.{present, recovered_of, exponents_of}
+use Rattle.par2_recovery.specs.Survivors.{known_alone, recovered_of, exponents_of}
 use Rattle.par2_recovery.specs.Views.{names_of}
 use Rattle.par2_recovery.specs.declared.set_record.SetRecord.{SetRecord}
 
@@ -18,7 +18,7 @@ each_mapped f P (x ∷ xs) h = (h 0 x (omega arith), each_mapped f P xs (λ k d 
 pub are_names : (set : SetRecord) → All (λ file. IsTrue (is_name (string_bytes file.name))) set.files.items → AllByRecursion (λ name. IsTrue (is_name name)) (names_of set)
 are_names set h = each_mapped (λ (file : FileRecord). string_bytes file.name) (λ name. IsTrue (is_name name)) set.files.items h
 
-pub known_fits : (s : ℕ) (known : List (Option (Bor (List ℕ)))) → All (λ slice. IfSome slice (λ bytes. length bytes.now ≤ s)) known → AllByRecursion (λ slice. length slice.now ≤ s) (present known)
+pub known_fits : (s : ℕ) (known : List (Option (Bor (List ℕ)))) → All (λ slice. IfSome slice (λ bytes. length bytes.now ≤ s)) known → AllByRecursion (λ slice. length slice.now ≤ s) (known_alone known)
 known_fits s [] h = tt
 known_fits s (None ∷ known) h = known_fits s known (λ k d low. h (suc k) d (omega arith))
 known_fits s (Some bytes ∷ known) h = (h 0 (Some bytes) (omega arith), known_fits s known (λ k d low. h (suc k) d (omega arith)))

@@ -86,15 +86,16 @@ fn bytes_of<'a>(folder: &'a Folder, name: &str) -> &'a [u8]
 
 // Whether the files have no more slices than a set may have.
 fn has_few_slices(set: &SetRecord, folder: &Folder) -> bool
-    requires size { 1 ≤ set.now.slice }
+    requires size { 1 ≤ set.now.slice_size }
     requires names { AllByRecursion (λ name. IsTrue (is_name name)) (names_of set.now) }
     ensures { IsTrue result
-        → length (all_slices set.now.slice (files_of folder.now.files (names_of set.now))) ≤ 32768 }
+        → length (all_slices set.now.slice_size (files_of folder.now.files (names_of set.now))) ≤
+        32768 }
 {
     let mut left = MOST_SLICES;
     for i in 0..set.files.len() {
         let bytes = bytes_of(folder, name_at(set, i));
-        let count = slice_count(bytes.len() as u64, set.slice);
+        let count = slice_count(bytes.len() as u64, set.slice_size);
         if count > left {
             return false;
         }
@@ -106,14 +107,15 @@ fn has_few_slices(set: &SetRecord, folder: &Folder) -> bool
 // Whether recovery slices may be asked for.
 #[tactic(auto, using(crate::proofs::Tested::are_names))]
 fn fits(set: &SetRecord, folder: &Folder) -> bool
-    ensures size { IsTrue result → 1 ≤ set.now.slice }
-    ensures even { IsTrue result → set.now.slice % 2 ≡ 0 }
+    ensures size { IsTrue result → 1 ≤ set.now.slice_size }
+    ensures even { IsTrue result → set.now.slice_size % 2 ≡ 0 }
     ensures names { IsTrue result
         → AllByRecursion (λ name. IsTrue (is_name name)) (names_of set.now) }
     ensures slices { IsTrue result
-        → length (all_slices set.now.slice (files_of folder.now.files (names_of set.now))) ≤ 32768 }
+        → length (all_slices set.now.slice_size (files_of folder.now.files (names_of set.now))) ≤
+        32768 }
 {
-    let s = set.slice;
+    let s = set.slice_size;
     s != 0 && s % 2 == 0 && are_names(&set.files) && has_few_slices(set, folder)
 }
 
@@ -179,7 +181,7 @@ pub fn rebuilt(
     gf: &Gf,
     survivors: &Survivors,
 ) -> Option<Result<Vec<Vec<u8>>, RebuildFault>> {
-    let size = survivors.slice;
+    let size = survivors.slice_size;
     if size % 2 != 0 || survivors.known.len() > 32768 {
         return None;
     }

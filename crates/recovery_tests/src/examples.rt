@@ -9,7 +9,7 @@ use std::test::Fail;
 
 fn survivors_of<'a>(
     alloc: Global,
-    slice: usize,
+    slice_size: usize,
     known: &[Option<&'a [u8]>],
     recovery: &[(u32, &'a [u8])],
 ) -> Result<Survivors<'a>, AllocError> {
@@ -22,7 +22,7 @@ fn survivors_of<'a>(
         recovered.push(*one)?;
     }
     Ok(Survivors {
-        slice,
+        slice_size,
         known: slices,
         recovery: recovered,
     })
@@ -191,7 +191,7 @@ fn record_of_two_files(rt: HostRuntime) -> Result<(), Fail> {
     let Some(Ok(set)) = set_of(alloc, &folder, &["b", "a"], 4)? else {
         panic!(rt; "no record");
     };
-    assert!(rt; set.slice == 4);
+    assert!(rt; set.slice_size == 4);
     let [first, second] = set.files.as_slice() else {
         panic!(rt; "not two files");
     };

@@ -155,7 +155,7 @@ fn our_answer(
         recovery.push((one.exponent, one.text.as_slice()))?;
     }
     let survivors = Survivors {
-        slice: 4,
+        slice_size: 4,
         known,
         recovery,
     };

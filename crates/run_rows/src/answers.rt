@@ -72,9 +72,9 @@ fn answer_by(alloc: Global, session: &Session, opened: &str) -> Result<Answer> {
 fn opened(alloc: Global, store: &mut MemoryStore, journal: &[u8]) -> Result<Answer> {
     match Session::open(alloc, read_folder(alloc, store)?, journal) {
         Ok(Opened::Settled(session)) => answer_by(alloc, &session, "settled"),
-        Ok(Opened::Begun(halfway)) => {
-            let begun = format!(in alloc; "begun, {} changes back", halfway.changes().len())?;
-            answer_by(alloc, &halfway.finish(), &begun)
+        Ok(Opened::Halfway(halfway)) => {
+            let way_back = format!(in alloc; "halfway, {} changes back", halfway.changes().len())?;
+            answer_by(alloc, &halfway.finish(), &way_back)
         }
         Err((fault, folder)) => Ok(Answer {
             text: format!(in alloc; "{fault:?}")?,

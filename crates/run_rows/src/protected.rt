@@ -21,10 +21,10 @@ fn show_main(rt: &HostRuntime, set_id: [u8; 16], main: &MainView<'_>) -> Result<
 
 fn show_description(rt: &HostRuntime, description: &DescView<'_>) -> Result<()> {
     show_hex(rt, "file", description.id())?;
-    show_hex(rt, "md5", description.md5())?;
-    show_hex(rt, "md5 of the first 16384 bytes", description.md5_16k())?;
+    show_hex(rt, "md5", description.digest())?;
+    show_hex(rt, "md5 of the first 16384 bytes", description.digest_16k())?;
     let name = String::from_utf8_lossy(rt.alloc(), description.name_bytes())?;
-    println!(rt; "length: {}\nname: {}", description.length(), name.as_str())?;
+    println!(rt; "length: {}\nname: {}", description.size(), name.as_str())?;
     Ok(())
 }
 

@@ -8,7 +8,7 @@ use std::test::Fail;
 // A create without recovery slices.
 pub fn args_of(
     alloc: Global,
-    slice: u64,
+    slice_size: u64,
     base: &str,
     words: &[&str],
 ) -> Result<CreateArgs, AllocError> {
@@ -17,7 +17,7 @@ pub fn args_of(
         inputs.push(String::from_str(alloc, word)?)?;
     }
     Ok(CreateArgs {
-        slice,
+        slice_size,
         count: 0,
         first: 0,
         base: String::from_str(alloc, base)?,

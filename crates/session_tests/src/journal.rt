@@ -2,7 +2,7 @@
 use crate::session::{Row, create_of, fingerprint_of, session_after, session_of};
 use par2_folder::Change;
 use par2_journal::{Action, Journals, Session};
-use par2_journal_bytes::{Halfway, Journal, decode};
+use par2_journal_bytes::{HalfwayPart, Journal, decode};
 use std::process::Abort;
 use std::test::Fail;
 
@@ -85,7 +85,7 @@ fn journal_of_an_undo(rt: HostRuntime) -> Result<(), Fail> {
     Ok(())
 }
 
-fn begun_part<R: Abort + AllocGlobal>(rt: &R, text: &[u8]) -> Halfway {
+fn halfway_part<R: Abort + AllocGlobal>(rt: &R, text: &[u8]) -> HalfwayPart {
     let Journal { halfway, .. } = decoded(rt, text);
     let Some(halfway) = halfway else {
         panic!(rt; "a settled journal");
@@ -97,7 +97,7 @@ fn begun_part<R: Abort + AllocGlobal>(rt: &R, text: &[u8]) -> Halfway {
 fn halfway_journal_of_a_create(rt: HostRuntime) -> Result<(), Fail> {
     let mut session = session_of(&rt)?;
     let text = halfway_of(&rt, &mut session)?;
-    let halfway = begun_part(&rt, &text);
+    let halfway = halfway_part(&rt, &text);
     assert!(rt; text.len() == 89 && is_removal_of(&halfway.back, "t.par2"));
     let after = fingerprint_of(rt.alloc(), &session)?;
     assert!(rt; halfway.fingerprints.as_slice() == [after].as_slice());

@@ -53,28 +53,28 @@ fn foreign_journals(rt: HostRuntime) -> Result<(), Fail> {
         JournalFault::FolderChanged { halfway: false },
     )?;
     assert_refused(&rt, "a", b"no journal", JournalFault::JournalInvalid)?;
-    let begun = halfway_of(&rt, &mut session_of(&rt)?)?;
+    let halfway = halfway_of(&rt, &mut session_of(&rt)?)?;
     assert_refused(
         &rt,
         "b",
-        &begun,
+        &halfway,
         JournalFault::FolderChanged { halfway: true },
     )
 }
 
-// Opens by the journal of a command that was begun.
-fn open_begun<R: Abort + AllocGlobal>(rt: &R, folder: Folder, text: &[u8]) -> Halfway {
-    let Ok(Opened::Begun(begun)) = open(rt.alloc(), folder, text) else {
+// Opens by the journal of a halfway command.
+fn open_halfway<R: Abort + AllocGlobal>(rt: &R, folder: Folder, text: &[u8]) -> Halfway {
+    let Ok(Opened::Halfway(halfway)) = open(rt.alloc(), folder, text) else {
         panic!(rt; "not opened");
     };
-    begun
+    halfway
 }
 
 #[test]
 fn opens_before_the_first_change(rt: HostRuntime) -> Result<(), Fail> {
     let text = halfway_of(&rt, &mut session_of(&rt)?)?;
     let before = folder_of(&rt, &[("a", b"abcdefgh")])?;
-    assert_eq!(rt; open_begun(&rt, before, &text).changes().len(), 0);
+    assert_eq!(rt; open_halfway(&rt, before, &text).changes().len(), 0);
     Ok(())
 }
 
@@ -90,13 +90,13 @@ fn folder_after<R: Abort + AllocGlobal>(rt: &R, session: &Session) -> Result<Fol
 // The command is taken back by removing the index.
 fn assert_taken_back<R: Abort + AllocGlobal>(
     rt: &R,
-    begun: Halfway,
+    halfway: Halfway,
     settled: &[u8],
 ) -> Result<(), Fail> {
-    assert!(rt; is_removal_of(begun.changes(), "t.par2"));
-    let text = begun.settled(rt.alloc())?;
+    assert!(rt; is_removal_of(halfway.changes(), "t.par2"));
+    let text = halfway.settled(rt.alloc())?;
     assert_eq!(rt; text.as_slice(), settled);
-    assert_stands(rt, &begun.finish(), "t.par2", (0, 0, None));
+    assert_stands(rt, &halfway.finish(), "t.par2", (0, 0, None));
     Ok(())
 }
 
@@ -105,6 +105,6 @@ fn opens_after_the_last_change(rt: HostRuntime) -> Result<(), Fail> {
     let mut session = session_of(&rt)?;
     let settled = journal_of(&rt, &session)?;
     let text = halfway_of(&rt, &mut session)?;
-    let begun = open_begun(&rt, folder_after(&rt, &session)?, &text);
-    assert_taken_back(&rt, begun, &settled)
+    let halfway = open_halfway(&rt, folder_after(&rt, &session)?, &text);
+    assert_taken_back(&rt, halfway, &settled)
 }

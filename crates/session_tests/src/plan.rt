@@ -29,7 +29,7 @@ const VOLUME_OF_TWO: Output = ("t.vol00001+00002.par2", 564, 0x668f_17d4);
 // A create on a folder of these files, and its outputs.
 struct Planned {
     files: &'static [File],
-    slice: u64,
+    slice_size: u64,
     count: u32,
     first: u32,
     inputs: &'static [&'static str],
@@ -41,7 +41,7 @@ struct Planned {
 const PLANNED: [Planned; 7] = [
     Planned {
         files: A,
-        slice: 4,
+        slice_size: 4,
         count: 0,
         first: 0,
         inputs: &["a"],
@@ -50,7 +50,7 @@ const PLANNED: [Planned; 7] = [
     },
     Planned {
         files: A,
-        slice: 4,
+        slice_size: 4,
         count: 5,
         first: 0,
         inputs: &["a"],
@@ -64,7 +64,7 @@ const PLANNED: [Planned; 7] = [
     },
     Planned {
         files: A,
-        slice: 4,
+        slice_size: 4,
         count: 7,
         first: 0,
         inputs: &["a"],
@@ -78,7 +78,7 @@ const PLANNED: [Planned; 7] = [
     },
     Planned {
         files: A,
-        slice: 4,
+        slice_size: 4,
         count: 3,
         first: 0,
         inputs: &["a"],
@@ -87,7 +87,7 @@ const PLANNED: [Planned; 7] = [
     },
     Planned {
         files: A,
-        slice: 4,
+        slice_size: 4,
         count: 2,
         first: 7,
         inputs: &["a"],
@@ -100,7 +100,7 @@ const PLANNED: [Planned; 7] = [
     },
     Planned {
         files: A_AND_B,
-        slice: 4,
+        slice_size: 4,
         count: 2,
         first: 0,
         inputs: &["a", "b"],
@@ -113,7 +113,7 @@ const PLANNED: [Planned; 7] = [
     },
     Planned {
         files: A_AND_INDEX,
-        slice: 8,
+        slice_size: 8,
         count: 0,
         first: 0,
         inputs: &["a"],
@@ -127,7 +127,7 @@ fn planned_args(alloc: Global, row: &Planned) -> Result<CreateArgs, AllocError> 
         count: row.count,
         first: row.first,
         overwrite: row.replaces,
-        ..args_of(alloc, row.slice, "t.par2", row.inputs)?
+        ..args_of(alloc, row.slice_size, "t.par2", row.inputs)?
     })
 }
 

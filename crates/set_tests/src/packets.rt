@@ -32,8 +32,8 @@ pub fn pair(k: u8) -> Pair {
 pub fn record(alloc: Global, id: u8, name: &str, length: u64) -> Result<FileRecord, AllocError> {
     Ok(FileRecord {
         id: [id; 16],
-        md5: [8; 16],
-        md5_16k: [9; 16],
+        digest: [8; 16],
+        digest_16k: [9; 16],
         length,
         name: String::from_str(alloc, name)?,
         pairs: Vec::from_array(alloc, [pair(1), pair(2)])?,

@@ -5,7 +5,7 @@ ghost use Rattle.par2_spec.specs.Journals.{IsCursor};
 use md5::{Digest, Md5};
 use par2_folder::{Bytes, Change, Name};
 use par2_journal_bytes::{
-    DecodeFault, Halfway, HalfwayParts, Journal, JournalParts, Version, decode, encode,
+    DecodeFault, HalfwayPart, HalfwayPartView, Journal, JournalView, Version, decode, encode,
 };
 use std::alloc::{AllocError, Global};
 use std::process::Abort;
@@ -31,7 +31,7 @@ const REDO_DIGEST: [u8; 16] = [
     0x7a, 0xc5, 0xb1, 0xb0, 0x62, 0xe9, 0xf6, 0x00, 0xf7, 0x3d, 0x28, 0x91, 0x39, 0x09, 0x52, 0x41,
 ];
 
-// No entry, and a command that was begun. The way back removes `a` and renames `a.1` to `a`.
+// No entry, and a halfway command. The way back removes `a` and renames `a.1` to `a`.
 const HALFWAY_ONE: &[u8] = b"P2UNDO1\n0123456789abcdef\0\0\0\0\0\0\0\0\x01\x02\0\0\0\0\0\0\0\
     aaaaaaaaaaaaaaaabbbbbbbbbbbbbbbb\x04\x01a\x03\x03a.1\x01a\
     \x5d\x80\xe6\x38\x55\x5a\xd5\xed\x06\xca\x71\xf9\x66\xc1\xcd\x63";
@@ -75,7 +75,7 @@ fn are_same_entries(entries: &[Vec<Change>], others: &[&[Change]]) -> bool {
             .all(|(one, other)| are_same_changes(one, other))
 }
 
-fn is_same_halfway(halfway: &Option<Halfway>, parts: &Option<HalfwayParts<'_>>) -> bool {
+fn is_same_halfway(halfway: &Option<HalfwayPart>, parts: &Option<HalfwayPartView<'_>>) -> bool {
     match (halfway, parts) {
         (None, None) => true,
         (Some(one), Some(other)) => {
@@ -86,7 +86,7 @@ fn is_same_halfway(halfway: &Option<Halfway>, parts: &Option<HalfwayParts<'_>>) 
     }
 }
 
-fn is_same_journal(journal: &Journal, parts: &JournalParts<'_>) -> bool {
+fn is_same_journal(journal: &Journal, parts: &JournalView<'_>) -> bool {
     journal.version == parts.version
         && journal.fingerprint == parts.fingerprint
         && journal.cursor == parts.cursor
@@ -95,7 +95,7 @@ fn is_same_journal(journal: &Journal, parts: &JournalParts<'_>) -> bool {
 }
 
 // The text of these parts, which reads back as they are.
-fn text_of<R: Abort + AllocGlobal>(rt: &R, parts: &JournalParts<'_>) -> Result<Vec<u8>, Fail>
+fn text_of<R: Abort + AllocGlobal>(rt: &R, parts: &JournalView<'_>) -> Result<Vec<u8>, Fail>
     requires cursor { IsCursor parts.now.version parts.now.cursor (length parts.now.entries.now) }
     requires some { IfSome parts.now.halfway (λ h. 1 ≤ length h.back.now) }
     requires each { IfSome parts.now.halfway (λ h. length h.fingerprints.now
@@ -118,7 +118,7 @@ fn settled_text<R: Abort + AllocGlobal>(
 ) -> Result<Vec<u8>, Fail>
     requires { IsCursor version cursor (length entries.now) }
 {
-    let parts = JournalParts {
+    let parts = JournalView {
         version,
         fingerprint: FINGERPRINT,
         cursor,
@@ -160,12 +160,12 @@ fn halfway_text<R: Abort + AllocGlobal>(
     requires some { 1 ≤ length back.now }
     requires each { length fingerprints.now ≡ length back.now }
 {
-    let parts = JournalParts {
+    let parts = JournalView {
         version,
         fingerprint: FINGERPRINT,
         cursor: 0,
         entries: &[],
-        halfway: Some(HalfwayParts { fingerprints, back }),
+        halfway: Some(HalfwayPartView { fingerprints, back }),
     };
     text_of(rt, &parts)
 }

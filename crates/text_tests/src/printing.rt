@@ -181,7 +181,7 @@ fn create(alloc: Global) -> Result<Command, AllocError> {
     inputs.push(String::from_str(alloc, "x")?)?;
     inputs.push(String::from_str(alloc, "y z")?)?;
     Ok(Command::Act(Action::Create(CreateArgs {
-        slice: 4,
+        slice_size: 4,
         count: 0,
         first: 0,
         base: String::from_str(alloc, "t.par2")?,

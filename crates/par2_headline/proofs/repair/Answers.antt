@@ -4,7 +4,7 @@ use Rattle.std.specs.FinMap as map_of
 use Rattle.par2_spec.specs.Commands.{Repair}
 use Rattle.par2_spec.specs.Folders.{Folder}
 use Rattle.par2_spec.specs.Refusals.{after}
-use Rattle.par2_spec.specs.Rules.{HoldsRepaired}
+use Rattle.par2_spec.specs.Repairs.{HoldsRepaired}
 use Rattle.par2_spec.specs.Search.{candidates}
 use Rattle.par2_spec.specs.Sessions.{session_of_kept}
 use Rattle.par2_spec.specs.declared.Fault.TheVariants.{Memory, RepairFailed}

@@ -11,5 +11,5 @@ loop-i-preserved c =
     let set = c.args.set.now in
     let folder = c.args.folder.now.files in
     let n : length (names_of set) ≡ length set.files.items = length-map set.files.items (λ (file : FileRecord). string_bytes file.name) in
-    let more = one_more set.slice folder (names_of set) c.loop-i.i c.bytes_of-bytes.result.now (omega (arith, n, c.loop-i-test.true, c.len-i-end.ensures)) (c.bytes_of-bytes.ensures ∙ ap (bytes_of folder) c.name_at.ensures) in
+    let more = one_more set.slice_size folder (names_of set) c.loop-i.i c.bytes_of-bytes.result.now (omega (arith, n, c.loop-i-test.true, c.len-i-end.ensures)) (c.bytes_of-bytes.ensures ∙ ap (bytes_of folder) c.name_at.ensures) in
     omega (arith, more, c.slice_count-count.ensures, c.loop-i.invariant, c.if-count-left.false)

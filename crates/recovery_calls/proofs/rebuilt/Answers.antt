@@ -6,14 +6,14 @@ use Rattle.recovery_calls.proofs.rebuilt.Goals as goal
 
 pub rebuild-requires-clause-known : goal.rebuild-requires-clause-known
 rebuild-requires-clause-known c =
-    let s = c.args.survivors.now.slice in
+    let s = c.args.survivors.now.slice_size in
     let yes : IsTrue c.known_fits.result = search rules in
     known_fits s c.args.survivors.now.known.items
     (subst (λ xs. All (λ slice. IfSome slice (λ bytes. length bytes.now ≤ s)) xs) c.deref.ensures.value (c.known_fits.ensures yes))
 
 pub rebuild-requires-clause-recovery : goal.rebuild-requires-clause-recovery
 rebuild-requires-clause-recovery c =
-    let s = c.args.survivors.now.slice in
+    let s = c.args.survivors.now.slice_size in
     let yes : IsTrue c.recovery_fits.result = search rules in
     recovery_fits s c.args.survivors.now.recovery.items
     (subst (λ xs. All (λ r. length r.1.now ≡ s) xs) c.deref-else-not-known_fits.ensures.value (c.recovery_fits.ensures yes))

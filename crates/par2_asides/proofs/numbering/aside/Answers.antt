@@ -3,8 +3,8 @@ use Rattle.std.proofs.lemmas.Result.{err_from_is_err_and}
 use Rattle.par2_spec.specs.declared.Fault.{Fault}
 use Rattle.par2_spec.specs.declared.Fault.TheVariants.{Memory}
 use Rattle.par2_spec.specs.Names.{is_among, numbered}
-use Rattle.par2_spec.specs.Repairs.{aside}
-use Rattle.par2_spec.specs.Rules.{taken_for, target_names}
+use Rattle.par2_spec.specs.Repairs.{aside, taken_for}
+use Rattle.par2_spec.specs.Sets.{target_names}
 use Rattle.par2_asides.specs.Asides.{long_aside}
 use Rattle.par2_asides.proofs.Taken.{first_here, first_later, from_one, long_is_no_name, no_name, passed_on, too_long}
 use Rattle.par2_asides.proofs.numbering.aside.Goals as goal

@@ -1,6 +1,5 @@
 use Rattle.std.proofs.Common.{◌≡◌}
-use Rattle.par2_spec.specs.Repairs.{aside}
-use Rattle.par2_spec.specs.Rules.{taken_for}
+use Rattle.par2_spec.specs.Repairs.{aside, taken_for}
 use Rattle.par2_asides.proofs.Taken.{first_from}
 use Rattle.par2_asides.proofs.numbering.aside.Given as goal
 

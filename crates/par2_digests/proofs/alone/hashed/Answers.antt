@@ -1,19 +1,19 @@
 use Rattle.std.proofs.Common.{◌≡◌, ◌/◌, ◌%◌, ◌*◌, ◌∙◌, ℕ, min, arith, ap, length, take, slice_index}
 use Rattle.std.proofs.lemmas.List.{take_all}
-use Rattle.par2_digests.specs.Feeds.{hash_behind, left}
+use Rattle.par2_digests.specs.Feeds.{hash_behind, bytes_left}
 use Rattle.par2_digests.specs.Lanes.{lane}
 use Rattle.par2_digests.proofs.FeedLaws.{hash_more, same_rest, size_behind}
 use Rattle.par2_digests.proofs.alone.hashed.Goals as goal
 
 pub loop-feed-smaller : goal.loop-feed-smaller
 loop-feed-smaller c =
-    let count : c.fill.result ≡ min 64 (length (left c.loop-feed.feed)) = omega (arith, c.fill.ensures.count, c.loop-feed.invariant.block) in
-    omega (arith, size_behind (left c.loop-feed.feed) (left c.fill.new.self) c.fill.result count c.loop-feed-test.true c.fill.ensures.rest)
+    let count : c.fill.result ≡ min 64 (length (bytes_left c.loop-feed.feed)) = omega (arith, c.fill.ensures.count, c.loop-feed.invariant.block) in
+    omega (arith, size_behind (bytes_left c.loop-feed.feed) (bytes_left c.fill.new.self) c.fill.result count c.loop-feed-test.true c.fill.ensures.rest)
 
 pub loop-feed-preserved : goal.loop-feed-preserved
 loop-feed-preserved c =
-    let bytes = left c.loop-feed.feed in
-    let rest = left c.fill.new.self in
+    let bytes = bytes_left c.loop-feed.feed in
+    let rest = bytes_left c.fill.new.self in
     let count : c.fill.result ≡ min 64 (length bytes) = omega (arith, c.fill.ensures.count, c.loop-feed.invariant.block) in
     let full = c.loop-feed-test.true in
     let held = c.loop-feed.invariant in
@@ -31,14 +31,14 @@ loop-feed-preserved c =
 pub returns-clause-hash : goal.returns-clause-hash
 unfolding hash_behind
 returns-clause-hash c =
-    let bytes = left c.loop-feed.feed in
+    let bytes = bytes_left c.loop-feed.feed in
     let none : length bytes / 64 ≡ 0 = omega (arith, c.fill.ensures.count, c.loop-feed.invariant.block, c.loop-feed-test.false) in
     c.in_lane.ensures ∙ (rw none at c.loop-feed.invariant.hash)
 
 pub returns-clause-rest : goal.returns-clause-rest
 returns-clause-rest c =
-    let bytes = left c.loop-feed.feed in
-    let whole = left c.args.feed in
+    let bytes = bytes_left c.loop-feed.feed in
+    let whole = bytes_left c.args.feed in
     let count = c.fill.result in
     let block = c.fill.new.blocks in
     let all : count ≡ length bytes = omega (arith, c.fill.ensures.count, c.loop-feed.invariant.block, c.loop-feed-test.false) in

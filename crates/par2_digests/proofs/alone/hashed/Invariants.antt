@@ -1,15 +1,15 @@
 use Rattle.std.proofs.Common.{◌≡◌, ◌*◌, ◌/◌, ◌%◌, length, drop, slice_index}
-use Rattle.par2_digests.specs.Feeds.{hash_behind, left}
+use Rattle.par2_digests.specs.Feeds.{hash_behind, bytes_left}
 use Rattle.par2_digests.specs.Lanes.{lane}
 use Rattle.par2_digests.proofs.alone.hashed.Given as goal
 
 abbrev pub invariant-loop-feed : goal.invariant-loop-feed
 invariant-loop-feed l = record {
-  hash : hash_behind (lane slice_index 0 l.state) (left l.feed) (length (left l.feed) / 64) ≡ hash_behind l.fn.hash (left l.fn.feed) (length (left l.fn.feed) / 64);
+  hash : hash_behind (lane slice_index 0 l.state) (bytes_left l.feed) (length (bytes_left l.feed) / 64) ≡ hash_behind l.fn.hash (bytes_left l.fn.feed) (length (bytes_left l.fn.feed) / 64);
   block : length l.block ≡ 64;
-  size : length (left l.feed) % 64 ≡ length (left l.fn.feed) % 64;
-  rest : drop (length (left l.feed) / 64 * 64) (left l.feed) ≡ drop (length (left l.fn.feed) / 64 * 64) (left l.fn.feed);
+  size : length (bytes_left l.feed) % 64 ≡ length (bytes_left l.fn.feed) % 64;
+  rest : drop (length (bytes_left l.feed) / 64 * 64) (bytes_left l.feed) ≡ drop (length (bytes_left l.fn.feed) / 64 * 64) (bytes_left l.fn.feed);
 }
 
 abbrev pub decreases-loop-feed : goal.decreases-loop-feed
-decreases-loop-feed l = length (left l.feed)
+decreases-loop-feed l = length (bytes_left l.feed)

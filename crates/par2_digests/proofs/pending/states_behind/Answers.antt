@@ -3,7 +3,7 @@ use Rattle.std.proofs.lemmas.Bool.{cases_lt}
 use Rattle.std.proofs.lemmas.List.{get_or_default}
 use Rattle.std.proofs.Math.ListN.{set}
 use Rattle.md5.specs.Md5.{hash_after}
-use Rattle.par2_digests.specs.Feeds.{left}
+use Rattle.par2_digests.specs.Feeds.{bytes_left}
 use Rattle.par2_digests.specs.Lanes.{lane}
 use Rattle.par2_digests.specs.Messages.{HasAbsorbed, message_of}
 use Rattle.par2_digests.specs.Pendings.{bytes_to_absorb}
@@ -41,7 +41,7 @@ loop-k-preserved g c =
                 let absorbed : HasAbsorbed state m = subst (λ (i : ℕ). HasAbsorbed (get_or pendings i none).state m) same held in
                 let here : c.index-pendings-k.result ≡ pending = c.index-pendings-k.is ∙ get_or_default pendings k _ none low in
                 let begun = λ (d : Task).
-                each_lane (λ i. i < length pendings → ((get_or tasks i d).hash ≡ None) × (left (get_or tasks i d).feed ≡ bytes_to_absorb (get_or pendings i none)))
+                each_lane (λ i. i < length pendings → ((get_or tasks i d).hash ≡ None) × (bytes_left (get_or tasks i d).feed ≡ bytes_to_absorb (get_or pendings i none)))
                 (λ h. (c.task.ensures.open, c.task.ensures.bytes none h))
                 (λ h. (c.task-2.ensures.open, c.task-2.ensures.bytes none h))
                 (λ h. (c.task-3.ensures.open, c.task-3.ensures.bytes none h))
@@ -55,7 +55,7 @@ loop-k-preserved g c =
                 let taken_is : take (state.length % 64) state.rest ≡ drop (length m / 64 * 64) m = ap (λ (n : ℕ). take n state.rest) used ∙ absorbed.1.1 in
                 let leads = λ (d : Task).
                 let task = get_or tasks k d in
-                ready task.hash m (message_of pending.parts.items) (take (state.length % 64) state.rest) task.rest (left task.feed) state.hash p (begun d).0 (begun d).1 taken_is absorbed.1.0 refl in
+                ready task.hash m (message_of pending.parts.items) (take (state.length % 64) state.rest) task.rest (bytes_left task.feed) state.hash p (begun d).0 (begun d).1 taken_is absorbed.1.0 refl in
                 let hash : lane g.V.Lanes.at k c.state_of.result ≡ state.hash = c.state_of.ensures k m none (omega (arith, c.requires.lanes)) low absorbed in
                 let ended = λ (d : Task). c.finish_all.ensures k d last rest low (subst (λ (h : List ℕ). LeadsTo (get_or tasks k d) h last rest) (sym hash) (leads d)) in
                 let taken = λ (d : Task). subst (λ (q : Pending). HasTaken (get_or c.finish_all.new.tasks k d) (m ++ message_of q.parts.items)) (sym here) (ended d) in

@@ -1,5 +1,5 @@
 use Rattle.std.proofs.Common.{◌≡◌, arith, get_or, sym, below_more, ◌∙◌}
-use Rattle.par2_digests.specs.Feeds.{left}
+use Rattle.par2_digests.specs.Feeds.{bytes_left}
 use Rattle.par2_digests.specs.Lanes.{lane}
 use Rattle.par2_digests.specs.Tasks.{work, works}
 use Rattle.par2_digests.proofs.TaskLaws.{finished, works_at}
@@ -20,4 +20,4 @@ returns g c = λ k none last rest low held.
     let tasks = c.loop-k.tasks in
     let task = get_or tasks k none in
     let idle : work task ≡ 0 = sym (works_at tasks k none (omega (arith, c.loop-k.invariant.tasks))) ∙ c.loop-k.invariant.done k (omega arith) in
-    finished task.hash task.rest (left task.feed) (lane g.V.Lanes.at k c.loop-k.state) last rest idle (c.loop-k.invariant.leads k none last rest low held)
+    finished task.hash task.rest (bytes_left task.feed) (lane g.V.Lanes.at k c.loop-k.state) last rest idle (c.loop-k.invariant.leads k none last rest low held)

@@ -1,8 +1,8 @@
 use Rattle.std.proofs.Common.{◌≡◌, map, take}
 use Rattle.par2_digests.specs.Messages.{message_of}
-use Rattle.par2_folder.specs.Below.{hashed}
+use Rattle.par2_folder.specs.Below.{fingerprint_input}
 use Rattle.par2_folder.specs.Snapshots.{file_of}
 use Rattle.par2_folder.proofs.border.parts_of.Given as goal
 
 abbrev pub invariant-loop-file : goal.invariant-loop-file
-invariant-loop-file l = message_of l.parts.items ≡ hashed (map file_of (take l.file-index l.files))
+invariant-loop-file l = message_of l.parts.items ≡ fingerprint_input (map file_of (take l.file-index l.files))

@@ -1,11 +1,11 @@
 use Rattle.std.proofs.Common.{refl, arith}
 use Rattle.par2_folder.specs.Views.{change_of}
-use Rattle.par2_journal_bytes.specs.Views.{changes_of}
+use Rattle.par2_journal_bytes.specs.Views.{changes_in}
 use Rattle.par2_journal.proofs.Tried.{changes_set_out, change_turned, change_refused}
 use Rattle.par2_journal.proofs.opening.apply_first.Goals as goal
 
 pub loop-change-init : goal.loop-change-init
-loop-change-init c = record { count = refl; so_far = changes_set_out c.args.folder.now (changes_of c.args.changes.now) }
+loop-change-init c = record { count = refl; so_far = changes_set_out c.args.folder.now (changes_in c.args.changes.now) }
 
 pub returns-in-Err-clause-refused : goal.returns-in-Err-clause-refused
 returns-in-Err-clause-refused c =

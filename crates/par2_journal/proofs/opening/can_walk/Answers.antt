@@ -2,7 +2,7 @@ use Rattle.std.proofs.Common.{◌++◌, ap, ◌∙◌}
 use Rattle.std.specs.Prelude.{reverse, Vec}
 use Rattle.std.specs.declared.alloc.Global.{Global}
 use Rattle.par2_folder.specs.declared.change.Change.{Change}
-use Rattle.par2_journal_bytes.specs.Views.{changes_of, entries_of}
+use Rattle.par2_journal_bytes.specs.Views.{changes_in, entries_of}
 use Rattle.par2_journal.proofs.Tried.{walked_home, entries_home}
 use Rattle.par2_journal.proofs.opening.can_walk.Goals as goal
 
@@ -11,7 +11,7 @@ returns-clause-folder c =
     let e = c.walk_first-walked.ensures in
     let b = c.walk_first-back.ensures in
     let turned = c.reverse.ensures.after ∙ ap reverse c.split_at_mut-front.ensures.front in
-    walked_home (λ (entry : Vec Change Global). changes_of entry.items) c.args.folder.now _ c.args.entries.now _ _ e.within e.taken e.folder e.entries
+    walked_home (λ (entry : Vec Change Global). changes_in entry.items) c.args.folder.now _ c.args.entries.now _ _ e.within e.taken e.folder e.entries
     _ turned _ c.walk_first-back.new.entries _ b.refused b.folder b.entries
 
 pub returns-clause-entries : goal.returns-clause-entries
@@ -20,5 +20,5 @@ returns-clause-entries c =
     let b = c.walk_first-back.ensures in
     let turned = c.reverse.ensures.after ∙ ap reverse c.split_at_mut-front.ensures.front in
     ap entries_of (λ i. c.reverse-2.ensures.after i ++ c.split_at_mut-front.ensures.back i)
-    ∙ entries_home (λ (entry : Vec Change Global). changes_of entry.items) c.args.folder.now _ c.args.entries.now _ _ e.within e.taken e.folder e.entries
+    ∙ entries_home (λ (entry : Vec Change Global). changes_in entry.items) c.args.folder.now _ c.args.entries.now _ _ e.within e.taken e.folder e.entries
     _ turned _ c.walk_first-back.new.entries _ b.refused b.folder b.entries

@@ -1,11 +1,11 @@
 use Rattle.std.proofs.Common.{◌≡◌, ◌++◌, length}
 use Rattle.std.specs.Vec.Iter.{into_iter_items, into_iter_len}
-use Rattle.par2_journal_bytes.specs.Views.{changes_of}
+use Rattle.par2_journal_bytes.specs.Views.{changes_in}
 use Rattle.par2_journal.proofs.opening.changes_from.Given as goal
 
 abbrev pub invariant-loop-change : goal.invariant-loop-change
 invariant-loop-change l = record {
   left : l.yielded ++ into_iter_items l.change-iterator ≡ into_iter_items l.initial.change-iterator;
   count : into_iter_len l.change-iterator ≡ length (into_iter_items l.change-iterator);
-  so_far : l.changes ≡ changes_of l.yielded;
+  so_far : l.changes ≡ changes_in l.yielded;
 }

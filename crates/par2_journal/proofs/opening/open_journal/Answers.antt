@@ -6,9 +6,9 @@ use Rattle.par2_spec.specs.Journals.{Journal}
 use Rattle.par2_spec.specs.Opening as defined
 use Rattle.par2_spec.specs.declared.JournalFault.{JournalFault}
 use Rattle.par2_spec.specs.declared.JournalFault.TheVariants.{Memory}
-use Rattle.par2_journal_bytes.specs.Views.{changes_of, halfway_of, journal_of}
-use Rattle.par2_journal.specs.Opened.{begun_as}
-use Rattle.par2_journal.proofs.Reopened.{one_or, refused_so, opened_settled, opened_begun}
+use Rattle.par2_journal_bytes.specs.Views.{changes_in, halfway_of, journal_of}
+use Rattle.par2_journal.specs.Opening.{halfway_as}
+use Rattle.par2_journal.proofs.Reopened.{one_or, refused_so, opened_settled, opened_halfway}
 use Rattle.par2_journal.proofs.opening.open_journal.Goals as goal
 
 -- an opening is refused so
@@ -26,15 +26,15 @@ returns-in_err-session-in-None-clause-refused c =
 pub returns-in_ok-found-in-Some-clause-opened : goal.returns-in_ok-found-in-Some-clause-opened
 returns-in_ok-found-in-Some-clause-opened c =
     let j = journal_of c.args.journal in
-    opened_begun c.args.folder.files j (record { fingerprints = c.in-Some.begun.fingerprints.items; back = changes_of c.in-Some.begun.back.items }) (ap halfway_of c.in-Some.is)
-    ∙ ap (λ prints. begun_as c.args.folder.files j.fingerprint j.cursor j.entries prints (changes_of c.in-Some.begun.back.items)) (sym c.deref.ensures.value)
+    opened_halfway c.args.folder.files j (record { fingerprints = c.in-Some.part.fingerprints.items; back = changes_in c.in-Some.part.back.items }) (ap halfway_of c.in-Some.is)
+    ∙ ap (λ prints. halfway_as c.args.folder.files j.fingerprint j.cursor j.entries prints (changes_in c.in-Some.part.back.items)) (sym c.deref.ensures.value)
     ∙ c.in_ok-found-in-Some.ensures.opened
 
 pub returns-in_err-found-in-Some-clause-refused : goal.returns-in_err-found-in-Some-clause-refused
 returns-in_err-found-in-Some-clause-refused c =
     let j = journal_of c.args.journal in
     refused_so _ (IsRefused c.args.folder.files j) c.in_err-found-in-Some.field-0.0 (err_from_is_err_and c.from_residual-in_err-found-in-Some.result c.from_residual-in_err-found-in-Some.ensures.1)
-    (one_or (λ e. opened_begun c.args.folder.files j (record { fingerprints = c.in-Some.begun.fingerprints.items; back = changes_of c.in-Some.begun.back.items }) (ap halfway_of c.in-Some.is)
-    ∙ ap (λ prints. begun_as c.args.folder.files j.fingerprint j.cursor j.entries prints (changes_of c.in-Some.begun.back.items)) (sym c.deref.ensures.value)
+    (one_or (λ e. opened_halfway c.args.folder.files j (record { fingerprints = c.in-Some.part.fingerprints.items; back = changes_in c.in-Some.part.back.items }) (ap halfway_of c.in-Some.is)
+    ∙ ap (λ prints. halfway_as c.args.folder.files j.fingerprint j.cursor j.entries prints (changes_in c.in-Some.part.back.items)) (sym c.deref.ensures.value)
     ∙ e)
     c.in_err-found-in-Some.ensures.refused)

@@ -1,14 +1,14 @@
 use Rattle.std.proofs.Common.{length, ap, ◌∙◌, arith}
 use Rattle.std.proofs.lemmas.List.{length-map}
 use Rattle.par2_folder.specs.Views.{change_of}
-use Rattle.par2_journal_bytes.specs.Views.{changes_of}
+use Rattle.par2_journal_bytes.specs.Views.{changes_in}
 use Rattle.par2_journal.proofs.Ways.{back_taken, back_leads, back_again, back_length}
 use Rattle.par2_journal.proofs.Spelled.{folders_count}
 use Rattle.par2_journal.proofs.spelling.spell_command.Goals as goal
 
 pub spell_made-answer-requires-clause-each : goal.spell_made-answer-requires-clause-each
 spell_made-answer-requires-clause-each c =
-    let given = changes_of c.args.changes.now in
+    let given = changes_in c.args.changes.now in
     omega (
       arith,
       ap length c.in_ok-fingerprints.ensures.after_each,
@@ -21,16 +21,16 @@ spell_made-answer-requires-clause-each c =
 pub apply_all-requires-2 : goal.apply_all-requires-2
 apply_all-requires-2 c =
     let made = c.apply_all.ensures in
-    back_taken c.args.folder.now c.apply_all.new.self (changes_of c.args.changes.now) (changes_of c.apply_all.new.changes) c.requires.applies made.folder made.way_back
+    back_taken c.args.folder.now c.apply_all.new.self (changes_in c.args.changes.now) (changes_in c.apply_all.new.changes) c.requires.applies made.folder made.way_back
 
 pub returns-clause-folder : goal.returns-clause-folder
 returns-clause-folder c =
     let made = c.apply_all.ensures in
     c.apply_all-2.ensures.folder
-    ∙ back_leads c.args.folder.now c.apply_all.new.self (changes_of c.args.changes.now) (changes_of c.apply_all.new.changes) c.requires.applies made.folder made.way_back
+    ∙ back_leads c.args.folder.now c.apply_all.new.self (changes_in c.args.changes.now) (changes_in c.apply_all.new.changes) c.requires.applies made.folder made.way_back
 
 pub returns-clause-changes : goal.returns-clause-changes
 returns-clause-changes c =
     let made = c.apply_all.ensures in
     c.apply_all-2.ensures.way_back
-    ∙ back_again c.args.folder.now c.apply_all.new.self (changes_of c.args.changes.now) (changes_of c.apply_all.new.changes) c.requires.applies made.folder made.way_back
+    ∙ back_again c.args.folder.now c.apply_all.new.self (changes_in c.args.changes.now) (changes_in c.apply_all.new.changes) c.requires.applies made.folder made.way_back

@@ -1,6 +1,6 @@
 use Rattle.std.proofs.Common.{[], length, ap, ◌∙◌, arith}
 use Rattle.std.proofs.lemmas.List.{get_or_default}
-use Rattle.par2_journal_bytes.specs.Views.{changes_of}
+use Rattle.par2_journal_bytes.specs.Views.{changes_in}
 use Rattle.par2_journal.proofs.Ways.{entry_length, entry_taken, entry_leads, entry_again}
 use Rattle.par2_journal.proofs.Spelled.{folders_count}
 use Rattle.par2_journal.proofs.spelling.spell_entry.Goals as goal
@@ -12,7 +12,7 @@ spell_turned-answer-requires-clause-each c =
     omega (
       arith,
       ap length c.in_ok-fingerprints.ensures.after_each,
-      folders_count c.args.folder.now.files (changes_of c.as_slice.result.now),
+      folders_count c.args.folder.now.files (changes_in c.as_slice.result.now),
       ap length c.as_slice.ensures,
       ap length c.index-entries-at.is,
       ap length (get_or_default entries c.args.at [] c.index-entries-at.result c.requires.place),

@@ -1,7 +1,7 @@
-use Rattle.par2_journal_bytes.specs.Views.{changes_of}
+use Rattle.par2_journal_bytes.specs.Views.{changes_in}
 use Rattle.par2_journal_bytes.specs.Reading.{change_at}
 use Rattle.par2_journal_bytes.proofs.Many.{SoFar}
 use Rattle.par2_journal_bytes.proofs.reading.read_changes.Given as goal
 
 abbrev pub invariant-loop : goal.invariant-loop
-invariant-loop l = SoFar change_at l.count l.bytes (changes_of l.changes.items) l.counter l.rest
+invariant-loop l = SoFar change_at l.count l.bytes (changes_in l.changes.items) l.counter l.rest

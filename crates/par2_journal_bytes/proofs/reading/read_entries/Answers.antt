@@ -1,7 +1,7 @@
 use Rattle.std.proofs.Common.{◌≡◌, ◌++◌, ◌∷◌, []}
 use Rattle.std.proofs.lemmas.Result.{err_from_is_err_and}
 use Rattle.std.proofs.lemmas.List.{map_push}
-use Rattle.par2_journal_bytes.specs.Views.{changes_of, entries_of}
+use Rattle.par2_journal_bytes.specs.Views.{changes_in, entries_of}
 use Rattle.par2_journal_bytes.specs.Reading.{entry_at}
 use Rattle.par2_journal_bytes.proofs.Many.{goes_on, stops, ends}
 use Rattle.par2_journal_bytes.proofs.reading.read_entries.Goals as goal
@@ -13,8 +13,8 @@ returns-in_err-entry c =
 
 pub loop-preserved : goal.loop-preserved
 loop-preserved c =
-    let e : entries_of c.push.new.self.items ≡ entries_of c.loop.entries.items ++ changes_of c.in_ok-entry.entry.items ∷ [] = rw c.in_ok-push.ensures.items (map_push _ c.loop.entries.items c.in_ok-entry.entry) in
-    rw e (goes_on entry_at c.args.count c.args.bytes.now (entries_of c.loop.entries.items) c.loop.counter c.loop.rest.now (changes_of c.in_ok-entry.entry.items) c.in_ok-entry.behind.now c.loop-test.true c.in_ok-entry.ensures c.loop.invariant)
+    let e : entries_of c.push.new.self.items ≡ entries_of c.loop.entries.items ++ changes_in c.in_ok-entry.entry.items ∷ [] = rw c.in_ok-push.ensures.items (map_push _ c.loop.entries.items c.in_ok-entry.entry) in
+    rw e (goes_on entry_at c.args.count c.args.bytes.now (entries_of c.loop.entries.items) c.loop.counter c.loop.rest.now (changes_in c.in_ok-entry.entry.items) c.in_ok-entry.behind.now c.loop-test.true c.in_ok-entry.ensures c.loop.invariant)
 
 pub returns : goal.returns
 returns c = ends entry_at c.args.count c.args.bytes.now (entries_of c.loop.entries.items) c.loop.counter c.loop.rest.now c.loop-test.false c.loop.invariant

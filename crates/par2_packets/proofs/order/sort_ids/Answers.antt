@@ -2,7 +2,7 @@ use Rattle.std.proofs.Common.{rules, ◌≡◌, ◌<◌, ◌-◌, ℕ, length, g
 use Rattle.std.specs.Int.{w128, from_le_bytes}
 use Rattle.std.specs.List.Sorted.{IsNonDecreasingBy}
 use Rattle.std.proofs.lemmas.List.Sorted.{IsNonDecreasingBy-from_sort_by_key}
-use Rattle.par2_packets.specs.View.{id_number}
+use Rattle.par2_packets.specs.Views.{id_number}
 use Rattle.par2_packets.proofs.Ids.{same_ids, rises_more, increasing, distinct_keys, not_distinct}
 use Rattle.par2_packets.proofs.order.sort_ids.Goals as goal
 

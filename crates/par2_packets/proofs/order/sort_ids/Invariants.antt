@@ -1,6 +1,6 @@
 use Rattle.std.proofs.Common.{◌<◌}
 use Rattle.std.specs.List.{AllAdjacentBelow}
-use Rattle.par2_packets.specs.View.{id_number}
+use Rattle.par2_packets.specs.Views.{id_number}
 use Rattle.par2_packets.proofs.order.sort_ids.Given as goal
 
 abbrev pub invariant-loop-i : goal.invariant-loop-i

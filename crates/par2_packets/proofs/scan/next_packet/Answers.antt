@@ -1,6 +1,6 @@
 use Rattle.std.proofs.Common.{◌≡◌, ◌+◌, ◌≤◌, ℕ, List, length, true, sym, ◌∙◌, arith}
 use Rattle.par2_spec.specs.Packets as packets
-use Rattle.par2_packets.specs.View.{packet_of}
+use Rattle.par2_packets.specs.Views.{packet_of}
 use Rattle.par2_packets.proofs.Finding.{claim_bounds, body_length, found, not_here, passed_to, nothing}
 use Rattle.par2_packets.proofs.scan.next_packet.Goals as goal
 
@@ -14,8 +14,8 @@ pub split_at-requires-then-begins_with_packet : goal.split_at-requires-then-begi
 split_at-requires-then-begins_with_packet c =
     let here : List ℕ = c.split_at.result.1.now in
     let front : packets.begins_with_packet here ≡ true = sym c.begins_with_packet.ensures ∙ c.if-begins_with_packet.true in
-    let size : 64 + length c.first_packet-packet.result.body.now ≡ packets.claimed here = body_length here (packet_of c.first_packet-packet.result) front c.first_packet-packet.ensures in
-    let most : packets.claimed here ≤ length here = (claim_bounds here front).1 in
+    let size : 64 + length c.first_packet-packet.result.body.now ≡ packets.claimed_length here = body_length here (packet_of c.first_packet-packet.result) front c.first_packet-packet.ensures in
+    let most : packets.claimed_length here ≤ length here = (claim_bounds here front).1 in
     omega (arith, size, most)
 
 pub returns-then-begins_with_packet : goal.returns-then-begins_with_packet

@@ -8,7 +8,7 @@ use Rattle.par2_spec.specs.Views.{create_args_of}
 use Rattle.par2_spec.specs.declared.Fault.{Fault}
 use Rattle.par2_spec.specs.declared.Fault.TheVariants.{Memory}
 use Rattle.par2_plan.specs.declared.names.Volume.{Volume}
-use Rattle.par2_plan.specs.Causes.{long_name, there_already}
+use Rattle.par2_plan.specs.Faults.{long_name, there_already}
 use Rattle.par2_plan.specs.Outputs.{volumes_of, names_of, output_names}
 use Rattle.par2_plan.proofs.Passed.{IsHead, head_passed}
 use Rattle.par2_plan.proofs.Refused.{refused_by_head, refused_by_inputs, refused_by_length, refused_by_there, not_refused, are_planned, apply_in_order, lead_to_folder}

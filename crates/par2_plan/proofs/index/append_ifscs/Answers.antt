@@ -3,7 +3,7 @@ use Rattle.std.specs.Prelude.{flat_map}
 use Rattle.par2_spec.specs.Packets.{packet}
 use Rattle.par2_spec.specs.Volumes.{packet_of, ifsc_bytes}
 use Rattle.par2_spec.specs.declared.Kind.TheVariants.{Ifsc}
-use Rattle.par2_packets.specs.View.{file_record_of}
+use Rattle.par2_packets.specs.Views.{file_record_of}
 use Rattle.par2_packets.specs.declared.record.FileRecord.{FileRecord}
 use Rattle.par2_plan.proofs.Listed.{flat_map_next}
 use Rattle.par2_plan.proofs.index.append_ifscs.Goals as goal

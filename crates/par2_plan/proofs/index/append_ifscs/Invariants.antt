@@ -3,7 +3,7 @@ use Rattle.std.specs.Prelude.{flat_map}
 use Rattle.par2_spec.specs.Packets.{packet}
 use Rattle.par2_spec.specs.Volumes.{packet_of, ifsc_bytes}
 use Rattle.par2_spec.specs.declared.Kind.TheVariants.{Ifsc}
-use Rattle.par2_packets.specs.View.{file_record_of}
+use Rattle.par2_packets.specs.Views.{file_record_of}
 use Rattle.par2_plan.proofs.index.append_ifscs.Given as goal
 
 abbrev pub invariant-loop-file : goal.invariant-loop-file

@@ -8,7 +8,7 @@ use Rattle.par2_spec.specs.Sets.{Target}
 use Rattle.par2_spec.specs.Search.{needing}
 use Rattle.par2_search.specs.Matching.{text_at, matched_numbers, Describe}
 use Rattle.par2_search.specs.Texts.{texts_of}
-use Rattle.par2_plan.specs.Matches.{ArePlaces, chosen, intact_by}
+use Rattle.par2_plan.specs.Matches.{ArePlaces, items_where, intact_by}
 use Rattle.par2_plan.proofs.Given.{are_places, chosen_needing, given_by_numbers, free_by}
 use Rattle.par2_plan.proofs.matching.matches.Goals as goal
 
@@ -18,7 +18,7 @@ names_at-requires c =
     let set = c.args.set.now in
     let ts : List Target = needing folder set in
     let texts : List (List ℕ) = texts_of c.deref-2.result.now in
-    let all : chosen c.args.needing.now set.targets ≡ ts = ap (λ (flags : List Bool). chosen flags set.targets) c.requires.needing ∙ chosen_needing folder set c.args.candidates.now in
+    let all : items_where c.args.needing.now set.targets ≡ ts = ap (λ (flags : List Bool). items_where flags set.targets) c.requires.needing ∙ chosen_needing folder set c.args.candidates.now in
     let described : Describe c.deref-3.result.now ts = subst (λ xs. Describe xs ts) (sym c.deref-3.ensures.value) (subst (Describe c.in_ok-targets.targets.items) all c.in_ok-targets.ensures) in
     let numbers = c.deref-5.ensures.value ∙ c.in_ok-numbers.ensures ts described in
     let are : texts ≡ map (bytes_of folder) c.in_ok-free.free.items = ap texts_of c.deref-2.ensures.value ∙ c.in_ok-texts.ensures ∙ ap (map (bytes_of folder)) c.deref.ensures.value in
@@ -34,7 +34,7 @@ returns c =
     let ts : List Target = needing folder set in
     let texts : List (List ℕ) = texts_of c.deref-2.result.now in
     let free : List (List ℕ) = free_by folder set searched in
-    let all : chosen c.args.needing.now set.targets ≡ ts = ap (λ (flags : List Bool). chosen flags set.targets) c.requires.needing ∙ chosen_needing folder set searched in
+    let all : items_where c.args.needing.now set.targets ≡ ts = ap (λ (flags : List Bool). items_where flags set.targets) c.requires.needing ∙ chosen_needing folder set searched in
     let described : Describe c.deref-3.result.now ts = subst (λ xs. Describe xs ts) (sym c.deref-3.ensures.value) (subst (Describe c.in_ok-targets.targets.items) all c.in_ok-targets.ensures) in
     let names : c.in_ok-free.free.items ≡ free = c.in_ok-free.ensures ∙ ap (λ (flags : List Bool). filter (λ name. not (is_among (intact_by flags set.targets) name)) searched) c.requires.needing in
     let are : texts ≡ map (bytes_of folder) free = ap texts_of c.deref-2.ensures.value ∙ c.in_ok-texts.ensures ∙ ap (map (bytes_of folder)) (c.deref.ensures.value ∙ names) in

@@ -4,14 +4,14 @@ use Rattle.std.specs.Slice.Iter.{iter_rest}
 use Rattle.std.proofs.lemmas.Slice.Zip.{Zip-more, either_empty_from_Zip}
 use Rattle.par2_spec.specs.Sets.{Target}
 use Rattle.par2_search.specs.Matching.{Describe}
-use Rattle.par2_plan.specs.Matches.{chosen}
+use Rattle.par2_plan.specs.Matches.{items_where}
 use Rattle.par2_plan.proofs.Choices.{Describe-more, chosen_end}
 use Rattle.par2_plan.proofs.matching.needing_targets.Goals as goal
 
 pub returns : goal.returns
 returns c =
     let it = c.loop-target.target-iterator in
-    let e : chosen (iter_rest (zip_second it)) (iter_rest (zip_first it)) ≡ [] =
+    let e : items_where (iter_rest (zip_second it)) (iter_rest (zip_first it)) ≡ [] =
     chosen_end _ _ (either_empty_from_Zip it c.next.new.self _ c.in-None.is c.next.ensures.steps) in
     let inv = c.loop-target.invariant in
     subst (Describe c.loop-target.targets.items) (sym (append-nil inv.0) ∙ ap (λ ts. inv.0 ++ ts) (sym e) ∙ inv.2) inv.1
@@ -23,11 +23,11 @@ loop-target-preserved-in-Continue-1 c =
     let flags : List Bool = iter_rest (zip_second c.next.new.self) in
     let ts : List Target = iter_rest (zip_first c.next.new.self) in
     let target : Target = c.in-Some.target.now in
-    let first : chosen (iter_rest (zip_second it)) (iter_rest (zip_first it)) ≡ target ∷ chosen flags ts =
-    ap₂ (λ (fs : List Bool) (us : List Target). chosen fs us) more.1 more.0 ∙ ap (λ b. chosen (b ∷ flags) (target ∷ ts)) c.if-needs.true in
+    let first : items_where (iter_rest (zip_second it)) (iter_rest (zip_first it)) ≡ target ∷ items_where flags ts =
+    ap₂ (λ (fs : List Bool) (us : List Target). items_where fs us) more.1 more.0 ∙ ap (λ b. items_where (b ∷ flags) (target ∷ ts)) c.if-needs.true in
     let inv = c.loop-target.invariant in (
       inv.0 ++ target ∷ [],
       subst (λ xs. Describe xs (inv.0 ++ target ∷ [])) (sym c.in_ok-push.ensures.items)
           (Describe-more _ inv.0 _ target inv.1 (record { size = sym c.size.ensures; pairs = sym c.pairs.ensures })),
-      append_assoc inv.0 (target ∷ []) (chosen flags ts) ∙ ap (λ us. inv.0 ++ us) (sym first) ∙ inv.2,
+      append_assoc inv.0 (target ∷ []) (items_where flags ts) ∙ ap (λ us. inv.0 ++ us) (sym first) ∙ inv.2,
     )

@@ -3,7 +3,7 @@ use Rattle.std.specs.Iterator.Adapters.{zip_first, zip_second}
 use Rattle.std.specs.Slice.Iter.{iter_rest}
 use Rattle.std.proofs.lemmas.Slice.Zip.{either_empty_from_Zip}
 use Rattle.par2_spec.specs.Sets.{Target}
-use Rattle.par2_plan.specs.Matches.{chosen}
+use Rattle.par2_plan.specs.Matches.{items_where}
 use Rattle.par2_plan.proofs.Choices.{chosen_end}
 use Rattle.par2_plan.proofs.needing.needing_names.Goals as goal
 
@@ -11,6 +11,6 @@ pub returns : goal.returns
 returns c =
     let it = c.loop-target.target-iterator in
     let names : List (List ℕ) = c.loop-target.names.items in
-    let e : chosen (iter_rest (zip_second it)) (iter_rest (zip_first it)) ≡ [] =
+    let e : items_where (iter_rest (zip_second it)) (iter_rest (zip_first it)) ≡ [] =
     chosen_end _ _ (either_empty_from_Zip it c.next.new.self _ c.in-None.is c.next.ensures.steps) in
     sym (append-nil names) ∙ ap (λ (ts : List Target). names ++ map (λ t. t.name) ts) (sym e) ∙ c.loop-target.invariant

@@ -1,10 +1,10 @@
 use Rattle.std.proofs.Common.{◌≡◌, ◌++◌, map}
 use Rattle.std.specs.Iterator.Adapters.{zip_first, zip_second}
 use Rattle.std.specs.Slice.Iter.{iter_rest}
-use Rattle.par2_plan.specs.Matches.{chosen}
+use Rattle.par2_plan.specs.Matches.{items_where}
 use Rattle.par2_plan.proofs.needing.needing_names.Given as goal
 
 abbrev pub invariant-loop-target : goal.invariant-loop-target
 invariant-loop-target l =
-    l.names.items ++ map (λ t. t.name) (chosen (iter_rest (zip_second l.target-iterator)) (iter_rest (zip_first l.target-iterator)))
-    ≡ map (λ t. t.name) (chosen l.needing l.set.targets)
+    l.names.items ++ map (λ t. t.name) (items_where (iter_rest (zip_second l.target-iterator)) (iter_rest (zip_first l.target-iterator)))
+    ≡ map (λ t. t.name) (items_where l.needing l.set.targets)

@@ -1,10 +1,9 @@
 use Rattle.std.proofs.Common.{◌≡◌, ◌∙◌, List, ℕ, Bool, map, ap, ap₂}
 use Rattle.std.specs.Prelude.{Option, filter}
 use Rattle.par2_spec.specs.Folders.{has}
-use Rattle.par2_spec.specs.Rules.{needing_names}
-use Rattle.par2_spec.specs.Search.{matches}
+use Rattle.par2_spec.specs.Search.{needing_names, matches}
 use Rattle.par2_spec.specs.Sets.{Target}
-use Rattle.par2_plan.specs.Matches.{chosen}
+use Rattle.par2_plan.specs.Matches.{items_where}
 use Rattle.par2_plan.specs.Repairing.{unmatched_names}
 use Rattle.par2_plan.proofs.Given.{chosen_needing}
 use Rattle.par2_plan.proofs.Repaired.{names_in_pairs, unmatched_of}
@@ -18,7 +17,7 @@ returns c =
     let flags = c.deref-2.ensures.value ∙ c.in_ok-flags.ensures in
     let own : c.in_ok-names.names.items ≡ needing_names folder set =
     c.in_ok-names.ensures
-    ∙ ap (λ (bs : List Bool). map (λ (t : Target). t.name) (chosen bs set.targets)) flags
+    ∙ ap (λ (bs : List Bool). map (λ (t : Target). t.name) (items_where bs set.targets)) flags
     ∙ ap (map (λ (t : Target). t.name)) (chosen_needing folder set searched) in record {
       names = own;
       matches = c.in_ok-matches.ensures;

@@ -3,7 +3,7 @@ use Rattle.std.proofs.lemmas.List.{map_more, drop_more, length-map, take_all}
 use Rattle.par2_spec.specs.Changes.{Change}
 use Rattle.par2_folder.specs.Views.{change_of}
 use Rattle.par2_matrix.specs.Systems.{lists_of}
-use Rattle.par2_plan.specs.Outputs.{volume_text, put}
+use Rattle.par2_plan.specs.Outputs.{volume_text, put_change}
 use Rattle.par2_plan.specs.declared.names.Volume.{Volume}
 use Rattle.par2_plan.proofs.FromLast.{first_of}
 use Rattle.par2_plan.proofs.outputs.changes_of.Goals as goal
@@ -28,14 +28,14 @@ loop-volume-preserved c =
     let parts = c.args.parts in
     let folder = c.args.folder.now.files in
     let text = volume_text parts.index.items parts.set_id parts.first (lists_of parts.slices.items) in
-    let change = λ (v : Volume). put folder (v.name, text v) in
+    let change = λ (v : Volume). put_change folder (v.name, text v) in
     let volumes : List Volume = c.args.volumes.now in
     let volume : Volume = c.volume-item.result in
     let i = c.loop-volume.volume-index in
     let low = c.loop-volume-test.true in
     let here : drop i volumes ≡ volume ∷ drop (i + 1) volumes = drop_more volumes i volume low ∙ ap (λ v. v ∷ drop (i + 1) volumes) (sym c.volume-item.is) in
     let first = first_of c.loop-volume.texts.items c.remove-bytes.result (text volume) (map text (drop (i + 1) volumes)) (kept.texts ∙ ap (map text) here) c.remove-bytes.ensures.value in
-    let made : change_of c.put-in-loop-volume.result ≡ change volume = c.put-in-loop-volume.ensures ∙ ap₂ (λ (name bytes : List ℕ). put folder (name, bytes)) c.copied.ensures first.0 in
+    let made : change_of c.put-in-loop-volume.result ≡ change volume = c.put-in-loop-volume.ensures ∙ ap₂ (λ (name bytes : List ℕ). put_change folder (name, bytes)) c.copied.ensures first.0 in
     let before : List Change = c.push.new.self in
     record {
       changes =
@@ -51,9 +51,9 @@ returns c =
     let parts = c.args.parts in
     let folder = c.args.folder.now.files in
     let text = volume_text parts.index.items parts.set_id parts.first (lists_of parts.slices.items) in
-    let change = λ (v : Volume). put folder (v.name, text v) in
+    let change = λ (v : Volume). put_change folder (v.name, text v) in
     let volumes : List Volume = c.args.volumes.now in
-    let index = c.put.ensures ∙ ap (λ (bytes : List ℕ). put folder (c.args.base, bytes)) (c.in_ok-from_slice.ensures.items ∙ c.deref.ensures.value) in
-    let first : c.push.new.self ≡ put folder (c.args.base, parts.index.items) ∷ [] = c.in_ok-push.ensures.ok ∙ ap₂ (λ (cs : List Change) x. cs ++ x ∷ []) c.new-changes.ensures index in
+    let index = c.put.ensures ∙ ap (λ (bytes : List ℕ). put_change folder (c.args.base, bytes)) (c.in_ok-from_slice.ensures.items ∙ c.deref.ensures.value) in
+    let first : c.push.new.self ≡ put_change folder (c.args.base, parts.index.items) ∷ [] = c.in_ok-push.ensures.ok ∙ ap₂ (λ (cs : List Change) x. cs ++ x ∷ []) c.new-changes.ensures index in
     c.loop-volume.invariant.changes
     ∙ ap₂ (λ (cs : List Change) (vs : List Volume). cs ++ map change vs) first (take_all c.loop-volume.volume-index volumes (omega (arith, c.loop-volume-test.false)))

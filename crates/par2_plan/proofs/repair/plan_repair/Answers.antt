@@ -6,8 +6,7 @@ use Rattle.par2_spec.specs.Changes.{Change, effects, are_applicable}
 use Rattle.par2_spec.specs.Commands.{Repair}
 use Rattle.par2_spec.specs.Plans.{changes_of}
 use Rattle.par2_spec.specs.Refusals.{set_in, refusal, repair_refusal, after}
-use Rattle.par2_spec.specs.Repairs.{rebuilt_targets}
-use Rattle.par2_spec.specs.Rules.{AreFew}
+use Rattle.par2_spec.specs.Repairs.{rebuilt_targets, AreFew}
 use Rattle.par2_spec.specs.Search.{candidates}
 use Rattle.par2_spec.specs.declared.Fault.{Fault}
 use Rattle.par2_spec.specs.declared.Fault.TheVariants.{Memory}

@@ -8,7 +8,7 @@ use Rattle.par2_spec.specs.Repairs.{rebuilt_targets}
 use Rattle.par2_spec.specs.Search.{candidates}
 use Rattle.par2_spec.proofs.NamesLaws.{std_from_distinct}
 use Rattle.par2_asides.specs.Asides.{long_aside}
-use Rattle.par2_restore.specs.Restoring.{known_in, undetermined, wrong_digest, files_of, IsAsDescribed}
+use Rattle.par2_restore.specs.Restoring.{known_in, undetermined_fault, wrong_digest, files_of, IsAsDescribed}
 use Rattle.par2_plan.specs.Repairing.{AreNeeding, AreRestoredFor, targets_by, repair_by}
 use Rattle.par2_plan.proofs.Choices.{distinct_once}
 use Rattle.par2_plan.proofs.Passing.{passed, all_passed, held, refused_by}
@@ -30,9 +30,9 @@ returns-in_err-slices-clause-refused c =
     let names : c.deref-2.result.now ≡ searched =
     c.deref-2.ensures.value ∙ passed (λ found. found.items ≡ searched) c.candidates.result c.map_err.result _ c.in_ok-candidates.candidates c.map_err.ensures.cases c.map_err.ensures.variant c.in_ok-candidates.was c.candidates.ensures in
     let fault = c.in_err-slices.field-0.0 in
-    refused_by (λ y. undetermined set (known_in set (map (bytes_of folder) c.deref-2.result.now)) ≡ Some y) (λ y. repair_refusal folder set searched ≡ Some y) c.from_residual-in_err-slices.result fault
+    refused_by (λ y. undetermined_fault set (known_in set (map (bytes_of folder) c.deref-2.result.now)) ≡ Some y) (λ y. repair_refusal folder set searched ≡ Some y) c.from_residual-in_err-slices.result fault
     (err_from_is_err_and c.from_residual-in_err-slices.result c.from_residual-in_err-slices.ensures.1) c.in_err-slices.ensures.refused
-    (λ h. not_repairable folder set searched fault (subst (λ ns. undetermined set (known_in set (map (bytes_of folder) ns)) ≡ Some fault) names h))
+    (λ h. not_repairable folder set searched fault (subst (λ ns. undetermined_fault set (known_in set (map (bytes_of folder) ns)) ≡ Some fault) names h))
 
 pub returns-in_err-asides-clause-refused : goal.returns-in_err-asides-clause-refused
 returns-in_err-asides-clause-refused c =

@@ -4,7 +4,7 @@ use Rattle.std.proofs.lemmas.Result.{err_from_is_err_and}
 use Rattle.par2_spec.specs.Folders.{bytes_of}
 use Rattle.par2_spec.specs.declared.Fault.TheVariants.{Memory}
 use Rattle.par2_search.specs.Texts.{texts_of}
-use Rattle.par2_restore.specs.Restoring.{known_in, undetermined}
+use Rattle.par2_restore.specs.Restoring.{known_in, undetermined_fault}
 use Rattle.par2_plan.specs.Repairing.{AreRestored}
 use Rattle.par2_plan.proofs.Passing.{passed}
 use Rattle.par2_plan.proofs.repair.slices_for.Goals as goal
@@ -18,9 +18,9 @@ returns-in_err-slices-clause-refused c =
     ∙ passed (λ found. texts_of found.items ≡ all) c.texts_of.result c.map_err.result _ c.in_ok-texts.texts c.map_err.ensures.cases c.map_err.ensures.variant c.in_ok-texts.was c.texts_of.ensures in
     let fault = c.in_err-slices.field-0.0 in
     let p = err_from_is_err_and c.from_residual-in_err-slices.result c.from_residual-in_err-slices.ensures.1 in
-    let why : (fault ≡ Memory) ⊎ (undetermined set (known_in set all) ≡ Some fault) =
-    subst (λ ts. (fault ≡ Memory) ⊎ (undetermined set (known_in set ts) ≡ Some fault)) texts c.in_err-slices.ensures.refused in
-    subst (λ r. IfErr r (λ y. (y ≡ Memory) ⊎ (undetermined set (known_in set all) ≡ Some y))) (sym (p.1 ∙ ap Err p.2)) why
+    let why : (fault ≡ Memory) ⊎ (undetermined_fault set (known_in set all) ≡ Some fault) =
+    subst (λ ts. (fault ≡ Memory) ⊎ (undetermined_fault set (known_in set ts) ≡ Some fault)) texts c.in_err-slices.ensures.refused in
+    subst (λ r. IfErr r (λ y. (y ≡ Memory) ⊎ (undetermined_fault set (known_in set all) ≡ Some y))) (sym (p.1 ∙ ap Err p.2)) why
 
 pub returns-clause-slices : goal.returns-clause-slices
 returns-clause-slices c =

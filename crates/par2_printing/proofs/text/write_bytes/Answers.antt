@@ -1,5 +1,5 @@
 use Rattle.std.proofs.Common.{◌∙◌, arith, rules}
-use Rattle.par2_printing.specs.Wrote.{writer_of}
+use Rattle.par2_printing.specs.Writing.{writer_of}
 use Rattle.par2_printing.proofs.WroteLaws.{part, step}
 use Rattle.par2_printing.proofs.text.write_bytes.Goals as goal
 

@@ -1,5 +1,5 @@
 use Rattle.std.proofs.Common.{◌≡◌, ◌<◌, ◌≤◌, ◌∙◌, sym, ap, subst, get_or, length}
-use Rattle.par2_recovery.specs.Survivors.{known_from, present}
+use Rattle.par2_recovery.specs.Survivors.{known_from, known_alone}
 use Rattle.par2_recovery.proofs.Rebuilding.{known-lt, length-present, length-known_from}
 use Rattle.par2_recovery.proofs.rebuild_slices.lost_slices.Goals as goal
 
@@ -19,5 +19,5 @@ pub combined-requires-clause-known : goal.combined-requires-clause-known
 combined-requires-clause-known c =
     let raw = c.args.survivors.now.known.items in
     let numbers : c.deref-4.result.now ≡ known_from 0 raw = c.deref-4.ensures.value ∙ c.in_ok-numbers.ensures ∙ ap (known_from 0) c.deref.ensures.value in
-    let slices : c.deref-5.result.now ≡ present raw = c.deref-5.ensures.value ∙ c.in_ok-known.ensures ∙ ap present c.deref-2.ensures.value in
+    let slices : c.deref-5.result.now ≡ known_alone raw = c.deref-5.ensures.value ∙ c.in_ok-known.ensures ∙ ap known_alone c.deref-2.ensures.value in
     ap length slices ∙ length-present 0 raw ∙ sym (ap length numbers)

@@ -6,7 +6,7 @@ use Rattle.par2_matrix.specs.Echelon.{lists_of}
 use Rattle.par2_matrix.proofs.Words.{length-lists_of}
 use Rattle.par2_recovery.specs.Inverses.{IsEliminated, AreCombined}
 use Rattle.par2_recovery.specs.Products.{AreBytes}
-use Rattle.par2_recovery.specs.Survivors.{known_of, recovered_of, lost_from, known_from, present}
+use Rattle.par2_recovery.specs.Survivors.{known_of, recovered_of, lost_from, known_from, known_alone}
 use Rattle.par2_recovery.specs.Views.{texts_of}
 use Rattle.par2_recovery.proofs.Combined.{length-texts_of}
 use Rattle.par2_recovery.proofs.Finishing.{finished_ok, finished_err}
@@ -28,10 +28,10 @@ eliminate-requires-clause-lost c = λ i.
 
 pub returns-in-Ok : goal.returns-in-Ok
 returns-in-Ok c =
-    let s = c.args.survivors.now.slice in
+    let s = c.args.survivors.now.slice_size in
     let raw = c.args.survivors.now.known.items in
     let known = known_of s raw in
-    let texts = texts_of (present raw) in
+    let texts = texts_of (known_alone raw) in
     let recs = recovered_of c.args.survivors.now.recovery.items in
     let kept = recovered_of c.in_ok-kept.field-0.kept.items in
     let system = c.in_ok-kept.field-0.system in
@@ -49,13 +49,13 @@ returns-in-Ok c =
     (subst (λ xs. AreCombined s (lists_of xs) (known_from 0 raw) texts (recovered_of c.deref-in-Ok.result.now) made) c.deref-in-Ok-2.ensures.value c.in_ok-lost_slices-in-Ok.ensures.made)) in
     let bytes : AreBytes texts = c.in_ok-lost_slices-in-Ok.ensures.known in
     let kept_bytes : AreBytes (map (λ r. r.1) kept) = subst (λ rs. AreBytes (map (λ r. r.1) rs)) same c.in_ok-lost_slices-in-Ok.ensures.found in
-    let all = finished_ok s known recs kept texts system inverse made c.requires.even (are_known s raw (present raw) c.requires.known refl bytes) (slices_are s raw (present raw) refl)
-    (length-texts_of (present raw) ∙ length-present 0 raw ∙ ap length numbers) bytes c.requires.recovery kept_bytes found c.in-Ok.ensures.ok (c.in-Ok.ensures.when.0 refl) full combined in
+    let all = finished_ok s known recs kept texts system inverse made c.requires.even (are_known s raw (known_alone raw) c.requires.known refl bytes) (slices_are s raw (known_alone raw) refl)
+    (length-texts_of (known_alone raw) ∙ length-present 0 raw ∙ ap length numbers) bytes c.requires.recovery kept_bytes found c.in-Ok.ensures.ok (c.in-Ok.ensures.when.0 refl) full combined in
     (all.0, sym (length-lists_of c.in_ok-lost_slices-in-Ok.field-0.items) ∙ all.1, all.2)
 
 pub returns : goal.returns
 returns c =
-    let s = c.args.survivors.now.slice in
+    let s = c.args.survivors.now.slice_size in
     let raw = c.args.survivors.now.known.items in
     let known = known_of s raw in
     let recs = recovered_of c.args.survivors.now.recovery.items in

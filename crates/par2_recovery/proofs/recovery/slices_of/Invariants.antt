@@ -9,6 +9,6 @@ use Rattle.par2_recovery.proofs.recovery.slices_of.Given as goal
 
 abbrev pub invariant-loop-i : goal.invariant-loop-i
 invariant-loop-i l = record {
-  slices : map (padded l.record.slice) (texts_of l.all.items) ≡ all_slices l.record.slice (files_of l.folder.files (take l.i (names_of l.record)));
+  slices : map (padded l.record.slice_size) (texts_of l.all.items) ≡ all_slices l.record.slice_size (files_of l.folder.files (take l.i (names_of l.record)));
   bytes : AreBytes (texts_of l.all.items);
 }

@@ -4,7 +4,7 @@ use Rattle.md5.specs.Md5.{md5}
 use Rattle.par2_spec.specs.Folders.{bytes_of}
 use Rattle.par2_spec.specs.Volumes.{record_of}
 use Rattle.par2_spec.specs.Commands.{files_of}
-use Rattle.par2_packets.specs.View.{file_record_of}
+use Rattle.par2_packets.specs.Views.{file_record_of}
 use Rattle.par2_recovery.proofs.Records.{digest_at_name, record_push}
 use Rattle.par2_recovery.proofs.set_record.file_records.Goals as goal
 

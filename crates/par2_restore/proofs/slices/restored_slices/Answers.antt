@@ -2,9 +2,10 @@ use Rattle.std.proofs.Common.{◌≡◌, ◌∙◌, ◌⊎◌, List, ℕ, refl, 
 use Rattle.std.specs.Prelude.{Option, Some}
 use Rattle.std.proofs.lemmas.List.{length-map}
 use Rattle.std.proofs.lemmas.Slice.Zip.{AllZip-long}
-use Rattle.par2_spec.specs.Search.{all_pairs, lost, survivors}
+use Rattle.par2_spec.specs.Search.{lost, survivors}
+use Rattle.par2_spec.specs.Sets.{all_pairs}
 use Rattle.par2_search.specs.Texts.{texts_of}
-use Rattle.par2_restore.specs.Restoring.{known_in, undetermined}
+use Rattle.par2_restore.specs.Restoring.{known_in, undetermined_fault}
 use Rattle.par2_spec.specs.declared.Fault.TheVariants.{Memory}
 use Rattle.par2_restore.specs.Survivors.{AreSurvivors}
 use Rattle.par2_restore.proofs.Rebuilt.{rebuilt_for, enough_for, fault_for, no_fault, kept_by_map_err}
@@ -49,4 +50,4 @@ returns-clause-refused c =
     let found = c.in_ok-survivors.survivors in
     let are : AreSurvivors set known found = kept_by_map_err _ _ found (AreSurvivors set known) _ c.survivors_of.ensures.these c.map_err.ensures.cases c.map_err.ensures.variant c.in_ok-survivors.was in
     let says = c.tests_say_the_words.ensures.repairable (lost known) (survivors set) in
-    subst (λ fault. (fault ≡ Memory) ⊎ (undetermined set known ≡ Some fault)) (sym c.fault_of.ensures) (fault_for set known found are says c.in-Err.fault c.in-Err.ensures.refused)
+    subst (λ fault. (fault ≡ Memory) ⊎ (undetermined_fault set known ≡ Some fault)) (sym c.fault_of.ensures) (fault_for set known found are says c.in-Err.fault c.in-Err.ensures.refused)

@@ -3,7 +3,7 @@ use Rattle.std.specs.List.{AllByRecursion}
 use Rattle.std.specs.List.Sorted.{IsStrictlyIncreasing}
 use Rattle.std.proofs.lemmas.List.{length-map}
 use Rattle.par2_spec.specs.Checksums.{Pair}
-use Rattle.par2_spec.specs.Search.{all_pairs}
+use Rattle.par2_spec.specs.Sets.{all_pairs}
 use Rattle.par2_spec.specs.Windows.{found}
 use Rattle.par2_spec.proofs.FilesLaws.{size_even}
 use Rattle.par2_search.specs.Texts.{Window, padded_window, texts_of}

@@ -6,7 +6,7 @@ use Rattle.std.specs.Ordering.{eq_by_cmp}
 use Rattle.std.specs.Str.{bytes_eq}
 use Rattle.std.proofs.lemmas.List.{take_all}
 use Rattle.par2_spec.specs.Packets.{Packet, IfscBody, read_ifsc}
-use Rattle.par2_packets.specs.View.{packet_of}
+use Rattle.par2_packets.specs.Views.{packet_of}
 use Rattle.par2_sets.specs.Firsts.{count_cmp}
 use Rattle.par2_sets.proofs.Checked.{checksums_of}
 use Rattle.par2_sets.proofs.Keeping.{one_more, nothing_more, same_count}

@@ -4,7 +4,7 @@ use Rattle.std.specs.BTreeMap.{get}
 use Rattle.std.specs.Ordering.{eq_by_cmp}
 use Rattle.std.proofs.lemmas.List.{take_all}
 use Rattle.par2_spec.specs.Packets.{DescBody, read_desc}
-use Rattle.par2_packets.specs.View.{packet_of}
+use Rattle.par2_packets.specs.Views.{packet_of}
 use Rattle.par2_packets.specs.declared.scan.Packet as scan
 use Rattle.par2_sets.specs.Firsts.{id_cmp}
 use Rattle.par2_sets.proofs.Checked.{desc_in, has_id}

@@ -7,7 +7,7 @@ use Rattle.std.specs.List.Sorted.{IsStrictlyIncreasing}
 use Rattle.std.proofs.lemmas.List.{take_all}
 use Rattle.std.proofs.lemmas.Result.{IfOk-weaker}
 use Rattle.par2_spec.specs.Sets.{recovery_of}
-use Rattle.par2_packets.specs.View.{packet_of}
+use Rattle.par2_packets.specs.Views.{packet_of}
 use Rattle.par2_sets.specs.Slices.{entry_of, exponents_of, recovered_of, slice_at}
 use Rattle.par2_sets.proofs.Exponents.{slices_in, one_more, nothing_more, first_slices, rising}
 use Rattle.par2_sets.proofs.recovery.recovery_of.Goals as goal

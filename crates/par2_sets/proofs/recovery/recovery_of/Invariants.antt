@@ -1,7 +1,7 @@
 use Rattle.std.proofs.Common.{◌≡◌, ℕ, map, take}
 use Rattle.std.specs.Ordering.{nat_cmp}
 use Rattle.std.specs.FinMap.{find}
-use Rattle.par2_packets.specs.View.{packet_of}
+use Rattle.par2_packets.specs.Views.{packet_of}
 use Rattle.par2_sets.proofs.Exponents.{slices_in}
 use Rattle.par2_sets.specs.Slices.{slice_at}
 use Rattle.par2_sets.proofs.recovery.recovery_of.Given as goal

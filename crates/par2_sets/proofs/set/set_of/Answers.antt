@@ -5,8 +5,8 @@ use Rattle.par2_spec.specs.Sets as sets
 use Rattle.par2_spec.specs.Sets.{are_in_profile, recovery_of, unless}
 use Rattle.std.specs.FinMap.{entries}
 use Rattle.std.specs.List.Sorted.{IsStrictlyIncreasing}
-use Rattle.par2_packets.specs.View.{packet_of}
-use Rattle.par2_sets.specs.Steps.{described, checked}
+use Rattle.par2_packets.specs.Views.{packet_of}
+use Rattle.par2_sets.specs.Steps.{descriptions_of, targets_or_fault}
 use Rattle.par2_sets.specs.Slices.{exponents_of, recovered_of}
 use Rattle.par2_sets.proofs.Refusals.{refused_by}
 use Rattle.par2_sets.proofs.Reading.{Begun, not_described, not_taken, not_checked, all_read, the_set}
@@ -47,7 +47,7 @@ returns-in_err-names-clause-refused c =
     } in
     let fault = c.in_err-names.field-0.0 in
     let ds = c.in_ok-described.described.items in
-    let read : described packets main.ids ≡ Ok ds = grind arith in
+    let read : descriptions_of packets main.ids ≡ Ok ds = grind arith in
     refused_by _ _ fault (err_from_is_err_and c.from_residual-in_err-names.result c.from_residual-in_err-names.ensures.1) (
     elim c.in_err-names.ensures.test as (λ _. (fault ≡ Memory) ⊎ (sets.set_of files base ≡ Err fault)) [
       | inl memory ↦ inl memory
@@ -69,7 +69,7 @@ returns-in_err-targets-clause-refused c =
     } in
     let fault = c.in_err-targets.field-0.0 in
     let ds = c.in_ok-described.described.items in
-    let read : described packets main.ids ≡ Ok ds = grind arith in
+    let read : descriptions_of packets main.ids ≡ Ok ds = grind arith in
     let taken : unless (are_in_profile main.slice_size ds) BadSet ≡ Ok true = grind arith in
     refused_by _ _ fault (err_from_is_err_and c.from_residual-in_err-targets.result c.from_residual-in_err-targets.ensures.1) (
     elim c.in_err-targets.ensures as (λ _. (fault ≡ Memory) ⊎ (sets.set_of files base ≡ Err fault)) [
@@ -91,11 +91,11 @@ returns c =
       size = grind arith;
     } in
     let ds = c.in_ok-described.described.items in
-    let read : described packets main.ids ≡ Ok ds = grind arith in
+    let read : descriptions_of packets main.ids ≡ Ok ds = grind arith in
     let taken : unless (are_in_profile main.slice_size ds) BadSet ≡ Ok true = grind arith in
     let targets = c.in_ok-targets.targets.items in
     let recovery = c.in_ok-recovery.recovery.items in
-    let done : checked packets main.slice_size ds ≡ Ok targets = grind arith in
+    let done : targets_or_fault packets main.slice_size ds ≡ Ok targets = grind arith in
     let recovered : recovered_of recovery ≡ entries (recovery_of packets main.slice_size) = grind arith in
     let is = all_read files base id packets main begun ds read taken targets done ∙ the_set id packets main.slice_size c.slice_size-slice_size.result targets recovery c.slice_size-slice_size.ensures recovered in
     record { refused = tt; read = is; sound = c.set_is_sound.ensures files base _ is }
@@ -114,11 +114,11 @@ invariant_of-result c =
       size = grind arith;
     } in
     let ds = c.in_ok-described.described.items in
-    let read : described packets main.ids ≡ Ok ds = grind arith in
+    let read : descriptions_of packets main.ids ≡ Ok ds = grind arith in
     let taken : unless (are_in_profile main.slice_size ds) BadSet ≡ Ok true = grind arith in
     let targets = c.in_ok-targets.targets.items in
     let recovery = c.in_ok-recovery.recovery.items in
-    let done : checked packets main.slice_size ds ≡ Ok targets = grind arith in
+    let done : targets_or_fault packets main.slice_size ds ≡ Ok targets = grind arith in
     let recovered : recovered_of recovery ≡ entries (recovery_of packets main.slice_size) = grind arith in
     let is = all_read files base id packets main begun ds read taken targets done ∙ the_set id packets main.slice_size c.slice_size-slice_size.result targets recovery c.slice_size-slice_size.ensures recovered in
     let got : c.recovery_of.result ≡ Ok c.in_ok-recovery.recovery = grind arith in record {

@@ -3,8 +3,8 @@ use Rattle.std.specs.Prelude.{IfErr, IfOk, OnErr, OnOk, Vec, ℕ, option_map}
 use Rattle.std.specs.declared.alloc.Global.{Global}
 use Rattle.par2_spec.specs.Opening.{Started, new_session}
 use Rattle.par2_spec.specs.Stores.{Contents}
-use Rattle.par2_tool.specs.Held.{IsOpening, OpensAsBefore, TellsApartBack, kept}
-use Rattle.par2_tool.specs.Opened.{started_of, IsOpened, IsUnopened, OnlyTakesBack}
+use Rattle.par2_tool.specs.Holding.{IsOpening, OpensAsBefore, TellsApartBack, with_history}
+use Rattle.par2_tool.specs.Opening.{started_of, IsOpened, IsUnopened, OnlyTakesBack}
 use Rattle.par2_tool.proofs.AsIs.{opened_as_is, opened_new, stands_on}
 use Rattle.par2_tool.proofs.Reopened.{is_read}
 use Rattle.par2_tool.proofs.opening.open_for_verify.Goals as goal
@@ -13,7 +13,7 @@ pub returns-in-Ok-None-clause-opened : goal.returns-in-Ok-None-clause-opened
 returns-in-Ok-None-clause-opened g c =
     let old = g.S.FolderStore.contents c.args.store.now in
     let files = c.in-Ok.folder.files in
-    let opened = kept (new_session files) in (
+    let opened = with_history (new_session files) in (
       opened,
       sym (ap (λ (t : Started). t.session.folder) c.without_history.ensures),
       λ honest.

@@ -4,8 +4,8 @@ use Rattle.std.specs.declared.alloc.Global.{Global}
 use Rattle.par2_spec.specs.Changes.{FolderState}
 use Rattle.par2_spec.specs.Sessions.{session_of_kept}
 use Rattle.par2_spec.specs.Stores.{Contents}
-use Rattle.par2_tool.specs.Held.{Holds, IsOpening, OpensAsBefore, TellsApartBack, kept}
-use Rattle.par2_tool.specs.Opened.{started_of, IsUnopened, OnlyTakesBack}
+use Rattle.par2_tool.specs.Holding.{Holds, IsOpening, OpensAsBefore, TellsApartBack, with_history}
+use Rattle.par2_tool.specs.Opening.{started_of, IsUnopened, OnlyTakesBack}
 use Rattle.par2_tool.proofs.Made.{is_new}
 use Rattle.par2_tool.proofs.Reopened.{is_read, opens_new}
 use Rattle.par2_tool.proofs.opening.open_store.Goals as goal
@@ -91,5 +91,5 @@ pub returns-in-Ok-None-clause-holds : goal.returns-in-Ok-None-clause-holds
 returns-in-Ok-None-clause-holds g c honest =
     let same = c.read_journal.ensures.same (c.read_folder.ensures.honest honest) ∙ c.read_folder.ensures.same honest in
     let files = ap (λ (f : FolderState). f.files) c.new.ensures.folder ∙ c.in-Ok.ensures.files honest in
-    subst (λ k. Holds k (kept (session_of_kept c.new.result))) (sym same)
+    subst (λ k. Holds k (with_history (session_of_kept c.new.result))) (sym same)
     (record { files = sym files; opens = returns-in-Ok-None-clause-opened g c honest })

@@ -1,25 +1,25 @@
 use Rattle.std.proofs.Common.{inr, Ok, Err, true, false, refl, sym, ap, subst, ◌∙◌}
 use Rattle.par2_spec.specs.Changes.{FolderState}
-use Rattle.par2_spec.specs.Opening.{Opens, ToTakeBack}
+use Rattle.par2_spec.specs.Opening.{Opens, Halfway}
 use Rattle.par2_spec.specs.Sessions.{Session, KeptSession, session_of_kept}
 use Rattle.par2_spec.specs.Stores.{Contents}
 use Rattle.par2_spec.specs.declared.JournalFault.TheVariants.{JournalInvalid, FolderChanged}
-use Rattle.par2_journal.specs.Opened.{opened_of, session_before, way_left}
-use Rattle.par2_tool.specs.Held.{Holds, OpensAsBefore, kept}
+use Rattle.par2_journal.specs.Opening.{opened_of, session_before, way_left}
+use Rattle.par2_tool.specs.Holding.{Holds, OpensAsBefore, with_history}
 use Rattle.par2_tool.proofs.Made.{is_new}
 use Rattle.par2_tool.proofs.Reopened.{any_err, holds_settled, holds_taken_back, opens_read, opens_refused, opens_still, takes_back, way_applies}
 use Rattle.par2_tool.proofs.opening.open_with.Goals as goal
 
-pub returns-in_err-session-in-Ok-Begun-clause-stopped : goal.returns-in_err-session-in-Ok-Begun-clause-stopped
-returns-in_err-session-in-Ok-Begun-clause-stopped g c honest read apart =
+pub returns-in_err-session-in-Ok-Halfway-clause-stopped : goal.returns-in_err-session-in-Ok-Halfway-clause-stopped
+returns-in_err-session-in-Ok-Halfway-clause-stopped g c honest read apart =
     let old = g.S.FolderStore.contents c.args.store.now in
     let new = g.S.FolderStore.contents c.take_back.new.store in
     let files = c.args.folder.files in
     let text = c.args.text.now in
-    let halfway = c.in-Ok-Begun.halfway in
-    let opens = subst (λ found. Opens files text (Ok (opened_of found))) c.in-Ok-Begun.field-0-is c.in-Ok-Begun.ensures.opened in
+    let halfway = c.in-Ok-Halfway.halfway in
+    let opens = subst (λ found. Opens files text (Ok (opened_of found))) c.in-Ok-Halfway.field-0-is c.in-Ok-Halfway.ensures.opened in
     any_err c.from_residual.result (OpensAsBefore old new)
-    (opens_still old new files text (session_of_kept (session_before halfway)) (way_left halfway) read opens apart (c.in_err-session-in-Ok-Begun.ensures.stopped honest))
+    (opens_still old new files text (session_of_kept (session_before halfway)) (way_left halfway) read opens apart (c.in_err-session-in-Ok-Halfway.ensures.stopped honest))
 
 pub returns-in-Err-FolderChanged-true-default-clause-refused : goal.returns-in-Err-FolderChanged-true-default-clause-refused
 returns-in-Err-FolderChanged-true-default-clause-refused g c honest read =
@@ -66,42 +66,42 @@ returns-in-Ok-Settled-clause-holds g c honest read =
 pub returns-in-Ok-Settled-clause-opened : goal.returns-in-Ok-Settled-clause-opened
 returns-in-Ok-Settled-clause-opened g c honest read = (returns-in-Ok-Settled-clause-holds g c honest read).opens
 
-pub returns-in_ok-session-in-Ok-Begun-clause-opened : goal.returns-in_ok-session-in-Ok-Begun-clause-opened
-returns-in_ok-session-in-Ok-Begun-clause-opened g c honest read =
+pub returns-in_ok-session-in-Ok-Halfway-clause-opened : goal.returns-in_ok-session-in-Ok-Halfway-clause-opened
+returns-in_ok-session-in-Ok-Halfway-clause-opened g c honest read =
     let files = c.args.folder.files in
     let text = c.args.text.now in
-    let halfway = c.in-Ok-Begun.halfway in
-    let opens = subst (λ found. Opens files text (Ok (opened_of found))) c.in-Ok-Begun.field-0-is c.in-Ok-Begun.ensures.opened in
-    opens_read (g.S.FolderStore.contents c.args.store.now) files text (Ok (ToTakeBack (session_of_kept (session_before halfway)) (way_left halfway)))
-    (Ok (kept (session_of_kept c.in_ok-session-in-Ok-Begun.session))) read opens
-    (ap (λ (s : KeptSession). Ok (kept (session_of_kept s))) c.in_ok-session-in-Ok-Begun.ensures.session)
+    let halfway = c.in-Ok-Halfway.halfway in
+    let opens = subst (λ found. Opens files text (Ok (opened_of found))) c.in-Ok-Halfway.field-0-is c.in-Ok-Halfway.ensures.opened in
+    opens_read (g.S.FolderStore.contents c.args.store.now) files text (Ok (Halfway (session_of_kept (session_before halfway)) (way_left halfway)))
+    (Ok (with_history (session_of_kept c.in_ok-session-in-Ok-Halfway.session))) read opens
+    (ap (λ (s : KeptSession). Ok (with_history (session_of_kept s))) c.in_ok-session-in-Ok-Halfway.ensures.session)
 
-pub returns-in_ok-session-in-Ok-Begun-clause-holds : goal.returns-in_ok-session-in-Ok-Begun-clause-holds
-returns-in_ok-session-in-Ok-Begun-clause-holds g c honest read =
+pub returns-in_ok-session-in-Ok-Halfway-clause-holds : goal.returns-in_ok-session-in-Ok-Halfway-clause-holds
+returns-in_ok-session-in-Ok-Halfway-clause-holds g c honest read =
     let new = g.S.FolderStore.contents c.take_back.new.store in
     let files = c.args.folder.files in
     let text = c.args.text.now in
-    let halfway = c.in-Ok-Begun.halfway in
-    let opens = subst (λ found. Opens files text (Ok (opened_of found))) c.in-Ok-Begun.field-0-is c.in-Ok-Begun.ensures.opened in
-    subst (λ (s : KeptSession). Holds new (kept (session_of_kept s))) (sym c.in_ok-session-in-Ok-Begun.ensures.session)
-    (holds_taken_back (g.S.FolderStore.contents c.args.store.now) new files text (session_of_kept (session_before halfway)) (way_left halfway) read opens (c.in_ok-session-in-Ok-Begun.ensures.done honest))
+    let halfway = c.in-Ok-Halfway.halfway in
+    let opens = subst (λ found. Opens files text (Ok (opened_of found))) c.in-Ok-Halfway.field-0-is c.in-Ok-Halfway.ensures.opened in
+    subst (λ (s : KeptSession). Holds new (with_history (session_of_kept s))) (sym c.in_ok-session-in-Ok-Halfway.ensures.session)
+    (holds_taken_back (g.S.FolderStore.contents c.args.store.now) new files text (session_of_kept (session_before halfway)) (way_left halfway) read opens (c.in_ok-session-in-Ok-Halfway.ensures.done honest))
 
-pub returns-in_ok-session-in-Ok-Begun-clause-left : goal.returns-in_ok-session-in-Ok-Begun-clause-left
-returns-in_ok-session-in-Ok-Begun-clause-left g c honest read =
+pub returns-in_ok-session-in-Ok-Halfway-clause-left : goal.returns-in_ok-session-in-Ok-Halfway-clause-left
+returns-in_ok-session-in-Ok-Halfway-clause-left g c honest read =
     let files = c.args.folder.files in
     let text = c.args.text.now in
-    let halfway = c.in-Ok-Begun.halfway in
-    let opens = subst (λ found. Opens files text (Ok (opened_of found))) c.in-Ok-Begun.field-0-is c.in-Ok-Begun.ensures.opened in
-    inr (takes_back (g.S.FolderStore.contents c.args.store.now) (g.S.FolderStore.contents c.take_back.new.store) files text (session_of_kept (session_before halfway)) (way_left halfway) read opens (c.in_ok-session-in-Ok-Begun.ensures.done honest))
+    let halfway = c.in-Ok-Halfway.halfway in
+    let opens = subst (λ found. Opens files text (Ok (opened_of found))) c.in-Ok-Halfway.field-0-is c.in-Ok-Halfway.ensures.opened in
+    inr (takes_back (g.S.FolderStore.contents c.args.store.now) (g.S.FolderStore.contents c.take_back.new.store) files text (session_of_kept (session_before halfway)) (way_left halfway) read opens (c.in_ok-session-in-Ok-Halfway.ensures.done honest))
 
-pub returns-in_err-session-in-Ok-Begun-clause-possible : goal.returns-in_err-session-in-Ok-Begun-clause-possible
-returns-in_err-session-in-Ok-Begun-clause-possible g c honest read =
-    let halfway = c.in-Ok-Begun.halfway in
-    let opens = subst (λ found. Opens c.args.folder.files c.args.text.now (Ok (opened_of found))) c.in-Ok-Begun.field-0-is c.in-Ok-Begun.ensures.opened in
+pub returns-in_err-session-in-Ok-Halfway-clause-possible : goal.returns-in_err-session-in-Ok-Halfway-clause-possible
+returns-in_err-session-in-Ok-Halfway-clause-possible g c honest read =
+    let halfway = c.in-Ok-Halfway.halfway in
+    let opens = subst (λ found. Opens c.args.folder.files c.args.text.now (Ok (opened_of found))) c.in-Ok-Halfway.field-0-is c.in-Ok-Halfway.ensures.opened in
     c.take_back.ensures.possible honest (way_applies (g.S.FolderStore.contents c.args.store.now) _ _ (session_of_kept (session_before halfway)) (way_left halfway) read opens)
 
-pub returns-in_ok-session-in-Ok-Begun-clause-possible : goal.returns-in_ok-session-in-Ok-Begun-clause-possible
-returns-in_ok-session-in-Ok-Begun-clause-possible g c honest read =
-    let halfway = c.in-Ok-Begun.halfway in
-    let opens = subst (λ found. Opens c.args.folder.files c.args.text.now (Ok (opened_of found))) c.in-Ok-Begun.field-0-is c.in-Ok-Begun.ensures.opened in
+pub returns-in_ok-session-in-Ok-Halfway-clause-possible : goal.returns-in_ok-session-in-Ok-Halfway-clause-possible
+returns-in_ok-session-in-Ok-Halfway-clause-possible g c honest read =
+    let halfway = c.in-Ok-Halfway.halfway in
+    let opens = subst (λ found. Opens c.args.folder.files c.args.text.now (Ok (opened_of found))) c.in-Ok-Halfway.field-0-is c.in-Ok-Halfway.ensures.opened in
     c.take_back.ensures.possible honest (way_applies (g.S.FolderStore.contents c.args.store.now) _ _ (session_of_kept (session_before halfway)) (way_left halfway) read opens)

@@ -1,19 +1,19 @@
 use Rattle.std.proofs.Common.{◌≡◌, List, refl, sym, ap, subst, ◌∙◌, map}
 use Rattle.par2_spec.specs.Changes as defined
 use Rattle.par2_spec.specs.Commands.{Verify}
-use Rattle.par2_spec.specs.Rules.{LeadsToAfterAsked}
+use Rattle.par2_spec.specs.Plans.{LeadsToAfterAsked}
 use Rattle.par2_spec.specs.Sessions.{KeptSession, session_of_kept, session_after, changes_asked}
 use Rattle.par2_spec.specs.Stores.{Contents}
 use Rattle.par2_spec.specs.Views.{action_of, command_of}
-use Rattle.par2_spec.specs.declared.asked.Command.{Command}
+use Rattle.par2_spec.specs.declared.commands.Command.{Command}
 use Rattle.par2_spec.proofs.AcceptedCommands.{command_leads}
 use Rattle.par2_plan.specs.Views.{report_of}
-use Rattle.par2_journal.specs.Faulted.{MayRefuse}
+use Rattle.par2_journal.specs.Refusals.{MayRefuse}
 use Rattle.par2_journal.specs.declared.prepared.SessionFault.TheVariants.{Plan}
 use Rattle.par2_folder.specs.Views.{change_of}
-use Rattle.par2_journal.specs.Ready.{changes_of, committed}
-use Rattle.par2_tool.specs.Held.{TellsApartAlong, OpensAsBeforeOrAfter}
-use Rattle.par2_tool.specs.Performed.{written_down, AreSomeMade, HoldsJournaled, IsStoppedAt, IsWritten}
+use Rattle.par2_journal.specs.Ready.{changes_by_kind, after_commit}
+use Rattle.par2_tool.specs.Holding.{TellsApartAlong, OpensAsBeforeOrAfter}
+use Rattle.par2_tool.specs.Performing.{after_write_down, AreSomeMade, HoldsJournaled, IsStoppedAt, IsWritten}
 use Rattle.par2_tool.proofs.Verified.{as_it_was, verify_leaves, verify_refused, written_by}
 use Rattle.par2_tool.proofs.Stopping.{none_made, ready_applies, written_holds, written_journal, stopped_opens, asked_in_order}
 use Rattle.par2_tool.proofs.performing.perform.Goals as goal
@@ -61,17 +61,17 @@ returns-in-Ok-write_down-clause-written g c honest files =
     let start = g.S.FolderStore.contents c.args.store.now in
     let new = g.S.FolderStore.contents c.write_down.new.store in
     let spelled = c.in-Ok-journals.ensures.journals action old grew is in
-    let made : map change_of c.changes.result.now ≡ changes_of ready.kind mid = c.changes.ensures ∙ (λ i. changes_of (c.in-Ok-journals.ensures.prepared i).kind (c.in-Ok-journals.ensures.unchanged i)) in
-    let there : new ≡ written_down start journals (changes_of ready.kind mid) = c.in-Ok-write_down.ensures.done honest ∙ ap (written_down start journals) made in
-    let after : c.commit.new.self ≡ committed ready.kind mid = c.commit.ensures.session ∙ (λ i. committed (c.in-Ok-journals.ensures.prepared i).kind (c.in-Ok-journals.ensures.unchanged i)) in
-    let all : HoldsJournaled (session_of_kept (committed ready.kind mid)) (written_down start journals (changes_of ready.kind mid)) = (
+    let made : map change_of c.changes.result.now ≡ changes_by_kind ready.kind mid = c.changes.ensures ∙ (λ i. changes_by_kind (c.in-Ok-journals.ensures.prepared i).kind (c.in-Ok-journals.ensures.unchanged i)) in
+    let there : new ≡ after_write_down start journals (changes_by_kind ready.kind mid) = c.in-Ok-write_down.ensures.done honest ∙ ap (after_write_down start journals) made in
+    let after : c.commit.new.self ≡ after_commit ready.kind mid = c.commit.ensures.session ∙ (λ i. after_commit (c.in-Ok-journals.ensures.prepared i).kind (c.in-Ok-journals.ensures.unchanged i)) in
+    let all : HoldsJournaled (session_of_kept (after_commit ready.kind mid)) (after_write_down start journals (changes_by_kind ready.kind mid)) = (
       written_holds old mid action ready grew is c.folder-folder.ensures.walks journals spelled start files,
       written_journal old mid action ready grew is journals spelled start,
     ) in
     subst (λ (x : Command). IsWritten (command_of x) (session_of_kept c.commit.new.self) start new) (sym c.in-Act.is)
     (written_by given (session_of_kept c.commit.new.self) start new
     (subst (λ (k : Contents). HoldsJournaled (session_of_kept c.commit.new.self) k) (sym there)
-    (subst (λ (s : KeptSession). HoldsJournaled (session_of_kept s) (written_down start journals (changes_of ready.kind mid))) (sym after) all)))
+    (subst (λ (s : KeptSession). HoldsJournaled (session_of_kept s) (after_write_down start journals (changes_by_kind ready.kind mid))) (sym after) all)))
 
 pub returns-in-Err-write_down-clause-stopped : goal.returns-in-Err-write_down-clause-stopped
 returns-in-Err-write_down-clause-stopped g c honest files apart =
@@ -84,7 +84,7 @@ returns-in-Err-write_down-clause-stopped g c honest files apart =
     let action = action_of c.in-Act.action in
     let start = g.S.FolderStore.contents c.args.store.now in
     let new = g.S.FolderStore.contents c.write_down.new.store in
-    let made : map change_of c.changes.result.now ≡ changes_of ready.kind mid = c.changes.ensures ∙ (λ i. changes_of (c.in-Ok-journals.ensures.prepared i).kind (c.in-Ok-journals.ensures.unchanged i)) in
+    let made : map change_of c.changes.result.now ≡ changes_by_kind ready.kind mid = c.changes.ensures ∙ (λ i. changes_by_kind (c.in-Ok-journals.ensures.prepared i).kind (c.in-Ok-journals.ensures.unchanged i)) in
     let stop = subst (λ (cs : List defined.Change). IsStoppedAt start journals cs new) made (c.in-Err-write_down.ensures.stopped honest) in
     let apart_from : TellsApartAlong (session_of_kept old) action = subst (λ (x : Command). TellsApartAlong (session_of_kept old) (command_of x)) c.in-Act.is apart in
     subst (λ (x : Command). OpensAsBeforeOrAfter (session_of_kept old) (command_of x) start new) (sym c.in-Act.is)
@@ -97,7 +97,7 @@ returns-in-Err-write_down-clause-in_order g c honest =
     let journals = c.in-Ok-journals.journals in
     let start = g.S.FolderStore.contents c.args.store.now in
     let new = g.S.FolderStore.contents c.write_down.new.store in
-    let made : map change_of c.changes.result.now ≡ changes_of ready.kind mid = c.changes.ensures ∙ (λ i. changes_of (c.in-Ok-journals.ensures.prepared i).kind (c.in-Ok-journals.ensures.unchanged i)) in
+    let made : map change_of c.changes.result.now ≡ changes_by_kind ready.kind mid = c.changes.ensures ∙ (λ i. changes_by_kind (c.in-Ok-journals.ensures.prepared i).kind (c.in-Ok-journals.ensures.unchanged i)) in
     let stop = subst (λ (cs : List defined.Change). IsStoppedAt start journals cs new) made (c.in-Err-write_down.ensures.stopped honest) in
     subst (λ (x : Command). AreSomeMade (changes_asked (session_of_kept c.args.session.now) (command_of x)) start.files new.files) (sym c.in-Act.is)
     (asked_in_order c.args.session.now mid (action_of c.in-Act.action) ready c.in-Ok-prepare.ensures.kept c.in-Ok-prepare.ensures.ready start journals new stop)
@@ -106,7 +106,7 @@ pub returns-in-Ok-write_down-clause-possible : goal.returns-in-Ok-write_down-cla
 returns-in-Ok-write_down-clause-possible g c honest files =
     let ready = c.in-Ok-prepare.prepared in
     let mid = c.prepare.new.self in
-    let made : map change_of c.changes.result.now ≡ changes_of ready.kind mid = c.changes.ensures ∙ (λ i. changes_of (c.in-Ok-journals.ensures.prepared i).kind (c.in-Ok-journals.ensures.unchanged i)) in
+    let made : map change_of c.changes.result.now ≡ changes_by_kind ready.kind mid = c.changes.ensures ∙ (λ i. changes_by_kind (c.in-Ok-journals.ensures.prepared i).kind (c.in-Ok-journals.ensures.unchanged i)) in
     c.write_down.ensures.possible honest
     (ready_applies c.args.session.now mid ready c.in-Ok-prepare.ensures.kept c.folder-folder.ensures.walks c.in-Ok-prepare.ensures.ready.fits.can
     (g.S.FolderStore.contents c.args.store.now) files _ made)
@@ -115,7 +115,7 @@ pub returns-in-Err-write_down-clause-possible : goal.returns-in-Err-write_down-c
 returns-in-Err-write_down-clause-possible g c honest files =
     let ready = c.in-Ok-prepare.prepared in
     let mid = c.prepare.new.self in
-    let made : map change_of c.changes.result.now ≡ changes_of ready.kind mid = c.changes.ensures ∙ (λ i. changes_of (c.in-Ok-journals.ensures.prepared i).kind (c.in-Ok-journals.ensures.unchanged i)) in
+    let made : map change_of c.changes.result.now ≡ changes_by_kind ready.kind mid = c.changes.ensures ∙ (λ i. changes_by_kind (c.in-Ok-journals.ensures.prepared i).kind (c.in-Ok-journals.ensures.unchanged i)) in
     c.write_down.ensures.possible honest
     (ready_applies c.args.session.now mid ready c.in-Ok-prepare.ensures.kept c.folder-folder.ensures.walks c.in-Ok-prepare.ensures.ready.fits.can
     (g.S.FolderStore.contents c.args.store.now) files _ made)

@@ -5,7 +5,7 @@ use Rattle.par2_spec.specs.Reports.{Report, verdict_of}
 use Rattle.par2_spec.specs.Texts.{line, target_line, verdict_text, report_text}
 use Rattle.par2_spec.specs.declared.Verdict.{Verdict}
 use Rattle.par2_plan.specs.Views.{report_of}
-use Rattle.par2_printing.specs.Wrote.{Wrote}
+use Rattle.par2_printing.specs.Writing.{Wrote}
 use Rattle.par2_printing.proofs.WroteLaws.{part_behind, took_both, wrote_less, wrote_then}
 use Rattle.par2_tool.proofs.printing.write_report.Goals as goal
 

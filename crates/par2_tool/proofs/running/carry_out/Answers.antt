@@ -4,10 +4,10 @@ use Rattle.par2_spec.specs.Views.{command_of}
 use Rattle.par2_spec.specs.declared.Failure.{Failure}
 use Rattle.par2_spec.proofs.NamesLaws.{false_true}
 use Rattle.par2_spec.specs.Opening.{Started}
-use Rattle.par2_tool.specs.Opened.{started_of, IsOpened}
-use Rattle.par2_tool.specs.Performed.{outcome_of}
-use Rattle.par2_tool.specs.Refused.{failed}
-use Rattle.par2_tool.specs.Told.{IsBack, IsCause, IsFailed}
+use Rattle.par2_tool.specs.Opening.{started_of, IsOpened}
+use Rattle.par2_tool.specs.Performing.{outcome_of}
+use Rattle.par2_tool.specs.Refusals.{failure_for}
+use Rattle.par2_tool.specs.Telling.{IsBack, IsCause, IsFailed}
 use Rattle.par2_tool.proofs.AsIs.{done_for, no_way_back, verify_failed}
 use Rattle.par2_tool.proofs.Carried.{opening_cause, opening_failed, perform_cause, perform_failed}
 use Rattle.par2_tool.proofs.running.carry_out.Goals as goal
@@ -76,7 +76,7 @@ returns-clause-failed g c honest =
       | else-dropped-via-then-dropped+else-is_back w ↦ absurd (false_true (sym w.if-is_back.false ∙ w.is_back.ensures.all is))
       | else-dropped-via-else-dropped w ↦ w.if-dropped.false
     ]) in
-    let failing : IsFailed action old new (failed fault) = (elim found.1 as (λ _. IsFailed action old new (failed fault)) [
+    let failing : IsFailed action old new (failure_for fault) = (elim found.1 as (λ _. IsFailed action old new (failure_for fault)) [
       | inl same ↦ (
           let opened : IsOpened old mid (started_of c.in-Ok.started) = subst (λ (t : Started). IsOpened old mid t) same (found.2 honest) in
           perform_failed action old mid new session c.perform.new.session c.in-Ok.started.dropped opened back middle after

@@ -3,10 +3,10 @@ use Rattle.std.proofs.Common.{inl, inr, [], refl, sym, subst}
 use Rattle.par2_spec.specs.Views.{command_of}
 use Rattle.par2_spec.specs.declared.Failure.{Failure}
 use Rattle.par2_spec.specs.Texts.{status_of}
-use Rattle.par2_printing.specs.Printed.{words_asked}
-use Rattle.par2_tool.specs.Asked.{AskFor}
-use Rattle.par2_tool.specs.Performed.{outcome_of}
-use Rattle.par2_tool.specs.Told.{Answered, Failed, IsUnread, Printed}
+use Rattle.par2_printing.specs.Views.{words_asked}
+use Rattle.par2_tool.specs.Asking.{AskFor}
+use Rattle.par2_tool.specs.Performing.{outcome_of}
+use Rattle.par2_tool.specs.Telling.{Answered, Failed, IsUnread, IsPrinted}
 use Rattle.par2_tool.proofs.Unread.{unread_words}
 use Rattle.par2_tool.proofs.running.run.Goals as goal
 
@@ -32,7 +32,7 @@ returns-in-Ok-carry_out-clause-told g c =
     let after = c.tell.new.out in (
       Answered done.0 outcome,
       (action, asked, c.in-Ok-carry_out.ensures.steady, c.in-Ok-carry_out.ensures.answer.0, c.in-Ok-carry_out.ensures.answer.1),
-      (subst (λ text. Printed g.O.Write.contents before after text (status_of outcome) c.tell.result) (sym done.1) c.tell.ensures, refl {a = c.args.err.now}),
+      (subst (λ text. IsPrinted g.O.Write.contents before after text (status_of outcome) c.tell.result) (sym done.1) c.tell.ensures, refl {a = c.args.err.now}),
       λ honest. (action, asked, done.2 honest),
     )
 

@@ -1,8 +1,8 @@
 use Rattle.std.proofs.Common.{◌≡◌, inl, inr, ◌+◌, ◌≤◌, ℕ, map, length, take, sym, ap, ◌∙◌, arith}
 use Rattle.std.proofs.lemmas.List.{take-map}
-use Rattle.par2_spec.specs.Stores.{Contents, changed}
+use Rattle.par2_spec.specs.Stores.{Contents, with_change}
 use Rattle.par2_folder.specs.Views.{change_of}
-use Rattle.par2_tool.specs.Performed.{all_changed}
+use Rattle.par2_tool.specs.Performing.{with_all_changes}
 use Rattle.par2_tool.proofs.Made.{applicable_here, made_next}
 use Rattle.par2_tool.proofs.writing.write_changes.Goals as goal
 
@@ -15,15 +15,15 @@ returns-in-Err-clause-stopped g c honest =
     let start = g.S.FolderStore.contents c.args.store.now in
     let now = g.S.FolderStore.contents c.write_change.new.store in
     let made = held.made honest in
-    elim (c.in-Err.ensures.stopped (held.honest honest)) as (λ _. (n : ℕ) × (n ≤ length changes) × (now ≡ all_changed start (take n (map change_of changes)))) [
-      | inl none ↦ (i, omega (arith, c.loop-change-test.true), none ∙ made ∙ ap (all_changed start) (sym (take-map change_of i changes)))
+    elim (c.in-Err.ensures.stopped (held.honest honest)) as (λ _. (n : ℕ) × (n ≤ length changes) × (now ≡ with_all_changes start (take n (map change_of changes)))) [
+      | inl none ↦ (i, omega (arith, c.loop-change-test.true), none ∙ made ∙ ap (with_all_changes start) (sym (take-map change_of i changes)))
       | inr one ↦ (
         i + 1,
         omega (arith, c.loop-change-test.true),
         one
-            ∙ ap (λ (k : Contents). changed k (change_of item)) made
+            ∙ ap (λ (k : Contents). with_change k (change_of item)) made
             ∙ made_next start changes i item c.loop-change-test.true c.change-item.is
-            ∙ ap (all_changed start) (sym (take-map change_of (i + 1) changes)),
+            ∙ ap (with_all_changes start) (sym (take-map change_of (i + 1) changes)),
       )
     ]
 
@@ -40,7 +40,7 @@ loop-change-preserved g c =
       honest = λ h. c.write_change.ensures.honest (held.honest h);
       made = λ h.
           c.in-Ok.ensures.done (held.honest h)
-          ∙ ap (λ (k : Contents). changed k (change_of item)) (held.made h)
+          ∙ ap (λ (k : Contents). with_change k (change_of item)) (held.made h)
           ∙ made_next (g.S.FolderStore.contents c.args.store.now) c.args.changes.now c.loop-change.change-index item c.loop-change-test.true c.change-item.is;
       later = omega (arith, held.later, c.write_change.ensures.later);
       steady = c.in-Ok.ensures.steady ∙ held.steady;

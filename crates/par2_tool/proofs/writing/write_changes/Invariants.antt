@@ -1,13 +1,13 @@
 use Rattle.std.proofs.Common.{◌≡◌, ◌≤◌, IsTrue, map, take}
 use Rattle.par2_spec.specs.Changes.{are_applicable}
 use Rattle.par2_folder.specs.Views.{change_of}
-use Rattle.par2_tool.specs.Performed.{all_changed}
+use Rattle.par2_tool.specs.Performing.{with_all_changes}
 use Rattle.par2_tool.proofs.writing.write_changes.Given as goal
 
 abbrev pub invariant-loop-change : goal.invariant-loop-change
 invariant-loop-change g l = record {
   honest : g.S.FolderStore.honest l.initial.store → g.S.FolderStore.honest l.store;
-  made : g.S.FolderStore.honest l.initial.store → g.S.FolderStore.contents l.store ≡ all_changed (g.S.FolderStore.contents l.initial.store) (map change_of (take l.change-index l.changes));
+  made : g.S.FolderStore.honest l.initial.store → g.S.FolderStore.contents l.store ≡ with_all_changes (g.S.FolderStore.contents l.initial.store) (map change_of (take l.change-index l.changes));
   later : g.S.FolderStore.failures l.initial.store ≤ g.S.FolderStore.failures l.store;
   steady : g.S.FolderStore.failures l.store ≡ g.S.FolderStore.failures l.initial.store;
   possible : g.S.FolderStore.honest l.initial.store → IsTrue (are_applicable (g.S.FolderStore.contents l.initial.store).files (map change_of l.changes)) → g.S.FolderStore.impossible l.store ≡ g.S.FolderStore.impossible l.initial.store;

@@ -2,7 +2,7 @@ use Rattle.std.proofs.Common.{◌∙◌, ap, inl, inr, sym, true≢false, string
 use Rattle.std.specs.Prelude.{is_some, option_and_then}
 use Rattle.std.proofs.lemmas.Result.{IfErr-weaker, IfOk-weaker}
 use Rattle.clap.specs.Words.{found_of, rows_of}
-use Rattle.par2_words.specs.Meanings.{meant}
+use Rattle.par2_words.specs.Meanings.{meaning}
 use Rattle.par2_words.proofs.Known.{faultless, known, met, unmet}
 use Rattle.par2_words.proofs.read.read_words.Goals as goal
 
@@ -10,7 +10,7 @@ pub returns-in-Some-clause-command : goal.returns-in-Some-clause-command
 returns-in-Some-clause-command c =
     let is = met c.in_ok-command.command c.in-Ok.matches (map string_bytes c.args.words.now) c.in-Some.name.now (rows_of (found_of c.in-Some.matches.now))
     (c.in_ok-command.ensures).0 c.in-Ok.ensures.matches c.in-Some.ensures.name c.in-Some.ensures.rows in
-    IfOk-weaker c.named.result _ _ (λ d h. ap (option_and_then meant) is ∙ h) c.named.ensures.command
+    IfOk-weaker c.named.result _ _ (λ d h. ap (option_and_then meaning) is ∙ h) c.named.ensures.command
 
 pub returns-in-Some-clause-arguments : goal.returns-in-Some-clause-arguments
 returns-in-Some-clause-arguments c = λ taken there.

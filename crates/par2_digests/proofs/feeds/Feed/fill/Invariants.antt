@@ -1,5 +1,5 @@
 use Rattle.std.proofs.Common.{◌≡◌, ◌≤◌, ◌<◌, ◌+◌, [], length, take, drop}
-use Rattle.par2_digests.specs.Feeds.{left}
+use Rattle.par2_digests.specs.Feeds.{bytes_left}
 use Rattle.par2_digests.specs.Messages.{part_bytes}
 use Rattle.par2_digests.proofs.feeds.Feed.fill.Given as goal
 
@@ -7,9 +7,9 @@ abbrev pub invariant-loop-filled : goal.invariant-loop-filled
 invariant-loop-filled l = record {
   room : l.filled ≤ length l.blocks;
   size : length l.blocks ≡ length l.fn.blocks;
-  within : l.filled ≤ length (left l.fn.self);
-  bytes : take l.filled l.blocks ≡ take l.filled (left l.fn.self);
-  rest : left l.self ≡ drop l.filled (left l.fn.self);
+  within : l.filled ≤ length (bytes_left l.fn.self);
+  bytes : take l.filled l.blocks ≡ take l.filled (bytes_left l.fn.self);
+  rest : bytes_left l.self ≡ drop l.filled (bytes_left l.fn.self);
   done : l.filled < length l.blocks → drop l.self.at (part_bytes l.self.part) ≡ [];
 }
 

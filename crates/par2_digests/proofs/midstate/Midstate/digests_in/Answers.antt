@@ -1,6 +1,6 @@
 use Rattle.std.proofs.Common.{◌≡◌, ◌<◌, ◌*◌, ◌/◌, ◌%◌, ◌++◌, ◌∙◌, ℕ, List, None, [], ◌∷◌, ap, append_assoc, sym, subst, drop, take, length, length-append, get_or, arith}
 use Rattle.md5.specs.Md5.{hash_after, md5, padded_message}
-use Rattle.par2_digests.specs.Feeds.{left}
+use Rattle.par2_digests.specs.Feeds.{bytes_left}
 use Rattle.par2_digests.specs.Lanes.{lane}
 use Rattle.par2_digests.specs.Messages.{message_at, message_of}
 use Rattle.par2_digests.specs.Tasks.{LeadsTo}
@@ -23,9 +23,9 @@ returns g c = λ m k held low.
     let used : state.length % 64 ≡ length m % 64 = omega (arith, held.0) in
     let taken_is : take (state.length % 64) state.rest ≡ drop (length m / 64 * 64) m = ap (λ (n : ℕ). take n state.rest) used ∙ held.1.1 in
     let one = λ (task : Task) (j : ℕ) (h : j < length messages) (is : task.hash ≡ None)
-    (bytes : left task.feed ≡ take (state.length % 64) state.rest ++ (message_at messages j ++ message_of (get_or c.endings-endings.result j []))).
+    (bytes : bytes_left task.feed ≡ take (state.length % 64) state.rest ++ (message_at messages j ++ message_of (get_or c.endings-endings.result j []))).
     let ending = message_of (get_or c.endings-endings.result j []) in
-    ready task.hash m (message_at messages j ++ ending) (take (state.length % 64) state.rest) task.rest (left task.feed) state.hash
+    ready task.hash m (message_at messages j ++ ending) (take (state.length % 64) state.rest) task.rest (bytes_left task.feed) state.hash
     (padded_message (m ++ message_at messages j)) is bytes taken_is held.1.0
     (sym (append_assoc m (message_at messages j) ending)
     ∙ ap (λ (e : List ℕ). (m ++ message_at messages j) ++ e)

@@ -3,7 +3,7 @@ use Rattle.par2_spec.specs.History.{MayBeRefused}
 use Rattle.par2_spec.specs.Sessions.{KeptSession, session_of_kept, session_after, history_of}
 use Rattle.par2_spec.specs.Views.{action_of}
 use Rattle.par2_spec.proofs.NamesLaws.{false_true}
-use Rattle.par2_spec.specs.declared.asked.Action.{Action}
+use Rattle.par2_spec.specs.declared.commands.Action.{Action}
 use Rattle.par2_journal.proofs.Acting.{undo_done, redo_done, undo_refused, redo_refused, of_error}
 use Rattle.par2_journal.proofs.session.Session.act.Goals as goal
 

@@ -1,7 +1,7 @@
 use Rattle.std.proofs.Common.{◌-◌, sym, ap, ◌∙◌, vec_len, vec_capacity}
 use Rattle.par2_journal.specs.Kinds.{kind_of}
-use Rattle.par2_journal.specs.Ready.{Kind, Ready, changes_of}
-use Rattle.par2_journal.specs.Written.{Add, Undo, Redo, turn_of}
+use Rattle.par2_journal.specs.Ready.{Kind, Ready, changes_by_kind}
+use Rattle.par2_journal.specs.Spelling.{Add, Undo, Redo, turn_of}
 use Rattle.par2_journal.proofs.Spelled.{ready_applies, ready_spelled, undo_entry, redo_entry}
 use Rattle.par2_journal.proofs.session.Session.journals.Goals.{in-Change, in-Undo, in-Redo}
 use Rattle.par2_journal.proofs.session.Session.journals.Goals as goal
@@ -29,7 +29,7 @@ returns-clause-journals c =
     elim c.match-prepared.branch [
       | in-Change w ↦
           let is = ap (λ (r : Ready). r.kind) (sym c.prepared.view_is) ∙ ap kind_of w.in-Change.is in
-          let are = w.as_mut_slice-changes.ensures.value ∙ sym (ap (λ (k : Kind). changes_of k c.args.self.now) is) in
+          let are = w.as_mut_slice-changes.ensures.value ∙ sym (ap (λ (k : Kind). changes_by_kind k c.args.self.now) is) in
           ready_spelled s.entries.items s.cursor c.self.invariant.within s.folder room c.args.self.now c.self.view_is c.args.prepared.now c.requires.can
           Add (sym (ap turn_of is)) w.deref.result.now w.deref.ensures.value w.spell_command.result c.match-prepared.result w.result-is
           _ are w.spell_command.ensures.halfway w.spell_command.ensures.after

@@ -1,7 +1,7 @@
 use Rattle.std.proofs.Common.{ap, take, drop, arith}
 use Rattle.std.specs.Prelude.{reverse}
 use Rattle.par2_spec.proofs.SessionLaws.{grown_can_walk}
-use Rattle.par2_journal.specs.Kept.{kept_session}
+use Rattle.par2_journal.specs.Sessions.{kept_session}
 use Rattle.par2_journal.proofs.session.Session.make_room.Goals as goal
 
 pub invariant_of-self-2 : goal.invariant_of-self-2

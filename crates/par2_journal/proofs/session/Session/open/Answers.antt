@@ -1,6 +1,6 @@
 use Rattle.std.proofs.Common.{inr, Err, ap, ◌∙◌}
 use Rattle.par2_journal_bytes.specs.Views.{journal_of}
-use Rattle.par2_journal.specs.Opened.{opened_of}
+use Rattle.par2_journal.specs.Opening.{opened_of}
 use Rattle.par2_journal.proofs.Reopened.{all_opened, all_refused, no_journal}
 use Rattle.par2_journal.proofs.session.Session.open.Goals as goal
 

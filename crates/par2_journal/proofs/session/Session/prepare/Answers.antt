@@ -2,8 +2,8 @@ use Rattle.std.proofs.Common.{map, string_bytes, sym, subst}
 use Rattle.std.specs.Prelude.{IfErr}
 use Rattle.par2_spec.specs.Commands.{Create, Repair, Purge}
 use Rattle.par2_spec.specs.Views.{action_of, create_args_of}
-use Rattle.par2_spec.specs.declared.asked.Action.{Action}
-use Rattle.par2_journal.specs.Faulted.{MayRefuse}
+use Rattle.par2_spec.specs.declared.commands.Action.{Action}
+use Rattle.par2_journal.specs.Refusals.{MayRefuse}
 use Rattle.par2_journal.proofs.Asked.{refused_for}
 use Rattle.par2_journal.proofs.session.Session.prepare.Goals as goal
 

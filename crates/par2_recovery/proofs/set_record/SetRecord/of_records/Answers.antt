@@ -5,7 +5,7 @@ use Rattle.std.proofs.lemmas.List.Sorted.{IsPermutation-map}
 use Rattle.par2_spec.specs.Folders.{File}
 use Rattle.par2_spec.specs.Volumes.{record_of, in_id_order}
 use Rattle.par2_spec.specs.Commands.{files_of}
-use Rattle.par2_packets.specs.View.{file_record_of}
+use Rattle.par2_packets.specs.Views.{file_record_of}
 use Rattle.par2_packets.specs.declared.record.FileRecord.{FileRecord}
 use Rattle.par2_recovery.proofs.Records.{in_order, files_of_records}
 use Rattle.par2_recovery.proofs.set_record.SetRecord.of_records.Goals as goal

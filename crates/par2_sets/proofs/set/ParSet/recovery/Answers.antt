@@ -2,7 +2,7 @@ use Rattle.std.proofs.Common.{◌≡◌, ◌∙◌, ◌<◌, length, sym, ap, su
 use Rattle.std.specs.List.{AllByRecursion}
 use Rattle.std.specs.List.Sorted.{IsStrictlyIncreasing}
 use Rattle.std.specs.FinMap.{entries}
-use Rattle.par2_spec.specs.Rules.{IsSound}
+use Rattle.par2_spec.specs.Sets.{IsSound}
 use Rattle.par2_sets.specs.Slices.{exponents_of, recovered_of}
 use Rattle.par2_sets.proofs.Exponents.{kept_entries, sizes_of}
 use Rattle.par2_sets.proofs.set.ParSet.recovery.Goals as goal

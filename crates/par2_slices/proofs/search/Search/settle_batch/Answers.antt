@@ -4,7 +4,7 @@ use Rattle.std.proofs.lemmas.Bool.{eqb-true}
 use Rattle.par2_spec.specs.Checksums.{Pair}
 use Rattle.par2_slices.specs.declared.batch.Candidate.{Candidate}
 use Rattle.par2_slices.specs.declared.batch.Spot.{Spot}
-use Rattle.par2_slices.specs.Searches.{advanced, candidate_at, answer_at, pair_at, settled, IsWindow}
+use Rattle.par2_slices.specs.Searches.{after_window, candidate_at, answer_at, pair_at, after_candidates, IsWindow}
 use Rattle.par2_slices.proofs.Searching.{matches, none_settled, settled_from}
 use Rattle.par2_slices.proofs.search.Search.settle_batch.Goals as goal
 
@@ -29,8 +29,8 @@ loop-k-preserved c =
       each = λ i h.
           let pair : Pair = pair_at c.args.wanted.now i in
           let old : Option Spot = answer_at c.loop-k.self.found.items i in
-          ap (settled s text pair (drop (k + 1) candidates))
-          (c.answer.ensures.each i h ∙ ap (λ m. advanced m candidate.spot old) (matches s text candidate.spot.offset _ candidate.crc pair (c.digests-digests.ensures k inside) its.crc))
+          ap (after_candidates s text pair (drop (k + 1) candidates))
+          (c.answer.ensures.each i h ∙ ap (λ m. after_window m candidate.spot old) (matches s text candidate.spot.offset _ candidate.crc pair (c.digests-digests.ensures k inside) its.crc))
           ∙ sym (settled_from s text pair candidates k old inside)
           ∙ c.loop-k.invariant.each i h;
       batch = c.answer.ensures.batch ∙ c.loop-k.invariant.batch;
@@ -44,4 +44,4 @@ returns-clause-each c i h =
     let pair : Pair = pair_at c.args.wanted.now i in
     sym (none_settled c.args.s c.args.bytes.now pair (drop c.loop-k.k candidates) (answer_at c.loop-k.self.found.items i) (length-drop c.loop-k.k candidates ∙ (let e : length candidates - c.loop-k.k ≡ 0 = omega (arith, c.loop-k-test.false) in e)))
     ∙ c.loop-k.invariant.each i h
-    ∙ ap (λ cs. settled c.args.s c.args.bytes.now pair cs (answer_at c.args.self.now.found.items i)) candidates_are
+    ∙ ap (λ cs. after_candidates c.args.s c.args.bytes.now pair cs (answer_at c.args.self.now.found.items i)) candidates_are

@@ -1,11 +1,11 @@
 use Rattle.std.proofs.Common.{◌≡◌, ℕ, ◌<◌, [], length, drop}
-use Rattle.par2_slices.specs.Searches.{answer_at, pair_at, settled, IsTally}
+use Rattle.par2_slices.specs.Searches.{answer_at, pair_at, after_candidates, IsTally}
 use Rattle.par2_slices.proofs.search.Search.settle_batch.Given as goal
 
 abbrev pub invariant-loop-k : goal.invariant-loop-k
 invariant-loop-k l = record {
   tally : IsTally l.wanted l.self.found.items l.self.left l.self.filter;
-  each : (i : ℕ) → i < length l.wanted → settled l.s l.bytes (pair_at l.wanted i) (drop l.k l.candidates) (answer_at l.self.found.items i) ≡ settled l.s l.bytes (pair_at l.wanted i) l.candidates (answer_at l.initial.self.found.items i);
+  each : (i : ℕ) → i < length l.wanted → after_candidates l.s l.bytes (pair_at l.wanted i) (drop l.k l.candidates) (answer_at l.self.found.items i) ≡ after_candidates l.s l.bytes (pair_at l.wanted i) l.candidates (answer_at l.initial.self.found.items i);
   batch : l.self.batch.items ≡ [];
   filter : l.self.filter ≡ l.initial.self.filter;
 }

@@ -5,7 +5,7 @@ use Rattle.par2_spec.specs.Commands.{Action, Do, Undo, Redo, words_of}
 use Rattle.par2_spec.specs.Reports.{State, TargetReport, Complete, Misplaced, Damaged, Missing}
 use Rattle.par2_spec.specs.Texts.{Step, Writes, Replaces, Renames, Removes}
 use Rattle.par2_spec.specs.Views.{command_of}
-use Rattle.par2_spec.specs.declared.asked.Command.{Command}
+use Rattle.par2_spec.specs.declared.commands.Command.{Command}
 use Rattle.par2_printing.specs.declared.report.PrintedState.{PrintedState}
 use Rattle.par2_printing.specs.declared.report.PrintedState.TheVariants as state
 use Rattle.par2_printing.specs.declared.report.PrintedTarget.{PrintedTarget}

@@ -2,7 +2,7 @@
 use Rattle.std.specs.Prelude.{◌≡◌, ◌<◌, ℕ}
 use Rattle.par2_spec.specs.Commands.{Action}
 use Rattle.par2_spec.specs.Sessions.{KeptSession, OnlyGrew}
-use Rattle.par2_journal.specs.Faulted.{MayRefuse}
+use Rattle.par2_journal.specs.Refusals.{MayRefuse}
 use Rattle.par2_spec.specs.declared.Failure.{Failure}
 use Rattle.par2_spec.specs.declared.Failure.TheVariants as failure
 use Rattle.par2_journal.specs.declared.prepared.SessionFault.TheVariants.{Plan, NothingToUndo, NothingToRedo}
@@ -25,11 +25,11 @@ IsSession (Session fault) = Unit {0}
 IsSession Store = ⊥
 
 -- what is told of it
-abbrev pub failed : PerformFault → Failure
-failed (Session (Plan fault)) = failure.Refused fault
-failed (Session NothingToUndo) = failure.NothingToUndo
-failed (Session NothingToRedo) = failure.NothingToRedo
-failed Store = failure.Store
+abbrev pub failure_for : PerformFault → Failure
+failure_for (Session (Plan fault)) = failure.Refused fault
+failure_for (Session NothingToUndo) = failure.NothingToUndo
+failure_for (Session NothingToRedo) = failure.NothingToRedo
+failure_for Store = failure.Store
 
 -- what is told of a store that can't be opened
 abbrev pub unopened_as : OpenFault → Failure

@@ -3,7 +3,7 @@ use Rattle.std.specs.Prelude.{◌≡◌, ◌⊎◌, ◌<◌, ℕ, Bool, List, []
 use Rattle.clap.specs.Words.{Text}
 use Rattle.par2_spec.specs.Commands.{Action, Do, Undo, Redo}
 use Rattle.par2_spec.specs.History as history
-use Rattle.par2_spec.specs.Rules.{LeadsToAfterAsked}
+use Rattle.par2_spec.specs.Plans.{LeadsToAfterAsked}
 use Rattle.par2_spec.specs.Sessions.{Session, changes_asked, session_after}
 use Rattle.par2_spec.specs.Opening.{Started}
 use Rattle.par2_spec.specs.Stores.{Contents}
@@ -12,18 +12,18 @@ use Rattle.par2_spec.specs.declared.Failure.{Failure}
 use Rattle.par2_spec.specs.declared.Failure.TheVariants as failure
 use Rattle.par2_spec.specs.declared.Fault.TheVariants as fault
 use Rattle.par2_spec.specs.declared.JournalFault.TheVariants as journal
-use Rattle.par2_printing.specs.Printed.{words_asked}
-use Rattle.par2_printing.specs.Wrote.{TookAll, TookPart}
+use Rattle.par2_printing.specs.Views.{words_asked}
+use Rattle.par2_printing.specs.Writing.{TookAll, TookPart}
 use Rattle.par2_printing.specs.declared.printer.Printer.{Printer}
-use Rattle.par2_tool.specs.Asked.{AskFor, IsCommandLine}
-use Rattle.par2_tool.specs.Held.{IsOpening, Holds, kept, TellsApartAlong, TellsApartBack}
-use Rattle.par2_tool.specs.Opened.{IsOpened}
-use Rattle.par2_tool.specs.Performed.{IsAnswer, IsWritten}
+use Rattle.par2_tool.specs.Asking.{AskFor, IsCommandLine}
+use Rattle.par2_tool.specs.Holding.{IsOpening, Holds, with_history, TellsApartAlong, TellsApartBack}
+use Rattle.par2_tool.specs.Opening.{IsOpened}
+use Rattle.par2_tool.specs.Performing.{IsAnswer, IsWritten}
 
 -- an outcome, the history having been dropped or not; or a failure with the words that it can speak of
-pub data Told : Type 0 where
-  Answered : Bool → Outcome → Told
-  Failed : List (List ℕ) → Failure → Told
+pub data Telling : Type 0 where
+  Answered : Bool → Outcome → Telling
+  Failed : List (List ℕ) → Failure → Telling
 
 -- ---- on an honest store
 
@@ -57,14 +57,14 @@ IsRefusedFor action old new refusal =
 -- there is nothing to go back to, and no history was dropped
 abbrev pub IsAtTheEnd : Action → Contents → Contents → history.Refusal → Type 0
 IsAtTheEnd action old new refusal =
-    (session : Session) × IsOpened old new (kept session) × (changes_asked session action ≡ Err refusal)
+    (session : Session) × IsOpened old new (with_history session) × (changes_asked session action ≡ Err refusal)
 
 abbrev pub IsBack : Action → Type 0
 IsBack (Do command) = ⊥
 IsBack Undo = Unit {0}
 IsBack Redo = Unit {0}
 
--- a command was begun in another folder, or an undo or redo is asked for where the history was dropped
+-- a command was left halfway in another folder, or an undo or redo is asked for where the history was dropped
 abbrev pub IsChanged : Action → Contents → Contents → Type 0
 IsChanged action old new =
     (IsOpening old (Err (journal.FolderChanged true)) × (new ≡ old))
@@ -76,7 +76,7 @@ abbrev pub OpensAsBeforeOrAfterRun : Action → Contents → Contents → Type 0
 OpensAsBeforeOrAfterRun action old new =
     (new ≡ old)
     ⊎ ((started : Started) × IsOpening old (Ok started)
-    × (IsOpening new (Ok started) ⊎ (IsOpening new (Ok (kept started.session)) ⊎ ((after : Session) × (session_after started.session action ≡ Ok after) × Holds new (kept after)))))
+    × (IsOpening new (Ok started) ⊎ (IsOpening new (Ok (with_history started.session)) ⊎ ((after : Session) × (session_after started.session action ≡ Ok after) × Holds new (with_history after)))))
 
 -- the same where fingerprints tell apart the folders that are passed through
 abbrev pub IsStopped : Action → Contents → Contents → Type 0
@@ -99,7 +99,7 @@ abbrev pub IsUnread : List Text → Failure → Type 0
 IsUnread words reason = ((reason ≡ failure.Arguments) × (IsCommandLine words → ⊥)) ⊎ (reason ≡ failure.Refused fault.Memory)
 
 -- what a run that tells this makes of the store. It leaves the store as it was where the words aren't read
-abbrev pub Leaves : List Text → Told → Contents → Contents → Type 0
+abbrev pub Leaves : List Text → Telling → Contents → Contents → Type 0
 Leaves words (Answered dropped outcome) old new =
     (action : Action) × AskFor words action × IsDone action old new dropped outcome
 Leaves words (Failed spoken reason) old new =
@@ -123,7 +123,7 @@ IsCause action before after failure.FolderChanged = after ≡ before
 
 -- what is told: the answer of the action that the words ask for, on some session; or why it fails, with the words
 -- that it can speak of; or, without any, why the words aren't read. Nothing but Store is told once the store failed
-abbrev pub IsTold : List Text → ℕ → ℕ → Told → Type 0
+abbrev pub IsTold : List Text → ℕ → ℕ → Telling → Type 0
 IsTold words before after (Answered dropped outcome) =
     (action : Action) × AskFor words action × (after ≡ before) × (session : Session) × IsAnswer session action outcome
 IsTold words before after (Failed spoken reason) =
@@ -132,13 +132,13 @@ IsTold words before after (Failed spoken reason) =
 
 -- the text was written and the status is its own; or the writer failed, which is counted, it holds a part of the
 -- text, which lacks a byte at least, and the status is 6
-abbrev pub Printed : {W : Type 0} → (W → Option (List ℕ)) → Printer W → Printer W → List ℕ → ℕ → ℕ → Type 0
-Printed held old new text own status =
+abbrev pub IsPrinted : {W : Type 0} → (W → Option (List ℕ)) → Printer W → Printer W → List ℕ → ℕ → ℕ → Type 0
+IsPrinted held old new text own status =
     (TookAll held old new text × (status ≡ own)) ⊎ (TookPart held old new text × (status ≡ 6))
 
 -- an outcome is printed on the output, a failure on the error writer, and the other printer is as it was
-abbrev pub Shown : {O E : Type 0} → Told → (O → Option (List ℕ)) → Printer O → Printer O → (E → Option (List ℕ)) → Printer E → Printer E → ℕ → Type 0
-Shown (Answered dropped outcome) held out out_after told err err_after status =
-    Printed held out out_after (output_of dropped outcome) (status_of outcome) status × (err_after ≡ err)
-Shown (Failed spoken reason) held out out_after told err err_after status =
-    Printed told err err_after (error_of spoken reason) (status_of_failure reason) status × (out_after ≡ out)
+abbrev pub IsShown : {O E : Type 0} → Telling → (O → Option (List ℕ)) → Printer O → Printer O → (E → Option (List ℕ)) → Printer E → Printer E → ℕ → Type 0
+IsShown (Answered dropped outcome) held out out_after told err err_after status =
+    IsPrinted held out out_after (output_of dropped outcome) (status_of outcome) status × (err_after ≡ err)
+IsShown (Failed spoken reason) held out out_after told err err_after status =
+    IsPrinted told err err_after (error_of spoken reason) (status_of_failure reason) status × (out_after ≡ out)

@@ -3,8 +3,8 @@ use Rattle.par2_spec.specs.Texts as defined
 use Rattle.par2_journal.specs.declared.prepared.Step.{Step}
 use Rattle.par2_journal.specs.declared.prepared.Step.TheVariants.{Write, Replace, Rename, Remove}
 
-abbrev pub stepped : Step → defined.Step
-stepped (Write name) = defined.Writes name
-stepped (Replace name) = defined.Replaces name
-stepped (Rename from to) = defined.Renames from to
-stepped (Remove name) = defined.Removes name
+abbrev pub step_view : Step → defined.Step
+step_view (Write name) = defined.Writes name
+step_view (Replace name) = defined.Replaces name
+step_view (Rename from to) = defined.Renames from to
+step_view (Remove name) = defined.Removes name

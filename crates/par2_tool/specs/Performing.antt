@@ -6,11 +6,11 @@ use Rattle.par2_spec.specs.Commands.{Action, Do, Verify}
 use Rattle.par2_spec.specs.Folders.{Folder}
 use Rattle.par2_spec.specs.Reports.{Report, report_in}
 use Rattle.par2_spec.specs.Sessions.{Session, changes_asked}
-use Rattle.par2_spec.specs.Stores.{Contents, changed, journaled}
+use Rattle.par2_spec.specs.Stores.{Contents, with_change, with_journal}
 use Rattle.par2_spec.specs.Texts.{Outcome, Reported, Done, step_of}
 use Rattle.par2_plan.specs.Views.{report_of}
 use Rattle.par2_journal.specs.declared.spelling.Journals.{Journals}
-use Rattle.par2_tool.specs.Held.{Holds, HasJournalOf, kept}
+use Rattle.par2_tool.specs.Holding.{Holds, HasJournalOf, with_history}
 use Rattle.par2_tool.specs.declared.performing.Outcome as performing
 use Rattle.par2_tool.specs.declared.performing.Outcome.TheVariants as outcome
 
@@ -31,7 +31,7 @@ IsAnswer session action outcome = AreSteps session action outcome
 
 -- the store holds the session, with the session's own journal
 abbrev pub HoldsJournaled : Session → Contents → Type 0
-HoldsJournaled session contents = Holds contents (kept session) × HasJournalOf session contents
+HoldsJournaled session contents = Holds contents (with_history session) × HasJournalOf session contents
 
 -- what an accepted action makes of the store: a verify nothing, any other action one that holds the session afterwards
 abbrev pub IsWritten : Action → Session → Contents → Contents → Type 0
@@ -52,22 +52,22 @@ abbrev pub AreSomeMade : {F : Type 0} → Result (List Change) F → Folder → 
 AreSomeMade asked old new = IfOk asked (λ changes. (n : ℕ) × (new ≡ effects old (take n changes)))
 
 -- the contents after changes, made one after the other
-abbrev pub all_changed : Contents → List Change → Contents
-all_changed contents [] = contents
-all_changed contents (change ∷ changes) = all_changed (changed contents change) changes
+abbrev pub with_all_changes : Contents → List Change → Contents
+with_all_changes contents [] = contents
+with_all_changes contents (change ∷ changes) = with_all_changes (with_change contents change) changes
 
 -- the contents with the journal that is put before the changes, where there is one
-abbrev pub begun : Contents → Option (Vec ℕ Global) → Contents
-begun contents None = contents
-begun contents (Some text) = journaled contents text.items
+abbrev pub with_halfway : Contents → Option (Vec ℕ Global) → Contents
+with_halfway contents None = contents
+with_halfway contents (Some text) = with_journal contents text.items
 
 -- the contents once the changes are made, and the journal of afterwards is put
-abbrev pub written_down : Contents → Journals → List Change → Contents
-written_down contents journals changes = journaled (all_changed (begun contents journals.halfway) changes) journals.after.items
+abbrev pub after_write_down : Contents → Journals → List Change → Contents
+after_write_down contents journals changes = with_journal (with_all_changes (with_halfway contents journals.halfway) changes) journals.after.items
 
 -- where that can stop: before anything is done, behind some of the changes, or with everything done
 abbrev pub IsStoppedAt : Contents → Journals → List Change → Contents → Type 0
 IsStoppedAt old journals changes new =
     (new ≡ old)
-    ⊎ (((n : ℕ) × (n ≤ length changes) × (new ≡ all_changed (begun old journals.halfway) (take n changes)))
-    ⊎ (new ≡ written_down old journals changes))
+    ⊎ (((n : ℕ) × (n ≤ length changes) × (new ≡ with_all_changes (with_halfway old journals.halfway) (take n changes)))
+    ⊎ (new ≡ after_write_down old journals changes))

@@ -8,40 +8,40 @@ use Rattle.par2_spec.specs.Sessions.{session_of_kept}
 use Rattle.par2_spec.specs.declared.JournalFault.{JournalFault}
 use Rattle.par2_spec.specs.declared.JournalFault.TheVariants.{Memory}
 use Rattle.par2_folder.specs.Views.{change_of}
-use Rattle.par2_journal_bytes.specs.Views.{changes_of, entries_of}
-use Rattle.par2_journal.specs.Opened.{session_at, begun_as}
-use Rattle.par2_journal.proofs.Reopened.{one_or, refused_so, begun_ok, begun_refused}
-use Rattle.par2_journal.proofs.taking_back.open_begun.Goals as goal
+use Rattle.par2_journal_bytes.specs.Views.{changes_in, entries_of}
+use Rattle.par2_journal.specs.Opening.{session_at, halfway_as}
+use Rattle.par2_journal.proofs.Reopened.{one_or, refused_so, halfway_ok, halfway_refused}
+use Rattle.par2_journal.proofs.taking_back.open_halfway.Goals as goal
 
 pub returns-clause-opened : goal.returns-clause-opened
 returns-clause-opened c =
-    let all = changes_of c.args.back.items in
-    let way = changes_of c.split_at_mut-way.result.1.now in
+    let all = changes_in c.args.back.items in
+    let way = changes_in c.split_at_mut-way.result.1.now in
     let wanted = c.in-Ok-Some.wanted.items in
     let place = rw c.in-Ok-Some.field-0-is at c.in-Ok-Some.ensures.place in
     let list = rw c.in-Ok-Some.field-0-is at c.in-Ok-Some.ensures.list in
     let mid : c.len.result - c.len-2.result ≡ length all - length wanted = omega (arith, c.len.ensures, c.len-2.ensures, length-map c.args.back.items change_of) in
     let cut : way ≡ drop (length all - length wanted) all =
-    ap changes_of (c.split_at_mut-way.ensures.back ∙ ap (drop (c.len.result - c.len-2.result)) c.deref_mut.ensures.value)
+    ap changes_in (c.split_at_mut-way.ensures.back ∙ ap (drop (c.len.result - c.len-2.result)) c.deref_mut.ensures.value)
     ∙ sym (drop-map change_of (c.len.result - c.len-2.result) c.args.back.items) ∙ ap (λ m. drop m all) mid in
     let found = c.in_ok-session.ensures in
-    begun_ok c.args.folder.files c.args.first c.args.cursor (entries_of c.args.entries.items) c.args.others.now all way wanted place list cut
+    halfway_ok c.args.folder.files c.args.first c.args.cursor (entries_of c.args.entries.items) c.args.others.now all way wanted place list cut
     (session_of_kept c.in_ok-session.session) (ap (leads_through c.args.folder.files way) (sym c.deref.ensures.value) ∙ found.leads) found.valid found.session
-    ∙ ap (λ l. Ok (defined.ToTakeBack (session_of_kept c.in_ok-session.session) l)) (sym c.in-Ok.ensures)
+    ∙ ap (λ l. Ok (defined.Halfway (session_of_kept c.in_ok-session.session) l)) (sym c.in-Ok.ensures)
 
 pub returns-in_err-session-clause-refused : goal.returns-in_err-session-clause-refused
 returns-in_err-session-clause-refused c =
-    let all = changes_of c.args.back.items in
-    let way = changes_of c.split_at_mut-way.result.1.now in
+    let all = changes_in c.args.back.items in
+    let way = changes_in c.split_at_mut-way.result.1.now in
     let wanted = c.in-Ok-Some.wanted.items in
     let place = rw c.in-Ok-Some.field-0-is at c.in-Ok-Some.ensures.place in
     let list = rw c.in-Ok-Some.field-0-is at c.in-Ok-Some.ensures.list in
     let mid : c.len.result - c.len-2.result ≡ length all - length wanted = omega (arith, c.len.ensures, c.len-2.ensures, length-map c.args.back.items change_of) in
     let cut : way ≡ drop (length all - length wanted) all =
-    ap changes_of (c.split_at_mut-way.ensures.back ∙ ap (drop (c.len.result - c.len-2.result)) c.deref_mut.ensures.value)
+    ap changes_in (c.split_at_mut-way.ensures.back ∙ ap (drop (c.len.result - c.len-2.result)) c.deref_mut.ensures.value)
     ∙ sym (drop-map change_of (c.len.result - c.len-2.result) c.args.back.items) ∙ ap (λ m. drop m all) mid in
     let same = ap (λ w. leads_through c.args.folder.files way w && is_valid (session_at (effects c.args.folder.files way) c.args.cursor (entries_of c.args.entries.items))) (sym c.deref.ensures.value) in
-    refused_so _ (λ (e : JournalFault × FolderState). (e.0 ≡ Memory) ⊎ (begun_as c.args.folder.files c.args.first c.args.cursor (entries_of c.args.entries.items) c.args.others.now all ≡ Err e.0))
+    refused_so _ (λ (e : JournalFault × FolderState). (e.0 ≡ Memory) ⊎ (halfway_as c.args.folder.files c.args.first c.args.cursor (entries_of c.args.entries.items) c.args.others.now all ≡ Err e.0))
     c.in_err-session.field-0.0 (err_from_is_err_and c.from_residual.result c.from_residual.ensures.1)
-    (one_or (λ p. begun_refused c.args.folder.files c.args.first c.args.cursor (entries_of c.args.entries.items) c.args.others.now all way wanted place list cut (same ∙ p.1) ∙ ap Err (sym p.0))
+    (one_or (λ p. halfway_refused c.args.folder.files c.args.first c.args.cursor (entries_of c.args.entries.items) c.args.others.now all way wanted place list cut (same ∙ p.1) ∙ ap Err (sym p.0))
     c.in_err-session.ensures.refused)

@@ -2,7 +2,7 @@ use Rattle.std.proofs.Common.{◌∙◌, codes}
 use Rattle.std.specs.Str.Parse.{ParsesUnsigned, ExplainsUnsignedError, HasUnsignedDigitsIfOk}
 use Rattle.clap.specs.Words.{found_of}
 use Rattle.par2_words.proofs.RowReads.{number_read}
-use Rattle.par2_words.proofs.read.slice_of.Goals as goal
+use Rattle.par2_words.proofs.read.slice_size_of.Goals as goal
 
 pub returns : goal.returns
 returns c = c.unwrap_or.ensures ∙ number_read (λ bs r. ParsesUnsigned 64 10 bs r × ExplainsUnsignedError 10 bs r × HasUnsignedDigitsIfOk bs r) 64 (λ u x g. g.0)

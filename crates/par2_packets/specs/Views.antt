@@ -11,9 +11,9 @@ use Rattle.par2_packets.specs.declared.scan.Packets.{Packets}
 abbrev pub file_record_of : FileRecord → volumes.FileRecord
 file_record_of file = record {
   id = file.id;
-  digest = file.md5;
-  digest_16k = file.md5_16k;
-  size = file.length;
+  digest = file.digest;
+  digest_16k = file.digest_16k;
+  size = file.size;
   name = string_bytes file.name;
   pairs = file.pairs.items;
 }

@@ -5,15 +5,15 @@ use Rattle.par2_spec.specs.Commands.{Action}
 use Rattle.par2_spec.specs.Folders.{Folder}
 use Rattle.par2_spec.specs.Journals.{Spells}
 use Rattle.par2_spec.specs.Opening as defined
-use Rattle.par2_spec.specs.Opening.{Opens, ToTakeBack, settled_journal}
+use Rattle.par2_spec.specs.Opening.{Opens, Halfway, settled_journal}
 use Rattle.par2_spec.specs.Sessions.{Session, session_of_kept}
-use Rattle.par2_spec.specs.Stores.{Contents, journaled}
+use Rattle.par2_spec.specs.Stores.{Contents, with_journal}
 use Rattle.par2_spec.specs.declared.JournalFault.TheVariants as journal
 use Rattle.par2_spec.specs.declared.Version.TheVariants.{Two}
 use Rattle.par2_folder.specs.declared.store.ReadFault.{ReadFault}
 use Rattle.par2_folder.specs.declared.store.ReadFault.TheVariants as read
-use Rattle.par2_tool.specs.Held.{IsOpening, Holds}
-use Rattle.par2_tool.specs.Performed.{all_changed, IsVerify}
+use Rattle.par2_tool.specs.Holding.{IsOpening, Holds}
+use Rattle.par2_tool.specs.Performing.{with_all_changes, IsVerify}
 use Rattle.par2_tool.specs.declared.opening.OpenFault.{OpenFault}
 use Rattle.par2_tool.specs.declared.opening.OpenFault.TheVariants.{Store, Memory, JournalInvalid, FolderChanged}
 use Rattle.par2_tool.specs.declared.opening.Started.{Started}
@@ -21,7 +21,7 @@ use Rattle.par2_tool.specs.declared.opening.Started.{Started}
 abbrev pub started_of : Started → defined.Started
 started_of started = record { session = session_of_kept started.session; dropped = started.dropped }
 
--- why a store isn't opened, and what it holds then: a journal that is none, a command that was begun in another
+-- why a store isn't opened, and what it holds then: a journal that is none, a command that was left halfway in another
 -- folder, want of memory, or a failure of the store
 abbrev pub IsUnopened : Contents → Contents → OpenFault → Type 0
 IsUnopened old new JournalInvalid = IsOpening old (Err journal.JournalInvalid) × (new ≡ old)
@@ -47,23 +47,23 @@ IsRead contents files text = contents ≡ record { files = files; journal = Some
 -- the changes of the way back are made, and the journal is that of the session
 abbrev pub IsTakenBack : Session → List Change → Contents → Contents → Type 0
 IsTakenBack session back old new =
-    (text : List ℕ) × Spells text (settled_journal Two session) × (new ≡ journaled (all_changed old back) text)
+    (text : List ℕ) × Spells text (settled_journal Two session) × (new ≡ with_journal (with_all_changes old back) text)
 
 -- some of them are made, from the first on, or all is done
-abbrev pub IsStillBegun : Session → List Change → Contents → Contents → Type 0
-IsStillBegun session back old new =
-    ((n : ℕ) × (n ≤ length back) × (new ≡ all_changed old (take n back))) ⊎ IsTakenBack session back old new
+abbrev pub IsStillHalfway : Session → List Change → Contents → Contents → Type 0
+IsStillHalfway session back old new =
+    ((n : ℕ) × (n ≤ length back) × (new ≡ with_all_changes old (take n back))) ⊎ IsTakenBack session back old new
 
--- the command that the journal says was begun is taken back
+-- the halfway command of the journal is taken back
 pub record TakesBack (old new : Contents) : Type 0 where
   pub text : List ℕ
   pub session : Session
   pub back : List Change
   pub journal : old.journal ≡ Some text
-  pub begun : Opens old.files text (Ok (ToTakeBack session back))
+  pub halfway : Opens old.files text (Ok (Halfway session back))
   pub taken : IsTakenBack session back old new
 
--- nothing is done to the store, or a begun command is taken back
+-- nothing is done to the store, or a halfway command is taken back
 abbrev pub OnlyTakesBack : Contents → Contents → Type 0
 OnlyTakesBack old new = (new ≡ old) ⊎ TakesBack old new
 

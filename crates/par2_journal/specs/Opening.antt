@@ -8,9 +8,9 @@ use Rattle.par2_spec.specs.Journals as journals
 use Rattle.par2_spec.specs.Opening as defined
 use Rattle.par2_spec.specs.declared.JournalFault.{JournalFault}
 use Rattle.par2_spec.specs.declared.Version.TheVariants.{Two}
-use Rattle.par2_journal_bytes.specs.Views.{changes_of}
+use Rattle.par2_journal_bytes.specs.Views.{changes_in}
 use Rattle.par2_journal.specs.declared.opening.Opened.{Opened}
-use Rattle.par2_journal.specs.declared.opening.Opened.TheVariants.{Settled, Begun}
+use Rattle.par2_journal.specs.declared.opening.Opened.TheVariants as opening
 use Rattle.par2_journal.specs.declared.taking_back.Halfway.{Halfway}
 
 -- the session of these entries, n of which an undo applies
@@ -27,16 +27,16 @@ session_before halfway = halfway.session
 
 -- the changes that lead to it
 abbrev pub way_left : Halfway → List Change
-way_left halfway = changes_of halfway.back.items
+way_left halfway = changes_in halfway.back.items
 
 abbrev pub opened_of : Opened → defined.Opened
-opened_of (Settled session) = defined.Settled (session_of_kept session)
-opened_of (Begun halfway) = defined.ToTakeBack (session_of_kept (session_before halfway)) (way_left halfway)
+opened_of (opening.Settled session) = defined.Settled (session_of_kept session)
+opened_of (opening.Halfway halfway) = defined.Halfway (session_of_kept (session_before halfway)) (way_left halfway)
 
--- what a begun command opens as, prints being the fingerprints after each of its changes
-abbrev pub begun_as : Folder → List ℕ → ℕ → List (List Change) → List (List ℕ) → List Change → Result defined.Opened JournalFault
-begun_as folder print n entries prints back =
-    defined.opened_at folder (journal_with print n entries) (record { fingerprints = prints; back = back }) (position (bytes_eq (fingerprint folder)) (print ∷ prints))
+-- what a halfway command opens as, prints being the fingerprints after each of its changes
+abbrev pub halfway_as : Folder → List ℕ → ℕ → List (List Change) → List (List ℕ) → List Change → Result defined.Opened JournalFault
+halfway_as folder print n entries prints back =
+    defined.opened_if_found folder (journal_with print n entries) (record { fingerprints = prints; back = back }) (position (bytes_eq (fingerprint folder)) (print ∷ prints))
 
 -- a folder with this journal opens as a session on the folder as it is, with the history or with a new one
 abbrev pub OpensAsIs : Folder → List ℕ → Type 0

@@ -4,7 +4,7 @@ use Rattle.par2_spec.specs.Changes.{Change}
 use Rattle.par2_spec.specs.Commands.{Action}
 use Rattle.par2_spec.specs.Sessions.{Session, changes_asked, session_after}
 use Rattle.par2_spec.specs.Journals.{Spells}
-use Rattle.par2_spec.specs.Opening.{Started, OpensAs, Opens, ToTakeBack, TellsApart, settled_journal}
+use Rattle.par2_spec.specs.Opening.{Started, OpensAs, Opens, Halfway, TellsApart, settled_journal}
 use Rattle.par2_spec.specs.Stores.{Contents}
 use Rattle.par2_spec.specs.declared.JournalFault.{JournalFault}
 use Rattle.par2_spec.specs.declared.Version.TheVariants.{Two}
@@ -19,8 +19,8 @@ pub record Holds (contents : Contents) (started : Started) : Type 0 where
   pub opens : IsOpening contents (Ok started)
 
 -- the session, of which no history was dropped
-abbrev pub kept : Session → Started
-kept session = record { session = session; dropped = false }
+abbrev pub with_history : Session → Started
+with_history session = record { session = session; dropped = false }
 
 -- the journal of the session stands, in version 2
 abbrev pub HasJournalOf : Session → Contents → Type 0
@@ -36,14 +36,14 @@ TellsApartAlong session action = IfOk (changes_asked session action) (TellsApart
 -- fingerprints tell apart the folders that a command passes through while it is taken back
 abbrev pub TellsApartBack : Contents → Type 0
 TellsApartBack contents =
-    (text : List _) (session : Session) (back : List Change) → contents.journal ≡ Some text → Opens contents.files text (Ok (ToTakeBack session back)) → TellsApart contents.files back
+    (text : List _) (session : Session) (back : List Change) → contents.journal ≡ Some text → Opens contents.files text (Ok (Halfway session back)) → TellsApart contents.files back
 
 -- ---- stops
 
 -- nothing was done, or the store opens as the session from before the action, or it holds the one from afterwards
 abbrev pub OpensAsBeforeOrAfter : Session → Action → Contents → Contents → Type 0
 OpensAsBeforeOrAfter session action old new =
-    (new ≡ old) ⊎ (IsOpening new (Ok (kept session)) ⊎ ((after : Session) × (session_after session action ≡ Ok after) × Holds new (kept after)))
+    (new ≡ old) ⊎ (IsOpening new (Ok (with_history session)) ⊎ ((after : Session) × (session_after session action ≡ Ok after) × Holds new (with_history after)))
 
 -- the store opens as it did
 abbrev pub OpensAsBefore : Contents → Contents → Type 0
