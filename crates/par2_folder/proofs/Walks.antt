@@ -9,7 +9,7 @@ use Rattle.par2_spec.specs.Changes as defined
 use Rattle.par2_spec.specs.Changes.{effect, is_applicable, are_applicable, folders_after}
 use Rattle.par2_folder.specs.Sorting.{IsKept}
 use Rattle.par2_folder.specs.Views.{change_of}
-use Rattle.par2_folder.specs.Borders.{begun, later_texts, run_texts, text_before, touches}
+use Rattle.par2_folder.specs.Borders.{new_run, later_texts, run_texts, text_before, touches}
 use Rattle.par2_folder.specs.Runs.{AreTo, HaveAbsorbed}
 use Rattle.par2_folder.specs.Snapshots.{files_in, folder_in}
 use Rattle.par2_folder.specs.declared.border.Border.{Border}
@@ -80,7 +80,7 @@ unfolding are_applicable
 rest_applicable folder change rest h = both_second _ _ h
 
 later_first : (border : Border) (folder : Folder) (change : defined.Change) (rest : List defined.Change)
-    → later_texts border folder (change ∷ rest) ≡ begun border (effect folder change) change ++ later_texts border (effect folder change) rest
+    → later_texts border folder (change ∷ rest) ≡ new_run border (effect folder change) change ++ later_texts border (effect folder change) rest
 unfolding later_texts
 later_first border folder change rest = refl
 
@@ -135,7 +135,7 @@ module _ (from to : Border) (states : List Midstate) (folder : Folder) (changes 
           (subst (λ l. HaveAbsorbed (drop place states) (run_texts from (folder_in snapshot) (map change_of l))) split within.parents)))
 
       pub goes_on : IsKept (files_in next) → (more : Runs) → length more.pendings.items ≤ 8
-          → AreTo more (within.done ++ begun to (folder_in next) (change_of change))
+          → AreTo more (within.done ++ new_run to (folder_in next) (change_of change))
           → IsWithin from to states folder changes next more there (drop (i + 1) changes)
       goes_on kept more few reached =
           let rest = map change_of (drop (suc i) changes) in
@@ -145,10 +145,10 @@ module _ (from to : Border) (states : List Midstate) (folder : Folder) (changes 
             applicable = subst (λ f. IsTrue (are_applicable f rest)) (sym after)
                 (rest_applicable _ _ _ (subst (λ l. IsTrue (are_applicable (folder_in snapshot) (map change_of l))) split within.applicable));
             parents = parents_then;
-            done = within.done ++ begun to (folder_in next) (change_of change);
+            done = within.done ++ new_run to (folder_in next) (change_of change);
             reached = reached;
-            whole = append_assoc within.done (begun to (folder_in next) (change_of change)) (later_texts to (folder_in next) rest)
-                ∙ ap (λ f. within.done ++ (begun to f (change_of change) ++ later_texts to f rest)) after
+            whole = append_assoc within.done (new_run to (folder_in next) (change_of change)) (later_texts to (folder_in next) rest)
+                ∙ ap (λ f. within.done ++ (new_run to f (change_of change) ++ later_texts to f rest)) after
                 ∙ ap (λ l. within.done ++ l) (sym (later_first to (folder_in snapshot) (change_of change) rest))
                 ∙ ap (λ l. within.done ++ later_texts to (folder_in snapshot) (map change_of l)) (sym split)
                 ∙ within.whole;

@@ -26,14 +26,14 @@ abbrev pub text_before : Border → Folder → List ℕ
 text_before border folder = fingerprint_input (map_of.entries (map_of.retain_keys folder (is_before border)))
 
 -- the text of the run that the folder behind a change begins, if it begins one
-abbrev pub begun : Border → Folder → Change → List (List ℕ)
-begun border after change = cond (touches border change) (text_before border after ∷ []) []
+abbrev pub new_run : Border → Folder → Change → List (List ℕ)
+new_run border after change = cond (touches border change) (text_before border after ∷ []) []
 
 -- the texts of the runs that the changes begin
 unfoldable pub later_texts : Border → Folder → List Change → List (List ℕ)
 unfolding effect
 later_texts border folder [] = []
-later_texts border folder (change ∷ changes) = begun border (effect folder change) change ++ later_texts border (effect folder change) changes
+later_texts border folder (change ∷ changes) = new_run border (effect folder change) change ++ later_texts border (effect folder change) changes
 
 -- the texts of all runs, in the order of their folders
 abbrev pub run_texts : Border → Folder → List Change → List (List ℕ)

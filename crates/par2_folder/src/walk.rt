@@ -8,7 +8,7 @@ ghost use Rattle.par2_digests.specs.Messages.{HasAbsorbed};
 ghost use Rattle.par2_spec.specs.Changes.{are_applicable};
 ghost use Rattle.par2_folder.specs.Sorting.{IsKept};
 ghost use Rattle.par2_folder.specs.Views.{change_of};
-ghost use Rattle.par2_folder.specs.Borders.{IsFurther, begun, run_texts, text_before, touches};
+ghost use Rattle.par2_folder.specs.Borders.{IsFurther, new_run, run_texts, text_before, touches};
 ghost use Rattle.par2_folder.specs.Runs.{AreTo, HaveAbsorbed, Reaches};
 ghost use Rattle.par2_folder.specs.Snapshots.{files_in, folder_in};
 ghost use Rattle.par2_folder.specs.declared.border.Border.TheVariants.{End};
@@ -80,7 +80,7 @@ fn follow<'a>(
     ensures few { OnOk result (length runs.new.pendings.items ≤ 8) }
     ensures texts { (texts : List (List ℕ)) → let folder = folder_in snapshot.now in
         AreTo runs.old texts → HasAbsorbed state (text_before from.now folder)
-        → OnOk result (AreTo runs.new (texts ++ begun to.now folder (change_of change.now))) }
+        → OnOk result (AreTo runs.new (texts ++ new_run to.now folder (change_of change.now))) }
 {
     if touches(to, change) {
         runs.push(run_of(alloc, state, snapshot, from, to)?)

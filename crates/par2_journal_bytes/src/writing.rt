@@ -172,7 +172,7 @@ pub fn begin(
     Ok(out)
 }
 
-/// The bytes of a journal that was begun, with its halfway part.
+/// The bytes of a journal whose front stands, with its halfway part.
 #[tactic(auto, unfolding(par2_spec::specs::Journals::spelling, par2_spec::specs::Journals::journal_bytes, crate::specs::Fronts::front_bytes))]
 pub fn finish(front: Vec<u8>, halfway: &Option<HalfwayPartView<'_>>) -> Result<Vec<u8>, AllocError>
     requires some { IfSome halfway.now (λ h. 1 ≤ length h.back.now) }

@@ -12,7 +12,7 @@ use Rattle.md5.specs.Md5.{md5}
 use Rattle.par2_spec.specs.Checksums.{Pair, crc32}
 use Rattle.par2_spec.specs.Windows.{is_match, window, first_match}
 use Rattle.par2_slices.specs.Filters.{AreAlike, Bits, Groups, Marks}
-use Rattle.par2_slices.specs.Searches.{no_pair, IsOfPair, no_place, no_candidate, pair_at, place_at, candidate_at, answer_at, answer_below, spot_in, first_spot, first_spot_from, HoldsGroup, is_awaited, after_window, has_checksums, after_candidates, first_below, Begun, IsWindow, IsTally, IsAt}
+use Rattle.par2_slices.specs.Searches.{no_pair, IsOfPair, no_place, no_candidate, pair_at, place_at, candidate_at, answer_at, answer_below, spot_in, first_spot, first_spot_from, HoldsGroup, is_awaited, after_window, has_checksums, after_candidates, first_below, Earlier, IsWindow, IsTally, IsAt}
 use Rattle.par2_slices.specs.declared.batch.Candidate.{Candidate}
 use Rattle.par2_slices.specs.declared.batch.Spot.{Spot}
 use Rattle.par2_slices.specs.declared.wanted.Place.{Place}
@@ -32,15 +32,15 @@ first_below-more s text o pair =
     ∙ ap (λ k. option_or (find test (range_with_len 0 o)) (cond (test k) (Some k) None)) (let e : 0 + o ≡ o = omega arith in e)
 
 -- one offset more
-below-more : (s : ℕ) (text : List ℕ) (begun : Begun) (o : ℕ) (pairs : List Pair) (i : ℕ)
-    → answer_below s text begun (o + 1) pairs i ≡ after_window (is_match (pair_at pairs i) (window s text o)) (spot_in begun.text o) (answer_below s text begun o pairs i)
-below-more s text begun o pairs i =
-    ap (λ f. option_or (answer_at begun.before i) (option_map (spot_in begun.text) f)) (first_below-more s text o (pair_at pairs i))
-    ∙ step (answer_at begun.before i) (first_below s text o (pair_at pairs i)) (is_match (pair_at pairs i) (window s text o))
+below-more : (s : ℕ) (text : List ℕ) (earlier : Earlier) (o : ℕ) (pairs : List Pair) (i : ℕ)
+    → answer_below s text earlier (o + 1) pairs i ≡ after_window (is_match (pair_at pairs i) (window s text o)) (spot_in earlier.text o) (answer_below s text earlier o pairs i)
+below-more s text earlier o pairs i =
+    ap (λ f. option_or (answer_at earlier.before i) (option_map (spot_in earlier.text) f)) (first_below-more s text o (pair_at pairs i))
+    ∙ step (answer_at earlier.before i) (first_below s text o (pair_at pairs i)) (is_match (pair_at pairs i) (window s text o))
   where
     step : (before : Option Spot) (below : Option ℕ) (m : Bool)
-        → option_or before (option_map (spot_in begun.text) (option_or below (cond m (Some o) None)))
-        ≡ after_window m (spot_in begun.text o) (option_or before (option_map (spot_in begun.text) below))
+        → option_or before (option_map (spot_in earlier.text) (option_or below (cond m (Some o) None)))
+        ≡ after_window m (spot_in earlier.text o) (option_or before (option_map (spot_in earlier.text) below))
     step (Some x) below m = refl
     step None (Some x) m = refl
     step None None true = refl
@@ -91,15 +91,15 @@ was_open m spot None now either none = refl
 was_open m spot (Some x) now (inl same) none = sym same ∙ none
 was_open m spot (Some x) now (inr done) none = sym done ∙ none
 
-pub no_more : (s : ℕ) (text : List ℕ) (begun : Begun) (o : ℕ) (pairs : List Pair) (found : List (Option Spot)) (left : ℕ) (filter : Groups) (candidates : List Candidate) → IsAt s text begun o pairs found left filter candidates → ((i : ℕ) → i < length pairs → answer_at found i ≡ None → is_match (pair_at pairs i) (window s text o) ≡ false) → IsAt s text begun (o + 1) pairs found left filter candidates
-no_more s text begun o pairs found left filter candidates at none = record {
+pub no_more : (s : ℕ) (text : List ℕ) (earlier : Earlier) (o : ℕ) (pairs : List Pair) (found : List (Option Spot)) (left : ℕ) (filter : Groups) (candidates : List Candidate) → IsAt s text earlier o pairs found left filter candidates → ((i : ℕ) → i < length pairs → answer_at found i ≡ None → is_match (pair_at pairs i) (window s text o) ≡ false) → IsAt s text earlier (o + 1) pairs found left filter candidates
+no_more s text earlier o pairs found left filter candidates at none = record {
   tally = at.tally;
   answers = λ i h.
       let pair : Pair = pair_at pairs i in
       let m : Bool = is_match pair (window s text o) in
-      stays m (spot_in begun.text o) (after_candidates s text pair candidates (answer_at found i)) (λ none_yet. none i h (settled_open s text pair candidates (answer_at found i) none_yet))
-      ∙ ap (after_window m (spot_in begun.text o)) (at.answers i h)
-      ∙ sym (below-more s text begun o pairs i);
+      stays m (spot_in earlier.text o) (after_candidates s text pair candidates (answer_at found i)) (λ none_yet. none i h (settled_open s text pair candidates (answer_at found i) none_yet))
+      ∙ ap (after_window m (spot_in earlier.text o)) (at.answers i h)
+      ∙ sym (below-more s text earlier o pairs i);
   candidates = at.candidates;
 }
 
@@ -111,9 +111,9 @@ no_crc pair md5 crc other =
     ] refl
 
 -- the checksum of the window is of no group that is marked
-pub unmarked : (s : ℕ) (text : List ℕ) (begun : Begun) (o : ℕ) (pairs : List Pair) (found : List (Option Spot)) (left : ℕ) (filter : Groups) (candidates : List Candidate) (crc : ℕ) → IsAt s text begun o pairs found left filter candidates → crc ≡ crc32 (window s text o) → (Marks filter.fine crc → ⊥) → IsAt s text begun (o + 1) pairs found left filter candidates
-unmarked s text begun o pairs found left filter candidates crc at is not_marked =
-    no_more s text begun o pairs found left filter candidates at (λ i h none.
+pub unmarked : (s : ℕ) (text : List ℕ) (earlier : Earlier) (o : ℕ) (pairs : List Pair) (found : List (Option Spot)) (left : ℕ) (filter : Groups) (candidates : List Candidate) (crc : ℕ) → IsAt s text earlier o pairs found left filter candidates → crc ≡ crc32 (window s text o) → (Marks filter.fine crc → ⊥) → IsAt s text earlier (o + 1) pairs found left filter candidates
+unmarked s text earlier o pairs found left filter candidates crc at is not_marked =
+    no_more s text earlier o pairs found left filter candidates at (λ i h none.
     let Has : ℕ → Type 0 = λ c. Marks filter.fine c in
     no_crc (pair_at pairs i) _ (crc32 (window s text o)) (λ same. not_marked (subst Has (same ∙ sym is) (at.tally.marked i h none))))
 
@@ -126,9 +126,9 @@ none_counted X p xs i d none h holds =
     cc
 
 -- no pair that has this checksum is open
-pub unawaited : (s : ℕ) (text : List ℕ) (begun : Begun) (o : ℕ) (pairs : List Pair) (found : List (Option Spot)) (left : ℕ) (filter : Groups) (candidates : List Candidate) (crc shift : ℕ) (group : List Place) → IsAt s text begun o pairs found left filter candidates → crc ≡ crc32 (window s text o) → HoldsGroup pairs shift crc group → count_by (is_awaited crc found) group ≡ 0 → IsAt s text begun (o + 1) pairs found left filter candidates
-unawaited s text begun o pairs found left filter candidates crc shift group at is holds closed =
-    no_more s text begun o pairs found left filter candidates at (λ i h none.
+pub unawaited : (s : ℕ) (text : List ℕ) (earlier : Earlier) (o : ℕ) (pairs : List Pair) (found : List (Option Spot)) (left : ℕ) (filter : Groups) (candidates : List Candidate) (crc shift : ℕ) (group : List Place) → IsAt s text earlier o pairs found left filter candidates → crc ≡ crc32 (window s text o) → HoldsGroup pairs shift crc group → count_by (is_awaited crc found) group ≡ 0 → IsAt s text earlier (o + 1) pairs found left filter candidates
+unawaited s text earlier o pairs found left filter candidates crc shift group at is holds closed =
+    no_more s text earlier o pairs found left filter candidates at (λ i h none.
     no_crc (pair_at pairs i) _ (crc32 (window s text o)) (λ same.
     let its : (pair_at pairs i).1 ≡ crc = same ∙ sym is in
     let place = holds.whole i h (ap (λ c. c / 2 ^ shift) its) in
@@ -143,10 +143,10 @@ matches s text o digest crc pair digest_is crc_is =
     ap (λ m. has_checksums m crc pair) digest_is ∙ ap (λ k. has_checksums (md5 (window s text o)) k pair) crc_is
 
 -- the window at the offset has been compared, and no candidate waits
-pub compared : (s : ℕ) (text : List ℕ) (begun : Begun) (o : ℕ) (pairs : List Pair) (old new : List (Option Spot)) (left after : ℕ) (filter marks : Groups) (candidates : List Candidate) (spot : Spot) (digest : List ℕ) (crc : ℕ) → IsAt s text begun o pairs old left filter candidates → candidates ≡ [] → spot ≡ spot_in begun.text o → digest ≡ md5 (window s text o) → crc ≡ crc32 (window s text o) → IsTally pairs new after marks →
+pub compared : (s : ℕ) (text : List ℕ) (earlier : Earlier) (o : ℕ) (pairs : List Pair) (old new : List (Option Spot)) (left after : ℕ) (filter marks : Groups) (candidates : List Candidate) (spot : Spot) (digest : List ℕ) (crc : ℕ) → IsAt s text earlier o pairs old left filter candidates → candidates ≡ [] → spot ≡ spot_in earlier.text o → digest ≡ md5 (window s text o) → crc ≡ crc32 (window s text o) → IsTally pairs new after marks →
     ((i : ℕ) → i < length pairs → answer_at new i ≡ after_window (has_checksums digest crc (pair_at pairs i)) spot (answer_at old i)) →
-    IsAt s text begun (o + 1) pairs new after marks candidates
-compared s text begun o pairs old new left after filter marks candidates spot digest crc at empty spot_is digest_is crc_is tally all = record {
+    IsAt s text earlier (o + 1) pairs new after marks candidates
+compared s text earlier o pairs old new left after filter marks candidates spot digest crc at empty spot_is digest_is crc_is tally all = record {
   tally = tally;
   answers = λ i h.
       let pair : Pair = pair_at pairs i in
@@ -156,21 +156,21 @@ compared s text begun o pairs old new left after filter marks candidates spot di
       ∙ all i h
       ∙ ap (λ b. after_window b spot (answer_at old i)) (matches s text o digest crc pair digest_is crc_is)
       ∙ ap (λ p. after_window m p (answer_at old i)) spot_is
-      ∙ ap (after_window m (spot_in begun.text o)) (sym (none (answer_at old i)) ∙ at.answers i h)
-      ∙ sym (below-more s text begun o pairs i);
+      ∙ ap (after_window m (spot_in earlier.text o)) (sym (none (answer_at old i)) ∙ at.answers i h)
+      ∙ sym (below-more s text earlier o pairs i);
   candidates = at.candidates;
 }
 
 -- the window at the offset is a candidate more
-pub pushed : (s : ℕ) (text : List ℕ) (begun : Begun) (pairs : List Pair) (found : List (Option Spot)) (left : ℕ) (filter : Groups) (candidates : List Candidate) (candidate : Candidate) → IsAt s text begun candidate.spot.offset pairs found left filter candidates → candidate.spot.text ≡ begun.text → IsWindow s text candidate → IsAt s text begun (candidate.spot.offset + 1) pairs found left filter (candidates ++ candidate ∷ [])
-pushed s text begun pairs found left filter candidates candidate at text_is its = record {
+pub pushed : (s : ℕ) (text : List ℕ) (earlier : Earlier) (pairs : List Pair) (found : List (Option Spot)) (left : ℕ) (filter : Groups) (candidates : List Candidate) (candidate : Candidate) → IsAt s text earlier candidate.spot.offset pairs found left filter candidates → candidate.spot.text ≡ earlier.text → IsWindow s text candidate → IsAt s text earlier (candidate.spot.offset + 1) pairs found left filter (candidates ++ candidate ∷ [])
+pushed s text earlier pairs found left filter candidates candidate at text_is its = record {
   tally = at.tally;
   answers = λ i h.
       let pair : Pair = pair_at pairs i in
       settled_more s text pair candidates candidate (answer_at found i)
       ∙ ap (after_window (is_match pair (window s text candidate.spot.offset)) candidate.spot) (at.answers i h)
-      ∙ ap (λ t. after_window (is_match pair (window s text candidate.spot.offset)) (spot_in t candidate.spot.offset) (answer_below s text begun candidate.spot.offset pairs i)) text_is
-      ∙ sym (below-more s text begun candidate.spot.offset pairs i);
+      ∙ ap (λ t. after_window (is_match pair (window s text candidate.spot.offset)) (spot_in t candidate.spot.offset) (answer_below s text earlier candidate.spot.offset pairs i)) text_is
+      ∙ sym (below-more s text earlier candidate.spot.offset pairs i);
   candidates = λ k h.
       let Is : Candidate → Type 0 = λ c. IsWindow s text c in
       elim (cases_lt k (length candidates)) [
@@ -180,10 +180,10 @@ pushed s text begun pairs found left filter candidates candidate at text_is its 
 }
 
 -- the candidates have been compared
-pub emptied : (s : ℕ) (text : List ℕ) (begun : Begun) (o : ℕ) (pairs : List Pair) (old new : List (Option Spot)) (left after : ℕ) (filter marks : Groups) (candidates rest : List Candidate) → IsAt s text begun o pairs old left filter candidates → IsTally pairs new after marks → rest ≡ [] →
+pub emptied : (s : ℕ) (text : List ℕ) (earlier : Earlier) (o : ℕ) (pairs : List Pair) (old new : List (Option Spot)) (left after : ℕ) (filter marks : Groups) (candidates rest : List Candidate) → IsAt s text earlier o pairs old left filter candidates → IsTally pairs new after marks → rest ≡ [] →
     ((i : ℕ) → i < length pairs → answer_at new i ≡ after_candidates s text (pair_at pairs i) candidates (answer_at old i)) →
-    IsAt s text begun o pairs new after marks rest
-emptied s text begun o pairs old new left after filter marks candidates rest at tally empty all = record {
+    IsAt s text earlier o pairs new after marks rest
+emptied s text earlier o pairs old new left after filter marks candidates rest at tally empty all = record {
   tally = tally;
   answers = λ i h.
       ap (λ cs. after_candidates s text (pair_at pairs i) cs (answer_at new i)) empty
@@ -194,9 +194,9 @@ emptied s text begun o pairs old new left after filter marks candidates rest at 
 }
 
 -- a group without an open pair may be taken away
-pub unmark : (s : ℕ) (text : List ℕ) (begun : Begun) (o : ℕ) (pairs : List Pair) (found : List (Option Spot)) (left : ℕ) (filter after : Groups) (candidates : List Candidate) (crc shift : ℕ) (group : List Place) → IsAt s text begun o pairs found left filter candidates → HoldsGroup pairs shift crc group → ((k : ℕ) → k < length group → (place_at group k).crc % 64 ≡ crc % 64 → answer_at found (place_at group k).index ≡ None → ⊥) → ((other : ℕ) → ((other / 2 ^ shift ≡ crc / 2 ^ shift) × (other % 64 ≡ crc % 64) → ⊥) → Marks filter.fine other → Marks after.fine other)
-    → after.fine.shift ≡ filter.fine.shift → ((other : ℕ) → Marks after.fine other → Marks filter.fine other) → after.coarse ≡ filter.coarse → IsAt s text begun o pairs found left after candidates
-unmark s text begun o pairs found left filter after candidates crc shift group at holds closed keeps shift_same fewer coarse_same = record {
+pub unmark : (s : ℕ) (text : List ℕ) (earlier : Earlier) (o : ℕ) (pairs : List Pair) (found : List (Option Spot)) (left : ℕ) (filter after : Groups) (candidates : List Candidate) (crc shift : ℕ) (group : List Place) → IsAt s text earlier o pairs found left filter candidates → HoldsGroup pairs shift crc group → ((k : ℕ) → k < length group → (place_at group k).crc % 64 ≡ crc % 64 → answer_at found (place_at group k).index ≡ None → ⊥) → ((other : ℕ) → ((other / 2 ^ shift ≡ crc / 2 ^ shift) × (other % 64 ≡ crc % 64) → ⊥) → Marks filter.fine other → Marks after.fine other)
+    → after.fine.shift ≡ filter.fine.shift → ((other : ℕ) → Marks after.fine other → Marks filter.fine other) → after.coarse ≡ filter.coarse → IsAt s text earlier o pairs found left after candidates
+unmark s text earlier o pairs found left filter after candidates crc shift group at holds closed keeps shift_same fewer coarse_same = record {
   tally = record {
     len = at.tally.len;
     count = at.tally.count;
@@ -282,34 +282,34 @@ never_answered (suc n) zero = refl
 never_answered (suc n) (suc i) = never_answered n i
 
 -- before the first offset
-pub at_start : (s : ℕ) (text : List ℕ) (begun : Begun) (pairs : List Pair) (found : List (Option Spot)) (left : ℕ) (filter : Groups) (candidates : List Candidate) → IsTally pairs found left filter → found ≡ begun.before → candidates ≡ [] → IsAt s text begun 0 pairs found left filter candidates
+pub at_start : (s : ℕ) (text : List ℕ) (earlier : Earlier) (pairs : List Pair) (found : List (Option Spot)) (left : ℕ) (filter : Groups) (candidates : List Candidate) → IsTally pairs found left filter → found ≡ earlier.before → candidates ≡ [] → IsAt s text earlier 0 pairs found left filter candidates
 unfolding first_below
-at_start s text begun pairs found left filter candidates tally found_is empty = record {
+at_start s text earlier pairs found left filter candidates tally found_is empty = record {
   tally = tally;
   answers = λ i h.
       ap (λ cs. after_candidates s text (pair_at pairs i) cs (answer_at found i)) empty
       ∙ settled_none s text (pair_at pairs i) (answer_at found i)
       ∙ ap (λ f. answer_at f i) found_is
-      ∙ or_nothing (answer_at begun.before i);
+      ∙ or_nothing (answer_at earlier.before i);
   candidates = λ k h. absurd (omega (arith, h, ap length empty));
 }
 
 -- where no pair is open, no offset more changes an answer
-pub none_left : (s : ℕ) (text : List ℕ) (begun : Begun) (o n : ℕ) (pairs : List Pair) (found : List (Option Spot)) (left : ℕ) (filter : Groups) (candidates : List Candidate) → IsAt s text begun o pairs found left filter candidates → left ≡ 0 → IsAt s text begun (o + n) pairs found left filter candidates
-none_left s text begun o zero pairs found left filter candidates at none =
-    let At : ℕ → Type 0 = λ k. IsAt s text begun k pairs found left filter candidates in
+pub none_left : (s : ℕ) (text : List ℕ) (earlier : Earlier) (o n : ℕ) (pairs : List Pair) (found : List (Option Spot)) (left : ℕ) (filter : Groups) (candidates : List Candidate) → IsAt s text earlier o pairs found left filter candidates → left ≡ 0 → IsAt s text earlier (o + n) pairs found left filter candidates
+none_left s text earlier o zero pairs found left filter candidates at none =
+    let At : ℕ → Type 0 = λ k. IsAt s text earlier k pairs found left filter candidates in
     subst At (let e : o ≡ o + 0 = omega arith in e) at
-none_left s text begun o (suc n) pairs found left filter candidates at none =
-    let At : ℕ → Type 0 = λ k. IsAt s text begun k pairs found left filter candidates in
+none_left s text earlier o (suc n) pairs found left filter candidates at none =
+    let At : ℕ → Type 0 = λ k. IsAt s text earlier k pairs found left filter candidates in
     subst At (let e : o + n + 1 ≡ o + suc n = omega arith in e)
-    (no_more s text begun (o + n) pairs found left filter candidates (none_left s text begun o n pairs found left filter candidates at none)
+    (no_more s text earlier (o + n) pairs found left filter candidates (none_left s text earlier o n pairs found left filter candidates at none)
     (λ i h none_yet. absurd (none_counted (Option Spot) is_none found i None (sym at.tally.count ∙ none) (omega (arith, h, at.tally.len)) (ap is_none none_yet))))
 
 -- at the end, when no candidate waits
-pub finished : (s : ℕ) (text : List ℕ) (begun : Begun) (pairs : List Pair) (found : List (Option Spot)) (left : ℕ) (filter : Groups) (batch : List Candidate) (i : ℕ) → IsAt s text begun (length text) pairs found left filter batch → batch ≡ [] → i < length pairs
-    → answer_at found i ≡ option_or (answer_at begun.before i) (option_map (spot_in begun.text) (first_match s text (pair_at pairs i)))
+pub finished : (s : ℕ) (text : List ℕ) (earlier : Earlier) (pairs : List Pair) (found : List (Option Spot)) (left : ℕ) (filter : Groups) (batch : List Candidate) (i : ℕ) → IsAt s text earlier (length text) pairs found left filter batch → batch ≡ [] → i < length pairs
+    → answer_at found i ≡ option_or (answer_at earlier.before i) (option_map (spot_in earlier.text) (first_match s text (pair_at pairs i)))
 unfolding first_below
-finished s text begun pairs found left filter batch i at empty inside =
+finished s text earlier pairs found left filter batch i at empty inside =
     sym (ap (λ cs. after_candidates s text (pair_at pairs i) cs (answer_at found i)) empty ∙ settled_none s text (pair_at pairs i) (answer_at found i))
     ∙ at.answers i inside
 
@@ -329,14 +329,14 @@ first_spot-more n s (t ∷ texts) text pair =
     or_or (Some x) b c = refl
 
 -- a text more has been searched
-pub text_done : (s : ℕ) (texts : List (List ℕ)) (k : ℕ) (begun : Begun) (pairs : List Pair) (found : List (Option Spot)) (left : ℕ) (filter : Groups) (batch : List Candidate) (i : ℕ) → k < length texts → begun.text ≡ k
-    → IsAt s (get_or texts k []) begun (length (get_or texts k [])) pairs found left filter batch → batch ≡ [] → i < length pairs
-    → answer_at begun.before i ≡ first_spot s (take k texts) (pair_at pairs i) → answer_at found i ≡ first_spot s (take (k + 1) texts) (pair_at pairs i)
-text_done s texts k begun pairs found left filter batch i inside text_is at empty low before =
+pub text_done : (s : ℕ) (texts : List (List ℕ)) (k : ℕ) (earlier : Earlier) (pairs : List Pair) (found : List (Option Spot)) (left : ℕ) (filter : Groups) (batch : List Candidate) (i : ℕ) → k < length texts → earlier.text ≡ k
+    → IsAt s (get_or texts k []) earlier (length (get_or texts k [])) pairs found left filter batch → batch ≡ [] → i < length pairs
+    → answer_at earlier.before i ≡ first_spot s (take k texts) (pair_at pairs i) → answer_at found i ≡ first_spot s (take (k + 1) texts) (pair_at pairs i)
+text_done s texts k earlier pairs found left filter batch i inside text_is at empty low before =
     let text : List ℕ = get_or texts k [] in
     let pair : Pair = pair_at pairs i in
-    finished s text begun pairs found left filter batch i at empty low
-    ∙ ap (λ o. option_or o (option_map (spot_in begun.text) (first_match s text pair))) before
+    finished s text earlier pairs found left filter batch i at empty low
+    ∙ ap (λ o. option_or o (option_map (spot_in earlier.text) (first_match s text pair))) before
     ∙ ap (λ n. option_or (first_spot s (take k texts) pair) (option_map (spot_in n) (first_match s text pair))) (text_is ∙ (let e : k ≡ 0 + length (take k texts) = omega (arith, inside, length-take k texts) in e))
     ∙ sym (first_spot-more 0 s (take k texts) text pair)
     ∙ ap (λ ts. first_spot s ts pair) (sym (take_more texts k [] inside))

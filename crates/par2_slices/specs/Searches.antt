@@ -72,8 +72,8 @@ has_checksums md5 crc pair = crc == pair.1 && bytes_eq md5 pair.0
 unfoldable pub first_below : ℕ → List ℕ → ℕ → Pair → Option ℕ
 first_below s text offset pair = find (λ o. is_match pair (window s text o)) (range_with_len 0 offset)
 
--- where a search of a text began: the number of the text, and the answers before it
-pub record Begun : Type 0 where
+-- what comes before the search of a text: how many texts, which is its number, and the answers in them
+pub record Earlier : Type 0 where
   pub text : ℕ
   pub before : List (Option Spot)
 
@@ -82,9 +82,9 @@ abbrev pub spot_in : ℕ → ℕ → Spot
 spot_in text offset = record { text = text; offset = offset }
 
 -- the answer to a pair, where those before stand and each other is the least offset below `offset`
-abbrev pub answer_below : ℕ → List ℕ → Begun → ℕ → List Pair → ℕ → Option Spot
-answer_below s text begun offset pairs i =
-    option_or (answer_at begun.before i) (option_map (spot_in begun.text) (first_below s text offset (pair_at pairs i)))
+abbrev pub answer_below : ℕ → List ℕ → Earlier → ℕ → List Pair → ℕ → Option Spot
+answer_below s text earlier offset pairs i =
+    option_or (answer_at earlier.before i) (option_map (spot_in earlier.text) (first_below s text offset (pair_at pairs i)))
 
 -- a window that lies in the text, and its checksum
 pub record IsWindow (s : ℕ) (text : List ℕ) (candidate : Candidate) : Type 0 where
@@ -108,9 +108,9 @@ pub record IsTally (pairs : List Pair) (found : List (Option Spot)) (left : ℕ)
   pub coarse_only : (crc : ℕ) → Marks filter.coarse crc → IsOfPair pairs filter.coarse.shift crc
 
 -- a search that has looked at the offsets below `offset`: what it has found, and what the candidates add to it
-pub record IsAt (s : ℕ) (text : List ℕ) (begun : Begun) (offset : ℕ) (pairs : List Pair) (found : List (Option Spot)) (left : ℕ) (filter : Groups) (batch : List Candidate) : Type 0 where
+pub record IsAt (s : ℕ) (text : List ℕ) (earlier : Earlier) (offset : ℕ) (pairs : List Pair) (found : List (Option Spot)) (left : ℕ) (filter : Groups) (batch : List Candidate) : Type 0 where
   pub tally : IsTally pairs found left filter
-  pub answers : (i : ℕ) → i < length pairs → after_candidates s text (pair_at pairs i) batch (answer_at found i) ≡ answer_below s text begun offset pairs i
+  pub answers : (i : ℕ) → i < length pairs → after_candidates s text (pair_at pairs i) batch (answer_at found i) ≡ answer_below s text earlier offset pairs i
   pub candidates : (k : ℕ) → k < length batch → IsWindow s text (candidate_at batch k)
 
 -- where a slice of these checksums first stands, in texts of which the first has this number: the first text with a window

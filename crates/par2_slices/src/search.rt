@@ -6,7 +6,7 @@ ghost use Rattle.std.specs.Option.{is_none};
 ghost use Rattle.par2_spec.specs.Checksums.{crc32};
 ghost use Rattle.par2_spec.specs.Windows.{window};
 ghost use Rattle.par2_slices.specs.Filters.{AreFor};
-ghost use Rattle.par2_slices.specs.Searches.{after_window, candidate_at, has_checksums, is_awaited, answer_at, pair_at, place_at, first_spot, after_candidates, Begun, IsAt, IsPlace, IsTally, IsWaiting, IsWindow};
+ghost use Rattle.par2_slices.specs.Searches.{after_window, candidate_at, has_checksums, is_awaited, answer_at, pair_at, place_at, first_spot, after_candidates, Earlier, IsAt, IsPlace, IsTally, IsWaiting, IsWindow};
 
 use crate::batch::{Candidate, Spot, digests};
 use crate::cutting::window_bytes;
@@ -180,11 +180,11 @@ impl Search {
     /// end of the file.
     // Of windows of one CRC-32 the first mostly answers each pair that waits for it: then the others need no MD5.
     fn make_room(&mut self, wanted: &Wanted, bytes: &[u8], s: u64, offset: usize, crc: u32)
-        ghost begun: { Begun }
-        requires at { IsAt s bytes.now begun offset
+        ghost earlier: { Earlier }
+        requires at { IsAt s bytes.now earlier offset
             wanted.now self.old.found.items self.old.left self.old.filter self.old.batch.items }
         requires within { offset < length bytes.now }
-        ensures at { IsAt s bytes.now begun offset
+        ensures at { IsAt s bytes.now earlier offset
             wanted.now self.new.found.items self.new.left self.new.filter self.new.batch.items }
         ensures room { length self.new.batch.items < 8 }
         ensures short { length bytes.now < offset + s → self.new.batch.items ≡ [] }
@@ -198,16 +198,16 @@ impl Search {
     /// Puts a candidate, for which `pairs` open pairs wait, into the batch. A window that reaches past the end of the file
     /// is compared at once, since the batch has whole windows only.
     fn put(&mut self, wanted: &Wanted, bytes: &[u8], s: u64, candidate: Candidate, pairs: usize)
-        ghost begun: { Begun }
-        requires at { IsAt s bytes.now begun candidate.spot.offset
+        ghost earlier: { Earlier }
+        requires at { IsAt s bytes.now earlier candidate.spot.offset
             wanted.now self.old.found.items self.old.left self.old.filter self.old.batch.items }
         requires within { candidate.spot.offset < length bytes.now }
-        requires text { candidate.spot.text ≡ begun.text }
+        requires text { candidate.spot.text ≡ earlier.text }
         requires crc { candidate.crc ≡ crc32 (window s bytes.now candidate.spot.offset) }
         requires room { length self.old.batch.items < 8 }
         requires short { length bytes.now < candidate.spot.offset + s
             → self.old.batch.items ≡ [] }
-        ensures at { IsAt s bytes.now begun (candidate.spot.offset + 1)
+        ensures at { IsAt s bytes.now earlier (candidate.spot.offset + 1)
             wanted.now self.new.found.items self.new.left self.new.filter self.new.batch.items }
         ensures filter { self.new.filter ≡ self.old.filter }
     {
@@ -229,13 +229,13 @@ impl Search {
     #[cold]
     #[inline(never)]
     fn look(&mut self, wanted: &Wanted, bytes: &[u8], s: u64, spot: Spot, crc: u32)
-        ghost begun: { Begun }
-        requires at { IsAt s bytes.now begun spot.offset
+        ghost earlier: { Earlier }
+        requires at { IsAt s bytes.now earlier spot.offset
             wanted.now self.old.found.items self.old.left self.old.filter self.old.batch.items }
-        requires text { spot.text ≡ begun.text }
+        requires text { spot.text ≡ earlier.text }
         requires within { spot.offset < length bytes.now }
         requires crc { crc ≡ crc32 (window s bytes.now spot.offset) }
-        ensures { IsAt s bytes.now begun (spot.offset + 1)
+        ensures { IsAt s bytes.now earlier (spot.offset + 1)
             wanted.now self.new.found.items self.new.left self.new.filter self.new.batch.items }
     {
         if !self.filter.contains(crc) {
@@ -254,13 +254,13 @@ impl Search {
 
     /// Looks at the window at `offset`, whose CRC-32 is `crc`.
     fn test(&mut self, wanted: &Wanted, bytes: &[u8], s: u64, spot: Spot, crc: u32)
-        ghost begun: { Begun }
-        requires at { IsAt s bytes.now begun spot.offset
+        ghost earlier: { Earlier }
+        requires at { IsAt s bytes.now earlier spot.offset
             wanted.now self.old.found.items self.old.left self.old.filter self.old.batch.items }
-        requires text { spot.text ≡ begun.text }
+        requires text { spot.text ≡ earlier.text }
         requires within { spot.offset < length bytes.now }
         requires crc { crc ≡ crc32 (window s bytes.now spot.offset) }
-        ensures { IsAt s bytes.now begun (spot.offset + 1)
+        ensures { IsAt s bytes.now earlier (spot.offset + 1)
             wanted.now self.new.found.items self.new.left self.new.filter self.new.batch.items }
     {
         if self.filter.may_contain(crc) {
@@ -270,14 +270,14 @@ impl Search {
 
     /// Looks at four windows, the first of them at `offset`.
     fn test_four(&mut self, wanted: &Wanted, bytes: &[u8], s: u64, spot: Spot, crcs: &[u32; 4])
-        ghost begun: { Begun }
-        requires at { IsAt s bytes.now begun spot.offset
+        ghost earlier: { Earlier }
+        requires at { IsAt s bytes.now earlier spot.offset
             wanted.now self.old.found.items self.old.left self.old.filter self.old.batch.items }
-        requires text { spot.text ≡ begun.text }
+        requires text { spot.text ≡ earlier.text }
         requires within { spot.offset + 4 ≤ length bytes.now }
         requires crcs { (k : ℕ)
             → k < 4 → slice_index crcs.now k ≡ crc32 (window s bytes.now (spot.offset + k)) }
-        ensures { IsAt s bytes.now begun (spot.offset + 4)
+        ensures { IsAt s bytes.now earlier (spot.offset + 4)
             wanted.now self.new.found.items self.new.left self.new.filter self.new.batch.items }
     {
         let Spot { text, offset } = spot;
@@ -299,15 +299,15 @@ impl Search {
         s: u64,
         rolling: &mut Rolling,
     ) -> usize
-        ghost begun: { Begun }
-        requires text { text ≡ begun.text }
+        ghost earlier: { Earlier }
+        requires text { text ≡ earlier.text }
         requires some { 1 ≤ s }
-        requires at { IsAt s bytes.now begun
+        requires at { IsAt s bytes.now earlier
             0 wanted.now self.old.found.items self.old.left self.old.filter self.old.batch.items }
         requires size { rolling.old.size ≡ s }
         requires value { rolling.old.value ≡ crc32 (window s bytes.now 0) }
         ensures within { result ≤ length bytes.now }
-        ensures at { IsAt s bytes.now begun result
+        ensures at { IsAt s bytes.now earlier result
             wanted.now self.new.found.items self.new.left self.new.filter self.new.batch.items }
         ensures size { rolling.new.size ≡ s }
         ensures value { rolling.new.value ≡ crc32 (window s bytes.now result) }
@@ -335,15 +335,15 @@ impl Search {
         start: Spot,
         rolling: &mut Rolling,
     )
-        ghost begun: { Begun }
-        requires text { start.text ≡ begun.text }
+        ghost earlier: { Earlier }
+        requires text { start.text ≡ earlier.text }
         requires some { 1 ≤ s }
         requires within { start.offset ≤ length bytes.now }
-        requires at { IsAt s bytes.now begun start.offset
+        requires at { IsAt s bytes.now earlier start.offset
             wanted.now self.old.found.items self.old.left self.old.filter self.old.batch.items }
         requires size { rolling.old.size ≡ s }
         requires value { rolling.old.value ≡ crc32 (window s bytes.now start.offset) }
-        ensures at { IsAt s bytes.now begun (length bytes.now)
+        ensures at { IsAt s bytes.now earlier (length bytes.now)
             wanted.now self.new.found.items self.new.left self.new.filter self.new.batch.items }
         ensures size { rolling.new.size ≡ s }
     {
@@ -370,14 +370,14 @@ impl Search {
         s: u64,
         rolling: &mut Rolling,
     )
-        ghost begun: { Begun }
-        requires text { text ≡ begun.text }
+        ghost earlier: { Earlier }
+        requires text { text ≡ earlier.text }
         requires some { 1 ≤ s }
-        requires at { IsAt s bytes.now begun
+        requires at { IsAt s bytes.now earlier
             0 wanted.now self.old.found.items self.old.left self.old.filter self.old.batch.items }
         requires empty { self.old.batch.items ≡ [] }
         requires size { rolling.old.size ≡ s }
-        ensures at { IsAt s bytes.now begun (length bytes.now)
+        ensures at { IsAt s bytes.now earlier (length bytes.now)
             wanted.now self.new.found.items self.new.left self.new.filter self.new.batch.items }
         ensures empty { self.new.batch.items ≡ [] }
         ensures size { rolling.new.size ≡ s }

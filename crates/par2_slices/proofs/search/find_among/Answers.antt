@@ -1,7 +1,7 @@
 use Rattle.std.proofs.Common.{◌∙◌, ℕ, List, [], Bor, length, map, get_or, refl, sym, ap, subst, arith}
 use Rattle.std.proofs.lemmas.List.{get_or-map, length-map, take_all}
 use Rattle.par2_spec.specs.Checksums.{Pair}
-use Rattle.par2_slices.specs.Searches.{first_spot, pair_at, Begun, IsAt}
+use Rattle.par2_slices.specs.Searches.{first_spot, pair_at, Earlier, IsAt}
 use Rattle.par2_slices.proofs.Searching.{all_done, at_start, text_done}
 use Rattle.par2_slices.proofs.search.find_among.Goals as goal
 
@@ -13,10 +13,10 @@ bytes_of text = text.now
 
 pub search_text-requires : goal.search_text-requires
 search_text-requires c =
-    let begun : Begun = record { text = c.loop-text.text; before = c.loop-text.search.found.items } in
+    let earlier : Earlier = record { text = c.loop-text.text; before = c.loop-text.search.found.items } in
     let text : List ℕ = (get_or c.args.texts.now c.loop-text.text no_text).now in
     let search = c.loop-text.search in
-    (refl, (c.requires, (at_start c.args.s text begun c.args.wanted.now search.found.items search.left search.filter search.batch.items c.loop-text.invariant.tally refl c.loop-text.invariant.empty, (c.loop-text.invariant.empty, c.loop-text.invariant.size))))
+    (refl, (c.requires, (at_start c.args.s text earlier c.args.wanted.now search.found.items search.left search.filter search.batch.items c.loop-text.invariant.tally refl c.loop-text.invariant.empty, (c.loop-text.invariant.empty, c.loop-text.invariant.size))))
 
 pub loop-text-preserved : goal.loop-text-preserved
 loop-text-preserved c =
@@ -24,15 +24,15 @@ loop-text-preserved c =
     let pairs : List Pair = c.args.wanted.now in
     let texts : List (List ℕ) = map bytes_of c.args.texts.now in
     let k : ℕ = c.loop-text.text in
-    let begun : Begun = record { text = k; before = c.loop-text.search.found.items } in
+    let earlier : Earlier = record { text = k; before = c.loop-text.search.found.items } in
     let search = c.search_text.new.self in
-    let At : List ℕ → Type 0 = λ t. IsAt s t begun (length t) pairs search.found.items search.left search.filter search.batch.items in
+    let At : List ℕ → Type 0 = λ t. IsAt s t earlier (length t) pairs search.found.items search.left search.filter search.batch.items in
     let at : At (get_or texts k []) = subst At (sym (get_or-map bytes_of c.args.texts.now k no_text [] c.loop-text-test.true)) c.search_text.ensures.at in
     record {
       tally = c.search_text.ensures.at.tally;
       empty = c.search_text.ensures.empty;
       size = c.search_text.ensures.size;
-      answers = λ i h. text_done s texts k begun pairs search.found.items search.left search.filter search.batch.items i (omega (arith, c.loop-text-test.true, length-map c.args.texts.now bytes_of)) refl at c.search_text.ensures.empty h (c.loop-text.invariant.answers i h);
+      answers = λ i h. text_done s texts k earlier pairs search.found.items search.left search.filter search.batch.items i (omega (arith, c.loop-text-test.true, length-map c.args.texts.now bytes_of)) refl at c.search_text.ensures.empty h (c.loop-text.invariant.answers i h);
     }
 
 pub returns : goal.returns

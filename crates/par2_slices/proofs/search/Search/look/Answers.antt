@@ -20,13 +20,13 @@ returns-then-not-is_waiting g c =
     let wanted : List Pair = c.args.wanted.now in
     let group : List Place = c.group-group.result.now in
     let room : Search = c.make_room.new.self in
-    let At : Search → Type 0 = λ search. IsAt s text g.begun (o + 1) wanted search.found.items search.left search.filter search.batch.items in
+    let At : Search → Type 0 = λ search. IsAt s text g.earlier (o + 1) wanted search.found.items search.left search.filter search.batch.items in
     let after : At c.if-pairs-gt0.self = elim c.if-pairs-gt0.branch [
       | then-pairs-gt0 w ↦ subst At (sym w.self-is) w.put.ensures.at
       | else-pairs-gt0 w ↦ (
           let Counted : List (Option Spot) → Type 0 = λ found. count_by (is_awaited crc found) group ≡ 0 in
           let none : c.awaited-pairs.result ≡ 0 = omega (arith, w.if-pairs-gt0.false) in
-          subst At (sym w.self-is) (unawaited s text g.begun o wanted room.found.items room.left room.filter room.batch.items crc c.shift.result group c.make_room.ensures.at c.requires.1.1.1 c.group-group.ensures
+          subst At (sym w.self-is) (unawaited s text g.earlier o wanted room.found.items room.left room.filter room.batch.items crc c.shift.result group c.make_room.ensures.at c.requires.1.1.1 c.group-group.ensures
           (subst Counted c.deref.ensures.value (sym c.awaited-pairs.ensures ∙ none)))
           )
     ]
@@ -38,7 +38,7 @@ returns-then-not-is_waiting g c =
     in
     let shift_is : c.if-pairs-gt0.self.filter.fine.shift ≡ c.shift.result = ap (λ (groups : Groups). groups.fine.shift) filter_is ∙ sym c.shift.ensures.value in
     let Other : ℕ → ℕ → Type 0 = λ other shift. (other / 2 ^ shift ≡ crc / 2 ^ shift) × (other % 64 ≡ crc % 64) → ⊥ in
-    unmark s text g.begun (o + 1) wanted c.if-pairs-gt0.self.found.items c.if-pairs-gt0.self.left c.if-pairs-gt0.self.filter c.remove.new.self c.if-pairs-gt0.self.batch.items crc c.shift.result group after c.group-group.ensures
+    unmark s text g.earlier (o + 1) wanted c.if-pairs-gt0.self.found.items c.if-pairs-gt0.self.left c.if-pairs-gt0.self.filter c.remove.new.self c.if-pairs-gt0.self.batch.items crc c.shift.result group after c.group-group.ensures
     (λ k h low none. let both : true ≡ false = sym (c.is_waiting.ensures.1 (k, h, low, ap (λ found. answer_at found (place_at group k).index) c.deref-2.ensures.value ∙ none)) ∙ c.if-not-is_waiting.true in cc)
     (λ other differs is. let Its : ℕ → Type 0 = Other other in c.remove.ensures.kept other (subst Its (sym shift_is) differs) is)
     c.remove.ensures.shift c.remove.ensures.only c.remove.ensures.coarse
@@ -52,13 +52,13 @@ returns-else-not-is_waiting g c =
     let wanted : List Pair = c.args.wanted.now in
     let group : List Place = c.group-group.result.now in
     let room : Search = c.make_room.new.self in
-    let At : Search → Type 0 = λ search. IsAt s text g.begun (o + 1) wanted search.found.items search.left search.filter search.batch.items in
+    let At : Search → Type 0 = λ search. IsAt s text g.earlier (o + 1) wanted search.found.items search.left search.filter search.batch.items in
     let after : At c.if-pairs-gt0.self = elim c.if-pairs-gt0.branch [
       | then-pairs-gt0 w ↦ subst At (sym w.self-is) w.put.ensures.at
       | else-pairs-gt0 w ↦ (
           let Counted : List (Option Spot) → Type 0 = λ found. count_by (is_awaited crc found) group ≡ 0 in
           let none : c.awaited-pairs.result ≡ 0 = omega (arith, w.if-pairs-gt0.false) in
-          subst At (sym w.self-is) (unawaited s text g.begun o wanted room.found.items room.left room.filter room.batch.items crc c.shift.result group c.make_room.ensures.at c.requires.1.1.1 c.group-group.ensures
+          subst At (sym w.self-is) (unawaited s text g.earlier o wanted room.found.items room.left room.filter room.batch.items crc c.shift.result group c.make_room.ensures.at c.requires.1.1.1 c.group-group.ensures
           (subst Counted c.deref.ensures.value (sym c.awaited-pairs.ensures ∙ none)))
           )
     ]
@@ -67,5 +67,5 @@ returns-else-not-is_waiting g c =
 
 pub returns-then-not-contains : goal.returns-then-not-contains
 returns-then-not-contains g c =
-    unmarked c.args.s c.args.bytes.now g.begun c.args.spot.offset c.args.wanted.now c.args.self.now.found.items c.args.self.now.left c.args.self.now.filter c.args.self.now.batch.items c.args.crc c.requires.0 c.requires.1.1.1
+    unmarked c.args.s c.args.bytes.now g.earlier c.args.spot.offset c.args.wanted.now c.args.self.now.found.items c.args.self.now.left c.args.self.now.filter c.args.self.now.batch.items c.args.crc c.requires.0 c.requires.1.1.1
     (λ is. let both : true ≡ false = sym (c.contains.ensures.1 is) ∙ c.if-not-contains.true in cc)
