@@ -42,18 +42,18 @@ at_packets files base id h = step (slice_get (accepted (bytes_of files base)) 0)
     step (Some p) e = ap (λ i. with_packets i (set_packets files base i)) (ap (λ o. unwrap_or o id) e)
 
 -- what has been read before the descriptions
-pub record Begun (files : Folder) (base id : List ℕ) (packets : List Packet) (main : MainBody) : Type 0 where
+pub record ReadSoFar (files : Folder) (base id : List ℕ) (packets : List Packet) (main : MainBody) : Type 0 where
   pub first : first_id files base ≡ Some id
   pub packets_are : packets ≡ set_packets files base id
   pub main_is : main_of id packets ≡ Some main
   pub size : is_slice_size main.slice_size ≡ true
 
-module _ (files : Folder) (base id : List ℕ) (packets : List Packet) (main : MainBody) (begun : Begun files base id packets main) where
+module _ (files : Folder) (base id : List ℕ) (packets : List Packet) (main : MainBody) (read_so_far : ReadSoFar files base id packets main) where
   at_size : set_of files base ≡ with_size id packets main
   at_size =
-      at_packets files base id begun.first ∙ ap (with_packets id) (sym begun.packets_are)
-      ∙ ap (λ o. ok_or o NoMain >>= with_main id packets) begun.main_is
-      ∙ ap (λ b. unless b BadSet >>= (λ _. with_size id packets main)) begun.size
+      at_packets files base id read_so_far.first ∙ ap (with_packets id) (sym read_so_far.packets_are)
+      ∙ ap (λ o. ok_or o NoMain >>= with_main id packets) read_so_far.main_is
+      ∙ ap (λ b. unless b BadSet >>= (λ _. with_size id packets main)) read_so_far.size
 
   -- the descriptions end in a fault
   pub not_described : (fault : Fault) → descriptions_of packets main.ids ≡ Err fault → set_of files base ≡ Err fault

@@ -9,7 +9,7 @@ use Rattle.par2_packets.specs.Views.{packet_of}
 use Rattle.par2_sets.specs.Steps.{descriptions_of, targets_or_fault}
 use Rattle.par2_sets.specs.Slices.{exponents_of, recovered_of}
 use Rattle.par2_sets.proofs.Refusals.{refused_by}
-use Rattle.par2_sets.proofs.Reading.{Begun, not_described, not_taken, not_checked, all_read, the_set}
+use Rattle.par2_sets.proofs.Reading.{ReadSoFar, not_described, not_taken, not_checked, all_read, the_set}
 use Rattle.par2_sets.proofs.set.set_of.Goals as goal
 
 pub returns-in_err-described-clause-refused : goal.returns-in_err-described-clause-refused
@@ -19,7 +19,7 @@ returns-in_err-described-clause-refused c =
     let id = c.in_ok-id.id in
     let packets = map packet_of c.in_ok-packets.packets.items in
     let main = c.in_ok-main.main in
-    let begun : Begun files base id packets main = record {
+    let read_so_far : ReadSoFar files base id packets main = record {
       first = grind arith;
       packets_are = grind arith;
       main_is = grind arith;
@@ -29,7 +29,7 @@ returns-in_err-described-clause-refused c =
     refused_by _ _ fault (err_from_is_err_and c.from_residual-in_err-described.result c.from_residual-in_err-described.ensures.1) (
     elim c.in_err-described.ensures as (λ _. (fault ≡ Memory) ⊎ (sets.set_of files base ≡ Err fault)) [
       | inl memory ↦ inl memory
-      | inr refused ↦ inr (not_described files base id packets main begun fault (grind arith))
+      | inr refused ↦ inr (not_described files base id packets main read_so_far fault (grind arith))
     ])
 
 pub returns-in_err-names-clause-refused : goal.returns-in_err-names-clause-refused
@@ -39,7 +39,7 @@ returns-in_err-names-clause-refused c =
     let id = c.in_ok-id.id in
     let packets = map packet_of c.in_ok-packets.packets.items in
     let main = c.in_ok-main.main in
-    let begun : Begun files base id packets main = record {
+    let read_so_far : ReadSoFar files base id packets main = record {
       first = grind arith;
       packets_are = grind arith;
       main_is = grind arith;
@@ -51,7 +51,7 @@ returns-in_err-names-clause-refused c =
     refused_by _ _ fault (err_from_is_err_and c.from_residual-in_err-names.result c.from_residual-in_err-names.ensures.1) (
     elim c.in_err-names.ensures.test as (λ _. (fault ≡ Memory) ⊎ (sets.set_of files base ≡ Err fault)) [
       | inl memory ↦ inl memory
-      | inr refused ↦ inr (not_taken files base id packets main begun ds read fault (grind arith))
+      | inr refused ↦ inr (not_taken files base id packets main read_so_far ds read fault (grind arith))
     ])
 
 pub returns-in_err-targets-clause-refused : goal.returns-in_err-targets-clause-refused
@@ -61,7 +61,7 @@ returns-in_err-targets-clause-refused c =
     let id = c.in_ok-id.id in
     let packets = map packet_of c.in_ok-packets.packets.items in
     let main = c.in_ok-main.main in
-    let begun : Begun files base id packets main = record {
+    let read_so_far : ReadSoFar files base id packets main = record {
       first = grind arith;
       packets_are = grind arith;
       main_is = grind arith;
@@ -74,7 +74,7 @@ returns-in_err-targets-clause-refused c =
     refused_by _ _ fault (err_from_is_err_and c.from_residual-in_err-targets.result c.from_residual-in_err-targets.ensures.1) (
     elim c.in_err-targets.ensures as (λ _. (fault ≡ Memory) ⊎ (sets.set_of files base ≡ Err fault)) [
       | inl memory ↦ inl memory
-      | inr refused ↦ inr (not_checked files base id packets main begun ds read taken fault (grind arith))
+      | inr refused ↦ inr (not_checked files base id packets main read_so_far ds read taken fault (grind arith))
     ])
 
 pub returns : goal.returns
@@ -84,7 +84,7 @@ returns c =
     let id = c.in_ok-id.id in
     let packets = map packet_of c.in_ok-packets.packets.items in
     let main = c.in_ok-main.main in
-    let begun : Begun files base id packets main = record {
+    let read_so_far : ReadSoFar files base id packets main = record {
       first = grind arith;
       packets_are = grind arith;
       main_is = grind arith;
@@ -97,7 +97,7 @@ returns c =
     let recovery = c.in_ok-recovery.recovery.items in
     let done : targets_or_fault packets main.slice_size ds ≡ Ok targets = grind arith in
     let recovered : recovered_of recovery ≡ entries (recovery_of packets main.slice_size) = grind arith in
-    let is = all_read files base id packets main begun ds read taken targets done ∙ the_set id packets main.slice_size c.slice_size-slice_size.result targets recovery c.slice_size-slice_size.ensures recovered in
+    let is = all_read files base id packets main read_so_far ds read taken targets done ∙ the_set id packets main.slice_size c.slice_size-slice_size.result targets recovery c.slice_size-slice_size.ensures recovered in
     record { refused = tt; read = is; sound = c.set_is_sound.ensures files base _ is }
 
 pub invariant_of-result : goal.invariant_of-result
@@ -107,7 +107,7 @@ invariant_of-result c =
     let id = c.in_ok-id.id in
     let packets = map packet_of c.in_ok-packets.packets.items in
     let main = c.in_ok-main.main in
-    let begun : Begun files base id packets main = record {
+    let read_so_far : ReadSoFar files base id packets main = record {
       first = grind arith;
       packets_are = grind arith;
       main_is = grind arith;
@@ -120,7 +120,7 @@ invariant_of-result c =
     let recovery = c.in_ok-recovery.recovery.items in
     let done : targets_or_fault packets main.slice_size ds ≡ Ok targets = grind arith in
     let recovered : recovered_of recovery ≡ entries (recovery_of packets main.slice_size) = grind arith in
-    let is = all_read files base id packets main begun ds read taken targets done ∙ the_set id packets main.slice_size c.slice_size-slice_size.result targets recovery c.slice_size-slice_size.ensures recovered in
+    let is = all_read files base id packets main read_so_far ds read taken targets done ∙ the_set id packets main.slice_size c.slice_size-slice_size.result targets recovery c.slice_size-slice_size.ensures recovered in
     let got : c.recovery_of.result ≡ Ok c.in_ok-recovery.recovery = grind arith in record {
       rising = IfOk-at_ok (λ rs. IsStrictlyIncreasing (exponents_of rs.items)) got c.recovery_of.ensures.rising;
       sound = c.set_is_sound.ensures files base _ is;
