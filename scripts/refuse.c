@@ -1,5 +1,6 @@
 // Refuses one growth of memory: the one whose number the variable REFUSED gives, counted from 1. It then writes a byte
-// on descriptor 9, so that who started the program sees that there was such a growth. For LD_PRELOAD.
+// on descriptor 9, so that who started the program sees that there was such a growth. Where the variable LARGEST is set,
+// it refuses each growth to more bytes than that. For LD_PRELOAD.
 typedef unsigned long size;
 extern void *__libc_malloc(size bytes);
 extern void *__libc_realloc(void *place, size bytes);
@@ -9,7 +10,11 @@ extern long write(int descriptor, const void *bytes, size count);
 
 static long seen = 0;
 
-static int is_refused(void) {
+static int is_refused(size bytes) {
+    const char *largest = getenv("LARGEST");
+    if (largest != 0 && bytes > (size)atol(largest)) {
+        return 1;
+    }
     const char *text = getenv("REFUSED");
     if (text == 0 || ++seen != atol(text)) {
         return 0;
@@ -18,6 +23,6 @@ static int is_refused(void) {
     return 1;
 }
 
-void *malloc(size bytes) { return is_refused() ? 0 : __libc_malloc(bytes); }
+void *malloc(size bytes) { return is_refused(bytes) ? 0 : __libc_malloc(bytes); }
 
-void *realloc(void *place, size bytes) { return is_refused() ? 0 : __libc_realloc(place, bytes); }
+void *realloc(void *place, size bytes) { return is_refused(bytes) ? 0 : __libc_realloc(place, bytes); }
