@@ -3,7 +3,7 @@
 
 mod elements;
 mod exponents;
-mod file_records;
+mod file_record;
 mod inverse;
 mod products;
 mod rebuild_slices;
@@ -11,7 +11,7 @@ mod recovery;
 mod set_record;
 
 pub use exponents::rank;
-pub use file_records::file_record_by_md5;
+pub use file_record::file_record_by_md5;
 pub use rebuild_slices::{RebuildFault, Survivors, rebuild};
 pub use recovery::{recovery_slice, recovery_slices};
 pub use set_record::{SetRecord, file_records};

@@ -14,7 +14,7 @@ ghost use Rattle.par2_spec.specs.Commands.{files_of};
 ghost use Rattle.par2_packets.specs.Views.{id_number};
 ghost use Rattle.par2_recovery.specs.Views.{AreRecords, names_of};
 
-use crate::file_records::file_record_by_md5;
+use crate::file_record::file_record_by_md5;
 use crate::recovery::bytes_of;
 use par2_digests::text_digests;
 use par2_folder::{Folder, Name};
