@@ -255,6 +255,39 @@ fn fingerprints_along_a_change(rt: HostRuntime) -> Result<(), Fail> {
     Ok(())
 }
 
+// The fingerprints of the folder with both changes, with the first alone, and without them again.
+fn fingerprints_back_from_two(
+    alloc: Global,
+    mut folder: Folder,
+    mut first: Change,
+    mut second: Change,
+) -> Result<Vec<[u8; 16]>, Fail> {
+    folder.apply(&mut first)?;
+    folder.apply(&mut second)?;
+    Ok(fingerprints_along(alloc, &folder, &[second, first])?)
+}
+
+// The fingerprint of the folder with the file `a` renamed.
+fn fingerprint_renamed<R: Abort + AllocGlobal>(rt: &R) -> Result<[u8; 16], AllocError> {
+    fingerprint(rt.alloc(), &folder_of(rt, &[("c", b"bc")], 0)?)
+}
+
+#[test]
+fn fingerprints_along_two_changes(rt: HostRuntime) -> Result<(), Fail> {
+    let folder = folder_of(&rt, &[("a", b"bc")], 1)?;
+    let first = change_of(&rt, PlainChange::Rename("a", "c"))?;
+    let second = change_of(&rt, PlainChange::Write("a", b"bc"))?;
+    let prints = fingerprints_back_from_two(rt.alloc(), folder, first, second)?;
+    let both = folder_of(&rt, &[("c", b"bc"), ("a", b"bc")], 0)?;
+    let wanted = [
+        fingerprint(rt.alloc(), &both)?,
+        fingerprint_renamed(&rt)?,
+        ONE_FILE,
+    ];
+    assert!(rt; prints.as_slice() == wanted.as_slice());
+    Ok(())
+}
+
 const TEXTS: &[(&str, bool)] = &[
     ("a", true),
     (".", false),

@@ -49,7 +49,8 @@ impl Task<'_> {
         }
     }
 
-    // Takes the next blocks, or the hash value behind the last. More than one are taken only where all of them are left.
+    // Takes the next blocks, or the hash value behind the last. More than one are taken only where all of them are
+    // left.
     fn turn<V: Lanes>(&mut self, blocks: &mut [u8], state: &State<V>, k: usize)
         requires within { k < V.count }
         requires some { 64 ≤ length blocks.old }

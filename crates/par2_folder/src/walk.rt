@@ -102,8 +102,8 @@ fn states_before(
     requires applicable { IsTrue (are_applicable folder.now.files (map change_of changes.now)) }
     requires absorbed { let changes = map change_of changes.now in
         HaveAbsorbed states.now (run_texts from.now folder.now.files changes) }
-    ensures { let changes = map change_of changes.now in
-        IfOk result (λ after. HaveAbsorbed after.items (run_texts to.now folder.now.files changes)) }
+    ensures { let texts = run_texts to.now folder.now.files (map change_of changes.now) in
+        IfOk result (λ after. HaveAbsorbed after.items texts) }
 {
     let mut snapshot = folder.snapshot(alloc)?;
     let mut runs = Runs::new(alloc);
