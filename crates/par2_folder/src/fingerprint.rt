@@ -13,7 +13,8 @@ use std::alloc::{AllocError, Global};
 
 // Adds the bytes behind their length to what is hashed.
 fn hash_counted(hasher: &mut Md5, bytes: &[u8])
-    ensures { (m : List ℕ) → Holds hasher.old m → Holds hasher.new (m ++ behind_length bytes.now) }
+    ensures { (m : List ℕ) → Holds hasher.old m
+        → Holds hasher.new (m ++ behind_length bytes.now) }
 {
     let length = bytes.len() as u64;
     hasher.update(length.to_le_bytes().as_slice());

@@ -173,7 +173,8 @@ fn last_volume(alloc: Global, parts: &mut Parts, volume: &Volume) -> Result<Vec<
 fn volume_texts(alloc: Global, parts: Parts, volumes: &[Volume]) -> Result<Vec<Vec<u8>>, AllocError>
     requires rising { AreRising parts.first volumes.now (parts.first + length parts.slices.items) }
     requires exponents { parts.first + length parts.slices.items ≤ 65536 }
-    requires sizes { AllByRecursion (λ slice. length slice % 4 ≡ 0) (lists_of parts.slices.items) }
+    requires sizes { AllByRecursion
+        (λ slice. length slice % 4 ≡ 0) (lists_of parts.slices.items) }
     ensures { IfOk result (λ texts. lists_of texts.items ≡ map (volume_text parts.index.items
         parts.set_id parts.first (lists_of parts.slices.items)) volumes.now) }
 {
@@ -209,7 +210,8 @@ pub fn changes_of(
 ) -> Result<Changes, AllocError>
     requires rising { AreRising parts.first volumes.now (parts.first + length parts.slices.items) }
     requires exponents { parts.first + length parts.slices.items ≤ 65536 }
-    requires sizes { AllByRecursion (λ slice. length slice % 4 ≡ 0) (lists_of parts.slices.items) }
+    requires sizes { AllByRecursion
+        (λ slice. length slice % 4 ≡ 0) (lists_of parts.slices.items) }
     ensures { IfOk result (λ changes. changes
         ≡ output_changes folder.now.files base parts.index.items parts.set_id parts.first
         (lists_of parts.slices.items) volumes.now) }

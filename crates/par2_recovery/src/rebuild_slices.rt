@@ -108,10 +108,11 @@ fn lost_slices(
     requires inverse { (r : ℕ)
         → r < length inverse.now → length (list_at (lists_of inverse.now) r) ≡ 2 * length kept.now }
     requires inverse_bytes { AreBytes (lists_of inverse.now) }
-    ensures made { IfOk result (λ texts. AreCombined survivors.now.slice_size (lists_of inverse.now)
-        (known_from 0 survivors.now.known.items) (texts_of (known_alone survivors.now.known.items))
+    ensures made { IfOk result (λ texts. AreCombined
+        survivors.now.slice_size (lists_of inverse.now) (known_from 0 survivors.now.known.items) (texts_of (known_alone survivors.now.known.items))
         (recovered_of kept.now) (lists_of texts.items)) }
-    ensures known { IfOk result (λ _. AreBytes (texts_of (known_alone survivors.now.known.items))) }
+    ensures known { IfOk result
+        (λ _. AreBytes (texts_of (known_alone survivors.now.known.items))) }
     ensures found { IfOk result (λ _. AreBytes (map (λ r. r.1) (recovered_of kept.now))) }
 {
     let numbers = known_numbers(alloc, &survivors.known)?;

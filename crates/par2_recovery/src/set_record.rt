@@ -87,7 +87,8 @@ impl SetRecord {
     /// What a set of slice size `s` says of the files with these records, in the order of their File IDs. All memory was
     /// taken for the records, so there is no other fault than that two of them have one File ID.
     pub fn of_records(mut files: Vec<FileRecord>, s: u64) -> Result<SetRecord, DuplicateId>
-        ensures distinct { IsOk result ↔ IsDistinct bytes_eq (map (λ file. file.id) files.items) }
+        ensures distinct { IsOk result
+            ↔ IsDistinct bytes_eq (map (λ file. file.id) files.items) }
         ensures slice { IfOk result (λ set. set.slice_size ≡ s) }
         ensures rising { IfOk result
             (λ set. IsStrictlyIncreasing (map id_number set.files.items)) }
