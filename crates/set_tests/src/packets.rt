@@ -28,13 +28,13 @@ pub fn pair(k: u8) -> Pair {
     ([k; 16], u32::from(k))
 }
 
-/// A file of this File ID, name and length, with the checksums of two slices.
-pub fn record(alloc: Global, id: u8, name: &str, length: u64) -> Result<FileRecord, AllocError> {
+/// A file of this File ID, name and size, with the checksums of two slices.
+pub fn record(alloc: Global, id: u8, name: &str, size: u64) -> Result<FileRecord, AllocError> {
     Ok(FileRecord {
         id: [id; 16],
         digest: [8; 16],
         digest_16k: [9; 16],
-        length,
+        size,
         name: String::from_str(alloc, name)?,
         pairs: Vec::from_array(alloc, [pair(1), pair(2)])?,
     })
