@@ -4,7 +4,6 @@ use par2_folder::{Change, Name};
 use par2_plan::{Changes, Fault};
 use std::alloc::{AllocError, Global};
 use std::marker::Model;
-use thiserror::Error;
 
 /// A change without its bytes.
 #[derive(Debug, Drop)]
@@ -87,13 +86,10 @@ impl Steps {
 }
 
 /// Why a session refuses an action.
-#[derive(Debug, Error, Clone, Copy, PartialEq, Eq)]
+#[derive(Clone, Copy, PartialEq, Eq, Debug, Drop)]
 pub enum SessionFault {
-    #[error("the command is refused")]
     Plan(Fault),
-    #[error("nothing to undo")]
     NothingToUndo,
-    #[error("nothing to redo")]
     NothingToRedo,
 }
 

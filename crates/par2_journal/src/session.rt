@@ -5,16 +5,13 @@ use crate::{Changes, Journals, Prepared, Steps};
 use par2_folder::{Change, Folder};
 use std::alloc::{AllocError, Global};
 use std::marker::Model;
-use thiserror::Error;
 
 /// No command is left to take back.
-#[derive(Debug, Error, Clone, Copy, PartialEq, Eq)]
-#[error("nothing to undo")]
+#[derive(Clone, Copy, PartialEq, Eq, Debug, Drop)]
 pub struct NothingToUndo;
 
 /// No command is left to do again.
-#[derive(Debug, Error, Clone, Copy, PartialEq, Eq)]
-#[error("nothing to redo")]
+#[derive(Clone, Copy, PartialEq, Eq, Debug, Drop)]
 pub struct NothingToRedo;
 
 /// A session on a folder: the folder, and a list of entries with a cursor. The entries before it are as undos apply

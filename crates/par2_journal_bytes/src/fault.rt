@@ -3,14 +3,11 @@ ghost use Rattle.std.specs.Prelude.{◌≡◌};
 ghost use Rattle.par2_journal_bytes.specs.declared.fault.DecodeFault.TheVariants.{Memory};
 
 use std::alloc::{AllocError, AllocFailed};
-use thiserror::Error;
 
 /// Why no journal was read.
-#[derive(Debug, Error, Clone, Copy, PartialEq, Eq)]
+#[derive(Clone, Copy, PartialEq, Eq, Debug, Drop)]
 pub enum DecodeFault {
-    #[error("the bytes are no journal")]
     JournalInvalid,
-    #[error("out of memory")]
     Memory,
 }
 

@@ -16,7 +16,6 @@ pub mod session_laws;
 pub mod stop_laws;
 
 pub use commands::{Action, Command, CreateArgs};
-use thiserror::Error;
 
 /// The type of a packet.
 #[derive(Clone, Copy, PartialEq, Eq, Debug, Drop)]
@@ -29,73 +28,67 @@ pub enum Kind {
     Other([u8; 16]),
 }
 
-/// Why a command is refused. Place 0 is the base, place k the k-th further name.
-#[derive(Debug, Error, Clone, Copy, PartialEq, Eq)]
+/// Why a command is refused. Place 0 is the base, place k the k-th further name. What is printed of it, `par2_printing` says.
+#[derive(Clone, Copy, PartialEq, Eq, Debug, Drop)]
 pub enum Fault {
-    #[error("the slice size must be a multiple of 4 from 4 to 1073741824")]
+    /// The slice size is no multiple of 4 from 4 to 2^30.
     BadSliceSize,
-    #[error("the exponents must stay below 65536")]
+    /// An exponent would be above 65,535.
     BadCount,
-    #[error("the base must be a file name that ends in .par2")]
+    /// The base is no file name that ends in `.par2`.
     BadBase,
-    #[error("no input files")]
+    /// No input is named.
     NoInput,
-    #[error("name {0} can't be an input's")]
+    /// The name at this place can't be that of an input.
     BadName(usize),
-    #[error("name {0} is that of an input before")]
+    /// The name at this place is that of an input before.
     DuplicateInput(usize),
-    #[error("there is no file of name {0}")]
+    /// No file has the name at this place.
     NoSuchFile(usize),
-    #[error("the file of name {0} is empty")]
+    /// The file of the name at this place has no bytes.
     EmptyFile(usize),
-    #[error("more than 32768 slices")]
+    /// The inputs have more than 32,768 slices.
     TooManySlices,
-    #[error("two inputs have one File ID")]
+    /// Two inputs have one File ID.
     DuplicateId,
-    #[error("a file name would be longer than 255 bytes")]
+    /// A file name would be longer than 255 bytes.
     NameTooLong,
-    #[error("an output exists")]
+    /// An output exists, and may not be replaced.
     Exists,
-    #[error("no packets in the base")]
+    /// The base has no packets.
     NoPackets,
-    #[error("no Main packet")]
+    /// No Main packet is in the set.
     NoMain,
-    #[error("a target has no FileDesc packet")]
+    /// A target has no FileDesc packet.
     NoDescription,
-    #[error("a target has no IFSC packet")]
+    /// A target has no IFSC packet.
     NoChecksums,
-    #[error("the set is not in this profile")]
+    /// The set is not in this profile.
     BadSet,
-    #[error("not repairable: {missing} slices are lost, {rank} can be told")]
+    /// So many slices are lost, and the recovery slices are of a lower rank.
     NotRepairable { missing: usize, rank: usize },
-    #[error("a rebuilt file has another digest")]
+    /// A rebuilt file has another MD5 than its target.
     RepairFailed,
-    #[error("a target is not complete")]
+    /// A target is not complete.
     NotComplete,
-    #[error("out of memory")]
+    /// A growth was refused.
     Memory,
 }
 
 /// Why a journal is refused.
-#[derive(Debug, Error, Clone, Copy, PartialEq, Eq)]
+#[derive(Clone, Copy, PartialEq, Eq, Debug, Drop)]
 pub enum JournalFault {
-    #[error("the journal is not valid")]
     JournalInvalid,
     /// The journal, which is that of a halfway command where `halfway` holds, is another folder's.
-    #[error("the folder is not as the journal left it")]
     FolderChanged { halfway: bool },
-    #[error("out of memory")]
     Memory,
 }
 
 /// Why a change is refused.
-#[derive(Debug, Error, Clone, Copy, PartialEq, Eq)]
+#[derive(Clone, Copy, PartialEq, Eq, Debug, Drop)]
 pub enum ChangeFault {
-    #[error("there is a file of that name")]
     NameTaken,
-    #[error("the folder has no vacant place")]
     NoRoom,
-    #[error("there is no file of that name")]
     NoSuchName,
 }
 
@@ -108,21 +101,14 @@ pub enum Verdict {
 }
 
 /// Why a run of the program fails.
-#[derive(Debug, Error, Clone, Copy, PartialEq, Eq)]
+#[derive(Clone, Copy, PartialEq, Eq, Debug, Drop)]
 pub enum Failure {
-    #[error("the command is refused: {0}")]
     Refused(Fault),
-    #[error("a file could not be read or written")]
     Store,
-    #[error("the words are no command")]
     Arguments,
-    #[error("the journal is not valid")]
     JournalInvalid,
-    #[error("the folder is not as the journal left it")]
     FolderChanged,
-    #[error("nothing to undo")]
     NothingToUndo,
-    #[error("nothing to redo")]
     NothingToRedo,
 }
 

@@ -13,7 +13,6 @@ use par2_folder::{Folder, FolderStore, ReadFault, read_folder};
 use par2_journal::{Halfway, Journals, Opened, Session, opens_as_is};
 use par2_spec::{Command, JournalFault};
 use std::alloc::{AllocError, Global};
-use thiserror::Error;
 
 /// A store that was opened.
 #[derive(Debug, Drop)]
@@ -24,16 +23,12 @@ pub struct Started {
 }
 
 /// Why a store can't be opened.
-#[derive(Debug, Error, Clone, Copy, PartialEq, Eq)]
+#[derive(Clone, Copy, PartialEq, Eq, Debug, Drop)]
 pub enum OpenFault {
-    #[error("the store failed")]
     Store,
-    #[error("out of memory")]
     Memory,
-    #[error("the journal is not valid")]
     JournalInvalid,
     /// A command was left halfway in another folder than this one, so that it can't be taken back.
-    #[error("the folder is not as the journal left it")]
     FolderChanged,
 }
 

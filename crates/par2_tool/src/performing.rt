@@ -13,7 +13,6 @@ use par2_folder::FolderStore;
 use par2_journal::{Report, Session, SessionFault, Steps};
 use par2_spec::{Command, Fault};
 use std::alloc::{AllocError, Global};
-use thiserror::Error;
 
 /// What an accepted command answers.
 #[derive(Debug, Drop)]
@@ -25,11 +24,9 @@ pub enum Outcome {
 }
 
 /// Why a command is not performed.
-#[derive(Debug, Error, Clone, Copy, PartialEq, Eq)]
+#[derive(Clone, Copy, PartialEq, Eq, Debug, Drop)]
 pub enum PerformFault {
-    #[error("the session refuses")]
     Session(SessionFault),
-    #[error("the store failed")]
     Store,
 }
 

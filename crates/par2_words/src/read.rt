@@ -10,14 +10,11 @@ use clap::ArgMatches;
 use clap::error::ErrorKind;
 use par2_spec::{Action, Command, CreateArgs};
 use std::alloc::{AllocError, Global};
-use thiserror::Error;
 
 /// Why words are no command.
-#[derive(Debug, Error, Clone, Copy, PartialEq, Eq)]
+#[derive(Clone, Copy, PartialEq, Eq, Debug, Drop)]
 pub enum WordsFault {
-    #[error("the words are no command")]
     Arguments,
-    #[error("out of memory")]
     Memory,
 }
 
