@@ -2,7 +2,7 @@
 
 use crate::rows::show;
 use crate::stops::failing;
-use anyhow::Result;
+use anyhow::{Error, Result};
 use par2_folder::{FolderStore, MemoryStore};
 use par2_tool::{Action, Command, CreateArgs, Outcome, Session, open_store, perform};
 use std::alloc::{AllocError, Global};
@@ -45,7 +45,7 @@ fn index_args(alloc: Global) -> Result<CreateArgs, AllocError> {
 
 // Opens a store.
 fn open<S: FolderStore>(rt: &HostRuntime, store: &mut S) -> Result<Session> {
-    let started = open_store(rt.alloc(), store)?;
+    let started = open_store(rt.alloc(), store).map_err(|_| Error::msg("the store can't be opened"))?;
     println!(rt; "history dropped: {}", started.dropped)?;
     Ok(started.session)
 }
