@@ -1,5 +1,5 @@
 -- Slices that agree with the known ones and with the recovery slices of the kept exponents always exist.
-use Rattle.std.proofs.Common.{cond, ◌≡◌, ℕ, zero, suc, ◌+◌, ◌*◌, ◌/◌, ◌%◌, ◌^◌, ◌<◌, ◌≤◌, List, [], ◌∷◌, length, map, drop, get_or, refl, sym, ap, ap₂, ◌∙◌, subst, true, false, Bool, inl, inr, arith}
+use Rattle.std.proofs.Common.{cond, ◌≡◌, ℕ, zero, suc, ◌+◌, ◌*◌, ◌/◌, ◌^◌, ◌<◌, ◌≤◌, List, [], ◌∷◌, length, map, drop, get_or, refl, sym, ap, ap₂, ◌∙◌, subst, true, false, Bool, inl, inr, arith}
 use Rattle.std.specs.Prelude.{bit_xor, flat_map, filter, ◌==◌, replicate, slice_index, Option, Some, None, is_some, unwrap_or}
 use Rattle.std.specs.Int.{w16, to_le_bytes}
 use Rattle.std.specs.Int.Bits.{xor_assoc, xor_self, xor_zero_r}
@@ -14,7 +14,6 @@ use Rattle.par2_spec.specs.Slices.{word}
 use Rattle.par2_spec.specs.Recovery.{dot, coefficients, combination, recovery}
 use Rattle.par2_spec.specs.Rank.{kept, IsVector, IsRepairable, Kills, AreBytes, AreSurvivors, Agrees, kept_slices, TwoAgree}
 use Rattle.par2_spec.specs.Search.{lost}
-use Rattle.par2_spec.proofs.FieldBits.{xor_middle}
 use Rattle.par2_spec.proofs.FieldProducts.{product_linear_right, product-lt, product_comm, product-one, product_assoc}
 use Rattle.par2_spec.proofs.FieldOrder.{product-zero, has_inverse}
 use Rattle.par2_spec.proofs.NamesLaws.{clash, false_true}

@@ -1,12 +1,11 @@
 -- Which lost slices the surviving recovery slices determine: the linear equations of the Parity Volume Set
 -- Specification 2.0, "Description of the algorithm". A vector gives each lost slice an element.
 use Rattle.std.specs.Prelude.{◌≡◌, ◌<◌, ◌≢◌, ℕ, ◌^◌, ◌%◌, ◌==◌, ◌&&◌, ◌||◌, Bool, not, List, [], length, map, filter, zip, nat_lt, Option, is_none, unwrap_or}
-use Rattle.std.specs.List.{list_any, list_all, AllByRecursion, AllZip, Contains}
+use Rattle.std.specs.List.{list_any, list_all, AllByRecursion, AllZip}
 use Rattle.std.specs.Option.{ForSome}
 use Rattle.std.specs.Str.{bytes_eq}
-use Rattle.par2_spec.specs.Field.{mul}
 use Rattle.par2_spec.specs.Recovery.{dot, coefficients, recovery}
-use Rattle.par2_spec.specs.Lists.{vectors, all_texts, all_lists}
+use Rattle.par2_spec.specs.Lists.{vectors}
 
 -- ---- in words
 

@@ -1,9 +1,8 @@
 -- A session: the folder, and on either side the changes that lead to the next folder.
-use Rattle.std.specs.Prelude.{◌≡◌, ◌<◌, ◌≤◌, ℕ, ◌+◌, ◌-◌, ◌&&◌, Bool, true, IsTrue, List, [], ◌∷◌, length, Option, Some, None, Result, Ok, Err}
-use Rattle.par2_spec.specs.Faults.{or_fault}
+use Rattle.std.specs.Prelude.{◌≡◌, ◌≤◌, ℕ, ◌+◌, ◌-◌, ◌&&◌, Bool, true, IsTrue, List, [], ◌∷◌, length, Option, Some, None, Result, Ok, Err}
 use Rattle.par2_spec.specs.Folders.{Folder}
-use Rattle.par2_spec.specs.Changes.{Change, effects, way_back, are_applicable, FolderState, takes_all, state_after_all}
-use Rattle.par2_spec.specs.Commands.{Command, Create, Verify, Repair, Purge, Action, Do, Undo, Redo}
+use Rattle.par2_spec.specs.Changes.{Change, effects, way_back, FolderState, takes_all, state_after_all}
+use Rattle.par2_spec.specs.Commands.{Verify, Action, Do, Undo, Redo}
 use Rattle.par2_spec.specs.Refusals.{refusal}
 use Rattle.par2_spec.specs.Plans.{changes_of}
 use Rattle.par2_spec.specs.History.{History, Refusal, Refused, NothingToUndo, NothingToRedo}

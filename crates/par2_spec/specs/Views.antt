@@ -1,5 +1,5 @@
 -- What the values of the program say, without the room that their collections have.
-use Rattle.std.specs.Prelude.{ℕ, List, map, string_bytes}
+use Rattle.std.specs.Prelude.{map, string_bytes}
 use Rattle.par2_spec.specs.Commands as asked_for
 use Rattle.par2_spec.specs.declared.commands.CreateArgs.{CreateArgs}
 use Rattle.par2_spec.specs.declared.commands.Action.{Action}
