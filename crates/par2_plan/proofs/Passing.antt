@@ -1,6 +1,6 @@
 -- Answers that are passed on.
 use Rattle.std.proofs.Common.{◌≡◌, ◌⊎◌, ◌∙◌, inl, inr, refl, sym, ap, subst, Result, Ok, Err}
-use Rattle.std.specs.Prelude.{is_ok, IfOk, IfErr}
+use Rattle.std.specs.Prelude.{Option, Some, None, is_ok, IfOk, IfErr, IsErrOf}
 use Rattle.std.specs.Result.{MatchResult}
 use Rattle.par2_spec.specs.declared.Fault.{Fault}
 use Rattle.par2_spec.specs.declared.Fault.TheVariants.{Memory}
@@ -32,6 +32,29 @@ refused_by P Q r fault p why cause = subst (λ x. IfErr x (λ y. (y ≡ Memory) 
     step : (fault ≡ Memory) ⊎ P fault → (fault ≡ Memory) ⊎ Q fault
     step (inl memory) = inl memory
     step (inr h) = inr (cause h)
+
+-- the fault that is found is the one that is answered
+pub answered_so : {X : Type 0} (r : Result X Fault) (found : Option Fault) (fault other : Fault) → r ≡ Err fault → found ≡ Some fault → found ≡ Some other → IsErrOf r other
+answered_so r found fault other is here h = is ∙ ap Err (same (sym here ∙ h))
+  where
+    same : ◌≡◌ {A = Option Fault} (Some fault) (Some other) → fault ≡ other
+    same e = cc
+
+pub never_found : {F : Type 0} (found : Option F) (other : F) → found ≡ None → found ≡ Some other → ⊥
+never_found found other none h = clash (sym none ∙ h)
+  where
+    clash : None ≡ Some other → ⊥
+    clash e = cc
+
+-- what a `?` answers where a step's error is known
+pub err_passed : {X Y E : Type 0} (r : Result X E) (fault other : E) → (y : E) × (r ≡ Err y) × (y ≡ fault) → ◌≡◌ {A = Result Y E} (Err fault) (Err other) → IsErrOf r other
+err_passed {X} {Y} {E} r fault other p h = p.1 ∙ ap Err (p.2 ∙ same h)
+  where
+    same : ◌≡◌ {A = Result Y E} (Err fault) (Err other) → fault ≡ other
+    same e = cc
+
+pub ok_no_err : {A E : Type 0} (x : A) (fault : E) → Ok x ≡ Err fault → ⊥
+ok_no_err x fault h = cc
 
 -- what follows from two things that hold of a value
 pub joined : {A E : Type 0} (P Q R : A → Type 0) (r : Result A E) → ((x : A) → P x → Q x → R x) → IfOk r P → IfOk r Q → IfOk r R

@@ -1,10 +1,10 @@
 -- What a repair and a purge are by the set that they read.
-use Rattle.std.proofs.Common.{◌≡◌, ◌∙◌, ℕ, List, [], sym, ap, subst, Bool, Some, Result, Ok, Err}
-use Rattle.par2_spec.specs.Commands.{Repair, Purge}
+use Rattle.std.proofs.Common.{◌≡◌, ◌∙◌, ℕ, List, [], refl, sym, ap, subst, Bool, Some, Result, Ok, Err}
+use Rattle.par2_spec.specs.Commands.{Verify, Repair, Purge}
 use Rattle.par2_spec.specs.Faults.{then_fault}
 use Rattle.par2_spec.specs.Folders.{Folder}
 use Rattle.par2_spec.specs.Plans.{changes_of, purge_changes, LeadsToAfter}
-use Rattle.par2_spec.specs.Refusals.{set_in, refusal, repair_refusal, purge_refusal, by_set}
+use Rattle.par2_spec.specs.Refusals.{absent_file, set_in, early_refusal, refusal, repair_refusal, purge_refusal, by_set}
 use Rattle.par2_spec.specs.Repairs.{AreFew}
 use Rattle.par2_spec.specs.Search.{candidates}
 use Rattle.par2_spec.specs.Sets.{ParSet}
@@ -15,6 +15,20 @@ use Rattle.par2_plan.proofs.Repaired.{whole_where_matched}
 
 pub same_set : (set other : ParSet) → ◌≡◌ {A = Result ParSet Fault} (Ok set) (Ok other) → set ≡ other
 same_set set other e = cc
+
+-- ---- what is refused first
+
+pub early_verify : (folder : Folder) (base : List ℕ) (extras : List (List ℕ)) → early_refusal folder (Verify base extras) ≡ absent_file folder base extras
+unfolding early_refusal
+early_verify folder base extras = refl
+
+pub early_repair : (folder : Folder) (base : List ℕ) (extras : List (List ℕ)) (purge : Bool) → early_refusal folder (Repair base extras purge) ≡ absent_file folder base extras
+unfolding early_refusal
+early_repair folder base extras purge = refl
+
+pub early_purge : (folder : Folder) (base : List ℕ) → early_refusal folder (Purge base) ≡ absent_file folder base []
+unfolding early_refusal
+early_purge folder base = refl
 
 module _ (folder : Folder) (base : List ℕ) (extras : List (List ℕ)) (purge : Bool) where
   pub repair_unread : (fault : Fault) → set_in folder base extras ≡ Err fault → refusal folder (Repair base extras purge) ≡ Some fault

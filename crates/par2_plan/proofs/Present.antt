@@ -11,7 +11,7 @@ use Rattle.par2_spec.specs.Faults.{or_fault}
 use Rattle.par2_spec.specs.Names.{is_name, is_among}
 use Rattle.par2_spec.specs.Folders.{Folder, File, has, files, IsFolder}
 use Rattle.par2_spec.specs.Sets.{ParSet, set_of}
-use Rattle.par2_spec.specs.Refusals.{set_in}
+use Rattle.par2_spec.specs.Refusals.{absent_file, set_in}
 use Rattle.par2_spec.proofs.NamesLaws.{same_name, clash}
 use Rattle.par2_spec.proofs.MovesLaws.{has_by_names}
 use Rattle.par2_spec.proofs.AcceptedCommands.{missing, in_full, in_part}
@@ -63,6 +63,25 @@ missing_behind folder base extras there =
     ∙ ap (option_map (λ k. 1 + k)) (sym (position_from-zero test extras))
 
 module _ (folder : Folder) (base : List ℕ) (extras : List (List ℕ)) where
+  pub base_first : has folder base ≡ false → absent_file folder base extras ≡ Some (NoSuchFile 0)
+  base_first gone =
+      let test = λ (word : List ℕ). not (has folder word) in
+      ap (option_map (λ k. NoSuchFile (0 + k))) (position_from-zero test (base ∷ extras) ∙ ap (λ b. cond (not b) (Some 0) (position_from test 1 extras)) gone)
+
+  module _ (there : has folder base ≡ true) where
+    pub extra_first : (k : ℕ) → missing folder extras ≡ Some k → absent_file folder base extras ≡ Some (NoSuchFile (k + 1))
+    extra_first k e =
+        ap (option_map (λ k. NoSuchFile (0 + k))) (missing_behind folder base extras there ∙ ap (option_map (λ k. 1 + k)) e)
+        ∙ ap (λ n. Some (NoSuchFile n)) (let n : 0 + (1 + k) ≡ k + 1 = omega arith in n)
+
+    pub none_absent : missing folder extras ≡ None → absent_file folder base extras ≡ None
+    none_absent e = ap (option_map (λ k. NoSuchFile (0 + k))) (missing_behind folder base extras there ∙ ap (option_map (λ k. 1 + k)) e)
+
+    pub extra_refused : (k : ℕ) → missing folder extras ≡ Some k → set_in folder base extras ≡ Err (NoSuchFile (k + 1))
+    extra_refused k e =
+        in_part folder base extras (1 + k) (missing_behind folder base extras there ∙ ap (option_map (λ k. 1 + k)) e)
+        ∙ ap (λ n. Err (NoSuchFile n)) (let n : 0 + (1 + k) ≡ k + 1 = omega arith in n)
+
   pub base_absent : has folder base ≡ false → set_in folder base extras ≡ Err (NoSuchFile 0)
   base_absent gone =
       let test = λ (word : List ℕ). not (has folder word) in

@@ -10,24 +10,19 @@ use Rattle.par2_spec.specs.Folders.{Folder, File, has}
 use Rattle.par2_spec.specs.Sets.{is_slice_size}
 use Rattle.par2_spec.specs.Volumes.{volume_numbers}
 use Rattle.par2_spec.specs.Commands.{CreateArgs, Create, files_of, outputs_of}
-use Rattle.par2_spec.specs.Refusals.{create_refusal, are_counts, refusal, after}
+use Rattle.par2_spec.specs.Refusals.{head_fault, bad_name, create_refusal, are_counts, refusal, early_refusal, after}
 use Rattle.par2_spec.specs.Changes.{Change, effects, are_applicable}
 use Rattle.par2_spec.specs.Plans.{changes_of, create_changes}
 use Rattle.par2_spec.proofs.ListsLaws.{any-map}
 use Rattle.par2_spec.proofs.CreateLaws.{names_of_outputs, create_applies}
 use Rattle.par2_spec.proofs.CommandLaws.{create_leads}
+use Rattle.par2_spec.proofs.EarlyLaws.{first-append, refused_early}
 use Rattle.par2_spec.specs.declared.Fault.{Fault}
 use Rattle.par2_spec.specs.declared.Fault.TheVariants.{BadSliceSize, BadCount, BadBase, NoInput, NoSuchFile, EmptyFile, TooManySlices}
-use Rattle.par2_plan.specs.Faults.{head_fault, bad_name, duplicate_input, files_fault, ids_fault, inputs_fault, long_name, there_already, create_fault}
+use Rattle.par2_plan.specs.Faults.{duplicate_input, files_fault, ids_fault, inputs_fault, long_name, there_already, create_fault}
 use Rattle.par2_plan.specs.Outputs.{volume_at, volumes_of, names_of, output_names}
 use Rattle.par2_plan.proofs.Numbered.{long_without_base}
 use Rattle.par2_plan.proofs.Passed.{head_passed}
-
--- the first of all is the first of the first ones, or else of the rest
-pub first-append : {F : Type 0} (xs ys : List (Option F)) → first_fault (xs ++ ys) ≡ first_fault (first_fault xs ∷ ys)
-first-append [] ys = refl
-first-append (None ∷ xs) ys = first-append xs ys
-first-append (Some fault ∷ xs) ys = refl
 
 pub behind : {F : Type 0} (x : Option F) (xs ys : List (Option F)) → first_fault xs ≡ first_fault ys → first_fault (x ∷ xs) ≡ first_fault (x ∷ ys)
 behind None xs ys e = e
@@ -80,13 +75,30 @@ module _ (folder : Folder) (a : CreateArgs) where
   unfolding create_fault
   refused_by_head fault h = by_causes ∙ ap (λ f. first_fault (f ∷ inputs_fault folder a.slice_size a.inputs ∷ long_name (output_names a) ∷ there_already folder a.overwrite (output_names a) ∷ [])) h
 
+  pub early_by_head : (fault : Fault) → head_fault a ≡ Some fault → early_refusal folder (Create a) ≡ Some fault
+  unfolding early_refusal
+  early_by_head fault h = ap (λ f. first_fault (f ∷ bad_name a.inputs ∷ [])) h
+
   module _ (head : head_fault a ≡ None) where
+    early_by_names : early_refusal folder (Create a) ≡ first_fault (bad_name a.inputs ∷ [])
+    unfolding early_refusal
+    early_by_names = ap (λ f. first_fault (f ∷ bad_name a.inputs ∷ [])) head
+
+    pub early_by_name : (fault : Fault) → bad_name a.inputs ≡ Some fault → early_refusal folder (Create a) ≡ Some fault
+    early_by_name fault h = early_by_names ∙ ap (λ f. first_fault (f ∷ [])) h
+
+    pub not_early : bad_name a.inputs ≡ None → early_refusal folder (Create a) ≡ None
+    not_early h = early_by_names ∙ ap (λ f. first_fault (f ∷ [])) h
+
     past_head : refusal folder (Create a) ≡ first_fault (inputs_fault folder a.slice_size a.inputs ∷ long_name (output_names a) ∷ there_already folder a.overwrite (output_names a) ∷ [])
     unfolding create_fault
     past_head = by_causes ∙ ap (λ f. first_fault (f ∷ inputs_fault folder a.slice_size a.inputs ∷ long_name (output_names a) ∷ there_already folder a.overwrite (output_names a) ∷ [])) head
 
     pub refused_by_inputs : (fault : Fault) → inputs_fault folder a.slice_size a.inputs ≡ Some fault → refusal folder (Create a) ≡ Some fault
     refused_by_inputs fault h = past_head ∙ ap (λ f. first_fault (f ∷ long_name (output_names a) ∷ there_already folder a.overwrite (output_names a) ∷ [])) h
+
+    pub refused_by_name : (fault : Fault) → bad_name a.inputs ≡ Some fault → refusal folder (Create a) ≡ Some fault
+    refused_by_name fault h = refused_early folder (Create a) fault (early_by_name fault h)
 
     module _ (inputs : inputs_fault folder a.slice_size a.inputs ≡ None) where
       past_inputs : refusal folder (Create a) ≡ first_fault (long_name (names_of (volumes_of a.base a.first a.count)) ∷ there_already folder a.overwrite (output_names a) ∷ [])

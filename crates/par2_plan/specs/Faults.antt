@@ -2,29 +2,15 @@
 use Rattle.std.specs.Prelude.{ℕ, ◌==◌, ◌&&◌, nat_lt, Bool, not, List, [], ◌∷◌, length, take, map, sum_by, Option}
 use Rattle.std.specs.List.{list_any, enumerate_from}
 use Rattle.par2_spec.specs.Faults.{first_fault, fault_where, fault_at}
-use Rattle.par2_spec.specs.Names.{is_name, is_par_name, is_among, distinct}
+use Rattle.par2_spec.specs.Names.{is_among, distinct}
 use Rattle.par2_spec.specs.Slices.{slice_count}
 use Rattle.par2_spec.specs.Folders.{File, Folder, has}
 use Rattle.par2_spec.specs.Volumes.{id_of}
-use Rattle.par2_spec.specs.Sets.{is_slice_size}
 use Rattle.par2_spec.specs.Commands.{CreateArgs, files_of}
-use Rattle.par2_spec.specs.Refusals.{are_counts, is_input_name}
+use Rattle.par2_spec.specs.Refusals.{head_fault, bad_name}
 use Rattle.par2_plan.specs.Outputs.{output_names}
 use Rattle.par2_spec.specs.declared.Fault.{Fault}
-use Rattle.par2_spec.specs.declared.Fault.TheVariants.{BadSliceSize, BadCount, BadBase, NoInput, BadName, DuplicateInput, NoSuchFile, EmptyFile, TooManySlices, DuplicateId, NameTooLong, Exists}
-
--- those of the numbers, of the base, and of the count of inputs
-unfoldable pub head_fault : CreateArgs → Option Fault
-head_fault a = first_fault (
-    fault_where (not (is_slice_size a.slice_size)) BadSliceSize
-    ∷ fault_where (not (are_counts a.first a.count)) BadCount
-    ∷ fault_where (not (is_name a.base && is_par_name a.base)) BadBase
-    ∷ fault_where (length a.inputs == 0) NoInput
-    ∷ [])
-
--- a word that can't be the name of an input
-abbrev pub bad_name : List (List ℕ) → Option Fault
-bad_name inputs = fault_at 1 BadName (λ word. not (is_input_name word)) inputs
+use Rattle.par2_spec.specs.declared.Fault.TheVariants.{DuplicateInput, NoSuchFile, EmptyFile, TooManySlices, DuplicateId, NameTooLong, Exists}
 
 -- an input that was given before
 abbrev pub duplicate_input : List (List ℕ) → Option Fault

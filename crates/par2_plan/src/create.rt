@@ -1,21 +1,21 @@
 //! What a create writes.
-ghost use Rattle.std.specs.Prelude.{◌≡◌, ◌≤◌, ◌⊎◌, Some, None, map, string_bytes, IsTrue, IfOk, IfErr};
+ghost use Rattle.std.specs.Prelude.{◌≡◌, ◌≤◌, ◌⊎◌, Some, None, map, string_bytes, IsTrue, IfOk, IfErr, IsErrOf};
 ghost use Rattle.par2_spec.specs.Changes.{effects, are_applicable};
 ghost use Rattle.par2_spec.specs.Commands.{Create, files_of};
-ghost use Rattle.par2_spec.specs.Refusals.{refusal, after};
+ghost use Rattle.par2_spec.specs.Refusals.{head_fault, early_refusal, refusal, after};
 ghost use Rattle.par2_spec.specs.Volumes.{record_of, in_id_order};
 ghost use Rattle.par2_spec.specs.Plans as plans;
 ghost use Rattle.par2_spec.specs.Views.{create_args_of};
 ghost use Rattle.par2_packets.specs.Views.{file_record_of};
 ghost use Rattle.par2_recovery.specs.Views.{names_of};
-ghost use Rattle.par2_plan.specs.Faults.{head_fault, inputs_fault};
+ghost use Rattle.par2_plan.specs.Faults.{inputs_fault};
 ghost use Rattle.par2_plan.specs.Outputs.{volumes_of};
 
 use crate::Changes;
 use crate::inputs::{files_fault, no_duplicate, set_of};
 use crate::names::{Volume, there_already, volumes};
 use crate::outputs::{changes_of, parts_of};
-use crate::words::{index_name, input_names};
+use crate::words::{bad_name, index_name, input_names};
 use par2_folder::{Folder, Name};
 use par2_recovery::{SetRecord, file_records};
 use par2_spec::{CreateArgs, Fault};
@@ -82,6 +82,9 @@ pub fn plan_create(alloc: Global, folder: &Folder, args: &CreateArgs) -> Result<
         ⊎ (refusal folder.now.files (Create (create_args_of args.now)) ≡ Some fault)) }
     ensures accepted { IfOk result
         (λ _. refusal folder.now.files (Create (create_args_of args.now)) ≡ None) }
+    ensures early { (fault : Fault)
+        → early_refusal folder.now.files (Create (create_args_of args.now)) ≡ Some fault
+        → IsErrOf result fault }
     ensures changes { IfOk result (λ changes. changes
         ≡ plans.changes_of folder.now.files (Create (create_args_of args.now))) }
     ensures applies { IfOk result (λ changes. IsTrue (are_applicable folder.now.files changes)) }
@@ -89,6 +92,9 @@ pub fn plan_create(alloc: Global, folder: &Folder, args: &CreateArgs) -> Result<
         ≡ after folder.now.files (Create (create_args_of args.now))) }
 {
     let base = index_name(args)?;
+    if let Some(fault) = bad_name(&args.inputs) {
+        return Err(fault);
+    }
     let set = set_of_inputs(alloc, folder, args)?;
     let volumes = volumes(alloc, &base, args.first, args.count)?;
     if let Some(fault) = there_already(folder, args.overwrite, &base, &volumes) {

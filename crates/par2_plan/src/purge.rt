@@ -1,9 +1,9 @@
 //! What a purge changes.
-ghost use Rattle.std.specs.Prelude.{◌≡◌, ◌⊎◌, Some, None, IsTrue, IfOk, IfErr};
+ghost use Rattle.std.specs.Prelude.{◌≡◌, ◌⊎◌, Some, None, IsTrue, IfOk, IfErr, IsErrOf};
 ghost use Rattle.par2_spec.specs.Changes.{effects, are_applicable};
 ghost use Rattle.par2_spec.specs.Commands.{Purge};
 ghost use Rattle.par2_spec.specs.Plans as plans;
-ghost use Rattle.par2_spec.specs.Refusals.{refusal, after, purge_refusal};
+ghost use Rattle.par2_spec.specs.Refusals.{early_refusal, refusal, after, purge_refusal};
 
 use crate::Changes;
 use crate::matching::is_needing;
@@ -50,6 +50,8 @@ pub fn plan_purge(alloc: Global, folder: &Folder, base: &str) -> Result<Changes,
     ensures refused { let reason = refusal folder.now.files (Purge base.now) in
         IfErr result (λ fault. (fault ≡ Fault.Memory) ⊎ (reason ≡ Some fault)) }
     ensures accepted { IfOk result (λ _. refusal folder.now.files (Purge base.now) ≡ None) }
+    ensures early { (fault : Fault)
+        → early_refusal folder.now.files (Purge base.now) ≡ Some fault → IsErrOf result fault }
     ensures changes { let all = plans.changes_of folder.now.files (Purge base.now) in
         IfOk result (λ changes. changes ≡ all) }
     ensures applies { IfOk result (λ changes. IsTrue (are_applicable folder.now.files changes)) }

@@ -1,7 +1,7 @@
 //! What a command reads first: the set of its base, and the names of its further files.
-ghost use Rattle.std.specs.Prelude.{◌≡◌, map, string_bytes, is_some, IfOk, IfSome};
+ghost use Rattle.std.specs.Prelude.{◌≡◌, ◌<◌, Some, not, map, position, string_bytes, is_some, IfOk, IfSome, IsErrOf};
 ghost use Rattle.par2_spec.specs.Folders.{has};
-ghost use Rattle.par2_spec.specs.Refusals.{set_in};
+ghost use Rattle.par2_spec.specs.Refusals.{absent_file, set_in};
 ghost use Rattle.par2_sets.specs.Steps.{Gives};
 ghost use Rattle.par2_plan.specs.Readings.{present_from};
 
@@ -28,6 +28,17 @@ fn present(folder: &Folder, word: &str) -> Option<Name>
     folder.get(&name).is_some().then_some(name)
 }
 
+// The first of the words that is no file's name.
+fn first_absent(folder: &Folder, words: &[String]) -> Option<usize>
+    ensures place { result
+        ≡ position (λ word. not (has folder.now.files (string_bytes word))) words.now }
+    ensures fits { IfSome result (λ place. place < usize.MAX) }
+{
+    words
+        .iter()
+        .position(|word| present(folder, word).is_none())
+}
+
 // The names of the further files.
 fn present_extras(alloc: Global, folder: &Folder, extras: &[String]) -> Result<Vec<Name>, Fault>
     ensures { let names = present_from 1 folder.now.files (map string_bytes extras.now) in
@@ -43,7 +54,7 @@ fn present_extras(alloc: Global, folder: &Folder, extras: &[String]) -> Result<V
     Ok(names)
 }
 
-/// Reads the set of the base, where the base and the further files are there.
+/// Reads the set of the base, where the base and the further files are there. Whether they are is found without memory.
 pub fn read<'a>(
     alloc: Global,
     folder: &'a Folder,
@@ -52,10 +63,16 @@ pub fn read<'a>(
 ) -> Result<Reading<'a>, Fault>
     ensures set { let set = set_in folder.now.files base.now (map string_bytes extras.now) in
         Gives (λ reading. reading.set) result set }
+    ensures early { (fault : Fault)
+        → absent_file folder.now.files base.now (map string_bytes extras.now) ≡ Some fault
+        → IsErrOf result fault }
     ensures extras { IfOk result (λ reading. reading.extras.items
         ≡ map string_bytes extras.now) }
 {
     let base = present(folder, base).ok_or(Fault::NoSuchFile(0))?;
+    if let Some(place) = first_absent(folder, extras) {
+        return Err(Fault::NoSuchFile(place + 1));
+    }
     let extras = present_extras(alloc, folder, extras)?;
     let set = set_of(alloc, folder, &base)?;
     Ok(Reading { set, extras })

@@ -1,11 +1,11 @@
 //! What a repair changes.
-ghost use Rattle.std.specs.Prelude.{◌≡◌, ◌⊎◌, ◌++◌, ℕ, List, length, Some, None, map, string_bytes, IsTrue, IfOk, IfErr, IfSome, OnOk};
+ghost use Rattle.std.specs.Prelude.{◌≡◌, ◌⊎◌, ◌++◌, ℕ, List, length, Some, None, map, string_bytes, IsTrue, IfOk, IfErr, IfSome, IsErrOf, OnOk};
 ghost use Rattle.std.specs.List.{AllByRecursion};
 ghost use Rattle.par2_spec.specs.Changes.{effects, are_applicable};
 ghost use Rattle.par2_spec.specs.Commands.{Repair};
 ghost use Rattle.par2_spec.specs.Folders.{bytes_of};
 ghost use Rattle.par2_spec.specs.Plans as plans;
-ghost use Rattle.par2_spec.specs.Refusals.{refusal, after, repair_refusal};
+ghost use Rattle.par2_spec.specs.Refusals.{early_refusal, refusal, after, repair_refusal};
 ghost use Rattle.par2_spec.specs.Repairs.{aside, par_files, rebuilt_targets, AreFew};
 ghost use Rattle.par2_spec.specs.Search as search;
 ghost use Rattle.par2_spec.specs.Sets.{all_pairs};
@@ -187,6 +187,9 @@ pub fn plan_repair(
         IfErr result (λ fault. (fault ≡ Fault.Memory) ⊎ (reason ≡ Some fault)) }
     ensures accepted { let command = Repair base.now (map string_bytes extras.now) purge in
         IfOk result (λ _. refusal folder.now.files command ≡ None) }
+    ensures early { let command = Repair base.now (map string_bytes extras.now) purge in
+        (fault : Fault) → early_refusal folder.now.files command ≡ Some fault
+        → IsErrOf result fault }
     ensures changes { let command = Repair base.now (map string_bytes extras.now) purge in
         IfOk result (λ changes. changes ≡ plans.changes_of folder.now.files command) }
     ensures applies { IfOk result (λ changes. IsTrue (are_applicable folder.now.files changes)) }

@@ -1,5 +1,7 @@
 //! What a verify answers.
-ghost use Rattle.std.specs.Prelude.{◌≡◌, ◌⊎◌, map, string_bytes, IfOk, IfErr, Ok, Err};
+ghost use Rattle.std.specs.Prelude.{◌≡◌, ◌⊎◌, map, string_bytes, IfOk, IfErr, IsErrOf, Some, Ok, Err};
+ghost use Rattle.par2_spec.specs.Commands.{Verify};
+ghost use Rattle.par2_spec.specs.Refusals.{early_refusal};
 ghost use Rattle.par2_spec.specs.Reports.{report_in};
 ghost use Rattle.par2_spec.specs.Search as search;
 ghost use Rattle.par2_plan.specs.Findings.{standings};
@@ -38,6 +40,9 @@ pub fn check(alloc: Global, folder: &Folder, base: &str, extras: &[String]) -> R
     ensures refused { let words = map string_bytes extras.now in
         let answer = report_in folder.now.files base.now words in
         IfErr result (λ fault. (fault ≡ Fault.Memory) ⊎ (answer ≡ Err fault)) }
+    ensures early { let command = Verify base.now (map string_bytes extras.now) in
+        (fault : Fault) → early_refusal folder.now.files command ≡ Some fault
+        → IsErrOf result fault }
     ensures report { let words = map string_bytes extras.now in
         let answer = report_in folder.now.files base.now words in
         IfOk result (λ report. answer ≡ Ok (report_of report)) }

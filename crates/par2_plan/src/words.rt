@@ -1,10 +1,9 @@
 //! Whether the words of a create can be taken, and why not.
-ghost use Rattle.std.specs.Prelude.{◌≡◌, ◌⊎◌, ◌&&◌, map, string_bytes, is_some, IfOk, IfErr, IfSome, Some, None};
+ghost use Rattle.std.specs.Prelude.{◌≡◌, ◌<◌, ◌⊎◌, ◌&&◌, not, position, map, string_bytes, is_some, IfOk, IfErr, IfSome, Some, None};
 ghost use Rattle.par2_spec.specs.Names as names;
 ghost use Rattle.par2_spec.specs.Sets as sets;
 ghost use Rattle.par2_spec.specs.Views.{create_args_of};
-ghost use Rattle.par2_spec.specs.Refusals.{are_counts, is_input_name};
-ghost use Rattle.par2_plan.specs.Faults.{head_fault, bad_name};
+ghost use Rattle.par2_spec.specs.Refusals.{are_counts, is_input_name, head_fault, bad_name};
 
 use par2_folder::Name;
 use par2_spec::{CreateArgs, Fault};
@@ -45,7 +44,7 @@ fn base_name(word: &str) -> Option<Name>
 }
 
 /// The name of the index, where nothing is wrong with the numbers, the base and the count of inputs.
-#[tactic(auto, unfolding(crate::specs::Faults::head_fault))]
+#[tactic(auto, unfolding(par2_spec::specs::Refusals::head_fault))]
 pub fn index_name(args: &CreateArgs) -> Result<Name, Fault>
     ensures refused { IfErr result (λ fault. head_fault (create_args_of args.now) ≡ Some fault) }
     ensures accepted { IfOk result (λ _. head_fault (create_args_of args.now) ≡ None) }
@@ -74,6 +73,25 @@ fn input_name(word: &str) -> Option<Name>
     match Name::new(word) {
         Ok(name) if !is_par_name(word) => Some(name),
         _ => None,
+    }
+}
+
+// The first of the words that can't be the name of an input.
+fn first_bad(words: &[String]) -> Option<usize>
+    ensures place { result
+        ≡ position (λ word. not (is_input_name (string_bytes word))) words.now }
+    ensures fits { IfSome result (λ place. place < usize.MAX) }
+{
+    words.iter().position(|word| input_name(word).is_none())
+}
+
+/// What is wrong where a word can't be the name of an input. It takes no memory.
+pub fn bad_name(words: &[String]) -> Option<Fault>
+    ensures { result ≡ bad_name (map string_bytes words.now) }
+{
+    match first_bad(words) {
+        Some(place) => Some(Fault::BadName(place + 1)),
+        None => None,
     }
 }
 

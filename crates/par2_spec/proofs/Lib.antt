@@ -42,3 +42,4 @@ pub mod OrderLaws
 pub mod RestoredLaws
 pub mod FilesLaws
 pub mod RefusedLaws
+pub mod EarlyLaws

@@ -1,9 +1,9 @@
 -- When a command is refused, and the folder after an accepted one.
-use Rattle.std.specs.Prelude.{ℕ, ◌+◌, ◌==◌, ◌&&◌, ◌||◌, nat_le, nat_lt, Bool, true, not, List, [], ◌∷◌, length, take, map, sum_by, Option, Some, None, Result, Ok, Err, if◌then◌else◌}
+use Rattle.std.specs.Prelude.{ℕ, ◌+◌, ◌==◌, ◌&&◌, nat_le, nat_lt, Bool, not, List, [], ◌∷◌, length, take, map, sum_by, Option, Some, None, Result, Ok, Err, if◌then◌else◌}
 use Rattle.std.specs.List.{list_all, list_any, enumerate_from}
 use Rattle.std.specs.Str.{bytes_eq}
 use Rattle.md5.specs.Md5.{md5}
-use Rattle.par2_spec.specs.Faults.{first_fault, fault_where, fault_at, or_fault, then_fault, fault_of}
+use Rattle.par2_spec.specs.Faults.{first_fault, fault_where, fault_at, then_fault, fault_of}
 use Rattle.par2_spec.specs.Slices.{slice_count}
 use Rattle.par2_spec.specs.Rank.{is_repairable, rank}
 use Rattle.par2_spec.specs.Names.{is_name, is_par_name, is_among, distinct}
@@ -12,7 +12,7 @@ use Rattle.par2_spec.specs.Volumes.{id_of, after_create}
 use Rattle.par2_spec.specs.Sets.{ParSet, set_of, is_slice_size}
 use Rattle.par2_spec.specs.Search.{candidates, needing, known, lost, survivors}
 use Rattle.par2_spec.specs.Repairs.{aside, put_aside, rebuilt_targets, after_repair, after_repair_and_purge, after_purge}
-use Rattle.par2_spec.specs.Commands.{CreateArgs, Command, Create, Verify, Repair, Purge, files_of, outputs_of}
+use Rattle.par2_spec.specs.Commands.{CreateArgs, Command, Create, Verify, Repair, Purge, Action, Do, Undo, Redo, files_of, outputs_of}
 use Rattle.par2_spec.specs.declared.Fault.{Fault}
 use Rattle.par2_spec.specs.declared.Fault.TheVariants.{BadSliceSize, BadCount, BadBase, NoInput, BadName, DuplicateInput, NoSuchFile, EmptyFile, TooManySlices, DuplicateId, NameTooLong, Exists, NotRepairable, RepairFailed, NotComplete}
 
@@ -24,6 +24,19 @@ are_counts first count = nat_le count 65536 && nat_le first 65535 && nat_le (fir
 abbrev pub is_input_name : List ℕ → Bool
 is_input_name word = is_name word && not (is_par_name word)
 
+-- a word that can't be the name of an input
+abbrev pub bad_name : List (List ℕ) → Option Fault
+bad_name inputs = fault_at 1 BadName (λ word. not (is_input_name word)) inputs
+
+-- the first causes of a create: those of the numbers, of the base, and of the count of inputs
+unfoldable pub head_fault : CreateArgs → Option Fault
+head_fault a = first_fault (
+    fault_where (not (is_slice_size a.slice_size)) BadSliceSize
+    ∷ fault_where (not (are_counts a.first a.count)) BadCount
+    ∷ fault_where (not (is_name a.base && is_par_name a.base)) BadBase
+    ∷ fault_where (length a.inputs == 0) NoInput
+    ∷ [])
+
 -- why a create is refused, if it is: the first cause that holds, each tested over all inputs in order
 unfoldable pub create_refusal : Folder → CreateArgs → Option Fault
 create_refusal folder a =
@@ -33,7 +46,7 @@ create_refusal folder a =
     ∷ fault_where (not (are_counts a.first a.count)) BadCount
     ∷ fault_where (not (is_name a.base && is_par_name a.base)) BadBase
     ∷ fault_where (length a.inputs == 0) NoInput
-    ∷ fault_at 1 BadName (λ word. not (is_input_name word)) a.inputs
+    ∷ bad_name a.inputs
     ∷ fault_at 1 DuplicateInput (λ z. is_among (take z.0 a.inputs) z.1) (enumerate_from 0 a.inputs)
     ∷ fault_at 1 NoSuchFile (λ word. not (has folder word)) a.inputs
     ∷ fault_at 1 EmptyFile (λ file. length file.1 == 0) files
@@ -43,11 +56,14 @@ create_refusal folder a =
     ∷ fault_where (not a.overwrite && list_any (λ file. has folder file.0) (outputs_of folder a)) Exists
     ∷ [])
 
--- the set that verify, repair and purge read. A file that is not there is refused first: place 0 is the base,
--- place k the k-th further name
+-- a file that is not there: place 0 is the base, place k the k-th further name
+abbrev pub absent_file : Folder → List ℕ → List (List ℕ) → Option Fault
+absent_file folder base extras = fault_at 0 NoSuchFile (λ word. not (has folder word)) (base ∷ extras)
+
+-- the set that verify, repair and purge read. A file that is not there is refused first
 unfoldable pub set_in : Folder → List ℕ → List (List ℕ) → Result ParSet Fault
 unfolding set_of
-set_in folder base extras = in_full (fault_at 0 NoSuchFile (λ word. not (has folder word)) (base ∷ extras))
+set_in folder base extras = in_full (absent_file folder base extras)
   where
     in_full : Option Fault → Result ParSet Fault
     in_full None = set_of folder base
@@ -75,6 +91,20 @@ refusal folder (Create a) = create_refusal folder a
 refusal folder (Verify base extras) = fault_of (set_in folder base extras)
 refusal folder (Repair base extras purge) = then_fault (set_in folder base extras) (λ set. repair_refusal folder set (candidates folder set extras))
 refusal folder (Purge base) = then_fault (set_in folder base []) (purge_refusal folder)
+
+-- why a command is refused before it takes any memory, if it is: by words or absent files
+unfoldable pub early_refusal : Folder → Command → Option Fault
+unfolding head_fault
+early_refusal folder (Create a) = first_fault (head_fault a ∷ bad_name a.inputs ∷ [])
+early_refusal folder (Verify base extras) = absent_file folder base extras
+early_refusal folder (Repair base extras purge) = absent_file folder base extras
+early_refusal folder (Purge base) = absent_file folder base []
+
+-- the same of an action. An undo or a redo takes no words
+abbrev pub early_refusal_of : Folder → Action → Option Fault
+early_refusal_of folder (Do command) = early_refusal folder command
+early_refusal_of folder Undo = None
+early_refusal_of folder Redo = None
 
 -- what a command makes of a folder by its set, where there is one
 abbrev pub by_set : {A : Type 0} → A → (ParSet → A) → Result ParSet Fault → A

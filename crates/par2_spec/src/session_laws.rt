@@ -1,11 +1,13 @@
 //! Laws of commands, histories and sessions: each is the contract of a function that does nothing.
 
-ghost use Rattle.std.specs.Prelude.{◌≡◌, ◌≤◌, ◌∷◌, ℕ, List, IsTrue, Ok, Err, drop, replicate, sum_by};
+ghost use Rattle.std.specs.Prelude.{◌≡◌, ◌≤◌, ◌∷◌, ℕ, List, IsTrue, Some, Ok, Err, drop, replicate, sum_by};
 ghost use Rattle.std.specs.List.{AllByRecursion};
 ghost use Rattle.par2_spec.specs.Folders.{Folder};
 ghost use Rattle.par2_spec.specs.Changes.{Change, FolderState, takes_all, way_back, places_taken};
 ghost use Rattle.par2_spec.specs.Commands.{Command, Action, Do, Undo, Redo};
 ghost use Rattle.par2_spec.specs.History.{History, Refusal, history_after, Run, folders, IsChanging};
+ghost use Rattle.par2_spec.specs.Refusals.{early_refusal, refusal};
+ghost use Rattle.par2_spec.specs.declared.Fault.{Fault};
 ghost use Rattle.par2_spec.specs.Sessions.{Session, history_of, session_with, session_after, KeptSession, session_of_kept, walks, CanWalk, OnlyGrew, kept_done, kept_undone, kept_redone};
 ghost use Rattle.par2_spec.specs.Opening.{leads, is_valid};
 ghost use Rattle.par2_spec.specs.Plans.{AreFewFor, LeadsToAfter, LeadsToAfterAsked};
@@ -14,6 +16,12 @@ ghost use Rattle.par2_spec.specs.Plans.{AreFewFor, LeadsToAfter, LeadsToAfterAsk
 pub fn commands_lead_to_their_folder()
     ensures { (folder : Folder) (command : Command)
         → AreFewFor folder command → LeadsToAfter folder command }
+{}
+
+/// What refuses a command before it takes any memory is the first of all its causes.
+pub fn early_refusals_are_refusals()
+    ensures { (folder : Folder) (command : Command) (fault : Fault)
+        → early_refusal folder command ≡ Some fault → refusal folder command ≡ Some fault }
 {}
 
 /// A session whose entries can be applied goes where its history goes, is refused where that is, and its entries can

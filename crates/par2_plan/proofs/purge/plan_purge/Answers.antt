@@ -7,9 +7,22 @@ use Rattle.par2_spec.specs.Plans.{changes_of}
 use Rattle.par2_spec.specs.Refusals.{set_in, refusal, after}
 use Rattle.par2_spec.specs.declared.Fault.{Fault}
 use Rattle.par2_spec.specs.declared.Fault.TheVariants.{Memory}
-use Rattle.par2_plan.proofs.Passing.{refused_by}
-use Rattle.par2_plan.proofs.Planned.{purge_unread, purge_refused, purge_by_set, purge_leads}
+use Rattle.par2_plan.proofs.Passing.{refused_by, err_passed, ok_no_err}
+use Rattle.par2_plan.proofs.Planned.{early_purge, purge_unread, purge_refused, purge_by_set, purge_leads}
 use Rattle.par2_plan.proofs.purge.plan_purge.Goals as goal
+
+pub returns-in_err-reading-clause-early : goal.returns-in_err-reading-clause-early
+returns-in_err-reading-clause-early c fault early =
+    let folder = c.args.folder.now.files in
+    let base = c.args.base.now in
+    err_passed c.from_residual.result c.in_err-reading.field-0.0 fault (err_from_is_err_and c.from_residual.result c.from_residual.ensures.1)
+    (c.in_err-reading.ensures.early fault (sym (early_purge folder base) ∙ early))
+
+pub returns-clause-early : goal.returns-clause-early
+returns-clause-early c fault early =
+    let folder = c.args.folder.now.files in
+    let base = c.args.base.now in
+    absurd (ok_no_err c.in_ok-reading.reading fault (c.in_ok-reading.ensures.early fault (sym (early_purge folder base) ∙ early)))
 
 pub returns-in_err-reading-clause-refused : goal.returns-in_err-reading-clause-refused
 returns-in_err-reading-clause-refused c =

@@ -12,9 +12,24 @@ use Rattle.par2_spec.specs.declared.Fault.{Fault}
 use Rattle.par2_spec.specs.declared.Fault.TheVariants.{Memory}
 use Rattle.par2_restore.specs.Restoring.{IsAsDescribed}
 use Rattle.par2_plan.specs.Repairing.{WritesAsDescribed, IsWholeWhereMatched, repair_by}
-use Rattle.par2_plan.proofs.Passing.{refused_by, joined}
-use Rattle.par2_plan.proofs.Planned.{repair_unread, whole_if_matched, repair_refused, repair_changes, repair_leads, same_set}
+use Rattle.par2_plan.proofs.Passing.{refused_by, joined, err_passed, ok_no_err}
+use Rattle.par2_plan.proofs.Planned.{early_repair, repair_unread, whole_if_matched, repair_refused, repair_changes, repair_leads, same_set}
 use Rattle.par2_plan.proofs.repair.plan_repair.Goals as goal
+
+pub returns-in_err-reading-clause-early : goal.returns-in_err-reading-clause-early
+returns-in_err-reading-clause-early c fault early =
+    let folder = c.args.folder.now.files in
+    let base = c.args.base.now in
+    let extras : List (List ℕ) = map string_bytes c.args.extras.now in
+    err_passed c.from_residual.result c.in_err-reading.field-0.0 fault (err_from_is_err_and c.from_residual.result c.from_residual.ensures.1)
+    (c.in_err-reading.ensures.early fault (sym (early_repair folder base extras c.args.purge) ∙ early))
+
+pub returns-clause-early : goal.returns-clause-early
+returns-clause-early c fault early =
+    let folder = c.args.folder.now.files in
+    let base = c.args.base.now in
+    let extras : List (List ℕ) = map string_bytes c.args.extras.now in
+    absurd (ok_no_err c.in_ok-reading.reading fault (c.in_ok-reading.ensures.early fault (sym (early_repair folder base extras c.args.purge) ∙ early)))
 
 pub returns-in_err-reading-clause-refused : goal.returns-in_err-reading-clause-refused
 returns-in_err-reading-clause-refused c =

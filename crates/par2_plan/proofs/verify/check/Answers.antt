@@ -10,8 +10,25 @@ use Rattle.par2_spec.specs.declared.Fault.{Fault}
 use Rattle.par2_spec.specs.declared.Fault.TheVariants.{Memory}
 use Rattle.par2_spec.specs.Reports as reports
 use Rattle.par2_spec.specs.Reports.{report_in}
+use Rattle.par2_plan.proofs.Passing.{err_passed, ok_no_err}
+use Rattle.par2_plan.proofs.Planned.{early_verify}
 use Rattle.par2_plan.proofs.Answered.{refused_in, answered}
 use Rattle.par2_plan.proofs.verify.check.Goals as goal
+
+pub returns-in_err-reading-clause-early : goal.returns-in_err-reading-clause-early
+returns-in_err-reading-clause-early c fault early =
+    let folder = c.args.folder.now.files in
+    let base = c.args.base.now in
+    let extras : List (List ℕ) = map string_bytes c.args.extras.now in
+    err_passed c.from_residual.result c.in_err-reading.field-0.0 fault (err_from_is_err_and c.from_residual.result c.from_residual.ensures.1)
+    (c.in_err-reading.ensures.early fault (sym (early_verify folder base extras) ∙ early))
+
+pub returns-clause-early : goal.returns-clause-early
+returns-clause-early c fault early =
+    let folder = c.args.folder.now.files in
+    let base = c.args.base.now in
+    let extras : List (List ℕ) = map string_bytes c.args.extras.now in
+    absurd (ok_no_err c.in_ok-reading.reading fault (c.in_ok-reading.ensures.early fault (sym (early_verify folder base extras) ∙ early)))
 
 pub returns-in_err-reading-clause-refused : goal.returns-in_err-reading-clause-refused
 returns-in_err-reading-clause-refused c =

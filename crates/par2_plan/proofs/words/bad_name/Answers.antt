@@ -1,0 +1,16 @@
+use Rattle.std.proofs.Common.{◌≡◌, ◌+◌, ◌∙◌, sym, ap, not, arith, string_bytes}
+use Rattle.std.specs.Prelude.{Some, option_map}
+use Rattle.par2_spec.specs.Refusals.{is_input_name}
+use Rattle.par2_spec.specs.declared.Fault.TheVariants.{BadName}
+use Rattle.par2_plan.proofs.Places.{position-map}
+use Rattle.par2_plan.proofs.words.bad_name.Goals as goal
+
+pub returns-in-Some : goal.returns-in-Some
+returns-in-Some c =
+    let k = c.in-Some.place in
+    ap (λ n. Some (BadName n)) (let e : k + 1 ≡ 1 + k = omega arith in e)
+    ∙ ap (option_map (λ k. BadName (1 + k))) (sym (position-map (λ w. not (is_input_name w)) string_bytes c.args.words.now ∙ sym c.first_bad.ensures.place ∙ c.in-Some.is))
+
+pub returns-in-None : goal.returns-in-None
+returns-in-None c =
+    ap (option_map (λ k. BadName (1 + k))) (sym (position-map (λ w. not (is_input_name w)) string_bytes c.args.words.now ∙ sym c.first_bad.ensures.place ∙ c.in-None.is))

@@ -1,0 +1,45 @@
+-- What refuses a command before it takes any memory is its refusal.
+use Rattle.std.proofs.Common.{◌≡◌, ℕ, List, [], ◌∷◌, ◌++◌, length, refl, ap, ◌∙◌, not, ◌&&◌}
+use Rattle.std.specs.Prelude.{Option, Some, None, Err, ◌==◌}
+use Rattle.par2_spec.specs.declared.Fault.{Fault}
+use Rattle.par2_spec.specs.declared.Fault.TheVariants.{BadSliceSize, BadCount, BadBase, NoInput}
+use Rattle.par2_spec.specs.Faults.{first_fault, fault_where, fault_of, then_fault}
+use Rattle.par2_spec.specs.Names.{is_name, is_par_name}
+use Rattle.par2_spec.specs.Folders.{Folder}
+use Rattle.par2_spec.specs.Sets.{is_slice_size, ParSet}
+use Rattle.par2_spec.specs.Search.{candidates}
+use Rattle.par2_spec.specs.Commands.{CreateArgs, Command, Create, Verify, Repair, Purge}
+use Rattle.par2_spec.specs.Refusals.{are_counts, bad_name, head_fault, create_refusal, absent_file, set_in, repair_refusal, purge_refusal, refusal, early_refusal}
+
+-- the first of all is the first of the first ones, or else of the rest
+pub first-append : {F : Type 0} (xs ys : List (Option F)) → first_fault (xs ++ ys) ≡ first_fault (first_fault xs ∷ ys)
+first-append [] ys = refl
+first-append (None ∷ xs) ys = first-append xs ys
+first-append (Some fault ∷ xs) ys = refl
+
+-- the first of some is the first of all
+first_before : {F : Type 0} (xs ys : List (Option F)) (fault : F) → first_fault xs ≡ Some fault → first_fault (xs ++ ys) ≡ Some fault
+first_before xs ys fault h = first-append xs ys ∙ ap (λ f. first_fault (f ∷ ys)) h
+
+create_refused : (folder : Folder) (a : CreateArgs) (fault : Fault) → first_fault (head_fault a ∷ bad_name a.inputs ∷ []) ≡ Some fault → create_refusal folder a ≡ Some fault
+unfolding head_fault create_refusal
+create_refused folder a fault h =
+    let heads =
+    fault_where (not (is_slice_size a.slice_size)) BadSliceSize
+    ∷ fault_where (not (are_counts a.first a.count)) BadCount
+    ∷ fault_where (not (is_name a.base && is_par_name a.base)) BadBase
+    ∷ fault_where (length a.inputs == 0) NoInput
+    ∷ [] in
+    first_before (heads ++ bad_name a.inputs ∷ []) _ fault (first-append heads (bad_name a.inputs ∷ []) ∙ h)
+
+unread : (folder : Folder) (base : List ℕ) (extras : List (List ℕ)) (fault : Fault) → absent_file folder base extras ≡ Some fault → set_in folder base extras ≡ Err fault
+unfolding set_in
+unread folder base extras fault h = rw h refl
+
+pub refused_early : (folder : Folder) (command : Command) (fault : Fault) → early_refusal folder command ≡ Some fault → refusal folder command ≡ Some fault
+unfolding early_refusal refusal
+refused_early folder (Create a) fault h = create_refused folder a fault h
+refused_early folder (Verify base extras) fault h = ap fault_of (unread folder base extras fault h)
+refused_early folder (Repair base extras purge) fault h =
+    ap (λ r. then_fault r (λ (set : ParSet). repair_refusal folder set (candidates folder set extras))) (unread folder base extras fault h)
+refused_early folder (Purge base) fault h = ap (λ r. then_fault r (purge_refusal folder)) (unread folder base [] fault h)
