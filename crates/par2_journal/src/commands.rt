@@ -7,11 +7,12 @@ use par2_spec::Action;
 use std::alloc::{AllocError, Global};
 
 impl Session {
-    ghost use Rattle.std.specs.Prelude.{◌≡◌, [], map, string_bytes, IfOk, IfErr, IsErrOf, IsTrue, ◌⊎◌, Ok, Err, drop, OnOk, OnErr};
+    ghost use Rattle.std.specs.Prelude.{◌≡◌, [], map, string_bytes, IfOk, IfErr, IsErrOf, IsTrue, ◌⊎◌, Some, Ok, Err, drop, OnOk, OnErr};
     ghost use Rattle.std.specs.List.{AllByRecursion};
     ghost use Rattle.par2_spec.specs.Changes.{are_applicable};
-    ghost use Rattle.par2_spec.specs.Commands.{Do, Undo, Redo, Create, Repair, Purge};
+    ghost use Rattle.par2_spec.specs.Commands.{Do, Undo, Redo, Create, Verify, Repair, Purge};
     ghost use Rattle.par2_spec.specs.History.{Run, MayBeRefused, folders, IsChanging};
+    ghost use Rattle.par2_spec.specs.Refusals.{early_refusal, early_refusal_of};
     ghost use Rattle.par2_spec.specs.Reports.{report_in};
     ghost use Rattle.par2_spec.specs.Plans.{LeadsToAfterAsked};
     ghost use Rattle.par2_spec.specs.Sessions.{OnlyGrew, CanWalk, session_of_kept, session_after, changes_asked, history_of};
@@ -53,6 +54,9 @@ impl Session {
         ensures leads { let action = Do (Create (create_args_of args.now)) in
             IfOk result (λ _. LeadsToAfterAsked self.old.folder.files action) }
         ensures refused { IfErr result (MayFail (Create (create_args_of args.now)) self.old) }
+        ensures early { let command = Create (create_args_of args.now) in
+            (fault : Fault) → early_refusal self.old.folder.files command ≡ Some fault
+            → IsErrOf result fault }
     {
         let changes = plan_create(alloc, self.folder(), args)?;
         self.prepare_changes(alloc, changes)
@@ -72,6 +76,9 @@ impl Session {
             IfOk result (λ _. LeadsToAfterAsked self.old.folder.files action) }
         ensures refused { let command = Repair base.now (map string_bytes extras.now) purge in
             IfErr result (MayFail command self.old) }
+        ensures early { let command = Repair base.now (map string_bytes extras.now) purge in
+            (fault : Fault) → early_refusal self.old.folder.files command ≡ Some fault
+            → IsErrOf result fault }
     {
         let changes = plan_repair(alloc, self.folder(), base, extras, purge)?;
         self.prepare_changes(alloc, changes)
@@ -84,6 +91,9 @@ impl Session {
         ensures leads { IfOk result (λ _.
             LeadsToAfterAsked self.old.folder.files (Do (Purge base.now))) }
         ensures refused { IfErr result (MayFail (Purge base.now) self.old) }
+        ensures early { (fault : Fault)
+            → early_refusal self.old.folder.files (Purge base.now) ≡ Some fault
+            → IsErrOf result fault }
     {
         let changes = plan_purge(alloc, self.folder(), base)?;
         self.prepare_changes(alloc, changes)
@@ -131,6 +141,8 @@ impl Session {
         ensures leads { IfOk result (λ _.
             LeadsToAfterAsked self.old.folder.files (action_of action.now)) }
         ensures refused { IfErr result (MayRefuse (action_of action.now) self.old) }
+        ensures early { let reason = early_refusal_of self.old.folder.files (action_of action.now) in
+            (fault : Fault) → reason ≡ Some fault → IsErrOf result (SessionFault.Plan fault) }
         ensures nothing_to_undo { action_of action.now ≡ Undo → self.old.undos ≡ []
             → IsErrOf result SessionFault.NothingToUndo }
         ensures nothing_to_redo { action_of action.now ≡ Redo → self.old.redos ≡ []
@@ -153,6 +165,9 @@ impl Session {
     pub fn verify(&self, alloc: Global, base: &str, extras: &[String]) -> Result<Report, Fault>
         ensures refused { IfErr result (λ fault. (fault ≡ Fault.Memory) ⊎ (report_in
             self.now.folder.files base.now (map string_bytes extras.now) ≡ Err fault)) }
+        ensures early { let command = Verify base.now (map string_bytes extras.now) in
+            (fault : Fault) → early_refusal self.now.folder.files command ≡ Some fault
+            → IsErrOf result fault }
         ensures report { IfOk result (λ report. report_in
             self.now.folder.files base.now (map string_bytes extras.now)
             ≡ Ok (report_of report)) }
@@ -171,6 +186,9 @@ impl Session {
             (λ changes. steps ≡ map step_of changes)) }
         ensures unchanged { OnErr result (OnlyGrew self.old self.new) }
         ensures refused { IfErr result (MayFail (Create (create_args_of args.now)) self.old) }
+        ensures early { let command = Create (create_args_of args.now) in
+            (fault : Fault) → early_refusal self.old.folder.files command ≡ Some fault
+            → IsErrOf result fault }
     {
         let prepared = self.prepare_create(alloc, args)?;
         Ok(self.commit(prepared))
@@ -196,6 +214,9 @@ impl Session {
         ensures unchanged { OnErr result (OnlyGrew self.old self.new) }
         ensures refused { let command = Repair base.now (map string_bytes extras.now) purge in
             IfErr result (MayFail command self.old) }
+        ensures early { let command = Repair base.now (map string_bytes extras.now) purge in
+            (fault : Fault) → early_refusal self.old.folder.files command ≡ Some fault
+            → IsErrOf result fault }
     {
         let prepared = self.prepare_repair(alloc, base, extras, purge)?;
         Ok(self.commit(prepared))
@@ -212,6 +233,9 @@ impl Session {
             (λ changes. steps ≡ map step_of changes)) }
         ensures unchanged { OnErr result (OnlyGrew self.old self.new) }
         ensures refused { IfErr result (MayFail (Purge base.now) self.old) }
+        ensures early { (fault : Fault)
+            → early_refusal self.old.folder.files (Purge base.now) ≡ Some fault
+            → IsErrOf result fault }
     {
         let prepared = self.prepare_purge(alloc, base)?;
         Ok(self.commit(prepared))
