@@ -1,9 +1,15 @@
 -- The fingerprints before changes and after each.
-use Rattle.std.proofs.Common.{◌≡◌, ℕ, List, [], ◌∷◌, length, map, refl, sym, ap, ◌∙◌}
-use Rattle.std.specs.Prelude.{slice_get, unwrap_or, Some}
+use Rattle.std.proofs.Common.{◌≡◌, ℕ, List, [], ◌∷◌, length, map, Option, Some, None, Vec, refl, sym, ap, subst, ◌∙◌}
+use Rattle.std.specs.Prelude.{slice_get, unwrap_or}
+use Rattle.std.specs.declared.alloc.Global.{Global}
 use Rattle.par2_spec.specs.Folders.{Folder, fingerprint}
-use Rattle.par2_spec.specs.Changes.{Change, FolderState, effect, effects, folders_after, state_after_all}
-use Rattle.par2_spec.proofs.FolderLaws.{state_files}
+use Rattle.par2_spec.specs.Changes.{Change, effect, effects, folders_after}
+use Rattle.par2_spec.specs.Sessions.{KeptSession, OnlyGrew}
+use Rattle.par2_journal.specs.Ahead.{AreAlong, IsAhead, next_changes}
+use Rattle.par2_journal.specs.Ready.{next_of}
+use Rattle.par2_journal.specs.declared.ahead.Ahead.{Ahead}
+use Rattle.par2_journal.specs.declared.ahead.Next.{Next}
+use Rattle.par2_journal.specs.declared.ahead.Next.TheVariants.{Undo, Redo}
 
 -- of the fingerprints before changes and after each, the one at the end is that after all
 print_at_end : (f : Folder) (cs : List Change) → slice_get (fingerprint f ∷ map fingerprint (folders_after f cs)) (length (map fingerprint (folders_after f cs))) ≡ Some (fingerprint (effects f cs))
@@ -11,8 +17,23 @@ unfolding folders_after effects
 print_at_end f [] = refl
 print_at_end f (c ∷ cs) = print_at_end (effect f c) cs
 
-pub print_after : (start : FolderState) (cs : List Change) (before print : List ℕ) (each : List (List ℕ)) → before ≡ fingerprint start.files → each ≡ map fingerprint (folders_after start.files cs)
-    → slice_get (before ∷ each) (length each) ≡ Some print → print ≡ fingerprint (state_after_all start cs).files
-print_after start cs before print each b es is =
-    let at_end : Some print ≡ Some (fingerprint (effects start.files cs)) = sym is ∙ (λ i. slice_get (b i ∷ es i) (length (es i))) ∙ print_at_end start.files cs in
-    ap (λ o. unwrap_or o print) at_end ∙ ap fingerprint (sym (state_files start cs))
+-- the first fingerprint, the others and the last of them, as they are computed of a folder along changes
+pub prints_along : (f : Folder) (cs : List Change) (before : List ℕ) (each : Vec (List ℕ) Global) (after : List ℕ) → before ≡ fingerprint f → each.items ≡ map fingerprint (folders_after f cs)
+    → slice_get (before ∷ each.items) (length each.items) ≡ Some after → AreAlong (record { before = before; after_each = each; after_all = after }) f cs
+prints_along f cs before each after b es is =
+    let at_end : Some after ≡ Some (fingerprint (effects f cs)) = sym is ∙ (λ i. slice_get (b i ∷ es i) (length (es i))) ∙ print_at_end f cs in
+    record { before = b; after_each = es; after_all = ap (λ o. unwrap_or o after) at_end }
+
+-- ---- those of the next undo or redo
+
+-- they hang on files and entries alone
+pub ahead_still : (ahead : Option Ahead) (old new : KeptSession) → OnlyGrew old new → IsAhead ahead old → IsAhead ahead new
+ahead_still None old new grew h = tt
+ahead_still (Some ahead) old new grew h = by_next ahead.next h
+  where
+    along : {a b : List Change} → a ≡ b → AreAlong ahead.fingerprints old.folder.files a → AreAlong ahead.fingerprints new.folder.files b
+    along same h = subst (λ (p : Folder × List Change). AreAlong ahead.fingerprints p.0 p.1) (λ i. (sym grew.files i, same i)) h
+
+    by_next : (next : Next) → AreAlong ahead.fingerprints old.folder.files (next_changes next old) → AreAlong ahead.fingerprints new.folder.files (next_changes next new)
+    by_next Undo h = along (ap next_of (sym grew.undos)) h
+    by_next Redo h = along (ap next_of (sym grew.redos)) h

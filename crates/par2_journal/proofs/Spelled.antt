@@ -1,22 +1,26 @@
 -- A session's journals, by the session's fields.
-use Rattle.std.proofs.Common.{◌≡◌, ◌≢◌, ℕ, zero, suc, ◌+◌, ◌-◌, ◌<◌, ◌≤◌, List, [], ◌∷◌, ◌++◌, length, map, take, drop, get_or, set, Option, Some, None, Result, Ok, Err, Vec, true, refl, sym, ap, subst, ◌∙◌, append-nil, length-set, arith}
+use Rattle.std.proofs.Common.{◌≡◌, ℕ, zero, suc, ◌+◌, ◌-◌, ◌<◌, ◌≤◌, List, [], ◌∷◌, ◌++◌, length, map, take, drop, get_or, set, Option, Some, None, Result, Ok, Err, Vec, true, refl, sym, ap, subst, ◌∙◌, append-nil, length-set, arith}
 use Rattle.std.specs.Prelude.{reverse, IfOk}
 use Rattle.std.specs.declared.alloc.Global.{Global}
 use Rattle.std.proofs.lemmas.List.{reverse-reverse, take-append-drop, length-reverse, length-take-le, reverse-append, get_or_default, drop_all, map-append, take-map}
 use Rattle.par2_spec.specs.Folders.{Folder, fingerprint}
-use Rattle.par2_spec.specs.Changes.{Change, FolderState, effect, folders_after, state_after_all, takes_all, way_back}
+use Rattle.par2_spec.specs.Changes.{Change, FolderState, effect, effects, folders_after, state_after_all, takes_all, way_back}
 use Rattle.par2_spec.specs.Commands.{Action}
 use Rattle.par2_spec.specs.Sessions.{Session, KeptSession, OnlyGrew, CanWalk, walks, session_of_kept, session_after, session_with, session_unless, kept_done, kept_undone, kept_redone}
 use Rattle.par2_spec.specs.Journals.{Journal, Spells}
 use Rattle.par2_spec.specs.Opening.{settled_journal, halfway_journal, halfway_where, journals_of}
 use Rattle.par2_spec.specs.declared.Version.TheVariants.{Two}
 use Rattle.par2_journal.specs.Ready.{Kind, Changing, Undoing, Redoing, Ready, IsReady, CanBe, next_of, changes_by_kind, after_commit}
+use Rattle.par2_journal.specs.Ahead.{next_changes}
+use Rattle.par2_journal.specs.declared.ahead.Next.{Next}
+use Rattle.par2_journal.specs.declared.ahead.Next.TheVariants as ahead
 use Rattle.par2_journal.specs.Spelling.{Turn, SpellsWhere, AreSpelled, HasNext, turn_of, entries_with, halfway_with, settled_with}
 use Rattle.par2_journal.specs.declared.spelling.Journals.{Journals}
+use Rattle.par2_spec.proofs.FolderLaws.{state_files}
 use Rattle.par2_spec.proofs.SessionLaws.{next_taken}
 use Rattle.par2_journal.proofs.Acting.{same_session}
 use Rattle.par2_journal.proofs.Turned.{at, undone_to, redone_to, next_undo_is, next_redo_is}
-use Rattle.par2_journal.proofs.Ways.{back_length}
+use Rattle.par2_journal.proofs.Ways.{back_length, takes_none}
 
 module _ (xs : List (List Change)) (n : ℕ) (within : n ≤ length xs) where
   pub all_entries : reverse (reverse (take n xs)) ++ drop n xs ≡ xs
@@ -142,19 +146,23 @@ taken_and_one v list front new xs n b seen cut more =
     ap (map v) (more ∙ ap (λ l. l ++ b ∷ []) cut) ∙ map-append v (take n list) (b ∷ []) ∙ ap (λ l. l ++ v b ∷ []) (sym (take-map v n list) ∙ ap (take n) seen)
 
 -- what is ready can be applied
-next_entry : (folder : FolderState) (entries : List (List Change)) → walks folder entries ≡ true → entries ≢ [] → takes_all folder (next_of entries) ≡ true
-next_entry folder [] h some = absurd (some refl)
-next_entry folder (entry ∷ entries) h some = (next_taken folder (entry ∷ entries) entry entries h refl).0
+next_entry : (folder : FolderState) (entries : List (List Change)) → walks folder entries ≡ true → takes_all folder (next_of entries) ≡ true
+next_entry folder [] h = takes_none folder
+next_entry folder (entry ∷ entries) h = (next_taken folder (entry ∷ entries) entry entries h refl).0
 
 pub kind_taken : (kind : Kind) (s : KeptSession) → CanWalk s → CanBe kind s → takes_all s.folder (changes_by_kind kind s) ≡ true
 kind_taken (Changing cs) s h can = can.0
-kind_taken Undoing s h can = next_entry s.folder s.undos h.back can
-kind_taken Redoing s h can = next_entry s.folder s.redos h.forth can
+kind_taken Undoing s h can = next_entry s.folder s.undos h.back
+kind_taken Redoing s h can = next_entry s.folder s.redos h.forth
+
+pub ahead_taken : (next : Next) (s : KeptSession) → CanWalk s → takes_all s.folder (next_changes next s) ≡ true
+ahead_taken ahead.Undo s h = next_entry s.folder s.undos h.back
+ahead_taken ahead.Redo s h = next_entry s.folder s.redos h.forth
 
 action_spelled : {E : Type 0} (r : Result Journals E) (xs entries : List (List Change)) (n : ℕ) → n ≤ length xs → (folder : FolderState) (room : ℕ) (turn : Turn) (ready : Ready) (cs : List Change)
     → turn ≡ turn_of ready.kind → entries ≡ xs → cs ≡ changes_by_kind ready.kind (at folder xs n room) → CanBe ready.kind (at folder xs n room)
     → IfOk r (λ j. SpellsWhere j.halfway (halfway_with (fingerprint folder.files) n entries (map fingerprint (folders_after folder.files cs)) (way_back folder.files cs)))
-    → IfOk r (λ j. Spells j.after.items (settled_with (fingerprint (state_after_all folder cs).files) (entries_with turn n entries (way_back folder.files cs))))
+    → IfOk r (λ j. Spells j.after.items (settled_with (fingerprint (effects folder.files cs)) (entries_with turn n entries (way_back folder.files cs))))
     → IfOk r (λ j. (action : Action) (before : KeptSession) → OnlyGrew before (at folder xs n room) → IsReady action before ready (at folder xs n room) → AreSpelled j (journals_of Two (session_of_kept (at folder xs n room)) action (changes_by_kind ready.kind (at folder xs n room))))
 action_spelled (Err e) xs entries n within folder room turn ready cs te ee ce can half after = tt
 action_spelled (Ok j) xs entries n within folder room turn ready cs te ee ce can half after = λ action before grew is.
@@ -163,7 +171,8 @@ action_spelled (Ok j) xs entries n within folder room turn ready cs te ee ce can
     (subst (λ d. SpellsWhere j.halfway (halfway_with (fingerprint folder.files) n xs (map fingerprint (folders_after folder.files d)) (way_back folder.files d))) ce
     (subst (λ es. SpellsWhere j.halfway (halfway_with (fingerprint folder.files) n es (map fingerprint (folders_after folder.files cs)) (way_back folder.files cs))) ee half)))
     (subst (λ (t : Journal). Spells j.after.items t)
-    ((λ i. settled_with (fingerprint (state_after_all folder (ce i)).files) (entries_with (te i) n (ee i) (way_back folder.files (ce i))))
+    (ap (λ f. settled_with (fingerprint f) (entries_with turn n entries (way_back folder.files cs))) (sym (state_files folder cs))
+    ∙ (λ i. settled_with (fingerprint (state_after_all folder (ce i)).files) (entries_with (te i) n (ee i) (way_back folder.files (ce i))))
     ∙ after_at xs n folder room ready.kind (has_next xs n folder room ready.kind within can))
     after)
 
@@ -197,7 +206,7 @@ module _ (xs : List (List Change)) (n : ℕ) (within : n ≤ length xs) (folder 
   module _ (turn : Turn) (does : turn ≡ turn_of ready.kind) (entries : List (List Change)) (lent : entries ≡ xs) where
     pub ready_spelled : {E : Type 0} (r q : Result Journals E) → q ≡ r → (cs : List Change) → cs ≡ changes_by_kind ready.kind s
         → IfOk r (λ j. SpellsWhere j.halfway (halfway_with (fingerprint folder.files) n entries (map fingerprint (folders_after folder.files cs)) (way_back folder.files cs)))
-        → IfOk r (λ j. Spells j.after.items (settled_with (fingerprint (state_after_all folder cs).files) (entries_with turn n entries (way_back folder.files cs))))
+        → IfOk r (λ j. Spells j.after.items (settled_with (fingerprint (effects folder.files cs)) (entries_with turn n entries (way_back folder.files cs))))
         → IfOk q (λ j. (action : Action) (before : KeptSession) → OnlyGrew before s → IsReady action before ready s → AreSpelled j (journals_of Two (session_of_kept s) action (changes_by_kind ready.kind s)))
     ready_spelled r q is cs are half after =
         let told = λ (o : Result Journals _) (t : KeptSession). IfOk o (λ j. (action : Action) (before : KeptSession) → OnlyGrew before t → IsReady action before ready t → AreSpelled j (journals_of Two (session_of_kept t) action (changes_by_kind ready.kind t))) in

@@ -1,6 +1,7 @@
 pub mod Steps
 pub mod Ready
 pub mod Kinds
+pub mod Ahead
 pub mod Sessions
 pub mod Refusals
 pub mod Walks

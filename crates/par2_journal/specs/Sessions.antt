@@ -1,6 +1,7 @@
 -- A session by its fields: the entries before the cursor are undos, the oldest first, and those from it on redos.
 use Rattle.std.specs.Prelude.{◌-◌, ◌≤◌, take, drop, length, reverse, vec_len, vec_capacity}
 use Rattle.par2_spec.specs.Sessions.{KeptSession, CanWalk}
+use Rattle.par2_journal.specs.Ahead.{IsAhead}
 use Rattle.par2_journal.specs.declared.session.Session.TheInside.{Inside}
 
 abbrev pub kept_session : Inside → KeptSession
@@ -14,3 +15,4 @@ kept_session a = record {
 pub record IsKept (a : Inside) : Type 0 where
   pub within : a.cursor ≤ length a.entries.items
   pub walks : CanWalk (kept_session a)
+  pub ahead : IsAhead a.ahead (kept_session a)

@@ -2,6 +2,7 @@
 //! inverses.
 #![tactic(auto)]
 
+mod ahead;
 mod commands;
 mod opening;
 mod prepared;
@@ -9,6 +10,7 @@ mod session;
 mod spelling;
 mod taking_back;
 
+pub use ahead::Next;
 pub use opening::{Opened, opens_as_is};
 pub use par2_plan::{Changes, CreateArgs, Fault, Report, State, TargetReport};
 pub use par2_spec::Action;

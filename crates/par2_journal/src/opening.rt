@@ -1,18 +1,20 @@
 //! A folder with a journal is opened as a session.
-ghost use Rattle.std.specs.Prelude.{◌≡◌, ◌≤◌, ◌<◌, ◌⊎◌, ◌&&◌, reverse, take, Some, IfSome, IfOk, IfErr, IsTrue, IsFalse, length, MatchResult, Ok, Err, None, true, false, drop, sum_by, ◌++◌};
+ghost use Rattle.std.specs.Prelude.{◌≡◌, ◌≤◌, ◌<◌, ◌⊎◌, ◌&&◌, if◌then◌else◌, reverse, take, Some, IfSome, IfOk, IfErr, IsTrue, IsFalse, length, MatchResult, Ok, Err, None, true, false, drop, sum_by, ◌++◌};
+ghost use Rattle.std.specs.Str.{bytes_eq};
+ghost use Rattle.par2_spec.specs.Folders.{fingerprint};
 ghost use Rattle.par2_spec.specs.Changes.{places_taken, takes_all, state_after_all, way_back};
 ghost use Rattle.par2_spec.specs.Sessions.{session_of_kept, walks};
 ghost use Rattle.par2_spec.specs.Journals.{IsJournal};
 ghost use Rattle.par2_spec.specs.Opening as defined;
 ghost use Rattle.par2_spec.specs.Opening.{is_valid, leads, Opens};
-ghost use Rattle.par2_spec.specs.declared.JournalFault.TheVariants.{JournalInvalid, Memory};
+ghost use Rattle.par2_spec.specs.declared.JournalFault.TheVariants.{JournalInvalid, FolderChanged, Memory};
 ghost use Rattle.par2_journal_bytes.specs.Reading.{IsSealed};
 ghost use Rattle.par2_journal_bytes.specs.Views.{changes_in, entries_of, journal_of};
 ghost use Rattle.par2_journal.specs.Opening.{session_at, journal_with, opened_of, OpensAsIs};
 ghost use Rattle.par2_journal.specs.Walks.{state_along, ways_back};
 
 use crate::taking_back::{Halfway, open_halfway};
-use crate::{Changes, Session};
+use crate::{Changes, Next, Session};
 use par2_folder::{Change, Folder};
 use par2_journal_bytes::{DecodeFault, Journal, decode};
 use par2_spec::JournalFault;
@@ -227,13 +229,52 @@ pub enum Opened {
     Halfway(Halfway),
 }
 
-// Opens by a journal of a session that no command has left.
+// The session, where its folder has this fingerprint.
+fn unless_changed(
+    alloc: Global,
+    mut session: Session,
+    wanted: [u8; 16],
+    next: Option<Next>,
+) -> Result<Session, (JournalFault, Folder)>
+    ensures session { IfOk result (λ kept. kept ≡ session) }
+    ensures same { IfOk result (λ _. IsTrue (bytes_eq (fingerprint session.folder.files) wanted)) }
+    ensures refused { IfErr result (λ e. (e.0 ≡ Memory) ⊎ ((e.0 ≡ FolderChanged false)
+        × IsFalse (bytes_eq (fingerprint session.folder.files) wanted))) }
+    ensures files { IfErr result (λ e. e.1.files ≡ session.folder.files) }
+{
+    let print = match session.fingerprint_before(alloc, next) {
+        Ok(print) => print,
+        Err(AllocError) => return Err((JournalFault::Memory, session.into_folder())),
+    };
+    if print.as_slice() != wanted.as_slice() {
+        let fault = JournalFault::FolderChanged { halfway: false };
+        return Err((fault, session.into_folder()));
+    }
+    Ok(session)
+}
+
+// Why nothing opens by a journal whose entries can't be applied to the folder: that it changed comes first.
+fn invalid_unless_changed(alloc: Global, folder: Folder, wanted: [u8; 16]) -> (JournalFault, Folder)
+    ensures cause { (result.0 ≡ Memory) ⊎ (result.0
+        ≡ (if bytes_eq (fingerprint folder.files) wanted then JournalInvalid
+        else FolderChanged false)) }
+    ensures files { result.1.files ≡ folder.files }
+{
+    match unless_changed(alloc, Session::new(alloc, folder), wanted, None) {
+        Ok(session) => (JournalFault::JournalInvalid, session.into_folder()),
+        Err(refused) => refused,
+    }
+}
+
+// Opens by a journal of a session that no command has left. The entries are tried before the folder is digested, which
+// is done along those that come next.
 fn open_settled(
     alloc: Global,
     folder: Folder,
     fingerprint: [u8; 16],
     entries: Vec<Vec<Change>>,
     cursor: usize,
+    next: Option<Next>,
 ) -> Result<Session, (JournalFault, Folder)>
     requires { cursor ≤ length entries.items }
     ensures opened { IfOk result (λ session. defined.opened_by_part folder.files
@@ -243,14 +284,13 @@ fn open_settled(
         (journal_with fingerprint cursor (entries_of entries.items)) None ≡ Err e.0)) }
     ensures files { IfErr result (λ e. e.1.files ≡ folder.files) }
 {
-    let print = match folder.fingerprint(alloc) {
-        Ok(print) => print,
-        Err(AllocError) => return Err((JournalFault::Memory, folder)),
-    };
-    if print.as_slice() != fingerprint.as_slice() {
-        return Err((JournalFault::FolderChanged { halfway: false }, folder));
+    match session_from(alloc, folder, entries, cursor) {
+        Ok(session) => unless_changed(alloc, session, fingerprint, next),
+        Err((JournalFault::JournalInvalid, folder)) => {
+            Err(invalid_unless_changed(alloc, folder, fingerprint))
+        }
+        Err(refused) => Err(refused),
     }
-    session_from(alloc, folder, entries, cursor)
 }
 
 // Opens by a journal.
@@ -258,6 +298,7 @@ fn open_journal(
     alloc: Global,
     folder: Folder,
     journal: Journal,
+    next: Option<Next>,
 ) -> Result<Opened, (JournalFault, Folder)>
     requires { IsJournal (journal_of journal) }
     ensures opened { IfOk result (λ found. defined.opened folder.files (journal_of journal)
@@ -275,7 +316,7 @@ fn open_journal(
     } = journal;
     match halfway {
         None => {
-            let session = open_settled(alloc, folder, fingerprint, entries, cursor)?;
+            let session = open_settled(alloc, folder, fingerprint, entries, cursor, next)?;
             Ok(Opened::Settled(session))
         }
         Some(part) => {
@@ -310,8 +351,27 @@ impl Session {
             → MatchResult result (λ _. ⊥) (λ e. e.0 ≡ JournalInvalid) }
         ensures files { IfErr result (λ e. e.1.files ≡ folder.files) }
     {
+        Session::open_before(alloc, folder, bytes, None)
+    }
+
+    /// Opens as [`Session::open`] does. Where an undo or redo is next, the fingerprints that its journals name are
+    /// computed with that of the folder, side by side, so that [`Session::journals`] has no digest left to take.
+    pub fn open_before(
+        alloc: Global,
+        folder: Folder,
+        bytes: &[u8],
+        next: Option<Next>,
+    ) -> Result<Opened, (JournalFault, Folder)>
+        ensures opened { IfOk result
+            (λ found. Opens folder.files bytes.now (Ok (opened_of found))) }
+        ensures refused { IfErr result (λ e. (e.0 ≡ Memory)
+            ⊎ Opens folder.files bytes.now (Err e.0)) }
+        ensures unsealed { ¬ (IsSealed bytes.now)
+            → MatchResult result (λ _. ⊥) (λ e. e.0 ≡ JournalInvalid) }
+        ensures files { IfErr result (λ e. e.1.files ≡ folder.files) }
+    {
         match decode(alloc, bytes) {
-            Ok(journal) => open_journal(alloc, folder, journal),
+            Ok(journal) => open_journal(alloc, folder, journal, next),
             Err(DecodeFault::JournalInvalid) => Err((JournalFault::JournalInvalid, folder)),
             Err(DecodeFault::Memory) => Err((JournalFault::Memory, folder)),
         }

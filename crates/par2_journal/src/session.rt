@@ -1,7 +1,8 @@
 //! One folder, the changes that lead back, and those that lead forward again.
+use crate::ahead::{Ahead, fingerprints_for};
 use crate::prepared::Task;
-use crate::spelling::{spell_command, spell_entry, spell_settled};
-use crate::{Changes, Journals, Prepared, Steps};
+use crate::spelling::{Fingerprints, spell_command, spell_entry, spell_settled};
+use crate::{Changes, Journals, Next, Prepared, Steps};
 use par2_folder::{Change, Folder};
 use std::alloc::{AllocError, Global};
 use std::marker::Model;
@@ -15,12 +16,14 @@ pub struct NothingToUndo;
 pub struct NothingToRedo;
 
 /// A session on a folder: the folder, and a list of entries with a cursor. The entries before it are as undos apply
-/// them, those from it on as redos do.
+/// them, those from it on as redos do. Where an undo or redo was announced, the fingerprints along its changes stand
+/// ready.
 #[derive(Debug, Drop)]
 pub struct Session {
     folder: Folder,
     entries: Vec<Changes>,
     cursor: usize,
+    ahead: Option<Ahead>,
 }
 
 impl Model for Session {
@@ -41,12 +44,14 @@ impl Model for Session {
 impl Session {
     ghost use Rattle.std.specs.Prelude.{◌≡◌, ◌↔◌, ◌<◌, ◌≤◌, ◌≢◌, [], map, length, take, drop, reverse, IsErr, IfOk, OnOk, OnErr, IsTrue};
     ghost use Rattle.par2_spec.specs.Changes.{takes_all};
+    ghost use Rattle.par2_spec.specs.Folders.{fingerprint};
     ghost use Rattle.par2_spec.specs.Sessions.{CanWalk, OnlyGrew, KeptSession, walks, session_of_kept, kept_done, kept_undone, kept_redone};
     ghost use Rattle.par2_spec.specs.Commands.{Action as Asked};
     ghost use Rattle.par2_spec.specs.Journals.{Spells};
     ghost use Rattle.par2_spec.specs.Opening.{settled_journal, journals_of};
     ghost use Rattle.par2_spec.specs.declared.Version.TheVariants.{Two};
     ghost use Rattle.par2_folder.specs.Views.{change_of};
+    ghost use Rattle.par2_journal.specs.Ahead.{next_changes};
     ghost use Rattle.par2_journal.specs.Opening.{session_at};
     ghost use Rattle.par2_journal.specs.Ready.{Fits, IsReady, changes_by_kind, after_commit, next_of};
     ghost use Rattle.par2_journal.specs.Spelling.{AreSpelled};
@@ -61,6 +66,7 @@ impl Session {
             folder,
             entries: Vec::new(alloc),
             cursor: 0,
+            ahead: None,
         }
     }
 
@@ -75,7 +81,15 @@ impl Session {
             folder,
             entries,
             cursor,
+            ahead: None,
         }
+    }
+
+    // The folder by itself.
+    pub(crate) fn into_folder(self) -> Folder
+        ensures { result ≡ self.folder }
+    {
+        self.folder
     }
 
     /// The folder as it stands.
@@ -110,6 +124,7 @@ impl Session {
             return Err(NothingToUndo);
         }
         let at = self.cursor - 1;
+        self.ahead = None;
         let entry = &mut self.entries[at];
         entry.turn(&mut self.folder);
         self.cursor = at;
@@ -126,6 +141,7 @@ impl Session {
         if at == self.entries.len() {
             return Err(NothingToRedo);
         }
+        self.ahead = None;
         let entry = &mut self.entries[at];
         entry.turn(&mut self.folder);
         self.cursor = at + 1;
@@ -158,6 +174,7 @@ impl Session {
         requires room { 0 < self.old.room }
         ensures { self.new ≡ kept_done self.old changes }
     {
+        self.ahead = None;
         changes.turn(&mut self.folder);
         self.entries.truncate(self.cursor);
         // `insert` keeps the capacity, where `push` says only that it does not shrink.
@@ -184,6 +201,37 @@ impl Session {
         self.entries[self.cursor].as_slice()
     }
 
+    // The changes of the next undo or redo, none where there is none.
+    fn next_changes(&self, next: Next) -> &[Change]
+        ensures { map change_of result.now ≡ next_changes next self.now }
+    {
+        match next {
+            Next::Undo if self.undo_depth() == 0 => &[],
+            Next::Undo => self.next_undo(),
+            Next::Redo if self.redo_depth() == 0 => &[],
+            Next::Redo => self.next_redo(),
+        }
+    }
+
+    // The fingerprint of the folder. Where an undo or redo is next, those along its changes, side by side with it, take
+    // little longer than it alone, and are kept for its journals.
+    pub(crate) fn fingerprint_before(
+        &mut self,
+        alloc: Global,
+        next: Option<Next>,
+    ) -> Result<[u8; 16], AllocError>
+        ensures unchanged { self.new ≡ self.old }
+        ensures fingerprint { IfOk result (λ print. print ≡ fingerprint self.old.folder.files) }
+    {
+        let Some(next) = next else {
+            return self.folder.fingerprint(alloc);
+        };
+        let fingerprints = Fingerprints::of(alloc, self.folder(), self.next_changes(next))?;
+        let before = fingerprints.before;
+        self.ahead = Some(Ahead { next, fingerprints });
+        Ok(before)
+    }
+
     /// What committing does to the folder, in order.
     pub fn changes<'a>(&'a self, prepared: &'a Prepared) -> &'a [Change]
         requires { Fits prepared.now self.now }
@@ -197,7 +245,8 @@ impl Session {
     }
 
     /// The journals of what was prepared for an action. The folder makes the changes and is turned back, also where
-    /// memory runs out. Of the changes no bytes are copied but into the journals.
+    /// memory runs out. Of the changes no bytes are copied but into the journals. Fingerprints that stand ready are used
+    /// once.
     pub fn journals(
         &mut self,
         alloc: Global,
@@ -220,11 +269,21 @@ impl Session {
             }
             Task::Undo => {
                 let at = cursor - 1;
-                spell_entry(alloc, &mut self.entries, at, cursor, at, folder)
+                let known = fingerprints_for(self.ahead.take(), Next::Undo);
+                spell_entry(alloc, known, &mut self.entries, at, cursor, at, folder)
             }
             Task::Redo => {
                 let next = cursor + 1;
-                spell_entry(alloc, &mut self.entries, cursor, cursor, next, folder)
+                let known = fingerprints_for(self.ahead.take(), Next::Redo);
+                spell_entry(
+                    alloc,
+                    known,
+                    &mut self.entries,
+                    cursor,
+                    cursor,
+                    next,
+                    folder,
+                )
             }
         }
     }

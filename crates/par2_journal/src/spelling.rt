@@ -1,11 +1,12 @@
 //! The journals of a session, and the fingerprints that stand in them.
-ghost use Rattle.std.specs.Prelude.{◌≡◌, ◌≤◌, ◌<◌, ◌∷◌, ◌++◌, ◌+◌, [], IfOk, IsTrue, length, map, get_or, set, slice_get, take, Some};
-ghost use Rattle.par2_spec.specs.Changes.{folders_after, state_after_all, takes_all, way_back};
+ghost use Rattle.std.specs.Prelude.{◌≡◌, ◌≤◌, ◌<◌, ◌∷◌, ◌++◌, ◌+◌, [], IfOk, IfSome, IsTrue, length, map, get_or, set, slice_get, take, Some};
+ghost use Rattle.par2_spec.specs.Changes.{effects, folders_after, state_after_all, takes_all, way_back};
 ghost use Rattle.par2_spec.specs.Folders.{fingerprint};
 ghost use Rattle.par2_spec.specs.Journals.{Spells};
 ghost use Rattle.par2_spec.specs.declared.Version.TheVariants.{Two};
 ghost use Rattle.par2_journal_bytes.specs.Fronts.{Begins};
 ghost use Rattle.par2_journal_bytes.specs.Views.{changes_in, lent_entries_of};
+ghost use Rattle.par2_journal.specs.Ahead.{AreAlong};
 ghost use Rattle.par2_journal.specs.Spelling.{SpellsWhere, CompletesHalfway, halfway_with, settled_with};
 
 use crate::Changes;
@@ -36,11 +37,8 @@ impl Fingerprints {
         changes: &[Change],
     ) -> Result<Fingerprints, AllocError>
         requires { IsTrue (takes_all folder.now (changes_in changes.now)) }
-        ensures before { IfOk result (λ prints. prints.before ≡ fingerprint folder.now.files) }
-        ensures after_each { IfOk result (λ prints. prints.after_each.items
-            ≡ map fingerprint (folders_after folder.now.files (changes_in changes.now))) }
-        ensures after_all { IfOk result (λ prints. prints.after_all
-            ≡ fingerprint (state_after_all folder.now (changes_in changes.now)).files) }
+        ensures { IfOk result (λ prints.
+            AreAlong prints folder.now.files (changes_in changes.now)) }
     {
         let mut after_each = fingerprints_along(alloc, folder, changes)?;
         let before = after_each.remove(0);
@@ -50,6 +48,25 @@ impl Fingerprints {
             after_each,
             after_all,
         })
+    }
+
+    // The same, where they aren't known.
+    fn known_or_of(
+        alloc: Global,
+        known: Option<Fingerprints>,
+        folder: &Folder,
+        changes: &[Change],
+    ) -> Result<Fingerprints, AllocError>
+        requires applies { IsTrue (takes_all folder.now (changes_in changes.now)) }
+        requires known { IfSome known (λ prints.
+            AreAlong prints folder.now.files (changes_in changes.now)) }
+        ensures { IfOk result (λ prints.
+            AreAlong prints folder.now.files (changes_in changes.now)) }
+    {
+        match known {
+            Some(fingerprints) => Ok(fingerprints),
+            None => Fingerprints::of(alloc, folder, changes),
+        }
     }
 }
 
@@ -266,7 +283,7 @@ pub(crate) fn spell_command(
         (map fingerprint (folders_after folder.old.files (changes_in changes.old)))
         (way_back folder.old.files (changes_in changes.old)))) }
     ensures after { IfOk result (λ journals. Spells journals.after.items (settled_with
-        (fingerprint (state_after_all folder.old (changes_in changes.old)).files) (
+        (fingerprint (effects folder.old.files (changes_in changes.old))) (
           take cursor
               entries.now ++ way_back folder.old.files (changes_in changes.old) ∷ [],
           cursor + 1,
@@ -282,9 +299,10 @@ pub(crate) fn spell_command(
 
 /// The journals of an undo or redo of entry `at`, which is made and turned back, also where memory runs out. `next` is
 /// the cursor afterwards. The halfway journal is part before the entry is turned, so nothing of it is copied but into
-/// the journals.
+/// the journals. The folder is digested only where the fingerprints along the entry aren't known.
 pub(crate) fn spell_entry(
     alloc: Global,
+    known: Option<Fingerprints>,
     entries: &mut [Changes],
     at: usize,
     cursor: usize,
@@ -292,6 +310,8 @@ pub(crate) fn spell_entry(
     folder: &mut Folder,
 ) -> Result<Journals, AllocError>
     requires applies { IsTrue (takes_all folder.old (get_or entries.old at [])) }
+    requires known { IfSome known (λ prints.
+        AreAlong prints folder.old.files (get_or entries.old at [])) }
     requires place { at < length entries.old }
     requires cursor { cursor ≤ length entries.old }
     requires next { next ≤ length entries.old }
@@ -303,10 +323,10 @@ pub(crate) fn spell_entry(
         (way_back folder.old.files changes))) }
     ensures after { let changes = get_or entries.old at [] in IfOk result (λ journals.
         Spells journals.after.items (settled_with
-        (fingerprint (state_after_all folder.old changes).files)
+        (fingerprint (effects folder.old.files changes))
         (set entries.old at (way_back folder.old.files changes), next))) }
 {
-    let fingerprints = Fingerprints::of(alloc, folder, entries[at].as_slice())?;
+    let fingerprints = Fingerprints::known_or_of(alloc, known, folder, entries[at].as_slice())?;
     let front = front(alloc, entries, cursor, fingerprints.before)?;
     entries[at].turn(folder);
     let answer = spell_turned(alloc, front, &fingerprints, entries, at, next);

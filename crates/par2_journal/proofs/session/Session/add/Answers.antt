@@ -18,4 +18,5 @@ invariant_of-self c =
     record {
       within = rw items (omega (arith, length_added xs n within turned));
       walks = rw items (done_walks c.self.inside.folder c.turn.new.folder xs n within _ _ c.args.changes turned c.turn.ensures.folder c.turn.ensures.way_back c.self.invariant.walks applies);
+      ahead = tt;
     }

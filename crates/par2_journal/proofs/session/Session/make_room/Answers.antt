@@ -1,20 +1,25 @@
 use Rattle.std.proofs.Common.{ap, take, drop, arith}
 use Rattle.std.specs.Prelude.{reverse}
+use Rattle.par2_spec.specs.Sessions.{OnlyGrew}
 use Rattle.par2_spec.proofs.SessionLaws.{grown_can_walk}
 use Rattle.par2_journal.specs.Sessions.{kept_session}
+use Rattle.par2_journal.proofs.Prints.{ahead_still}
 use Rattle.par2_journal.proofs.session.Session.make_room.Goals as goal
 
 pub invariant_of-self-2 : goal.invariant_of-self-2
 invariant_of-self-2 c =
     let items = c.reserve-2.ensures.items in
     let i = c.self.inside.cursor in
+    let old = kept_session c.self.inside in
+    let grew : OnlyGrew old (kept_session (record (c.self.inside) { folder = c.reserve.new.self; entries = c.reserve-2.new.self })) = record {
+      files = c.in_ok-reserve.ensures.files;
+      undos = ap (λ xs. reverse (take i xs)) items;
+      redos = ap (drop i) items;
+      vacant = omega (arith, c.in_ok-reserve.ensures.ok);
+      room = omega (arith, c.reserve-2.ensures.capacity, c.reserve-2.ensures.len);
+    } in
     record {
       within = rw items c.self.invariant.within;
-      walks = grown_can_walk (kept_session c.self.inside) _ c.self.invariant.walks (record {
-        files = c.in_ok-reserve.ensures.files;
-        undos = ap (λ xs. reverse (take i xs)) items;
-        redos = ap (drop i) items;
-        vacant = omega (arith, c.in_ok-reserve.ensures.ok);
-        room = omega (arith, c.reserve-2.ensures.capacity, c.reserve-2.ensures.len);
-      });
+      walks = grown_can_walk old _ c.self.invariant.walks grew;
+      ahead = ahead_still c.self.inside.ahead old _ grew c.self.invariant.ahead;
     }

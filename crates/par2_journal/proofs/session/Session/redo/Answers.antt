@@ -26,6 +26,7 @@ invariant_of-self c =
     record {
       within = omega (arith, within, length-set xs i c.turn.new.self);
       walks = redone_walks xs i within entry c.index_mut-entry.ensures.value c.self.inside.folder c.turn.new.folder _ c.turn.new.self c.turn.ensures.folder c.turn.ensures.way_back c.self.invariant.walks;
+      ahead = tt;
     }
 
 pub returns-clause-redone : goal.returns-clause-redone

@@ -28,6 +28,7 @@ invariant_of-self c =
     record {
       within = omega (arith, within, length-set xs i c.turn.new.self);
       walks = undone_walks xs i within entry c.index_mut-entry.ensures.value c.self.inside.folder c.turn.new.folder _ c.turn.new.self c.turn.ensures.folder c.turn.ensures.way_back n one c.self.invariant.walks;
+      ahead = tt;
     }
 
 pub returns-clause-undone : goal.returns-clause-undone

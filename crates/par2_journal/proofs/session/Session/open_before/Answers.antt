@@ -2,7 +2,7 @@ use Rattle.std.proofs.Common.{inr, Err, ap, ◌∙◌}
 use Rattle.par2_journal_bytes.specs.Views.{journal_of}
 use Rattle.par2_journal.specs.Opening.{opened_of}
 use Rattle.par2_journal.proofs.Reopened.{all_opened, all_refused, no_journal}
-use Rattle.par2_journal.proofs.session.Session.open.Goals as goal
+use Rattle.par2_journal.proofs.session.Session.open_before.Goals as goal
 
 pub returns-in-Ok-clause-opened : goal.returns-in-Ok-clause-opened
 returns-in-Ok-clause-opened c = all_opened c.open_journal.result opened_of c.args.folder.files c.args.bytes.now (journal_of c.in-Ok.journal) c.in-Ok.ensures.found c.open_journal.ensures.opened
