@@ -10,8 +10,8 @@ ghost use Rattle.par2_tool.specs.Opening.{started_of, unread_as, IsCounted, IsOp
 
 use crate::writing::write_down;
 use par2_folder::{Folder, FolderStore, ReadFault, read_folder};
-use par2_journal::{Halfway, Journals, Opened, Session, opens_as_is};
-use par2_spec::{Command, JournalFault};
+use par2_journal::{Halfway, Journals, Next, Opened, Session, opens_as_is};
+use par2_spec::{Action, Command, JournalFault};
 use std::alloc::{AllocError, Global};
 
 /// A store that was opened.
@@ -97,6 +97,7 @@ fn open_with<S: FolderStore>(
     store: &mut S,
     folder: Folder,
     text: &[u8],
+    next: Option<Next>,
 ) -> Result<Started, OpenFault>
     ensures honest { S.honest store.old → S.honest store.new }
     ensures opened { S.honest store.old → IsRead (S.contents store.old) folder.files text.now
@@ -116,7 +117,7 @@ fn open_with<S: FolderStore>(
     ensures possible { S.honest store.old → IsRead (S.contents store.old) folder.files text.now
         → S.impossible store.new ≡ S.impossible store.old }
 {
-    match Session::open(alloc, folder, text) {
+    match Session::open_before(alloc, folder, text, next) {
         Ok(Opened::Settled(session)) => Ok(Started {
             session,
             dropped: false,
@@ -135,6 +136,42 @@ fn open_with<S: FolderStore>(
         Err((JournalFault::FolderChanged { halfway: true }, _)) => Err(OpenFault::FolderChanged),
         Err((JournalFault::JournalInvalid, _)) => Err(OpenFault::JournalInvalid),
         Err((JournalFault::Memory, _)) => Err(OpenFault::Memory),
+    }
+}
+
+// Opens a store as a session, of which an undo or redo will be asked where one is next.
+fn open_session<S: FolderStore>(
+    alloc: Global,
+    store: &mut S,
+    next: Option<Next>,
+) -> Result<Started, OpenFault>
+    ensures honest { S.honest store.old → S.honest store.new }
+    ensures opened { S.honest store.old
+        → IfOk result (λ started. IsOpening (S.contents store.old) (Ok (started_of started))) }
+    ensures holds { S.honest store.old
+        → IfOk result (λ started. Holds (S.contents store.new) (started_of started)) }
+    ensures left { S.honest store.old
+        → OnOk result (OnlyTakesBack (S.contents store.old) (S.contents store.new)) }
+    ensures refused { S.honest store.old
+        → IfErr result (IsUnopened (S.contents store.old) (S.contents store.new)) }
+    ensures stopped { S.honest store.old → TellsApartBack (S.contents store.old)
+        → OnErr result (OpensAsBefore (S.contents store.old) (S.contents store.new)) }
+    ensures later { S.failures store.old ≤ S.failures store.new }
+    ensures counted { IfErr result (IsCounted (S.failures store.old) (S.failures store.new)) }
+    ensures steady { OnOk result (S.failures store.new ≡ S.failures store.old) }
+    ensures possible { S.honest store.old → S.impossible store.new ≡ S.impossible store.old }
+{
+    let folder = match read_folder(alloc, store) {
+        Ok(folder) => folder,
+        Err(fault) => return Err(unread(fault)),
+    };
+    match store.read_journal(alloc) {
+        Ok(Some(text)) => open_with(alloc, store, folder, &text, next),
+        Ok(None) => Ok(Started {
+            session: Session::new(alloc, folder),
+            dropped: false,
+        }),
+        Err(fault) => Err(unread(fault)),
     }
 }
 
@@ -158,18 +195,7 @@ pub fn open_store<S: FolderStore>(alloc: Global, store: &mut S) -> Result<Starte
     ensures steady { OnOk result (S.failures store.new ≡ S.failures store.old) }
     ensures possible { S.honest store.old → S.impossible store.new ≡ S.impossible store.old }
 {
-    let folder = match read_folder(alloc, store) {
-        Ok(folder) => folder,
-        Err(fault) => return Err(unread(fault)),
-    };
-    match store.read_journal(alloc) {
-        Ok(Some(text)) => open_with(alloc, store, folder, &text),
-        Ok(None) => Ok(Started {
-            session: Session::new(alloc, folder),
-            dropped: false,
-        }),
-        Err(fault) => Err(unread(fault)),
-    }
+    open_session(alloc, store, None)
 }
 
 // Opens a store for a verify, which asks for the folder alone: where the folder opens as it is, its history is not
@@ -199,8 +225,17 @@ fn open_for_verify<S: FolderStore>(alloc: Global, store: &mut S) -> Result<Start
     };
     match opens_as_is(alloc, &mut folder, &text) {
         Ok(true) => Ok(without_history(alloc, folder)),
-        Ok(false) => open_with(alloc, store, folder, &text),
+        Ok(false) => open_with(alloc, store, folder, &text, None),
         Err(AllocError) => Err(OpenFault::Memory),
+    }
+}
+
+// The undo or redo that an action is.
+fn next_of(action: &Action) -> Option<Next> {
+    match action {
+        Action::Undo => Some(Next::Undo),
+        Action::Redo => Some(Next::Redo),
+        _ => None,
     }
 }
 
@@ -226,6 +261,6 @@ pub(crate) fn open_for<S: FolderStore>(
 {
     match command {
         Command::Verify { .. } => open_for_verify(alloc, store),
-        Command::Act(_) => open_store(alloc, store),
+        Command::Act(action) => open_session(alloc, store, next_of(action)),
     }
 }

@@ -8,7 +8,7 @@ use Rattle.par2_tool.specs.Holding.{Holds, IsOpening, OpensAsBefore, TellsApartB
 use Rattle.par2_tool.specs.Opening.{started_of, IsUnopened, OnlyTakesBack}
 use Rattle.par2_tool.proofs.Made.{is_new}
 use Rattle.par2_tool.proofs.Reopened.{is_read, opens_new}
-use Rattle.par2_tool.proofs.opening.open_store.Goals as goal
+use Rattle.par2_tool.proofs.opening.open_session.Goals as goal
 
 pub returns-in-Ok-Some-clause-stopped : goal.returns-in-Ok-Some-clause-stopped
 returns-in-Ok-Some-clause-stopped g c honest =
