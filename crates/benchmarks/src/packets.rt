@@ -4,7 +4,7 @@ use crate::random::random_bytes;
 use crate::rate::megabytes_a_second;
 use anyhow::Result;
 use md5::{Digest, Md5};
-use par2_packets::{Packets, append_recovery};
+use par2_packets::{Packets, append_recoveries};
 use std::alloc::{AllocError, Global};
 use std::time::Instant;
 
@@ -16,10 +16,10 @@ const SLICE: usize = 65536;
 
 // A volume of recovery slices.
 fn volume(alloc: Global) -> Result<Vec<u8>, AllocError> {
-    let slice = random_bytes(alloc, SLICE, 1)?;
+    let slices = vec![in alloc; random_bytes(alloc, SLICE, 1)?]?;
     let mut text = Vec::with_capacity(alloc, SIZE + MEBIBYTE)?;
     for exponent in 0..1024 {
-        append_recovery(alloc, &mut text, &[7; 16], exponent, &slice)?;
+        append_recoveries(alloc, &mut text, &[7; 16], exponent, &slices)?;
     }
     Ok(text)
 }

@@ -1,8 +1,9 @@
 //! Packets are written.
 
 ghost use Rattle.std.specs.Prelude.{◌≡◌, ◌≤◌, ◌+◌, ◌-◌, ◌%◌, ◌++◌, length, map, flat_map, OnOk, OnErr, IfOk};
-ghost use Rattle.par2_spec.specs.Packets.{packet};
-ghost use Rattle.par2_spec.specs.Volumes.{packet_of, main_id, main_bytes, desc_bytes, ifsc_bytes, creator_bytes, recovery_bytes, padded_4};
+ghost use Rattle.md5.specs.Md5.{md5};
+ghost use Rattle.par2_spec.specs.Packets.{packet, digest_input};
+ghost use Rattle.par2_spec.specs.Volumes.{packet_of, main_id, main_bytes, desc_bytes, ifsc_bytes, creator_bytes, padded_4};
 ghost use Rattle.par2_packets.specs.Views.{file_record_of};
 
 use crate::bytes::{u32_bytes, u64_bytes};
@@ -11,6 +12,33 @@ use crate::record::FileRecord;
 use md5::{Digest, Md5};
 use par2_spec::Kind;
 use std::alloc::{AllocError, Global};
+
+/// The packet whose body is given in two parts, and whose digest is known.
+pub fn append_digested(
+    out: &mut Vec<u8>,
+    digest: &[u8; 16],
+    set_id: &[u8; 16],
+    kind: Kind,
+    head: &[u8],
+    tail: &[u8],
+) -> Result<(), AllocError>
+    requires fits { 64 + length head.now + length tail.now ≤ usize.MAX }
+    requires digest { let added = packet_of set_id.now kind (head.now ++ tail.now) in
+        digest.now ≡ md5 (digest_input added) }
+    ensures ok { let added = packet_of set_id.now kind (head.now ++ tail.now) in
+        OnOk result (out.new.items ≡ out.old.items ++ packet added) }
+    ensures err { OnErr result (out.new.items ≡ out.old.items) }
+{
+    let len = 64 + head.len() + tail.len();
+    out.reserve(len)?;
+    out.extend_from_slice(b"PAR2\0PKT")?;
+    out.extend_from_slice(&u64_bytes(len as u64))?;
+    out.extend_from_slice(digest)?;
+    out.extend_from_slice(set_id)?;
+    out.extend_from_slice(&type_of(kind))?;
+    out.extend_from_slice(head)?;
+    out.extend_from_slice(tail)
+}
 
 // The packet whose body is given in two parts.
 fn append_packet(
@@ -25,22 +53,12 @@ fn append_packet(
         OnOk result (out.new.items ≡ out.old.items ++ packet added) }
     ensures err { OnErr result (out.new.items ≡ out.old.items) }
 {
-    let type_bytes = type_of(kind);
     let mut hasher = Md5::new();
     hasher.update(set_id);
-    hasher.update(&type_bytes);
+    hasher.update(&type_of(kind));
     hasher.update(head);
     hasher.update(tail);
-    let digest = hasher.finalize();
-    let len = 64 + head.len() + tail.len();
-    out.reserve(len)?;
-    out.extend_from_slice(b"PAR2\0PKT")?;
-    out.extend_from_slice(&u64_bytes(len as u64))?;
-    out.extend_from_slice(&digest)?;
-    out.extend_from_slice(set_id)?;
-    out.extend_from_slice(&type_bytes)?;
-    out.extend_from_slice(head)?;
-    out.extend_from_slice(tail)
+    append_digested(out, &hasher.finalize(), set_id, kind, head, tail)
 }
 
 // How many zeros bring this many bytes to a multiple of 4.
@@ -150,20 +168,4 @@ pub fn append_creator(
     ensures err { OnErr result (out.new.items ≡ out.old.items) }
 {
     append_packet(out, set_id, Kind::Creator, b"par2 undo profile 1", &[0])
-}
-
-/// Adds the recovery slice of exponent `e`.
-pub fn append_recovery(
-    _alloc: Global,
-    out: &mut Vec<u8>,
-    set_id: &[u8; 16],
-    e: u32,
-    bytes: &[u8],
-) -> Result<(), AllocError>
-    requires { length bytes.now % 4 ≡ 0 }
-    ensures ok { let added = packet_of set_id.now Kind.Recovery (recovery_bytes e bytes.now) in
-        OnOk result (out.new.items ≡ out.old.items ++ packet added) }
-    ensures err { OnErr result (out.new.items ≡ out.old.items) }
-{
-    append_packet(out, set_id, Kind::Recovery, &u32_bytes(e), bytes)
 }

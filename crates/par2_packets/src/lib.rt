@@ -6,13 +6,15 @@ mod bytes;
 mod kind;
 mod order;
 mod record;
+mod recoveries;
 mod scan;
 mod views;
 
-pub use append::{append_creator, append_desc, append_ifsc, append_main, append_recovery};
+pub use append::{append_creator, append_desc, append_ifsc, append_main};
 pub use order::{DuplicateId, sort_ids};
 pub use par2_spec::Kind;
 pub use record::{FileRecord, Pair, file_id, main_id};
+pub use recoveries::append_recoveries;
 pub use scan::{Packet, Packets};
 pub use views::{
     DescView, IfscView, MainView, RecoveryView, read_desc, read_ifsc, read_main, read_recovery,

@@ -1,6 +1,5 @@
 mod Answered
 mod Choices
-mod FromLast
 mod Given
 mod Ids
 mod IndexBytes

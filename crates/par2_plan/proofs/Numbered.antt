@@ -1,21 +1,21 @@
 -- The volumes, one after the other.
-use Rattle.std.proofs.Common.{◌≡◌, ℕ, zero, suc, ◌+◌, ◌-◌, ◌*◌, ◌^◌, ◌≤◌, ◌<◌, List, [], ◌∷◌, ◌++◌, length, map, refl, sym, ap, ◌∙◌, subst, Bool, true, false, cond, ◌||◌, Some, None, arith}
+use Rattle.std.proofs.Common.{◌≡◌, ℕ, zero, suc, ◌+◌, ◌-◌, ◌≤◌, ◌<◌, List, [], ◌∷◌, ◌++◌, length, map, refl, sym, ap, ◌∙◌, subst, Bool, true, false, cond, ◌||◌, Some, None, arith}
 use Rattle.std.specs.Prelude.{filter, nat_lt, if◌then◌else◌}
-use Rattle.std.specs.List.{range_with_len, list_any}
+use Rattle.std.specs.List.{AllByRecursion, range_with_len, list_any}
 use Rattle.std.proofs.lemmas.Bool.{ltb-true, le-ltb, leb-true}
-use Rattle.std.proofs.Math.Nat.{pow-succ'}
 use Rattle.std.proofs.lemmas.List.{map-append}
 use Rattle.std.proofs.lemmas.List.Folds.{list_any-append}
 use Rattle.par2_spec.specs.Faults.{fault_where}
 use Rattle.par2_spec.specs.Names.{is_name}
-use Rattle.par2_spec.specs.Volumes.{volumes_before, volume_size}
+use Rattle.par2_spec.specs.Volumes.{volume_numbers, volumes_before}
 use Rattle.par2_spec.specs.declared.Fault.{Fault}
 use Rattle.par2_spec.specs.declared.Fault.TheVariants.{NameTooLong}
 use Rattle.par2_spec.proofs.AsideNames.{name_is_short}
-use Rattle.par2_spec.proofs.ListsLaws.{any-map}
+use Rattle.par2_spec.proofs.ListsLaws.{all-map, any-map}
 use Rattle.par2_plan.specs.declared.names.Volume.{Volume}
 use Rattle.par2_plan.specs.Faults.{long_name}
-use Rattle.par2_plan.specs.Outputs.{AreRising, volume_at, volume_if, volumes_of, names_of}
+use Rattle.par2_plan.proofs.Listed.{all_passed}
+use Rattle.par2_plan.specs.Outputs.{volume_at, volume_if, volumes_of, names_of}
 
 -- those with numbers below n
 abbrev pub volumes_below : List ℕ → ℕ → ℕ → ℕ → List Volume
@@ -93,22 +93,7 @@ long_without_base base names h =
 
 -- ---- their exponents
 
--- they rise
-rising : (base : List ℕ) (f c n k a : ℕ) → a ≤ f + volumes_before k → a ≤ f + c
-    → AreRising a (map (volume_at base f c) (filter (λ i. nat_lt (volumes_before i) c) (range_with_len k n))) (f + c)
-rising base f c zero k a low high = high
-rising base f c (suc n) k a low high = step (nat_lt (volumes_before k) c) refl (λ b. rising base f c n (k + 1) b)
-  where
-    rest : List ℕ
-    rest = filter (λ i. nat_lt (volumes_before i) c) (range_with_len (k + 1) n)
-
-    twice : 2 ^ (k + 1) ≡ 2 * 2 ^ k
-    twice = ap (λ j. 2 ^ j) (let e : k + 1 ≡ suc k = omega arith in e) ∙ pow-succ' 2 k
-
-    step : (b : Bool) → nat_lt (volumes_before k) c ≡ b → ((m : ℕ) → m ≤ f + volumes_before (k + 1) → m ≤ f + c → AreRising m (map (volume_at base f c) rest) (f + c))
-        → AreRising a (map (volume_at base f c) (cond b (k ∷ rest) rest)) (f + c)
-    step true here next = (low, next (f + volumes_before k + volume_size c k) (omega (arith, twice)) (omega (arith, ltb-true (volumes_before k) c here)))
-    step false past next = next a (omega (arith, twice, low)) high
-
-pub volumes_rising : (base : List ℕ) (f c : ℕ) → AreRising f (volumes_of base f c) (f + c)
-volumes_rising base f c = rising base f c 17 0 f (omega arith) (omega arith)
+pub volumes_end : (base : List ℕ) (f c : ℕ) → f + c ≤ 65536 → AllByRecursion (λ (volume : Volume). volume.first + volume.count ≤ 65536) (volumes_of base f c)
+volumes_end base f c few =
+    all-map (λ i. nat_lt (volumes_before i) c ≡ true) (λ (volume : Volume). volume.first + volume.count ≤ 65536) (volume_at base f c)
+    (λ i low. omega (arith, ltb-true (volumes_before i) c low, few)) (volume_numbers c) (all_passed (λ i. nat_lt (volumes_before i) c) (range_with_len 0 17))

@@ -1,28 +1,28 @@
 -- The changes that write the outputs are those of the create.
-use Rattle.std.proofs.Common.{◌≡◌, ℕ, ◌+◌, ◌-◌, ◌^◌, ◌≤◌, ◌<◌, List, ◌∷◌, ◌++◌, map, sym, ap, ◌∙◌, arith}
-use Rattle.std.specs.Prelude.{flat_map, nat_lt, min}
-use Rattle.std.specs.List.{range_with_len}
-use Rattle.std.proofs.lemmas.Bool.{ltb-true}
+use Rattle.std.proofs.Common.{◌≡◌, ℕ, ◌+◌, List, ◌∷◌, ◌++◌, map, sym, ap, ◌∙◌}
+use Rattle.std.specs.Prelude.{flat_map}
 use Rattle.std.proofs.lemmas.Grind.{flat_map-append}
 use Rattle.std.proofs.lemmas.Simd.{map-map}
 use Rattle.par2_spec.specs.Folders.{Folder, File}
+use Rattle.par2_spec.specs.Changes.{Change}
 use Rattle.par2_spec.specs.Packets.{packet}
-use Rattle.par2_spec.specs.Recovery.{recovery}
 use Rattle.par2_spec.specs.Volumes.{volumes, index_packets, main_id, record_of, in_id_order, all_slices, volume_numbers, volumes_before, volume_size, volume_name, recovery_packets}
 use Rattle.par2_spec.specs.Commands.{CreateArgs, files_of}
 use Rattle.par2_spec.specs.Plans.{create_changes}
 use Rattle.par2_plan.specs.declared.names.Volume.{Volume}
-use Rattle.par2_plan.specs.Outputs.{volume_at, volumes_of, put_change, packets_from, slices_in, output_changes}
-use Rattle.par2_plan.proofs.Listed.{map_passed, packets_within}
+use Rattle.par2_plan.specs.Outputs.{volume_at, volumes_of, put_change}
 
-part_fits : (b c p : ℕ) → b < c → b + min p (c - b) ≤ c
-part_fits b c p h = omega (arith, h)
+-- the outputs, by what they are made of
+abbrev pub written : Folder → List ℕ → List ℕ → List ℕ → ℕ → List (List ℕ) → List Volume → List Change
+written folder base index id s texts volumes =
+    put_change folder (base, index)
+    ∷ map (λ volume. put_change folder (volume.name, index ++ flat_map packet (recovery_packets s id texts volume.first volume.count))) volumes
 
 pub create_written : (folder : Folder) (a : CreateArgs)
     → let ordered = in_id_order (files_of folder a.inputs) in
     let records = map (record_of a.slice_size) ordered in
-    output_changes folder a.base (flat_map packet (index_packets a.slice_size records)) (main_id a.slice_size records) a.first
-    (map (recovery a.slice_size (all_slices a.slice_size ordered)) (range_with_len a.first a.count)) (volumes_of a.base a.first a.count)
+    written folder a.base (flat_map packet (index_packets a.slice_size records)) (main_id a.slice_size records) a.slice_size (all_slices a.slice_size ordered)
+    (volumes_of a.base a.first a.count)
     ≡ create_changes folder a
 unfolding volumes
 create_written folder a =
@@ -35,14 +35,12 @@ create_written folder a =
     let id : List ℕ = main_id s records in
     let packets = index_packets s records in
     let index : List ℕ = flat_map packet packets in
-    let slices : List (List ℕ) = map (recovery s texts) (range_with_len f c) in
-    let of_volume = λ (volume : Volume). put_change folder (volume.name, index ++ flat_map packet (packets_from id volume.first (slices_in f slices volume))) in
+    let of_volume = λ (volume : Volume). put_change folder (volume.name, index ++ flat_map packet (recovery_packets s id texts volume.first volume.count)) in
     let output = λ (i : ℕ). (let file : File = (volume_name a.base (f + volumes_before i) (volume_size c i), flat_map packet (packets ++ recovery_packets s id texts (f + volumes_before i) (volume_size c i))) in file) in
+    let same : (i : ℕ) → of_volume (volume_at a.base f c i) ≡ put_change folder (output i) =
+    λ i. ap (λ bytes. put_change folder (volume_name a.base (f + volumes_before i) (volume_size c i), bytes))
+    (sym (flat_map-append packet packets (recovery_packets s id texts (f + volumes_before i) (volume_size c i)))) in
     ap (λ changes. put_change folder (a.base, index) ∷ changes)
     (map-map of_volume (volume_at a.base f c) (volume_numbers c)
-    ∙ map_passed (λ i. nat_lt (volumes_before i) c) (λ i. of_volume (volume_at a.base f c i)) (λ i. put_change folder (output i))
-    (λ i low. ap (λ bytes. put_change folder (volume_name a.base (f + volumes_before i) (volume_size c i), bytes))
-    (ap (λ ps. index ++ flat_map packet ps) (packets_within s id texts f c (volumes_before i) (volume_size c i) (part_fits (volumes_before i) c (2 ^ i) (ltb-true (volumes_before i) c low)))
-    ∙ sym (flat_map-append packet packets (recovery_packets s id texts (f + volumes_before i) (volume_size c i)))))
-    (range_with_len 0 17)
+    ∙ (λ j. map (λ i. same i j) (volume_numbers c))
     ∙ sym (map-map (put_change folder) output (volume_numbers c)))

@@ -1,13 +1,15 @@
 -- The outputs of a create, by parts.
-use Rattle.std.specs.Prelude.{ℕ, ◌≤◌, ◌+◌, ◌-◌, nat_lt, List, [], ◌∷◌, ◌++◌, take, drop, map, flat_map, if◌then◌else◌}
-use Rattle.std.specs.List.{enumerate_from}
+use Rattle.std.specs.Prelude.{ℕ, ◌≡◌, ◌≤◌, ◌+◌, ◌%◌, nat_lt, List, [], ◌∷◌, ◌++◌, length, map, flat_map, if◌then◌else◌, IsTrue}
+use Rattle.std.specs.List.{AllByRecursion}
 use Rattle.par2_spec.specs.Packets.{Packet, packet}
 use Rattle.par2_spec.specs.Folders.{Folder, File, has}
 use Rattle.par2_spec.specs.Changes.{Change, Write, Replace}
-use Rattle.par2_spec.specs.Volumes.{packet_of, recovery_bytes, volume_name, volume_numbers, volumes_before, volume_size}
-use Rattle.par2_spec.specs.Commands.{CreateArgs}
-use Rattle.par2_spec.specs.declared.Kind.TheVariants.{Recovery}
+use Rattle.par2_spec.specs.Names.{is_name}
+use Rattle.par2_spec.specs.Volumes.{volume_name, volume_numbers, volumes_before, volume_size, all_slices, recovery_packets}
+use Rattle.par2_spec.specs.Commands.{CreateArgs, files_of}
+use Rattle.par2_recovery.specs.Views as records
 use Rattle.par2_plan.specs.declared.names.Volume.{Volume}
+use Rattle.par2_plan.specs.declared.outputs.Parts.{Parts}
 
 -- volume i of c recovery slices from exponent f on
 abbrev pub volume_at : List ℕ → ℕ → ℕ → ℕ → Volume
@@ -32,32 +34,32 @@ names_of volumes = map (λ volume. volume.name) volumes
 abbrev pub output_names : CreateArgs → List (List ℕ)
 output_names a = a.base ∷ names_of (volumes_of a.base a.first a.count)
 
--- packets of recovery slices whose exponents count up from the first one
-abbrev pub packets_from : List ℕ → ℕ → List (List ℕ) → List Packet
-packets_from set_id first slices =
-    map (λ z. packet_of set_id Recovery (recovery_bytes z.0 z.1)) (enumerate_from first slices)
+-- the slices of a set's files, one file behind the other
+abbrev pub inputs_of : Parts → List (List ℕ)
+inputs_of parts = all_slices parts.set.now.slice_size (files_of parts.folder.now.files (records.names_of parts.set.now))
 
--- the slices of a volume, of all those whose exponents count up from the first one
-abbrev pub slices_in : ℕ → List (List ℕ) → Volume → List (List ℕ)
-slices_in first slices volume = take volume.count (drop (volume.first - first) slices)
+-- recovery slices can be made of them
+pub record HasSlices (parts : Parts) : Type 0 where
+  pub positive : 1 ≤ parts.set.now.slice_size
+  pub fours : parts.set.now.slice_size % 4 ≡ 0
+  pub names : AllByRecursion (λ name. IsTrue (is_name name)) (records.names_of parts.set.now)
+  pub few : length (inputs_of parts) ≤ 32768
 
--- the bytes of a volume, whose slices are among those that count up from the first one
-abbrev pub volume_text : List ℕ → List ℕ → ℕ → List (List ℕ) → Volume → List ℕ
-volume_text index set_id first slices volume =
-    index ++ flat_map packet (packets_from set_id volume.first (slices_in first slices volume))
+-- the packets of n recovery slices from exponent e on
+abbrev pub packets_between : Parts → ℕ → ℕ → List Packet
+packets_between parts e n = recovery_packets parts.set.now.slice_size parts.set_id (inputs_of parts) e n
 
--- the exponents of the volumes rise, from a number on and below another
-abbrev pub AreRising : ℕ → List Volume → ℕ → Type 0
-AreRising from [] end = from ≤ end
-AreRising from (volume ∷ volumes) end = (from ≤ volume.first) × AreRising (volume.first + volume.count) volumes end
+-- the bytes of a volume
+abbrev pub volume_text : Parts → Volume → List ℕ
+volume_text parts volume = parts.index.items ++ flat_map packet (packets_between parts volume.first volume.count)
 
 -- a file is replaced where it is there already
 abbrev pub put_change : Folder → File → Change
 put_change folder file = if has folder file.0 then Replace file.0 file.1 else Write file.0 file.1
 
--- the changes that write the outputs: the bytes of the index, the set's identifier, and recovery slices whose exponents
--- count up from the first one
-abbrev pub output_changes : Folder → List ℕ → List ℕ → List ℕ → ℕ → List (List ℕ) → List Volume → List Change
-output_changes folder base index set_id first slices volumes =
-    put_change folder (base, index)
-    ∷ map (λ volume. put_change folder (volume.name, volume_text index set_id first slices volume)) volumes
+-- the changes that write the outputs, the index under this name
+abbrev pub output_changes : List ℕ → Parts → List Volume → List Change
+output_changes base parts volumes =
+    let folder = parts.folder.now.files in
+    put_change folder (base, parts.index.items)
+    ∷ map (λ volume. put_change folder (volume.name, volume_text parts volume)) volumes

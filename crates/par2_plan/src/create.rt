@@ -12,11 +12,13 @@ ghost use Rattle.par2_plan.specs.Faults.{inputs_fault};
 ghost use Rattle.par2_plan.specs.Outputs.{volumes_of};
 
 use crate::Changes;
+use crate::index::index_of;
 use crate::inputs::{files_fault, no_duplicate, set_of};
 use crate::names::{Volume, there_already, volumes};
-use crate::outputs::{changes_of, parts_of};
+use crate::outputs::{Parts, changes_of};
 use crate::words::{bad_name, index_name, input_names};
 use par2_folder::{Folder, Name};
+use par2_packets::main_id;
 use par2_recovery::{SetRecord, file_records};
 use par2_spec::{CreateArgs, Fault};
 use std::alloc::{AllocError, Global};
@@ -72,8 +74,13 @@ fn outputs_written(
     ensures { IfOk result (λ changes. changes
         ≡ plans.create_changes folder.now.files (create_args_of args.now)) }
 {
-    let parts = parts_of(alloc, folder, set, args.first, args.count)?;
-    changes_of(alloc, folder, base, parts, volumes)
+    let parts = Parts {
+        index: index_of(alloc, set.slice_size, &set.files)?,
+        set_id: main_id(set.slice_size, &set.files),
+        set,
+        folder,
+    };
+    changes_of(alloc, base, parts, volumes)
 }
 
 /// The changes of a create: its outputs are written in order. Memory is answered only where a growth is refused.

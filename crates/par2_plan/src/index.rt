@@ -40,6 +40,29 @@ fn append_ifscs(
     Ok(())
 }
 
+// What a file adds to an index beside its name and the checksums of its slices: two headers, the file's FileDesc without
+// its name, and its File ID once more in its IFSC and in Main.
+const FILE_LEN: usize = 64 + 56 + 64 + 16 + 16;
+
+// The other packets: two headers, the slice size, the number of files, and the name of this program.
+const FRAME_LEN: usize = 64 + 12 + 64 + 20;
+
+// How many bytes a file adds to an index: five words for each slice, and the name with its padding.
+fn file_len(file: &FileRecord) -> usize {
+    let pairs = file.pairs.len().saturating_mul(20);
+    let name = file.name.len().div_ceil(4).saturating_mul(4);
+    pairs.saturating_add(name).saturating_add(FILE_LEN)
+}
+
+// How many bytes the index of these files has, so that its room is taken once.
+fn index_len(files: &[FileRecord]) -> usize {
+    let mut len = FRAME_LEN;
+    for file in files {
+        len = len.saturating_add(file_len(file));
+    }
+    len
+}
+
 /// The index of a set of these files, whose order it keeps: Main, the FileDescs, the IFSCs, Creator.
 #[tactic(auto, unfolding(par2_spec::specs::Volumes::index_packets))]
 pub fn index_of(alloc: Global, s: u64, files: &[FileRecord]) -> Result<Vec<u8>, AllocError>
@@ -48,7 +71,7 @@ pub fn index_of(alloc: Global, s: u64, files: &[FileRecord]) -> Result<Vec<u8>, 
         ≡ flat_map packet (index_packets s (map file_record_of files.now))) }
 {
     let set_id = main_id(s, files);
-    let mut index = Vec::new(alloc);
+    let mut index = Vec::with_capacity(alloc, index_len(files))?;
     append_main(alloc, &mut index, s, files)?;
     append_descs(alloc, &mut index, &set_id, files)?;
     append_ifscs(alloc, &mut index, &set_id, files)?;

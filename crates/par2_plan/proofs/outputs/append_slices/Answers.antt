@@ -1,37 +1,31 @@
-use Rattle.std.proofs.Common.{◌≡◌, ◌<◌, ◌+◌, ◌%◌, ◌∙◌, ◌++◌, [], length, get_or, take, sym, ap, subst, arith, append_assoc}
-use Rattle.std.specs.Prelude.{flat_map}
-use Rattle.std.proofs.lemmas.List.{length-map, take_all}
+use Rattle.std.proofs.Common.{◌≡◌, ◌∙◌, ◌%◌, ◌++◌, length, sym, ap, subst, arith}
+use Rattle.std.specs.Prelude.{flat_map, OnOk}
+use Rattle.std.specs.List.{AllByRecursion, range_with_len}
+use Rattle.std.proofs.lemmas.List.{length-map}
+use Rattle.std.proofs.lemmas.List.FromFn.{length-map-range_with_len}
 use Rattle.par2_spec.specs.Packets.{packet}
-use Rattle.par2_spec.specs.Volumes.{packet_of, recovery_bytes}
-use Rattle.par2_spec.specs.declared.Kind.TheVariants.{Recovery}
 use Rattle.par2_matrix.specs.Systems.{lists_of}
-use Rattle.par2_plan.specs.Outputs.{packets_from}
-use Rattle.par2_plan.proofs.Listed.{all_get, get_at_place, packets_more}
+use Rattle.par2_packets.specs.Recoveries.{packets_from}
+use Rattle.par2_plan.specs.Outputs.{inputs_of, packets_between}
+use Rattle.par2_plan.proofs.Listed.{packets_of_range, whole_words}
 use Rattle.par2_plan.proofs.outputs.append_slices.Goals as goal
 
-pub append_recovery-requires : goal.append_recovery-requires
-append_recovery-requires c =
-    let slices = lists_of c.args.slices.now in
-    let i = c.loop-i.i in
-    let low : i < length slices = subst (λ n. i < n) (sym (length-map c.args.slices.now _)) c.loop-i-test.true in
-    let item : get_or slices i [] ≡ c.deref.result.now = get_at_place (λ v. v.items) c.args.slices.now i _ [] c.loop-i-test.true c.index-slices-i.is ∙ sym c.deref.ensures.value in
-    subst (λ x. length x % 4 ≡ 0) item (all_get (λ slice. length slice % 4 ≡ 0) slices i [] low c.requires.sizes)
+pub append_recoveries-requires-clause-exponents : goal.append_recoveries-requires-clause-exponents
+append_recoveries-requires-clause-exponents c =
+    let slices = c.in_ok-slices.slices.items in
+    let count = sym (length-map slices _) ∙ ap length c.in_ok-slices.ensures ∙ length-map-range_with_len _ c.args.first c.args.count in
+    omega (arith, count, c.requires.exponents)
 
-pub loop-i-preserved : goal.loop-i-preserved
-loop-i-preserved c =
-    let slices = lists_of c.args.slices.now in
-    let id = c.args.set_id.now in
-    let first = c.args.first in
-    let i = c.loop-i.i in
-    let low : i < length slices = subst (λ n. i < n) (sym (length-map c.args.slices.now _)) c.loop-i-test.true in
-    let item : get_or slices i [] ≡ c.deref.result.now = get_at_place (λ v. v.items) c.args.slices.now i _ [] c.loop-i-test.true c.index-slices-i.is ∙ sym c.deref.ensures.value in
-    let one = packet (packet_of id Recovery (recovery_bytes (first + i) c.deref.result.now)) in
-    c.in_ok-append_recovery.ensures.ok ∙ ap (λ o. o ++ one) c.loop-i.invariant
-    ∙ append_assoc c.args.out.now.items (flat_map packet (packets_from id first (take i slices))) one
-    ∙ ap (λ o. c.args.out.now.items ++ o) (sym (packets_more id first slices i c.deref.result.now low item))
+pub append_recoveries-requires-clause-sizes : goal.append_recoveries-requires-clause-sizes
+append_recoveries-requires-clause-sizes c =
+    subst (AllByRecursion (λ slice. length slice % 4 ≡ 0)) (sym (ap lists_of c.deref.ensures.value ∙ c.in_ok-slices.ensures))
+    (whole_words c.args.parts.now.set.now.slice_size (inputs_of c.args.parts.now) c.requires.parts.fours (range_with_len c.args.first c.args.count))
 
 pub returns : goal.returns
 returns c =
-    let slices = lists_of c.args.slices.now in
-    let size : length slices ≡ length c.args.slices.now = length-map c.args.slices.now _ in
-    c.loop-i.invariant ∙ ap (λ xs. c.args.out.now.items ++ flat_map packet (packets_from c.args.set_id.now c.args.first xs)) (take_all c.loop-i.i slices (omega (arith, size, c.loop-i-test.false)))
+    let parts = c.args.parts.now in
+    let old = c.args.out.now.items in
+    let new = c.append_recoveries.new.out.items in
+    let same : packets_from parts.set_id c.args.first (lists_of c.deref.result.now) ≡ packets_between parts c.args.first c.args.count =
+    ap (packets_from parts.set_id c.args.first) (ap lists_of c.deref.ensures.value ∙ c.in_ok-slices.ensures) ∙ packets_of_range parts.set.now.slice_size parts.set_id (inputs_of parts) c.args.first c.args.count in
+    subst (λ added. OnOk c.append_recoveries.result (new ≡ old ++ flat_map packet added)) same c.append_recoveries.ensures.ok

@@ -5,7 +5,7 @@ use Rattle.par2_folder.specs.Views.{change_of}
 use Rattle.par2_matrix.specs.Systems.{lists_of}
 use Rattle.par2_plan.specs.Outputs.{volume_text, put_change}
 use Rattle.par2_plan.specs.declared.names.Volume.{Volume}
-use Rattle.par2_plan.proofs.FromLast.{first_of}
+use Rattle.par2_plan.proofs.Listed.{first_of}
 use Rattle.par2_plan.proofs.outputs.changes_of.Goals as goal
 
 pub loop-volume-init : goal.loop-volume-init
@@ -13,8 +13,7 @@ loop-volume-init c = record { changes = sym (append-nil c.push.new.self); texts 
 
 pub remove-bytes-requires : goal.remove-bytes-requires
 remove-bytes-requires c =
-    let parts = c.args.parts in
-    let text = volume_text parts.index.items parts.set_id parts.first (lists_of parts.slices.items) in
+    let text = volume_text c.args.parts in
     let volumes : List Volume = c.args.volumes.now in
     let i = c.loop-volume.volume-index in
     let left = ap length c.loop-volume.invariant.texts in
@@ -25,9 +24,8 @@ remove-bytes-requires c =
 pub loop-volume-preserved : goal.loop-volume-preserved
 loop-volume-preserved c =
     let kept = c.loop-volume.invariant in
-    let parts = c.args.parts in
-    let folder = c.args.folder.now.files in
-    let text = volume_text parts.index.items parts.set_id parts.first (lists_of parts.slices.items) in
+    let folder = c.args.parts.folder.now.files in
+    let text = volume_text c.args.parts in
     let change = λ (v : Volume). put_change folder (v.name, text v) in
     let volumes : List Volume = c.args.volumes.now in
     let volume : Volume = c.volume-item.result in
@@ -48,12 +46,10 @@ loop-volume-preserved c =
 
 pub returns : goal.returns
 returns c =
-    let parts = c.args.parts in
-    let folder = c.args.folder.now.files in
-    let text = volume_text parts.index.items parts.set_id parts.first (lists_of parts.slices.items) in
+    let folder = c.args.parts.folder.now.files in
+    let text = volume_text c.args.parts in
     let change = λ (v : Volume). put_change folder (v.name, text v) in
     let volumes : List Volume = c.args.volumes.now in
-    let index = c.put.ensures ∙ ap (λ (bytes : List ℕ). put_change folder (c.args.base, bytes)) (c.in_ok-from_slice.ensures.items ∙ c.deref.ensures.value) in
-    let first : c.push.new.self ≡ put_change folder (c.args.base, parts.index.items) ∷ [] = c.in_ok-push.ensures.ok ∙ ap₂ (λ (cs : List Change) x. cs ++ x ∷ []) c.new-changes.ensures index in
+    let first : c.push.new.self ≡ put_change folder (c.args.base, c.args.parts.index.items) ∷ [] = c.in_ok-push.ensures.ok ∙ ap₂ (λ (cs : List Change) x. cs ++ x ∷ []) c.new-changes.ensures c.put.ensures in
     c.loop-volume.invariant.changes
     ∙ ap₂ (λ (cs : List Change) (vs : List Volume). cs ++ map change vs) first (take_all c.loop-volume.volume-index volumes (omega (arith, c.loop-volume-test.false)))

@@ -4,10 +4,7 @@ use Rattle.par2_plan.specs.Outputs.{volume_text, put_change}
 use Rattle.par2_plan.proofs.outputs.changes_of.Given as goal
 
 abbrev pub invariant-loop-volume : goal.invariant-loop-volume
-invariant-loop-volume l =
-    let parts = l.fn.parts in
-    let text = volume_text parts.index.items parts.set_id parts.first (lists_of parts.slices.items) in
-    record {
-      changes : l.changes ≡ l.initial.changes ++ map (λ volume. put_change l.folder.files (volume.name, text volume)) (take l.volume-index l.volumes);
-      texts : lists_of l.texts.items ≡ map text (drop l.volume-index l.volumes);
-    }
+invariant-loop-volume l = record {
+  changes : l.changes ≡ l.initial.changes ++ map (λ volume. put_change l.folder.files (volume.name, volume_text l.fn.parts volume)) (take l.volume-index l.volumes);
+  texts : lists_of l.texts.items ≡ map (volume_text l.fn.parts) (drop l.volume-index l.volumes);
+}

@@ -1,9 +1,13 @@
-use Rattle.std.proofs.Common.{◌≡◌, ◌%◌, length, sym, subst}
-use Rattle.std.specs.List.{AllByRecursion}
-use Rattle.par2_plan.proofs.Listed.{all_take, all_drop}
+use Rattle.std.proofs.Common.{arith}
+use Rattle.par2_plan.specs.Outputs.{inputs_of}
+use Rattle.par2_plan.proofs.Listed.{packets_joined}
 use Rattle.par2_plan.proofs.outputs.volume_bytes.Goals as goal
 
-pub append_slices-requires-clause-sizes : goal.append_slices-requires-clause-sizes
-append_slices-requires-clause-sizes c =
-    subst (AllByRecursion (λ slice. length slice % 4 ≡ 0)) (sym c.slices_in.ensures.slices)
-    (all_take (λ slice. length slice % 4 ≡ 0) _ _ (all_drop (λ slice. length slice % 4 ≡ 0) _ _ c.requires.sizes))
+pub loop-done-preserved : goal.loop-done-preserved
+loop-done-preserved c =
+    let parts = c.args.parts.now in
+    let kept = c.loop-done.invariant in
+    record {
+      bytes = packets_joined _ c.loop-done.bytes.items _ parts.set.now.slice_size parts.set_id (inputs_of parts) c.args.volume.now.first c.loop-done.done c.min-count.result kept.bytes c.in_ok-append_slices.ensures;
+      done = omega arith;
+    }

@@ -1,0 +1,68 @@
+-- The packets of recovery slices whose exponents count up.
+use Rattle.std.proofs.Common.{◌≡◌, ℕ, zero, suc, ◌+◌, ◌<◌, ◌≤◌, List, [], ◌∷◌, ◌++◌, length, map, get_or, take, drop, sym, ap, ap₂, ◌∙◌, arith, append-nil, append_assoc, Vec, Global}
+use Rattle.std.specs.Prelude.{flat_map}
+use Rattle.std.specs.List.{enumerate_from}
+use Rattle.std.proofs.Math.Seq.{take-add}
+use Rattle.std.proofs.lemmas.Grind.{flat_map-append}
+use Rattle.std.proofs.lemmas.List.{map-append, take_more, length-take-le}
+use Rattle.par2_spec.specs.Packets.{packet}
+use Rattle.par2_spec.specs.Volumes.{packet_of, recovery_bytes}
+use Rattle.par2_spec.specs.declared.Kind.TheVariants.{Recovery}
+use Rattle.par2_packets.specs.Recoveries.{lists_of, packets_from}
+
+enumerate_append : {X : Type 0} (n : ℕ) (xs ys : List X) → enumerate_from n (xs ++ ys) ≡ enumerate_from n xs ++ enumerate_from (n + length xs) ys
+enumerate_append n [] ys = ap (λ k. enumerate_from k ys) (let e : n ≡ n + 0 = omega arith in e)
+enumerate_append n (x ∷ xs) ys =
+    ap (λ zs. (n, x) ∷ zs) (enumerate_append (n + 1) xs ys ∙ ap (λ k. enumerate_from (n + 1) xs ++ enumerate_from k ys) (let e : n + 1 + length xs ≡ n + suc (length xs) = omega arith in e))
+
+-- the packets of some slices, and behind them those of others
+packets_append : (id : List ℕ) (first : ℕ) (xs ys : List (List ℕ))
+    → flat_map packet (packets_from id first (xs ++ ys)) ≡ flat_map packet (packets_from id first xs) ++ flat_map packet (packets_from id (first + length xs) ys)
+packets_append id first xs ys =
+    let made = λ (z : ℕ × List ℕ). packet_of id Recovery (recovery_bytes z.0 z.1) in
+    ap (λ zs. flat_map packet (map made zs)) (enumerate_append first xs ys)
+    ∙ ap (flat_map packet) (map-append made (enumerate_from first xs) (enumerate_from (first + length xs) ys))
+    ∙ flat_map-append packet (packets_from id first xs) (packets_from id (first + length xs) ys)
+
+-- one packet more behind a text
+pub packet_more : (text out : List ℕ) (id : List ℕ) (first : ℕ) (slices : List (List ℕ)) (k : ℕ) (new : List ℕ) → k < length slices
+    → out ≡ text ++ flat_map packet (packets_from id first (take k slices)) → new ≡ out ++ packet (packet_of id Recovery (recovery_bytes (first + k) (get_or slices k [])))
+    → new ≡ text ++ flat_map packet (packets_from id first (take (k + 1) slices))
+packet_more text out id first slices k new low so_far is =
+    let size : length (take k slices) ≡ k = length-take-le k slices (omega (arith, low)) in
+    let slice = get_or slices k [] in
+    let before = flat_map packet (packets_from id first (take k slices)) in
+    let one = λ (n : ℕ). packet (packet_of id Recovery (recovery_bytes (first + n) slice)) in
+    let added : flat_map packet (packets_from id first (take (k + 1) slices)) ≡ before ++ one k =
+    ap (λ xs. flat_map packet (packets_from id first xs)) (take_more slices k [] low)
+    ∙ packets_append id first (take k slices) (slice ∷ [])
+    ∙ ap (λ o. before ++ o) (append-nil (one (length (take k slices))))
+    ∙ ap (λ n. before ++ one n) size in
+    is ∙ ap (λ o. o ++ one k) so_far ∙ append_assoc text before (one k) ∙ ap (λ o. text ++ o) (sym added)
+
+-- some packets more behind a text
+pub packets_more : (text out : List ℕ) (id : List ℕ) (first : ℕ) (slices : List (List ℕ)) (a start n b : ℕ) (new : List ℕ) → start ≤ length slices
+    → out ≡ text ++ flat_map packet (packets_from id first (take a slices)) → new ≡ out ++ flat_map packet (packets_from id (first + start) (take n (drop start slices)))
+    → a ≡ start → b ≡ start + n → new ≡ text ++ flat_map packet (packets_from id first (take b slices))
+packets_more text out id first slices a start n b new within so_far is same next =
+    let size : length (take start slices) ≡ start = length-take-le start slices within in
+    let rest = take n (drop start slices) in
+    let before = flat_map packet (packets_from id first (take start slices)) in
+    let some = λ (m : ℕ). flat_map packet (packets_from id (first + m) rest) in
+    let added : flat_map packet (packets_from id first (take b slices)) ≡ before ++ some start =
+    ap (λ m. flat_map packet (packets_from id first (take m slices))) next
+    ∙ ap (λ xs. flat_map packet (packets_from id first xs)) (take-add start n slices)
+    ∙ packets_append id first (take start slices) rest
+    ∙ ap (λ m. before ++ some m) size in
+    is ∙ ap (λ o. o ++ some start) (so_far ∙ ap (λ m. text ++ flat_map packet (packets_from id first (take m slices))) same)
+    ∙ append_assoc text before (some start) ∙ ap (λ o. text ++ o) (sym added)
+
+-- a slice by its place
+pub list_at_place : (slices : List (Vec ℕ Global)) (k : ℕ) (slice : Vec ℕ Global) → k < length slices → slice ≡ get_or slices k slice → get_or (lists_of slices) k [] ≡ slice.items
+list_at_place [] k slice low is = absurd (omega (arith, low))
+list_at_place (first ∷ slices) zero slice low is = ap (λ (v : Vec ℕ Global). v.items) (sym is)
+list_at_place (first ∷ slices) (suc k) slice low is = list_at_place slices k slice (omega (arith, low)) is
+
+-- a text behind two parts of a message
+pub behind_two : (s type kind text body : List ℕ) → type ≡ kind → text ≡ body → ([] ++ (s ++ (type ++ []))) ++ text ≡ s ++ kind ++ body
+behind_two s type kind text body is same = ap₂ (λ (a b : List ℕ). s ++ a ++ b) (append-nil type ∙ is) same

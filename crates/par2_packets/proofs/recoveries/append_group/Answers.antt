@@ -1,0 +1,19 @@
+use Rattle.std.proofs.Common.{◌≡◌, ◌<◌, ◌∙◌, ◌++◌, [], List, ℕ, get_or, sym, ap₂, subst, arith}
+use Rattle.std.proofs.lemmas.List.{length-map}
+use Rattle.par2_spec.specs.Packets.{packet}
+use Rattle.par2_spec.specs.Volumes.{packet_of}
+use Rattle.par2_spec.specs.declared.Kind.TheVariants.{Recovery}
+use Rattle.par2_packets.specs.Recoveries.{lists_of}
+use Rattle.par2_packets.proofs.Counted.{list_at_place, packet_more}
+use Rattle.par2_packets.proofs.recoveries.append_group.Goals as goal
+
+pub loop-k-preserved : goal.loop-k-preserved
+loop-k-preserved c =
+    let slices = lists_of c.args.slices.now in
+    let id = c.args.set_id.now in
+    let k = c.loop-k.k in
+    let low = c.loop-k-test.true in
+    let item : c.deref.result.now ≡ get_or slices k [] = c.deref.ensures.value ∙ sym (list_at_place c.args.slices.now k _ low c.index-slices-k.is) in
+    packet_more c.args.out.now.items c.loop-k.out.items id c.args.first slices k c.append_digested.new.out.items (subst (λ n. k < n) (sym (length-map c.args.slices.now _)) low) c.loop-k.invariant
+    (c.in_ok-append_digested.ensures.ok
+    ∙ ap₂ (λ (exponent slice : List ℕ). c.loop-k.out.items ++ packet (packet_of id Recovery (exponent ++ slice))) (c.exponent_bytes-exponents.ensures k (omega (arith, low, c.requires.few))) item)

@@ -1,0 +1,8 @@
+use Rattle.std.proofs.Common.{◌≡◌, ◌*◌, ◌++◌, length, min, take}
+use Rattle.std.specs.Prelude.{flat_map}
+use Rattle.par2_spec.specs.Packets.{packet}
+use Rattle.par2_packets.specs.Recoveries.{lists_of, packets_from}
+use Rattle.par2_packets.proofs.recoveries.append_groups.Given as goal
+
+abbrev pub invariant-loop-group : goal.invariant-loop-group
+invariant-loop-group l = l.out.items ≡ l.initial.out.items ++ flat_map packet (packets_from l.set_id l.first (take (min (l.group * 8) (length l.slices)) (lists_of l.slices)))
