@@ -94,7 +94,6 @@ fn create_command<'a>(alloc: Global) -> Result<Command<'a>, AllocError>
         .arg(files_arg(alloc))
 }
 
-#[tactic(auto, unfolding(crate::specs::Definition::verify_app))]
 fn verify_command<'a>(alloc: Global) -> Result<Command<'a>, AllocError>
     ensures { IfOk result (λ c. (app_of c ≡ verify_app)
         × ((out-Command c).has_globals ≡ false)) }
@@ -114,7 +113,6 @@ fn repair_command<'a>(alloc: Global) -> Result<Command<'a>, AllocError>
         .arg(files_arg(alloc))
 }
 
-#[tactic(auto, unfolding(crate::specs::Definition::purge_app))]
 fn purge_command<'a>(alloc: Global) -> Result<Command<'a>, AllocError>
     ensures { IfOk result (λ c. (app_of c ≡ purge_app)
         × ((out-Command c).has_globals ≡ false)) }
@@ -122,7 +120,6 @@ fn purge_command<'a>(alloc: Global) -> Result<Command<'a>, AllocError>
     Command::new(alloc, "purge").arg(base_arg(alloc))
 }
 
-#[tactic(auto, unfolding(crate::specs::Definition::start_app))]
 fn start_command<'a>(alloc: Global) -> Command<'a>
     ensures app { app_of result ≡ start_app }
     ensures local { (out-Command result).has_globals ≡ false }
