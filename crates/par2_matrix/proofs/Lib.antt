@@ -1,5 +1,3 @@
-pub mod Words
-pub mod Sums
 pub mod Reduced
 pub mod Taking
 pub mod Clearing

@@ -5,9 +5,10 @@ use Rattle.std.specs.Int.Bits.{xor_assoc, xor_self, xor_zero_l, xor_zero_r}
 use Rattle.par2_spec.specs.Field.{mul}
 use Rattle.par2_spec.specs.Slices.{word}
 use Rattle.par2_spec.proofs.FieldOrder.{product-zero, zero-product, cancel}
-use Rattle.par2_matrix.specs.Echelon.{row_sum, AreElements, Echelon, echelon, Vanishes, Meets, IsReduced, list_at, ReducedBelow, IsMultiple, PutAt}
-use Rattle.par2_matrix.proofs.Words.{word_empty, word-lt}
-use Rattle.par2_matrix.proofs.Sums.{row_sum_empty, row_sum_added, row_sum_scaled, row_sum-lt}
+use Rattle.par2_matrix.specs.Echelon.{Echelon, echelon, Vanishes, Meets, IsReduced, ReducedBelow, IsMultiple, PutAt}
+use Rattle.par2_spec.specs.Sums.{row_sum, AreElements, list_at}
+use Rattle.par2_spec.proofs.WordLaws.{word_empty, word-lt}
+use Rattle.par2_spec.proofs.SumLaws.{row_sum_empty, row_sum_added, row_sum_scaled, row_sum-lt}
 
 -- an exclusive or, taken off again
 xor_off : (a b : ℕ) → bit_xor (bit_xor a b) b ≡ a

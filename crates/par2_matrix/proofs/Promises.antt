@@ -9,12 +9,14 @@ use Rattle.par2_spec.specs.Slices.{word}
 use Rattle.par2_spec.specs.Recovery.{dot}
 use Rattle.par2_spec.specs.Rank.{IsVector}
 use Rattle.par2_matrix.specs.Systems.{Equations, rank, no_equations, IsKilled, AreTexts, CutDown, IsIndependent, IsDependent, IsUndetermined, OnlyZeroIsKilled, IsTheSolution}
-use Rattle.par2_matrix.specs.Echelon.{row_sum, AreElements, Echelon, echelon, Vanishes, IsReduced, list_at, equations, system_of, Spells, AllEmpty}
-use Rattle.par2_matrix.proofs.Words.{word-lt}
-use Rattle.par2_matrix.proofs.Sums.{field_sum_same, row_sum-lt}
+use Rattle.par2_matrix.specs.Echelon.{Echelon, echelon, Vanishes, IsReduced, equations, system_of, Spells, AllEmpty}
+use Rattle.par2_spec.specs.Sums.{row_sum, AreElements, list_at}
+use Rattle.par2_spec.proofs.WordLaws.{bytes_at, word-lt, combination_words, same_texts}
+use Rattle.par2_spec.proofs.SumLaws.{field_sum_same, row_sum-lt}
 use Rattle.par2_matrix.proofs.Reduced.{ToldApart, all_present, unit_row, full_rank, free_vector, one≢zero}
 use Rattle.par2_matrix.proofs.Placing.{Cut}
-use Rattle.par2_matrix.proofs.Views.{all_at, all_from, elements_of, dot_spelled, rank_view, kills_view, solves_view, words_at, words_are_elements, words_by_elements, combination_words, same_texts}
+use Rattle.par2_matrix.proofs.Views.{elements_of, dot_spelled, rank_view, kills_view, solves_view, words_at, words_are_elements, words_by_elements}
+use Rattle.par2_spec.proofs.ListsLaws.{all_at, all_from}
 
 -- ---- vectors
 
@@ -57,7 +59,7 @@ new_system n m b R D e rows rights =
 pub follows : (e : Echelon) → IsReduced e → (row bytes : List ℕ) → Spells row bytes (length row) → length row ≡ e.columns
     → ((f : ℕ → ℕ) → AreElements f → Vanishes e f → row_sum e.columns bytes f ≡ 0) → IsDependent (system_of e) row
 follows e r row bytes spells size sums v is killed =
-    dot_spelled e.columns row bytes v spells size is.0
+    dot_spelled e.columns row bytes v spells size
     ∙ sums (λ i. get_or v i 0) (elements_of e.columns v is) ((kills_view e r v is).0 killed)
 
 pub tells : (e : Echelon) → IsReduced e → (row bytes : List ℕ) → Spells row bytes (length row) → length row ≡ e.columns → ToldApart e bytes → IsIndependent (system_of e) row
@@ -67,7 +69,7 @@ tells e r row bytes spells size t =
       vector = listed e.columns t.vector;
       is_vector = is;
       killed = killed_listed e r t.vector t.are_elements t.killed;
-      not_killed = λ z. t.told (sym (listed_sum e.columns t.vector bytes) ∙ sym (dot_spelled e.columns row bytes (listed e.columns t.vector) spells size is.0) ∙ z);
+      not_killed = λ z. t.told (sym (listed_sum e.columns t.vector bytes) ∙ sym (dot_spelled e.columns row bytes (listed e.columns t.vector) spells size) ∙ z);
     }
 
 pub cuts : (e new : Echelon) → IsReduced e → IsReduced new → (row bytes right : List ℕ) → Spells row bytes (length row) → length row ≡ e.columns
@@ -77,7 +79,7 @@ cuts e new r s row bytes right spells size small right_size right_bytes columns 
   rank = rank_view new s ∙ one ∙ ap (λ x. x + 1) (sym (rank_view e r));
   kills = λ v is.
       let f : ℕ → ℕ = λ i. get_or v i 0 in
-      let sum : dot row v ≡ row_sum e.columns bytes f = dot_spelled e.columns row bytes v spells size is.0 in
+      let sum : dot row v ≡ row_sum e.columns bytes f = dot_spelled e.columns row bytes v spells size in
       let cut = cut.kills f (elements_of e.columns v is) in
       let before = kills_view e r v is in
       let after = kills_view new s v (subst (λ n. IsVector n v) (sym columns) is) in (
@@ -157,7 +159,7 @@ the_solution e r full =
           (λ p h.
           let hp : p < e.columns = omega (arith, given.count) in
           same_texts e.bytes (list_at others p) (list_at e.rights p) r.even (text_at (system_of e) others given p hp) (r.right_size p (all p hp))
-          (λ k. all_at (λ b. b < 256) 0 (omega arith) (list_at others p) (all_at (λ (text : List ℕ). AllByRecursion (λ b. b < 256) text) [] tt others given.bytes p) k)
+          (λ k. bytes_at others given.bytes p k)
           (r.are_bytes p)
           (λ w hw. sym (unit_row e r full (words_at others w) (words_are_elements (system_of e) others given w) p hp) ∙ (solves_view e r others given).0 solved w hw p hp));
     }

@@ -6,9 +6,10 @@ use Rattle.par2_spec.specs.Field.{mul}
 use Rattle.par2_spec.specs.Slices.{word}
 use Rattle.par2_spec.proofs.FieldProducts.{product_comm, product-one}
 use Rattle.par2_spec.proofs.FieldOrder.{product-zero, zero-product}
-use Rattle.par2_matrix.specs.Echelon.{row_sum, AreElements, Echelon, Vanishes, IsReduced, list_at, count_present}
-use Rattle.par2_matrix.proofs.Words.{word_empty}
-use Rattle.par2_matrix.proofs.Sums.{field_sum_one, field_sum_two, row_sum_empty, row_sum_unit}
+use Rattle.par2_matrix.specs.Echelon.{Echelon, Vanishes, IsReduced, count_present}
+use Rattle.par2_spec.specs.Sums.{row_sum, AreElements, list_at}
+use Rattle.par2_spec.proofs.WordLaws.{word_empty}
+use Rattle.par2_spec.proofs.SumLaws.{field_sum_one, field_sum_two, row_sum_empty, row_sum_unit}
 
 -- a vector that the equations send to 0 and the row doesn't
 pub record ToldApart (s : Echelon) (row : List ℕ) : Type 0 where

@@ -8,8 +8,9 @@ use Rattle.par2_spec.specs.Field.{mul}
 use Rattle.par2_spec.specs.Slices.{word}
 use Rattle.par2_spec.proofs.FieldProducts.{product-one, product-lt}
 use Rattle.par2_spec.proofs.FieldOrder.{product-zero}
-use Rattle.par2_matrix.specs.Echelon.{Echelon, echelon, IsReduced, list_at, count_present, AllEmpty}
-use Rattle.par2_matrix.proofs.Words.{word_past, word_empty, word-lt}
+use Rattle.par2_matrix.specs.Echelon.{Echelon, echelon, IsReduced, count_present, AllEmpty}
+use Rattle.par2_spec.specs.Sums.{list_at}
+use Rattle.par2_spec.proofs.WordLaws.{word_past, word_empty, word-lt}
 use Rattle.par2_matrix.proofs.Reduced.{present_at_most}
 use Rattle.par2_matrix.proofs.Placing.{Placed, entry}
 

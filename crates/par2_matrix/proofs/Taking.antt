@@ -8,8 +8,9 @@ use Rattle.par2_gf16.specs.Products.{IsInverse, AddsProducts}
 use Rattle.par2_spec.proofs.FieldBits.{xor_middle}
 use Rattle.par2_spec.proofs.FieldProducts.{product_comm, product-one}
 use Rattle.par2_spec.proofs.FieldOrder.{product-zero}
-use Rattle.par2_matrix.specs.Echelon.{row_sum, AreElements, Echelon, IsReduced, list_at, echelon, ReducedBelow, Scaled, IsMultiple}
-use Rattle.par2_matrix.proofs.Sums.{row_sum_added}
+use Rattle.par2_matrix.specs.Echelon.{Echelon, IsReduced, echelon, ReducedBelow, Scaled, IsMultiple}
+use Rattle.par2_spec.specs.Sums.{row_sum, AreElements, list_at}
+use Rattle.par2_spec.proofs.SumLaws.{row_sum_added}
 use Rattle.par2_matrix.proofs.Reduced.{one≢zero}
 
 pub reduce_skip : (s : Echelon) (r0 d0 row right : List ℕ) (p : ℕ) → ReducedBelow s r0 d0 row right p

@@ -5,24 +5,7 @@ use Rattle.std.specs.declared.alloc.Global.{Global}
 use Rattle.par2_spec.specs.Field.{mul}
 use Rattle.par2_spec.specs.Slices.{word, words}
 use Rattle.par2_matrix.specs.Systems.{Equations}
-pub use Rattle.par2_matrix.specs.Systems.{lists_of}
-
--- the sum in the field of the first n values of f
-unfoldable pub field_sum : ℕ → (ℕ → ℕ) → ℕ
-field_sum zero f = 0
-field_sum (suc n) f = bit_xor (field_sum n f) (f n)
-
--- the sum of a row's first n words, each times what f has at its place
-abbrev pub row_sum : ℕ → List ℕ → (ℕ → ℕ) → ℕ
-row_sum n row f = field_sum n (λ i. mul (word i row) (f i))
-
--- f gives each place an element
-abbrev pub AreElements : (ℕ → ℕ) → Type 0
-AreElements f = (i : ℕ) → f i < 2 ^ 16
-
--- list i of a list of lists, or the empty one
-abbrev pub list_at : List (List ℕ) → ℕ → List ℕ
-list_at lists i = slice_index_or lists i []
+use Rattle.par2_spec.specs.Sums.{OneChanged, AreElements, row_sum, list_at, lists_of}
 
 -- For each column the row and the right side of the equation with this pivot, or two empty lists.
 pub record Echelon : Type 0 where
@@ -134,11 +117,6 @@ pub record IsPrepared (e : Echelon) (row0 right0 row right : List ℕ) (q : ℕ)
   pub row_size : length row ≡ 2 * e.columns
   pub right_size : length right ≡ e.bytes
   pub pivot : word q row ≡ 1
-
--- one list of the lists was changed
-pub record OneChanged (old new : List (List ℕ)) (p : ℕ) : Type 0 where
-  pub count : length new ≡ length old
-  pub others : (i : ℕ) → i ≢ p → list_at new i ≡ list_at old i
 
 -- The multiples of an equation that clear the place q have been added to the equations below n.
 pub record ClearedBelow (q : ℕ) (row right : List ℕ) (old_rows old_rights rows rights : List (List ℕ)) (n : ℕ) : Type 0 where

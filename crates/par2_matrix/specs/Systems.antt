@@ -1,15 +1,11 @@
 -- Systems of linear equations over the field, whose unknowns are texts: word by word, one system of equations
 -- between elements for each place. An equation is a row of coefficients, one for each unknown, and the text that the
 -- combination of the unknown texts by this row has to be.
-use Rattle.std.specs.Prelude.{ℕ, ◌+◌, ◌<◌, ◌≡◌, ◌≢◌, ◌↔◌, List, [], length, map, Vec}
-use Rattle.std.specs.declared.alloc.Global.{Global}
+use Rattle.std.specs.Prelude.{ℕ, ◌+◌, ◌<◌, ◌≡◌, ◌≢◌, ◌↔◌, List, [], length}
 use Rattle.std.specs.List.{AllByRecursion}
 use Rattle.par2_spec.specs.Recovery.{dot, combination}
 use Rattle.par2_spec.specs.Rank.{IsVector}
-
--- the lists of a vector of vectors
-abbrev pub lists_of : {A : Type 0} → List (Vec A Global) → List (List A)
-lists_of vs = map (λ v. v.items) vs
+pub use Rattle.par2_spec.specs.Sums.{lists_of}
 
 -- What a contract sees of a system: the number of unknown texts, the size of each, and equations that say the same
 -- as those that were kept. Read them by what they kill and what solves them.

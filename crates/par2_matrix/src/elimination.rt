@@ -3,7 +3,8 @@
 ghost use Rattle.std.specs.Prelude.{◌≡◌, ◌≢◌, ℕ, ◌+◌, ◌*◌, ◌%◌, ◌^◌, ◌<◌, ◌≤◌, List, length, slice_index, IfSome, IfOk, IsNone};
 ghost use Rattle.par2_spec.specs.Slices.{word};
 ghost use Rattle.par2_gf16.specs.Products.{AddsProducts};
-ghost use Rattle.par2_matrix.specs.Echelon.{WordPut, Spells, Scaled, ReducedBelow, IsReduced, IsImplied, IsMultiple, IsPrepared, OneChanged, ClearedBelow, PutAt, AllEmpty, echelon_of, lists_of, list_at};
+ghost use Rattle.par2_matrix.specs.Echelon.{WordPut, Spells, Scaled, ReducedBelow, IsReduced, IsImplied, IsMultiple, IsPrepared, ClearedBelow, PutAt, AllEmpty, echelon_of};
+ghost use Rattle.par2_spec.specs.Sums.{OneChanged, lists_of, list_at};
 
 use par2_gf16::{Factor, Gf};
 use std::alloc::{AllocError, Global};

@@ -71,17 +71,6 @@ rises_more n xs i a b above within up inv at_a at_b differ =
     let order : n (get_or xs (i - 1) d) ≤ n (get_or xs i d) = up (i - 1) i d (omega arith) within in
     omega (arith, first, second, order, differ))
 
-pub increasing : {X : Type 0} (n : X → ℕ) (xs : List X) → AllAdjacentBelow (λ x y. n x < n y) xs (length xs) → IsStrictlyIncreasing (map n xs)
-increasing n [] up k within = absurd (omega arith)
-increasing n (x ∷ xs) up k within =
-    let size : length (map n (x ∷ xs)) ≡ length (x ∷ xs) = length-map (x ∷ xs) n in
-    let second : k + 1 < length (x ∷ xs) = omega (arith, size, within) in
-    let first : k < length (x ∷ xs) = omega (arith, second) in
-    let at_first : get_or (map n (x ∷ xs)) k 0 ≡ n (get_or (x ∷ xs) k x) = get_or-map n (x ∷ xs) k x 0 first in
-    let at_second : get_or (map n (x ∷ xs)) (k + 1) 0 ≡ n (get_or (x ∷ xs) (k + 1) x) = get_or-map n (x ∷ xs) (k + 1) x 0 second in
-    let rise : n (get_or (x ∷ xs) k x) < n (get_or (x ∷ xs) (k + 1) x) = up k x second in
-    omega (arith, at_first, at_second, rise)
-
 -- ---- what rises is distinct
 
 flips : (x y : List ℕ) → bytes_eq x y ≡ bytes_eq y x

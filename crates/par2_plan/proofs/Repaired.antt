@@ -18,11 +18,10 @@ use Rattle.par2_spec.specs.Sets.{ParSet, Target, set_of}
 use Rattle.par2_spec.specs.Windows.{found}
 use Rattle.par2_spec.specs.declared.Fault.{Fault}
 use Rattle.par2_spec.specs.declared.Fault.TheVariants.{NotRepairable}
-use Rattle.par2_spec.proofs.ListsLaws.{all-append}
+use Rattle.par2_spec.proofs.ListsLaws.{all-append, filter_map-map}
 use Rattle.par2_spec.proofs.RankLaws.{repairable-iff}
 use Rattle.par2_spec.proofs.ReadLaws.{lost_of}
 use Rattle.par2_spec.proofs.SearchLaws.{matches_of_needing}
-use Rattle.par2_sets.proofs.Lists.{filter_map-map}
 use Rattle.par2_asides.specs.Asides.{long_aside}
 use Rattle.par2_restore.specs.Restoring.{known_in, undetermined_fault, wrong_digest, files_of}
 use Rattle.par2_plan.specs.Repairing.{unmatched_names, names_given, AreNeeding, IsWholeWhereMatched, AreRestoredFor, targets_by, renames, matches_taken, writes, asides_removed, files_removed, place_by, changes_by, removals_by, with_removals, repair_by}

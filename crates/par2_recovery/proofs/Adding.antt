@@ -5,7 +5,7 @@ use Rattle.std.specs.Int.Bits.{xor_assoc, xor_zero_r}
 use Rattle.par2_spec.specs.Field.{mul}
 use Rattle.par2_spec.specs.Slices.{word}
 use Rattle.par2_gf16.specs.Steps.{AddsWithin}
-use Rattle.par2_matrix.specs.Echelon.{field_sum, list_at, OneChanged}
+use Rattle.par2_spec.specs.Sums.{field_sum, list_at, OneChanged}
 use Rattle.par2_recovery.specs.Products.{AddsSource, Adds, products}
 
 -- nothing was added to any target yet

@@ -5,26 +5,21 @@ use Rattle.std.specs.Borrow.{Bor}
 use Rattle.std.specs.List.{range_with_len, AllByRecursion}
 use Rattle.std.specs.Int.Bits.{xor_zero_l}
 use Rattle.std.proofs.Common.{append_assoc, zero-add, true}
-use Rattle.std.proofs.lemmas.List.{take_more, ext_get_or, length-map, map-append, get_or_append_left, get_or_at, get_or_past}
+use Rattle.std.proofs.lemmas.List.{ext_get_or, length-map, map-append, get_or_append_left, get_or_at, get_or_past}
 use Rattle.std.proofs.lemmas.List.FromFn.{map-range_with_len_more, get_or-map-range_with_len, length-map-range_with_len, length-range_with_len, get_or-range_with_len}
 use Rattle.par2_spec.specs.Field.{mul, coefficient, constant}
 use Rattle.std.specs.Prelude.{take, drop}
-use Rattle.par2_spec.specs.Slices.{padded, word, slice_at, slices}
+use Rattle.par2_spec.specs.Slices.{padded, word, slice_at}
 use Rattle.par2_spec.specs.Names.{is_name}
-use Rattle.par2_spec.specs.Folders.{Folder, bytes_of}
-use Rattle.par2_spec.specs.Volumes.{all_slices}
-use Rattle.par2_spec.specs.Commands.{files_of}
 use Rattle.par2_spec.specs.Recovery.{dot, coefficients, combination, recovery}
 use Rattle.par2_spec.proofs.FieldOrder.{power-lt}
 use Rattle.par2_spec.proofs.FieldProducts.{product-lt}
 use Rattle.par2_spec.proofs.FieldConstants.{constant-lt}
-use Rattle.par2_matrix.specs.Echelon.{field_sum, list_at, lists_of}
-use Rattle.par2_matrix.proofs.Sums.{field_sum_same, field_sum-lt}
-use Rattle.par2_matrix.proofs.Views.{all_at, combination_words}
-use Rattle.par2_matrix.proofs.Words.{word-lt}
+use Rattle.par2_spec.specs.Sums.{field_sum, list_at, lists_of}
+use Rattle.par2_spec.proofs.SumLaws.{field_sum_same, field_sum-lt, dot_sum, product_at}
+use Rattle.par2_spec.proofs.WordLaws.{byte_at, combination_words, word-lt}
 use Rattle.par2_recovery.specs.Products.{AreBytes, Adds, products}
 use Rattle.par2_recovery.specs.Views.{texts_of, AreBlank}
-use Rattle.par2_recovery.proofs.Dots.{dot_sum, product_at}
 
 -- ---- padding
 
@@ -186,28 +181,13 @@ pub bytes_push : (xs : List (Bor (List ℕ))) (v : Bor (List ℕ)) → AreBytes 
 bytes_push xs v before fits = subst AreBytes (sym (map-append (λ (x : Bor (List ℕ)). x.now) xs (v ∷ []))) (go (texts_of xs) before)
   where
     here : (k : ℕ) → get_or v.now k 0 < 256
-    here = all_at (λ b. b < 256) 0 (omega arith) v.now fits
+    here = byte_at v.now fits
 
     go : (lists : List (List ℕ)) → AreBytes lists → AreBytes (lists ++ v.now ∷ [])
     go [] all zero k = here k
     go [] all (suc r) k = all r k
     go (x ∷ lists) all zero k = all 0 k
     go (x ∷ lists) all (suc r) k = go lists (λ q m. all (suc q) m) r k
-
-slices_of_more : (s : ℕ) (folder : Folder) (names : List (List ℕ)) (name : List ℕ) → all_slices s (files_of folder (names ++ name ∷ [])) ≡ all_slices s (files_of folder names) ++ slices s (bytes_of folder name)
-slices_of_more s folder [] name = append_none (slices s (bytes_of folder name))
-  where
-    append_none : (xs : List (List ℕ)) → xs ++ [] ≡ xs
-    append_none [] = refl
-    append_none (x ∷ xs) = ap (λ ys. x ∷ ys) (append_none xs)
-slices_of_more s folder (n ∷ names) name =
-    ap (λ xs. slices s (bytes_of folder n) ++ xs) (slices_of_more s folder names name)
-    ∙ sym (append_assoc (slices s (bytes_of folder n)) (all_slices s (files_of folder names)) (slices s (bytes_of folder name)))
-
-pub files_push : (s : ℕ) (folder : Folder) (names : List (List ℕ)) (i : ℕ) (old all : List (List ℕ)) (bytes : List ℕ) → i < length names → bytes ≡ bytes_of folder (get_or names i [])
-    → old ≡ all_slices s (files_of folder (take i names)) → all ≡ old ++ slices s bytes → all ≡ all_slices s (files_of folder (take (i + 1) names))
-files_push s folder names i old all bytes h is so_far e =
-    e ∙ ap₂ (λ a b. a ++ slices s b) so_far is ∙ sym (slices_of_more s folder (take i names) (get_or names i [])) ∙ ap (λ xs. all_slices s (files_of folder xs)) (sym (take_more names i [] h))
 
 pub all_of_them : (names : List (List ℕ)) (n : ℕ) → n ≡ length names → take n names ≡ names
 all_of_them names n e = ap (λ m. take m names) e ∙ whole names

@@ -13,10 +13,10 @@ use Rattle.par2_spec.specs.Search.{lost}
 use Rattle.par2_spec.proofs.FieldProducts.{product-lt}
 use Rattle.par2_matrix.specs.Systems as systems
 use Rattle.par2_matrix.specs.Systems.{Equations, OnlyZeroIsKilled, IsTheSolution}
-use Rattle.par2_matrix.specs.Echelon.{field_sum, list_at}
-use Rattle.par2_matrix.proofs.Sums.{field_sum-lt}
-use Rattle.par2_matrix.proofs.Views.{all_from}
-use Rattle.par2_matrix.proofs.Words.{word-lt}
+use Rattle.par2_spec.specs.Sums.{field_sum, list_at}
+use Rattle.par2_spec.proofs.SumLaws.{field_sum-lt}
+use Rattle.par2_spec.proofs.ListsLaws.{all_from}
+use Rattle.par2_spec.proofs.WordLaws.{word-lt}
 use Rattle.par2_recovery.specs.Inverses.{recovery_at, IsEliminated, lack, AreCombined}
 use Rattle.par2_recovery.specs.Products.{AreBytes}
 use Rattle.par2_recovery.specs.Survivors.{with_lost_slices, lost_from, known_from, known_alone, sum_at}

@@ -12,18 +12,18 @@ use Rattle.par2_spec.specs.Recovery.{dot, coefficients}
 use Rattle.par2_spec.specs.Rank.{IsVector}
 use Rattle.par2_spec.proofs.FieldBits.{xor_middle}
 use Rattle.par2_spec.proofs.FieldProducts.{product_linear_right}
-use Rattle.par2_matrix.specs.Echelon.{field_sum, list_at}
-use Rattle.par2_matrix.proofs.Sums.{field_sum_same, field_sum_xor, row_sum_unit}
-use Rattle.par2_matrix.proofs.Views.{all_at, combination_words, same_texts}
-use Rattle.par2_matrix.proofs.Words.{word-lt}
+use Rattle.par2_spec.specs.Sums.{field_sum, list_at, AreElements}
+use Rattle.par2_spec.proofs.SumLaws.{field_sum_same, field_sum_xor, row_sum_unit, dot_sum, product_at}
+use Rattle.par2_spec.proofs.WordLaws.{byte_at, bytes_at, combination_words, same_texts, word-lt}
 use Rattle.par2_recovery.specs.Elements.{AreRows, IsUnit}
 use Rattle.par2_recovery.specs.Inverses.{recovery_at, GivesUnit, AreCoefficients, AreFactors, lack, AreCombined}
 use Rattle.par2_recovery.specs.Products.{AreBytes, Adds, products}
 use Rattle.par2_recovery.specs.Survivors.{recovered_of}
 use Rattle.par2_recovery.specs.Views.{AreBlank}
-use Rattle.par2_recovery.proofs.Dots.{AreElements, dot_sum, product_at, combined}
+use Rattle.par2_recovery.proofs.Dots.{combined}
 use Rattle.par2_recovery.proofs.Combined.{coefficients-lt, blank_word, blank_bytes, length-blank}
-use Rattle.par2_recovery.proofs.Rebuilding.{AreSized, words_small, dot-lt}
+use Rattle.par2_recovery.proofs.Rebuilding.{AreSized}
+use Rattle.par2_spec.proofs.UniqueLaws.{coefficients_are, dot-lt, words_are}
 
 -- ---- recovery slices
 
@@ -160,9 +160,9 @@ inverted lost e j w inverse texts r low bytes gives are made =
     let fit : length row ≤ m = (let n = length-map lost (coefficient e) in omega (arith, n)) in
     let unit_word : (k : ℕ) → k < m → field_sum m (λ i. mul (get_or row i 0) (word k (list_at inverse i))) ≡ word k gives.unit = λ k hk.
     sym (dot_at m row inverse k fit)
-    ∙ (combination_words (2 * m) row inverse gives.unit (omega arith) (λ p. dot-lt lost e (map (word p) inverse) (words_small inverse p bytes)) gives.is_unit.size (unit_bytes m j gives.unit gives.is_unit)).0 gives.combined k (omega arith) in
+    ∙ (combination_words (2 * m) row inverse gives.unit (omega arith) (λ p. dot-lt row (map (word p) inverse) (coefficients_are e lost) (words_are p inverse bytes)) gives.is_unit.size (unit_bytes m j gives.unit gives.is_unit)).0 gives.combined k (omega arith) in
     let entry-lt : (i k : ℕ) → word k (list_at inverse i) < 65536 = λ i k.
-    word-lt (list_at inverse i) k (all_at (λ b. b < 256) 0 (omega arith) (list_at inverse i) (all_at (λ (text : List ℕ). AllByRecursion (λ b. b < 256) text) [] tt inverse bytes i)) in
+    word-lt (list_at inverse i) k (bytes_at inverse bytes i) in
     dot_at m row texts w fit
     ∙ field_sum_same m (λ i. mul (get_or row i 0) (word w (list_at texts i))) (λ i. mul (get_or row i 0) (field_sum m (λ k. mul (word k (list_at inverse i)) (r k)))) (λ i h. ap (mul (get_or row i 0)) (made i h))
     ∙ combined m m (λ i. get_or row i 0) (λ i k. word k (list_at inverse i)) r (coefficients-lt lost e) entry-lt are
@@ -196,7 +196,7 @@ differences_vector w (x ∷ xs) [] e hx hy = absurd (omega arith)
 differences_vector w (x ∷ xs) (y ∷ ys) e hx hy =
     let rest = differences_vector w xs ys (omega arith) hx.1 hy.1 in (
       ap suc rest.0,
-      (xor_lt 16 (word w x) (word w y) (word-lt x w (all_at (λ b. b < 256) 0 (omega arith) x hx.0)) (word-lt y w (all_at (λ b. b < 256) 0 (omega arith) y hy.0)), rest.1),
+      (xor_lt 16 (word w x) (word w y) (word-lt x w (byte_at x hx.0)) (word-lt y w (byte_at y hy.0)), rest.1),
     )
 
 same_if_none : (a b : ℕ) → bit_xor a b ≡ 0 → a ≡ b
@@ -210,7 +210,7 @@ same_texts_by s [] (y ∷ ys) even e hx hy none = absurd (omega arith)
 same_texts_by s (x ∷ xs) [] even e hx hy none = absurd (omega arith)
 same_texts_by s (x ∷ xs) (y ∷ ys) even e hx hy none =
     let first : x ≡ y =
-    same_texts s x y even hx.0.0 hy.0.0 (all_at (λ b. b < 256) 0 (omega arith) x hx.1.0) (all_at (λ b. b < 256) 0 (omega arith) y hy.1.0)
+    same_texts s x y even hx.0.0 hy.0.0 (byte_at x hx.1.0) (byte_at y hy.1.0)
     (λ w h. same_if_none (word w x) (word w y) (none w h).0) in
     let rest : xs ≡ ys = same_texts_by s xs ys even (omega arith) (hx.0.1, hx.1.1) (hy.0.1, hy.1.1) (λ w h. (none w h).1) in
     ap₂ (λ a b. a ∷ b) first rest

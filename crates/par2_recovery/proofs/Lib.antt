@@ -8,3 +8,4 @@ pub mod Inverting
 pub mod Standing
 pub mod Finishing
 pub mod Records
+pub mod Known

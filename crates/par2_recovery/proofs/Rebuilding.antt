@@ -4,17 +4,15 @@ use Rattle.std.specs.Prelude.{Option, Some, None, option_map, is_none, filter}
 use Rattle.std.specs.List.{range_with_len, enumerate_from, AllByRecursion, AllZip}
 use Rattle.std.specs.Option.{ForSome}
 use Rattle.std.specs.Int.Bits.{xor_assoc, xor_self, xor_zero_r}
-use Rattle.std.proofs.lemmas.Nat.{xor_comm, xor_lt}
+use Rattle.std.proofs.lemmas.Nat.{xor_comm}
 use Rattle.par2_spec.specs.Field.{mul, coefficient}
 use Rattle.par2_spec.specs.Slices.{word}
 use Rattle.par2_spec.specs.Recovery.{dot, coefficients, combination, recovery}
 use Rattle.par2_spec.specs.Rank.{IsRebuilt}
 use Rattle.par2_spec.specs.Search.{lost}
-use Rattle.par2_spec.proofs.FieldProducts.{product-lt}
-use Rattle.par2_matrix.proofs.Views.{all_at, combination_words}
-use Rattle.par2_matrix.proofs.Words.{word-lt}
+use Rattle.par2_spec.proofs.UniqueLaws.{coefficients_are, dot-lt, words_are}
+use Rattle.par2_spec.proofs.WordLaws.{combination_words}
 use Rattle.par2_recovery.specs.Survivors.{with_lost_slices, lost_from, known_from, known_alone}
-use Rattle.par2_recovery.proofs.Combined.{coefficients-lt}
 
 -- ---- the numbers of the lost slices
 
@@ -122,16 +120,6 @@ sized_filled s a (None ∷ known) (x ∷ texts) k t h =
     let rest = sized_filled s (a + 1) known texts k (t.0.1, t.1.1) (omega arith) in
     ((t.0.0, rest.0), (t.1.0, rest.1))
 
-pub words_small : (lists : List (List ℕ)) (w : ℕ) → AllByRecursion (λ text. AllByRecursion (λ b. b < 256) text) lists → AllByRecursion (λ x. x < 65536) (map (word w) lists)
-words_small [] w all = tt
-words_small (x ∷ lists) w all = (word-lt x w (all_at (λ b. b < 256) 0 (omega arith) x all.0), words_small lists w all.1)
-
-pub dot-lt : (numbers : List ℕ) (e : ℕ) (v : List ℕ) → AllByRecursion (λ x. x < 65536) v → dot (coefficients numbers e) v < 65536
-unfolding dot
-dot-lt [] e v h = omega arith
-dot-lt (n ∷ numbers) e [] h = omega arith
-dot-lt (n ∷ numbers) e (x ∷ v) h = xor_lt 16 _ _ (product-lt (coefficient e n) x (coefficients-lt (n ∷ numbers) e 0) h.0) (dot-lt numbers e v h.1)
-
 -- ---- an equation of the lost slices and the recovery slice that it comes from
 
 moved : (a b d : ℕ) → bit_xor a b ≡ d → b ≡ bit_xor d a
@@ -177,7 +165,7 @@ equation s e known found texts even are_known sized count is = (
 
     all_words : (combination s rows (with_lost_slices known texts) ≡ found) ↔ ((w : ℕ) → 2 * w + 1 < s → dot rows (map (word w) (with_lost_slices known texts)) ≡ word w found)
     all_words = combination_words s rows (with_lost_slices known texts) found even
-        (λ w. dot-lt (range_with_len 0 (length known)) e (map (word w) (with_lost_slices known texts)) (words_small (with_lost_slices known texts) w (sized_filled s 0 known texts are_known sized count).1))
+        (λ w. dot-lt rows (map (word w) (with_lost_slices known texts)) (coefficients_are e (range_with_len 0 (length known))) (words_are w (with_lost_slices known texts) (sized_filled s 0 known texts are_known sized count).1))
         is.size is.bytes
 
 equations : (s : ℕ) (known : List (Option (List ℕ))) (texts : List (List ℕ)) (found : List (ℕ × List ℕ)) → s % 2 ≡ 0 → AreKnown s known → AreSized s texts → length texts ≡ length (lost_from 0 known)

@@ -1,7 +1,8 @@
 -- Rows of elements and the texts of their words.
 use Rattle.std.specs.Prelude.{◌≡◌, ◌≢◌, ◌*◌, ◌<◌, ℕ, List, length}
 use Rattle.par2_spec.specs.Slices.{word}
-use Rattle.par2_matrix.specs.Echelon.{Spells, list_at}
+use Rattle.par2_matrix.specs.Echelon.{Spells}
+use Rattle.par2_spec.specs.Sums.{list_at}
 
 -- the first n rows are those of the texts
 pub record AreRows (rows texts : List (List ℕ)) (n : ℕ) : Type 0 where

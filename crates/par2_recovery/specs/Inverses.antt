@@ -6,7 +6,8 @@ use Rattle.par2_spec.specs.Slices.{word}
 use Rattle.par2_spec.specs.Recovery.{dot, coefficients, combination}
 use Rattle.par2_spec.specs.Rank as ranks
 use Rattle.par2_spec.specs.Rank.{IsVector, IsRepairable, kept_slices}
-use Rattle.par2_matrix.specs.Echelon.{Spells, field_sum, list_at}
+use Rattle.par2_matrix.specs.Echelon.{Spells}
+use Rattle.par2_spec.specs.Sums.{field_sum, list_at}
 use Rattle.par2_matrix.specs.Systems.{Equations, CutDown, AreTexts, Solves, IsKilled, OnlyZeroIsKilled, rank}
 use Rattle.par2_recovery.specs.Elements.{IsUnit}
 use Rattle.par2_recovery.specs.Products.{AreBytes}

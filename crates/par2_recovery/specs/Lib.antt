@@ -3,3 +3,4 @@ pub mod Products
 pub mod Elements
 pub mod Survivors
 pub mod Inverses
+pub mod Rebuilding

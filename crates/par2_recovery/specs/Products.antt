@@ -3,7 +3,7 @@ use Rattle.std.specs.Prelude.{ℕ, ◌+◌, ◌*◌, ◌^◌, ◌<◌, ◌≤◌
 use Rattle.par2_spec.specs.Field.{mul}
 use Rattle.par2_spec.specs.Slices.{word}
 use Rattle.par2_gf16.specs.Steps.{AddsWithin}
-use Rattle.par2_matrix.specs.Echelon.{field_sum, list_at}
+use Rattle.par2_spec.specs.Sums.{field_sum, list_at}
 
 -- all are bytes
 abbrev pub AreBytes : List (List ℕ) → Type 0

@@ -4,7 +4,7 @@ use Rattle.std.specs.Borrow.{Bor}
 use Rattle.par2_spec.specs.Field.{mul}
 use Rattle.par2_spec.specs.Slices.{padded, word}
 use Rattle.par2_spec.specs.Rank as ranks
-use Rattle.par2_matrix.specs.Echelon.{field_sum, list_at}
+use Rattle.par2_spec.specs.Sums.{field_sum, list_at}
 use Rattle.par2_recovery.specs.declared.rebuild_slices.RebuildFault.{RebuildFault}
 use Rattle.par2_recovery.specs.declared.rebuild_slices.RebuildFault.TheVariants.{NotRepairable, Memory}
 

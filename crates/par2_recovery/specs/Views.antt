@@ -4,7 +4,7 @@ use Rattle.par2_spec.specs.Folders.{File}
 use Rattle.par2_spec.specs.Volumes.{record_of}
 use Rattle.par2_packets.specs.Views.{file_record_of}
 use Rattle.par2_packets.specs.declared.record.FileRecord.{FileRecord}
-use Rattle.par2_matrix.specs.Echelon.{list_at}
+use Rattle.par2_spec.specs.Sums.{list_at}
 use Rattle.par2_recovery.specs.declared.set_record.SetRecord.{SetRecord}
 pub use Rattle.par2_digests.specs.Texts.{texts_of}
 

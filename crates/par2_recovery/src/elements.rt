@@ -2,7 +2,8 @@
 
 ghost use Rattle.std.specs.Prelude.{◌≡◌, ℕ, ◌+◌, ◌*◌, ◌%◌, ◌<◌, length, IfOk};
 ghost use Rattle.par2_spec.specs.Slices.{word};
-ghost use Rattle.par2_matrix.specs.Echelon.{WordPut, Spells, list_at, lists_of};
+ghost use Rattle.par2_matrix.specs.Echelon.{WordPut, Spells};
+ghost use Rattle.par2_spec.specs.Sums.{list_at, lists_of};
 ghost use Rattle.par2_recovery.specs.Elements.{AreRows, IsUnit};
 
 use std::alloc::{AllocError, Global};

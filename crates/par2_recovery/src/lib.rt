@@ -12,6 +12,6 @@ mod set_record;
 
 pub use exponents::rank;
 pub use file_record::file_record_by_md5;
-pub use rebuild_slices::{RebuildFault, Survivors, rebuild};
+pub use rebuild_slices::{RebuildFault, Survivors, rebuild, rebuild_lost};
 pub use recovery::{recovery_slice, recovery_slices};
 pub use set_record::{SetRecord, file_records};

@@ -2,7 +2,7 @@
 
 ghost use Rattle.std.specs.Prelude.{◌≡◌, ℕ, ◌+◌, ◌*◌, ◌^◌, ◌<◌, ◌≤◌, length, map, slice_index, IfOk};
 ghost use Rattle.par2_gf16.specs.Steps.{AddsWithin};
-ghost use Rattle.par2_matrix.specs.Echelon.{OneChanged, list_at, lists_of};
+ghost use Rattle.par2_spec.specs.Sums.{OneChanged, list_at, lists_of};
 ghost use Rattle.par2_recovery.specs.Products.{AddsSource, Adds, AreBytes};
 ghost use Rattle.par2_recovery.specs.Views.{texts_of};
 
@@ -162,7 +162,7 @@ pub(crate) fn fit_texts(texts: &[&[u8]])
 
 // What the type says of each byte, for proofs.
 #[inline(always)]
-fn fit_bytes(bytes: &[u8])
+pub(crate) fn fit_bytes(bytes: &[u8])
     ensures { (k : ℕ) → slice_index bytes.now k < 2 ^ 8 }
 {
     let _ = bytes.len();

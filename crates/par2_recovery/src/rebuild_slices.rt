@@ -1,18 +1,19 @@
 //! Lost slices are rebuilt.
 
-ghost use Rattle.std.specs.Prelude.{◌≡◌, ℕ, ◌*◌, ◌%◌, ◌<◌, ◌≤◌, length, map, slice_index_or, is_none, IfOk, MatchResult, IfErr, IsOk, None};
-ghost use Rattle.std.specs.List.{AllByRecursion};
+ghost use Rattle.std.specs.Prelude.{◌≡◌, ℕ, ◌*◌, ◌%◌, ◌<◌, ◌≤◌, length, map, slice_index_or, is_none, IfOk, MatchResult, IfErr, IsOk, IsTrue, None};
+ghost use Rattle.std.specs.List.{All, AllByRecursion};
 ghost use Rattle.std.specs.List.Sorted.{IsStrictlyIncreasing};
 ghost use Rattle.par2_spec.specs.Search.{lost};
 ghost use Rattle.par2_spec.specs.Rank.{IsRepairable, IsRebuilt, kept_slices};
-ghost use Rattle.par2_matrix.specs.Echelon.{list_at, lists_of};
+ghost use Rattle.par2_spec.specs.Sums.{list_at, lists_of};
 ghost use Rattle.par2_recovery.specs.Products.{AreBytes};
 ghost use Rattle.par2_recovery.specs.Views.{texts_of};
 ghost use Rattle.par2_recovery.specs.Survivors.{known_of, recovered_of, exponents_of, with_lost_slices, lost_from, known_from, known_alone, IsTrueFault};
 ghost use Rattle.par2_recovery.specs.Inverses.{AreCombined};
+ghost use Rattle.par2_recovery.specs.Rebuilding.{IsKnown, CanRebuild, known_among, AreRebuilt, AreEnough};
 
 use crate::inverse::{Elimination, combined, eliminate};
-use crate::products::fit_texts;
+use crate::products::{fit_bytes, fit_texts};
 use par2_gf16::Gf;
 use std::alloc::{AllocError, Global};
 
@@ -183,4 +184,33 @@ pub fn rebuild(alloc: Global, gf: &Gf, survivors: &Survivors) -> Result<Vec<Vec<
         survivors.now.known.items)) (exponents_of survivors.now.recovery.items)) }
 {
     solve(alloc, gf, survivors)?
+}
+
+// Whether no slice is lost.
+fn all_known(slices: &[Option<&[u8]>]) -> bool
+    ensures { IsTrue result → All IsKnown slices.now }
+{
+    for slice in slices {
+        let Some(bytes) = slice else {
+            return false;
+        };
+        fit_bytes(bytes);
+    }
+    true
+}
+
+/// What `rebuild` answers. The tables of the field are made only where a slice is lost.
+pub fn rebuild_lost(alloc: Global, survivors: &Survivors) -> Result<Vec<Vec<u8>>, RebuildFault>
+    requires { CanRebuild survivors.now }
+    ensures rebuilt { let known = known_among survivors.now in
+        IfOk result (λ texts. AreRebuilt survivors.now (with_lost_slices known (lists_of
+        texts.items))) }
+    ensures enough { IsOk result → AreEnough survivors.now }
+    ensures refused { let exponents = exponents_of survivors.now.recovery.items in
+        IfErr result (IsTrueFault (lost (known_among survivors.now)) exponents) }
+{
+    if all_known(&survivors.known) {
+        return Ok(Vec::new(alloc));
+    }
+    rebuild(alloc, &Gf::new(alloc)?, survivors)
 }

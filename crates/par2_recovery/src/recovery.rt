@@ -8,7 +8,7 @@ ghost use Rattle.par2_spec.specs.Slices as spec;
 ghost use Rattle.par2_spec.specs.Volumes.{all_slices};
 ghost use Rattle.par2_spec.specs.Commands.{files_of};
 ghost use Rattle.par2_spec.specs.Recovery.{recovery, coefficients};
-ghost use Rattle.par2_matrix.specs.Echelon.{lists_of};
+ghost use Rattle.par2_spec.specs.Sums.{lists_of};
 ghost use Rattle.par2_recovery.specs.Products.{AreBytes};
 ghost use Rattle.par2_recovery.specs.Views.{texts_of, names_of, AreBlank};
 

@@ -1,5 +1,4 @@
 mod Cutting
-mod Found
 mod Merging
 mod Rebuilt
 mod Trees

@@ -13,7 +13,8 @@ use Rattle.par2_recovery.specs.declared.rebuild_slices.RebuildFault.{RebuildFaul
 use Rattle.par2_recovery.specs.declared.rebuild_slices.RebuildFault.TheVariants as why
 use Rattle.par2_recovery.specs.declared.rebuild_slices.Survivors as code
 use Rattle.par2_restore.specs.Restoring.{undetermined_fault}
-use Rattle.par2_restore.specs.Survivors.{known_among, AreSurvivors, AreRebuilt, AreEnough, fault_of}
+use Rattle.par2_restore.specs.Survivors.{AreSurvivors, fault_of}
+use Rattle.par2_recovery.specs.Rebuilding.{known_among, AreRebuilt, AreEnough}
 
 pub rebuilt_for : (set : ParSet) (known : List (Option (List ℕ))) (found : code.Survivors) (slices : List (List ℕ)) → AreSurvivors set known found → AreRebuilt found slices
     → IsRebuilt set.slice_size known (kept_slices (lost known) (survivors set) (entries set.recovery)) slices

@@ -19,8 +19,3 @@ windows_and_texts [] texts = []
 windows_and_texts (Some window ∷ windows) texts = window.now ∷ windows_and_texts windows texts
 windows_and_texts (None ∷ windows) [] = [] ∷ windows_and_texts windows []
 windows_and_texts (None ∷ windows) (text ∷ texts) = text ∷ windows_and_texts windows texts
-
--- a window that is there, of bytes
-abbrev pub IsFound : Window → Type 0
-IsFound None = ⊥
-IsFound (Some window) = (k : ℕ) → slice_index window.now k < 2 ^ 8

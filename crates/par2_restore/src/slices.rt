@@ -9,11 +9,11 @@ ghost use Rattle.par2_spec.specs.Slices.{padded};
 ghost use Rattle.par2_search.specs.Texts.{texts_of};
 ghost use Rattle.par2_recovery.specs.Survivors.{exponents_of, with_lost_slices, IsTrueFault};
 ghost use Rattle.par2_restore.specs.Restoring.{known_in, undetermined_fault};
-ghost use Rattle.par2_restore.specs.Survivors.{known_among, AreSurvivors, AreRebuilt, AreEnough, CanRebuild, fault_of};
-ghost use Rattle.par2_restore.specs.Texts.{windows_and_texts, slices_of, text_of, IsFound};
+ghost use Rattle.par2_restore.specs.Survivors.{AreSurvivors, fault_of};
+ghost use Rattle.par2_recovery.specs.Rebuilding.{known_among, AreRebuilt, AreEnough, CanRebuild};
+ghost use Rattle.par2_restore.specs.Texts.{windows_and_texts, slices_of, text_of};
 
-use par2_gf16::Gf;
-use par2_recovery::{RebuildFault, Survivors, rebuild};
+use par2_recovery::{RebuildFault, Survivors, rebuild_lost};
 use par2_search::found_windows;
 use par2_sets::ParSet;
 use par2_slices::Pair;
@@ -172,43 +172,6 @@ fn fault_of(fault: RebuildFault) -> Fault
     }
 }
 
-// What the type says of each byte, for proofs.
-#[inline(always)]
-fn fit_bytes(bytes: &[u8])
-    ensures { (k : ℕ) → slice_index bytes.now k < 2 ^ 8 }
-{
-    let _ = bytes.len();
-}
-
-// Whether no slice is lost.
-fn are_found(windows: &[Option<&[u8]>]) -> bool
-    ensures { IsTrue result → All IsFound windows.now }
-{
-    for window in windows {
-        let Some(bytes) = window else {
-            return false;
-        };
-        fit_bytes(bytes);
-    }
-    true
-}
-
-// The lost slices in order. No table is made where none is lost.
-fn lost_slices(alloc: Global, survivors: &Survivors) -> Result<Vec<Vec<u8>>, RebuildFault>
-    requires { CanRebuild survivors.now }
-    ensures rebuilt { let known = known_among survivors.now in
-        IfOk result (λ texts. AreRebuilt survivors.now (with_lost_slices known (lists_of
-        texts.items))) }
-    ensures enough { IsOk result → AreEnough survivors.now }
-    ensures refused { let exponents = exponents_of survivors.now.recovery.items in
-        IfErr result (IsTrueFault (lost (known_among survivors.now)) exponents) }
-{
-    if are_found(&survivors.known) {
-        return Ok(Vec::new(alloc));
-    }
-    rebuild(alloc, &Gf::new(alloc)?, survivors)
-}
-
 // All slices by what survives of them.
 fn slices_by<'a>(alloc: Global, survivors: &Survivors<'a>) -> Result<Slices<'a>, RebuildFault>
     requires { CanRebuild survivors.now }
@@ -217,7 +180,7 @@ fn slices_by<'a>(alloc: Global, survivors: &Survivors<'a>) -> Result<Slices<'a>,
     ensures refused { let exponents = exponents_of survivors.now.recovery.items in
         IfErr result (IsTrueFault (lost (known_among survivors.now)) exponents) }
 {
-    let rebuilt = lost_slices(alloc, survivors)?;
+    let rebuilt = rebuild_lost(alloc, survivors)?;
     Ok(Slices {
         slice_size: survivors.slice_size,
         slices: merged(alloc, &survivors.known, rebuilt)?,

@@ -30,7 +30,7 @@ no_low_numbered low name n h other small out =
     ∙ or_from _ _ out (or_from _ _ (ne_eqb 46 low other) (no_low low n h small))
 
 -- what is dotless and stands at the front of a numbered name stands at the front of the name
-front_of_name : (front name rest : List ℕ) → is_dotless front ≡ true → starts_with nat_eq (name ++ 46 ∷ rest) front ≡ true → starts_with nat_eq name front ≡ true
+pub front_of_name : (front name rest : List ℕ) → is_dotless front ≡ true → starts_with nat_eq (name ++ 46 ∷ rest) front ≡ true → starts_with nat_eq name front ≡ true
 front_of_name [] name rest h k = refl
 front_of_name (b ∷ front) [] rest h k =
     absurd (clash (and_parts (eqb b 46) _ k).0 (false_from_not (b == 46) (and_parts (not (b == 46)) _ h).0))
@@ -45,7 +45,7 @@ front_of_numbered front (c ∷ name) rest h l k =
     let r = and_parts (eqb 46 c) (starts_with nat_eq (name ++ 46 ∷ rest) front) k in
     and_from _ _ r.0 (front_of_name front name rest h r.1)
 
-longer : (name other : List ℕ) → length other < length name → bytes_eq name other ≡ false
+pub longer : (name other : List ℕ) → length other < length name → bytes_eq name other ≡ false
 longer name other h = other_name name other (λ e. let same : length name ≡ length other = ap length e in absurd (omega (arith, same, h)))
 
 -- the tests of a name, one by one

@@ -8,11 +8,7 @@ use Rattle.std.proofs.lemmas.Nat.{xor_comm, xor_shr, xor_block, pow_pos, shr_spl
 use Rattle.std.proofs.lemmas.List.{length_push}
 use Rattle.std.proofs.lemmas.Nat.Bits.{bit_at_lowest, bit_at_xor}
 use Rattle.par2_spec.specs.Checksums.{crc_step, crc_steps, crc_byte, crc32}
-
--- the middle two of four change places
-pub regrouped : (p q r s : ℕ) → bit_xor (bit_xor p q) (bit_xor r s) ≡ bit_xor (bit_xor p r) (bit_xor q s)
-regrouped p q r s =
-    xor_assoc p q (bit_xor r s) ∙ ap (bit_xor p) (sym (xor_assoc q r s) ∙ ap (λ x. bit_xor x s) (xor_comm q r) ∙ xor_assoc r q s) ∙ sym (xor_assoc p r (bit_xor q s))
+use Rattle.par2_spec.proofs.FieldBits.{xor_middle}
 
 lowest_of_xor : (a b : ℕ) → bit_xor a b % 2 ≡ (a % 2 + b % 2) % 2
 lowest_of_xor a b =
@@ -37,7 +33,7 @@ pub crc_step-xor : (a b : ℕ) → crc_step (bit_xor a b) ≡ bit_xor (crc_step 
 crc_step-xor a b =
     ap (λ t. bit_xor t (bit_xor a b % 2 * 0xEDB88320)) (xor_shr a b 1)
     ∙ ap (bit_xor (bit_xor (a / 2) (b / 2))) (ap (λ t. t * 0xEDB88320) (lowest_of_xor a b) ∙ either_bit (a % 2) (b % 2) 0xEDB88320 (below_two a) (below_two b))
-    ∙ regrouped (a / 2) (b / 2) (a % 2 * 0xEDB88320) (b % 2 * 0xEDB88320)
+    ∙ xor_middle (a / 2) (b / 2) (a % 2 * 0xEDB88320) (b % 2 * 0xEDB88320)
 
 pub crc_steps-xor : (n a b : ℕ) → crc_steps n (bit_xor a b) ≡ bit_xor (crc_steps n a) (crc_steps n b)
 crc_steps-xor zero a b = refl

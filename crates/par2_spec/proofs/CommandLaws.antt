@@ -15,7 +15,7 @@ use Rattle.par2_spec.specs.Plans.{create_changes}
 use Rattle.par2_spec.proofs.FolderLaws.{same_folder}
 use Rattle.std.specs.FinMap as map_of
 
-put_in : (b : Bool) (folder : Folder) (name bytes : List ℕ) → effect folder (if b then Replace name bytes else Write name bytes) ≡ map_of.insert folder name bytes
+pub put_in : (b : Bool) (folder : Folder) (name bytes : List ℕ) → effect folder (if b then Replace name bytes else Write name bytes) ≡ map_of.insert folder name bytes
 unfolding effect
 put_in true folder name bytes = refl
 put_in false folder name bytes = refl

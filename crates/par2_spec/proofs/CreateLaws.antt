@@ -18,6 +18,7 @@ use Rattle.par2_spec.specs.Commands.{CreateArgs, outputs_of}
 use Rattle.par2_spec.specs.Plans.{create_changes}
 use Rattle.par2_spec.proofs.NamesLaws.{AreDistinct, itself, other_name, not_first, distinct_some}
 use Rattle.par2_spec.proofs.MovesLaws.{has_put}
+use Rattle.par2_spec.proofs.CommandLaws.{put_in}
 
 -- ---- the names of the volumes
 
@@ -115,11 +116,6 @@ outputs_once base s f c files =
 
 -- ---- the changes
 
-put_or_replaced : (b : Bool) (folder : Folder) (name bytes : List ℕ) → effect folder (if b then Replace name bytes else Write name bytes) ≡ map_of.insert folder name bytes
-unfolding effect
-put_or_replaced true folder name bytes = refl
-put_or_replaced false folder name bytes = refl
-
 takes_put : (b : Bool) (folder : Folder) (name bytes : List ℕ) → has folder name ≡ b → is_applicable folder (if b then Replace name bytes else Write name bytes) ≡ true
 unfolding is_applicable
 takes_put true folder name bytes h = h
@@ -132,7 +128,7 @@ unfolding are_applicable
 puts_apply test folder [] d h = refl
 puts_apply test folder (file ∷ files) d h =
     and_from _ _ (takes_put (test file.0) folder file.0 file.1 (h file.0 (or_left _ _ (itself file.0))))
-    (ap (λ f. are_applicable f (map (λ other. if test other.0 then Replace other.0 other.1 else Write other.0 other.1) files)) (put_or_replaced (test file.0) folder file.0 file.1)
+    (ap (λ f. are_applicable f (map (λ other. if test other.0 then Replace other.0 other.1 else Write other.0 other.1) files)) (put_in (test file.0) folder file.0 file.1)
     ∙ puts_apply test (map_of.insert folder file.0 file.1) files d.1 (λ q i.
     has_put folder file.0 file.1 q ∙ ap (λ b. b || has folder q) (not_first file.0 (map (λ other. other.0) files) d.0 q i) ∙ h q (or_right _ _ i)))
 

@@ -1,7 +1,6 @@
 -- Slices that agree with the known ones and with the recovery slices of the kept exponents always exist.
 use Rattle.std.proofs.Common.{cond, ◌≡◌, ℕ, zero, suc, ◌+◌, ◌*◌, ◌/◌, ◌^◌, ◌<◌, ◌≤◌, List, [], ◌∷◌, length, map, drop, get_or, refl, sym, ap, ap₂, ◌∙◌, subst, true, false, Bool, inl, inr, arith}
-use Rattle.std.specs.Prelude.{bit_xor, flat_map, filter, ◌==◌, replicate, slice_index, Option, Some, None, is_some, unwrap_or}
-use Rattle.std.specs.Int.{w16, to_le_bytes}
+use Rattle.std.specs.Prelude.{bit_xor, filter, ◌==◌, replicate, slice_index, Option, Some, None, is_some, unwrap_or}
 use Rattle.std.specs.Int.Bits.{xor_assoc, xor_self, xor_zero_r}
 use Rattle.std.specs.List.{range_with_len, list_any, AllByRecursion, AllZip, Contains}
 use Rattle.std.specs.Option.{ForSome}
@@ -18,8 +17,9 @@ use Rattle.par2_spec.proofs.FieldProducts.{product_linear_right, product-lt, pro
 use Rattle.par2_spec.proofs.FieldOrder.{product-zero, has_inverse}
 use Rattle.par2_spec.proofs.NamesLaws.{clash, false_true}
 use Rattle.par2_spec.proofs.RankLaws.{kept-iff, counts, counts-iff}
-use Rattle.par2_spec.proofs.OthersLaws.{word_behind, another_agrees}
-use Rattle.par2_spec.proofs.UniqueLaws.{sums, AreElements, dot-sums, dot-lt, coefficients_are, sums-elements, lost_from, whole_row, word-lt, words_are, same_words, contains_later, AreTexts}
+use Rattle.par2_spec.proofs.OthersLaws.{another_agrees}
+use Rattle.par2_spec.proofs.WordLaws.{byte_at, word-lt, spelled, length-spelled, bytes-spelled, word_of}
+use Rattle.par2_spec.proofs.UniqueLaws.{sums, AreElements, dot-sums, dot-lt, coefficients_are, sums-elements, lost_from, whole_row, words_are, same_words, contains_later, AreTexts}
 
 -- ---- a vector times an element
 
@@ -150,31 +150,6 @@ solved is es goal small (suc m) = step (counts (kept is es) m) refl (solved is e
           ];
         }
 
--- ---- texts of given words
-
--- the text whose words from place a on are these
-abbrev spelled : (ℕ → ℕ) → ℕ → ℕ → List ℕ
-spelled f a n = flat_map (λ p. to_le_bytes w16 (f p)) (range_with_len a n)
-
-length-spelled : (f : ℕ → ℕ) (a n : ℕ) → length (spelled f a n) ≡ 2 * n
-length-spelled f a zero = refl
-length-spelled f a (suc n) = let rest : length (spelled f (a + 1) n) ≡ 2 * n = length-spelled f (a + 1) n in omega (arith, rest)
-
-bytes-spelled : (f : ℕ → ℕ) (a n : ℕ) → AllByRecursion (λ b. b < 256) (spelled f a n)
-bytes-spelled f a zero = tt
-bytes-spelled f a (suc n) = (omega arith, (omega arith, bytes-spelled f (a + 1) n))
-
-word-spelled : (f : ℕ → ℕ) → ((p : ℕ) → f p < 2 ^ 16) → (a n p : ℕ) → p < n → word p (spelled f a n) ≡ f (a + p)
-word-spelled f small a zero p lt = absurd (omega (arith, lt))
-word-spelled f small a (suc n) zero lt =
-    let low : f a < 2 ^ 16 = small a in
-    let here : word 0 (spelled f a (suc n)) ≡ f a = omega (arith, low) in
-    here ∙ ap f (omega arith)
-word-spelled f small a (suc n) (suc p) lt = word_behind p _ _ (spelled f (a + 1) n) ∙ word-spelled f small (a + 1) n p (omega (arith, lt)) ∙ ap f (omega arith)
-
-word_of : (f : ℕ → ℕ) → ((p : ℕ) → f p < 2 ^ 16) → (n p : ℕ) → p < n → word p (spelled f 0 n) ≡ f p
-word_of f small n p lt = let e : 0 + p ≡ p = omega arith in word-spelled f small 0 n p lt ∙ ap f e
-
 -- ---- slices with the known ones and these texts at the lost places
 
 -- the j-th lost slice and those behind it get the texts from the j-th on
@@ -237,7 +212,7 @@ element_at (x ∷ v) (suc j) h = element_at v j h.1
 of_known-lt : (e i : ℕ) (ks : List (Option (List ℕ))) (p : ℕ) → AllByRecursion (λ slice. ForSome slice AreBytes) ks → of_known e i ks p < 2 ^ 16
 of_known-lt e i [] p h = omega arith
 of_known-lt e i (Some y ∷ ks) p h =
-    xor_lt 16 _ _ (product-lt (coefficient e i) (word p y) (coefficients_are e (i ∷ [])).0 (word-lt p y (h.0 y refl))) (of_known-lt e (i + 1) ks p h.1)
+    xor_lt 16 _ _ (product-lt (coefficient e i) (word p y) (coefficients_are e (i ∷ [])).0 (word-lt y p (byte_at y (h.0 y refl)))) (of_known-lt e (i + 1) ks p h.1)
 of_known-lt e i (None ∷ ks) p h = of_known-lt e (i + 1) ks p h.1
 
 contained : (xs : List ℕ) (q : ℕ) → list_any (λ x. x == q) xs ≡ true → Contains xs q
@@ -280,7 +255,7 @@ agreeing_exist s m known rs text survive = (
     goal p e = bit_xor (word p (text e)) (of_known e 0 known p)
 
     small : (p e : ℕ) → goal p e < 2 ^ 16
-    small p e = xor_lt 16 _ _ (word-lt p (text e) (survive.bytes e)) (of_known-lt e 0 known p survive.known_bytes)
+    small p e = xor_lt 16 _ _ (word-lt (text e) p (byte_at (text e) (survive.bytes e))) (of_known-lt e 0 known p survive.known_bytes)
 
     at : (p : ℕ) → IsSolved (lost known) es (goal p) m
     at p = solved (lost known) es (goal p) (small p) m

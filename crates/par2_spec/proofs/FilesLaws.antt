@@ -41,7 +41,7 @@ at_range P f a (suc n) o h low high = elim (cases_le a o low) as (λ _. P (f o))
     cases_le (suc b) zero l = absurd (omega (arith, l))
     cases_le (suc b) (suc y) l = elim (cases_le b y (omega (arith, l))) as (λ _. (suc b ≡ suc y) ⊎ (suc b < suc y)) [ inl e ↦ inl (ap suc e) | inr s ↦ inr (omega (arith, s)) ]
 
-at_name : (P : List ℕ → Type 0) (names : List (List ℕ)) (q : List ℕ) → AllByRecursion P names → is_among names q ≡ true → P q
+pub at_name : (P : List ℕ → Type 0) (names : List (List ℕ)) (q : List ℕ) → AllByRecursion P names → is_among names q ≡ true → P q
 at_name P [] q h i = absurd (false_true i)
 at_name P (x ∷ names) q h i = elim (or_cases (bytes_eq q x) (is_among names q) i) as (λ _. P q) [
   | inl here ↦ subst P (sym (same_name q x here)) h.0
@@ -163,11 +163,11 @@ all_both : {A : Type 0} (P Q : A → Type 0) (xs : List A) → AllByRecursion P 
 all_both P Q [] h k = tt
 all_both P Q (x ∷ xs) h k = ((h.0, k.0), all_both P Q xs h.1 k.1)
 
-all_unmap : {A B : Type 0} (P : B → Type 0) (g : A → B) (xs : List A) → AllByRecursion P (map g xs) → AllByRecursion (λ x. P (g x)) xs
+pub all_unmap : {A B : Type 0} (P : B → Type 0) (g : A → B) (xs : List A) → AllByRecursion P (map g xs) → AllByRecursion (λ x. P (g x)) xs
 all_unmap P g [] h = tt
 all_unmap P g (x ∷ xs) h = (h.0, all_unmap P g xs h.1)
 
-filter-map : {A B : Type 0} (p : B → Bool) (g : A → B) (xs : List A) → filter p (map g xs) ≡ map g (filter (λ x. p (g x)) xs)
+pub filter-map : {A B : Type 0} (p : B → Bool) (g : A → B) (xs : List A) → filter p (map g xs) ≡ map g (filter (λ x. p (g x)) xs)
 filter-map p g [] = refl
 filter-map {A = A} p g (x ∷ xs) = step (p (g x)) (filter (λ y. p (g y)) xs) (filter-map p g xs)
   where

@@ -5,6 +5,7 @@ pub mod FieldOrder
 pub mod FieldSteps
 pub mod FieldConstants
 pub mod FieldRows
+pub mod SumLaws
 pub mod FolderLaws
 pub mod CommandLaws
 pub mod NamesLaws
@@ -18,6 +19,8 @@ pub mod ReadLaws
 pub mod RepairLaws
 pub mod ReportLaws
 pub mod ListsLaws
+pub mod SliceLaws
+pub mod WordLaws
 pub mod ChecksumLaws
 pub mod RankLaws
 pub mod SessionLaws
@@ -27,6 +30,7 @@ pub mod WrittenBodies
 pub mod WrittenNames
 pub mod AcceptedCommands
 pub mod StopLaws
+pub mod WritingLaws
 pub mod WrittenSets
 pub mod RowsSlices
 pub mod RowsVolumes

@@ -14,6 +14,7 @@ use Rattle.par2_spec.specs.Rank.{IsVector, Kills, IsRepairable, Agrees, AnotherA
 use Rattle.par2_spec.specs.Search.{lost}
 use Rattle.par2_spec.proofs.NamesLaws.{false_true}
 use Rattle.par2_spec.proofs.RankLaws.{killed_vector}
+use Rattle.par2_spec.proofs.WordLaws.{word_behind}
 use Rattle.par2_spec.proofs.UniqueLaws.{sums, AreElements, AreTexts, IsZeroAtKnown, at_lost, lost_from, dot-at_lost, dot-sums, whole_row}
 
 -- ---- a vector over the lost slices, among all slices
@@ -99,12 +100,6 @@ first_word-marked : (x : ℕ) (text : List ℕ) → 2 ≤ length text → word 0
 first_word-marked x [] h = absurd (omega (arith, h))
 first_word-marked x (a ∷ []) h = absurd (omega (arith, h))
 first_word-marked x (a ∷ b ∷ text) h = both_parts (bit_xor x (a + 256 * b))
-
-pub word_behind : (p a b : ℕ) (text : List ℕ) → word (suc p) (a ∷ b ∷ text) ≡ word p text
-word_behind p a b text =
-    let low : 2 * suc p ≡ suc (suc (2 * p)) = omega arith in
-    let high : 2 * suc p + 1 ≡ suc (suc (2 * p + 1)) = omega arith in
-    ap₂ (λ i j. slice_index (a ∷ b ∷ text) i + 256 * slice_index (a ∷ b ∷ text) j) low high
 
 later_word-marked : (p x : ℕ) (text : List ℕ) → word (suc p) (marked x text) ≡ word (suc p) text
 later_word-marked p x [] = refl

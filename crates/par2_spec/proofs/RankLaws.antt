@@ -31,7 +31,7 @@ all_from_test : {A : Type 0} (p : A → Bool) (xs : List A) → list_all p xs �
 all_from_test p [] h = tt
 all_from_test p (x ∷ xs) h = let r = and_parts (p x) (list_all p xs) h in (r.0, all_from_test p xs r.1)
 
-test_from_all : {A : Type 0} (p : A → Bool) (xs : List A) → AllByRecursion (λ x. p x ≡ true) xs → list_all p xs ≡ true
+pub test_from_all : {A : Type 0} (p : A → Bool) (xs : List A) → AllByRecursion (λ x. p x ≡ true) xs → list_all p xs ≡ true
 test_from_all p [] h = refl
 test_from_all p (x ∷ xs) h = and_from _ _ h.0 (test_from_all p xs h.1)
 

@@ -42,7 +42,7 @@ among-distinct (x ∷ xs) q =
     step false false true k = refl
     step false false false k = refl
 
-length-filter-le : (p : List ℕ → Bool) (xs : List (List ℕ)) → length (filter p xs) ≤ length xs
+pub length-filter-le : (p : List ℕ → Bool) (xs : List (List ℕ)) → length (filter p xs) ≤ length xs
 length-filter-le p [] = omega arith
 length-filter-le p (x ∷ xs) = step (p x) (filter p xs) (length-filter-le p xs)
   where
@@ -64,7 +64,7 @@ filter_full p (x ∷ xs) e q h =
     step true ys h k = (refl, omega (arith, k))
     step false ys h k = absurd (omega (arith, h, k))
 
-length-distinct-le : (xs : List (List ℕ)) → length (distinct xs) ≤ length xs
+pub length-distinct-le : (xs : List (List ℕ)) → length (distinct xs) ≤ length xs
 length-distinct-le [] = omega arith
 length-distinct-le (x ∷ xs) = omega (arith, length-filter-le (λ other. not (bytes_eq x other)) (distinct xs), length-distinct-le xs)
 
@@ -90,11 +90,11 @@ abbrev value_or : {A : Type 0} → A → Result A Fault → A
 value_or d (Ok a) = a
 value_or d (Err e) = d
 
-took : {A B : Type 0} (r : Result A Fault) (f : A → Result B Fault) (b : B) → (r >>= f) ≡ Ok b → (a : A) × (r ≡ Ok a) × (f a ≡ Ok b)
+pub took : {A B : Type 0} (r : Result A Fault) (f : A → Result B Fault) (b : B) → (r >>= f) ≡ Ok b → (a : A) × (r ≡ Ok a) × (f a ≡ Ok b)
 took (Ok a) f b h = (a, refl, h)
 took (Err e) f b h = absurd (false_true (ap came_out h))
 
-was_some : {A : Type 0} (o : Option A) (e : Fault) (a : A) → ok_or o e ≡ Ok a → o ≡ Some a
+pub was_some : {A : Type 0} (o : Option A) (e : Fault) (a : A) → ok_or o e ≡ Ok a → o ≡ Some a
 was_some None e a h = absurd (false_true (ap came_out h))
 was_some (Some x) e a h = ap (λ r. Some (value_or x r)) h
 
@@ -102,7 +102,7 @@ passed : (b : Bool) (e : Fault) (c : Bool) → unless b e ≡ Ok c → b ≡ tru
 passed true e c h = refl
 passed false e c h = absurd (false_true (ap came_out h))
 
-mapped : {A B : Type 0} (f : A → B) (o : Option A) (b : B) → option_map f o ≡ Some b → (a : A) × (o ≡ Some a) × (f a ≡ b)
+pub mapped : {A B : Type 0} (f : A → B) (o : Option A) (b : B) → option_map f o ≡ Some b → (a : A) × (o ≡ Some a) × (f a ≡ b)
 mapped f None b h = absurd (false_true (ap is_some h))
 mapped f (Some a) b h = (a, refl, ap (λ p. unwrap_or p (f a)) h)
 

@@ -25,7 +25,7 @@ use Rattle.par2_spec.proofs.ReadLaws.{each_there}
 use Rattle.par2_spec.proofs.SearchLaws.{names_of_pairs, taken_was_free, taken_once}
 
 -- two tests that imply each other
-same_tests : (a b : Bool) → (a ≡ true → b ≡ true) → (b ≡ true → a ≡ true) → a ≡ b
+pub same_tests : (a b : Bool) → (a ≡ true → b ≡ true) → (b ≡ true → a ≡ true) → a ≡ b
 same_tests true b h k = sym (h refl)
 same_tests false true h k = k refl
 same_tests false false h k = refl

@@ -86,7 +86,7 @@ states_in_order p h (t ∷ ts) given d e = step (p t) given e (λ rest l. states
     step false given e later = ap (λ states. Complete ∷ states) (later given e)
 
 -- as many answers as targets
-matched_count : (folder : Folder) (s : ℕ) (free : List (List ℕ)) (ts : List Target) → length (matched folder s free ts) ≡ length ts
+pub matched_count : (folder : Folder) (s : ℕ) (free : List (List ℕ)) (ts : List Target) → length (matched folder s free ts) ≡ length ts
 matched_count folder s free [] = refl
 matched_count folder s free (t ∷ ts) =
     ap suc (matched_count folder s (filter (λ name. not (is_among (option_to_list (find (λ name. is_intact s t (bytes_of folder name)) free)) name)) free) ts)

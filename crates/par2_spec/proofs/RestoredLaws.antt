@@ -51,7 +51,7 @@ bytes-zeros : (n : ℕ) → AreBytes (replicate n 0)
 bytes-zeros zero = tt
 bytes-zeros (suc n) = (omega arith, bytes-zeros n)
 
-bytes-slice_at : (s : ℕ) (text : List ℕ) (j : ℕ) → AreBytes text → AreBytes (slice_at s text j)
+pub bytes-slice_at : (s : ℕ) (text : List ℕ) (j : ℕ) → AreBytes text → AreBytes (slice_at s text j)
 bytes-slice_at s text j h = all-append (λ b. b < 256) (take s (drop (j * s) text)) (replicate (s - length (take s (drop (j * s) text))) 0) (bytes-take s (drop (j * s) text) (bytes-drop (j * s) text h)) (bytes-zeros _)
 
 of_range : {A : Type 0} (P : A → Type 0) (f : ℕ → A) → ((j : ℕ) → P (f j)) → (a n : ℕ) → AllByRecursion P (map f (range_with_len a n))

@@ -30,7 +30,7 @@ err_or_else : {A E : Type 0} → E → Result A E → E
 err_or_else e (Ok x) = e
 err_or_else e (Err x) = x
 
-same_ok : {A E : Type 0} (x y : A) → ◌≡◌ {A = Result A E} (Ok x) (Ok y) → x ≡ y
+pub same_ok : {A E : Type 0} (x y : A) → ◌≡◌ {A = Result A E} (Ok x) (Ok y) → x ≡ y
 unfolding ok_or_else
 same_ok x y e = ap (ok_or_else x) e
 
@@ -38,7 +38,7 @@ same_err : {A E : Type 0} (x y : E) → ◌≡◌ {A = Result A E} (Err x) (Err 
 unfolding err_or_else
 same_err x y e = ap (err_or_else x) e
 
-ok_no_err : {A E : Type 0} (x : A) (y : E) → ◌≡◌ {A = Result A E} (Ok x) (Err y) → ⊥
+pub ok_no_err : {A E : Type 0} (x : A) (y : E) → ◌≡◌ {A = Result A E} (Ok x) (Err y) → ⊥
 unfolding is_ok
 ok_no_err x y e = false_true (sym (ap is_ok e))
 
@@ -271,6 +271,9 @@ roomier : (old new : FolderState) → new.files ≡ old.files → old.vacant ≤
 roomier old new e h =
     let more : old.vacant + (new.vacant - old.vacant) ≡ new.vacant = omega (arith, h) in
     λ i. record { files = sym e i; vacant = more i }
+
+pub same_session : (old new : KeptSession) → OnlyGrew old new → session_of_kept new ≡ session_of_kept old
+same_session old new grew = λ i. record { folder = grew.files i; undos = grew.undos i; redos = grew.redos i }
 
 pub grown_can_walk : (old new : KeptSession) → CanWalk old → OnlyGrew old new → CanWalk new
 grown_can_walk old new c g =

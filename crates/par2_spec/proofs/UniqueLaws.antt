@@ -1,5 +1,5 @@
 -- Where the lost slices are determined, one list alone agrees.
-use Rattle.std.proofs.Common.{◌≡◌, ℕ, zero, suc, ◌+◌, ◌*◌, ◌/◌, ◌%◌, ◌^◌, ◌<◌, ◌≤◌, List, [], ◌∷◌, length, map, take, drop, get_or, refl, sym, ap, ◌∙◌, subst, cond, true, false, Bool, arith, inl, inr}
+use Rattle.std.proofs.Common.{◌≡◌, ℕ, zero, suc, ◌+◌, ◌/◌, ◌%◌, ◌^◌, ◌<◌, ◌≤◌, List, [], ◌∷◌, length, map, take, drop, get_or, refl, sym, ap, ◌∙◌, subst, cond, true, false, Bool, arith, inl, inr}
 use Rattle.std.specs.Prelude.{bit_xor, flat_map, filter, slice_index, ◌==◌, Option, Some, None, is_none}
 use Rattle.std.specs.Int.{w16, to_le_bytes, from_le_bytes}
 use Rattle.std.specs.Int.Bits.{xor_assoc, xor_self, xor_zero_r}
@@ -7,7 +7,7 @@ use Rattle.std.specs.List.{range_with_len, enumerate_from, list_any, AllByRecurs
 use Rattle.std.specs.Option.{ForSome}
 use Rattle.std.specs.FinMap as map_of
 use Rattle.std.proofs.lemmas.Nat.{xor_lt, from_le_bytes-to_le_bytes_2}
-use Rattle.std.proofs.lemmas.List.{ext_get_or, length-map}
+use Rattle.std.proofs.lemmas.List.{length-map}
 use Rattle.std.proofs.lemmas.Bool.{or_left, or_right, eq-eqb, cases_eq}
 use Rattle.std.proofs.lemmas.Slice.Zip.{AllZip-long}
 use Rattle.par2_spec.specs.Field.{mul, coefficient}
@@ -22,6 +22,7 @@ use Rattle.par2_spec.proofs.FieldOrder.{product-zero, power-lt}
 use Rattle.par2_spec.proofs.FieldConstants.{constant-lt}
 use Rattle.par2_spec.proofs.NamesLaws.{clash}
 use Rattle.par2_spec.proofs.RankLaws.{kept-iff}
+use Rattle.par2_spec.proofs.WordLaws.{byte_at, word-lt, same_texts}
 
 -- ---- sums of lists
 
@@ -61,42 +62,16 @@ coefficients_are e (i ∷ is) = (power-lt _ e (constant-lt i), coefficients_are 
 
 -- ---- words
 
-byte_at : (bytes : List ℕ) (i : ℕ) → AllByRecursion (λ b. b < 256) bytes → slice_index bytes i < 256
-byte_at [] i h = omega arith
-byte_at (b ∷ bytes) zero h = h.0
-byte_at (b ∷ bytes) (suc i) h = byte_at bytes i h.1
-
-pub word-lt : (p : ℕ) (bytes : List ℕ) → AllByRecursion (λ b. b < 256) bytes → word p bytes < 2 ^ 16
-word-lt p bytes h =
-    let low : slice_index bytes (2 * p) < 256 = byte_at bytes (2 * p) h in
-    let high : slice_index bytes (2 * p + 1) < 256 = byte_at bytes (2 * p + 1) h in
-    omega (arith, low, high)
-
 abbrev pub AreTexts : List (List ℕ) → Type 0
 AreTexts texts = AllByRecursion (λ text. AllByRecursion (λ b. b < 256) text) texts
 
 pub words_are : (p : ℕ) (texts : List (List ℕ)) → AreTexts texts → AreElements (map (word p) texts)
 words_are p [] h = tt
-words_are p (text ∷ texts) h = (word-lt p text h.0, words_are p texts h.1)
+words_are p (text ∷ texts) h = (word-lt text p (byte_at text h.0), words_are p texts h.1)
 
 -- texts of an even length with the same words are the same
 pub same_words : (s : ℕ) (a b : List ℕ) → s % 2 ≡ 0 → length a ≡ s → length b ≡ s → AllByRecursion (λ x. x < 256) a → AllByRecursion (λ x. x < 256) b → ((p : ℕ) → p < s / 2 → word p a ≡ word p b) → a ≡ b
-same_words s a b even la lb ha hb same = ext_get_or 0 a b (la ∙ sym lb) (λ i lt. byte i (omega (arith, lt, la)))
-  where
-    low_high : (p : ℕ) → word p a ≡ word p b → (slice_index a (2 * p) ≡ slice_index b (2 * p)) × (slice_index a (2 * p + 1) ≡ slice_index b (2 * p + 1))
-    low_high p e =
-        let k : slice_index a (2 * p) < 256 = byte_at a (2 * p) ha in
-        let l : slice_index b (2 * p) < 256 = byte_at b (2 * p) hb in
-        (omega (arith, e, k, l), omega (arith, e, k, l))
-
-    byte : (i : ℕ) → i < s → slice_index a i ≡ slice_index b i
-    byte i lt =
-        let half : i / 2 < s / 2 = omega (arith, lt, even) in
-        let both = low_high (i / 2) (same (i / 2) half) in
-        elim (cases_eq (i % 2) 0) as (λ _. slice_index a i ≡ slice_index b i) [
-          | inl e ↦ let place : 2 * (i / 2) ≡ i = omega (arith, e) in subst (λ n. slice_index a n ≡ slice_index b n) place both.0
-          | inr e ↦ let place : 2 * (i / 2) + 1 ≡ i = omega (arith, e) in subst (λ n. slice_index a n ≡ slice_index b n) place both.1
-        ]
+same_words s a b even la lb ha hb same = same_texts s a b even la lb (byte_at a ha) (byte_at b hb) (λ w h. same w (omega (arith, h)))
 
 -- ---- equal recovery slices have equal sums
 
@@ -249,21 +224,21 @@ both_recovered s a b (r ∷ rs) h k = (h.0 ∙ sym k.0, both_recovered s a b rs 
 
 -- ---- one list alone agrees
 
-same_texts : (s : ℕ) (a b : List (List ℕ)) → s % 2 ≡ 0 → length a ≡ length b → AllByRecursion (λ text. length text ≡ s) a → AllByRecursion (λ text. length text ≡ s) b → AreTexts a → AreTexts b
+all_same : (s : ℕ) (a b : List (List ℕ)) → s % 2 ≡ 0 → length a ≡ length b → AllByRecursion (λ text. length text ≡ s) a → AllByRecursion (λ text. length text ≡ s) b → AreTexts a → AreTexts b
     → ((p : ℕ) → p < s / 2 → map (word p) a ≡ map (word p) b) → a ≡ b
-same_texts s [] [] even e la lb ha hb same = refl
-same_texts s [] (y ∷ b) even e la lb ha hb same = absurd (omega (arith, e))
-same_texts s (x ∷ a) [] even e la lb ha hb same = absurd (omega (arith, e))
-same_texts s (x ∷ a) (y ∷ b) even e la lb ha hb same =
+all_same s [] [] even e la lb ha hb same = refl
+all_same s [] (y ∷ b) even e la lb ha hb same = absurd (omega (arith, e))
+all_same s (x ∷ a) [] even e la lb ha hb same = absurd (omega (arith, e))
+all_same s (x ∷ a) (y ∷ b) even e la lb ha hb same =
     ap (λ z. z ∷ a) (same_words s x y even la.0 lb.0 ha.0 hb.0 (λ p lt. ap (λ ws. slice_index ws 0) (same p lt)))
-    ∙ ap (λ zs. y ∷ zs) (same_texts s a b even (omega (arith, e)) la.1 lb.1 ha.1 hb.1 (λ p lt. ap (drop 1) (same p lt)))
+    ∙ ap (λ zs. y ∷ zs) (all_same s a b even (omega (arith, e)) la.1 lb.1 ha.1 hb.1 (λ p lt. ap (drop 1) (same p lt)))
 
 pub agreeing_are_one : (s : ℕ) (known : List (Option (List ℕ))) (rs : List (ℕ × List ℕ)) (a b : List (List ℕ)) → s % 2 ≡ 0 → IsRepairable (lost known) (map (λ r. r.0) rs)
     → Agrees s known (kept_slices (lost known) (map (λ r. r.0) rs) rs) a → Agrees s known (kept_slices (lost known) (map (λ r. r.0) rs) rs) b → a ≡ b
 agreeing_are_one s known rs a b even repairable ga gb =
     let long_a : length a ≡ length known = AllZip-long (λ slice text. ForSome slice (λ found. text ≡ found)) known a ga.as_known in
     let long_b : length b ≡ length known = AllZip-long (λ slice text. ForSome slice (λ found. text ≡ found)) known b gb.as_known in
-    same_texts s a b even (long_a ∙ sym long_b) ga.sizes gb.sizes ga.bytes gb.bytes (λ p lt. words_alike p lt (long_a) (long_b))
+    all_same s a b even (long_a ∙ sym long_b) ga.sizes gb.sizes ga.bytes gb.bytes (λ p lt. words_alike p lt (long_a) (long_b))
   where
     words_alike : (p : ℕ) → p < s / 2 → length a ≡ length known → length b ≡ length known → map (word p) a ≡ map (word p) b
     words_alike p lt long_a long_b =

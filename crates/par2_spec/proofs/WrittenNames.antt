@@ -8,7 +8,7 @@ use Rattle.std.proofs.lemmas.List.Folds.{list_any-append, prefix_len-append, pre
 use Rattle.par2_spec.specs.declared.Kind.TheVariants.{FileDesc}
 use Rattle.par2_spec.specs.Packets.{bytes_at, u64_at, without_end_zeros, DescBody, read_desc}
 use Rattle.par2_spec.specs.Volumes.{FileRecord, desc_bytes, padded_4}
-use Rattle.par2_spec.proofs.WrittenPackets.{part_at}
+use Rattle.par2_spec.proofs.WrittenPackets.{part_at, len3}
 use Rattle.par2_spec.proofs.WrittenBodies.{u64_there, if_true}
 
 -- ---- zeros at the end
@@ -59,9 +59,6 @@ stripped-padded name k none =
 
 abbrev desc_of : List ℕ → List ℕ → List ℕ → ℕ → List ℕ → Option DescBody
 desc_of id digest short size name = Some (record { id = id; digest = digest; digest_16k = short; size = size; name = name })
-
-len3 : (a b c : List ℕ) → length (a ++ (b ++ c)) ≡ length a + (length b + length c)
-len3 a b c = length-append a (b ++ c) ∙ ap (λ (n : ℕ). length a + n) (length-append b c)
 
 at_16 : (a b c d e : List ℕ) → a ++ b ++ c ++ d ++ e ≡ a ++ (b ++ (c ++ (d ++ e)))
 at_16 a b c d e = simp append_assoc

@@ -61,7 +61,7 @@ to_64 m l d s k b t = simp append_assoc
 to_end : (m l d s k b t : List ℕ) → m ++ (l ++ (d ++ (s ++ (k ++ (b ++ t))))) ≡ (m ++ (l ++ (d ++ (s ++ (k ++ b))))) ++ t
 to_end m l d s k b t = simp append_assoc
 
-len3 : (a b c : List ℕ) → length (a ++ (b ++ c)) ≡ length a + (length b + length c)
+pub len3 : (a b c : List ℕ) → length (a ++ (b ++ c)) ≡ length a + (length b + length c)
 len3 a b c = length-append a (b ++ c) ∙ ap (λ (n : ℕ). length a + n) (length-append b c)
 
 begins : (text m l d s k b t : List ℕ) → IsMade text m l d s k b t → begins_with_packet text ≡ true

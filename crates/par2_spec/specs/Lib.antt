@@ -4,6 +4,7 @@ pub mod Checksums
 pub mod Slices
 pub mod Windows
 pub mod Recovery
+pub mod Sums
 pub mod Rank
 pub mod Packets
 pub mod Names
@@ -21,6 +22,7 @@ pub mod Plans
 pub mod Reports
 pub mod Views
 pub mod Texts
+pub mod Writing
 pub mod History
 pub mod Sessions
 pub mod Journals

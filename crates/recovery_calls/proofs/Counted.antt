@@ -6,7 +6,7 @@ use Rattle.par2_spec.specs.Slices.{slices, slice_at, slice_count}
 use Rattle.par2_spec.specs.Folders.{Folder, bytes_of}
 use Rattle.par2_spec.specs.Volumes.{all_slices}
 use Rattle.par2_spec.specs.Commands.{files_of}
-use Rattle.par2_recovery.proofs.Combined.{files_push}
+use Rattle.par2_spec.proofs.SliceLaws.{files_push}
 
 pub one_more : (s : ℕ) (folder : Folder) (names : List (List ℕ)) (i : ℕ) (bytes : List ℕ) → i < length names → bytes ≡ bytes_of folder (get_or names i [])
     → length (all_slices s (files_of folder (take (i + 1) names))) ≡ length (all_slices s (files_of folder (take i names))) + slice_count s (length bytes)

@@ -5,7 +5,7 @@ use Rattle.std.specs.Borrow.{Bor}
 use Rattle.std.specs.List.{AllByRecursion, AllAdjacentBelow}
 use Rattle.std.specs.List.Sorted.{IsStrictlyIncreasing}
 use Rattle.par2_spec.specs.Names.{is_name}
-use Rattle.par2_packets.proofs.Ids.{increasing}
+use Rattle.par2_spec.proofs.ListsLaws.{increasing}
 use Rattle.par2_packets.specs.declared.record.FileRecord.{FileRecord}
 use Rattle.par2_recovery.specs.Survivors.{known_alone, recovered_of, exponents_of}
 use Rattle.par2_recovery.specs.Views.{names_of}

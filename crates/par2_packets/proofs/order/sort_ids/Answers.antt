@@ -3,7 +3,8 @@ use Rattle.std.specs.Int.{w128, from_le_bytes}
 use Rattle.std.specs.List.Sorted.{IsNonDecreasingBy}
 use Rattle.std.proofs.lemmas.List.Sorted.{IsNonDecreasingBy-from_sort_by_key}
 use Rattle.par2_packets.specs.Views.{id_number}
-use Rattle.par2_packets.proofs.Ids.{same_ids, rises_more, increasing, distinct_keys, not_distinct}
+use Rattle.par2_packets.proofs.Ids.{same_ids, rises_more, distinct_keys, not_distinct}
+use Rattle.par2_spec.proofs.ListsLaws.{increasing}
 use Rattle.par2_packets.proofs.order.sort_ids.Goals as goal
 
 pub returns-then-number_of-clause-distinct : goal.returns-then-number_of-clause-distinct

@@ -1,4 +1,4 @@
-use Rattle.par2_matrix.specs.Echelon.{lists_of}
+use Rattle.par2_spec.specs.Sums.{lists_of}
 use Rattle.par2_recovery.specs.Survivors.{recovered_of}
 use Rattle.par2_recovery.specs.Inverses.{AreCoefficients}
 use Rattle.par2_recovery.proofs.inverse.coefficient_texts.Given as goal

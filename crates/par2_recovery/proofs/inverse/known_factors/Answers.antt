@@ -1,7 +1,7 @@
 use Rattle.std.proofs.Common.{◌≡◌, ◌∙◌, sym, ap, subst, length}
 use Rattle.std.proofs.lemmas.Result.{IfOk-weaker}
-use Rattle.par2_matrix.specs.Echelon.{lists_of}
-use Rattle.par2_matrix.proofs.Words.{length-lists_of}
+use Rattle.par2_spec.specs.Sums.{lists_of}
+use Rattle.par2_spec.proofs.WordLaws.{length-lists_of}
 use Rattle.par2_recovery.specs.Elements.{AreRows}
 use Rattle.par2_recovery.specs.Products.{Adds}
 use Rattle.par2_recovery.specs.Survivors.{recovered_of}

@@ -1,6 +1,6 @@
 use Rattle.std.proofs.Common.{ℕ, ◌≡◌, ◌∙◌, get_or, length, subst, sym}
-use Rattle.par2_matrix.specs.Echelon.{list_at, lists_of}
-use Rattle.par2_matrix.proofs.Words.{length-lists_of}
+use Rattle.par2_spec.specs.Sums.{list_at, lists_of}
+use Rattle.par2_spec.proofs.WordLaws.{length-lists_of}
 use Rattle.par2_recovery.specs.Products.{AddsSource}
 use Rattle.par2_recovery.specs.Views.{texts_of}
 use Rattle.par2_recovery.proofs.Adding.{no_source, next_source}

@@ -1,4 +1,4 @@
-use Rattle.par2_matrix.specs.Echelon.{lists_of}
+use Rattle.par2_spec.specs.Sums.{lists_of}
 use Rattle.par2_recovery.specs.Products.{Adds}
 use Rattle.par2_recovery.specs.Views.{texts_of}
 use Rattle.par2_recovery.proofs.products.add_columns.Given as goal

@@ -1,5 +1,5 @@
 use Rattle.std.proofs.Common.{length, ◌*◌, min}
-use Rattle.par2_matrix.specs.Echelon.{lists_of}
+use Rattle.par2_spec.specs.Sums.{lists_of}
 use Rattle.par2_recovery.specs.Products.{Adds}
 use Rattle.par2_recovery.specs.Views.{texts_of}
 use Rattle.par2_recovery.proofs.products.add_products.Given as goal

@@ -1,5 +1,5 @@
 use Rattle.std.proofs.Common.{ℕ, ◌<◌, get_or}
-use Rattle.par2_matrix.specs.Echelon.{list_at}
+use Rattle.par2_spec.specs.Sums.{list_at}
 use Rattle.par2_recovery.specs.Views.{texts_of}
 use Rattle.par2_recovery.proofs.products.fit_texts.Given as goal
 

@@ -1,6 +1,6 @@
 use Rattle.std.proofs.Common.{◌≡◌, length, rules, sym, subst}
 use Rattle.std.proofs.lemmas.List.{with_items_is}
-use Rattle.par2_matrix.specs.Echelon.{lists_of}
+use Rattle.par2_spec.specs.Sums.{lists_of}
 use Rattle.par2_recovery.specs.Products.{Adds}
 use Rattle.par2_recovery.specs.Views.{texts_of}
 use Rattle.par2_recovery.proofs.products.with_products.Goals as goal

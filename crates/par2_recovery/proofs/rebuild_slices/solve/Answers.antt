@@ -2,8 +2,8 @@ use Rattle.std.proofs.Common.{◌≡◌, ◌<◌, ◌≤◌, ◌↔◌, ◌∙�
 use Rattle.std.proofs.lemmas.Bool.{false≢true}
 use Rattle.par2_spec.specs.Slices.{padded}
 use Rattle.par2_matrix.specs.Systems.{OnlyZeroIsKilled, rank}
-use Rattle.par2_matrix.specs.Echelon.{lists_of}
-use Rattle.par2_matrix.proofs.Words.{length-lists_of}
+use Rattle.par2_spec.specs.Sums.{lists_of}
+use Rattle.par2_spec.proofs.WordLaws.{length-lists_of}
 use Rattle.par2_recovery.specs.Inverses.{IsEliminated, AreCombined}
 use Rattle.par2_recovery.specs.Products.{AreBytes}
 use Rattle.par2_recovery.specs.Survivors.{known_of, recovered_of, lost_from, known_from, known_alone}

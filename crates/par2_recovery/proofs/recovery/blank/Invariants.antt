@@ -1,4 +1,4 @@
-use Rattle.par2_matrix.specs.Echelon.{lists_of}
+use Rattle.par2_spec.specs.Sums.{lists_of}
 use Rattle.par2_recovery.specs.Views.{AreBlank}
 use Rattle.par2_recovery.proofs.recovery.blank.Given as goal
 

@@ -1,7 +1,7 @@
 use Rattle.std.proofs.Common.{◌≡◌, ◌<◌, ◌++◌, ◌∷◌, [], sym, subst, rules, get_or, map, arith, ◌+◌}
 use Rattle.std.specs.List.{range_with_len}
 use Rattle.par2_spec.specs.Recovery.{coefficients}
-use Rattle.par2_matrix.specs.Echelon.{lists_of}
+use Rattle.par2_spec.specs.Sums.{lists_of}
 use Rattle.par2_recovery.proofs.Combined.{range-lt, rows_push}
 use Rattle.par2_recovery.proofs.recovery.factors.Goals as goal
 

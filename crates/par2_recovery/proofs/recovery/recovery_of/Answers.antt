@@ -3,8 +3,8 @@ use Rattle.std.specs.List.{range_with_len}
 use Rattle.std.proofs.lemmas.Result.{IfOk-weaker}
 use Rattle.par2_spec.specs.Recovery.{coefficients, recovery}
 use Rattle.par2_spec.specs.Slices.{padded}
-use Rattle.par2_matrix.specs.Echelon.{lists_of, list_at}
-use Rattle.par2_matrix.proofs.Words.{length-lists_of}
+use Rattle.par2_spec.specs.Sums.{lists_of, list_at}
+use Rattle.par2_spec.proofs.WordLaws.{length-lists_of}
 use Rattle.par2_recovery.specs.Products.{Adds}
 use Rattle.par2_recovery.specs.Views.{texts_of}
 use Rattle.par2_recovery.proofs.Combined.{length-rows, rows_long, blank_room, are_recovery, length-texts_of}

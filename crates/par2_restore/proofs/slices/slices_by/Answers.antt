@@ -3,7 +3,7 @@ use Rattle.par2_matrix.specs.Systems.{lists_of}
 use Rattle.par2_spec.specs.Slices.{padded}
 use Rattle.par2_recovery.specs.Survivors.{known_of, with_lost_slices}
 use Rattle.par2_search.specs.Texts.{Window}
-use Rattle.par2_restore.specs.Survivors.{AreRebuilt}
+use Rattle.par2_recovery.specs.Rebuilding.{AreRebuilt}
 use Rattle.par2_restore.specs.Texts.{windows_and_texts, slices_of, text_of}
 use Rattle.par2_restore.specs.declared.slices.Slice.{Slice}
 use Rattle.par2_restore.proofs.Merging.{filled_merged, slices_of-map}

@@ -1,6 +1,7 @@
 use Rattle.std.proofs.Common.{◌∙◌, sym, subst}
-use Rattle.par2_matrix.specs.Echelon.{IsReduced, echelon, lists_of}
-use Rattle.par2_matrix.proofs.Words.{length-lists_of}
+use Rattle.par2_matrix.specs.Echelon.{IsReduced, echelon}
+use Rattle.par2_spec.specs.Sums.{lists_of}
+use Rattle.par2_spec.proofs.WordLaws.{length-lists_of}
 use Rattle.par2_matrix.proofs.Standing.{none_reduced}
 use Rattle.par2_matrix.proofs.Promises.{new_system}
 use Rattle.par2_matrix.proofs.system.System.new.Goals as goal

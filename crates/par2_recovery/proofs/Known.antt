@@ -15,20 +15,20 @@ use Rattle.par2_recovery.specs.declared.rebuild_slices.Survivors as code
 use Rattle.par2_recovery.proofs.Rebuilding.{lost_is, lost_of_map, rebuilt_from}
 use Rattle.par2_recovery.proofs.Standing.{are_known}
 use Rattle.par2_spec.specs.Slices.{padded}
-use Rattle.par2_search.specs.Texts.{Window}
-use Rattle.par2_restore.specs.Survivors.{CanRebuild, AreRebuilt, AreEnough, known_among}
-use Rattle.par2_restore.specs.Texts.{IsFound}
+use Rattle.std.specs.Borrow.{Bor}
+use Rattle.par2_recovery.specs.Rebuilding.{CanRebuild, AreRebuilt, AreEnough, known_among}
+use Rattle.par2_recovery.specs.Rebuilding.{IsKnown}
 
-found_bytes : (windows : List Window) → All IsFound windows → AreBytes (texts_of (known_alone windows))
-found_bytes [] h r k = omega arith
-found_bytes (None ∷ windows) h r k = absurd (All-head IsFound None windows h)
-found_bytes (Some window ∷ windows) h zero k = All-head IsFound (Some window) windows h k
-found_bytes (Some window ∷ windows) h (suc r) k = found_bytes windows (All-tail IsFound (Some window) windows h) r k
+known_bytes : (slices : List (Option (Bor (List ℕ)))) → All IsKnown slices → AreBytes (texts_of (known_alone slices))
+known_bytes [] h r k = omega arith
+known_bytes (None ∷ slices) h r k = absurd (All-head IsKnown None slices h)
+known_bytes (Some slice ∷ slices) h zero k = All-head IsKnown (Some slice) slices h k
+known_bytes (Some slice ∷ slices) h (suc r) k = known_bytes slices (All-tail IsKnown (Some slice) slices h) r k
 
-none_lost : (a : ℕ) (windows : List Window) → All IsFound windows → lost_from a windows ≡ []
+none_lost : (a : ℕ) (slices : List (Option (Bor (List ℕ)))) → All IsKnown slices → lost_from a slices ≡ []
 none_lost a [] h = refl
-none_lost a (None ∷ windows) h = absurd (All-head IsFound None windows h)
-none_lost a (Some window ∷ windows) h = none_lost (a + 1) windows (All-tail IsFound (Some window) windows h)
+none_lost a (None ∷ slices) h = absurd (All-head IsKnown None slices h)
+none_lost a (Some slice ∷ slices) h = none_lost (a + 1) slices (All-tail IsKnown (Some slice) slices h)
 
 -- ---- no exponent is kept where no slice is lost
 
@@ -50,14 +50,14 @@ none_kept exponents = none_pass _ exponents (λ e. nothing_told (map (coefficien
 no_slice_kept : (exponents : List ℕ) (recovery : List (ℕ × List ℕ)) → kept_slices [] exponents recovery ≡ []
 no_slice_kept exponents recovery = none_pass _ recovery (λ r. ap (list_any (λ e. e == r.0)) (none_kept exponents))
 
-pub nothing_lost : (survivors : code.Survivors) → All IsFound survivors.known.items → lost (known_among survivors) ≡ []
+pub nothing_lost : (survivors : code.Survivors) → All IsKnown survivors.known.items → lost (known_among survivors) ≡ []
 nothing_lost survivors all =
     lost_is (known_among survivors) ∙ lost_of_map (λ slice. padded survivors.slice_size slice.now) 0 survivors.known.items ∙ none_lost 0 survivors.known.items all
 
-pub found_are_rebuilt : (survivors : code.Survivors) → CanRebuild survivors → All IsFound survivors.known.items → AreRebuilt survivors (with_lost_slices (known_among survivors) [])
-found_are_rebuilt survivors can all =
+pub known_are_rebuilt : (survivors : code.Survivors) → CanRebuild survivors → All IsKnown survivors.known.items → AreRebuilt survivors (with_lost_slices (known_among survivors) [])
+known_are_rebuilt survivors can all =
     let s = survivors.slice_size in
-    let windows : List Window = survivors.known.items in
+    let slices : List (Option (Bor (List ℕ))) = survivors.known.items in
     let known : List (Option (List ℕ)) = known_among survivors in
     let exponents = exponents_of survivors.recovery.items in
     let recovery = recovered_of survivors.recovery.items in
@@ -65,12 +65,12 @@ found_are_rebuilt survivors can all =
     let kept_none : kept_slices (lost known) exponents recovery ≡ [] = ap (λ l. kept_slices l exponents recovery) nothing ∙ no_slice_kept exponents recovery in
     let count : 0 ≡ length (lost_from 0 known) = sym (ap length (sym (lost_is known) ∙ nothing)) in
     let alone : IsRebuilt s known [] (with_lost_slices known []) =
-    rebuilt_from s known [] [] can.even (are_known s windows (known_alone windows) can.known refl (found_bytes windows all)) (tt, tt) count tt tt
+    rebuilt_from s known [] [] can.even (are_known s slices (known_alone slices) can.known refl (known_bytes slices all)) (tt, tt) count tt tt
     (λ others sized number met. nil_from_length others (number ∙ sym count)) in
     subst (λ found. IsRebuilt s known found (with_lost_slices known [])) (sym kept_none) alone
 
-pub found_are_enough : (survivors : code.Survivors) → All IsFound survivors.known.items → AreEnough survivors
-found_are_enough survivors all = subst (λ l. IsRepairable l (exponents_of survivors.recovery.items)) (sym (nothing_lost survivors all)) none_unknown
+pub known_are_enough : (survivors : code.Survivors) → All IsKnown survivors.known.items → AreEnough survivors
+known_are_enough survivors all = subst (λ l. IsRepairable l (exponents_of survivors.recovery.items)) (sym (nothing_lost survivors all)) none_unknown
   where
     none_unknown : IsRepairable [] (exponents_of survivors.recovery.items)
     none_unknown [] is killed = tt

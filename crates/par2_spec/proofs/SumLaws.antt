@@ -1,14 +1,15 @@
 -- Sums in the field.
-use Rattle.std.proofs.Common.{ℕ, zero, suc, ◌<◌, ◌≡◌, ◌≢◌, inl, inr, refl, sym, ap, ap₂, ◌∙◌, arith, List, bit_xor}
+use Rattle.std.proofs.Common.{ℕ, zero, suc, ◌<◌, ◌≤◌, ◌≡◌, ◌≢◌, inl, inr, refl, sym, ap, ap₂, ◌∙◌, arith, List, [], ◌∷◌, length, get_or, bit_xor}
 use Rattle.std.proofs.lemmas.Bool.{cases_eq}
 use Rattle.std.proofs.lemmas.Nat.{xor_comm, xor_lt}
-use Rattle.std.specs.Int.Bits.{xor_zero_r}
+use Rattle.std.specs.Int.Bits.{xor_assoc, xor_zero_r}
 use Rattle.par2_spec.specs.Field.{mul}
 use Rattle.par2_spec.specs.Slices.{word}
+use Rattle.par2_spec.specs.Recovery.{dot}
+use Rattle.par2_spec.specs.Sums.{field_sum, row_sum, AreElements}
 use Rattle.par2_spec.proofs.FieldBits.{xor_middle}
 use Rattle.par2_spec.proofs.FieldProducts.{product_linear_left, product_linear_right, product_assoc, product_comm, product-one, product-lt}
 use Rattle.par2_spec.proofs.FieldOrder.{product-zero, zero-product}
-use Rattle.par2_matrix.specs.Echelon.{field_sum, row_sum, AreElements}
 
 pub field_sum_same : (n : ℕ) (f g : ℕ → ℕ) → ((i : ℕ) → i < n → f i ≡ g i) → field_sum n f ≡ field_sum n g
 unfolding field_sum
@@ -56,6 +57,25 @@ pub field_sum-lt : (n : ℕ) (f : ℕ → ℕ) → ((i : ℕ) → f i < 65536) �
 unfolding field_sum
 field_sum-lt zero f small = omega arith
 field_sum-lt (suc n) f small = xor_lt 16 (field_sum n f) (f n) (field_sum-lt n f small) (small n)
+
+-- the first value apart from the others
+pub field_sum_head : (n : ℕ) (f : ℕ → ℕ) → field_sum (suc n) f ≡ bit_xor (f 0) (field_sum n (λ i. f (suc i)))
+unfolding field_sum
+field_sum_head zero f = xor_comm 0 (f 0)
+field_sum_head (suc n) f =
+    ap (λ s. bit_xor s (f (suc n))) (field_sum_head n f) ∙ xor_assoc (f 0) (field_sum n (λ i. f (suc i))) (f (suc n))
+
+-- the product of a row's place and a vector's
+abbrev pub product_at : List ℕ → List ℕ → ℕ → ℕ
+product_at row v i = mul (get_or row i 0) (get_or v i 0)
+
+pub dot_sum : (n : ℕ) (row v : List ℕ) → length row ≤ n → dot row v ≡ field_sum n (product_at row v)
+unfolding dot
+dot_sum n [] v h = sym (field_sum_none n (product_at [] v) (λ i _. zero-product (get_or v i 0)))
+dot_sum n (c ∷ row) [] h = sym (field_sum_none n (product_at (c ∷ row) []) (λ i _. product-zero (get_or (c ∷ row) i 0)))
+dot_sum zero (c ∷ row) (x ∷ v) h = absurd (omega arith)
+dot_sum (suc n) (c ∷ row) (x ∷ v) h =
+    ap (λ s. bit_xor (mul c x) s) (dot_sum n row v (omega arith)) ∙ sym (field_sum_head n (product_at (c ∷ row) (x ∷ v)))
 
 -- ---- rows
 

@@ -1,0 +1,20 @@
+use Rattle.std.proofs.Common.{List, sym, ap, subst, Option, ℕ}
+use Rattle.std.specs.List.{All}
+use Rattle.par2_spec.specs.Sums.{lists_of}
+use Rattle.par2_recovery.specs.Survivors.{with_lost_slices}
+use Rattle.std.specs.Borrow.{Bor}
+use Rattle.par2_recovery.specs.Rebuilding.{known_among, AreRebuilt}
+use Rattle.par2_recovery.specs.Rebuilding.{IsKnown}
+use Rattle.par2_recovery.proofs.Known.{known_are_enough, known_are_rebuilt}
+use Rattle.par2_recovery.proofs.rebuild_slices.rebuild_lost.Goals as goal
+
+pub returns-then-all_known-clause-rebuilt : goal.returns-then-all_known-clause-rebuilt
+returns-then-all_known-clause-rebuilt c =
+    let survivors = c.args.survivors.now in
+    let all : All IsKnown survivors.known.items = subst (λ (ws : List (Option (Bor (List ℕ)))). All IsKnown ws) c.deref.ensures.value (c.all_known.ensures c.if-all_known.true) in
+    subst (λ texts. AreRebuilt survivors (with_lost_slices (known_among survivors) texts)) (sym (ap lists_of c.new.ensures.items)) (known_are_rebuilt survivors c.requires all)
+
+pub returns-then-all_known-clause-enough : goal.returns-then-all_known-clause-enough
+returns-then-all_known-clause-enough c = λ _.
+    let survivors = c.args.survivors.now in
+    known_are_enough survivors (subst (λ (ws : List (Option (Bor (List ℕ)))). All IsKnown ws) c.deref.ensures.value (c.all_known.ensures c.if-all_known.true))

@@ -1,0 +1,107 @@
+-- Words of texts, texts by their words, and vectors of texts.
+use Rattle.std.proofs.Common.{ℕ, zero, suc, ◌+◌, ◌*◌, ◌/◌, ◌%◌, ◌^◌, ◌<◌, ◌≤◌, ◌≡◌, ◌↔◌, inl, inr, refl, sym, ap, ap₂, ◌∙◌, arith, List, [], ◌∷◌, length, get_or, set, map, Vec, Global, length-set}
+use Rattle.std.specs.Int.{w16, to_le_bytes}
+use Rattle.std.specs.List.{AllByRecursion, flat_map, range_with_len}
+use Rattle.std.specs.Prelude.{slice_index}
+use Rattle.std.proofs.lemmas.Bool.{cases_eq}
+use Rattle.std.proofs.lemmas.List.{map-set, get_or-set_same, get_or-set_other, length-map, get_or-map, get_or_past, ext_get_or}
+use Rattle.par2_spec.specs.Slices.{word}
+use Rattle.par2_spec.specs.Recovery.{dot, combination}
+use Rattle.par2_spec.specs.Sums.{list_at, lists_of, OneChanged}
+use Rattle.par2_spec.proofs.ListsLaws.{all_at}
+
+pub word_past : (xs : List ℕ) (w : ℕ) → length xs ≤ 2 * w → word w xs ≡ 0
+word_past xs w l = ap₂ (λ x y. x + 256 * y) (get_or_past xs (2 * w) 0 l) (get_or_past xs (2 * w + 1) 0 (omega arith))
+
+pub word_empty : (xs : List ℕ) (w : ℕ) → length xs ≡ 0 → word w xs ≡ 0
+word_empty xs w e = word_past xs w (omega arith)
+
+pub word-lt : (xs : List ℕ) (w : ℕ) → ((k : ℕ) → get_or xs k 0 < 256) → word w xs < 65536
+word-lt xs w small = omega (arith, small (2 * w), small (2 * w + 1))
+
+-- a byte of a text
+pub byte_at : (text : List ℕ) → AllByRecursion (λ b. b < 256) text → (k : ℕ) → get_or text k 0 < 256
+byte_at text fits = all_at (λ b. b < 256) 0 (omega arith) text fits
+
+pub bytes_at : (texts : List (List ℕ)) → AllByRecursion (λ text. AllByRecursion (λ b. b < 256) text) texts → (i k : ℕ) → get_or (list_at texts i) k 0 < 256
+bytes_at texts fit i = byte_at (list_at texts i) (all_at (λ (text : List ℕ). AllByRecursion (λ b. b < 256) text) [] tt texts fit i)
+
+pub word_behind : (p a b : ℕ) (text : List ℕ) → word (suc p) (a ∷ b ∷ text) ≡ word p text
+word_behind p a b text =
+    let low : 2 * suc p ≡ suc (suc (2 * p)) = omega arith in
+    let high : 2 * suc p + 1 ≡ suc (suc (2 * p + 1)) = omega arith in
+    ap₂ (λ i j. slice_index (a ∷ b ∷ text) i + 256 * slice_index (a ∷ b ∷ text) j) low high
+
+-- ---- texts of given words
+
+-- the text whose words from place a on are these
+abbrev pub spelled : (ℕ → ℕ) → ℕ → ℕ → List ℕ
+spelled f a n = flat_map (λ p. to_le_bytes w16 (f p)) (range_with_len a n)
+
+pub length-spelled : (f : ℕ → ℕ) (a n : ℕ) → length (spelled f a n) ≡ 2 * n
+length-spelled f a zero = refl
+length-spelled f a (suc n) = let rest : length (spelled f (a + 1) n) ≡ 2 * n = length-spelled f (a + 1) n in omega (arith, rest)
+
+pub bytes-spelled : (f : ℕ → ℕ) (a n : ℕ) → AllByRecursion (λ b. b < 256) (spelled f a n)
+bytes-spelled f a zero = tt
+bytes-spelled f a (suc n) = (omega arith, (omega arith, bytes-spelled f (a + 1) n))
+
+word-spelled : (f : ℕ → ℕ) → ((p : ℕ) → f p < 2 ^ 16) → (a n p : ℕ) → p < n → word p (spelled f a n) ≡ f (a + p)
+word-spelled f small a zero p lt = absurd (omega (arith, lt))
+word-spelled f small a (suc n) zero lt =
+    let low : f a < 2 ^ 16 = small a in
+    let here : word 0 (spelled f a (suc n)) ≡ f a = omega (arith, low) in
+    here ∙ ap f (omega arith)
+word-spelled f small a (suc n) (suc p) lt = word_behind p _ _ (spelled f (a + 1) n) ∙ word-spelled f small (a + 1) n p (omega (arith, lt)) ∙ ap f (omega arith)
+
+pub word_of : (f : ℕ → ℕ) → ((p : ℕ) → f p < 2 ^ 16) → (n p : ℕ) → p < n → word p (spelled f 0 n) ≡ f p
+word_of f small n p lt = let e : 0 + p ≡ p = omega arith in word-spelled f small 0 n p lt ∙ ap f e
+
+same_word : (a b x y : ℕ) → a < 256 → b < 256 → x < 256 → y < 256 → a + 256 * b ≡ x + 256 * y → (a ≡ x) × (b ≡ y)
+same_word a b x y ha hb hx hy e = (omega arith, omega arith)
+
+-- texts of an even size are the same where their words are
+pub same_texts : (n : ℕ) (xs ys : List ℕ) → n % 2 ≡ 0 → length xs ≡ n → length ys ≡ n → ((k : ℕ) → get_or xs k 0 < 256) → ((k : ℕ) → get_or ys k 0 < 256)
+    → ((w : ℕ) → 2 * w + 1 < n → word w xs ≡ word w ys) → xs ≡ ys
+same_texts n xs ys even lx ly hx hy same = ext_get_or 0 xs ys (lx ∙ sym ly) (λ k hk.
+    let w = k / 2 in
+    let hw : 2 * w + 1 < n = omega arith in
+    let both = same_word (get_or xs (2 * w) 0) (get_or xs (2 * w + 1) 0) (get_or ys (2 * w) 0) (get_or ys (2 * w + 1) 0) (hx (2 * w)) (hx (2 * w + 1)) (hy (2 * w)) (hy (2 * w + 1)) (same w hw) in
+    elim (cases_eq (k % 2) 0) [
+      | inl even ↦ let j : k ≡ 2 * w = omega arith in ap (λ x. get_or xs x 0) j ∙ both.0 ∙ sym (ap (λ x. get_or ys x 0) j)
+      | inr odd ↦ let j : k ≡ 2 * w + 1 = omega arith in ap (λ x. get_or xs x 0) j ∙ both.1 ∙ sym (ap (λ x. get_or ys x 0) j)
+    ])
+
+-- A combination of texts is a text exactly where each of its words is the sum at that word.
+pub combination_words : (s : ℕ) (row : List ℕ) (texts : List (List ℕ)) (right : List ℕ) → s % 2 ≡ 0 → ((w : ℕ) → dot row (map (word w) texts) < 65536)
+    → length right ≡ s → ((k : ℕ) → get_or right k 0 < 256)
+    → (combination s row texts ≡ right) ↔ ((w : ℕ) → 2 * w + 1 < s → dot row (map (word w) texts) ≡ word w right)
+unfolding combination
+combination_words s row texts right even small size bytes =
+    let g : ℕ → ℕ = λ w. dot row (map (word w) texts) in
+    let each : (w : ℕ) → 2 * w + 1 < s → word w (spelled g 0 (s / 2)) ≡ g w = λ w h. word_of g small (s / 2) w (omega arith) in (
+      (λ e w h. sym (each w h) ∙ ap (λ xs. word w xs) e),
+      (λ same. same_texts s (spelled g 0 (s / 2)) right even (length-spelled g 0 (s / 2) ∙ (let h : 2 * (s / 2) ≡ s = omega arith in h)) size (byte_at (spelled g 0 (s / 2)) (bytes-spelled g 0 (s / 2))) bytes
+          (λ w h. each w h ∙ same w h)),
+    )
+
+-- ---- a vector of vectors, as a list of lists
+
+pub read_at : (vs : List (Vec ℕ Global)) (p : ℕ) (v : Vec ℕ Global) → p < length vs → v ≡ get_or vs p v → v.items ≡ list_at (lists_of vs) p
+read_at vs p v low is = let items = λ (x : Vec ℕ Global). x.items in ap items is ∙ sym (get_or-map items vs p v [] low)
+
+pub written_here : (vs : List (Vec ℕ Global)) (p : ℕ) (w : Vec ℕ Global) → p < length vs → list_at (lists_of (set vs p w)) p ≡ w.items
+written_here vs p w low =
+    let items = λ (x : Vec ℕ Global). x.items in
+    ap (λ (xs : List (List ℕ)). get_or xs p []) (map-set items vs p w) ∙ get_or-set_same (map items vs) p w.items [] (omega (arith, length-map vs items))
+
+pub written_changed : (vs : List (Vec ℕ Global)) (p : ℕ) (w : Vec ℕ Global) → OneChanged (lists_of vs) (lists_of (set vs p w)) p
+written_changed vs p w =
+    let items = λ (x : Vec ℕ Global). x.items in
+    record {
+      count = length-map (set vs p w) items ∙ length-set vs p w ∙ sym (length-map vs items);
+      others = λ i n. ap (λ (xs : List (List ℕ)). get_or xs i []) (map-set items vs p w) ∙ get_or-set_other (map items vs) p i w.items [] n;
+    }
+
+pub length-lists_of : (vs : List (Vec ℕ Global)) → length (lists_of vs) ≡ length vs
+length-lists_of vs = length-map vs (λ (x : Vec ℕ Global). x.items)

@@ -1,0 +1,125 @@
+-- Texts that are written one after the other.
+use Rattle.std.proofs.Common.{◌≡◌, ◌∙◌, ◌++◌, map, ◌+◌, ◌-◌, ◌<◌, ℕ, suc, List, [], ◌∷◌, refl, take, drop, length, ap, sym, subst, append-nil, append_assoc, length-drop, length-append, Option, Some, None, Result, Ok, Err, arith}
+use Rattle.std.specs.Io.KnownBytes.{Appends, Keeps}
+use Rattle.std.proofs.Math.Seq.{take-append_seam, take-append-add}
+use Rattle.std.proofs.lemmas.List.{take-append-drop, take-append-le, take_all, take_more}
+use Rattle.std.proofs.lemmas.Grind.{flat_map-append}
+use Rattle.std.proofs.lemmas.List.Folds.{flat_map-map}
+use Rattle.std.proofs.Math.Seq.{drop-cons}
+use Rattle.std.proofs.Math.ListN.{get_or}
+use Rattle.std.specs.List.{flat_map}
+use Rattle.par2_spec.specs.Writing.{Writer, TookAll, TookPart, Wrote}
+
+pub appends_both : (a b c : Option (List ℕ)) (xs ys : List ℕ) → Appends a b xs → Appends b c ys → Appends a c (xs ++ ys)
+appends_both None b c xs ys p q = tt
+appends_both (Some x) None c xs ys p q = absurd p
+appends_both (Some x) (Some y) None xs ys p q = absurd q
+appends_both (Some x) (Some y) (Some z) xs ys p q = q ∙ ap (λ w. w ++ ys) p ∙ append_assoc x xs ys
+
+appends_nothing : (a : Option (List ℕ)) → Appends a a []
+appends_nothing None = tt
+appends_nothing (Some x) = sym (append-nil x)
+
+pub appends_kept : (a b : Option (List ℕ)) → Keeps a b → Appends a b []
+appends_kept None b k = tt
+appends_kept (Some x) None k = absurd k
+appends_kept (Some x) (Some y) k = k ∙ sym (append-nil x)
+
+-- nothing more was taken
+pub part : (a b c : Option (List ℕ)) (sent rest text : List ℕ) → text ≡ sent ++ rest → 0 < length rest → Appends a b sent → Appends b c []
+    → (n : ℕ) × (n < length text) × Appends a c (take n text)
+part a b c sent rest text is more p q =
+    let seam : sent ++ [] ≡ take (length sent) text = append-nil sent ∙ sym (take-append_seam sent rest) ∙ ap (take (length sent)) (sym is) in
+    let size : length text ≡ length sent + length rest = ap length is ∙ length-append sent rest in
+    (length sent, omega (arith, size, more), subst (Appends a c) seam (appends_both a b c sent [] p q))
+
+-- none of the bytes were taken
+pub none_taken : (a b : Option (List ℕ)) (bytes : List ℕ) (n : ℕ) → n ≡ 0 → Appends a b (take n bytes) → Appends a b []
+none_taken a b bytes n zero q = rw zero at q
+
+-- n more bytes were taken
+pub step : (a b c : Option (List ℕ)) (sent rest text : List ℕ) (n : ℕ) → text ≡ sent ++ rest → Appends a b sent → Appends b c (take n rest)
+    → (s : List ℕ) × (text ≡ s ++ take (length rest - n) (drop n rest)) × Appends a c s
+step a b c sent rest text n is p q =
+    let all : take (length rest - n) (drop n rest) ≡ drop n rest = take_all (length rest - n) (drop n rest) (omega (arith, length-drop n rest)) in
+    let parts : text ≡ (sent ++ take n rest) ++ drop n rest =
+    is ∙ ap (λ r. sent ++ r) (sym (take-append-drop n rest)) ∙ sym (append_assoc sent (take n rest) (drop n rest)) in
+    (sent ++ take n rest, parts ∙ ap (λ r. (sent ++ take n rest) ++ r) (sym all), appends_both a b c sent (take n rest) p q)
+
+-- of whatever is seen as a writer
+module _ {P : Type 0} (seen : P → Writer) where
+  -- nothing was written
+  pub wrote_nothing : (a : P) → TookAll (seen a) (seen a) []
+  wrote_nothing a = (appends_nothing (seen a).taken, refl)
+
+  pub took_both : (a b c : P) (xs ys : List ℕ) → TookAll (seen a) (seen b) xs → TookAll (seen b) (seen c) ys → TookAll (seen a) (seen c) (xs ++ ys)
+  took_both a b c xs ys p q = (
+    appends_both (seen a).taken (seen b).taken (seen c).taken xs ys p.0 q.0,
+    q.1 ∙ p.1,
+  )
+
+  -- a text was written, and then a part of another
+  pub part_behind : (a b c : P) (xs ys : List ℕ) → TookAll (seen a) (seen b) xs → TookPart (seen b) (seen c) ys → TookPart (seen a) (seen c) (xs ++ ys)
+  part_behind a b c xs ys p q = (
+    (
+      length xs + q.0.0,
+      omega (arith, q.0.1, length-append xs ys),
+      subst (Appends (seen a).taken (seen c).taken) (sym (take-append-add xs ys q.0.0))
+          (appends_both (seen a).taken (seen b).taken (seen c).taken xs (take q.0.0 ys) p.0 q.0.2),
+    ),
+    omega (arith, p.1, q.1),
+  )
+
+  -- a text was written, and then another
+  pub wrote_then : {T E : Type 0} (a b c : P) (xs ys : List ℕ) (r : Result T E) → TookAll (seen a) (seen b) xs → Wrote (seen b) (seen c) ys r → Wrote (seen a) (seen c) (xs ++ ys) r
+  wrote_then a b c xs ys (Ok v) p q = took_both a b c xs ys p q
+  wrote_then a b c xs ys (Err e) p q = part_behind a b c xs ys p q
+
+  -- a part of a text is a part of a longer one
+  pub wrote_less : (a b : P) (xs ys : List ℕ) → TookPart (seen a) (seen b) xs → TookPart (seen a) (seen b) (xs ++ ys)
+  wrote_less a b xs ys p = (
+    (
+      p.0.0,
+      omega (arith, p.0.1, length-append xs ys),
+      subst (Appends (seen a).taken (seen b).taken) (sym (take-append-le p.0.0 xs ys (omega (arith, p.0.1)))) p.0.2,
+    ),
+    p.1,
+  )
+
+  -- the lines before the i-th were written, and then that one
+  pub lines_next : {X : Type 0} (f : X → List ℕ) (a b c : P) (items : List X) (i : ℕ) (item : X) → i < length items
+      → TookAll (seen a) (seen b) (flat_map f (take i items)) → TookAll (seen b) (seen c) (f (get_or items i item)) → TookAll (seen a) (seen c) (flat_map f (take (i + 1) items))
+  lines_next f a b c items i item within before one =
+      let here = f (get_or items i item) in
+      let both : flat_map f (take (i + 1) items) ≡ flat_map f (take i items) ++ here =
+      ap (flat_map f) (take_more items i item within) ∙ flat_map-append f (take i items) (get_or items i item ∷ []) ∙ ap (λ xs. flat_map f (take i items) ++ xs) (append-nil here) in
+      subst (TookAll (seen a) (seen c)) (sym both) (took_both a b c (flat_map f (take i items)) here before one)
+
+  -- the lines before the i-th were written, and then a part of that one
+  pub lines_cut : {X : Type 0} (f : X → List ℕ) (a b c : P) (items : List X) (i : ℕ) (item : X) → i < length items
+      → TookAll (seen a) (seen b) (flat_map f (take i items)) → TookPart (seen b) (seen c) (f (get_or items i item)) → TookPart (seen a) (seen c) (flat_map f items)
+  lines_cut f a b c items i item within before some =
+      let here = f (get_or items i item) in
+      let after = flat_map f (drop (suc i) items) in
+      let whole : flat_map f items ≡ flat_map f (take i items) ++ (here ++ after) =
+      ap (flat_map f) (sym (take-append-drop i items)) ∙ flat_map-append f (take i items) (drop i items)
+      ∙ ap (λ xs. flat_map f (take i items) ++ flat_map f xs) (drop-cons items i item within) in
+      subst (TookPart (seen a) (seen c)) (sym whole)
+      (part_behind a b c (flat_map f (take i items)) (here ++ after) before (wrote_less b c here after some))
+
+  -- the same for the lines of what the items stand for, where the line was written by a text that equals the i-th item's
+  pub shown_lines_cut : {X Y : Type 0} (f : Y → List ℕ) (view : X → Y) (a b c : P) (items : List X) (i : ℕ) (item : X) (shown : Y)
+      → i < length items → shown ≡ view (get_or items i item) → TookAll (seen a) (seen b) (flat_map f (map view (take i items)))
+      → TookPart (seen b) (seen c) (f shown) → TookPart (seen a) (seen c) (flat_map f (map view items))
+  shown_lines_cut f view a b c items i item shown within is before some =
+      let cut = lines_cut (λ x. f (view x)) a b c items i item within (subst (TookAll (seen a) (seen b)) (flat_map-map f view (take i items)) before)
+      (subst (λ y. TookPart (seen b) (seen c) (f y)) is some) in
+      subst (TookPart (seen a) (seen c)) (sym (flat_map-map f view items)) cut
+
+  pub shown_lines_next : {X Y : Type 0} (f : Y → List ℕ) (view : X → Y) (a b c : P) (items : List X) (i : ℕ) (item : X) (shown : Y)
+      → i < length items → shown ≡ view (get_or items i item) → TookAll (seen a) (seen b) (flat_map f (map view (take i items)))
+      → TookAll (seen b) (seen c) (f shown) → TookAll (seen a) (seen c) (flat_map f (map view (take (i + 1) items)))
+  shown_lines_next f view a b c items i item shown within is before one =
+      let next = lines_next (λ x. f (view x)) a b c items i item within (subst (TookAll (seen a) (seen b)) (flat_map-map f view (take i items)) before)
+      (subst (λ y. TookAll (seen b) (seen c) (f y)) is one) in
+      subst (TookAll (seen a) (seen c)) (sym (flat_map-map f view (take (i + 1) items))) next
