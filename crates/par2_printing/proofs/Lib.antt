@@ -1,2 +1,1 @@
-pub mod WroteLaws
 mod WordLaws

@@ -1,6 +1,6 @@
 -- What a printer has done once a text was written to it.
-use Rattle.std.specs.Prelude.{◌≡◌, ℕ, ◌<◌, List, length, take, Option, Result, MatchResult}
-use Rattle.std.specs.Io.KnownBytes.{Appends}
+use Rattle.std.specs.Prelude.{ℕ, List, Option, Result}
+use Rattle.par2_spec.specs.Writing as writing
 use Rattle.par2_printing.specs.declared.printer.Printer.{Printer}
 
 -- the writer behind a printer
@@ -11,17 +11,18 @@ writer_of printer = printer.writer
 abbrev pub failures_of : {W : Type 0} → Printer W → ℕ
 failures_of printer = printer.failures.count
 
+-- what its writer has taken, and how often it has failed
+abbrev pub seen : {W : Type 0} → (W → Option (List ℕ)) → Printer W → writing.Writer
+seen contents printer = record { taken = contents (writer_of printer); failures = failures_of printer }
+
 -- the writer took the text, and has not failed
 abbrev pub TookAll : {W : Type 0} → (W → Option (List ℕ)) → Printer W → Printer W → List ℕ → Type 0
-TookAll contents old new text =
-    Appends (contents (writer_of old)) (contents (writer_of new)) text × (failures_of new ≡ failures_of old)
+TookAll contents old new text = writing.TookAll (seen contents old) (seen contents new) text
 
--- it took a part of the text from its beginning, which lacks a byte at least, and has failed
+-- it took a part of the text from its beginning, and has failed
 abbrev pub TookPart : {W : Type 0} → (W → Option (List ℕ)) → Printer W → Printer W → List ℕ → Type 0
-TookPart contents old new text =
-    ((n : ℕ) × (n < length text) × Appends (contents (writer_of old)) (contents (writer_of new)) (take n text))
-    × (failures_of old < failures_of new)
+TookPart contents old new text = writing.TookPart (seen contents old) (seen contents new) text
 
 -- a text was written, or only a part of it, since the writer failed
 abbrev pub Wrote : {W T E : Type 0} → (W → Option (List ℕ)) → Printer W → Printer W → List ℕ → Result T E → Type 0
-Wrote contents old new text r = MatchResult r (λ _. TookAll contents old new text) (λ _. TookPart contents old new text)
+Wrote contents old new text r = writing.Wrote (seen contents old) (seen contents new) text r

@@ -1,10 +1,11 @@
 use Rattle.std.proofs.lemmas.List.{length-map}
-use Rattle.par2_printing.proofs.WroteLaws.{wrote_less, wrote_then}
+use Rattle.par2_printing.specs.Writing.{seen}
+use Rattle.par2_spec.proofs.WritingLaws.{wrote_less, wrote_then}
 use Rattle.par2_journal.specs.Steps.{step_view}
 use Rattle.par2_tool.proofs.printing.write_all_done.Goals as goal
 
 pub returns-in-Ok : goal.returns-in-Ok
-returns-in-Ok g c = wrote_then g.W.Write.contents c.args.out.now c.write_steps.new.out c.write_done.new.out _ _ c.write_done.result c.in-Ok.ensures (rw (length-map c.args.steps.now step_view) c.write_done.ensures)
+returns-in-Ok g c = wrote_then (seen g.W.Write.contents) c.args.out.now c.write_steps.new.out c.write_done.new.out _ _ c.write_done.result c.in-Ok.ensures (rw (length-map c.args.steps.now step_view) c.write_done.ensures)
 
 pub returns-in-Err : goal.returns-in-Err
-returns-in-Err g c = wrote_less g.W.Write.contents c.args.out.now c.write_steps.new.out _ _ c.in-Err.ensures
+returns-in-Err g c = wrote_less (seen g.W.Write.contents) c.args.out.now c.write_steps.new.out _ _ c.in-Err.ensures

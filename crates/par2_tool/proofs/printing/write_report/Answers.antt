@@ -5,8 +5,8 @@ use Rattle.par2_spec.specs.Reports.{Report, verdict_of}
 use Rattle.par2_spec.specs.Texts.{line, target_line, verdict_text, report_text}
 use Rattle.par2_spec.specs.declared.Verdict.{Verdict}
 use Rattle.par2_plan.specs.Views.{report_of}
-use Rattle.par2_printing.specs.Writing.{Wrote}
-use Rattle.par2_printing.proofs.WroteLaws.{part_behind, took_both, wrote_less, wrote_then}
+use Rattle.par2_printing.specs.Writing.{Wrote, seen}
+use Rattle.par2_spec.proofs.WritingLaws.{part_behind, took_both, wrote_less, wrote_then}
 use Rattle.par2_tool.proofs.printing.write_report.Goals as goal
 
 -- the lines between the first and the last, and the last
@@ -21,7 +21,7 @@ unfolding report_text targets verdict_line
 returns-in_err-write_set g c =
     let p = err_from_is_err_and c.from_residual.result c.from_residual.ensures.1 in
     let r = report_of c.args.report.now in
-    let held = g.W.Write.contents in
+    let held = seen g.W.Write.contents in
     let a = c.args.out.now in
     let b = c.write_set.new.out in
     rw p.1 (wrote_less held a b _ (verdict_line r (verdict_of r)) (wrote_less held a b _ (targets r) c.in_err-write_set.ensures))
@@ -31,7 +31,7 @@ unfolding report_text targets verdict_line
 returns-in_err-write_targets g c =
     let p = err_from_is_err_and c.from_residual-in_err-write_targets.result c.from_residual-in_err-write_targets.ensures.1 in
     let r = report_of c.args.report.now in
-    let held = g.W.Write.contents in
+    let held = seen g.W.Write.contents in
     let a = c.args.out.now in
     let some = rw c.deref.ensures.value at c.in_err-write_targets.ensures in
     rw p.1 (wrote_less held a c.write_targets.new.out _ (verdict_line r (verdict_of r))
@@ -41,11 +41,11 @@ pub returns : goal.returns
 unfolding report_text targets verdict_line
 returns g c =
     let r = report_of c.args.report.now in
-    let held = g.W.Write.contents in
+    let held = seen g.W.Write.contents in
     let a = c.args.out.now in
     let before = c.write_targets.new.out in
     let after = c.write_verdict.new.out in
     let all = rw c.deref.ensures.value at c.in_ok-write_targets.ensures in
-    let last = subst (λ v. Wrote held before after (verdict_line r v) c.write_verdict.result) c.verdict.ensures (c.write_verdict.ensures r refl refl) in
+    let last = subst (λ v. Wrote g.W.Write.contents before after (verdict_line r v) c.write_verdict.result) c.verdict.ensures (c.write_verdict.ensures r refl refl) in
     wrote_then held a before after _ (verdict_line r (verdict_of r)) c.write_verdict.result
     (took_both held a c.write_set.new.out before _ (targets r) c.in_ok-write_set.ensures all) last

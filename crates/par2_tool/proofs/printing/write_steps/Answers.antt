@@ -1,17 +1,18 @@
 use Rattle.std.proofs.Common.{◌∙◌, ap}
 use Rattle.std.proofs.lemmas.Result.{err_from_is_err_and}
 use Rattle.par2_spec.specs.Texts.{step_line}
-use Rattle.par2_printing.proofs.WroteLaws.{shown_lines_cut, shown_lines_next}
+use Rattle.par2_printing.specs.Writing.{seen}
+use Rattle.par2_spec.proofs.WritingLaws.{shown_lines_cut, shown_lines_next}
 use Rattle.par2_journal.specs.Steps.{step_view}
 use Rattle.par2_tool.proofs.printing.write_steps.Goals as goal
 
 pub returns-in_err-write_step : goal.returns-in_err-write_step
 returns-in_err-write_step g c =
     let p = err_from_is_err_and c.from_residual.result c.from_residual.ensures.1 in
-    rw p.1 (shown_lines_cut g.W.Write.contents step_line step_view c.args.out.now c.loop-step.out c.write_step.new.out c.args.steps.now c.loop-step.step-index _ _ c.loop-step-test.true
+    rw p.1 (shown_lines_cut (seen g.W.Write.contents) step_line step_view c.args.out.now c.loop-step.out c.write_step.new.out c.args.steps.now c.loop-step.step-index _ _ c.loop-step-test.true
     (c.printed.ensures ∙ ap step_view c.step-item.is) c.loop-step.invariant c.in_err-write_step.ensures)
 
 pub loop-step-preserved : goal.loop-step-preserved
 loop-step-preserved g c =
-    shown_lines_next g.W.Write.contents step_line step_view c.args.out.now c.loop-step.out c.write_step.new.out c.args.steps.now c.loop-step.step-index _ _ c.loop-step-test.true
+    shown_lines_next (seen g.W.Write.contents) step_line step_view c.args.out.now c.loop-step.out c.write_step.new.out c.args.steps.now c.loop-step.step-index _ _ c.loop-step-test.true
     (c.printed.ensures ∙ ap step_view c.step-item.is) c.loop-step.invariant c.in_ok-write_step.ensures

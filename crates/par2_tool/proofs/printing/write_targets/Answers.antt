@@ -1,17 +1,18 @@
 use Rattle.std.proofs.Common.{◌∙◌, ap}
 use Rattle.std.proofs.lemmas.Result.{err_from_is_err_and}
 use Rattle.par2_spec.specs.Texts.{target_line}
-use Rattle.par2_printing.proofs.WroteLaws.{shown_lines_cut, shown_lines_next}
+use Rattle.par2_printing.specs.Writing.{seen}
+use Rattle.par2_spec.proofs.WritingLaws.{shown_lines_cut, shown_lines_next}
 use Rattle.par2_plan.specs.Views.{target_report_of}
 use Rattle.par2_tool.proofs.printing.write_targets.Goals as goal
 
 pub returns-in_err-write_target : goal.returns-in_err-write_target
 returns-in_err-write_target g c =
     let p = err_from_is_err_and c.from_residual.result c.from_residual.ensures.1 in
-    rw p.1 (shown_lines_cut g.W.Write.contents target_line target_report_of c.args.out.now c.loop-target.out c.write_target.new.out c.args.targets.now c.loop-target.target-index _ _ c.loop-target-test.true
+    rw p.1 (shown_lines_cut (seen g.W.Write.contents) target_line target_report_of c.args.out.now c.loop-target.out c.write_target.new.out c.args.targets.now c.loop-target.target-index _ _ c.loop-target-test.true
     (c.printed_target.ensures ∙ ap target_report_of c.target-item.is) c.loop-target.invariant c.in_err-write_target.ensures)
 
 pub loop-target-preserved : goal.loop-target-preserved
 loop-target-preserved g c =
-    shown_lines_next g.W.Write.contents target_line target_report_of c.args.out.now c.loop-target.out c.write_target.new.out c.args.targets.now c.loop-target.target-index _ _ c.loop-target-test.true
+    shown_lines_next (seen g.W.Write.contents) target_line target_report_of c.args.out.now c.loop-target.out c.write_target.new.out c.args.targets.now c.loop-target.target-index _ _ c.loop-target-test.true
     (c.printed_target.ensures ∙ ap target_report_of c.target-item.is) c.loop-target.invariant c.in_ok-write_target.ensures
