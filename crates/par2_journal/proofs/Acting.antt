@@ -9,13 +9,10 @@ use Rattle.par2_spec.specs.Changes.{Change}
 use Rattle.par2_spec.specs.Commands.{Action, Do, Undo, Redo, Command}
 use Rattle.par2_spec.specs.History.{History, history_after, Run, Accepted, Passed, MayBeRefused, IsChanging, Refusal, NothingToUndo, NothingToRedo}
 use Rattle.par2_spec.specs.Sessions.{Session, KeptSession, OnlyGrew, CanWalk, session_of_kept, session_after, session_with, changes_asked, session_unless, first_entry, history_of, kept_undone, kept_redone}
-use Rattle.par2_spec.proofs.SessionLaws.{accepted_next, refused_alike, done_of_kept, undone_of_kept, redone_of_kept, walked_is_valid}
+use Rattle.par2_spec.proofs.SessionLaws.{accepted_next, refused_alike, done_of_kept, undone_of_kept, redone_of_kept, walked_is_valid, same_session}
 use Rattle.par2_journal.specs.Ready.{Kind, Changing, Undoing, Redoing, IsKindOf, changes_by_kind, after_commit, next_of}
 use Rattle.par2_spec.specs.Opening.{is_valid}
 use Rattle.par2_spec.specs.Plans.{LeadsToAfterAsked}
-
-pub same_session : (old new : KeptSession) → OnlyGrew old new → session_of_kept new ≡ session_of_kept old
-same_session old new grew = λ i. record { folder = grew.files i; undos = grew.undos i; redos = grew.redos i }
 
 -- a command that was made ready
 pub command_done : (old mid : KeptSession) (command : Command) (kind : Kind) → IsChanging (Do command) → OnlyGrew old mid → IsKindOf (Do command) kind

@@ -17,8 +17,7 @@ use Rattle.par2_journal.specs.declared.ahead.Next.TheVariants as ahead
 use Rattle.par2_journal.specs.Spelling.{Turn, SpellsWhere, AreSpelled, HasNext, turn_of, entries_with, halfway_with, settled_with}
 use Rattle.par2_journal.specs.declared.spelling.Journals.{Journals}
 use Rattle.par2_spec.proofs.FolderLaws.{state_files}
-use Rattle.par2_spec.proofs.SessionLaws.{next_taken}
-use Rattle.par2_journal.proofs.Acting.{same_session}
+use Rattle.par2_spec.proofs.SessionLaws.{next_taken, same_session}
 use Rattle.par2_journal.proofs.Turned.{at, undone_to, redone_to, next_undo_is, next_redo_is}
 use Rattle.par2_journal.proofs.Ways.{back_length, takes_none}
 

@@ -4,6 +4,7 @@
 
 mod ahead;
 mod commands;
+mod laws;
 mod opening;
 mod prepared;
 mod session;
@@ -11,6 +12,7 @@ mod spelling;
 mod taking_back;
 
 pub use ahead::Next;
+pub use laws::ready_changes_apply;
 pub use opening::{Opened, opens_as_is};
 pub use par2_plan::{Changes, CreateArgs, Fault, Report, State, TargetReport};
 pub use par2_spec::Action;

@@ -1,6 +1,6 @@
 -- Runs on one store keep one history.
 use Rattle.std.proofs.Common.{◌≡◌, inl, inr, List, [], ◌∷◌, Option, Some, None, Result, Ok, Err, Bool, true, false, refl, sym, ap, subst, ◌∙◌}
-use Rattle.std.specs.Prelude.{IsErr, is_ok, ℕ}
+use Rattle.std.specs.Prelude.{IsErr, ℕ}
 use Rattle.par2_spec.specs.Commands.{Action, Do, Undo, Redo, Create, Verify, Repair, Purge}
 use Rattle.par2_spec.specs.Folders.{Folder}
 use Rattle.par2_spec.specs.History.{History, Refusal, Refused, MayBeRefused, Run, history_after}
@@ -13,10 +13,9 @@ use Rattle.par2_spec.specs.declared.Fault.{Fault}
 use Rattle.par2_spec.specs.Stores.{Contents}
 use Rattle.par2_spec.specs.declared.JournalFault.{JournalFault}
 use Rattle.par2_spec.specs.declared.JournalFault.TheVariants.{JournalInvalid, FolderChanged, Memory}
-use Rattle.par2_spec.proofs.NamesLaws.{false_true}
-use Rattle.par2_spec.proofs.SessionLaws.{accepted_next, refused_alike}
+use Rattle.par2_spec.specs.Journals.{Journal, Spells}
+use Rattle.par2_spec.proofs.SessionLaws.{accepted_next, refused_alike, same_ok, ok_no_err}
 use Rattle.par2_spec.proofs.StopLaws.{taken_back_leads}
-use Rattle.par2_journal_bytes.proofs.Whole.{one_reading}
 use Rattle.par2_tool.specs.Opening.{IsOpened}
 use Rattle.par2_tool.specs.Performing.{IsWritten}
 use Rattle.par2_tool.specs.Holding.{Holds, with_history}
@@ -25,24 +24,22 @@ use Rattle.par2_tool.proofs.Reopened.{settled_on, halfway_by}
 
 -- ---- a store opens in one way
 
-same_ok : {A F : Type 0} (a b : A) → ◌≡◌ {A = Result A F} (Ok a) (Ok b) → a ≡ b
-same_ok a b e = cc
+-- a text spells at most one journal
+abbrev OneReading : Type 0
+OneReading = (text : List ℕ) (a b : Journal) → Spells text a → Spells text b → a ≡ b
 
-ok_no_err : {A F : Type 0} (a : A) (fault : F) → ◌≡◌ {A = Result A F} (Ok a) (Err fault) → ⊥
-ok_no_err a fault e = false_true (sym (ap is_ok e))
-
-one_opening : (folder : Folder) (text : List ℕ) (a b : Result Opened JournalFault) → Opens folder text a → Opens folder text b → a ≡ b
+one_opening : OneReading → (folder : Folder) (text : List ℕ) (a b : Result Opened JournalFault) → Opens folder text a → Opens folder text b → a ≡ b
 unfolding Opens
-one_opening folder text a b (inl p) (inl q) = p.2 ∙ ap (opened folder) (one_reading text p.0 q.0 p.1 q.1) ∙ sym q.2
-one_opening folder text a b (inl p) (inr q) = absurd (q.0 p.0 p.1)
-one_opening folder text a b (inr p) (inl q) = absurd (p.0 q.0 q.1)
-one_opening folder text a b (inr p) (inr q) = p.1 ∙ sym q.1
+one_opening one_reading folder text a b (inl p) (inl q) = p.2 ∙ ap (opened folder) (one_reading text p.0 q.0 p.1 q.1) ∙ sym q.2
+one_opening one_reading folder text a b (inl p) (inr q) = absurd (q.0 p.0 p.1)
+one_opening one_reading folder text a b (inr p) (inl q) = absurd (p.0 q.0 q.1)
+one_opening one_reading folder text a b (inr p) (inr q) = p.1 ∙ sym q.1
 
-one_start : (folder : Folder) (journal : Option (List ℕ)) (a b : Started) → OpensAs folder journal (Ok a) → OpensAs folder journal (Ok b) → a ≡ b
+one_start : OneReading → (folder : Folder) (journal : Option (List ℕ)) (a b : Started) → OpensAs folder journal (Ok a) → OpensAs folder journal (Ok b) → a ≡ b
 unfolding OpensAs
-one_start folder None a b p q = same_ok a b (p ∙ sym q)
-one_start folder (Some text) a b p q =
-    same_ok a b (p.2 ∙ ap (started folder) (one_opening folder text p.0 q.0 p.1 q.1) ∙ sym q.2)
+one_start one_reading folder None a b p q = same_ok a b (p ∙ sym q)
+one_start one_reading folder (Some text) a b p q =
+    same_ok a b (p.2 ∙ ap (started folder) (one_opening one_reading folder text p.0 q.0 p.1 q.1) ∙ sym q.2)
 
 -- ---- and as a session whose entries lead
 
@@ -97,19 +94,19 @@ written_holds Redo s after dropped old between new opened leads written = (with_
 
 -- ---- all of them
 
-pub runs_go : (old new : Contents) (started : Started) (actions : List Action) (n : ℕ) → Holds old started → Runs old actions n new
+pub runs_go : OneReading → (old new : Contents) (started : Started) (actions : List Action) (n : ℕ) → Holds old started → Runs old actions n new
     → (end : Started) × Run (history_of started.session) actions n (history_of end.session) × Holds new end
-runs_go old new started [] n holds Ended = (started, history.Ended, holds)
-runs_go old new started (action ∷ actions) n holds (Accepted done rest) =
-    let same : started.session ≡ done.session = ap (λ (x : Started). x.session) (one_start old.files old.journal started _ holds.opens done.opened.opens) in
+runs_go one_reading old new started [] n holds Ended = (started, history.Ended, holds)
+runs_go one_reading old new started (action ∷ actions) n holds (Accepted done rest) =
+    let same : started.session ≡ done.session = ap (λ (x : Started). x.session) (one_start one_reading old.files old.journal started _ holds.opens done.opened.opens) in
     let valid = start_leads old.files old.journal _ done.opened.opens in
     let goes = (accepted_next done.session done.after action valid done.leads done.accepted).0 in
     let left = written_holds action done.session done.after _ old done.between _ done.opened done.accepted done.written in
-    let later = runs_go _ new left.0 actions _ left.2 rest in
+    let later = runs_go one_reading _ new left.0 actions _ left.2 rest in
     let step = ap (λ s. history_after (history_of s) action) same ∙ goes ∙ ap (λ (s : Session). Ok (history_of s)) (sym left.1) in
     (later.0, history.Accepted step later.1, later.2)
-runs_go old new started (action ∷ actions) n holds (Passed refused rest) =
-    let same : refused.0 ≡ started = one_start old.files old.journal refused.0 started refused.1.opens holds.opens in
+runs_go one_reading old new started (action ∷ actions) n holds (Passed refused rest) =
+    let same : refused.0 ≡ started = one_start one_reading old.files old.journal refused.0 started refused.1.opens holds.opens in
     let may = subst (λ (x : Started). MayBeRefused (history_of x.session) action) same (may_be_refused refused.0.session action _ refused.2) in
-    let later = runs_go _ new started actions n (subst (λ (x : Started). Holds _ x) same refused.1.holds) rest in
+    let later = runs_go one_reading _ new started actions n (subst (λ (x : Started). Holds _ x) same refused.1.holds) rest in
     (later.0, history.Passed may later.1, later.2)

@@ -8,17 +8,15 @@ use Rattle.par2_spec.specs.Commands.{Action}
 use Rattle.par2_spec.specs.Folders.{Folder}
 use Rattle.par2_spec.specs.Journals.{Spells}
 use Rattle.par2_spec.specs.Opening.{OpensAs, TellsApart, halfway_where, journals_of, settled_journal}
-use Rattle.par2_spec.specs.Sessions.{Session, KeptSession, CanWalk, OnlyGrew, session_of_kept, changes_asked, kept_done, kept_undone, kept_redone}
+use Rattle.par2_spec.specs.Sessions.{Session, KeptSession, CanWalk, OnlyGrew, session_of_kept, session_with, changes_asked, kept_done, kept_undone, kept_redone}
 use Rattle.par2_spec.specs.Stores.{Contents, with_journal}
 use Rattle.par2_spec.specs.declared.Version.TheVariants.{Two}
 use Rattle.par2_spec.proofs.FolderLaws.{state_files, taken_are_applicable}
-use Rattle.par2_spec.proofs.SessionLaws.{done_can_walk, undone_can_walk, redone_can_walk, grown_can_walk, walked_is_valid}
+use Rattle.par2_spec.proofs.SessionLaws.{done_can_walk, undone_can_walk, redone_can_walk, grown_can_walk, walked_is_valid, same_session}
 use Rattle.par2_spec.proofs.StopLaws.{settled_stored, halfway_stored}
 use Rattle.par2_journal.specs.Ready.{Kind, Changing, Undoing, Redoing, Ready, CanBe, IsReady, changes_by_kind, after_commit, next_of}
 use Rattle.par2_journal.specs.Spelling.{SpellsWhere, AreSpelled}
 use Rattle.par2_journal.specs.declared.spelling.Journals.{Journals}
-use Rattle.par2_journal.proofs.Acting.{same_session}
-use Rattle.par2_journal.proofs.Spelled.{asked_session, kind_taken}
 use Rattle.par2_tool.specs.Performing.{with_all_changes, with_halfway, after_write_down, IsStoppedAt}
 use Rattle.par2_tool.specs.Holding.{IsOpening, Holds, HasJournalOf, with_history, TellsApartAlong, OpensAsBeforeOrAfter}
 use Rattle.par2_tool.proofs.Made.{all_changed_is, same_changes}
@@ -74,38 +72,48 @@ settled_holds k s text walks spells files =
       opens = subst (λ (f : Folder). OpensAs f (Some text) (Ok (with_history (session_of_kept s)))) (sym files) (settled_stored Two (session_of_kept s) text (walked_is_valid s walks) spells);
     }
 
--- what was made ready applies the changes that the action asks for
-asked_of_mid : (old mid : KeptSession) (action : Action) (ready : Ready) → OnlyGrew old mid → IsReady action old ready mid → changes_asked (session_of_kept old) action ≡ Ok (changes_by_kind ready.kind mid)
-asked_of_mid old mid action ready grew is = is.asked ∙ ap Ok (same_changes old mid ready.kind grew)
+-- ---- what was made ready on a session for an action
 
-pub asked_in_order : (old mid : KeptSession) (action : Action) (ready : Ready) → OnlyGrew old mid → IsReady action old ready mid → (k : Contents) (journals : Journals) (new : Contents) → IsStoppedAt k journals (changes_by_kind ready.kind mid) new
-    → IfOk (changes_asked (session_of_kept old) action) (λ changes. (n : ℕ) × (new.files ≡ effects k.files (take n changes)))
-asked_in_order old mid action ready grew is k journals new stop =
-    subst (λ r. IfOk r (λ changes. (n : ℕ) × (new.files ≡ effects k.files (take n changes)))) (sym (asked_of_mid old mid action ready grew is)) (in_order k journals (changes_by_kind ready.kind mid) new stop)
+pub record IsMadeReady (action : Action) (old : KeptSession) (ready : Ready) (mid : KeptSession) : Type 0 where
+  pub grew : OnlyGrew old mid
+  pub is : IsReady action old ready mid
+  pub walks : CanWalk mid
+  pub applies : IsTrue (takes_all mid.folder (changes_by_kind ready.kind mid))
+  pub commits : session_of_kept (after_commit ready.kind mid) ≡ session_with (session_of_kept mid) action (changes_by_kind ready.kind mid)
 
--- the last journal is that of the session afterwards
-after_spelled : (old mid : KeptSession) (action : Action) (ready : Ready) → OnlyGrew old mid → IsReady action old ready mid → (journals : Journals) → AreSpelled journals (journals_of Two (session_of_kept mid) action (changes_by_kind ready.kind mid))
-    → Spells journals.after.items (settled_journal Two (session_of_kept (after_commit ready.kind mid)))
-unfolding journals_of
-after_spelled old mid action ready grew is journals spelled = subst (λ (s : Session). Spells journals.after.items (settled_journal Two s)) (sym (asked_session action old mid ready grew is)) spelled.1
+-- by the law of what is ready
+pub made_ready : ((kind : Kind) (s : KeptSession) → CanWalk s → CanBe kind s → IsTrue (takes_all s.folder (changes_by_kind kind s)))
+    → ((action : Action) (old new : KeptSession) (ready : Ready) → OnlyGrew old new → IsReady action old ready new
+    → session_of_kept (after_commit ready.kind new) ≡ session_with (session_of_kept new) action (changes_by_kind ready.kind new))
+    → (action : Action) (old : KeptSession) (ready : Ready) (mid : KeptSession) → OnlyGrew old mid → IsReady action old ready mid → CanWalk old → IsMadeReady action old ready mid
+made_ready applies commits action old ready mid grew is walks =
+    let mid_walks = grown_can_walk old mid walks grew in
+    record { grew = grew; is = is; walks = mid_walks; applies = applies ready.kind mid mid_walks is.fits.can; commits = commits action old mid ready grew is }
 
-pub written_journal : (old mid : KeptSession) (action : Action) (ready : Ready) → OnlyGrew old mid → IsReady action old ready mid → (journals : Journals) → AreSpelled journals (journals_of Two (session_of_kept mid) action (changes_by_kind ready.kind mid))
-    → (k : Contents) → HasJournalOf (session_of_kept (after_commit ready.kind mid)) (after_write_down k journals (changes_by_kind ready.kind mid))
-written_journal old mid action ready grew is journals spelled k = (journals.after.items, refl, after_spelled old mid action ready grew is journals spelled)
+module _ (action : Action) (old : KeptSession) (ready : Ready) (mid : KeptSession) (made : IsMadeReady action old ready mid) where
+  -- it applies the changes that the action asks for
+  asked_of_mid : changes_asked (session_of_kept old) action ≡ Ok (changes_by_kind ready.kind mid)
+  asked_of_mid = made.is.asked ∙ ap Ok (same_changes old mid ready.kind made.grew)
 
--- what was made ready can be applied to a store with the session's folder
-pub ready_applies : (old mid : KeptSession) (ready : Ready) → OnlyGrew old mid → CanWalk old → CanBe ready.kind mid → (k : Contents) → k.files ≡ old.folder.files → (cs : List Change) → cs ≡ changes_by_kind ready.kind mid → IsTrue (are_applicable k.files cs)
-ready_applies old mid ready grew walks can k files cs is =
-    let taken = kind_taken ready.kind mid (grown_can_walk old mid walks grew) can in
-    subst (λ f. IsTrue (are_applicable f cs)) (grew.files ∙ sym files) (subst (λ l. IsTrue (are_applicable mid.folder.files l)) (sym is) (taken_are_applicable mid.folder _ taken))
+  pub asked_in_order : (k : Contents) (journals : Journals) (new : Contents) → IsStoppedAt k journals (changes_by_kind ready.kind mid) new
+      → IfOk (changes_asked (session_of_kept old) action) (λ changes. (n : ℕ) × (new.files ≡ effects k.files (take n changes)))
+  asked_in_order k journals new stop =
+      subst (λ r. IfOk r (λ changes. (n : ℕ) × (new.files ≡ effects k.files (take n changes)))) (sym asked_of_mid) (in_order k journals (changes_by_kind ready.kind mid) new stop)
 
-module _ (old mid : KeptSession) (action : Action) (ready : Ready) (grew : OnlyGrew old mid) (is : IsReady action old ready mid) (walks : CanWalk old) (journals : Journals)
+  -- it can be applied to a store with the session's folder
+  pub ready_applies : (k : Contents) → k.files ≡ old.folder.files → (cs : List Change) → cs ≡ changes_by_kind ready.kind mid → IsTrue (are_applicable k.files cs)
+  ready_applies k files cs is =
+      subst (λ f. IsTrue (are_applicable f cs)) (made.grew.files ∙ sym files) (subst (λ l. IsTrue (are_applicable mid.folder.files l)) (sym is) (taken_are_applicable mid.folder _ made.applies))
+
+module _ (action : Action) (old : KeptSession) (ready : Ready) (mid : KeptSession) (made : IsMadeReady action old ready mid) (journals : Journals)
     (spelled : AreSpelled journals (journals_of Two (session_of_kept mid) action (changes_by_kind ready.kind mid))) (k : Contents) (files : k.files ≡ old.folder.files) where
-  cs : List Change
-  cs = changes_by_kind ready.kind mid
+  -- the last journal is that of the session afterwards
+  after_spelled : Spells journals.after.items (settled_journal Two (session_of_kept (after_commit ready.kind mid)))
+  unfolding journals_of
+  after_spelled = subst (λ (s : Session). Spells journals.after.items (settled_journal Two s)) (sym made.commits) spelled.1
 
-  mid_walks : CanWalk mid
-  mid_walks = grown_can_walk old mid walks grew
+  pub written_journal : HasJournalOf (session_of_kept (after_commit ready.kind mid)) (after_write_down k journals (changes_by_kind ready.kind mid))
+  written_journal = (journals.after.items, refl, after_spelled)
 
   halfway_spelled : SpellsWhere journals.halfway (halfway_where Two (session_of_kept mid) (changes_by_kind ready.kind mid))
   unfolding journals_of
@@ -113,8 +121,8 @@ module _ (old mid : KeptSession) (action : Action) (ready : Ready) (grew : OnlyG
 
   pub written_holds : Holds (after_write_down k journals (changes_by_kind ready.kind mid)) (with_history (session_of_kept (after_commit ready.kind mid)))
   written_holds =
-      settled_holds (with_all_changes (with_halfway k journals.halfway) (changes_by_kind ready.kind mid)) (after_commit ready.kind mid) journals.after.items (committed_walks ready.kind mid mid_walks is.fits.can) (after_spelled old mid action ready grew is journals spelled)
-      (changed_files k journals.halfway (changes_by_kind ready.kind mid) ∙ ap (λ f. effects f (changes_by_kind ready.kind mid)) (files ∙ sym grew.files) ∙ sym (committed_files ready.kind mid))
+      settled_holds (with_all_changes (with_halfway k journals.halfway) (changes_by_kind ready.kind mid)) (after_commit ready.kind mid) journals.after.items (committed_walks ready.kind mid made.walks made.is.fits.can) after_spelled
+      (changed_files k journals.halfway (changes_by_kind ready.kind mid) ∙ ap (λ f. effects f (changes_by_kind ready.kind mid)) (files ∙ sym made.grew.files) ∙ sym (committed_files ready.kind mid))
 
   -- behind some of the changes
   passed_opens : (halfway : Option (Vec ℕ Global)) (changes : List Change) (n : ℕ) → SpellsWhere halfway (halfway_where Two (session_of_kept mid) changes) → takes_all mid.folder changes ≡ true → TellsApart mid.folder.files changes → n ≤ length changes
@@ -124,20 +132,20 @@ module _ (old mid : KeptSession) (action : Action) (ready : Ready) (grew : OnlyG
   passed_opens (Some text) [] n spells taken apart le = absurd spells
   passed_opens (Some text) (c ∷ rest) n spells taken apart le =
       let s = session_of_kept mid in
-      let opens = halfway_stored Two s (c ∷ rest) n text.items (walked_is_valid mid mid_walks) (taken_are_applicable mid.folder (c ∷ rest) taken) apart le spells in
-      let is_there = all_changed_is (with_journal k text.items) (take n (c ∷ rest)) ∙ ap (λ f. record { files = effects f (take n (c ∷ rest)); journal = Some text.items }) (files ∙ sym grew.files) in
+      let opens = halfway_stored Two s (c ∷ rest) n text.items (walked_is_valid mid made.walks) (taken_are_applicable mid.folder (c ∷ rest) taken) apart le spells in
+      let is_there = all_changed_is (with_journal k text.items) (take n (c ∷ rest)) ∙ ap (λ f. record { files = effects f (take n (c ∷ rest)); journal = Some text.items }) (files ∙ sym made.grew.files) in
       inr (subst (λ (x : Contents). IsOpening x (Ok (with_history s))) (sym is_there) opens)
 
   apart_from_mid : TellsApartAlong (session_of_kept old) action → TellsApart mid.folder.files (changes_by_kind ready.kind mid)
   apart_from_mid apart =
-      subst (λ (f : Folder). TellsApart f (changes_by_kind ready.kind mid)) (sym grew.files) (subst (λ r. IfOk r (TellsApart old.folder.files)) (asked_of_mid old mid action ready grew is) apart)
+      subst (λ (f : Folder). TellsApart f (changes_by_kind ready.kind mid)) (sym made.grew.files) (subst (λ r. IfOk r (TellsApart old.folder.files)) (asked_of_mid action old ready mid made) apart)
 
   pub stopped_opens : (new : Contents) → IsStoppedAt k journals (changes_by_kind ready.kind mid) new → TellsApartAlong (session_of_kept old) action → OpensAsBeforeOrAfter (session_of_kept old) action k new
   stopped_opens new (inl e) apart = inl e
   stopped_opens new (inr (inl s)) apart =
-      elim (passed_opens journals.halfway (changes_by_kind ready.kind mid) s.0 halfway_spelled (kind_taken ready.kind mid mid_walks is.fits.can) (apart_from_mid apart) s.1) as (λ _. OpensAsBeforeOrAfter (session_of_kept old) action k new) [
+      elim (passed_opens journals.halfway (changes_by_kind ready.kind mid) s.0 halfway_spelled made.applies (apart_from_mid apart) s.1) as (λ _. OpensAsBeforeOrAfter (session_of_kept old) action k new) [
         | inl none ↦ inl (s.2 ∙ none)
-        | inr opens ↦ inr (inl (subst (λ (t : Session). IsOpening new (Ok (with_history t))) (same_session old mid grew) (subst (λ (x : Contents). IsOpening x (Ok (with_history (session_of_kept mid)))) (sym s.2) opens)))
+        | inr opens ↦ inr (inl (subst (λ (t : Session). IsOpening new (Ok (with_history t))) (same_session old mid made.grew) (subst (λ (x : Contents). IsOpening x (Ok (with_history (session_of_kept mid)))) (sym s.2) opens)))
       ]
   stopped_opens new (inr (inr e)) apart =
-      inr (inr (session_of_kept (after_commit ready.kind mid), is.leads, subst (λ (x : Contents). Holds x (with_history (session_of_kept (after_commit ready.kind mid)))) (sym e) written_holds))
+      inr (inr (session_of_kept (after_commit ready.kind mid), made.is.leads, subst (λ (x : Contents). Holds x (with_history (session_of_kept (after_commit ready.kind mid)))) (sym e) written_holds))

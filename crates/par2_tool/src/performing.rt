@@ -10,7 +10,7 @@ ghost use Rattle.par2_tool.specs.Refusals.{IsRefused, IsSession};
 
 use crate::writing::write_down;
 use par2_folder::FolderStore;
-use par2_journal::{Report, Session, SessionFault, Steps};
+use par2_journal::{Report, Session, SessionFault, Steps, ready_changes_apply};
 use par2_spec::{Command, Fault};
 use std::alloc::{AllocError, Global};
 
@@ -74,8 +74,10 @@ pub fn perform<S: FolderStore>(
     ensures nothing_to_redo { command_of command.now ≡ Redo → session.old.redos ≡ []
         → IsErrOf result (PerformFault.Session SessionFault.NothingToRedo) }
 {
-    // What a stop leaves opens only where the session's entries can be walked: the call's contract says so.
+    // What a stop leaves opens only where the session's entries can be walked: the call's contract says so. Then what
+    // is ready can be applied, by this law.
     let _folder = session.folder();
+    ready_changes_apply();
     let action = match command {
         Command::Verify { base, extras } => {
             return match session.verify(alloc, base.as_str(), extras.as_slice()) {
