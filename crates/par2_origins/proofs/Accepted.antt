@@ -24,8 +24,9 @@ use Rattle.par2_spec.specs.Commands.{CreateArgs, Create, files_of, outputs_of}
 use Rattle.par2_spec.specs.Refusals.{are_counts, is_input_name, create_refusal, refusal}
 use Rattle.par2_origins.specs.Volumes.{AreInputs}
 use Rattle.par2_origins.specs.Creates.{FitsCreate}
-use Rattle.par2_origins.proofs.Said.{all_of_each}
 use Rattle.par2_origins.proofs.Inputs.{either_way}
+use Rattle.par2_spec.proofs.RankLaws.{all_weaker}
+use Rattle.par2_spec.proofs.ReadLaws.{length-filter-le, length-distinct-le}
 
 -- ---- tests that find no fault
 
@@ -127,26 +128,14 @@ each_new front (x ∷ rest) h =
     (subst (λ n. AllByRecursion (λ z. is_among (take z.0 (longer ++ rest)) z.1 ≡ false) (enumerate_from n rest)) place
     (subst (λ all. AllByRecursion (λ z. is_among (take z.0 all) z.1 ≡ false) (enumerate_from (length front + 1) rest)) whole h.1)) in
     let here : is_among front x ≡ false = ap (λ ns. is_among ns x) (sym (taken_all front (x ∷ rest))) ∙ h.0 in (
-      (here, all_of_each (λ y. is_among longer y ≡ false) (λ y. is_among front y ≡ false) (λ y k. (parts y k).0) rest later.0),
-      (all_of_each (λ y. is_among longer y ≡ false) (λ y. bytes_eq x y ≡ false) (λ y k. either_way x y ∙ (parts y k).1) rest later.0, later.1),
+      (here, all_weaker (λ y. is_among longer y ≡ false) (λ y. is_among front y ≡ false) (λ y k. (parts y k).0) rest later.0),
+      (all_weaker (λ y. is_among longer y ≡ false) (λ y. bytes_eq x y ≡ false) (λ y k. either_way x y ∙ (parts y k).1) rest later.0, later.1),
     )
   where
     parts : (y : List ℕ) → is_among (front ++ x ∷ []) y ≡ false → (is_among front y ≡ false) × (bytes_eq y x ≡ false)
     parts y k =
         let two = or_parts (is_among front y) (is_among (x ∷ []) y) (sym (list_any-append (bytes_eq y) front (x ∷ [])) ∙ k) in
         (two.0, (or_parts (bytes_eq y x) false two.1).0)
-
-length-filter-le : (p : List ℕ → Bool) (xs : List (List ℕ)) → length (filter p xs) ≤ length xs
-length-filter-le p [] = omega arith
-length-filter-le p (x ∷ xs) = step (p x) (filter p xs) (length-filter-le p xs)
-  where
-    step : (b : Bool) (ys : List (List ℕ)) → length ys ≤ length xs → length (cond b (x ∷ ys) ys) ≤ suc (length xs)
-    step true ys h = omega (arith, h)
-    step false ys h = omega (arith, h)
-
-length-distinct-le : (xs : List (List ℕ)) → length (distinct xs) ≤ length xs
-length-distinct-le [] = omega arith
-length-distinct-le (x ∷ xs) = omega (arith, length-filter-le (λ other. not (bytes_eq x other)) (distinct xs), length-distinct-le xs)
 
 -- a filter that leaves as many leaves all
 filter_full : (p : List ℕ → Bool) (xs : List (List ℕ)) → length (filter p xs) ≡ length xs → AllByRecursion (λ x. p x ≡ true) xs
@@ -168,7 +157,7 @@ none_left_out (x ∷ xs) e =
     let c : suc (length (filter p (distinct xs))) ≡ suc (length xs) = e in
     let rest = none_left_out xs (omega (arith, a, b, c)) in
     let full = filter_full p xs (sym (ap (λ ys. length (filter p ys)) rest.0) ∙ omega (arith, c)) in
-    let apart = all_of_each (λ y. p y ≡ true) (λ y. bytes_eq x y ≡ false) (λ y k. differs (bytes_eq x y) k) xs full in
+    let apart = all_weaker (λ y. p y ≡ true) (λ y. bytes_eq x y ≡ false) (λ y k. differs (bytes_eq x y) k) xs full in
     (ap (λ ys. x ∷ filter p ys) rest.0 ∙ ap (λ ys. x ∷ ys) (all_stay p xs full), (apart, rest.1))
   where
     differs : (b : Bool) → not b ≡ true → b ≡ false
@@ -197,7 +186,7 @@ found_bytes P q (e ∷ es) h none = step (eq_by_cmp (slice_cmp nat_cmp) q e.0) (
 file_small : (folder : Folder) → IsFolder folder → (name : List ℕ) → length (bytes_of folder name) < 2 ^ 64
 file_small folder whole name =
     subst (λ o. length (unwrap_or o []) < 2 ^ 64) (sym (get-entries folder name))
-    (found_bytes (λ bytes. length bytes < 2 ^ 64) name (files folder) (all_of_each (λ file. (is_name file.0 ≡ true) × (length file.1 < 2 ^ 64)) (λ file. length file.1 < 2 ^ 64) (λ file h. h.1) (files folder) whole) (omega arith))
+    (found_bytes (λ bytes. length bytes < 2 ^ 64) name (files folder) (all_weaker (λ file. (is_name file.0 ≡ true) × (length file.1 < 2 ^ 64)) (λ file. length file.1 < 2 ^ 64) (λ file h. h.1) (files folder) whole) (omega arith))
 
 files_small : (folder : Folder) → IsFolder folder → (inputs : List (List ℕ)) → AllByRecursion (λ file. length file.1 < 2 ^ 64) (files_of folder inputs)
 files_small folder whole [] = tt

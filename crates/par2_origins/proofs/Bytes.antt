@@ -1,5 +1,5 @@
 -- Sizes of what a set says of files: digests of sixteen bytes and checksums of 32 bits.
-use Rattle.std.proofs.Common.{ℕ, zero, suc, ◌+◌, ◌*◌, ◌/◌, ◌%◌, ◌^◌, ◌<◌, List, [], ◌∷◌, ◌++◌, length, map, take, drop, replicate, arith}
+use Rattle.std.proofs.Common.{ℕ, zero, suc, ◌+◌, ◌*◌, ◌/◌, ◌%◌, ◌^◌, ◌<◌, List, [], ◌∷◌, length, map, arith}
 use Rattle.std.specs.Prelude.{bit_xor, fold}
 use Rattle.std.specs.List.{AllByRecursion, range_with_len}
 use Rattle.std.proofs.lemmas.Nat.{xor_lt}
@@ -7,6 +7,7 @@ use Rattle.md5.proofs.StandardFacts.{length-md5}
 use Rattle.par2_spec.specs.Checksums.{crc_step, crc_steps, crc_byte, crc32, pair_of, IsPair}
 use Rattle.par2_spec.specs.Slices.{slice_at, slice_count, slices}
 use Rattle.par2_spec.specs.Rank.{AreBytes}
+use Rattle.par2_spec.proofs.RestoredLaws.{bytes-slice_at}
 
 -- ---- checksums
 
@@ -26,28 +27,6 @@ unfolding crc32
 crc_small bytes h = xor_lt 32 (fold crc_byte 0xFFFFFFFF bytes) 0xFFFFFFFF (fold_small bytes 0xFFFFFFFF h (omega arith)) (omega arith)
 
 -- ---- the bytes of slices
-
-bytes-append : (xs ys : List ℕ) → AreBytes xs → AreBytes ys → AreBytes (xs ++ ys)
-bytes-append [] ys h k = k
-bytes-append (x ∷ xs) ys h k = (h.0, bytes-append xs ys h.1 k)
-
-bytes-take : (n : ℕ) (xs : List ℕ) → AreBytes xs → AreBytes (take n xs)
-bytes-take zero xs h = tt
-bytes-take (suc n) [] h = tt
-bytes-take (suc n) (x ∷ xs) h = (h.0, bytes-take n xs h.1)
-
-bytes-drop : (n : ℕ) (xs : List ℕ) → AreBytes xs → AreBytes (drop n xs)
-bytes-drop zero xs h = h
-bytes-drop (suc n) [] h = tt
-bytes-drop (suc n) (x ∷ xs) h = bytes-drop n xs h.1
-
-bytes-zeros : (n : ℕ) → AreBytes (replicate n 0)
-bytes-zeros zero = tt
-bytes-zeros (suc n) = (omega arith, bytes-zeros n)
-
-bytes-slice_at : (s : ℕ) (text : List ℕ) (j : ℕ) → AreBytes text → AreBytes (slice_at s text j)
-bytes-slice_at s text j h =
-    bytes-append (take s (drop (j * s) text)) _ (bytes-take s (drop (j * s) text) (bytes-drop (j * s) text h)) (bytes-zeros _)
 
 pairs_at : (s : ℕ) (text : List ℕ) (a n : ℕ) → AreBytes text → AllByRecursion IsPair (map pair_of (map (slice_at s text) (range_with_len a n)))
 pairs_at s text a zero h = tt

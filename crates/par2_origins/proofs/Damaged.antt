@@ -4,10 +4,7 @@ use Rattle.std.specs.Prelude.{is_some, codes}
 use Rattle.std.specs.List.{AllByRecursion, Contains}
 use Rattle.std.specs.Str.{bytes_eq, str_to_ascii_lowercase}
 use Rattle.std.specs.FinMap as map_of
-use Rattle.std.specs.FinMap.{get-insert}
-use Rattle.std.specs.Cmp.Lexicographic.{nat_list_cmp_total}
-use Rattle.std.proofs.lemmas.Map.Text.{is_eq-slice_cmp}
-use Rattle.std.proofs.lemmas.Bool.{false≢true, and_parts, or_from, or_cases}
+use Rattle.std.proofs.lemmas.Bool.{false≢true, and_parts, or_from}
 use Rattle.std.proofs.lemmas.List.Elements.{recursion_from_All, filter_passes}
 use Rattle.std.proofs.Math.Seq.{drop-append_seam}
 use Rattle.par2_spec.specs.Names.{is_name, is_par_name, is_among, par2_ending}
@@ -19,15 +16,14 @@ use Rattle.par2_spec.specs.Commands.{CreateArgs, Create, files_of, outputs_of}
 use Rattle.par2_spec.specs.Refusals.{refusal, after}
 use Rattle.par2_origins.specs.Volumes.{IsVolume, IsVolumeOrOther, IsOfOthers, set_id_of, HoldsVolumes}
 use Rattle.par2_origins.specs.Creates.{FitsCreate, IsDamage, output_names}
-use Rattle.par2_origins.proofs.Said.{all_of_each, same_some}
-use Rattle.par2_origins.proofs.Reading.{same_bytes}
+use Rattle.par2_origins.proofs.Said.{same_some}
 use Rattle.par2_origins.proofs.Present.{contained_first, contained_later}
 use Rattle.par2_origins.proofs.Accepted.{passes}
+use Rattle.par2_spec.proofs.RankLaws.{all_weaker}
+use Rattle.par2_spec.proofs.MovesLaws.{get_put}
+use Rattle.par2_spec.proofs.FilesLaws.{at_name}
 
 -- ---- what stands under a name
-
-pub get_put : (folder : Folder) (name bytes q : List ℕ) → map_of.get (map_of.insert folder name bytes) q ≡ cond (bytes_eq q name) (Some bytes) (map_of.get folder q)
-get_put folder name bytes q = get-insert nat_list_cmp_total folder name bytes q ∙ ap (λ t. cond t (Some bytes) (map_of.get folder q)) (is_eq-slice_cmp q name)
 
 -- the bytes of files
 abbrev pub bytes_in : List File → List (List ℕ)
@@ -73,13 +69,6 @@ par_outputs : (before : Folder) (a : CreateArgs) → is_par_name a.base ≡ true
 unfolding volumes
 par_outputs before a h = (h, par_volumes a.base (λ i. a.first + volumes_before i) (volume_size a.count) _ (volume_numbers a.count))
 
-of_among : (P : List ℕ → Type 0) (xs : List (List ℕ)) (q : List ℕ) → AllByRecursion P xs → is_among xs q ≡ true → P q
-of_among P [] q h i = absurd (false≢true i)
-of_among P (x ∷ xs) q h i = elim (or_cases (bytes_eq q x) (is_among xs q) i) as (λ _. P q) [
-  | inl here ↦ subst P (sym (same_bytes q x here)) h.0
-  | inr there ↦ of_among P xs q h.1 there
-]
-
 -- ---- the par files of a damaged folder
 
 module _ (before damaged : Folder) (a : CreateArgs) (base : List ℕ) (accepted : refusal before (Create a) ≡ None) (fits : FitsCreate before a) (damage : IsDamage before damaged a base) where
@@ -118,7 +107,7 @@ module _ (before damaged : Folder) (a : CreateArgs) (base : List ℕ) (accepted 
 
   base_written : Contains (bytes_in (outputs_of before a)) (bytes_of damaged base)
   base_written =
-      let par = of_among (λ name. is_par_name name ≡ true) (output_names before a) base (par_outputs before a (and_parts (is_name a.base) (is_par_name a.base) (passes before a accepted).base).1) damage.written in
+      let par = at_name (λ name. is_par_name name ≡ true) (output_names before a) base (par_outputs before a (and_parts (is_name a.base) (is_par_name a.base) (passes before a accepted).base).1) damage.written in
       elim (laid_cases (outputs_of before a) before base (bytes_of damaged base) (is_there base par damage.there)) as (λ _. Contains (bytes_in (outputs_of before a)) (bytes_of damaged base)) [
         | inl i ↦ i
         | inr r ↦ absurd (false≢true (sym r.0 ∙ damage.written))
@@ -127,7 +116,7 @@ module _ (before damaged : Folder) (a : CreateArgs) (base : List ℕ) (accepted 
   pub holds_volumes : HoldsVolumes damaged base a.slice_size inputs
   holds_volumes = record {
     of_base = written (bytes_of damaged base) base_written;
-    of_others = all_of_each (λ name. (is_par_name name && not (bytes_eq name base)) ≡ true) (λ name. IsVolumeOrOther a.slice_size inputs (bytes_of damaged name))
+    of_others = all_weaker (λ name. (is_par_name name && not (bytes_eq name base)) ≡ true) (λ name. IsVolumeOrOther a.slice_size inputs (bytes_of damaged name))
         (λ name h. each_par name (and_parts (is_par_name name) (not (bytes_eq name base)) h).0) (other_par_names damaged base)
         (recursion_from_All (λ name. (is_par_name name && not (bytes_eq name base)) ≡ true) (other_par_names damaged base) (filter_passes (λ name. is_par_name name && not (bytes_eq name base)) (names damaged)));
   }

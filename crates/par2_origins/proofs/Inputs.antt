@@ -6,8 +6,7 @@ use Rattle.std.specs.Str.{bytes_eq, is_utf8}
 use Rattle.std.proofs.lemmas.Bool.{and_parts, leb-true, eqb-true}
 use Rattle.std.proofs.lemmas.List.{length-map}
 use Rattle.std.proofs.lemmas.List.Sums.{sum_by-cons}
-use Rattle.std.proofs.lemmas.List.Elements.{All-from_recursion, recursion_from_All}
-use Rattle.std.proofs.lemmas.List.Sorted.{All-permutation, IsPermutation-map, sum_by-IsPermutation, length_permutation}
+use Rattle.std.proofs.lemmas.List.Sorted.{IsPermutation-map, sum_by-IsPermutation, length_permutation}
 use Rattle.std.proofs.lemmas.Map.Keys.{IsDistinct-IsPermutation}
 use Rattle.md5.proofs.StandardFacts.{length-md5}
 use Rattle.par2_spec.specs.Checksums.{pair_of}
@@ -20,8 +19,10 @@ use Rattle.par2_spec.specs.Sets.{is_slice_size}
 use Rattle.par2_origins.specs.Packets.{AreDescribed}
 use Rattle.par2_origins.specs.Volumes.{AreInputs}
 use Rattle.par2_origins.proofs.Bytes.{pairs_are}
-use Rattle.par2_origins.proofs.Said.{all_of_each, all-map}
 use Rattle.par2_origins.proofs.Reading.{same_bytes, itself}
+use Rattle.par2_spec.proofs.ListsLaws.{all-map}
+use Rattle.par2_spec.proofs.RankLaws.{all_weaker}
+use Rattle.par2_spec.proofs.OrderLaws.{moved-all}
 
 -- ---- in another order
 
@@ -35,9 +36,6 @@ either_way a b = same (bytes_eq a b) (bytes_eq b a) (turned a b) (turned b a)
     same true q f g = sym (f refl)
     same false true f g = g refl
     same false false f g = refl
-
-pub moved-all : {A : Type 0} (P : A → Type 0) (xs ys : List A) → IsPermutation xs ys → AllByRecursion P xs → AllByRecursion P ys
-moved-all P xs ys m h = recursion_from_All P ys (All-permutation P xs ys m (All-from_recursion P xs h))
 
 pub moved : (s : ℕ) (files others : List File) → IsPermutation files others → AreInputs s files → AreInputs s others
 moved s files others m is = record {
@@ -130,6 +128,6 @@ described s files is =
       few = is.few;
       sizes = is.sizes;
       bytes = is.bytes;
-      names = all_of_each (λ file. IsTrue (is_name file.0)) (λ file. list_any (λ b. b == 0) file.0 ≡ false) (λ file h. (name_parts file.0 h).1) files is.names;
+      names = all_weaker (λ file. IsTrue (is_name file.0)) (λ file. list_any (λ b. b == 0) file.0 ≡ false) (λ file h. (name_parts file.0 h).1) files is.names;
       ids_once = is.ids_once;
     }

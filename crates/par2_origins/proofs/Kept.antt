@@ -1,7 +1,7 @@
 -- A folder of volumes holds the set that was made from their files.
-use Rattle.std.proofs.Common.{◌≡◌, ℕ, ◌+◌, ◌≤◌, Bool, true, false, not, List, [], ◌∷◌, ◌++◌, length, map, Some, Ok, refl, sym, ap, ◌∙◌, subst, inl, inr, ◌⊎◌, append_assoc}
+use Rattle.std.proofs.Common.{◌≡◌, ℕ, ◌+◌, ◌≤◌, true, false, not, List, [], ◌∷◌, ◌++◌, length, map, Some, Ok, refl, sym, ap, ◌∙◌, subst, inl, inr, ◌⊎◌, append_assoc}
 use Rattle.std.specs.Prelude.{flat_map, filter, slice_get, ok_or, sum_by}
-use Rattle.std.specs.List.{AllByRecursion, IsDistinct, list_all}
+use Rattle.std.specs.List.{AllByRecursion, IsDistinct}
 use Rattle.std.specs.Str.{bytes_eq}
 use Rattle.std.proofs.lemmas.Bool.{false≢true, and_from, eq-eqb, le-leb}
 use Rattle.std.proofs.lemmas.List.{length-map}
@@ -16,18 +16,15 @@ use Rattle.par2_spec.specs.Volumes.{record_of, in_id_order, index_packets, packe
 use Rattle.par2_spec.specs.Sets.{ParSet, MadeFrom, ◌>>=◌, unless, all_some, packets_with, main_of, description_of, target_of, target_of_file, are_in_profile, read_set, other_par_names, set_of}
 use Rattle.par2_origins.specs.Volumes.{AreInputs, IsVolume, set_id_of, IsOfOthers, HoldsVolumes}
 use Rattle.par2_origins.proofs.Laws.{AreRead, AreKept}
-use Rattle.par2_origins.proofs.Said.{all_of_each, main_of_files, desc_of_file}
+use Rattle.par2_origins.proofs.Said.{main_of_files, desc_of_file}
 use Rattle.par2_origins.proofs.Reading.{AllSay, itself}
 use Rattle.par2_origins.proofs.Made.{finished, by_checksums, by_profile, by_descriptions, by_size, by_main, set_with, SaysIfOurs, folder_says, made_if_said}
 use Rattle.par2_origins.proofs.Inputs.{moved, described}
 use Rattle.par2_origins.proofs.Written.{index_of, slices_of, IsReadAs, volumes_read, IsOurs, volume_ours}
 use Rattle.par2_origins.proofs.Present.{main_there, descriptions_found, targets_found}
+use Rattle.par2_spec.proofs.RankLaws.{all_weaker, test_from_all}
 
 -- ---- what is described is in the profile
-
-all_pass : {A : Type 0} (test : A → Bool) (xs : List A) → AllByRecursion (λ x. test x ≡ true) xs → list_all test xs ≡ true
-all_pass test [] h = refl
-all_pass test (x ∷ xs) h = and_from (test x) (list_all test xs) h.0 (all_pass test xs h.1)
 
 others_stay : (x : List ℕ) (xs : List (List ℕ)) → AllByRecursion (λ y. bytes_eq x y ≡ false) xs → filter (λ y. not (bytes_eq x y)) xs ≡ xs
 others_stay x [] h = refl
@@ -65,7 +62,7 @@ in_profile s files is =
     ∙ length-map files (λ file. file.0) ∙ sym (length-map files (desc_of_file s)) in
     and_from _ _
     (and_from _ _ (le-leb (sum_by (λ (x : DescBody). slice_count s x.size) ds) 32768 (subst (λ n. n ≤ 32768) (sym (count_described s files)) is.slices))
-    (all_pass (λ (x : DescBody). is_name x.name) ds (are_names s files is.names)))
+    (test_from_all (λ (x : DescBody). is_name x.name) ds (are_names s files is.names)))
     (eq-eqb (length (distinct (map (λ x. x.name) ds))) (length ds) once)
 
 -- ---- the base is read
@@ -110,11 +107,11 @@ module _ (laws : AreRead) (kept : AreKept) (folder : Folder) (base : List ℕ) (
   inputs = moved s files ordered (kept.order files) is
 
   volume_says : (text : List ℕ) → IsVolume s files text → AllByRecursion (SaysIfOurs id s ordered) (accepted text)
-  volume_says text v = all_of_each (IsOurs s ordered) (SaysIfOurs id s ordered) (λ p ours own. ours.1) (accepted text) (volume_ours s ordered text (volumes_read kept s files inputs text v))
+  volume_says text v = all_weaker (IsOurs s ordered) (SaysIfOurs id s ordered) (λ p ours own. ours.1) (accepted text) (volume_ours s ordered text (volumes_read kept s files inputs text v))
 
   others_say : (text : List ℕ) → IsOfOthers id text → AllByRecursion (SaysIfOurs id s ordered) (accepted text)
   others_say text h =
-      all_of_each (λ p. bytes_eq p.set_id id ≡ false) (SaysIfOurs id s ordered) (λ p other own. absurd (false≢true (sym other ∙ subst (λ x. bytes_eq x id ≡ true) (sym own) (itself id)))) (accepted text) h
+      all_weaker (λ p. bytes_eq p.set_id id ≡ false) (SaysIfOurs id s ordered) (λ p other own. absurd (false≢true (sym other ∙ subst (λ x. bytes_eq x id ≡ true) (sym own) (itself id)))) (accepted text) h
 
   each_says : (text : List ℕ) → IsVolume s files text ⊎ IsOfOthers id text → AllByRecursion (SaysIfOurs id s ordered) (accepted text)
   each_says text (inl v) = volume_says text v
@@ -123,7 +120,7 @@ module _ (laws : AreRead) (kept : AreKept) (folder : Folder) (base : List ℕ) (
   all_say : AllByRecursion (λ name. AllByRecursion (SaysIfOurs id s ordered) (accepted (bytes_of folder name))) (base ∷ other_par_names folder base)
   all_say = (
     volume_says (bytes_of folder base) holds.of_base,
-    all_of_each (λ name. IsVolume s files (bytes_of folder name) ⊎ IsOfOthers id (bytes_of folder name)) (λ name. AllByRecursion (SaysIfOurs id s ordered) (accepted (bytes_of folder name)))
+    all_weaker (λ name. IsVolume s files (bytes_of folder name) ⊎ IsOfOthers id (bytes_of folder name)) (λ name. AllByRecursion (SaysIfOurs id s ordered) (accepted (bytes_of folder name)))
         (λ name h. each_says (bytes_of folder name) h) (other_par_names folder base) holds.of_others,
   )
 

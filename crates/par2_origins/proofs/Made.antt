@@ -1,10 +1,9 @@
 -- A set whose packets are those of certain files was made from them.
-use Rattle.std.proofs.Common.{◌≡◌, ℕ, Bool, true, false, cond, List, [], ◌∷◌, map, Option, Some, None, Result, Ok, Err, refl, sym, ap, ◌∙◌, subst}
+use Rattle.std.proofs.Common.{◌≡◌, ℕ, Bool, true, false, cond, List, [], ◌∷◌, map, Result, Ok, Err, refl, sym, ap, ◌∙◌, subst}
 use Rattle.std.specs.Prelude.{flat_map, slice_get, ok_or}
 use Rattle.std.specs.List.{AllByRecursion}
 use Rattle.std.specs.Str.{bytes_eq}
 use Rattle.std.specs.FinMap as map_of
-use Rattle.std.proofs.lemmas.Bool.{false≢true}
 use Rattle.par2_spec.specs.declared.Fault.{Fault}
 use Rattle.par2_spec.specs.declared.Fault.TheVariants.{NoPackets, NoMain, NoDescription, NoChecksums, BadSet}
 use Rattle.par2_spec.specs.Recovery.{recovery}
@@ -14,26 +13,17 @@ use Rattle.par2_spec.specs.Volumes.{all_slices}
 use Rattle.par2_spec.specs.Sets.{ParSet, Target, MadeFrom, ◌>>=◌, unless, all_some, is_slice_size, packets_with, main_of, description_of, target_of, are_in_profile, recovery_of, read_set, other_par_names, set_of, target_of_file}
 use Rattle.par2_origins.specs.Packets.{AreDescribed, is_read, IsOf, AreOf, AreAllOf}
 use Rattle.par2_origins.proofs.Laws.{AreRead}
-use Rattle.par2_origins.proofs.Said.{Says, packet_says, all-append, all_of_each, main_of_files, desc_of_file}
+use Rattle.par2_origins.proofs.Said.{Says, packet_says, main_of_files, desc_of_file}
 use Rattle.par2_origins.proofs.Reading.{AllSay, same_bytes, main_is, descriptions_are, targets_are, recovery_is}
+use Rattle.par2_spec.proofs.ListsLaws.{all-append}
+use Rattle.par2_spec.proofs.RankLaws.{all_weaker}
+use Rattle.par2_spec.proofs.ReadLaws.{took, was_some}
 
 -- ---- the steps of the reading, the last one first
-
-abbrev pub came_out : {A : Type 0} → Result A Fault → Bool
-came_out (Ok a) = true
-came_out (Err e) = false
 
 abbrev pub value_or : {A : Type 0} → A → Result A Fault → A
 value_or d (Ok a) = a
 value_or d (Err e) = d
-
-took : {A B : Type 0} (r : Result A Fault) (f : A → Result B Fault) (b : B) → (r >>= f) ≡ Ok b → (a : A) × (r ≡ Ok a) × (f a ≡ Ok b)
-took (Ok a) f b h = (a, refl, h)
-took (Err e) f b h = absurd (false≢true (ap came_out h))
-
-was_some : {A : Type 0} (o : Option A) (e : Fault) (a : A) → ok_or o e ≡ Ok a → o ≡ Some a
-was_some None e a h = absurd (false≢true (ap came_out h))
-was_some (Some x) e a h = ap (λ r. Some (value_or x r)) h
 
 abbrev pub set_with : List ℕ → List Packet → ℕ → List Target → ParSet
 set_with id packets s targets = record { id = id; slice_size = s; targets = targets; recovery = recovery_of packets s }
@@ -131,6 +121,6 @@ pub made_from : AreRead → (folder : Folder) (base : List ℕ) (set : ParSet) (
     → AreAllOf folder base set.id s files → MadeFrom folder base files s
 made_from laws folder base set s files reads d all =
     made_if_said laws folder base set s files reads d
-    (all_of_each (λ name. AreOf set.id s files (bytes_of folder name)) (λ name. AllByRecursion (SaysIfOurs set.id s files) (accepted (bytes_of folder name)))
-    (λ name h. all_of_each (λ p. p.set_id ≡ set.id → is_read p.kind ≡ true → IsOf s files p) (SaysIfOurs set.id s files) (λ p is own. packet_says s files p (is own)) (accepted (bytes_of folder name)) h)
+    (all_weaker (λ name. AreOf set.id s files (bytes_of folder name)) (λ name. AllByRecursion (SaysIfOurs set.id s files) (accepted (bytes_of folder name)))
+    (λ name h. all_weaker (λ p. p.set_id ≡ set.id → is_read p.kind ≡ true → IsOf s files p) (SaysIfOurs set.id s files) (λ p is own. packet_says s files p (is own)) (accepted (bytes_of folder name)) h)
     (base ∷ other_par_names folder base) all)

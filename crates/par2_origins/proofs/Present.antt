@@ -17,10 +17,11 @@ use Rattle.par2_spec.specs.Volumes.{FileRecord, record_of, id_of, index_packets,
 use Rattle.par2_spec.specs.Sets.{packets_with, main_of, description_of, pairs_of, target_of, target_of_file, all_some}
 use Rattle.par2_origins.specs.Packets.{AreDescribed}
 use Rattle.par2_origins.proofs.Laws.{AreRead}
-use Rattle.par2_origins.proofs.Said.{all_of_each, of_contained, all_contained, same_some, IsDescribed, each_described, main_of_files, desc_of_file, ifsc_of_file, main_written, desc_written, ifsc_written}
+use Rattle.par2_origins.proofs.Said.{of_contained, all_contained, same_some, IsDescribed, each_described, main_of_files, desc_of_file, ifsc_of_file, main_written, desc_written, ifsc_written}
 use Rattle.par2_origins.proofs.Reading.{AllSay, itself, contained_cases, map-map, by_ids, target_with, description_is, pairs_are_its, target_is}
 use Rattle.par2_origins.proofs.Inputs.{pairs_count}
 use Rattle.par2_origins.proofs.Written.{index_of}
+use Rattle.par2_spec.proofs.RankLaws.{all_weaker}
 
 -- ---- one of a list
 
@@ -174,10 +175,10 @@ module _ (laws : AreRead) (s : ℕ) (files : List File) (d : AreDescribed s file
     descriptions_found =
         ap all_some (by_ids (description_of packets) s files)
         ∙ all_are (λ file. description_of packets (id_of file)) (desc_of_file s) files
-        (all_of_each (Contains files) (λ file. description_of packets (id_of file) ≡ Some (desc_of_file s file)) description_found files (all_contained files))
+        (all_weaker (Contains files) (λ file. description_of packets (id_of file) ≡ Some (desc_of_file s file)) description_found files (all_contained files))
 
     pub targets_found : all_some (map (target_of packets s) (map (desc_of_file s) files)) ≡ Some (map (target_of_file s) files)
     targets_found =
         ap all_some (map-map (target_of packets s) (desc_of_file s) files)
         ∙ all_are (λ file. target_of packets s (desc_of_file s file)) (target_of_file s) files
-        (all_of_each (Contains files) (λ file. target_of packets s (desc_of_file s file) ≡ Some (target_of_file s file)) target_found files (all_contained files))
+        (all_weaker (Contains files) (λ file. target_of packets s (desc_of_file s file) ≡ Some (target_of_file s file)) target_found files (all_contained files))

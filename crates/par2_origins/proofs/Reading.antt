@@ -1,6 +1,6 @@
 -- What a set is read as, where its packets are those of certain files.
 use Rattle.std.proofs.Common.{◌≡◌, ℕ, zero, suc, ◌+◌, ◌%◌, ◌<◌, min, arith, Bool, true, false, cond, List, [], ◌∷◌, length, map, Option, Some, None, refl, sym, ap, ◌∙◌, subst, inl, inr, ◌⊎◌, ◌&&◌}
-use Rattle.std.specs.Prelude.{◌==◌, nat_lt, filter, filter_map, flat_map, find, slice_get, option_map, option_and_then, if◌then◌else◌}
+use Rattle.std.specs.Prelude.{◌==◌, nat_lt, filter_map, flat_map, find, slice_get, option_map, option_and_then, if◌then◌else◌}
 use Rattle.std.specs.List.{AllByRecursion, Contains, IsDistinct, cons_option, range_with_len, slice_index_or}
 use Rattle.std.specs.Str.{bytes_eq}
 use Rattle.std.specs.FinMap as map_of
@@ -23,7 +23,12 @@ use Rattle.par2_spec.specs.Volumes.{record_of, id_of, all_slices}
 use Rattle.par2_spec.specs.Sets.{Target, all_some, main_of, description_of, pairs_of, target_of, recovery_of, target_of_file}
 use Rattle.par2_origins.specs.Packets.{AreDescribed}
 use Rattle.par2_origins.proofs.Laws.{AreRead}
-use Rattle.par2_origins.proofs.Said.{all-append, all-map, all_of_each, of_contained, all_contained, Says, same_some, no_some, main_of_files, desc_of_file, ifsc_of_file, main_said, desc_said, ifsc_said, recovery_said, IsOfOne, IsTrueSlice}
+use Rattle.par2_origins.proofs.Said.{of_contained, all_contained, Says, same_some, no_some, main_of_files, desc_of_file, ifsc_of_file, main_said, desc_said, ifsc_said, recovery_said, IsOfOne, IsTrueSlice}
+use Rattle.par2_spec.proofs.ListsLaws.{all-append, all-map}
+use Rattle.par2_spec.proofs.RankLaws.{all_weaker}
+use Rattle.par2_spec.proofs.FoundLaws.{all-filter}
+use Rattle.par2_spec.proofs.FilesLaws.{all_unmap}
+use Rattle.par2_spec.proofs.ReadLaws.{mapped}
 
 -- ---- lists
 
@@ -32,14 +37,6 @@ same_bytes a b h = (bytes_eq-Decides a b).0 h
 
 pub itself : (a : List ℕ) → bytes_eq a a ≡ true
 itself a = (bytes_eq-Decides a a).1 refl
-
-pub all-filter : {A : Type 0} (P : A → Type 0) (test : A → Bool) (xs : List A) → AllByRecursion P xs → AllByRecursion P (filter test xs)
-all-filter P test [] h = tt
-all-filter {A = A} P test (x ∷ xs) h = step (test x) (filter test xs) (all-filter P test xs h.1)
-  where
-    step : (b : Bool) (ys : List A) → AllByRecursion P ys → AllByRecursion P (cond b (x ∷ ys) ys)
-    step true ys k = (h.0, k)
-    step false ys k = k
 
 all-filter_map : {A B : Type 0} (P : A → Type 0) (Q : B → Type 0) (g : A → Option B) → ((x : A) → P x → (y : B) → g x ≡ Some y → Q y) → (xs : List A) → AllByRecursion P xs → AllByRecursion Q (filter_map g xs)
 all-filter_map P Q g f [] h = tt
@@ -86,10 +83,6 @@ contained_cases {A = A} y xs x i = by_place i.0 i.1 i.2
     by_place zero low e = inl e
     by_place (suc k) low e = inr (k, omega (arith, low), e)
 
-of_mapped : {A B : Type 0} (P : B → Type 0) (g : A → B) (xs : List A) → AllByRecursion P (map g xs) → AllByRecursion (λ x. P (g x)) xs
-of_mapped P g [] h = tt
-of_mapped P g (x ∷ xs) h = (h.0, of_mapped P g xs h.1)
-
 one_by_id : (files : List File) → IsDistinct bytes_eq (map id_of files) → (a b : File) → Contains files a → Contains files b → id_of a ≡ id_of b → a ≡ b
 unfolding IsDistinct
 one_by_id [] d a b i j e = absurd (omega (arith, i.1))
@@ -106,14 +99,10 @@ one_by_id (x ∷ files) d a b i j e = elim (contained_cases x files a i) as (λ 
   where
     apart : (c : File) → Contains files c → id_of x ≡ id_of c → ⊥
     apart c k same =
-        let other = of_contained (λ y. bytes_eq (id_of x) (id_of y) ≡ false) files c (of_mapped (λ n. bytes_eq (id_of x) n ≡ false) id_of files d.0) k in
+        let other = of_contained (λ y. bytes_eq (id_of x) (id_of y) ≡ false) files c (all_unmap (λ n. bytes_eq (id_of x) n ≡ false) id_of files d.0) k in
         false≢true (sym other ∙ subst (λ n. bytes_eq (id_of x) n ≡ true) same (itself (id_of x)))
 
 -- ---- steps of the reading
-
-mapped : {A B : Type 0} (f : A → B) (o : Option A) (b : B) → option_map f o ≡ Some b → (a : A) × (o ≡ Some a) × (f a ≡ b)
-mapped f None b h = absurd (no_some b h)
-mapped f (Some a) b h = (a, refl, same_some (f a) b h)
 
 pub map-map : {A B C : Type 0} (f : B → C) (g : A → B) (xs : List A) → map f (map g xs) ≡ map (λ x. f (g x)) xs
 map-map f g [] = refl
@@ -218,12 +207,12 @@ module _ (laws : AreRead) (s : ℕ) (files : List File) (d : AreDescribed s file
   -- what is read of all files
   pub descriptions_are : (ds : List DescBody) → all_some (map (description_of packets) (main_of_files s files).ids) ≡ Some ds → ds ≡ map (desc_of_file s) files
   descriptions_are ds e =
-      all_there (λ file. description_of packets (id_of file)) (desc_of_file s) files (all_of_each (Contains files) (λ file. (x : DescBody) → description_of packets (id_of file) ≡ Some x → x ≡ desc_of_file s file) description_is files (all_contained files)) ds
+      all_there (λ file. description_of packets (id_of file)) (desc_of_file s) files (all_weaker (Contains files) (λ file. (x : DescBody) → description_of packets (id_of file) ≡ Some x → x ≡ desc_of_file s file) description_is files (all_contained files)) ds
       (sym (ap all_some (by_ids (description_of packets) s files)) ∙ e)
 
   pub targets_are : (ts : List Target) → all_some (map (target_of packets s) (map (desc_of_file s) files)) ≡ Some ts → ts ≡ map (target_of_file s) files
   targets_are ts e =
-      all_there (λ file. target_of packets s (desc_of_file s file)) (target_of_file s) files (all_of_each (Contains files) (λ file. (t : Target) → target_of packets s (desc_of_file s file) ≡ Some t → t ≡ target_of_file s file) target_is files (all_contained files)) ts
+      all_there (λ file. target_of packets s (desc_of_file s file)) (target_of_file s) files (all_weaker (Contains files) (λ file. (t : Target) → target_of packets s (desc_of_file s file) ≡ Some t → t ≡ target_of_file s file) target_is files (all_contained files)) ts
       (sym (ap all_some (map-map (target_of packets s) (desc_of_file s) files)) ∙ e)
 
   -- each recovery slice is the true one

@@ -1,25 +1,15 @@
 -- To remove files of what a create left is damage that leaves its par files as they are.
-use Rattle.std.proofs.Common.{◌≡◌, ℕ, Bool, true, false, cond, not, ◌||◌, List, [], ◌∷◌, map, Option, Some, None, refl, sym, ap, ◌∙◌}
+use Rattle.std.proofs.Common.{◌≡◌, ℕ, Bool, true, false, cond, ◌||◌, List, [], ◌∷◌, map, Option, Some, None, refl, sym, ap, ◌∙◌}
 use Rattle.std.specs.Prelude.{is_some}
 use Rattle.std.specs.Str.{bytes_eq}
 use Rattle.std.specs.FinMap as map_of
-use Rattle.std.specs.FinMap.{get-retain_keys, slice_cmp-IsAntisymmetric, nat_cmp-IsAntisymmetric}
 use Rattle.std.proofs.lemmas.Bool.{false≢true, or_left}
 use Rattle.par2_spec.specs.Names.{is_among}
 use Rattle.par2_spec.specs.Folders.{Folder, File, has, laid_over, without}
 use Rattle.par2_spec.specs.Commands.{CreateArgs, Create, outputs_of}
 use Rattle.par2_spec.specs.Refusals.{after}
 use Rattle.par2_origins.specs.Creates.{output_names, IsDamage}
-use Rattle.par2_origins.proofs.Damaged.{get_put}
-
-get_without : (gone : List (List ℕ)) (folder : Folder) (q : List ℕ) → map_of.get (without gone folder) q ≡ cond (is_among gone q) None (map_of.get folder q)
-get_without gone folder q =
-    get-retain_keys folder (λ x. not (is_among gone x)) q (λ x e. ap (λ y. not (is_among gone y)) (sym (slice_cmp-IsAntisymmetric nat_cmp-IsAntisymmetric q x e)))
-    ∙ turned (is_among gone q) (map_of.get folder q)
-  where
-    turned : (b : Bool) (o : Option (List ℕ)) → cond (not b) o None ≡ cond b None o
-    turned true o = refl
-    turned false o = refl
+use Rattle.par2_spec.proofs.MovesLaws.{get_put, get_without}
 
 -- a file that was put into a folder, or that was there, is there
 laid_there : (files : List File) (folder : Folder) (q : List ℕ) → (is_among (map (λ file. file.0) files) q || has folder q) ≡ true → has (laid_over files folder) q ≡ true

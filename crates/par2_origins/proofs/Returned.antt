@@ -1,5 +1,5 @@
 -- What an accepted repair gives back.
-use Rattle.std.proofs.Common.{◌≡◌, ℕ, ◌+◌, ◌^◌, ◌<◌, Bool, true, false, not, List, [], ◌∷◌, ◌++◌, length, map, Option, Some, None, Ok, Err, refl, sym, ap, ◌∙◌, subst, length-append, inl, inr, ◌⊎◌}
+use Rattle.std.proofs.Common.{◌≡◌, ℕ, ◌+◌, ◌^◌, ◌<◌, Bool, true, false, not, List, [], ◌∷◌, ◌++◌, length, map, Option, Some, None, Ok, refl, sym, ap, ◌∙◌, subst, length-append, inl, inr, ◌⊎◌}
 use Rattle.std.specs.Prelude.{IsPermutation, is_some, nat_lt, filter, position, if◌then◌else◌}
 use Rattle.std.specs.List.{AllByRecursion, list_all, list_any}
 use Rattle.std.specs.Str.{bytes_eq}
@@ -25,25 +25,20 @@ use Rattle.par2_spec.specs.Commands.{CreateArgs, Repair, files_of}
 use Rattle.par2_spec.specs.Refusals.{refusal, after, set_in, by_set, repair_refusal}
 use Rattle.par2_origins.specs.Creates.{FollowsCreate, may_refuse, HaveAChoice}
 use Rattle.par2_origins.proofs.Laws.{AreRepaired, OthersAgree}
-use Rattle.par2_origins.proofs.Said.{all-append, all_of_each, same_some}
-use Rattle.par2_origins.proofs.Reading.{all-filter}
-use Rattle.par2_origins.proofs.Inputs.{moved-all}
+use Rattle.par2_origins.proofs.Said.{same_some}
 use Rattle.par2_origins.proofs.Accepted.{all_none, where_none, at_none, from_not, passes, names_of_files}
 use Rattle.par2_origins.proofs.Damaged.{some_bytes}
+use Rattle.par2_spec.proofs.ListsLaws.{all-append}
+use Rattle.par2_spec.proofs.RankLaws.{all_weaker}
+use Rattle.par2_spec.proofs.FoundLaws.{all-filter}
+use Rattle.par2_spec.proofs.AcceptedCommands.{in_full, in_part}
+use Rattle.par2_spec.proofs.OrderLaws.{moved-all}
 
 -- ---- an accepted repair
 
 -- the place of the first name that is not there
 abbrev missing : Folder → List (List ℕ) → Option ℕ
 missing folder words = position (λ word. not (has folder word)) words
-
-in_full : (folder : Folder) (base : List ℕ) (extras : List (List ℕ)) → missing folder (base ∷ extras) ≡ None → set_in folder base extras ≡ set_of folder base
-unfolding set_in
-in_full folder base extras e = rw e refl
-
-in_part : (folder : Folder) (base : List ℕ) (extras : List (List ℕ)) (k : ℕ) → missing folder (base ∷ extras) ≡ Some k → set_in folder base extras ≡ Err (NoSuchFile (0 + k))
-unfolding set_in
-in_part folder base extras k e = rw e refl
 
 all_there : (folder : Folder) (words : List (List ℕ)) → AllByRecursion (λ word. not (has folder word) ≡ false) words → list_all (has folder) words ≡ true
 all_there folder [] h = refl
@@ -183,7 +178,7 @@ module _ (order : (files : List File) → IsPermutation files (in_id_order files
         from_files (λ slice. AllByRecursion (IsTold slice) searched) s ordered
         (moved-all (λ file. AllByRecursion (λ slice. AllByRecursion (IsTold slice) searched) (slices s file.1)) inputs ordered (order inputs)
         (to_files (λ slice. AllByRecursion (IsTold slice) searched) s inputs
-        (all_of_each (λ slice. AllByRecursion (IsTold slice) (a.inputs ++ extras)) (λ slice. AllByRecursion (IsTold slice) searched) (λ slice h. among_searched (IsTold slice) h) (all_slices s inputs) follows.told)))
+        (all_weaker (λ slice. AllByRecursion (IsTold slice) (a.inputs ++ extras)) (λ slice. AllByRecursion (IsTold slice) searched) (λ slice h. among_searched (IsTold slice) h) (all_slices s inputs) follows.told)))
 
     bytes : AllByRecursion (λ file. AreBytes file.1) ordered
     bytes = moved-all (λ file. AreBytes file.1) inputs ordered (order inputs) follows.fits.bytes

@@ -16,20 +16,9 @@ use Rattle.par2_spec.specs.Volumes.{FileRecord, record_of, all_slices, main_byte
 use Rattle.par2_origins.specs.Packets.{AreDescribed, is_read, IsOf}
 use Rattle.par2_origins.proofs.Laws.{AreRead}
 use Rattle.par2_origins.proofs.Bytes.{pairs_are}
+use Rattle.par2_spec.proofs.ListsLaws.{all-append}
 
 -- ---- what holds of each
-
-pub all-append : {A : Type 0} (P : A → Type 0) (xs ys : List A) → AllByRecursion P xs → AllByRecursion P ys → AllByRecursion P (xs ++ ys)
-all-append P [] ys h k = k
-all-append P (x ∷ xs) ys h k = (h.0, all-append P xs ys h.1 k)
-
-pub all-map : {A B : Type 0} (P : A → Type 0) (Q : B → Type 0) (g : A → B) → ((x : A) → P x → Q (g x)) → (xs : List A) → AllByRecursion P xs → AllByRecursion Q (map g xs)
-all-map P Q g f [] h = tt
-all-map P Q g f (x ∷ xs) h = (f x h.0, all-map P Q g f xs h.1)
-
-pub all_of_each : {A : Type 0} (P Q : A → Type 0) → ((x : A) → P x → Q x) → (xs : List A) → AllByRecursion P xs → AllByRecursion Q xs
-all_of_each P Q f [] h = tt
-all_of_each P Q f (x ∷ xs) h = (f x h.0, all_of_each P Q f xs h.1)
 
 pub of_contained : {A : Type 0} (P : A → Type 0) (xs : List A) (x : A) → AllByRecursion P xs → Contains xs x → P x
 of_contained P xs x h i = All-contains P xs x (All-from_recursion P xs h) i
