@@ -250,8 +250,7 @@ fn first_volume(alloc: Global) -> Result<Vec<u8>, FromHexError> {
 fn second_volume(alloc: Global) -> Result<Vec<u8>, FromHexError> {
     let id = main_id(4, &[record_of_a(alloc)?]);
     let mut text = index(alloc)?;
-    let slices = vec![
-        in alloc;
+    let slices = vec![in alloc;
         Vec::from_slice(alloc, b"\x5d\x4d\x51\x79")?,
         Vec::from_slice(alloc, b"\xe5\x9f\xcd\x67")?,
     ]?;

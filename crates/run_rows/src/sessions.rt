@@ -45,7 +45,9 @@ fn index_args(alloc: Global) -> Result<CreateArgs, AllocError> {
 
 // Opens a store.
 fn open<S: FolderStore>(rt: &HostRuntime, store: &mut S) -> Result<Session> {
-    let started = open_store(rt.alloc(), store).map_err(|_| Error::msg("the store can't be opened"))?;
+    let started = open_store(rt.alloc(), store).map_err(|_| Error::msg(
+        "the store can't be opened",
+    ))?;
     println!(rt; "history dropped: {}", started.dropped)?;
     Ok(started.session)
 }
