@@ -1,7 +1,8 @@
 //! A command is performed on a store and its session.
-ghost use Rattle.std.specs.Prelude.{◌≡◌, ◌<◌, ◌≤◌, [], Ok, IfOk, IfErr, IsErrOf, OnOk, OnErr};
+ghost use Rattle.std.specs.Prelude.{◌≡◌, ◌<◌, ◌≤◌, [], Some, Ok, IfOk, IfErr, IsErrOf, OnOk, OnErr};
 ghost use Rattle.par2_spec.specs.Commands.{Undo, Redo};
 ghost use Rattle.par2_spec.specs.Plans.{LeadsToAfterAsked};
+ghost use Rattle.par2_spec.specs.Refusals.{early_refusal_of};
 ghost use Rattle.par2_spec.specs.Sessions.{session_of_kept, session_after, changes_asked};
 ghost use Rattle.par2_spec.specs.Views.{command_of};
 ghost use Rattle.par2_tool.specs.Holding.{TellsApartAlong, OpensAsBeforeOrAfter};
@@ -54,6 +55,9 @@ pub fn perform<S: FolderStore>(
         → (store.new ≡ store.old) × (session.new ≡ session.old) }
     ensures refused { IfErr result (IsRefused (command_of command.now) session.old session.new
         (S.failures store.old) (S.failures store.new)) }
+    ensures early { let reason = early_refusal_of session.old.folder.files
+        (command_of command.now) in (fault : Fault) → reason ≡ Some fault
+        → IsErrOf result (PerformFault.Session (SessionFault.Plan fault)) }
     ensures unchanged { S.honest store.old
         → IfErr result (λ fault. IsSession fault → S.contents store.new ≡ S.contents store.old) }
     ensures stopped { S.honest store.old
