@@ -3,7 +3,7 @@ ghost use Rattle.std.specs.Prelude.{◌≡◌, IfSome, Some};
 
 use crate::spelling::Fingerprints;
 
-/// What will be asked of a session next: to take the newest command back, or to do the last one again.
+/// What will be asked of a session next: to take the newest command back, or to do again what was taken back last.
 #[derive(Debug, Clone, Copy, PartialEq, Eq)]
 pub enum Next {
     Undo,

@@ -50,7 +50,7 @@ impl Fingerprints {
         })
     }
 
-    // The same, where they aren't known.
+    // The same, computed only where they aren't known.
     fn known_or_of(
         alloc: Global,
         known: Option<Fingerprints>,

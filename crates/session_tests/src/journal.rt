@@ -105,7 +105,7 @@ fn halfway_journal_of_a_create(rt: HostRuntime) -> Result<(), Fail> {
 }
 
 // What is done, and the journal that stands then.
-fn assert_settled<R: Abort + AllocGlobal>(
+pub fn assert_settled<R: Abort + AllocGlobal>(
     rt: &R,
     session: &mut Session,
     action: &Action,

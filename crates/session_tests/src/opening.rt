@@ -1,9 +1,9 @@
 //! Folders that are opened with a journal.
 use crate::fixtures::folder_of;
-use crate::journal::{UNDONE_CREATE, halfway_of, is_removal_of, journal_of};
+use crate::journal::{UNDONE_CREATE, assert_settled, halfway_of, is_removal_of, journal_of};
 use crate::session::{assert_stands, redo, session_after, session_of};
 use par2_folder::{Folder, Name};
-use par2_journal::{Halfway, Opened, Session};
+use par2_journal::{Action, Halfway, Next, Opened, Session};
 use par2_spec::JournalFault;
 use std::alloc::Global;
 use std::process::Abort;
@@ -41,6 +41,24 @@ fn opens_its_journal(rt: HostRuntime) -> Result<(), Fail> {
     redo(&rt, &mut again);
     assert_stands(&rt, &again, "t.par2", (1, 0, Some(420)));
     Ok(())
+}
+
+fn open_before_redo(
+    alloc: Global,
+    folder: Folder,
+    text: &[u8],
+) -> Result<Opened, (JournalFault, Folder)> {
+    Session::open_before(alloc, folder, text, Some(Next::Redo))
+}
+
+#[test]
+fn journal_of_a_redo_that_was_next(rt: HostRuntime) -> Result<(), Fail> {
+    let text = journal_of(&rt, &session_after(&rt, UNDONE_CREATE)?)?;
+    let folder = folder_of(&rt, &[("a", b"abcdefgh")])?;
+    let Ok(Opened::Settled(mut session)) = open_before_redo(rt.alloc(), folder, &text) else {
+        panic!(rt; "not opened");
+    };
+    assert_settled(&rt, &mut session, &Action::Redo)
 }
 
 #[test]
