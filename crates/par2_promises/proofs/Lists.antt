@@ -1,8 +1,9 @@
 -- What holds of each item of a list holds of each that is taken from it.
-use Rattle.std.proofs.Common.{ℕ, zero, suc, ◌+◌, List, [], ◌∷◌, ◌++◌, map, take, drop, refl, ap, subst, cond, true, false, Bool}
-use Rattle.std.specs.Prelude.{flat_map, filter, filter_map, find, Option, Some, None, unwrap_or}
+use Rattle.std.proofs.Common.{ℕ, zero, suc, ◌+◌, List, [], ◌∷◌, map, take, drop, refl, ap, subst, cond, true, false, Bool}
+use Rattle.std.specs.Prelude.{flat_map, filter_map, find, Option, Some, None, unwrap_or}
 use Rattle.std.specs.List.{cons_option, range_with_len, AllByRecursion}
 use Rattle.std.specs.Option.{ForSome}
+use Rattle.par2_spec.proofs.ListsLaws.{all-append}
 
 module _ {A : Type 0} (P : A → Type 0) where
   pub all-take : (n : ℕ) (xs : List A) → AllByRecursion P xs → AllByRecursion P (take n xs)
@@ -14,18 +15,6 @@ module _ {A : Type 0} (P : A → Type 0) where
   all-drop zero xs h = h
   all-drop (suc n) [] h = tt
   all-drop (suc n) (x ∷ xs) h = all-drop n xs h.1
-
-  pub all-append : (xs ys : List A) → AllByRecursion P xs → AllByRecursion P ys → AllByRecursion P (xs ++ ys)
-  all-append [] ys h k = k
-  all-append (x ∷ xs) ys h k = (h.0, all-append xs ys h.1 k)
-
-  all_cond : (b : Bool) (x : A) (xs : List A) → P x → AllByRecursion P xs → AllByRecursion P (cond b (x ∷ xs) xs)
-  all_cond true x xs h k = (h, k)
-  all_cond false x xs h k = k
-
-  pub all-filter : (test : A → Bool) (xs : List A) → AllByRecursion P xs → AllByRecursion P (filter test xs)
-  all-filter test [] h = tt
-  all-filter test (x ∷ xs) h = all_cond (test x) x (filter test xs) h.0 (all-filter test xs h.1)
 
   -- of each number from a on
   pub all-range : (f : ℕ → A) → ((j : ℕ) → P (f j)) → (a n : ℕ) → AllByRecursion P (map f (range_with_len a n))

@@ -18,9 +18,10 @@ use Rattle.par2_spec.specs.Rank.{AreBytes}
 use Rattle.par2_spec.specs.Folders.{Folder, bytes_of}
 use Rattle.par2_spec.specs.Sets.{ParSet, packets_with, recovery_of, set_of, other_par_names}
 use Rattle.par2_promises.specs.Premises.{HoldsBytes}
-use Rattle.par2_promises.proofs.Lists.{all-take, all-drop, all-filter, all-filter_map, all-image, all-map, all-flat_map}
+use Rattle.par2_promises.proofs.Lists.{all-take, all-drop, all-filter_map, all-image, all-map, all-flat_map}
 use Rattle.par2_promises.proofs.Texts.{bytes_of_file}
 use Rattle.par2_promises.proofs.ReadSets.{set_of_answers}
+use Rattle.par2_spec.proofs.FoundLaws.{all-filter}
 
 -- ---- packets
 

@@ -16,7 +16,8 @@ use Rattle.par2_spec.specs.Folders.{Folder, bytes_of}
 use Rattle.par2_spec.specs.Sets.{ParSet, all_pairs}
 use Rattle.par2_spec.specs.Search.{known}
 use Rattle.par2_promises.specs.Premises.{HoldsBytes}
-use Rattle.par2_promises.proofs.Lists.{all-take, all-drop, all-append, all-range, all-map, all-flat_map, some-find}
+use Rattle.par2_promises.proofs.Lists.{all-take, all-drop, all-range, all-map, all-flat_map, some-find}
+use Rattle.par2_spec.proofs.ListsLaws.{all-append}
 
 -- s bytes
 abbrev pub IsText : ℕ → List ℕ → Type 0
