@@ -33,14 +33,6 @@ passed_over-map {A} p (x ∷ xs) = step (p x) (passed_over-map p xs)
     step true h = h
     step false h = ap (λ ys. x ∷ ys) h
 
-pub filter-map : {A B : Type 0} (p : B → Bool) (g : A → B) (xs : List A) → filter p (map g xs) ≡ map g (filter (λ x. p (g x)) xs)
-filter-map p g [] = refl
-filter-map p g (x ∷ xs) = step (p (g x)) (filter-map p g xs)
-  where
-    step : (b : Bool) → filter p (map g xs) ≡ map g (filter (λ x. p (g x)) xs) → cond b (g x ∷ filter p (map g xs)) (filter p (map g xs)) ≡ map g (cond b (x ∷ filter (λ x. p (g x)) xs) (filter (λ x. p (g x)) xs))
-    step true h = ap (λ ys. g x ∷ ys) h
-    step false h = h
-
 pub chosen_end : {A : Type 0} (flags : List Bool) (xs : List A) → (xs ≡ []) ⊎ (flags ≡ []) → items_where flags xs ≡ []
 chosen_end [] xs h = refl
 chosen_end (b ∷ flags) [] h = refl

@@ -1,19 +1,20 @@
 -- The matches of needing targets, by numbers and by names.
-use Rattle.std.proofs.Common.{◌≡◌, ℕ, zero, suc, ◌+◌, ◌<◌, List, [], ◌∷◌, length, map, refl, sym, ap, ◌∙◌, Bool, true, false, not, cond, arith}
-use Rattle.std.specs.Prelude.{Option, Some, None, IfSome, filter, find, option_map, option_to_list, ◌==◌}
+use Rattle.std.proofs.Common.{◌≡◌, ℕ, zero, suc, ◌+◌, ◌<◌, List, [], ◌∷◌, length, map, sym, ap, ◌∙◌, Bool, true, false, not, cond, arith}
+use Rattle.std.specs.Prelude.{Option, Some, None, IfSome, filter, find, option_map, ◌==◌}
 use Rattle.std.specs.List.{AllByRecursion, IsDistinct, range_with_len}
 use Rattle.std.specs.Str.{bytes_eq}
 use Rattle.std.proofs.lemmas.Slice.Zip.{seconds-zip}
 use Rattle.par2_spec.specs.Names.{is_among}
 use Rattle.par2_spec.specs.Folders.{Folder, bytes_of}
 use Rattle.par2_spec.specs.Sets.{ParSet, Target}
-use Rattle.par2_spec.specs.Search.{is_intact, is_needing, needing, intact_names, matched, matches}
+use Rattle.par2_spec.specs.Search.{is_needing, needing, intact_names, matched, matches}
 use Rattle.par2_spec.proofs.FoundLaws.{all-filter}
 use Rattle.par2_spec.proofs.NamesLaws.{distinct_from_std, std_from_distinct, distinct-filter}
 use Rattle.par2_search.specs.Matching.{text_at, first_intact, without, matched_from, matched_numbers, NumbersAreNames}
 use Rattle.par2_plan.specs.Matches.{ArePlaces, items_where, intact_by}
 use Rattle.par2_plan.specs.Findings.{needs, matches_given}
 use Rattle.par2_plan.proofs.Choices.{chosen-map, passed_over-map}
+use Rattle.par2_spec.proofs.ReportLaws.{matched_count}
 
 -- ---- numbers are places
 
@@ -42,11 +43,6 @@ pub are_places : (s : ℕ) (texts : List (List ℕ)) (ts : List Target) → AreP
 are_places s texts ts = places_from (length texts) s texts ts (range_with_len 0 (length texts)) (below_end 0 (length texts) (length texts) (omega arith))
 
 -- ---- the matches of a set
-
-matched_count : (folder : Folder) (s : ℕ) (free : List (List ℕ)) (ts : List Target) → length (matched folder s free ts) ≡ length ts
-matched_count folder s free [] = refl
-matched_count folder s free (t ∷ ts) =
-    ap suc (matched_count folder s (filter (λ name. not (is_among (option_to_list (find (λ name. is_intact s t (bytes_of folder name)) free)) name)) free) ts)
 
 module _ (folder : Folder) (set : ParSet) (searched : List (List ℕ)) where
   -- the candidates that are no intact target's

@@ -8,8 +8,8 @@ use Rattle.std.proofs.lemmas.List.{append_assoc, take-append-drop}
 use Rattle.std.proofs.lemmas.List.Folds.{list_any-append}
 use Rattle.par2_spec.specs.Names.{is_name}
 use Rattle.par2_spec.specs.Volumes.{five_digits, stem, volume_name}
-use Rattle.par2_spec.proofs.NamesLaws.{clash, other_name, false_from_not}
-use Rattle.par2_spec.proofs.AsideLaws.{is_dotless}
+use Rattle.par2_spec.proofs.NamesLaws.{clash, false_from_not}
+use Rattle.par2_spec.proofs.AsideNames.{front_of_name, longer}
 
 -- what follows the stem
 abbrev rest_of : ℕ → ℕ → List ℕ
@@ -52,15 +52,6 @@ not_in_name low base x n h k =
     ap (list_any (λ b. b == low)) (name_is base x n) ∙ list_any-append (λ b. b == low) (stem base) (rest_of x n)
     ∙ or_from _ _ (not_in_front (λ b. b == low) (length base - 5) base h) k
 
--- what is dotless and stands at the front of a text with a dot behind it stands at the front of the text
-front_before_dot : (front text rest : List ℕ) → is_dotless front ≡ true → starts_with nat_eq (text ++ 46 ∷ rest) front ≡ true → starts_with nat_eq text front ≡ true
-front_before_dot [] text rest h k = refl
-front_before_dot (b ∷ front) [] rest h k =
-    absurd (clash (and_parts (eqb b 46) _ k).0 (false_from_not (b == 46) (and_parts (not (b == 46)) _ h).0))
-front_before_dot (b ∷ front) (c ∷ text) rest h k =
-    let r = and_parts (eqb b c) (starts_with nat_eq (text ++ 46 ∷ rest) front) k in
-    and_from _ _ r.0 (front_before_dot front text rest (and_parts (not (b == 46)) _ h).1 r.1)
-
 -- what stands at the front of a text stands at the front of a longer one
 front_of_longer : (front text more : List ℕ) → starts_with nat_eq text front ≡ true → starts_with nat_eq (text ++ more) front ≡ true
 front_of_longer [] text more k = refl
@@ -74,7 +65,7 @@ stem_begins : (st rest : List ℕ) → starts_with nat_eq (st ++ (codes ".vol" +
 stem_begins [] rest k = absurd (clash k refl)
 stem_begins (c ∷ st) rest k =
     let r = and_parts (eqb 46 c) (starts_with nat_eq (st ++ (codes ".vol" ++ rest)) (codes "par2undo")) k in
-    and_from _ _ r.0 (front_before_dot (codes "par2undo") st (codes "vol" ++ rest) refl r.1)
+    and_from _ _ r.0 (front_of_name (codes "par2undo") st (codes "vol" ++ rest) refl r.1)
 
 not_undo : (base : List ℕ) (x n : ℕ) → starts_with nat_eq base (codes ".par2undo") ≡ false → starts_with nat_eq (volume_name base x n) (codes ".par2undo") ≡ false
 not_undo base x n h = false_from_ne_true _ (λ k.
@@ -82,9 +73,6 @@ not_undo base x n h = false_from_ne_true _ (λ k.
     (subst (λ text. starts_with nat_eq text (codes ".par2undo") ≡ true) (name_is base x n) k) in
     let whole : starts_with nat_eq (stem base ++ drop (length base - 5) base) (codes ".par2undo") ≡ true = front_of_longer (codes ".par2undo") (stem base) (drop (length base - 5) base) front in
     clash (subst (λ text. starts_with nat_eq text (codes ".par2undo") ≡ true) (take-append-drop (length base - 5) base) whole) h)
-
-longer : (name other : List ℕ) → length other < length name → bytes_eq name other ≡ false
-longer name other h = other_name name other (λ e. let same : length name ≡ length other = ap length e in absurd (omega (arith, same, h)))
 
 long_enough : (base : List ℕ) (x n : ℕ) → 20 ≤ length (volume_name base x n)
 long_enough base x n =

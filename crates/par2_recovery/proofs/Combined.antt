@@ -5,7 +5,7 @@ use Rattle.std.specs.Borrow.{Bor}
 use Rattle.std.specs.List.{range_with_len, AllByRecursion}
 use Rattle.std.specs.Int.Bits.{xor_zero_l}
 use Rattle.std.proofs.Common.{append_assoc, zero-add, true}
-use Rattle.std.proofs.lemmas.List.{ext_get_or, length-map, map-append, get_or_append_left, get_or_at, get_or_past}
+use Rattle.std.proofs.lemmas.List.{ext_get_or, length-map, map-append, get_or_append_left, get_or_at, get_or_past, take_all}
 use Rattle.std.proofs.lemmas.List.FromFn.{map-range_with_len_more, get_or-map-range_with_len, length-map-range_with_len, length-range_with_len, get_or-range_with_len}
 use Rattle.par2_spec.specs.Field.{mul, coefficient, constant}
 use Rattle.std.specs.Prelude.{take, drop}
@@ -190,11 +190,7 @@ bytes_push xs v before fits = subst AreBytes (sym (map-append (λ (x : Bor (List
     go (x ∷ lists) all (suc r) k = go lists (λ q m. all (suc q) m) r k
 
 pub all_of_them : (names : List (List ℕ)) (n : ℕ) → n ≡ length names → take n names ≡ names
-all_of_them names n e = ap (λ m. take m names) e ∙ whole names
-  where
-    whole : (xs : List (List ℕ)) → take (length xs) xs ≡ xs
-    whole [] = refl
-    whole (x ∷ xs) = ap (λ ys. x ∷ ys) (whole xs)
+all_of_them names n e = take_all n names (omega (arith, e))
 
 pub name_within : (names : List (List ℕ)) (i : ℕ) → AllByRecursion (λ name. is_name name ≡ true) names → i < length names → is_name (get_or names i []) ≡ true
 name_within [] i all h = absurd (omega arith)

@@ -23,14 +23,7 @@ use Rattle.par2_recovery.specs.Survivors.{with_lost_slices, lost_from, known_fro
 use Rattle.par2_recovery.proofs.Combined.{coefficients-lt, dot_padded}
 use Rattle.par2_recovery.proofs.Inverting.{inverted, differences, dot_differences, differences_vector, same_texts_by}
 use Rattle.par2_recovery.proofs.Rebuilding.{AreSized, AreKnown, IsFound, Meets, lost_is, rebuilt_from}
-
-all_filtered : {A : Type 0} (P : A → Type 0) (p : A → Bool) (xs : List A) → AllByRecursion P xs → AllByRecursion P (filter p xs)
-all_filtered P p [] h = tt
-all_filtered P p (x ∷ xs) h = go (p x) (all_filtered P p xs h.1)
-  where
-    go : (b : Bool) → AllByRecursion P (filter p xs) → AllByRecursion P (cond b (x ∷ filter p xs) (filter p xs))
-    go true rest = (h.0, rest)
-    go false rest = rest
+use Rattle.par2_spec.proofs.FoundLaws.{all-filter}
 
 bytes_at : (recs : List (ℕ × List ℕ)) → AreBytes (map (λ r. r.1) recs) → (j k : ℕ) → get_or (recovery_at recs j).1 k 0 < 256
 bytes_at [] h j k = omega arith
@@ -85,7 +78,7 @@ are_rebuilt s known recs kept_ones texts system inverse made even are_known same
 
     are : AllByRecursion (λ (r : ℕ × List ℕ). IsFound s r.1) kept_ones
     are = are_found s kept_ones
-        (subst (λ rs. AllByRecursion (λ (r : ℕ × List ℕ). length r.1 ≡ s) rs) (sym found.are_kept) (all_filtered (λ (r : ℕ × List ℕ). length r.1 ≡ s) _ recs sizes)) kept_bytes
+        (subst (λ rs. AllByRecursion (λ (r : ℕ × List ℕ). length r.1 ≡ s) rs) (sym found.are_kept) (all-filter (λ (r : ℕ × List ℕ). length r.1 ≡ s) _ recs sizes)) kept_bytes
 
     meets : AllByRecursion (λ r. Meets s known made r) kept_ones
     meets = all_from (λ r. Meets s known made r) (0, []) kept_ones (λ j h w fits.

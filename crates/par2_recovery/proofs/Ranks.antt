@@ -1,8 +1,8 @@
 -- What the offered equations of some exponents say of the exponents.
-use Rattle.std.proofs.Common.{ℕ, zero, suc, ◌+◌, ◌<◌, ◌≤◌, ◌≡◌, ◌≢◌, ◌↔◌, inl, inr, refl, sym, ap, ap₂, ◌∙◌, subst, arith, Bool, true, false, cond, ltb, List, [], ◌∷◌, ◌++◌, length, get_or, map, bit_xor}
+use Rattle.std.proofs.Common.{ℕ, zero, suc, ◌+◌, ◌<◌, ◌≤◌, ◌≡◌, ◌≢◌, ◌↔◌, inl, inr, refl, sym, ap, ap₂, ◌∙◌, subst, arith, Bool, true, false, cond, ltb, List, [], ◌∷◌, ◌++◌, length, get_or, map, bit_xor, append-nil}
 use Rattle.std.specs.Prelude.{take, filter}
 use Rattle.std.proofs.lemmas.Bool.{cases_eq, lt-ltb, le-ltb}
-use Rattle.std.proofs.lemmas.List.{take_more, map-append}
+use Rattle.std.proofs.lemmas.List.{take_more, map-append, take_all}
 use Rattle.std.proofs.lemmas.List.Elements.{filter-append}
 use Rattle.std.specs.List.{AllByRecursion}
 use Rattle.std.specs.List.Sorted.{IsStrictlyIncreasing}
@@ -95,10 +95,6 @@ length-more : (xs : List ℕ) (x : ℕ) → length (xs ++ x ∷ []) ≡ length x
 length-more [] x = refl
 length-more (y ∷ xs) x = let e = length-more xs x in omega (arith, e)
 
-append-none : (xs : List ℕ) → xs ++ [] ≡ xs
-append-none [] = refl
-append-none (x ∷ xs) = ap (λ ys. x ∷ ys) (append-none xs)
-
 pub kept_is : (lost all : List ℕ) (i : ℕ) (s : Equations) → IsStrictlyIncreasing all → i < length all → Eliminated lost all i s → IsIndependent s (coefficients lost (get_or all i 0))
     → is_kept lost all (get_or all i 0) ≡ true
 kept_is lost all i s up h so_far told =
@@ -138,7 +134,7 @@ none_kept lost all i s up h so_far follows = record {
       let more = all_killed_more (map (coefficients lost) (take i all)) (coefficients lost (get_or all i 0)) v in
       subst (λ rows. systems.IsKilled s v ↔ AllKill rows v) (sym (rows_more lost all i h))
       ((λ k. more.1 (old.0 k, follows v (subst (λ n. IsVector n v) (sym so_far.columns) is) k)), (λ k. old.1 (more.0 k).0));
-  rank = so_far.rank ∙ sym (ap length (kept_more (is_kept lost all) all i false h (dependent_is lost all i s up h so_far follows) ∙ append-none (filter (is_kept lost all) (take i all))));
+  rank = so_far.rank ∙ sym (ap length (kept_more (is_kept lost all) all i false h (dependent_is lost all i s up h so_far follows) ∙ append-nil (filter (is_kept lost all) (take i all))));
 }
 
 -- where only zero is killed, each row follows
@@ -152,11 +148,7 @@ pub full_follows : (s : Equations) (row : List ℕ) → OnlyZeroIsKilled s → s
 full_follows s row alone v is killed = dot_zeros row v (alone v is killed)
 
 pub all_offered : (lost all : List ℕ) (i : ℕ) (s : Equations) → i ≡ length all → Eliminated lost all i s → systems.rank s ≡ length (kept lost all)
-all_offered lost all i s e so_far = so_far.rank ∙ ap (λ xs. length (filter (is_kept lost all) xs)) (ap (λ n. take n all) e ∙ whole all)
-  where
-    whole : (xs : List ℕ) → take (length xs) xs ≡ xs
-    whole [] = refl
-    whole (x ∷ xs) = ap (λ ys. x ∷ ys) (whole xs)
+all_offered lost all i s e so_far = so_far.rank ∙ ap (λ xs. length (filter (is_kept lost all) xs)) (take_all i all (omega (arith, e)))
 
 -- what an offer gives, kept or not
 pub offered : (lost all : List ℕ) (i : ℕ) (s new : Equations) (right : List ℕ) (r : Result Offer AllocError) (o : Offer) → r ≡ Ok o → IsStrictlyIncreasing all → i < length all

@@ -1,10 +1,10 @@
 -- The loop that offers the surviving recovery slices.
-use Rattle.std.proofs.Common.{inl, inr, replicate, length-append, ◌-◌, ℕ, zero, suc, ◌+◌, ◌*◌, ◌<◌, ◌≤◌, ◌≡◌, ◌↔◌, refl, sym, ap, ap₂, ◌∙◌, subst, arith, Bool, true, false, cond, eqb, ◌||◌, List, [], ◌∷◌, ◌++◌, length, get_or, map}
+use Rattle.std.proofs.Common.{inl, inr, replicate, length-append, ◌-◌, ℕ, zero, suc, ◌+◌, ◌*◌, ◌<◌, ◌≤◌, ◌≡◌, ◌↔◌, refl, sym, ap, ap₂, ◌∙◌, subst, arith, Bool, true, false, cond, eqb, ◌||◌, List, [], ◌∷◌, ◌++◌, length, get_or, map, append-nil}
 use Rattle.std.specs.Prelude.{Option, filter, take}
 use Rattle.std.specs.List.{list_any, AllByRecursion}
 use Rattle.std.specs.List.Sorted.{IsStrictlyIncreasing}
 use Rattle.std.proofs.lemmas.Bool.{ne_eqb, eq-eqb, false≢true, cases_lt}
-use Rattle.std.proofs.lemmas.List.{take_more, get_or-map, length-map, map-append, get_or_append_left, get_or_at}
+use Rattle.std.proofs.lemmas.List.{take_more, get_or-map, length-map, map-append, get_or_append_left, get_or_at, take_all}
 use Rattle.std.proofs.lemmas.List.Elements.{filter-append}
 use Rattle.par2_spec.specs.Slices.{padded}
 use Rattle.par2_spec.specs.Recovery.{dot, coefficients, combination}
@@ -20,6 +20,7 @@ use Rattle.par2_recovery.proofs.RankTests.{AllKill}
 use Rattle.par2_recovery.specs.Products.{AreBytes}
 use Rattle.par2_recovery.specs.Views.{texts_of}
 use Rattle.std.specs.Borrow.{Bor}
+use Rattle.par2_spec.proofs.RankLaws.{all_weaker}
 
 -- ---- the recovery slices of the kept exponents
 
@@ -51,15 +52,11 @@ or_true : (b : Bool) → (b || true) ≡ true
 or_true true = refl
 or_true false = refl
 
-weaker : {A : Type 0} (P Q : A → Type 0) → ((x : A) → P x → Q x) → (xs : List A) → AllByRecursion P xs → AllByRecursion Q xs
-weaker P Q f [] h = tt
-weaker P Q f (x ∷ xs) h = (f x h.0, weaker P Q f xs h.1)
-
 each_among : (recs : List (ℕ × List ℕ)) → AllByRecursion (λ r. list_any (λ e. eqb e r.0) (map (λ r. r.0) recs) ≡ true) recs
 each_among [] = tt
 each_among (x ∷ recs) = (
   ap (λ c. c || list_any (λ e. eqb e x.0) (map (λ r. r.0) recs)) (eq-eqb x.0 x.0 refl),
-  weaker (λ r. list_any (λ e. eqb e r.0) (map (λ r. r.0) recs) ≡ true) (λ r. list_any (λ e. eqb e r.0) (x.0 ∷ map (λ r. r.0) recs) ≡ true)
+  all_weaker (λ r. list_any (λ e. eqb e r.0) (map (λ r. r.0) recs) ≡ true) (λ r. list_any (λ e. eqb e r.0) (x.0 ∷ map (λ r. r.0) recs) ≡ true)
       (λ r h. ap (λ c. eqb x.0 r.0 || c) h ∙ or_true (eqb x.0 r.0)) recs (each_among recs),
 )
 
@@ -71,7 +68,7 @@ pub kept_slices_are : (lost_ones : List ℕ) (recs : List (ℕ × List ℕ)) →
 kept_slices_are lost_ones recs =
     let all = map (λ (r : ℕ × List ℕ). r.0) recs in
     same_filter (λ r. list_any (λ e. eqb e r.0) (kept lost_ones all)) (λ r. is_kept lost_ones all r.0) recs
-    (weaker (λ r. list_any (λ e. eqb e r.0) all ≡ true) (λ r. list_any (λ e. eqb e r.0) (kept lost_ones all) ≡ is_kept lost_ones all r.0) (λ r h. among_kept (is_kept lost_ones all) all r.0 h) recs (each_among recs))
+    (all_weaker (λ r. list_any (λ e. eqb e r.0) all ≡ true) (λ r. list_any (λ e. eqb e r.0) (kept lost_ones all) ≡ is_kept lost_ones all r.0) (λ r h. among_kept (is_kept lost_ones all) all r.0 h) recs (each_among recs))
 
 -- ---- the loop
 
@@ -109,10 +106,6 @@ filter_more : (p : ℕ × List ℕ → Bool) (recs : List (ℕ × List ℕ)) (i 
     → filter p (take (i + 1) recs) ≡ filter p (take i recs) ++ cond b (get_or recs i (0, []) ∷ []) []
 filter_more p recs i b h e =
     ap (filter p) (take_more recs i (0, []) h) ∙ filter-append p (take i recs) (get_or recs i (0, []) ∷ []) ∙ ap (λ c. filter p (take i recs) ++ cond c (get_or recs i (0, []) ∷ []) []) e
-
-append-none : (xs : List (ℕ × List ℕ)) → xs ++ [] ≡ xs
-append-none [] = refl
-append-none (x ∷ xs) = ap (λ ys. x ∷ ys) (append-none xs)
 
 -- a recovery slice was kept
 pub stands_more : (lost : List ℕ) (recs kept_ones : List (ℕ × List ℕ)) (i : ℕ) (system new : Equations) → IsStrictlyIncreasing (map (λ r. r.0) recs) → i < length recs
@@ -171,7 +164,7 @@ stands_still lost recs kept_ones i system up h before follows =
     record {
       so_far = none_kept lost all i system up low before.so_far follows_here;
       bytes = before.bytes;
-      are_kept = before.are_kept ∙ sym (filter_more (λ r. is_kept lost all r.0) recs i false h not_kept ∙ append-none (filter (λ r. is_kept lost all r.0) (take i recs)));
+      are_kept = before.are_kept ∙ sym (filter_more (λ r. is_kept lost all r.0) recs i false h not_kept ∙ append-nil (filter (λ r. is_kept lost all r.0) (take i recs)));
       count = before.count;
       kills = before.kills;
       solves = before.solves;
@@ -194,12 +187,8 @@ dropped_turn lost recs kept_ones i e system new up h exponent before follows sam
 
 -- ---- the end of the loop
 
-whole_list : {A : Type 0} (ys : List A) → take (length ys) ys ≡ ys
-whole_list [] = refl
-whole_list (y ∷ ys) = ap (λ zs. y ∷ zs) (whole_list ys)
-
 whole : {A : Type 0} (xs : List A) (n : ℕ) → n ≡ length xs → take n xs ≡ xs
-whole xs n e = ap (λ m. take m xs) e ∙ whole_list xs
+whole xs n e = take_all n xs (omega (arith, e))
 
 kill_rows : (lost_ones : List ℕ) (v : List ℕ) (all : List ℕ) → AllByRecursion (λ e. Kills lost_ones e v) all → AllKill (map (coefficients lost_ones) all) v
 kill_rows lost_ones v [] h = tt

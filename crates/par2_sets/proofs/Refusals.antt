@@ -28,11 +28,6 @@ missing_one : {A : Type 0} (o : Option A) (missing fault : Fault) → ok_or o mi
 missing_one None missing fault h = (refl, sym (ap (err_or missing) h))
 missing_one (Some x) missing fault h = absurd (false≢true (sym (ap is_ok h)))
 
--- what was there
-pub there_is : {A : Type 0} (o : Option A) (missing : Fault) (x : A) → ok_or o missing ≡ Ok x → o ≡ Some x
-there_is None missing x h = absurd (false≢true (ap is_ok h))
-there_is (Some y) missing x h = ap (λ r. result_ok r) h
-
 -- one is missing among all
 pub one_missing : {A B : Type 0} (f : A → Option B) (xs : List A) (i : ℕ) (x : A) (missing fault : Fault)
     → i < length xs → x ≡ get_or xs i x → ok_or (f x) missing ≡ Err fault → ok_or (all_some (map f xs)) missing ≡ Err fault

@@ -3,7 +3,7 @@ use Rattle.std.proofs.lemmas.List.{take_all}
 use Rattle.std.proofs.lemmas.Result.{IfOk-weaker}
 use Rattle.par2_spec.specs.Folders.{has}
 use Rattle.par2_spec.specs.Names.{distinct}
-use Rattle.par2_plan.proofs.Choices.{filter-map}
+use Rattle.par2_spec.proofs.FilesLaws.{filter-map}
 use Rattle.par2_plan.proofs.candidates.candidates.Goals as goal
 
 pub returns : goal.returns

@@ -6,8 +6,9 @@ use Rattle.par2_spec.specs.declared.Fault.TheVariants.{Memory, NoChecksums}
 use Rattle.par2_spec.specs.Sets.{all_some, target_of}
 use Rattle.par2_sets.specs.Steps.{targets_or_fault}
 use Rattle.par2_sets.proofs.Lists.{all_some_more}
-use Rattle.par2_sets.proofs.Refusals.{passed_on, one_missing, there_is}
+use Rattle.par2_sets.proofs.Refusals.{passed_on, one_missing}
 use Rattle.par2_sets.proofs.targets.targets_by.Goals as goal
+use Rattle.par2_spec.proofs.ReadLaws.{was_some}
 
 pub returns-in_err-target : goal.returns-in_err-target
 returns-in_err-target c packets holds =
@@ -30,5 +31,5 @@ loop-description-preserved c packets holds =
     let pushed : c.push.new.self.items ≡ c.loop-description.targets.items ++ c.in_ok-target.target ∷ [] = search rules in
     ap (λ n. all_some (map (target_of packets c.args.s) (take n ds))) (length_push yielded (c.in-Some.description, c.in-Some.name))
     ∙ all_some_more (target_of packets c.args.s) ds (length yielded) d c.loop-description.targets.items c.in_ok-target.target turn.0 (turn.2 d) (c.loop-description.invariant packets holds)
-    (there_is (target_of packets c.args.s d) NoChecksums c.in_ok-target.target (c.in_ok-target.ensures packets holds))
+    (was_some (target_of packets c.args.s d) NoChecksums c.in_ok-target.target (c.in_ok-target.ensures packets holds))
     ∙ ap Some (sym pushed)
