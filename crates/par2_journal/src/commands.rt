@@ -141,8 +141,8 @@ impl Session {
         ensures leads { IfOk result (λ _.
             LeadsToAfterAsked self.old.folder.files (action_of action.now)) }
         ensures refused { IfErr result (MayRefuse (action_of action.now) self.old) }
-        ensures early { let files = self.old.folder.files in
-            (fault : Fault) → early_refusal_of files (action_of action.now) ≡ Some fault
+        ensures early { (fault : Fault)
+            → early_refusal_of self.old.folder.files (action_of action.now) ≡ Some fault
             → IsErrOf result (SessionFault.Plan fault) }
         ensures nothing_to_undo { action_of action.now ≡ Undo → self.old.undos ≡ []
             → IsErrOf result SessionFault.NothingToUndo }
