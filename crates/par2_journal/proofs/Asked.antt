@@ -14,8 +14,8 @@ use Rattle.par2_journal.specs.Ready.{Ready, Changing, Undoing, Redoing, Fits, Is
 use Rattle.par2_journal.specs.Refusals.{MayFail, MayRefuse}
 use Rattle.par2_spec.specs.History.{IsChanging}
 use Rattle.par2_journal.proofs.Acting.{command_done, undo_done, redo_done}
-use Rattle.par2_journal.specs.declared.prepared.SessionFault.{SessionFault}
-use Rattle.par2_journal.specs.declared.prepared.SessionFault.TheVariants.{Plan, NothingToUndo, NothingToRedo}
+use Rattle.par2_journal.specs.declared.preparation.SessionFault.{SessionFault}
+use Rattle.par2_journal.specs.declared.preparation.SessionFault.TheVariants.{Plan, NothingToUndo, NothingToRedo}
 
 -- a fault of the plan is one of the session
 refused_plan : (s : KeptSession) (command : Command) (fault : Fault) → MayFail command s fault → MayRefuse (Do command) s (Plan fault)

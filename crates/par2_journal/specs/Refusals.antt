@@ -6,8 +6,8 @@ use Rattle.par2_spec.specs.Refusals.{refusal}
 use Rattle.par2_spec.specs.Sessions.{KeptSession, session_of_kept, changes_asked}
 use Rattle.par2_spec.specs.declared.Fault.{Fault}
 use Rattle.par2_spec.specs.declared.Fault.TheVariants.{Memory}
-use Rattle.par2_journal.specs.declared.prepared.SessionFault.{SessionFault}
-use Rattle.par2_journal.specs.declared.prepared.SessionFault.TheVariants.{Plan, NothingToUndo, NothingToRedo}
+use Rattle.par2_journal.specs.declared.preparation.SessionFault.{SessionFault}
+use Rattle.par2_journal.specs.declared.preparation.SessionFault.TheVariants.{Plan, NothingToUndo, NothingToRedo}
 
 -- a command is refused for the cause that the definitions name, or for want of memory
 abbrev pub MayFail : Command → KeptSession → Fault → Type 0

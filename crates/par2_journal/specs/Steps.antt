@@ -1,7 +1,7 @@
 -- Steps of this crate as those of the definitions.
 use Rattle.par2_spec.specs.Texts as defined
-use Rattle.par2_journal.specs.declared.prepared.Step.{Step}
-use Rattle.par2_journal.specs.declared.prepared.Step.TheVariants.{Write, Replace, Rename, Remove}
+use Rattle.par2_journal.specs.declared.preparation.Step.{Step}
+use Rattle.par2_journal.specs.declared.preparation.Step.TheVariants.{Write, Replace, Rename, Remove}
 
 abbrev pub step_view : Step → defined.Step
 step_view (Write name) = defined.Writes name

@@ -1,6 +1,6 @@
 //! What a session is asked for. A command is planned and gets its room, an undo or redo has its entry: then it can be
 //! committed, or is carried out at once; runs of actions are made of these.
-use crate::prepared::Task;
+use crate::preparation::Task;
 use crate::{Changes, CreateArgs, Prepared, Session, SessionFault, Steps};
 use par2_plan::{Fault, Report, check, plan_create, plan_purge, plan_repair};
 use par2_spec::Action;

@@ -1,6 +1,6 @@
 //! One folder, the changes that lead back, and those that lead forward again.
 use crate::ahead::{Ahead, fingerprints_for};
-use crate::prepared::Task;
+use crate::preparation::Task;
 use crate::spelling::{Fingerprints, spell_command, spell_entry, spell_settled};
 use crate::{Changes, Journals, Next, Prepared, Steps};
 use par2_folder::{Change, Folder};

@@ -25,7 +25,7 @@ use Rattle.par2_spec.proofs.SearchLaws.{matches_of_needing}
 use Rattle.par2_asides.specs.Asides.{long_aside}
 use Rattle.par2_restore.specs.Restoring.{known_in, undetermined_fault, wrong_digest, files_of}
 use Rattle.par2_plan.specs.Repairing.{unmatched_names, names_given, AreNeeding, IsWholeWhereMatched, AreRestoredFor, targets_by, renames, matches_taken, writes, asides_removed, files_removed, place_by, changes_by, removals_by, with_removals, repair_by}
-use Rattle.par2_plan.specs.declared.needing.Needing.{Needing}
+use Rattle.par2_plan.specs.declared.needing_targets.Needing.{Needing}
 
 abbrev Pairs : Type 0
 Pairs = List (Target × Option (List ℕ))

@@ -16,7 +16,7 @@ use Rattle.par2_spec.specs.Sets.{all_pairs, ParSet, Target}
 use Rattle.par2_restore.specs.Restoring.{targets_among, undetermined_fault, IsAsDescribed}
 use Rattle.par2_plan.specs.Findings.{matches_given}
 use Rattle.par2_plan.specs.Matches.{name_cmp}
-use Rattle.par2_plan.specs.declared.needing.Needing.{Needing}
+use Rattle.par2_plan.specs.declared.needing_targets.Needing.{Needing}
 
 -- ---- needing targets
 

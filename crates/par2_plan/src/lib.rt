@@ -9,7 +9,7 @@ mod inputs;
 mod matching;
 mod moves;
 mod names;
-mod needing;
+mod needing_targets;
 mod outputs;
 mod purge;
 mod reading;

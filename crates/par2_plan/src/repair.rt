@@ -18,7 +18,7 @@ use crate::moves::{
     asides_by_name, matching_names, push_matches, push_renames, push_writes, remove_asides,
     remove_files,
 };
-use crate::needing::{Needing, needing_of};
+use crate::needing_targets::{Needing, needing_of};
 use crate::reading::read;
 use par2_asides::{asides, par_files};
 use par2_folder::{Bytes, Folder, Name};

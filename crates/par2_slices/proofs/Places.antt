@@ -10,7 +10,7 @@ use Rattle.std.proofs.Math.Nat.{div-mul-le_self}
 use Rattle.std.proofs.lemmas.Nat.{le-div, pow_pos}
 use Rattle.par2_spec.specs.Checksums.{Pair}
 use Rattle.par2_slices.specs.Searches.{no_place, pair_at, place_at, IsPlace, IsIndex, HoldsGroup}
-use Rattle.par2_slices.specs.declared.wanted.Place.{Place}
+use Rattle.par2_slices.specs.declared.wanted_pairs.Place.{Place}
 
 abbrev pub place_of : List Pair → ℕ → Place
 place_of pairs i = record { crc = (pair_at pairs i).1; index = i }

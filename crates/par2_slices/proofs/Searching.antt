@@ -15,7 +15,7 @@ use Rattle.par2_slices.specs.Filters.{AreAlike, Bits, Groups, Marks}
 use Rattle.par2_slices.specs.Searches.{no_pair, IsOfPair, no_place, no_candidate, pair_at, place_at, candidate_at, answer_at, answer_below, spot_in, first_spot, first_spot_from, HoldsGroup, is_awaited, after_window, has_checksums, after_candidates, first_below, Earlier, IsWindow, IsTally, IsAt}
 use Rattle.par2_slices.specs.declared.batch.Candidate.{Candidate}
 use Rattle.par2_slices.specs.declared.batch.Spot.{Spot}
-use Rattle.par2_slices.specs.declared.wanted.Place.{Place}
+use Rattle.par2_slices.specs.declared.wanted_pairs.Place.{Place}
 
 range_split : (a m n : ℕ) → range_with_len a (m + n) ≡ range_with_len a m ++ range_with_len (a + m) n
 range_split a zero n = ap (range_with_len a) (let e : 0 + n ≡ n = omega arith in e) ∙ ap (λ b. range_with_len b n) (let e : a ≡ a + 0 = omega arith in e)

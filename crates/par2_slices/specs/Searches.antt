@@ -9,7 +9,7 @@ use Rattle.par2_spec.specs.Windows.{first_match, is_match, window}
 use Rattle.par2_slices.specs.Filters.{AreAlike, Groups, Marks}
 use Rattle.par2_slices.specs.declared.batch.Candidate.{Candidate}
 use Rattle.par2_slices.specs.declared.batch.Spot.{Spot}
-use Rattle.par2_slices.specs.declared.wanted.Place.{Place}
+use Rattle.par2_slices.specs.declared.wanted_pairs.Place.{Place}
 
 -- what a look beyond a list gives
 abbrev pub no_pair : Pair

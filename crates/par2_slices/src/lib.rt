@@ -10,7 +10,7 @@ mod pairs;
 mod rolling;
 mod search;
 mod tables;
-mod wanted;
+mod wanted_pairs;
 mod zeros;
 
 pub use batch::Spot;
@@ -20,5 +20,5 @@ pub use digest::padded_md5;
 pub use pairs::{count_side_by_side, pairs_of, slice_md5s};
 pub use rolling::Rolling;
 pub use search::find_among;
-pub use wanted::{Pair, Wanted, pair_of};
+pub use wanted_pairs::{Pair, Wanted, pair_of};
 pub use zeros::padded_crc32;

@@ -9,7 +9,7 @@ ghost use Rattle.par2_slices.specs.Pairs.{first_pairs};
 
 use crate::checksum::crc32;
 use crate::cutting::{slice_bytes, slice_count, window_bytes};
-use crate::wanted::{Pair, pair_of};
+use crate::wanted_pairs::{Pair, pair_of};
 use par2_digests::{LANES, window_digests};
 use std::alloc::{AllocError, Global};
 

@@ -13,7 +13,7 @@ use crate::cutting::window_bytes;
 use crate::digest::padded_md5;
 use crate::filter::Filter;
 use crate::rolling::Rolling;
-use crate::wanted::{Pair, Place, Wanted};
+use crate::wanted_pairs::{Pair, Place, Wanted};
 use arrayvec::ArrayVec;
 use par2_digests::LANES;
 use std::alloc::{AllocError, Global};

@@ -10,8 +10,8 @@ use Rattle.par2_spec.specs.Stores.{Contents}
 use Rattle.par2_spec.specs.declared.Fault.{Fault}
 use Rattle.par2_spec.specs.declared.Fault.TheVariants.{Memory}
 use Rattle.par2_spec.proofs.NamesLaws.{false_true}
-use Rattle.par2_journal.specs.declared.prepared.SessionFault.{SessionFault}
-use Rattle.par2_journal.specs.declared.prepared.SessionFault.TheVariants.{Plan, NothingToUndo, NothingToRedo}
+use Rattle.par2_journal.specs.declared.preparation.SessionFault.{SessionFault}
+use Rattle.par2_journal.specs.declared.preparation.SessionFault.TheVariants.{Plan, NothingToUndo, NothingToRedo}
 use Rattle.par2_tool.specs.Holding.{TellsApartAlong, TellsApartBack, OpensAsBefore, OpensAsBeforeOrAfter}
 use Rattle.par2_tool.specs.Opening.{IsCounted, IsOpened, IsUnopened}
 use Rattle.par2_tool.specs.Refusals.{IsRefused, IsSession, failure_for, unopened_as}

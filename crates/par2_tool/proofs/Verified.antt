@@ -18,7 +18,7 @@ use Rattle.par2_spec.specs.declared.Fault.{Fault}
 use Rattle.par2_spec.specs.declared.Fault.TheVariants.{Memory}
 use Rattle.par2_spec.proofs.NamesLaws.{false_true}
 use Rattle.par2_journal.specs.Refusals.{MayRefuse}
-use Rattle.par2_journal.specs.declared.prepared.SessionFault.TheVariants.{Plan}
+use Rattle.par2_journal.specs.declared.preparation.SessionFault.TheVariants.{Plan}
 use Rattle.par2_tool.specs.Performing.{HoldsJournaled, IsWritten}
 
 module _ (folder : Folder) (base : List ℕ) (extras : List (List ℕ)) where

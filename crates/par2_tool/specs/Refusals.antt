@@ -5,7 +5,7 @@ use Rattle.par2_spec.specs.Sessions.{KeptSession, OnlyGrew}
 use Rattle.par2_journal.specs.Refusals.{MayRefuse}
 use Rattle.par2_spec.specs.declared.Failure.{Failure}
 use Rattle.par2_spec.specs.declared.Failure.TheVariants as failure
-use Rattle.par2_journal.specs.declared.prepared.SessionFault.TheVariants.{Plan, NothingToUndo, NothingToRedo}
+use Rattle.par2_journal.specs.declared.preparation.SessionFault.TheVariants.{Plan, NothingToUndo, NothingToRedo}
 use Rattle.par2_words.specs.declared.read.WordsFault.{WordsFault}
 use Rattle.par2_words.specs.declared.read.WordsFault.TheVariants as unread
 use Rattle.par2_tool.specs.declared.performing.PerformFault.{PerformFault}

@@ -2,7 +2,7 @@
 //! modes of files bind, so not the superuser.
 
 use crate::files::name_of;
-use crate::protected::show_packets;
+use crate::index_lines::show_packets;
 use crate::rows::answer_of;
 use anyhow::{Error, Result};
 use hex::encode;

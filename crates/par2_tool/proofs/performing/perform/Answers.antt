@@ -9,7 +9,7 @@ use Rattle.par2_spec.specs.declared.commands.Command.{Command}
 use Rattle.par2_spec.proofs.AcceptedCommands.{command_leads}
 use Rattle.par2_plan.specs.Views.{report_of}
 use Rattle.par2_journal.specs.Refusals.{MayRefuse}
-use Rattle.par2_journal.specs.declared.prepared.SessionFault.TheVariants.{Plan}
+use Rattle.par2_journal.specs.declared.preparation.SessionFault.TheVariants.{Plan}
 use Rattle.par2_folder.specs.Views.{change_of}
 use Rattle.par2_journal.specs.Ready.{changes_by_kind, after_commit}
 use Rattle.par2_tool.specs.Holding.{TellsApartAlong, OpensAsBeforeOrAfter}

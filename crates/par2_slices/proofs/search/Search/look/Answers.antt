@@ -4,7 +4,7 @@ use Rattle.par2_slices.specs.declared.batch.Spot.{Spot}
 use Rattle.std.specs.List.{count_by}
 use Rattle.par2_spec.specs.Checksums.{Pair}
 use Rattle.par2_slices.specs.declared.search.Search.{Search}
-use Rattle.par2_slices.specs.declared.wanted.Place.{Place}
+use Rattle.par2_slices.specs.declared.wanted_pairs.Place.{Place}
 use Rattle.par2_slices.specs.Filters.{Groups}
 use Rattle.par2_slices.specs.Searches.{is_awaited, answer_at, place_at, IsAt}
 use Rattle.par2_slices.proofs.Searching.{unawaited, unmark, unmarked}

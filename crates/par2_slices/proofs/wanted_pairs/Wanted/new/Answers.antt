@@ -5,7 +5,7 @@ use Rattle.std.proofs.lemmas.List.Sorted.{IsNonDecreasingBy-from_sort_by_key}
 use Rattle.par2_spec.specs.Checksums.{Pair}
 use Rattle.par2_slices.specs.Searches.{IsIndex}
 use Rattle.par2_slices.proofs.Places.{place_of, index_of}
-use Rattle.par2_slices.proofs.wanted.Wanted.new.Goals as goal
+use Rattle.par2_slices.proofs.wanted_pairs.Wanted.new.Goals as goal
 
 pub loop-index-preserved : goal.loop-index-preserved
 loop-index-preserved c =

@@ -2,9 +2,9 @@ use Rattle.std.proofs.Common.{◌≡◌, ℕ, ◌-◌, ◌/◌, ◌^◌, ◌<◌
 use Rattle.std.proofs.lemmas.List.{take_rest}
 use Rattle.par2_spec.specs.Checksums.{Pair}
 use Rattle.par2_slices.specs.Searches.{place_at, HoldsGroup}
-use Rattle.par2_slices.specs.declared.wanted.Place.{Place}
+use Rattle.par2_slices.specs.declared.wanted_pairs.Place.{Place}
 use Rattle.par2_slices.proofs.Places.{group_of}
-use Rattle.par2_slices.proofs.wanted.Wanted.group.Goals as goal
+use Rattle.par2_slices.proofs.wanted_pairs.Wanted.group.Goals as goal
 
 pub returns : goal.returns
 returns c =

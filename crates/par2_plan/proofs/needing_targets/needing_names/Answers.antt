@@ -5,7 +5,7 @@ use Rattle.std.proofs.lemmas.Slice.Zip.{either_empty_from_Zip}
 use Rattle.par2_spec.specs.Sets.{Target}
 use Rattle.par2_plan.specs.Matches.{items_where}
 use Rattle.par2_plan.proofs.Choices.{chosen_end}
-use Rattle.par2_plan.proofs.needing.needing_names.Goals as goal
+use Rattle.par2_plan.proofs.needing_targets.needing_names.Goals as goal
 
 pub returns : goal.returns
 returns c =

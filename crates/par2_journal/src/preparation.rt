@@ -95,7 +95,7 @@ pub enum SessionFault {
 
 impl From<Fault> for SessionFault {
     ghost use Rattle.std.specs.Prelude.{◌≡◌};
-    ghost use Rattle.par2_journal.specs.declared.prepared.SessionFault.TheVariants.{Plan};
+    ghost use Rattle.par2_journal.specs.declared.preparation.SessionFault.TheVariants.{Plan};
 
     ghost from_gives = { λ fault refused. refused ≡ Plan fault };
 
@@ -106,7 +106,7 @@ impl From<Fault> for SessionFault {
 
 impl From<NothingToUndo> for SessionFault {
     ghost use Rattle.std.specs.Prelude.{◌≡◌};
-    ghost use Rattle.par2_journal.specs.declared.prepared.SessionFault.TheVariants as faults;
+    ghost use Rattle.par2_journal.specs.declared.preparation.SessionFault.TheVariants as faults;
 
     ghost from_gives = { λ _ refused. refused ≡ faults.NothingToUndo };
 
@@ -117,7 +117,7 @@ impl From<NothingToUndo> for SessionFault {
 
 impl From<NothingToRedo> for SessionFault {
     ghost use Rattle.std.specs.Prelude.{◌≡◌};
-    ghost use Rattle.par2_journal.specs.declared.prepared.SessionFault.TheVariants as faults;
+    ghost use Rattle.par2_journal.specs.declared.preparation.SessionFault.TheVariants as faults;
 
     ghost from_gives = { λ _ refused. refused ≡ faults.NothingToRedo };
 

@@ -7,7 +7,7 @@ use Rattle.par2_plan.specs.Matches.{items_where}
 use Rattle.par2_plan.specs.Repairing.{unmatched_names}
 use Rattle.par2_plan.proofs.Given.{chosen_needing}
 use Rattle.par2_plan.proofs.Repaired.{names_in_pairs, unmatched_of}
-use Rattle.par2_plan.proofs.needing.needing_of.Goals as goal
+use Rattle.par2_plan.proofs.needing_targets.needing_of.Goals as goal
 
 pub returns : goal.returns
 returns c =

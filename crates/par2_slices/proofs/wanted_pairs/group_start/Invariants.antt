@@ -1,6 +1,6 @@
 use Rattle.std.proofs.Common.{ℕ, ◌-◌, ◌/◌, ◌^◌, ◌<◌, ◌≤◌, length}
 use Rattle.par2_slices.specs.Searches.{place_at}
-use Rattle.par2_slices.proofs.wanted.group_start.Given as goal
+use Rattle.par2_slices.proofs.wanted_pairs.group_start.Given as goal
 
 abbrev pub invariant-loop-start : goal.invariant-loop-start
 invariant-loop-start l = record {
