@@ -1,5 +1,5 @@
 -- Messages on their way to their digests.
-use Rattle.std.specs.Prelude.{◌≡◌, ◌≤◌, ℕ, suc, ◌*◌, ◌/◌, List, Option, Some, None, length, take, drop, map}
+use Rattle.std.specs.Prelude.{◌≡◌, ◌≤◌, ◌<◌, ℕ, suc, ◌*◌, ◌/◌, List, Option, Some, None, length, take, drop, map, get_or}
 use Rattle.md5.specs.Md5.{hash_after}
 use Rattle.par2_digests.specs.Feeds.{hash_behind, bytes_left}
 use Rattle.par2_digests.specs.declared.tasks.Task.{Task}
@@ -11,6 +11,12 @@ LeadsWith None kept bytes hash last rest = (hash_behind hash bytes (length bytes
 
 abbrev pub LeadsTo : Task → List ℕ → List ℕ → List ℕ → Type 0
 LeadsTo task hash last rest = LeadsWith task.hash task.rest (bytes_left task.feed) hash last rest
+
+-- the first `count` tasks lead on: what each led to from its old hash value, it leads to from the new one
+abbrev pub LeadOn : {A : Type 0} → (ℕ → A → List ℕ) → ℕ → List Task → A → List Task → A → Type 0
+LeadOn hash_at count old before new after =
+    (j : ℕ) (none : Task) (last rest : List ℕ) → j < count
+    → LeadsTo (get_or old j none) (hash_at j before) last rest → LeadsTo (get_or new j none) (hash_at j after) last rest
 
 -- the hash value behind the whole blocks, and the bytes behind them
 abbrev pub HasEnded : Task → List ℕ → List ℕ → Type 0

@@ -7,7 +7,7 @@ ghost use Rattle.md5.specs.Md5.{digest_bytes};
 ghost use Rattle.par2_digests.specs.Digests.{digest_at};
 ghost use Rattle.par2_digests.specs.Feeds.{hash_behind};
 ghost use Rattle.par2_digests.specs.Lanes.{lane};
-ghost use Rattle.par2_digests.specs.Tasks.{HasBlocks, HasEnded, LeadsTo, work, works};
+ghost use Rattle.par2_digests.specs.Tasks.{HasBlocks, HasEnded, LeadOn, LeadsTo, work, works};
 ghost use Rattle.par2_digests.specs.declared.tasks.Task.{Task};
 
 use crate::alone::hashed;
@@ -145,9 +145,7 @@ fn go_on<V: Lanes>(
     requires lanes { count ≤ V.count }
     requires few { V.count ≤ 8 }
     requires within { k < count }
-    ensures leads { (j : ℕ) (none : Task) (last rest : List ℕ) → j < count
-        → LeadsTo (get_or tasks.old j none) (lane V.at j state) last rest
-        → LeadsTo (get_or tasks.new j none) (lane V.at j result) last rest }
+    ensures leads { LeadOn (lane V.at) count tasks.old state tasks.new result }
     ensures stays { (j : ℕ) → j < count
         → get_or (works tasks.new) j 0 ≤ get_or (works tasks.old) j 0 }
     ensures size { length tasks.new ≡ 8 }
@@ -173,9 +171,7 @@ fn finish<V: Lanes>(
     requires lanes { count ≤ V.count }
     requires few { V.count ≤ 8 }
     requires within { k < count }
-    ensures leads { (j : ℕ) (none : Task) (last rest : List ℕ) → j < count
-        → LeadsTo (get_or tasks.old j none) (lane V.at j state) last rest
-        → LeadsTo (get_or tasks.new j none) (lane V.at j result) last rest }
+    ensures leads { LeadOn (lane V.at) count tasks.old state tasks.new result }
     ensures stays { (j : ℕ) → j < count
         → get_or (works tasks.new) j 0 ≤ get_or (works tasks.old) j 0 }
     ensures done { get_or (works tasks.new) k 0 ≡ 0 }
