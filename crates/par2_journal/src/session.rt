@@ -245,8 +245,8 @@ impl Session {
     }
 
     /// The journals of what was prepared for an action. The folder makes the changes and is turned back, also where
-    /// memory runs out. Of the changes no bytes are copied but into the journals. Fingerprints that stand ready are used
-    /// once.
+    /// memory runs out. Of the changes no bytes are copied but into the journals. Fingerprints that stand ready are
+    /// used once.
     pub fn journals(
         &mut self,
         alloc: Global,
