@@ -1,4 +1,5 @@
-//! Tests of the digests, the field, the elimination, the slices and the records, through what their crates make public.
+//! Tests of the digests, the field, the elimination, the slices, the records and of what is found among texts, through
+//! what their crates make public.
 #![tactic(auto)]
 
 #[cfg(test)]
@@ -8,8 +9,16 @@ mod elimination;
 #[cfg(test)]
 mod field;
 #[cfg(test)]
+mod intact;
+#[cfg(test)]
+mod matching;
+#[cfg(test)]
 mod midstates;
+#[cfg(test)]
+mod pairs;
 #[cfg(test)]
 mod records;
 #[cfg(test)]
 mod slices;
+#[cfg(test)]
+mod windows;
