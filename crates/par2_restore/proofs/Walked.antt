@@ -1,7 +1,9 @@
 -- The targets one after the other, with their bytes by the slices that are left.
 use Rattle.std.proofs.Common.{◌≡◌, ◌∙◌, ℕ, ◌+◌, List, [], ◌∷◌, ◌++◌, length, map, take, drop, refl, sym, ap, ap₂, subst, Bool, true, false, cond, ◌&&◌}
 use Rattle.std.specs.Prelude.{filter, zip, not, Some, Result, Err, IfErr}
+use Rattle.std.specs.Cmp.Lexicographic.{pointwise}
 use Rattle.std.specs.List.{concat, list_all, AllByRecursion}
+use Rattle.std.specs.Str.{bytes_eq}
 use Rattle.std.proofs.lemmas.List.{append-nil, append_assoc, drop-drop}
 use Rattle.std.proofs.lemmas.Bool.{false≢true}
 use Rattle.std.proofs.lemmas.Slice.Eq.{bytes_eq-Decides}
@@ -28,33 +30,24 @@ pub among-cons : (names : List (List ℕ)) (t : Target) (ts : List Target) (slic
 among-cons names t ts slices first b is =
     ap₂ (λ d rest. cond d (target_at slices first t ∷ among names ts rest) (among names ts rest)) is (drop-drop (length t.pairs) first slices)
 
--- one more file before those that are left
-pub files_more : (names : List (List ℕ)) (t : Target) (ts : List Target) (slices : List (List ℕ)) (first : ℕ) (b : Bool) (old new : List File) → is_among names t.name ≡ b
-    → new ≡ old ++ cond b ((t.name, (target_at slices first t).1) ∷ []) []
-    → new ++ files_of (among names ts (drop (first + length t.pairs) slices)) ≡ old ++ files_of (among names (t ∷ ts) (drop first slices))
-files_more names t ts slices first true old new is made =
-    let left : List File = files_of (among names ts (drop (first + length t.pairs) slices)) in
-    ap (λ fs. fs ++ left) made ∙ append_assoc old ((t.name, (target_at slices first t).1) ∷ []) left
-    ∙ ap (λ cs. old ++ files_of cs) (sym (among-cons names t ts slices first true is))
-files_more names t ts slices first false old new is made =
-    let left : List File = files_of (among names ts (drop (first + length t.pairs) slices)) in
-    ap (λ fs. fs ++ left) (made ∙ append-nil old) ∙ ap (λ cs. old ++ files_of cs) (sym (among-cons names t ts slices first false is))
+-- one more item before those that are left
+pub items_more : {X : Type 0} (item : Target × List ℕ → X) (names : List (List ℕ)) (t : Target) (ts : List Target) (slices : List (List ℕ)) (first : ℕ) (b : Bool) (old new : List X)
+    → is_among names t.name ≡ b → new ≡ old ++ cond b (item (target_at slices first t) ∷ []) []
+    → new ++ map item (among names ts (drop (first + length t.pairs) slices)) ≡ old ++ map item (among names (t ∷ ts) (drop first slices))
+items_more {X} item names t ts slices first true old new is made =
+    let left : List X = map item (among names ts (drop (first + length t.pairs) slices)) in
+    ap (λ xs. xs ++ left) made ∙ append_assoc old (item (target_at slices first t) ∷ []) left
+    ∙ ap (λ cs. old ++ map item cs) (sym (among-cons names t ts slices first true is))
+items_more {X} item names t ts slices first false old new is made =
+    let left : List X = map item (among names ts (drop (first + length t.pairs) slices)) in
+    ap (λ xs. xs ++ left) (made ∙ append-nil old) ∙ ap (λ cs. old ++ map item cs) (sym (among-cons names t ts slices first false is))
 
 -- ---- digests
 
-pub digests_more : (names : List (List ℕ)) (t : Target) (ts : List Target) (slices : List (List ℕ)) (first : ℕ) (b : Bool) → is_among names t.name ≡ b
-    → (b ≡ true → has_digest (target_at slices first t) ≡ true)
-    → list_all has_digest (among names ts (drop (first + length t.pairs) slices)) ≡ list_all has_digest (among names (t ∷ ts) (drop first slices))
-digests_more names t ts slices first true is right =
-    let left : Bool = list_all has_digest (among names ts (drop (first + length t.pairs) slices)) in
-    ap (λ d. d && left) (sym (right refl)) ∙ ap (list_all has_digest) (sym (among-cons names t ts slices first true is))
-digests_more names t ts slices first false is right = ap (list_all has_digest) (sym (among-cons names t ts slices first false is))
-
-pub wrong_first : (names : List (List ℕ)) (t : Target) (ts : List Target) (slices : List (List ℕ)) (first : ℕ) → is_among names t.name ≡ true
-    → has_digest (target_at slices first t) ≡ false → list_all has_digest (among names (t ∷ ts) (drop first slices)) ≡ false
-wrong_first names t ts slices first is wrong =
-    let left : Bool = list_all has_digest (among names ts (drop (first + length t.pairs) slices)) in
-    ap (list_all has_digest) (among-cons names t ts slices first true is) ∙ ap (λ d. d && left) wrong
+-- the digests of all files are right where each is
+pub all_right : (cs : List (Target × List ℕ)) → pointwise bytes_eq (map (λ (file : File). md5 file.1) (files_of cs)) (map (λ c. c.0.digest) cs) ≡ list_all has_digest cs
+all_right [] = refl
+all_right (c ∷ cs) = ap (λ b. has_digest c && b) (all_right cs)
 
 both : (a b : Bool) → (a && b) ≡ true → (a ≡ true) × (b ≡ true)
 both true b h = (refl, h)

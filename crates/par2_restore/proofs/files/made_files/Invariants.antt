@@ -1,9 +1,8 @@
-use Rattle.std.proofs.Common.{◌≡◌, ◌+◌, ◌++◌, length, drop}
+use Rattle.std.proofs.Common.{◌≡◌, ◌+◌, ◌++◌, length, map, drop}
 use Rattle.std.specs.Prelude.{flat_map}
-use Rattle.std.specs.List.{list_all}
-use Rattle.par2_restore.specs.Restoring.{files_of, has_digest}
+use Rattle.par2_restore.specs.Restoring.{files_of}
 use Rattle.par2_restore.proofs.Walked.{among}
-use Rattle.par2_restore.proofs.files.restored_files.Given as goal
+use Rattle.par2_restore.proofs.files.made_files.Given as goal
 
 abbrev pub invariant-loop-target : goal.invariant-loop-target
 invariant-loop-target l =
@@ -11,6 +10,6 @@ invariant-loop-target l =
     let all = among l.names l.target-items l.slices in
     record {
       files : l.files.items ++ files_of left ≡ files_of all;
-      digests : list_all has_digest left ≡ list_all has_digest all;
+      md5s : l.md5s.items ++ map (λ c. c.0.digest) left ≡ map (λ c. c.0.digest) all;
       long : l.first + length (flat_map (λ t. t.pairs) (drop l.target-index l.target-items)) ≡ length l.slices;
     }
