@@ -237,33 +237,32 @@ fn index_is_written(rt: HostRuntime) -> Result<(), Fail> {
     Ok(())
 }
 
-// The index, and behind it the recovery slice of exponent 0.
-fn first_volume(alloc: Global) -> Result<Vec<u8>, FromHexError> {
-    let id = main_id(4, &[record_of_a(alloc)?]);
-    let mut text = index(alloc)?;
+// Behind the index the recovery slice of exponent 0.
+fn first_volume(alloc: Global, index: Vec<u8>, id: &[u8; 16]) -> Result<Vec<u8>, AllocError> {
+    let mut text = index;
     let slices = vec![in alloc; Vec::from_slice(alloc, b"\x04\x04\x04\x0c")?]?;
-    append_recoveries(alloc, &mut text, &id, 0, &slices)?;
+    append_recoveries(alloc, &mut text, id, 0, &slices)?;
     Ok(text)
 }
 
-// The index, and behind it those of exponents 1 and 2.
-fn second_volume(alloc: Global) -> Result<Vec<u8>, FromHexError> {
-    let id = main_id(4, &[record_of_a(alloc)?]);
-    let mut text = index(alloc)?;
-    let slices = vec![in alloc;
-        Vec::from_slice(alloc, b"\x5d\x4d\x51\x79")?,
-        Vec::from_slice(alloc, b"\xe5\x9f\xcd\x67")?,
-    ]?;
-    append_recoveries(alloc, &mut text, &id, 1, &slices)?;
+// Behind the index those of exponents 1 and 2.
+fn second_volume(alloc: Global, index: Vec<u8>, id: &[u8; 16]) -> Result<Vec<u8>, AllocError> {
+    let mut text = index;
+    let first = Vec::from_slice(alloc, b"\x5d\x4d\x51\x79")?;
+    let second = Vec::from_slice(alloc, b"\xe5\x9f\xcd\x67")?;
+    let slices = vec![in alloc; first, second]?;
+    append_recoveries(alloc, &mut text, id, 1, &slices)?;
     Ok(text)
 }
 
 #[test]
 fn volumes_are_written(rt: HostRuntime) -> Result<(), Fail> {
-    let first = first_volume(rt.alloc())?;
-    assert!(rt; first == volume_of(rt.alloc(), &[0])? && first.len() == 492);
-    let second = second_volume(rt.alloc())?;
-    assert!(rt; second == volume_of(rt.alloc(), &[1, 2])? && second.len() == 564);
+    let alloc = rt.alloc();
+    let id = main_id(4, &[record_of_a(alloc)?]);
+    let first = first_volume(alloc, index(alloc)?, &id)?;
+    assert!(rt; first == volume_of(alloc, &[0])? && first.len() == 492);
+    let second = second_volume(alloc, index(alloc)?, &id)?;
+    assert!(rt; second == volume_of(alloc, &[1, 2])? && second.len() == 564);
     Ok(())
 }
 
