@@ -16,6 +16,7 @@ pub mod session_laws;
 pub mod stop_laws;
 
 pub use commands::{Action, Command, CreateArgs};
+use std::alloc::{AllocError, AllocFailed};
 
 /// The type of a packet.
 #[derive(Clone, Copy, PartialEq, Eq, Debug, Drop)]
@@ -75,6 +76,28 @@ pub enum Fault {
     Memory,
 }
 
+impl From<AllocError> for Fault {
+    ghost use Rattle.std.specs.Prelude.{◌≡◌};
+    ghost use Rattle.par2_spec.specs.declared.Fault.{Fault};
+
+    ghost from_gives = { λ _ fault. fault ≡ Fault.Memory };
+
+    fn from(_: AllocError) -> Self {
+        Fault::Memory
+    }
+}
+
+impl<T: Drop> From<AllocFailed<T>> for Fault {
+    ghost use Rattle.std.specs.Prelude.{◌≡◌};
+    ghost use Rattle.par2_spec.specs.declared.Fault.{Fault};
+
+    ghost from_gives = { λ _ fault. fault ≡ Fault.Memory };
+
+    fn from(_: AllocFailed<T>) -> Self {
+        Fault::Memory
+    }
+}
+
 /// Why a journal is refused.
 #[derive(Clone, Copy, PartialEq, Eq, Debug, Drop)]
 pub enum JournalFault {
@@ -82,6 +105,17 @@ pub enum JournalFault {
     /// The journal, which is that of a halfway command where `halfway` holds, is another folder's.
     FolderChanged { halfway: bool },
     Memory,
+}
+
+impl From<AllocError> for JournalFault {
+    ghost use Rattle.std.specs.Prelude.{◌≡◌};
+    ghost use Rattle.par2_spec.specs.declared.JournalFault.{JournalFault};
+
+    ghost from_gives = { λ _ fault. fault ≡ JournalFault.Memory };
+
+    fn from(_: AllocError) -> Self {
+        JournalFault::Memory
+    }
 }
 
 /// Why a change is refused.
