@@ -6,6 +6,7 @@ ghost use Rattle.par2_gf16.specs.Products.{AddsProducts};
 ghost use Rattle.par2_matrix.specs.Echelon.{WordPut, Spells, Scaled, ReducedBelow, IsReduced, IsImplied, IsMultiple, IsPrepared, ClearedBelow, PutAt, AllEmpty, echelon_of};
 ghost use Rattle.par2_spec.specs.Sums.{OneChanged, lists_of, list_at};
 
+use crate::elements::{element, put_element};
 use par2_gf16::{Factor, Gf};
 use std::alloc::{AllocError, Global};
 
@@ -15,24 +16,6 @@ fn fit_bytes(bytes: &[u8])
     ensures { (k : ℕ) → slice_index bytes.now k < 2 ^ 8 }
 {
     let _ = bytes.len();
-}
-
-#[inline(always)]
-fn element(row: &[u8], i: usize) -> u16
-    requires { 2 * i + 1 < length row.now }
-    ensures { result ≡ word i row.now }
-{
-    u16::from_le_bytes([row[2 * i], row[2 * i + 1]])
-}
-
-#[inline(always)]
-fn put_element(row: &mut [u8], i: usize, element: u16)
-    requires { 2 * i + 1 < length row.old }
-    ensures { WordPut i element row.old row.new }
-{
-    let [low, high] = element.to_le_bytes();
-    row[2 * i] = low;
-    row[2 * i + 1] = high;
 }
 
 #[inline(always)]
@@ -52,24 +35,6 @@ pub(crate) fn empty_lists(alloc: Global, count: usize) -> Result<Vec<Vec<u8>>, A
         lists.push(Vec::new(alloc))?;
     }
     Ok(lists)
-}
-
-fn spell(row: &[u16], bytes: &mut [u8])
-    requires { length bytes.old ≡ 2 * length row.now }
-    ensures { Spells row.now bytes.new (length row.now) }
-{
-    for i in 0..row.len() {
-        put_element(bytes, i, row[i]);
-    }
-}
-
-/// The bytes of a row.
-pub(crate) fn bytes_of_row(alloc: Global, row: &[u16]) -> Result<Vec<u8>, AllocError>
-    ensures { IfOk result (λ bytes. Spells row.now bytes.items (length row.now)) }
-{
-    let mut bytes = vec![in alloc; 0u8; 2 * row.len()]?;
-    spell(row, bytes.as_mut_slice());
-    Ok(bytes)
 }
 
 fn scale(gf: &Gf, factor: u16, bytes: &mut [u8])

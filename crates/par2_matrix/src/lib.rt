@@ -2,7 +2,9 @@
 //! equation at a time.
 #![tactic(auto)]
 
+mod elements;
 mod elimination;
 mod system;
 
+pub use elements::{bytes_of_row, element, put_element};
 pub use system::{Offer, System};

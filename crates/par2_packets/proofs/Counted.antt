@@ -8,7 +8,8 @@ use Rattle.std.proofs.lemmas.List.{map-append, take_more, length-take-le}
 use Rattle.par2_spec.specs.Packets.{packet}
 use Rattle.par2_spec.specs.Volumes.{packet_of, recovery_bytes}
 use Rattle.par2_spec.specs.declared.Kind.TheVariants.{Recovery}
-use Rattle.par2_packets.specs.Recoveries.{lists_of, packets_from}
+use Rattle.par2_spec.specs.Sums.{lists_of}
+use Rattle.par2_packets.specs.Recoveries.{packets_from}
 
 enumerate_append : {X : Type 0} (n : ℕ) (xs ys : List X) → enumerate_from n (xs ++ ys) ≡ enumerate_from n xs ++ enumerate_from (n + length xs) ys
 enumerate_append n [] ys = ap (λ k. enumerate_from k ys) (let e : n ≡ n + 0 = omega arith in e)

@@ -1,14 +1,9 @@
--- Recovery slices, and their packets.
-use Rattle.std.specs.Prelude.{ℕ, List, map, Vec}
+-- The packets of recovery slices.
+use Rattle.std.specs.Prelude.{ℕ, List, map}
 use Rattle.std.specs.List.{enumerate_from}
-use Rattle.std.specs.declared.alloc.Global.{Global}
 use Rattle.par2_spec.specs.Packets.{Packet}
 use Rattle.par2_spec.specs.Volumes.{packet_of, recovery_bytes}
 use Rattle.par2_spec.specs.declared.Kind.TheVariants.{Recovery}
-
--- the bytes of each
-abbrev pub lists_of : List (Vec ℕ Global) → List (List ℕ)
-lists_of slices = map (λ slice. slice.items) slices
 
 -- the packets of recovery slices whose exponents count up from the first one
 abbrev pub packets_from : List ℕ → ℕ → List (List ℕ) → List Packet

@@ -1,14 +1,14 @@
 //! Recovery slices are written, and the digests of their packets are computed side by side.
 
-ghost use Rattle.std.specs.Prelude.{◌≡◌, ◌≤◌, ◌<◌, ◌+◌, ◌%◌, ◌++◌, [], ℕ, length, map, take, flat_map, slice_index_or, OnOk, OnErr, IfOk};
+ghost use Rattle.std.specs.Prelude.{◌≡◌, ◌≤◌, ◌<◌, ◌+◌, ◌++◌, [], ℕ, length, map, take, flat_map, slice_index_or, OnOk, OnErr, IfOk};
 ghost use Rattle.std.specs.Int.{w32, to_le_bytes};
-ghost use Rattle.std.specs.List.{AllByRecursion};
 ghost use Rattle.md5.specs.Md5.{md5};
 ghost use Rattle.par2_digests.specs.Digests.{digest_at};
 ghost use Rattle.par2_digests.specs.Messages.{message_at, message_of};
 ghost use Rattle.par2_spec.specs.Packets.{packet, digest_input};
 ghost use Rattle.par2_spec.specs.Volumes.{packet_of};
-ghost use Rattle.par2_packets.specs.Recoveries.{lists_of, packets_from};
+ghost use Rattle.par2_spec.specs.Sums.{lists_of};
+ghost use Rattle.par2_packets.specs.Recoveries.{packets_from};
 
 use crate::append::append_digested;
 use crate::bytes::u32_bytes;
@@ -145,8 +145,7 @@ pub fn append_recoveries(
     first: u32,
     slices: &[Vec<u8>],
 ) -> Result<(), AllocError>
-    requires exponents { first + length slices.now ≤ 65536 }
-    requires sizes { AllByRecursion (λ slice. length slice % 4 ≡ 0) (lists_of slices.now) }
+    requires { first + length slices.now ≤ 65536 }
     ensures ok { let added = packets_from set_id.now first (lists_of slices.now) in
         OnOk result (out.new.items ≡ out.old.items ++ flat_map packet added) }
     ensures err { OnErr result (out.new.items ≡ out.old.items) }

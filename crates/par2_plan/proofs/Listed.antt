@@ -11,7 +11,7 @@ use Rattle.par2_spec.specs.Recovery.{recovery}
 use Rattle.par2_spec.specs.Volumes.{packet_of, recovery_bytes, recovery_packets}
 use Rattle.par2_spec.specs.declared.Kind.TheVariants.{Recovery}
 use Rattle.par2_spec.proofs.WrittenSets.{recovery_length}
-use Rattle.par2_matrix.specs.Systems.{lists_of}
+use Rattle.par2_spec.specs.Sums.{lists_of}
 use Rattle.par2_packets.specs.Recoveries.{packets_from}
 
 -- ---- of any items
@@ -90,10 +90,3 @@ packets_joined text out new s id texts e done n so_far is =
     ∙ ap (flat_map packet) (map-append made (range_with_len e done) (range_with_len (e + done) n))
     ∙ flat_map-append packet (recovery_packets s id texts e done) (recovery_packets s id texts (e + done) n) in
     is ∙ ap (λ o. o ++ added) so_far ∙ append_assoc text before added ∙ ap (λ o. text ++ o) (sym both)
-
--- recovery slices are as long as the slices
-pub whole_words : (s : ℕ) (texts : List (List ℕ)) → s % 4 ≡ 0 → (es : List ℕ) → AllByRecursion (λ slice. length slice % 4 ≡ 0) (map (recovery s texts) es)
-whole_words s texts h [] = tt
-whole_words s texts h (e ∷ es) =
-    let size : length (recovery s texts e) ≡ s = recovery_length s texts e (omega (arith, h)) in
-    (omega (arith, size, h), whole_words s texts h es)

@@ -1,13 +1,17 @@
 -- The outputs of a create, by parts.
 use Rattle.std.specs.Prelude.{ℕ, ◌≡◌, ◌≤◌, ◌+◌, ◌%◌, nat_lt, List, [], ◌∷◌, ◌++◌, length, map, flat_map, if◌then◌else◌, IsTrue}
 use Rattle.std.specs.List.{AllByRecursion}
+use Rattle.std.specs.Borrow.{Bor}
 use Rattle.par2_spec.specs.Packets.{Packet, packet}
 use Rattle.par2_spec.specs.Folders.{Folder, File, has}
 use Rattle.par2_spec.specs.Changes.{Change, Write, Replace}
 use Rattle.par2_spec.specs.Names.{is_name}
 use Rattle.par2_spec.specs.Volumes.{volume_name, volume_numbers, volumes_before, volume_size, all_slices, recovery_packets}
 use Rattle.par2_spec.specs.Commands.{CreateArgs, files_of}
+use Rattle.par2_spec.specs.Slices.{padded}
+use Rattle.par2_recovery.specs.Products.{AreBytes}
 use Rattle.par2_recovery.specs.Views as records
+use Rattle.par2_recovery.specs.Views.{texts_of}
 use Rattle.par2_plan.specs.declared.names.Volume.{Volume}
 use Rattle.par2_plan.specs.declared.outputs.Parts.{Parts}
 
@@ -44,6 +48,11 @@ pub record HasSlices (parts : Parts) : Type 0 where
   pub fours : parts.set.now.slice_size % 4 ≡ 0
   pub names : AllByRecursion (λ name. IsTrue (is_name name)) (records.names_of parts.set.now)
   pub few : length (inputs_of parts) ≤ 32768
+
+-- these are the set's input slices, which zeros follow where a file ends early
+pub record ListsInputs (parts : Parts) (inputs : List (Bor (List ℕ))) : Type 0 where
+  pub slices : map (padded parts.set.now.slice_size) (texts_of inputs) ≡ inputs_of parts
+  pub bytes : AreBytes (texts_of inputs)
 
 -- the packets of n recovery slices from exponent e on
 abbrev pub packets_between : Parts → ℕ → ℕ → List Packet

@@ -4,23 +4,19 @@ ghost use Rattle.std.specs.List.{AllByRecursion};
 ghost use Rattle.par2_spec.specs.Packets.{packet};
 ghost use Rattle.par2_spec.specs.Volumes.{recovery_packets};
 ghost use Rattle.par2_folder.specs.Views.{change_of};
-ghost use Rattle.par2_matrix.specs.Systems.{lists_of};
-ghost use Rattle.par2_plan.specs.Outputs.{HasSlices, inputs_of, packets_between, volume_text, put_change, output_changes};
+ghost use Rattle.par2_spec.specs.Sums.{lists_of};
+ghost use Rattle.par2_plan.specs.Outputs.{HasSlices, ListsInputs, packets_between, volume_text, put_change, output_changes};
 
 use crate::Changes;
 use crate::names::Volume;
 use par2_folder::{Bytes, Change, Folder, Name};
 use par2_gf16::Gf;
 use par2_packets::append_recoveries;
-use par2_recovery::{SetRecord, recovery_slices};
+use par2_recovery::{SetRecord, input_slices, recovery_slices_over};
 use std::alloc::{AllocError, Global};
 
-// How much memory recovery slices and their factors may take beside the outputs, where the fewest take less.
+// How much memory recovery slices and their factors may take beside the outputs, and beside a 64th of the inputs.
 const ROOM: usize = 512 * 1024;
-
-// How many recovery slices are made at once at least: each time all input slices are read, and digests are computed eight
-// side by side.
-const FEWEST: usize = 8;
 
 // What a recovery slice takes beside its bytes and its factors.
 const OVERHEAD: usize = 64;
@@ -38,24 +34,24 @@ pub struct Parts<'a> {
     pub folder: &'a Folder,
 }
 
-// How many slices the files have.
-fn input_count(set: &SetRecord) -> usize {
-    let mut count = 0usize;
-    for file in &set.files {
-        count = count.saturating_add(file.pairs.len());
+// How many bytes the slices have.
+fn total_len(slices: &[&[u8]]) -> usize {
+    let mut total = 0usize;
+    for slice in slices {
+        total = total.saturating_add(slice.len());
     }
-    count
+    total
 }
 
-// How many recovery slices are made at once. A factor of two bytes goes with each input slice.
-fn at_once(set: &SetRecord) -> u32
+// How many recovery slices are made at once: each time all input slices are read. A factor of two bytes goes with each.
+fn at_once(slice_size: u64, inputs: &[&[u8]]) -> u32
     ensures { 1 ≤ result }
 {
-    let factors = input_count(set).saturating_mul(2);
-    let each = (set.slice_size as usize)
-        .saturating_add(factors)
+    let room = (total_len(inputs) / 64).saturating_add(ROOM);
+    let each = (slice_size as usize)
+        .saturating_add(inputs.len().saturating_mul(2))
         .saturating_add(OVERHEAD);
-    (ROOM / each).max(FEWEST) as u32
+    (room / each).clamp(1, 65536) as u32
 }
 
 // How many bytes a volume of this many recovery slices has.
@@ -71,15 +67,18 @@ fn append_slices(
     out: &mut Vec<u8>,
     gf: &Gf,
     parts: &Parts,
+    inputs: &[&[u8]],
     first: u32,
     count: u32,
 ) -> Result<(), AllocError>
     requires parts { HasSlices parts.now }
+    requires inputs { ListsInputs parts.now inputs.now }
     requires exponents { first + count ≤ 65536 }
     ensures { OnOk result
         (out.new.items ≡ out.old.items ++ flat_map packet (packets_between parts.now first count)) }
 {
-    let slices = recovery_slices(alloc, gf, parts.set, parts.folder, first, count)?;
+    let size = parts.set.slice_size as usize;
+    let slices = recovery_slices_over(alloc, gf, inputs, size, first, count)?;
     append_recoveries(alloc, out, &parts.set_id, first, &slices)
 }
 
@@ -89,25 +88,36 @@ fn volume_bytes(
     alloc: Global,
     gf: &Gf,
     parts: &Parts,
+    inputs: &[&[u8]],
+    at_once: u32,
     volume: &Volume,
 ) -> Result<Vec<u8>, AllocError>
     requires parts { HasSlices parts.now }
+    requires inputs { ListsInputs parts.now inputs.now }
+    requires some { 1 ≤ at_once }
     requires exponents { volume.now.first + volume.now.count ≤ 65536 }
     ensures { IfOk result (λ bytes. bytes.items ≡ volume_text parts.now volume.now) }
 {
     let mut bytes = Vec::with_capacity(alloc, volume_len(parts, volume.count))?;
     bytes.extend_from_slice(&parts.index)?;
-    let most = at_once(parts.set);
     let mut done = 0;
     while done < volume.count {
-        let count = most.min(volume.count - done);
-        append_slices(alloc, &mut bytes, gf, parts, volume.first + done, count)?;
+        let count = at_once.min(volume.count - done);
+        append_slices(
+            alloc,
+            &mut bytes,
+            gf,
+            parts,
+            inputs,
+            volume.first + done,
+            count,
+        )?;
         done += count;
     }
     Ok(bytes)
 }
 
-// The bytes of the volumes in order. No table is made where there are none.
+// The bytes of the volumes in order. Where there are none, no table is made and no input looked up.
 fn volume_texts(
     alloc: Global,
     parts: &Parts,
@@ -124,8 +134,10 @@ fn volume_texts(
         return Ok(texts);
     }
     let gf = Gf::new(alloc)?;
+    let inputs = input_slices(alloc, parts.set, parts.folder)?;
+    let at_once = at_once(parts.set.slice_size, &inputs);
     for volume in volumes {
-        texts.push(volume_bytes(alloc, &gf, parts, volume)?)?;
+        texts.push(volume_bytes(alloc, &gf, parts, &inputs, at_once, volume)?)?;
     }
     Ok(texts)
 }

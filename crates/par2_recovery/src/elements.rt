@@ -1,30 +1,12 @@
 //! Rows of elements as texts: element `i` is the little-endian word at `2 * i`.
 
 ghost use Rattle.std.specs.Prelude.{◌≡◌, ℕ, ◌+◌, ◌*◌, ◌%◌, ◌<◌, length, IfOk};
-ghost use Rattle.par2_spec.specs.Slices.{word};
-ghost use Rattle.par2_matrix.specs.Echelon.{WordPut, Spells};
+ghost use Rattle.par2_matrix.specs.Echelon.{Spells};
 ghost use Rattle.par2_spec.specs.Sums.{list_at, lists_of};
 ghost use Rattle.par2_recovery.specs.Elements.{AreRows, IsUnit};
 
+use par2_matrix::{element, put_element};
 use std::alloc::{AllocError, Global};
-
-#[inline(always)]
-fn element(text: &[u8], i: usize) -> u16
-    requires { 2 * i + 1 < length text.now }
-    ensures { result ≡ word i text.now }
-{
-    u16::from_le_bytes([text[2 * i], text[2 * i + 1]])
-}
-
-#[inline(always)]
-fn put_element(text: &mut [u8], i: usize, element: u16)
-    requires { 2 * i + 1 < length text.old }
-    ensures { WordPut i element text.old text.new }
-{
-    let [low, high] = element.to_le_bytes();
-    text[2 * i] = low;
-    text[2 * i + 1] = high;
-}
 
 // The elements of a text.
 fn row_of(alloc: Global, text: &[u8]) -> Result<Vec<u16>, AllocError>
@@ -59,25 +41,6 @@ pub(crate) fn rows_of(alloc: Global, texts: &[Vec<u8>]) -> Result<Vec<Vec<u16>>,
         rows.push(row_of(alloc, text_at(texts, r))?)?;
     }
     Ok(rows)
-}
-
-fn spell(row: &[u16], text: &mut [u8])
-    requires { length text.old ≡ 2 * length row.now }
-    ensures { Spells row.now text.new (length row.now) }
-{
-    for i in 0..row.len() {
-        put_element(text, i, row[i]);
-    }
-}
-
-/// The text of a row.
-pub(crate) fn text_of(alloc: Global, row: &[u16]) -> Result<Vec<u8>, AllocError>
-    requires { length row.now < 65536 }
-    ensures { IfOk result (λ text. Spells row.now text.items (length row.now)) }
-{
-    let mut text = vec![in alloc; 0u8; 2 * row.len()]?;
-    spell(row, text.as_mut_slice());
-    Ok(text)
 }
 
 /// The text of the unit vector of n elements that has 1 at i.

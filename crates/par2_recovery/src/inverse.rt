@@ -10,12 +10,12 @@ ghost use Rattle.par2_recovery.specs.Views.{texts_of};
 ghost use Rattle.par2_recovery.specs.Survivors.{recovered_of, exponents_of};
 ghost use Rattle.par2_recovery.specs.Inverses.{CutByUnit, IsEliminated, AreCoefficients, AreFactors, AreCombined};
 
-use crate::elements::{rows_of, text_of, unit};
+use crate::elements::{rows_of, unit};
 use crate::exponents::{coefficients, offer};
 use crate::products::{fit_texts, with_products};
 use crate::recovery::blank;
 use par2_gf16::Gf;
-use par2_matrix::{Offer, System};
+use par2_matrix::{Offer, System, bytes_of_row};
 use std::alloc::{AllocError, Global};
 
 /// The recovery slices of the kept exponents, in order, and the system of their equations: the right side of the j-th
@@ -104,7 +104,7 @@ fn coefficient_texts(
     let mut texts = Vec::with_capacity(alloc, kept.len())?;
     for j in 0..kept.len() {
         let row = coefficients(alloc, gf, numbers, recovery_at(kept, j).0)?;
-        texts.push(text_of(alloc, &row)?)?;
+        texts.push(bytes_of_row(alloc, &row)?)?;
     }
     Ok(texts)
 }

@@ -65,8 +65,9 @@ pub(crate) fn blank(alloc: Global, count: usize, size: usize) -> Result<Vec<Vec<
     Ok(texts)
 }
 
-// The recovery slices of some exponents over slices that zeros fill up.
-fn recovery_of(
+/// The recovery slices of `count` exponents from `first` on over slices of `size` bytes. Zeros follow a slice that is
+/// shorter, as [`input_slices`] answers the last ones of files.
+pub fn recovery_slices_over(
     alloc: Global,
     gf: &Gf,
     slices: &[&[u8]],
@@ -137,8 +138,9 @@ fn name_at(record: &SetRecord, i: usize) -> &str
     record.files[i].name.as_str()
 }
 
-// The slices of the record's files, one file behind the other.
-pub(crate) fn slices_of<'a>(
+/// The slices of the record's files, one file behind the other. The last one of a file is as short as the file leaves
+/// it; a file that is absent has no slices.
+pub fn input_slices<'a>(
     alloc: Global,
     record: &SetRecord,
     folder: &'a Folder,
@@ -178,8 +180,9 @@ pub fn recovery_slices(
         ≡ map (recovery record.now.slice_size (all_slices record.now.slice_size
         (files_of folder.now.files (names_of record.now)))) (range_with_len first count)) }
 {
-    let slices = slices_of(alloc, record, folder)?;
-    recovery_of(alloc, gf, &slices, record.slice_size as usize, first, count)
+    let slices = input_slices(alloc, record, folder)?;
+    let size = record.slice_size as usize;
+    recovery_slices_over(alloc, gf, &slices, size, first, count)
 }
 
 /// The recovery slice of exponent `e` over the slices of the record's files. A file that is absent has no slices.

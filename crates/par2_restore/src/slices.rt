@@ -1,7 +1,7 @@
 //! All slices of a set: those that are found, and between them those that are rebuilt.
 ghost use Rattle.std.specs.Prelude.{◌≡◌, ◌⊎◌, ◌+◌, ◌^◌, ◌++◌, ◌<◌, ◌≤◌, ℕ, None, length, map, take, drop, IfOk, slice_index, IfErr, IsOk, IsTrue, OnOk};
 ghost use Rattle.std.specs.List.{All, AllByRecursion, concat};
-ghost use Rattle.par2_matrix.specs.Systems.{lists_of};
+ghost use Rattle.par2_spec.specs.Sums.{lists_of};
 ghost use Rattle.par2_spec.specs.Repairs.{rebuilt};
 ghost use Rattle.par2_spec.specs.Search.{lost};
 ghost use Rattle.par2_spec.specs.Sets.{all_pairs};

@@ -3,7 +3,7 @@ use Rattle.std.proofs.lemmas.List.{length-map}
 use Rattle.par2_spec.specs.Packets.{packet}
 use Rattle.par2_spec.specs.Volumes.{packet_of}
 use Rattle.par2_spec.specs.declared.Kind.TheVariants.{Recovery}
-use Rattle.par2_packets.specs.Recoveries.{lists_of}
+use Rattle.par2_spec.specs.Sums.{lists_of}
 use Rattle.par2_packets.proofs.Counted.{list_at_place, packet_more}
 use Rattle.par2_packets.proofs.recoveries.append_group.Goals as goal
 

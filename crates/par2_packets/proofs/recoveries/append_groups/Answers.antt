@@ -2,7 +2,8 @@ use Rattle.std.proofs.Common.{Vec, Global, ◌+◌, ◌-◌, ◌*◌, ◌∙◌,
 use Rattle.std.specs.Prelude.{flat_map}
 use Rattle.std.proofs.lemmas.List.{length-map, take-map, drop-map}
 use Rattle.par2_spec.specs.Packets.{packet}
-use Rattle.par2_packets.specs.Recoveries.{lists_of, packets_from}
+use Rattle.par2_spec.specs.Sums.{lists_of}
+use Rattle.par2_packets.specs.Recoveries.{packets_from}
 use Rattle.par2_packets.proofs.Counted.{packets_more}
 use Rattle.par2_packets.proofs.recoveries.append_groups.Goals as goal
 

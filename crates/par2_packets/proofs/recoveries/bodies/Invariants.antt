@@ -1,6 +1,6 @@
 use Rattle.std.proofs.Common.{◌≡◌, ◌<◌, ◌++◌, [], ℕ, length, get_or}
 use Rattle.par2_digests.specs.Messages.{message_at}
-use Rattle.par2_packets.specs.Recoveries.{lists_of}
+use Rattle.par2_spec.specs.Sums.{lists_of}
 use Rattle.par2_packets.proofs.recoveries.bodies.Given as goal
 
 abbrev pub invariant-loop-k : goal.invariant-loop-k

@@ -2,7 +2,7 @@ use Rattle.std.proofs.Common.{◌≡◌, ◌∙◌, ◌+◌, ◌<◌, ◌++◌, 
 use Rattle.std.proofs.lemmas.List.{map_more, drop_more, length-map, take_all}
 use Rattle.par2_spec.specs.Changes.{Change}
 use Rattle.par2_folder.specs.Views.{change_of}
-use Rattle.par2_matrix.specs.Systems.{lists_of}
+use Rattle.par2_spec.specs.Sums.{lists_of}
 use Rattle.par2_plan.specs.Outputs.{volume_text, put_change}
 use Rattle.par2_plan.specs.declared.names.Volume.{Volume}
 use Rattle.par2_plan.proofs.Listed.{first_of}

@@ -1,5 +1,5 @@
 use Rattle.std.proofs.Common.{◌≡◌, ◌++◌, map, take, drop}
-use Rattle.par2_matrix.specs.Systems.{lists_of}
+use Rattle.par2_spec.specs.Sums.{lists_of}
 use Rattle.par2_plan.specs.Outputs.{volume_text, put_change}
 use Rattle.par2_plan.proofs.outputs.changes_of.Given as goal
 

@@ -1,5 +1,5 @@
 use Rattle.std.proofs.Common.{◌≡◌, map, take}
-use Rattle.par2_matrix.specs.Systems.{lists_of}
+use Rattle.par2_spec.specs.Sums.{lists_of}
 use Rattle.par2_plan.specs.Outputs.{volume_text}
 use Rattle.par2_plan.proofs.outputs.volume_texts.Given as goal
 

@@ -1,6 +1,6 @@
 use Rattle.std.proofs.Common.{◌≡◌, ◌++◌, map, drop}
 use Rattle.std.specs.Vec.Iter.{into_iter_items}
-use Rattle.par2_matrix.specs.Systems.{lists_of}
+use Rattle.par2_spec.specs.Sums.{lists_of}
 use Rattle.par2_restore.specs.Texts.{windows_and_texts, text_of}
 use Rattle.par2_restore.proofs.slices.merged.Given as goal
 

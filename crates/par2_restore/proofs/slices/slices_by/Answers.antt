@@ -1,5 +1,5 @@
 use Rattle.std.proofs.Common.{◌≡◌, ◌∙◌, List, ℕ, map, sym, ap, subst}
-use Rattle.par2_matrix.specs.Systems.{lists_of}
+use Rattle.par2_spec.specs.Sums.{lists_of}
 use Rattle.par2_spec.specs.Slices.{padded}
 use Rattle.par2_recovery.specs.Survivors.{known_of, with_lost_slices}
 use Rattle.par2_search.specs.Texts.{Window}

@@ -1,5 +1,5 @@
 use Rattle.par2_matrix.specs.Echelon.{Spells}
-use Rattle.par2_matrix.proofs.elimination.spell.Given as goal
+use Rattle.par2_matrix.proofs.elements.spell.Given as goal
 
 abbrev pub invariant-loop-i : goal.invariant-loop-i
 invariant-loop-i l = Spells l.row l.bytes l.i

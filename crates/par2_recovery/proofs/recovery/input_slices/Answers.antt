@@ -7,7 +7,7 @@ use Rattle.par2_packets.specs.declared.record.FileRecord.{FileRecord}
 use Rattle.par2_recovery.specs.Views.{texts_of, names_of}
 use Rattle.par2_recovery.proofs.Combined.{name_within}
 use Rattle.par2_spec.proofs.SliceLaws.{files_push}
-use Rattle.par2_recovery.proofs.recovery.slices_of.Goals as goal
+use Rattle.par2_recovery.proofs.recovery.input_slices.Goals as goal
 
 pub bytes_of-requires : goal.bytes_of-requires
 bytes_of-requires c =

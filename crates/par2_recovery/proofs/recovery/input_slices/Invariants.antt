@@ -5,7 +5,7 @@ use Rattle.par2_spec.specs.Volumes.{all_slices}
 use Rattle.par2_spec.specs.Commands.{files_of}
 use Rattle.par2_recovery.specs.Products.{AreBytes}
 use Rattle.par2_recovery.specs.Views.{texts_of, names_of}
-use Rattle.par2_recovery.proofs.recovery.slices_of.Given as goal
+use Rattle.par2_recovery.proofs.recovery.input_slices.Given as goal
 
 abbrev pub invariant-loop-i : goal.invariant-loop-i
 invariant-loop-i l = record {

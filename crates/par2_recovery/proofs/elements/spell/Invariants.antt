@@ -1,5 +1,0 @@
-use Rattle.par2_matrix.specs.Echelon.{Spells}
-use Rattle.par2_recovery.proofs.elements.spell.Given as goal
-
-abbrev pub invariant-loop-i : goal.invariant-loop-i
-invariant-loop-i l = Spells l.row l.text l.i
