@@ -14,7 +14,7 @@ use par2_folder::{Folder, Name};
 use par2_sets::ParSet;
 use par2_spec::Fault;
 use par2_spec::repair_laws::aside_is_found;
-use std::alloc::{AllocError, AllocFailed, Global};
+use std::alloc::{AllocError, Global};
 use std::collections::BTreeSet;
 
 // The text NAME.n.
@@ -34,7 +34,7 @@ fn numbered(alloc: Global, name: &Name, n: usize) -> Result<Name, Fault>
         IfErr result (λ fault. (fault ≡ Fault.Memory) ⊎ ((fault ≡ Fault.NameTooLong) × long)) }
     ensures name { IfOk result (λ other. other ≡ names.numbered name.now n) }
 {
-    let text = numbered_text(alloc, name, n).map_err(|_: AllocError| Fault::Memory)?;
+    let text = numbered_text(alloc, name, n)?;
     Name::new(&text).map_err(|_| Fault::NameTooLong)
 }
 
@@ -88,10 +88,7 @@ fn tries(alloc: Global, folder: &Folder, set: &ParSet) -> Result<usize, Fault>
     ensures count { let taken = taken_for folder.now.files set.now in
         IfOk result (λ most. most ≡ length taken + 1) }
 {
-    let files = folder
-        .names(alloc)
-        .map_err(|_: AllocError| Fault::Memory)?
-        .len();
+    let files = folder.names(alloc)?.len();
     Ok(files + set.targets().len() + 1)
 }
 
@@ -110,14 +107,12 @@ pub fn asides(
         asides.items ≡ map (aside folder.now.files set.now) names.now) }
     ensures few { IfOk result (λ _. AreFew folder.now.files set.now) }
 {
-    let targets = target_names(alloc, set).map_err(|_: AllocError| Fault::Memory)?;
+    let targets = target_names(alloc, set)?;
     let most = tries(alloc, folder, set)?;
-    let mut asides = Vec::with_capacity(alloc, names.len()).map_err(|_: AllocError| Fault::Memory)?;
+    let mut asides = Vec::with_capacity(alloc, names.len())?;
     for name in names {
         let other = aside(alloc, folder, set, &targets, most, name)?;
-        asides
-            .push(other)
-            .map_err(|AllocFailed { .. }| Fault::Memory)?;
+        asides.push(other)?;
     }
     Ok(asides)
 }
