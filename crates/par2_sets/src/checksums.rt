@@ -73,5 +73,5 @@ pub(crate) fn pairs_for(
     }
     let count = slice_count(s, description.size());
     let checksums = checksums_of(firsts, description.id(), count).ok_or(Fault::NoChecksums)?;
-    pairs_in(alloc, checksums).map_err(|_: AllocError| Fault::Memory)
+    Ok(pairs_in(alloc, checksums)?)
 }

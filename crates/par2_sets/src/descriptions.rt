@@ -10,7 +10,7 @@ ghost use Rattle.par2_sets.specs.Steps.{Gives, descriptions_of};
 use crate::firsts::keep_first;
 use par2_packets::{DescView, MainView, Packet, read_desc};
 use par2_spec::Fault;
-use std::alloc::{AllocError, AllocFailed, Global};
+use std::alloc::{AllocError, Global};
 use std::collections::BTreeMap;
 
 // The first well-formed FileDesc of each File ID.
@@ -52,9 +52,7 @@ fn descriptions_by<'a>(
     let mut descriptions = Vec::new(alloc);
     for k in 0..main.count() {
         let description = description_of(firsts, &main.id(k)).ok_or(Fault::NoDescription)?;
-        descriptions
-            .push(description)
-            .map_err(|AllocFailed { .. }| Fault::Memory)?;
+        descriptions.push(description)?;
     }
     Ok(descriptions)
 }
@@ -68,6 +66,6 @@ pub(crate) fn descriptions<'a>(
     ensures { Gives (λ ds. ds.items) result (descriptions_of (map packet_of packets.now)
         main.now.ids) }
 {
-    let firsts = by_id(alloc, packets).map_err(|_: AllocError| Fault::Memory)?;
+    let firsts = by_id(alloc, packets)?;
     descriptions_by(alloc, &firsts, main)
 }

@@ -12,7 +12,7 @@ ghost use Rattle.par2_spec.specs.declared.Fault.TheVariants.{BadSet};
 use par2_folder::Name;
 use par2_packets::DescView;
 use par2_spec::Fault;
-use std::alloc::{AllocError, AllocFailed, Global};
+use std::alloc::{AllocError, Global};
 use std::collections::BTreeSet;
 
 // How many slices a set may have.
@@ -65,9 +65,7 @@ fn names_of(alloc: Global, descriptions: &[DescView]) -> Result<Vec<Name>, Fault
     let mut names = Vec::new(alloc);
     for description in descriptions {
         let name = name_of(description).ok_or(Fault::BadSet)?;
-        names
-            .push(name)
-            .map_err(|AllocFailed { .. }| Fault::Memory)?;
+        names.push(name)?;
     }
     Ok(names)
 }
@@ -94,7 +92,7 @@ pub(crate) fn names_in_profile(
         return Err(Fault::BadSet);
     }
     let names = names_of(alloc, descriptions)?;
-    if !are_distinct(alloc, &names).map_err(|_: AllocError| Fault::Memory)? {
+    if !are_distinct(alloc, &names)? {
         return Err(Fault::BadSet);
     }
     Ok(names)

@@ -18,7 +18,7 @@ use crate::targets::targets_of;
 use par2_folder::{Folder, Name};
 use par2_spec::Fault;
 use par2_spec::search_laws::set_is_sound;
-use std::alloc::{AllocError, Global};
+use std::alloc::Global;
 use std::marker::Model;
 
 /// The set of a base. Its recovery slices stand in the folder, and none is copied.
@@ -91,7 +91,7 @@ pub fn set_of<'a>(alloc: Global, folder: &'a Folder, base: &Name) -> Result<ParS
     // By this law the set is sound.
     set_is_sound();
     let id = first_id(folder, base).ok_or(Fault::NoPackets)?;
-    let packets = packets_of(alloc, folder, base, &id).map_err(|_: AllocError| Fault::Memory)?;
+    let packets = packets_of(alloc, folder, base, &id)?;
     let main = main_of(&packets, &id).ok_or(Fault::NoMain)?;
     let slice_size = main.slice_size();
     if !is_slice_size(slice_size) {
@@ -100,7 +100,7 @@ pub fn set_of<'a>(alloc: Global, folder: &'a Folder, base: &Name) -> Result<ParS
     let described = descriptions(alloc, &packets, &main)?;
     let names = names_in_profile(alloc, slice_size, &described)?;
     let targets = targets_of(alloc, &packets, slice_size, &described, &names)?;
-    let recovery = recovery_of(alloc, &packets, slice_size).map_err(|_: AllocError| Fault::Memory)?;
+    let recovery = recovery_of(alloc, &packets, slice_size)?;
     Ok(ParSet {
         id,
         slice_size,

@@ -10,7 +10,7 @@ use crate::checksums::{Checksums, checksums_in, pairs_for};
 use par2_folder::Name;
 use par2_packets::{DescView, Packet, Pair};
 use par2_spec::Fault;
-use std::alloc::{AllocError, AllocFailed, Global};
+use std::alloc::Global;
 use std::marker::Model;
 
 /// A file that a set describes.
@@ -97,9 +97,7 @@ fn targets_by(
     let mut targets = Vec::new(alloc);
     for (description, name) in descriptions.iter().zip(names) {
         let target = target_of(alloc, checksums, s, description, name)?;
-        targets
-            .push(target)
-            .map_err(|AllocFailed { .. }| Fault::Memory)?;
+        targets.push(target)?;
     }
     Ok(targets)
 }
@@ -117,6 +115,6 @@ pub(crate) fn targets_of(
     ensures { let all = targets_or_fault (map packet_of packets.now) s descriptions.now in
         Gives (λ targets. targets.items) result all }
 {
-    let checksums = checksums_in(alloc, packets).map_err(|_: AllocError| Fault::Memory)?;
+    let checksums = checksums_in(alloc, packets)?;
     targets_by(alloc, &checksums, s, descriptions, names)
 }
