@@ -1,7 +1,6 @@
 -- Faults that are passed on.
 use Rattle.std.proofs.Common.{◌≡◌, ◌⊎◌, ◌<◌, ℕ, List, length, get_or, map, refl, sym, ap, ◌∙◌, subst, None, Some, Option, Ok, Err, Result}
 use Rattle.std.specs.Prelude.{ok_or, is_ok, IfErr}
-use Rattle.std.specs.Result.{result_ok}
 use Rattle.std.proofs.lemmas.Bool.{false≢true}
 use Rattle.par2_spec.specs.declared.Fault.{Fault}
 use Rattle.par2_spec.specs.declared.Fault.TheVariants.{Memory}
