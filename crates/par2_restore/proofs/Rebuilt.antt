@@ -1,8 +1,7 @@
 -- What is rebuilt by what survives is what is rebuilt of the set.
-use Rattle.std.proofs.Common.{◌≡◌, ◌↔◌, ◌⊎◌, ◌∙◌, ℕ, List, length, map, refl, sym, ap, ap₂, subst, Bool, true, false, not, inl, inr}
-use Rattle.std.specs.Prelude.{Option, Some, None, IsTrue, Result, Ok, Err, IfOk, MatchResult, is_ok}
+use Rattle.std.proofs.Common.{◌≡◌, ◌↔◌, ◌⊎◌, ℕ, List, length, map, refl, sym, ap, ap₂, subst, Bool, true, false, not, inl, inr}
+use Rattle.std.specs.Prelude.{Option, Some, None, IsTrue}
 use Rattle.std.specs.FinMap.{entries}
-use Rattle.std.proofs.lemmas.Bool.{false≢true}
 use Rattle.par2_spec.specs.Faults.{fault_where}
 use Rattle.par2_spec.specs.Rank.{IsRebuilt, IsRepairable, is_repairable, rank, kept_slices}
 use Rattle.par2_spec.specs.Search.{lost, survivors}
@@ -55,9 +54,3 @@ pub no_fault : (set : ParSet) (known : List (Option (List ℕ))) → (IsTrue (is
 no_fault set known says h =
     let yes : is_repairable (lost known) (survivors set) ≡ true = says.1 h in
     ap (λ b. fault_where (not b) (NotRepairable (length (lost known)) (rank (lost known) (survivors set)))) yes
-
--- what holds of a value holds of it once the error beside it was changed
-pub kept_by_map_err : {A E F : Type 0} (old : Result A E) (new : Result A F) (x : A) (P : A → Type 0) (Q : E → Type 0) → IfOk old P
-    → MatchResult old (λ y. new ≡ Ok y) Q → is_ok new ≡ is_ok old → new ≡ Ok x → P x
-kept_by_map_err (Ok y) new x P Q holds cases same e = let one : y ≡ x = cc in subst P one holds
-kept_by_map_err (Err d) new x P Q holds cases same e = absurd (false≢true (sym same ∙ ap is_ok e))

@@ -1,14 +1,10 @@
 -- What survives of a set's slices.
-use Rattle.std.specs.Prelude.{◌≡◌, ◌≤◌, ◌%◌, ℕ, List, length, Option}
+use Rattle.std.specs.Prelude.{◌≡◌, ℕ, List, Option}
 use Rattle.std.specs.FinMap.{entries}
-use Rattle.std.specs.List.{AllByRecursion}
-use Rattle.std.specs.List.Sorted.{IsStrictlyIncreasing}
-use Rattle.par2_spec.specs.Rank.{IsRebuilt, IsRepairable, kept_slices}
-use Rattle.par2_spec.specs.Search.{lost}
 use Rattle.par2_spec.specs.Sets.{ParSet}
 use Rattle.par2_spec.specs.declared.Fault as faults
 use Rattle.par2_spec.specs.declared.Fault.TheVariants as reasons
-use Rattle.par2_recovery.specs.Survivors.{known_of, known_alone, recovered_of, exponents_of}
+use Rattle.par2_recovery.specs.Survivors.{known_of, recovered_of}
 use Rattle.par2_recovery.specs.declared.rebuild_slices.RebuildFault.{RebuildFault}
 use Rattle.par2_recovery.specs.declared.rebuild_slices.RebuildFault.TheVariants.{NotRepairable, Memory}
 use Rattle.par2_recovery.specs.declared.rebuild_slices.Survivors.{Survivors}

@@ -1,5 +1,5 @@
 -- Slices as they lie in memory: zeros may be missing at the end of each.
-use Rattle.std.specs.Prelude.{ℕ, ◌<◌, ◌^◌, List, [], ◌∷◌, map, slice_index, Some, None}
+use Rattle.std.specs.Prelude.{ℕ, List, [], ◌∷◌, map, Some, None}
 use Rattle.par2_spec.specs.Slices.{padded}
 use Rattle.par2_search.specs.Texts.{Window}
 use Rattle.par2_restore.specs.declared.slices.Slice.{Slice}

@@ -124,8 +124,8 @@ pub fn restored_files(
     ensures described { let targets = targets_among set.now slices.now names.now in
         IfOk result (λ _. AllByRecursion IsAsDescribed targets) }
 {
-    let made = made_files(alloc, set, slices, names).map_err(|_: AllocError| Fault::Memory)?;
-    if !have_md5s(alloc, &made).map_err(|_: AllocError| Fault::Memory)? {
+    let made = made_files(alloc, set, slices, names)?;
+    if !have_md5s(alloc, &made)? {
         return Err(Fault::RepairFailed);
     }
     Ok(made.files)

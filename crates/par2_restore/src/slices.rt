@@ -207,7 +207,7 @@ pub fn restored_slices<'a>(
     // By these laws what is rebuilt is the one list that agrees.
     rebuilt_slices_agree();
     tests_say_the_words();
-    let survivors = survivors_of(alloc, set, texts).map_err(|_: AllocError| Fault::Memory)?;
+    let survivors = survivors_of(alloc, set, texts)?;
     match slices_by(alloc, &survivors) {
         Ok(slices) => Ok(slices),
         Err(fault) => Err(fault_of(fault)),

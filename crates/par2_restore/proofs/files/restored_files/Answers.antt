@@ -1,7 +1,7 @@
-use Rattle.std.proofs.Common.{◌≡◌, ◌∙◌, Bool, List, ℕ, length, map, refl, sym, ap, ap₂, inr}
+use Rattle.std.proofs.Common.{◌≡◌, ◌∙◌, Bool, List, ℕ, map, refl, sym, ap, ap₂, inr}
 use Rattle.std.specs.Prelude.{not}
 use Rattle.std.specs.Cmp.Lexicographic.{pointwise}
-use Rattle.std.specs.List.{AllByRecursion, list_all}
+use Rattle.std.specs.List.{list_all}
 use Rattle.std.specs.Str.{bytes_eq}
 use Rattle.md5.specs.Md5.{md5}
 use Rattle.par2_spec.specs.Faults.{fault_where}
@@ -12,7 +12,6 @@ use Rattle.par2_spec.specs.Sets.{Target}
 use Rattle.par2_spec.specs.declared.Fault.TheVariants.{RepairFailed}
 use Rattle.par2_restore.specs.Restoring.{targets_among, files_of, has_digest}
 use Rattle.par2_restore.specs.declared.files.Made.{Made}
-use Rattle.par2_restore.proofs.Rebuilt.{kept_by_map_err}
 use Rattle.par2_restore.proofs.Walked.{all_right, described, first_wrong}
 use Rattle.par2_restore.proofs.files.restored_files.Goals as goal
 
@@ -28,32 +27,19 @@ all_have targets made have files md5s is =
 pub returns-then-not-branch-clause-refused : goal.returns-then-not-branch-clause-refused
 returns-then-not-branch-clause-refused c =
     let targets = targets_among c.args.set.now c.args.slices.now c.args.names.now in
-    let made = c.in_ok-made.made in
-    let have = c.in_ok-map_err.field-0 in
-    let files = kept_by_map_err _ _ made (λ m. m.files.items ≡ files_of targets) _ c.made_files.ensures.files c.map_err.ensures.cases c.map_err.ensures.variant c.in_ok-made.was in
-    let md5s = kept_by_map_err _ _ made (λ m. m.md5s.items ≡ map (λ t. t.0.digest) targets) _ c.made_files.ensures.md5s c.map_err.ensures.cases c.map_err.ensures.variant c.in_ok-made.was in
-    let is = kept_by_map_err _ _ have (HaveMd5s made) _ c.have_md5s.ensures c.map_err-2.ensures.cases c.map_err-2.ensures.variant c.in_ok-map_err.was in
-    inr (first_wrong RepairFailed targets refl (all_have targets made have files md5s is ∙ c.if-not-branch.true))
+    let made = c.in_ok-made.ensures in
+    inr (first_wrong RepairFailed targets refl (all_have targets c.in_ok-made.made _ made.files made.md5s c.in_ok-have_md5s.ensures ∙ c.if-not-branch.true))
 
 pub returns-clause-digests : goal.returns-clause-digests
 returns-clause-digests c =
     let targets = targets_among c.args.set.now c.args.slices.now c.args.names.now in
-    let made = c.in_ok-made.made in
-    let have = c.in_ok-map_err.field-0 in
-    let files = kept_by_map_err _ _ made (λ m. m.files.items ≡ files_of targets) _ c.made_files.ensures.files c.map_err.ensures.cases c.map_err.ensures.variant c.in_ok-made.was in
-    let md5s = kept_by_map_err _ _ made (λ m. m.md5s.items ≡ map (λ t. t.0.digest) targets) _ c.made_files.ensures.md5s c.map_err.ensures.cases c.map_err.ensures.variant c.in_ok-made.was in
-    let is = kept_by_map_err _ _ have (HaveMd5s made) _ c.have_md5s.ensures c.map_err-2.ensures.cases c.map_err-2.ensures.variant c.in_ok-map_err.was in
-    ap (λ b. fault_where (not b) RepairFailed) (all_have targets made have files md5s is ∙ c.if-not-branch.false)
+    let made = c.in_ok-made.ensures in
+    ap (λ b. fault_where (not b) RepairFailed) (all_have targets c.in_ok-made.made _ made.files made.md5s c.in_ok-have_md5s.ensures ∙ c.if-not-branch.false)
 
 pub returns-clause-described : goal.returns-clause-described
 returns-clause-described c =
     let set = c.args.set.now in
     let slices = c.args.slices.now in
     let targets = targets_among set slices c.args.names.now in
-    let made = c.in_ok-made.made in
-    let have = c.in_ok-map_err.field-0 in
-    let files = kept_by_map_err _ _ made (λ m. m.files.items ≡ files_of targets) _ c.made_files.ensures.files c.map_err.ensures.cases c.map_err.ensures.variant c.in_ok-made.was in
-    let md5s = kept_by_map_err _ _ made (λ m. m.md5s.items ≡ map (λ t. t.0.digest) targets) _ c.made_files.ensures.md5s c.map_err.ensures.cases c.map_err.ensures.variant c.in_ok-made.was in
-    let lengths = kept_by_map_err _ _ made (λ _. AllByRecursion (λ t. length t.1 ≡ t.0.size) (files_of_slices set slices)) _ c.made_files.ensures.lengths c.map_err.ensures.cases c.map_err.ensures.variant c.in_ok-made.was in
-    let is = kept_by_map_err _ _ have (HaveMd5s made) _ c.have_md5s.ensures c.map_err-2.ensures.cases c.map_err-2.ensures.variant c.in_ok-map_err.was in
-    described (λ t. is_among c.args.names.now t.0.name) (files_of_slices set slices) lengths (all_have targets made have files md5s is ∙ c.if-not-branch.false)
+    let made = c.in_ok-made.ensures in
+    described (λ t. is_among c.args.names.now t.0.name) (files_of_slices set slices) made.lengths (all_have targets c.in_ok-made.made _ made.files made.md5s c.in_ok-have_md5s.ensures ∙ c.if-not-branch.false)
