@@ -1,5 +1,5 @@
 //! The journals of a session, and the fingerprints that stand in them.
-ghost use Rattle.std.specs.Prelude.{◌≡◌, ◌≤◌, ◌<◌, ◌∷◌, ◌++◌, ◌+◌, [], IfOk, IfSome, IsTrue, length, map, get_or, set, slice_get, take, Some};
+ghost use Rattle.std.specs.Prelude.{◌≡◌, ◌≤◌, ◌<◌, ◌∷◌, ◌++◌, ◌+◌, [], IfOk, IfSome, IsTrue, length, map, get_or, set, slice_get, take, Some, None};
 ghost use Rattle.par2_spec.specs.Changes.{effects, folders_after, state_after_all, takes_all, way_back};
 ghost use Rattle.par2_spec.specs.Folders.{fingerprint};
 ghost use Rattle.par2_spec.specs.Journals.{Spells};
@@ -11,7 +11,7 @@ ghost use Rattle.par2_journal.specs.Spelling.{SpellsWhere, CompletesHalfway, hal
 
 use crate::Changes;
 use par2_folder::{Change, Folder, fingerprints_along};
-use par2_journal_bytes::{HalfwayPartView, JournalView, Version, begin, encode, finish};
+use par2_journal_bytes::{HalfwayPartView, JournalView, Version, begin, encode, finish_both};
 use std::alloc::{AllocError, Global};
 
 // The fingerprints of a folder along some changes.
@@ -110,27 +110,23 @@ pub struct Journals {
     pub after: Vec<u8>,
 }
 
-// The journal of a session that no action has left.
-fn settled(
-    alloc: Global,
-    entries: &[&[Change]],
-    cursor: usize,
-    fingerprint: [u8; 16],
-) -> Result<Vec<u8>, AllocError>
-    requires { cursor ≤ length entries.now }
-    ensures { IfOk result (λ text.
-        Spells text.items (settled_with fingerprint (lent_entries_of entries.now, cursor))) }
+// The parts of the journal of a session that no action has left.
+fn settled<'a>(entries: &'a [&'a [Change]], cursor: usize, fingerprint: [u8; 16]) -> JournalView<'a>
+    ensures { result ≡ record {
+      version = Two;
+      fingerprint = fingerprint;
+      cursor = cursor;
+      entries = entries.entry;
+      halfway = None;
+    } }
 {
-    encode(
-        alloc,
-        &JournalView {
-            version: Version::Two,
-            fingerprint,
-            cursor,
-            entries,
-            halfway: None,
-        },
-    )
+    JournalView {
+        version: Version::Two,
+        fingerprint,
+        cursor,
+        entries,
+        halfway: None,
+    }
 }
 
 /// The journal of a session with these entries.
@@ -145,7 +141,7 @@ pub(crate) fn spell_settled(
         Spells text.items (settled_with fingerprint (entries.now, cursor))) }
 {
     let entries = lent(alloc, &entries)?;
-    settled(alloc, &entries, cursor, fingerprint)
+    encode(alloc, &settled(&entries, cursor, fingerprint))
 }
 
 // The halfway journal up to its entries.
@@ -160,26 +156,6 @@ fn front(
 {
     let entries = lent(alloc, &entries)?;
     begin(alloc, Version::Two, before, cursor, &entries)
-}
-
-// The halfway journal that begins so, where there is a way back.
-fn halfway(
-    front: Vec<u8>,
-    after_each: &[[u8; 16]],
-    back: &[Change],
-) -> Result<Option<Vec<u8>>, AllocError>
-    requires { length after_each.now ≡ length back.now }
-    ensures { IfOk result (λ text.
-        CompletesHalfway front.items text after_each.now (changes_in back.now)) }
-{
-    if back.is_empty() {
-        return Ok(None);
-    }
-    let parts = HalfwayPartView {
-        fingerprints: after_each,
-        back,
-    };
-    Ok(Some(finish(front, &Some(parts))?))
 }
 
 // Both journals of an action with this way back, of which the halfway one begins so. Afterwards the session has these
@@ -199,9 +175,22 @@ fn both(
     ensures after { IfOk result (λ journals. Spells journals.after.items (settled_with
         fingerprints.now.after_all (lent_entries_of entries.now, cursor))) }
 {
-    let halfway = halfway(front, &fingerprints.after_each, back)?;
-    let after = settled(alloc, entries, cursor, fingerprints.after_all)?;
-    Ok(Journals { halfway, after })
+    let after = settled(entries, cursor, fingerprints.after_all);
+    if back.is_empty() {
+        return Ok(Journals {
+            halfway: None,
+            after: encode(alloc, &after)?,
+        });
+    }
+    let part = HalfwayPartView {
+        fingerprints: &fingerprints.after_each,
+        back,
+    };
+    let texts = finish_both(alloc, front, &part, &after)?;
+    Ok(Journals {
+        halfway: Some(texts.halfway),
+        after: texts.after,
+    })
 }
 
 // The entries before the cursor, and behind them the way back of a command.

@@ -4,3 +4,4 @@ pub mod Pieces
 pub mod Whole
 pub mod Decoded
 pub mod NameTests
+pub mod Fronts

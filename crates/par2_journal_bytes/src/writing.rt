@@ -1,17 +1,19 @@
 //! The bytes of a journal. Each function adds its part at the end.
-ghost use Rattle.std.specs.Prelude.{◌≡◌, ◌≤◌, ◌++◌, length, flat_map, OnOk, IfOk, IfSome, IsTrue};
+ghost use Rattle.std.specs.Prelude.{◌≡◌, ◌≤◌, ◌++◌, length, flat_map, OnOk, IfOk, IfSome, IsTrue, Some};
 ghost use Rattle.std.specs.Int.{w64, to_le_bytes};
 ghost use Rattle.std.specs.List.{concat, AllByRecursion};
+ghost use Rattle.md5.specs.Md5.{md5};
 ghost use Rattle.par2_spec.specs.Names.{is_name};
 ghost use Rattle.par2_spec.specs.Folders.{behind_length};
 ghost use Rattle.par2_spec.specs.Journals as journals;
 ghost use Rattle.par2_folder.specs.Views.{change_of};
-ghost use Rattle.par2_journal_bytes.specs.Fronts.{Begins, Finishes};
+ghost use Rattle.par2_journal_bytes.specs.Fronts.{Begins, Continues, Finishes};
 ghost use Rattle.par2_journal_bytes.specs.Views.{changes_in, lent_entries_of, halfway_from, journal_from};
 
 use crate::digest::digest_of;
 use crate::journal::heading;
 use crate::{HalfwayPartView, JournalView};
+use par2_digests::text_digests;
 use par2_folder::{Bytes, Change, Name};
 use par2_spec::Version;
 use std::alloc::{AllocError, Global};
@@ -172,18 +174,56 @@ pub fn begin(
     Ok(out)
 }
 
+// All but the digest of a journal whose front stands, with its halfway part.
+#[tactic(auto, unfolding(par2_spec::specs::Journals::journal_bytes, crate::specs::Fronts::front_bytes))]
+fn body(front: Vec<u8>, halfway: &Option<HalfwayPartView<'_>>) -> Result<Vec<u8>, AllocError>
+    requires some { IfSome halfway.now (λ h. 1 ≤ length h.back.now) }
+    requires each { IfSome halfway.now (λ h. length h.fingerprints.now ≡ length h.back.now) }
+    ensures { IfOk result (λ body. Continues front.items (halfway_from halfway.now) body.items) }
+{
+    let mut out = front;
+    // A vector that is full isn't doubled for one byte and the digest.
+    out.reserve_exact(17)?;
+    append_halfway(&mut out, halfway)?;
+    Ok(out)
+}
+
+// The journal, its digest behind all that stands before it.
+fn sealed(body: Vec<u8>, digest: [u8; 16]) -> Result<Vec<u8>, AllocError>
+    requires { digest ≡ md5 body.items }
+    ensures { IfOk result (λ bytes. bytes.items ≡ body.items ++ md5 body.items) }
+{
+    let mut out = body;
+    out.reserve_exact(16)?;
+    append_digest(&mut out, digest)?;
+    Ok(out)
+}
+
 /// The bytes of a journal whose front stands, with its halfway part.
-#[tactic(auto, unfolding(par2_spec::specs::Journals::spelling, par2_spec::specs::Journals::journal_bytes, crate::specs::Fronts::front_bytes))]
 pub fn finish(front: Vec<u8>, halfway: &Option<HalfwayPartView<'_>>) -> Result<Vec<u8>, AllocError>
     requires some { IfSome halfway.now (λ h. 1 ≤ length h.back.now) }
     requires each { IfSome halfway.now (λ h. length h.fingerprints.now ≡ length h.back.now) }
     ensures { IfOk result (λ bytes. Finishes front.items (halfway_from halfway.now) bytes.items) }
 {
-    let mut out = front;
-    append_halfway(&mut out, halfway)?;
-    let digest = digest_of(&out);
-    append_digest(&mut out, digest)?;
-    Ok(out)
+    let body = body(front, halfway)?;
+    let digest = digest_of(&body);
+    sealed(body, digest)
+}
+
+// The front of the journal with these parts.
+fn front_of(alloc: Global, parts: &JournalView<'_>) -> Result<Vec<u8>, AllocError>
+    requires { journals.IsCursor parts.now.version parts.now.cursor
+        (length parts.now.entries.now) }
+    ensures { IfOk result (λ front. Begins front.items parts.now.version parts.now.fingerprint
+        parts.now.cursor (lent_entries_of parts.now.entries.now)) }
+{
+    begin(
+        alloc,
+        parts.version,
+        parts.fingerprint,
+        parts.cursor,
+        parts.entries,
+    )
 }
 
 /// The bytes of the journal with these parts.
@@ -195,12 +235,44 @@ pub fn encode(alloc: Global, parts: &JournalView<'_>) -> Result<Vec<u8>, AllocEr
         ≡ length h.back.now) }
     ensures { IfOk result (λ bytes. journals.Spells bytes.items (journal_from parts.now)) }
 {
-    let front = begin(
-        alloc,
-        parts.version,
-        parts.fingerprint,
-        parts.cursor,
-        parts.entries,
-    )?;
+    let front = front_of(alloc, parts)?;
     finish(front, &parts.halfway)
+}
+
+/// The bytes of the two journals of a command.
+#[derive(Debug, Drop)]
+pub struct JournalTexts {
+    /// While it is halfway.
+    pub halfway: Vec<u8>,
+    /// Afterwards.
+    pub after: Vec<u8>,
+}
+
+/// The bytes of the journal of a halfway command, whose front stands, and of the one with the parts `after`. Their
+/// digests are computed side by side.
+pub fn finish_both(
+    alloc: Global,
+    front: Vec<u8>,
+    halfway: &HalfwayPartView<'_>,
+    after: &JournalView<'_>,
+) -> Result<JournalTexts, AllocError>
+    requires halfway_some { 1 ≤ length halfway.now.back.now }
+    requires halfway_each { length halfway.now.fingerprints.now ≡ length halfway.now.back.now }
+    requires cursor { journals.IsCursor after.now.version after.now.cursor
+        (length after.now.entries.now) }
+    requires some { IfSome after.now.halfway (λ h. 1 ≤ length h.back.now) }
+    requires each { IfSome after.now.halfway (λ h. length h.fingerprints.now
+        ≡ length h.back.now) }
+    ensures halfway { IfOk result (λ texts.
+        Finishes front.items (halfway_from (Some halfway.now)) texts.halfway.items) }
+    ensures after { IfOk result (λ texts.
+        journals.Spells texts.after.items (journal_from after.now)) }
+{
+    let halfway = body(front, &Some(*halfway))?;
+    let after = body(front_of(alloc, after)?, &after.halfway)?;
+    let digests = text_digests(alloc, &[&halfway, &after])?;
+    Ok(JournalTexts {
+        halfway: sealed(halfway, digests[0])?,
+        after: sealed(after, digests[1])?,
+    })
 }
