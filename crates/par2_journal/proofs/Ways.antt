@@ -6,7 +6,7 @@ use Rattle.par2_spec.specs.Folders.{Folder}
 use Rattle.par2_spec.specs.Changes.{Change, FolderState, change_refusal, effect, effects, inverse, state_after, takes_all, state_after_all, way_back}
 use Rattle.par2_spec.specs.Sessions.{walks}
 use Rattle.par2_spec.proofs.FolderLaws.{both_first, both_second, both_true, state_files, state_all_back, way_back_taken, changes_back, way_back-append, state_after_all-append}
-use Rattle.par2_journal.specs.Walks.{state_along, ways_back}
+use Rattle.par2_journal.specs.Walks.{state_along, ways_back, WentForth}
 
 module _ (s : FolderState) where
   pub takes_none : takes_all s [] ≡ true
@@ -173,11 +173,6 @@ module _ (f g : FolderState) (xs : List (List Change)) (i : ℕ) (within : i < l
       ∙ set-get_or xs i d
 
 -- ---- what went forth by changes, and can go back
-
-pub record WentForth (f : Folder) (after : FolderState) (way back : List Change) : Type 0 where
-  pub files : after.files ≡ effects f way
-  pub taken : takes_all after back ≡ true
-  pub leads : (state_after_all after back).files ≡ f
 
 pub went_forth : (f : Folder) (start after : FolderState) (way back : List Change) → start.files ≡ f → takes_all start way ≡ true → after ≡ state_after_all start way → back ≡ way_back start.files way → WentForth f after way back
 went_forth f start after way back same taken moved turned = record {

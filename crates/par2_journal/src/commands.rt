@@ -4,7 +4,7 @@ use crate::preparation::Task;
 use crate::{Changes, CreateArgs, Prepared, Session, SessionFault, Steps};
 use par2_plan::{Fault, Report, check, plan_create, plan_purge, plan_repair};
 use par2_spec::Action;
-use std::alloc::{AllocError, Global};
+use std::alloc::Global;
 
 impl Session {
     ghost use Rattle.std.specs.Prelude.{◌≡◌, [], map, string_bytes, IfOk, IfErr, IsErrOf, IsTrue, ◌⊎◌, Some, Ok, Err, drop, OnOk, OnErr};
@@ -30,17 +30,12 @@ impl Session {
         ensures fits { IfOk result (λ prepared. Fits prepared self.new) }
         ensures refused { IfErr result (λ fault. fault ≡ Fault.Memory) }
     {
-        let steps = match Steps::of(alloc, changes.as_slice()) {
-            Ok(steps) => steps,
-            Err(AllocError) => return Err(Fault::Memory),
-        };
-        match self.make_room(changes.len()) {
-            Ok(()) => Ok(Prepared {
-                task: Task::Change(changes),
-                steps,
-            }),
-            Err(AllocError) => Err(Fault::Memory),
-        }
+        let steps = Steps::of(alloc, changes.as_slice())?;
+        self.make_room(changes.len())?;
+        Ok(Prepared {
+            task: Task::Change(changes),
+            steps,
+        })
     }
 
     pub(crate) fn prepare_create(
@@ -107,13 +102,11 @@ impl Session {
         if self.undo_depth() == 0 {
             return Err(SessionFault::NothingToUndo);
         }
-        match Steps::of(alloc, self.next_undo()) {
-            Ok(steps) => Ok(Prepared {
-                task: Task::Undo,
-                steps,
-            }),
-            Err(AllocError) => Err(SessionFault::Plan(Fault::Memory)),
-        }
+        let steps = Steps::of(alloc, self.next_undo())?;
+        Ok(Prepared {
+            task: Task::Undo,
+            steps,
+        })
     }
 
     fn prepare_redo(&self, alloc: Global) -> Result<Prepared, SessionFault>
@@ -124,13 +117,11 @@ impl Session {
         if self.redo_depth() == 0 {
             return Err(SessionFault::NothingToRedo);
         }
-        match Steps::of(alloc, self.next_redo()) {
-            Ok(steps) => Ok(Prepared {
-                task: Task::Redo,
-                steps,
-            }),
-            Err(AllocError) => Err(SessionFault::Plan(Fault::Memory)),
-        }
+        let steps = Steps::of(alloc, self.next_redo())?;
+        Ok(Prepared {
+            task: Task::Redo,
+            steps,
+        })
     }
 
     /// Makes ready what committing an action will need, memory included. Names, bytes and history stay as they are.

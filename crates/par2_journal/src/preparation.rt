@@ -104,6 +104,18 @@ impl From<Fault> for SessionFault {
     }
 }
 
+impl From<AllocError> for SessionFault {
+    ghost use Rattle.std.specs.Prelude.{◌≡◌};
+    ghost use Rattle.par2_spec.specs.declared.Fault.TheVariants.{Memory};
+    ghost use Rattle.par2_journal.specs.declared.preparation.SessionFault.TheVariants.{Plan};
+
+    ghost from_gives = { λ _ refused. refused ≡ Plan Memory };
+
+    fn from(_: AllocError) -> Self {
+        SessionFault::Plan(Fault::Memory)
+    }
+}
+
 impl From<NothingToUndo> for SessionFault {
     ghost use Rattle.std.specs.Prelude.{◌≡◌};
     ghost use Rattle.par2_journal.specs.declared.preparation.SessionFault.TheVariants as faults;

@@ -7,7 +7,7 @@ ghost use Rattle.par2_spec.specs.declared.Version.TheVariants.{Two};
 ghost use Rattle.par2_journal_bytes.specs.Fronts.{Begins};
 ghost use Rattle.par2_journal_bytes.specs.Views.{changes_in, lent_entries_of};
 ghost use Rattle.par2_journal.specs.Ahead.{AreAlong};
-ghost use Rattle.par2_journal.specs.Spelling.{SpellsWhere, CompletesHalfway, halfway_with, settled_with};
+ghost use Rattle.par2_journal.specs.Spelling.{Add, SpellsWhere, CompletesHalfway, entries_with, halfway_with, settled_with};
 
 use crate::Changes;
 use par2_folder::{Change, Folder, fingerprints_along};
@@ -224,11 +224,7 @@ fn spell_made(
     ensures halfway { IfOk result (λ journals. CompletesHalfway front.items journals.halfway
         fingerprints.now.after_each.items (changes_in back.now)) }
     ensures after { IfOk result (λ journals. Spells journals.after.items (settled_with
-        fingerprints.now.after_all (
-          take cursor entries.now ++ changes_in back.now ∷ [],
-          cursor +
-              1,
-        ))) }
+        fingerprints.now.after_all (entries_with Add cursor entries.now (changes_in back.now)))) }
 {
     let list = with_command(alloc, &entries, cursor, back)?;
     both(alloc, front, fingerprints, back, &list, cursor + 1)
@@ -267,16 +263,13 @@ pub(crate) fn spell_command(
     requires cursor { cursor ≤ length entries.now }
     ensures folder { folder.new ≡ folder.old }
     ensures changes { changes_in changes.new ≡ changes_in changes.old }
-    ensures halfway { IfOk result (λ journals.
+    ensures halfway { let given = changes_in changes.old in IfOk result (λ journals.
         SpellsWhere journals.halfway (halfway_with (fingerprint folder.old.files) cursor entries.now
-        (map fingerprint (folders_after folder.old.files (changes_in changes.old)))
-        (way_back folder.old.files (changes_in changes.old)))) }
-    ensures after { IfOk result (λ journals. Spells journals.after.items (settled_with
-        (fingerprint (effects folder.old.files (changes_in changes.old))) (
-          take cursor
-              entries.now ++ way_back folder.old.files (changes_in changes.old) ∷ [],
-          cursor + 1,
-        ))) }
+        (map fingerprint (folders_after folder.old.files given))
+        (way_back folder.old.files given))) }
+    ensures after { let given = changes_in changes.old in IfOk result (λ journals.
+        Spells journals.after.items (settled_with (fingerprint (effects folder.old.files given))
+        (entries_with Add cursor entries.now (way_back folder.old.files given)))) }
 {
     let fingerprints = Fingerprints::of(alloc, folder, changes)?;
     let front = front(alloc, entries, cursor, fingerprints.before)?;

@@ -1,5 +1,5 @@
 //! A command that a stop left halfway is taken back.
-ghost use Rattle.std.specs.Prelude.{◌≡◌, ◌≤◌, ◌<◌, ◌⊎◌, ◌&&◌, ◌∷◌, reverse, take, Some, IfSome, IfOk, IfErr, IsTrue, IsFalse, length, position, Ok, Err, None, true};
+ghost use Rattle.std.specs.Prelude.{◌≡◌, ◌≤◌, ◌<◌, ◌⊎◌, ◌&&◌, ◌∷◌, reverse, take, Some, IfSome, IfOk, IfErr, OnOk, OnErr, IsTrue, IsFalse, length, position, Ok, Err, None, true};
 ghost use Rattle.std.specs.Str.{bytes_eq};
 ghost use Rattle.par2_spec.specs.Changes.{effects, places_taken, takes_all, state_after_all, way_back};
 ghost use Rattle.par2_spec.specs.Folders.{fingerprint};
@@ -11,6 +11,7 @@ ghost use Rattle.par2_spec.specs.declared.JournalFault.TheVariants.{JournalInval
 ghost use Rattle.par2_spec.specs.declared.Version.TheVariants.{Two};
 ghost use Rattle.par2_journal_bytes.specs.Views.{changes_in, entries_of};
 ghost use Rattle.par2_journal.specs.Opening.{session_at, session_before, way_left, halfway_as};
+ghost use Rattle.par2_journal.specs.Walks.{WentForth};
 
 use crate::Session;
 use crate::opening::{can_apply, session_from};
@@ -102,7 +103,30 @@ fn goes_back(
     }
 }
 
-// Goes back by the changes, which are to leave folders with these fingerprints, to the session of the entries.
+// Goes back by the changes, which are to leave folders with these fingerprints. They become the way forth.
+fn go_back(
+    alloc: Global,
+    folder: &mut Folder,
+    way: &mut [Change],
+    wanted: &[[u8; 16]],
+) -> Result<(), JournalFault>
+    requires { length wanted.now ≡ length way.old }
+    ensures leads { OnOk result
+        (IsTrue (leads_through folder.old.files (changes_in way.old) wanted.now)) }
+    ensures went { OnOk result
+        (WentForth folder.old.files folder.new (changes_in way.old) (changes_in way.new)) }
+    ensures refused { IfErr result (λ fault. (fault ≡ Memory) ⊎ ((fault ≡ JournalInvalid)
+        × IsFalse (leads_through folder.old.files (changes_in way.old) wanted.now))) }
+    ensures files { OnErr result (folder.new.files ≡ folder.old.files) }
+{
+    folder.reserve(way.len())?;
+    if !goes_back(alloc, folder, way, wanted)? {
+        return Err(JournalFault::JournalInvalid);
+    }
+    Ok(())
+}
+
+// The session of the entries, to which the changes go back. They are to leave folders with these fingerprints.
 fn take_back(
     alloc: Global,
     mut folder: Folder,
@@ -124,14 +148,9 @@ fn take_back(
         (effects folder.files (changes_in way.old)) cursor (entries_of entries.items))))) }
     ensures files { IfErr result (λ e. e.1.files ≡ folder.files) }
 {
-    match folder.reserve(way.len()) {
+    match go_back(alloc, &mut folder, way, wanted) {
         Ok(()) => {}
-        Err(AllocError) => return Err((JournalFault::Memory, folder)),
-    }
-    match goes_back(alloc, &mut folder, way, wanted) {
-        Ok(true) => {}
-        Ok(false) => return Err((JournalFault::JournalInvalid, folder)),
-        Err(AllocError) => return Err((JournalFault::Memory, folder)),
+        Err(fault) => return Err((fault, folder)),
     }
     match session_from(alloc, folder, entries, cursor) {
         Ok(session) => Ok(session),

@@ -9,7 +9,7 @@ returns-then-redo_depth-eq0-clause-refused c =
     let none : length c.args.self.now.redos ≡ 0 = grind (arith, c.redo_depth.ensures, c.if-redo_depth-eq0.true) in
     nothing_to_redo c.args.self.now none
 
-pub returns-in-Ok-clause-ready : goal.returns-in-Ok-clause-ready
-returns-in-Ok-clause-ready c =
+pub returns-clause-ready : goal.returns-clause-ready
+returns-clause-ready c =
     let some : 0 < length c.args.self.now.redos = grind (arith, c.redo_depth.ensures, c.if-redo_depth-eq0.false) in
-    ready_redo c.args.self.now c.in-Ok.steps some (c.in-Ok.ensures ∙ ap (map step_of) c.next_redo.ensures)
+    ready_redo c.args.self.now c.in_ok-steps.steps some (c.in_ok-steps.ensures ∙ ap (map step_of) c.next_redo.ensures)
