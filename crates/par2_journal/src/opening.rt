@@ -10,7 +10,7 @@ ghost use Rattle.par2_spec.specs.Opening.{is_valid, leads, Opens};
 ghost use Rattle.par2_spec.specs.declared.JournalFault.TheVariants.{JournalInvalid, FolderChanged, Memory};
 ghost use Rattle.par2_journal_bytes.specs.Reading.{IsSealed};
 ghost use Rattle.par2_journal_bytes.specs.Views.{changes_in, entries_of, journal_of};
-ghost use Rattle.par2_journal.specs.Opening.{session_at, journal_with, opened_of, OpensAsIs};
+ghost use Rattle.par2_journal.specs.Opening.{session_at, journal_with, opened_of, AnswersOpening, OpensAsIs};
 ghost use Rattle.par2_journal.specs.Walks.{state_along, ways_back};
 
 use crate::taking_back::{Halfway, open_halfway};
@@ -343,13 +343,7 @@ impl Session {
         folder: Folder,
         bytes: &[u8],
     ) -> Result<Opened, (JournalFault, Folder)>
-        ensures opened { IfOk result
-            (λ found. Opens folder.files bytes.now (Ok (opened_of found))) }
-        ensures refused { IfErr result (λ e. (e.0 ≡ Memory)
-            ⊎ Opens folder.files bytes.now (Err e.0)) }
-        ensures unsealed { ¬ (IsSealed bytes.now)
-            → MatchResult result (λ _. ⊥) (λ e. e.0 ≡ JournalInvalid) }
-        ensures files { IfErr result (λ e. e.1.files ≡ folder.files) }
+        ensures { AnswersOpening folder bytes.now result }
     {
         Session::open_before(alloc, folder, bytes, None)
     }
@@ -362,13 +356,7 @@ impl Session {
         bytes: &[u8],
         next: Option<Next>,
     ) -> Result<Opened, (JournalFault, Folder)>
-        ensures opened { IfOk result
-            (λ found. Opens folder.files bytes.now (Ok (opened_of found))) }
-        ensures refused { IfErr result (λ e. (e.0 ≡ Memory)
-            ⊎ Opens folder.files bytes.now (Err e.0)) }
-        ensures unsealed { ¬ (IsSealed bytes.now)
-            → MatchResult result (λ _. ⊥) (λ e. e.0 ≡ JournalInvalid) }
-        ensures files { IfErr result (λ e. e.1.files ≡ folder.files) }
+        ensures { AnswersOpening folder bytes.now result }
     {
         match decode(alloc, bytes) {
             Ok(journal) => open_journal(alloc, folder, journal, next),
