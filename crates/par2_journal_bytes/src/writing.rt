@@ -189,7 +189,7 @@ fn body(front: Vec<u8>, halfway: &Option<HalfwayPartView<'_>>) -> Result<Vec<u8>
 }
 
 // The journal, its digest behind all that stands before it.
-fn sealed(body: Vec<u8>, digest: [u8; 16]) -> Result<Vec<u8>, AllocError>
+fn with_digest(body: Vec<u8>, digest: [u8; 16]) -> Result<Vec<u8>, AllocError>
     requires { digest ≡ md5 body.items }
     ensures { IfOk result (λ bytes. bytes.items ≡ body.items ++ md5 body.items) }
 {
@@ -207,7 +207,7 @@ pub fn finish(front: Vec<u8>, halfway: &Option<HalfwayPartView<'_>>) -> Result<V
 {
     let body = body(front, halfway)?;
     let digest = digest_of(&body);
-    sealed(body, digest)
+    with_digest(body, digest)
 }
 
 // The front of the journal with these parts.
@@ -272,7 +272,7 @@ pub fn finish_both(
     let after = body(front_of(alloc, after)?, &after.halfway)?;
     let digests = text_digests(alloc, &[&halfway, &after])?;
     Ok(JournalTexts {
-        halfway: sealed(halfway, digests[0])?,
-        after: sealed(after, digests[1])?,
+        halfway: with_digest(halfway, digests[0])?,
+        after: with_digest(after, digests[1])?,
     })
 }

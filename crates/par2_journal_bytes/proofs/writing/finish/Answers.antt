@@ -3,4 +3,4 @@ use Rattle.par2_journal_bytes.proofs.Fronts.{finishes}
 use Rattle.par2_journal_bytes.proofs.writing.finish.Goals as goal
 
 pub returns : goal.returns
-returns c = finishes c.args.front.items (halfway_from c.args.halfway.now) c.in_ok-body.body.items c.in_ok-body.ensures c.sealed.result c.sealed.ensures
+returns c = finishes c.args.front.items (halfway_from c.args.halfway.now) c.in_ok-body.body.items c.in_ok-body.ensures c.with_digest.result c.with_digest.ensures
