@@ -1,28 +1,8 @@
 -- Answers that are passed on.
-use Rattle.std.proofs.Common.{◌≡◌, ◌⊎◌, ◌∙◌, inl, inr, refl, sym, ap, subst, Result, Ok, Err}
-use Rattle.std.specs.Prelude.{Option, Some, None, is_ok, IfOk, IfErr, IsErrOf}
-use Rattle.std.specs.Result.{MatchResult}
+use Rattle.std.proofs.Common.{◌≡◌, ◌⊎◌, ◌∙◌, inl, inr, sym, ap, subst, Result, Ok, Err}
+use Rattle.std.specs.Prelude.{Option, Some, None, IfOk, IfErr, IsErrOf}
 use Rattle.par2_spec.specs.declared.Fault.{Fault}
 use Rattle.par2_spec.specs.declared.Fault.TheVariants.{Memory}
-
--- what holds of an answer's value holds of the same value in an answer with another error
-pub passed : {A E F : Type 0} (P : A → Type 0) (r : Result A E) (s : Result A F) (Q : E → Type 0) (x : A)
-    → MatchResult r (λ y. s ≡ Ok y) Q → is_ok s ≡ is_ok r → s ≡ Ok x → IfOk r P → P x
-passed {A} {E} {F} P (Ok y) s Q x same variant is h = subst P (value (sym same ∙ is)) h
-  where
-    value : ◌≡◌ {A = Result A F} (Ok y) (Ok x) → y ≡ x
-    value e = cc
-passed P (Err e) s Q x same variant is h = absurd (let no : ⊥ = cc (variant, ap is_ok is) in no)
-
-pub all_passed : {A E F : Type 0} (P : A → Type 0) (r : Result A E) (s : Result A F) (Q : E → Type 0)
-    → MatchResult r (λ y. s ≡ Ok y) Q → is_ok s ≡ is_ok r → IfOk r P → IfOk s P
-all_passed P r (Ok x) Q same variant h = passed P r (Ok x) Q x same variant refl h
-all_passed P r (Err e) Q same variant h = tt
-
--- what holds anyway
-pub held : {A E : Type 0} (r : Result A E) (P : Type 0) → P → IfOk r (λ _. P)
-held (Ok x) P h = h
-held (Err e) P h = tt
 
 -- a fault that is passed on has the cause of the whole, where the cause of its step is one
 pub refused_by : {X : Type 0} (P Q : Fault → Type 0) (r : Result X Fault) (fault : Fault)

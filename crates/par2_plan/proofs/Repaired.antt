@@ -188,6 +188,12 @@ module _ (folder : Folder) (set : ParSet) (searched : List (List ℕ)) where
         → with_removals purge (changes_by off needing files) (removals_by off needing (par_files folder set)) ≡ repair_by purge folder set searched
     all_changes purge files e = ap₂ (λ (a b : List Change). with_removals purge a b) (changes_are files e) removals_are
 
+-- what a repair has when it asks for asides and files
+pub record IsPrepared (folder : Folder) (set : ParSet) (searched : List (List ℕ)) (needing : Needing) (slices : Option (List (List ℕ))) : Type 0 where
+  pub are : AreNeeding folder set searched needing
+  pub told : undetermined_fault set (slices_known folder set searched) ≡ None
+  pub targets : targets_by set slices needing.unmatched.items ≡ rebuilt_targets folder set searched
+
 -- ---- purges
 
 -- some targets are needing where one is

@@ -44,10 +44,7 @@ fn set_of_inputs(alloc: Global, folder: &Folder, args: &CreateArgs) -> Result<Se
     if let Some(fault) = files_fault(folder, &names, args.slice_size) {
         return Err(fault);
     }
-    let records = match file_records(alloc, folder, &names, args.slice_size) {
-        Ok(records) => records,
-        Err(AllocError) => return Err(Fault::Memory),
-    };
+    let records = file_records(alloc, folder, &names, args.slice_size)?;
     set_of(records, args.slice_size)
 }
 
@@ -107,8 +104,5 @@ pub fn plan_create(alloc: Global, folder: &Folder, args: &CreateArgs) -> Result<
     if let Some(fault) = there_already(folder, args.overwrite, &base, &volumes) {
         return Err(fault);
     }
-    match outputs_written(alloc, folder, args, base, &set, &volumes) {
-        Ok(changes) => Ok(changes),
-        Err(AllocError) => Err(Fault::Memory),
-    }
+    Ok(outputs_written(alloc, folder, args, base, &set, &volumes)?)
 }

@@ -43,10 +43,9 @@ pub fn no_duplicate(alloc: Global, names: &[Name]) -> Result<(), Fault>
         IfErr result (λ fault. (fault ≡ Fault.Memory) ⊎ (reason ≡ Some fault)) }
     ensures accepted { IfOk result (λ _. duplicate_input names.now ≡ None) }
 {
-    match first_repeated(alloc, names) {
-        Ok(None) => Ok(()),
-        Ok(Some(place)) => Err(Fault::DuplicateInput(place + 1)),
-        Err(AllocError) => Err(Fault::Memory),
+    match first_repeated(alloc, names)? {
+        None => Ok(()),
+        Some(place) => Err(Fault::DuplicateInput(place + 1)),
     }
 }
 

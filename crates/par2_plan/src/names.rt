@@ -9,7 +9,7 @@ ghost use Rattle.par2_plan.specs.Outputs.{volume_at, volume_if, volumes_of, name
 
 use par2_folder::{Folder, Name};
 use par2_spec::Fault;
-use std::alloc::{AllocError, AllocFailed, Global};
+use std::alloc::{AllocError, Global};
 
 // How many volumes there are at most: the first 17 would hold 131,071 recovery slices.
 const MOST_VOLUMES: u32 = 17;
@@ -79,10 +79,7 @@ fn volume_name(alloc: Global, base: &Name, first: u32, count: u32) -> Result<Nam
     ensures accepted { IfOk result (λ _. length (spec.volume_name base.now first count) ≤ 255) }
     ensures name { IfOk result (λ name. name ≡ spec.volume_name base.now first count) }
 {
-    let text = match volume_text(alloc, base.as_str(), first, count) {
-        Ok(text) => text,
-        Err(AllocError) => return Err(Fault::Memory),
-    };
+    let text = volume_text(alloc, base.as_str(), first, count)?;
     match Name::new(&text) {
         Ok(name) => Ok(name),
         Err(_) => Err(Fault::NameTooLong),
@@ -129,10 +126,8 @@ fn add_volume(
         return Ok(());
     }
     let volume = volume_at(alloc, base, first, count, i)?;
-    match volumes.push(volume) {
-        Ok(()) => Ok(()),
-        Err(AllocFailed { .. }) => Err(Fault::Memory),
-    }
+    volumes.push(volume)?;
+    Ok(())
 }
 
 /// The volumes of `count` recovery slices from exponent `first` on, in order.

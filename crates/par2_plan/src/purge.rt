@@ -41,7 +41,7 @@ fn purge_of(alloc: Global, folder: &Folder, set: &ParSet) -> Result<Changes, Fau
     {
         return Err(Fault::NotComplete);
     }
-    removals(alloc, folder, set).map_err(|_: AllocError| Fault::Memory)
+    Ok(removals(alloc, folder, set)?)
 }
 
 /// The changes of a purge: the set's par files are removed, where each target is complete. Memory is answered only where

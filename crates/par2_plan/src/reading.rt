@@ -8,7 +8,7 @@ ghost use Rattle.par2_plan.specs.Readings.{present_from};
 use par2_folder::{Folder, Name};
 use par2_sets::{ParSet, set_of};
 use par2_spec::Fault;
-use std::alloc::{AllocFailed, Global};
+use std::alloc::Global;
 
 /// The set of a base, and the names of further files.
 #[derive(Drop)]
@@ -47,9 +47,7 @@ fn present_extras(alloc: Global, folder: &Folder, extras: &[String]) -> Result<V
     let mut names = Vec::new(alloc);
     for i in 0..extras.len() {
         let name = present(folder, &extras[i]).ok_or(Fault::NoSuchFile(i + 1))?;
-        names
-            .push(name)
-            .map_err(|AllocFailed { .. }| Fault::Memory)?;
+        names.push(name)?;
     }
     Ok(names)
 }

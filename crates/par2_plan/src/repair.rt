@@ -46,7 +46,7 @@ fn slices_for<'a>(
     if unmatched.is_empty() {
         return Ok(None);
     }
-    let texts = texts_of(alloc, folder, candidates).map_err(|_: AllocError| Fault::Memory)?;
+    let texts = texts_of(alloc, folder, candidates)?;
     let slices = restored_slices(alloc, set, &texts)?;
     Ok(Some(slices))
 }
@@ -160,16 +160,13 @@ fn repair_of(
         let written = rebuilt_targets folder.now.files set.now searched in
         IfOk result (λ _. AllByRecursion IsAsDescribed written) }
 {
-    let candidates = candidates(alloc, folder, set, extras).map_err(|_: AllocError| Fault::Memory)?;
-    let needing = needing_of(alloc, folder, set, &candidates).map_err(
-        |_: AllocError| Fault::Memory,
-    )?;
+    let candidates = candidates(alloc, folder, set, extras)?;
+    let needing = needing_of(alloc, folder, set, &candidates)?;
     let slices = slices_for(alloc, folder, set, &candidates, &needing.unmatched)?;
     let asides = asides(alloc, folder, set, &needing.put_aside)?;
     let files = files_for(alloc, set, &slices, &needing.unmatched)?;
-    changes_with(alloc, folder, set, &needing, &asides, files, purge).map_err(
-        |_: AllocError| Fault::Memory,
-    )
+    let changes = changes_with(alloc, folder, set, &needing, &asides, files, purge)?;
+    Ok(changes)
 }
 
 /// The changes of a repair: the files of needing targets are put aside, targets that have a match take it, and the others

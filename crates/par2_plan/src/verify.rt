@@ -48,5 +48,5 @@ pub fn check(alloc: Global, folder: &Folder, base: &str, extras: &[String]) -> R
         IfOk result (λ report. answer ≡ Ok (report_of report)) }
 {
     let reading = read(alloc, folder, base, extras)?;
-    report_with(alloc, folder, &reading.set, &reading.extras).map_err(|_: AllocError| Fault::Memory)
+    Ok(report_with(alloc, folder, &reading.set, &reading.extras)?)
 }

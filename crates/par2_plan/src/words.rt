@@ -7,7 +7,7 @@ ghost use Rattle.par2_spec.specs.Refusals.{are_counts, is_input_name, head_fault
 
 use par2_folder::Name;
 use par2_spec::{CreateArgs, Fault};
-use std::alloc::{AllocFailed, Global};
+use std::alloc::Global;
 
 // A multiple of 4 from 4 to 2^30.
 fn is_slice_size(size: u64) -> bool
@@ -107,9 +107,7 @@ pub fn input_names(alloc: Global, words: &[String]) -> Result<Vec<Name>, Fault>
         let Some(name) = input_name(&words[i]) else {
             return Err(Fault::BadName(i + 1));
         };
-        names
-            .push(name)
-            .map_err(|AllocFailed { .. }| Fault::Memory)?;
+        names.push(name)?;
     }
     Ok(names)
 }

@@ -1,24 +1,48 @@
-use Rattle.std.proofs.Common.{◌≡◌, ◌∙◌, ◌∷◌, ◌⊎◌, inl, inr, refl, sym, ap, ap₂, subst, true, Some, None, Err, List, ℕ, map, string_bytes}
+use Rattle.std.proofs.Common.{◌≡◌, ◌∙◌, ◌∷◌, ◌⊎◌, inl, inr, refl, sym, ap, ap₂, subst, true, Option, Some, None, Err, List, ℕ, map, string_bytes}
 use Rattle.par2_spec.specs.Names.{is_par_name}
 use Rattle.std.proofs.lemmas.Result.{err_from_is_err_and}
 use Rattle.par2_spec.specs.Folders.{Folder}
 use Rattle.par2_spec.specs.Commands.{Create, CreateArgs}
-use Rattle.par2_spec.specs.Refusals.{bad_name, refusal}
+use Rattle.par2_spec.specs.Refusals.{bad_name, early_refusal, refusal}
 use Rattle.par2_spec.specs.Views.{create_args_of}
 use Rattle.par2_spec.specs.declared.Fault.{Fault}
 use Rattle.par2_spec.specs.declared.Fault.TheVariants.{Memory}
 use Rattle.par2_plan.specs.declared.names.Volume.{Volume}
 use Rattle.par2_plan.specs.Faults.{long_name, there_already}
 use Rattle.par2_plan.specs.Outputs.{volumes_of, names_of, output_names}
-use Rattle.par2_plan.proofs.Passed.{IsHead, head_passed}
+use Rattle.par2_plan.proofs.Passed.{head_passed}
 use Rattle.par2_plan.proofs.Refused.{early_by_head, early_by_name, not_early, refused_by_head, refused_by_name, refused_by_inputs, refused_by_length, refused_by_there, not_refused, are_planned, apply_in_order, lead_to_folder}
 use Rattle.par2_plan.proofs.Passing.{answered_so, never_found}
 use Rattle.par2_plan.proofs.Present.{refused_so}
+use Rattle.par2_plan.proofs.create.plan_create.Goals.{In-Some, After-set_of_inputs, After-there_already}
 use Rattle.par2_plan.proofs.create.plan_create.Goals as goal
 
 -- a create is refused so
 abbrev IsRefused : Folder → CreateArgs → Fault → Type 0
 IsRefused folder a fault = (fault ≡ Memory) ⊎ (refusal folder (Create a) ≡ Some fault)
+
+bad_word : (c : In-Some) → bad_name (create_args_of c.args.args.now).inputs ≡ Some c.in-Some.fault
+bad_word c = ap (λ words. bad_name (map string_bytes words)) (sym c.deref.ensures.value) ∙ sym c.bad_name.ensures ∙ c.in-Some.is
+
+none_early : (c : After-set_of_inputs) → early_refusal c.args.folder.now.files (Create (create_args_of c.args.args.now)) ≡ None
+none_early c =
+    not_early c.args.folder.now.files (create_args_of c.args.args.now) c.in_ok-base.ensures.accepted
+    (ap (λ words. bad_name (map string_bytes words)) (sym c.deref.ensures.value) ∙ sym c.bad_name.ensures ∙ c.in_default.is)
+
+-- the outputs' names are not too long, and are those that were looked for
+abbrev AreNamed : Folder → CreateArgs → Option Fault → Type 0
+AreNamed folder a answer =
+    (long_name (names_of (volumes_of a.base a.first a.count)) ≡ None) × (there_already folder a.overwrite (output_names a) ≡ answer)
+
+named : (c : After-there_already) → AreNamed c.args.folder.now.files (create_args_of c.args.args.now) c.there_already.result
+named c =
+    let a = create_args_of c.args.args.now in
+    let name = c.in_ok-base.ensures.name in
+    let volumes : c.deref-2.result.now ≡ volumes_of a.base a.first a.count = c.deref-2.ensures.value ∙ c.in_ok-volumes.ensures.volumes ∙ ap (λ base. volumes_of base a.first a.count) name in
+    let names : c.in_ok-base.base ∷ names_of c.deref-2.result.now ≡ output_names a = ap₂ (λ (base : List ℕ) (vs : List Volume). base ∷ names_of vs) name volumes in (
+      subst (λ base. long_name (names_of (volumes_of base a.first a.count)) ≡ None) name c.in_ok-volumes.ensures.accepted,
+      ap (there_already c.args.folder.now.files a.overwrite) (sym names) ∙ sym c.there_already.ensures,
+    )
 
 pub returns-in_err-base-clause-refused : goal.returns-in_err-base-clause-refused
 returns-in_err-base-clause-refused c =
@@ -34,20 +58,15 @@ returns-in_err-base-clause-early c fault early =
 
 pub returns-in-Some-clause-refused : goal.returns-in-Some-clause-refused
 returns-in-Some-clause-refused c =
-    let a = create_args_of c.args.args.now in
-    let bad : bad_name a.inputs ≡ Some c.in-Some.fault = ap (λ words. bad_name (map string_bytes words)) (sym c.deref.ensures.value) ∙ sym c.bad_name.ensures ∙ c.in-Some.is in
-    inr (refused_by_name c.args.folder.now.files a c.in_ok-base.ensures.accepted c.in-Some.fault bad)
+    inr (refused_by_name c.args.folder.now.files (create_args_of c.args.args.now) c.in_ok-base.ensures.accepted c.in-Some.fault (bad_word (goal.at.returns-in-Some-clause-refused c).In-Some))
 
 pub returns-in-Some-clause-early : goal.returns-in-Some-clause-early
 returns-in-Some-clause-early c fault early =
-    let a = create_args_of c.args.args.now in
-    let bad : bad_name a.inputs ≡ Some c.in-Some.fault = ap (λ words. bad_name (map string_bytes words)) (sym c.deref.ensures.value) ∙ sym c.bad_name.ensures ∙ c.in-Some.is in
-    answered_so _ _ c.in-Some.fault fault refl (early_by_name c.args.folder.now.files a c.in_ok-base.ensures.accepted c.in-Some.fault bad) early
+    let bad = bad_word (goal.at.returns-in-Some-clause-early c).In-Some in
+    answered_so _ _ c.in-Some.fault fault refl (early_by_name c.args.folder.now.files (create_args_of c.args.args.now) c.in_ok-base.ensures.accepted c.in-Some.fault bad) early
 
 pub set_of_inputs-requires : goal.set_of_inputs-requires
-set_of_inputs-requires c =
-    let head : IsHead (create_args_of c.args.args.now) = head_passed _ c.in_ok-base.ensures.accepted in
-    head.positive
+set_of_inputs-requires c = (head_passed _ c.in_ok-base.ensures.accepted).positive
 
 pub returns-in_err-set-clause-refused : goal.returns-in_err-set-clause-refused
 returns-in_err-set-clause-refused c =
@@ -61,13 +80,10 @@ returns-in_err-set-clause-refused c =
 
 pub volumes-requires-clause-base : goal.volumes-requires-clause-base
 volumes-requires-clause-base c =
-    let head : IsHead (create_args_of c.args.args.now) = head_passed _ c.in_ok-base.ensures.accepted in
-    subst (λ base. is_par_name base ≡ true) (sym c.in_ok-base.ensures.name) head.par_name
+    subst (λ base. is_par_name base ≡ true) (sym c.in_ok-base.ensures.name) (head_passed _ c.in_ok-base.ensures.accepted).par_name
 
 pub volumes-requires-clause-exponents : goal.volumes-requires-clause-exponents
-volumes-requires-clause-exponents c =
-    let head : IsHead (create_args_of c.args.args.now) = head_passed _ c.in_ok-base.ensures.accepted in
-    head.exponents
+volumes-requires-clause-exponents c = (head_passed _ c.in_ok-base.ensures.accepted).exponents
 
 pub returns-in_err-volumes-clause-refused : goal.returns-in_err-volumes-clause-refused
 returns-in_err-volumes-clause-refused c =
@@ -80,68 +96,37 @@ returns-in_err-volumes-clause-refused c =
           (subst (λ base. long_name (names_of (volumes_of base a.first a.count)) ≡ Some fault) c.in_ok-base.ensures.name cause))
     ])
 
-pub returns-in_err-set-clause-early : goal.returns-in_err-set-clause-early
-returns-in_err-set-clause-early c fault early =
-    let a = create_args_of c.args.args.now in
-    let folder = c.args.folder.now.files in
-    let named : bad_name a.inputs ≡ None = ap (λ words. bad_name (map string_bytes words)) (sym c.deref.ensures.value) ∙ sym c.bad_name.ensures ∙ c.in_default.is in
-    absurd (never_found _ fault (not_early folder a c.in_ok-base.ensures.accepted named) early)
-
-pub returns-in_err-volumes-clause-early : goal.returns-in_err-volumes-clause-early
-returns-in_err-volumes-clause-early c fault early =
-    let a = create_args_of c.args.args.now in
-    let folder = c.args.folder.now.files in
-    let named : bad_name a.inputs ≡ None = ap (λ words. bad_name (map string_bytes words)) (sym c.deref.ensures.value) ∙ sym c.bad_name.ensures ∙ c.in_default.is in
-    absurd (never_found _ fault (not_early folder a c.in_ok-base.ensures.accepted named) early)
-
 pub returns-in-Some-there_already-clause-refused : goal.returns-in-Some-there_already-clause-refused
 returns-in-Some-there_already-clause-refused c =
     let a = create_args_of c.args.args.now in
-    let folder = c.args.folder.now.files in
-    let name = c.in_ok-base.ensures.name in
-    let short : long_name (names_of (volumes_of a.base a.first a.count)) ≡ None = subst (λ base. long_name (names_of (volumes_of base a.first a.count)) ≡ None) name c.in_ok-volumes.ensures.accepted in
-    let volumes : c.deref-2.result.now ≡ volumes_of a.base a.first a.count = c.deref-2.ensures.value ∙ c.in_ok-volumes.ensures.volumes ∙ ap (λ base. volumes_of base a.first a.count) name in
-    let names : c.in_ok-base.base ∷ names_of c.deref-2.result.now ≡ output_names a = ap₂ (λ (base : List ℕ) (vs : List Volume). base ∷ names_of vs) name volumes in
-    inr (refused_by_there folder a c.in_ok-base.ensures.accepted c.in_ok-set.ensures.accepted c.in-Some-there_already.fault short
-    (ap (there_already folder a.overwrite) (sym names) ∙ sym c.there_already.ensures ∙ c.in-Some-there_already.is))
+    let is = named (goal.at.returns-in-Some-there_already-clause-refused c).After-there_already in
+    inr (refused_by_there c.args.folder.now.files a c.in_ok-base.ensures.accepted c.in_ok-set.ensures.accepted c.in-Some-there_already.fault is.0 (is.1 ∙ c.in-Some-there_already.is))
 
-pub returns-in-Ok-clause-accepted : goal.returns-in-Ok-clause-accepted
-returns-in-Ok-clause-accepted c =
-    let a = create_args_of c.args.args.now in
-    let folder = c.args.folder.now.files in
-    let name = c.in_ok-base.ensures.name in
-    let short : long_name (names_of (volumes_of a.base a.first a.count)) ≡ None = subst (λ base. long_name (names_of (volumes_of base a.first a.count)) ≡ None) name c.in_ok-volumes.ensures.accepted in
-    let volumes : c.deref-2.result.now ≡ volumes_of a.base a.first a.count = c.deref-2.ensures.value ∙ c.in_ok-volumes.ensures.volumes ∙ ap (λ base. volumes_of base a.first a.count) name in
-    let names : c.in_ok-base.base ∷ names_of c.deref-2.result.now ≡ output_names a = ap₂ (λ (base : List ℕ) (vs : List Volume). base ∷ names_of vs) name volumes in
-    not_refused folder a c.in_ok-base.ensures.accepted c.in_ok-set.ensures.accepted short
-    (ap (there_already folder a.overwrite) (sym names) ∙ sym c.there_already.ensures ∙ c.in_default-there_already.is)
+pub returns-clause-accepted : goal.returns-clause-accepted
+returns-clause-accepted c =
+    let is = named (goal.at.returns-clause-accepted c).After-there_already in
+    not_refused c.args.folder.now.files (create_args_of c.args.args.now) c.in_ok-base.ensures.accepted c.in_ok-set.ensures.accepted is.0 (is.1 ∙ c.in_default-there_already.is)
 
-pub returns-in-Ok-clause-changes : goal.returns-in-Ok-clause-changes
-returns-in-Ok-clause-changes c = are_planned c.args.folder.now.files (create_args_of c.args.args.now) c.in-Ok.changes c.in-Ok.ensures
+pub returns-clause-changes : goal.returns-clause-changes
+returns-clause-changes c = are_planned c.args.folder.now.files (create_args_of c.args.args.now) _ c.in_ok-outputs_written.ensures
 
-pub returns-in-Ok-clause-applies : goal.returns-in-Ok-clause-applies
-returns-in-Ok-clause-applies c = apply_in_order c.args.folder.now.files (create_args_of c.args.args.now) c.in-Ok.changes c.in-Ok.ensures
+pub returns-clause-applies : goal.returns-clause-applies
+returns-clause-applies c = apply_in_order c.args.folder.now.files (create_args_of c.args.args.now) _ c.in_ok-outputs_written.ensures
 
-pub returns-in-Ok-clause-leads : goal.returns-in-Ok-clause-leads
-returns-in-Ok-clause-leads c = lead_to_folder c.args.folder.now.files (create_args_of c.args.args.now) c.in-Ok.changes c.in-Ok.ensures
+pub returns-clause-leads : goal.returns-clause-leads
+returns-clause-leads c = lead_to_folder c.args.folder.now.files (create_args_of c.args.args.now) _ c.in_ok-outputs_written.ensures
+
+pub returns-in_err-set-clause-early : goal.returns-in_err-set-clause-early
+returns-in_err-set-clause-early c fault early = absurd (never_found _ fault (none_early (goal.at.returns-in_err-set-clause-early c).After-set_of_inputs) early)
+
+pub returns-in_err-volumes-clause-early : goal.returns-in_err-volumes-clause-early
+returns-in_err-volumes-clause-early c fault early = absurd (never_found _ fault (none_early (goal.at.returns-in_err-volumes-clause-early c).After-set_of_inputs) early)
 
 pub returns-in-Some-there_already-clause-early : goal.returns-in-Some-there_already-clause-early
-returns-in-Some-there_already-clause-early c fault early =
-    let a = create_args_of c.args.args.now in
-    let folder = c.args.folder.now.files in
-    let named : bad_name a.inputs ≡ None = ap (λ words. bad_name (map string_bytes words)) (sym c.deref.ensures.value) ∙ sym c.bad_name.ensures ∙ c.in_default.is in
-    absurd (never_found _ fault (not_early folder a c.in_ok-base.ensures.accepted named) early)
+returns-in-Some-there_already-clause-early c fault early = absurd (never_found _ fault (none_early (goal.at.returns-in-Some-there_already-clause-early c).After-set_of_inputs) early)
 
-pub returns-in-Ok-clause-early : goal.returns-in-Ok-clause-early
-returns-in-Ok-clause-early c fault early =
-    let a = create_args_of c.args.args.now in
-    let folder = c.args.folder.now.files in
-    let named : bad_name a.inputs ≡ None = ap (λ words. bad_name (map string_bytes words)) (sym c.deref.ensures.value) ∙ sym c.bad_name.ensures ∙ c.in_default.is in
-    absurd (never_found _ fault (not_early folder a c.in_ok-base.ensures.accepted named) early)
+pub returns-in_err-outputs_written-clause-early : goal.returns-in_err-outputs_written-clause-early
+returns-in_err-outputs_written-clause-early c fault early = absurd (never_found _ fault (none_early (goal.at.returns-in_err-outputs_written-clause-early c).After-set_of_inputs) early)
 
 pub returns-clause-early : goal.returns-clause-early
-returns-clause-early c fault early =
-    let a = create_args_of c.args.args.now in
-    let folder = c.args.folder.now.files in
-    let named : bad_name a.inputs ≡ None = ap (λ words. bad_name (map string_bytes words)) (sym c.deref.ensures.value) ∙ sym c.bad_name.ensures ∙ c.in_default.is in
-    absurd (never_found _ fault (not_early folder a c.in_ok-base.ensures.accepted named) early)
+returns-clause-early c fault early = absurd (never_found _ fault (none_early (goal.at.returns-clause-early c).After-set_of_inputs) early)
