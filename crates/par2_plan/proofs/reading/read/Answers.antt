@@ -1,116 +1,104 @@
-use Rattle.std.proofs.Common.{◌≡◌, ◌⊎◌, ◌+◌, ◌∙◌, List, ℕ, refl, sym, ap, inl, inr, map, string_bytes, true, false, not, Some, None, Err, rules}
+use Rattle.std.proofs.Common.{◌≡◌, ◌⊎◌, ◌+◌, ◌∙◌, refl, sym, ap, inl, inr, map, string_bytes, true, false, not, Some, None, Err, rules}
 use Rattle.std.specs.Prelude.{ok_or, position}
 use Rattle.std.proofs.lemmas.Result.{err_from_is_err_and}
 use Rattle.par2_spec.specs.declared.Fault.{Fault}
 use Rattle.par2_spec.specs.declared.Fault.TheVariants.{NoSuchFile, Memory}
 use Rattle.par2_spec.specs.Folders.{has}
 use Rattle.par2_spec.specs.Sets.{set_of}
-use Rattle.par2_spec.specs.Refusals.{set_in}
+use Rattle.par2_spec.specs.Refusals.{absent_file, set_in}
 use Rattle.par2_plan.proofs.Passing.{answered_so, never_found}
 use Rattle.par2_plan.proofs.Places.{position-map}
 use Rattle.par2_plan.proofs.Present.{passed_on, base_first, extra_first, none_absent, extra_refused, base_absent, extra_absent, all_present}
+use Rattle.par2_plan.proofs.reading.read.Goals.{In_err-base, After-first_absent, In-Some, After-present_extras, After-set_of}
 use Rattle.par2_plan.proofs.reading.read.Goals as goal
+
+-- the base is absent, and that is the fault
+gone : (c : In_err-base) → (has c.args.folder.now.files c.args.base.now ≡ false) × (c.in_err-base.field-0.0 ≡ NoSuchFile 0)
+gone c =
+    let fault : ◌≡◌ {A = Fault} c.in_err-base.field-0.0 (NoSuchFile 0) = cc (c.in_err-base.ensures.value, ap (λ o. ok_or o (NoSuchFile 0)) c.in_err-base.ensures.ok_part) in
+    (sym c.present.ensures.variant ∙ sym c.in_err-base.ensures.variant, fault)
+
+-- the base is there
+there : (c : After-first_absent) → has c.args.folder.now.files c.args.base.now ≡ true
+there c = sym c.present.ensures.variant ∙ sym c.in_ok-base.ensures.variant
+
+first : (c : In-Some) → position (λ word. not (has c.args.folder.now.files word)) (map string_bytes c.args.extras.now) ≡ Some c.in-Some.place
+first c = position-map (λ word. not (has c.args.folder.now.files word)) string_bytes c.args.extras.now ∙ sym c.first_absent.ensures.place ∙ c.in-Some.is
+
+-- nothing is absent, where the base is there
+none : (c : After-present_extras) → has c.args.folder.now.files c.args.base.now ≡ true → absent_file c.args.folder.now.files c.args.base.now (map string_bytes c.args.extras.now) ≡ None
+none c there =
+    none_absent c.args.folder.now.files c.args.base.now (map string_bytes c.args.extras.now) there
+    (position-map (λ word. not (has c.args.folder.now.files word)) string_bytes c.args.extras.now ∙ sym c.first_absent.ensures.place ∙ c.in_default.is)
+
+-- then the set is that of the base
+of_base : (c : After-set_of) → has c.args.folder.now.files c.args.base.now ≡ true → set_in c.args.folder.now.files c.args.base.now (map string_bytes c.args.extras.now) ≡ set_of c.args.folder.now.files c.in_ok-base.base
+of_base c there =
+    let name : c.in_ok-base.base ≡ c.args.base.now = search rules in
+    (all_present c.args.folder.now.files c.args.base.now (map string_bytes c.args.extras.now) there _ c.in_ok-extras.ensures).0 ∙ ap (set_of c.args.folder.now.files) (sym name)
 
 pub returns-in_err-base-clause-set : goal.returns-in_err-base-clause-set
 returns-in_err-base-clause-set c =
-    let folder = c.args.folder.now.files in
-    let extras : List (List ℕ) = map string_bytes c.args.extras.now in
-    let fault : ◌≡◌ {A = Fault} c.in_err-base.field-0.0 (NoSuchFile 0) = cc (c.in_err-base.ensures.value, ap (λ o. ok_or o (NoSuchFile 0)) c.in_err-base.ensures.ok_part) in
-    let gone : has folder c.args.base.now ≡ false = sym c.present.ensures.variant ∙ sym c.in_err-base.ensures.variant in
+    let is = gone (goal.at.returns-in_err-base-clause-set c).In_err-base in
     passed_on _ _ _ c.in_err-base.field-0.0 (err_from_is_err_and c.from_residual.result c.from_residual.ensures.1)
-    (inr (base_absent folder c.args.base.now extras gone ∙ ap Err (sym fault)))
+    (inr (base_absent c.args.folder.now.files c.args.base.now (map string_bytes c.args.extras.now) is.0 ∙ ap Err (sym is.1)))
 
 pub returns-in_err-base-clause-early : goal.returns-in_err-base-clause-early
 returns-in_err-base-clause-early c other early =
-    let folder = c.args.folder.now.files in
-    let extras : List (List ℕ) = map string_bytes c.args.extras.now in
-    let fault : ◌≡◌ {A = Fault} c.in_err-base.field-0.0 (NoSuchFile 0) = cc (c.in_err-base.ensures.value, ap (λ o. ok_or o (NoSuchFile 0)) c.in_err-base.ensures.ok_part) in
-    let gone : has folder c.args.base.now ≡ false = sym c.present.ensures.variant ∙ sym c.in_err-base.ensures.variant in
+    let is = gone (goal.at.returns-in_err-base-clause-early c).In_err-base in
     let p = err_from_is_err_and c.from_residual.result c.from_residual.ensures.1 in
-    answered_so c.from_residual.result _ (NoSuchFile 0) other (p.1 ∙ ap Err (p.2 ∙ fault)) (base_first folder c.args.base.now extras gone) early
+    answered_so c.from_residual.result _ (NoSuchFile 0) other (p.1 ∙ ap Err (p.2 ∙ is.1)) (base_first c.args.folder.now.files c.args.base.now (map string_bytes c.args.extras.now) is.0) early
 
 pub returns-in-Some-clause-set : goal.returns-in-Some-clause-set
 returns-in-Some-clause-set c =
-    let folder = c.args.folder.now.files in
-    let base = c.args.base.now in
-    let extras : List (List ℕ) = map string_bytes c.args.extras.now in
-    let there : has folder base ≡ true = sym c.present.ensures.variant ∙ sym c.in_ok-base.ensures.variant in
-    let first : position (λ word. not (has folder word)) extras ≡ Some c.in-Some.place =
-    position-map (λ word. not (has folder word)) string_bytes c.args.extras.now ∙ sym c.first_absent.ensures.place ∙ c.in-Some.is in
-    inr (extra_refused folder base extras there c.in-Some.place first)
+    let at = goal.at.returns-in-Some-clause-set c in
+    inr (extra_refused c.args.folder.now.files c.args.base.now (map string_bytes c.args.extras.now) (there at.After-first_absent) c.in-Some.place (first at.In-Some))
 
 pub returns-in-Some-clause-early : goal.returns-in-Some-clause-early
 returns-in-Some-clause-early c fault early =
-    let folder = c.args.folder.now.files in
-    let base = c.args.base.now in
-    let extras : List (List ℕ) = map string_bytes c.args.extras.now in
-    let there : has folder base ≡ true = sym c.present.ensures.variant ∙ sym c.in_ok-base.ensures.variant in
-    let first : position (λ word. not (has folder word)) extras ≡ Some c.in-Some.place =
-    position-map (λ word. not (has folder word)) string_bytes c.args.extras.now ∙ sym c.first_absent.ensures.place ∙ c.in-Some.is in
-    answered_so _ _ (NoSuchFile (c.in-Some.place + 1)) fault refl (extra_first folder base extras there c.in-Some.place first) early
+    let at = goal.at.returns-in-Some-clause-early c in
+    answered_so _ _ (NoSuchFile (c.in-Some.place + 1)) fault refl
+    (extra_first c.args.folder.now.files c.args.base.now (map string_bytes c.args.extras.now) (there at.After-first_absent) c.in-Some.place (first at.In-Some)) early
 
 pub returns-in_err-extras-clause-set : goal.returns-in_err-extras-clause-set
 returns-in_err-extras-clause-set c =
     let folder = c.args.folder.now.files in
     let base = c.args.base.now in
-    let extras : List (List ℕ) = map string_bytes c.args.extras.now in
+    let extras = map string_bytes c.args.extras.now in
     let fault = c.in_err-extras.field-0.0 in
-    let there : has folder base ≡ true = sym c.present.ensures.variant ∙ sym c.in_ok-base.ensures.variant in
+    let here = there (goal.at.returns-in_err-extras-clause-set c).After-first_absent in
     passed_on _ _ _ fault (err_from_is_err_and c.from_residual-in_err-extras.result c.from_residual-in_err-extras.ensures.1) (
     elim c.in_err-extras.ensures as (λ _. (fault ≡ Memory) ⊎ (set_in folder base extras ≡ Err fault)) [
       | inl memory ↦ inl memory
-      | inr refused ↦ inr (extra_absent folder base extras there fault refused)
+      | inr refused ↦ inr (extra_absent folder base extras here fault refused)
     ])
 
 pub returns-in_err-set-clause-set : goal.returns-in_err-set-clause-set
 returns-in_err-set-clause-set c =
-    let folder = c.args.folder.now.files in
-    let base = c.args.base.now in
-    let extras : List (List ℕ) = map string_bytes c.args.extras.now in
+    let at = goal.at.returns-in_err-set-clause-set c in
     let fault = c.in_err-set.field-0.0 in
-    let there : has folder base ≡ true = sym c.present.ensures.variant ∙ sym c.in_ok-base.ensures.variant in
-    let name : c.in_ok-base.base ≡ base = search rules in
     passed_on _ _ _ fault (err_from_is_err_and c.from_residual-in_err-set.result c.from_residual-in_err-set.ensures.1) (
-    elim c.in_err-set.ensures.refused as (λ _. (fault ≡ Memory) ⊎ (set_in folder base extras ≡ Err fault)) [
+    elim c.in_err-set.ensures.refused as (λ _. (fault ≡ Memory) ⊎ (set_in c.args.folder.now.files c.args.base.now (map string_bytes c.args.extras.now) ≡ Err fault)) [
       | inl memory ↦ inl memory
-      | inr refused ↦ inr ((all_present folder base extras there _ c.in_ok-extras.ensures).0 ∙ ap (set_of folder) (sym name) ∙ refused)
+      | inr refused ↦ inr (of_base at.After-set_of (there at.After-first_absent) ∙ refused)
     ])
 
 pub returns-clause-set : goal.returns-clause-set
 returns-clause-set c =
-    let folder = c.args.folder.now.files in
-    let base = c.args.base.now in
-    let extras : List (List ℕ) = map string_bytes c.args.extras.now in
-    let there : has folder base ≡ true = sym c.present.ensures.variant ∙ sym c.in_ok-base.ensures.variant in
-    let name : c.in_ok-base.base ≡ base = search rules in
-    (all_present folder base extras there _ c.in_ok-extras.ensures).0 ∙ ap (set_of folder) (sym name) ∙ c.in_ok-set.ensures.read
+    let at = goal.at.returns-clause-set c in
+    of_base at.After-set_of (there at.After-first_absent) ∙ c.in_ok-set.ensures.read
 
 pub returns-in_err-extras-clause-early : goal.returns-in_err-extras-clause-early
 returns-in_err-extras-clause-early c fault early =
-    let folder = c.args.folder.now.files in
-    let base = c.args.base.now in
-    let extras : List (List ℕ) = map string_bytes c.args.extras.now in
-    let there : has folder base ≡ true = sym c.present.ensures.variant ∙ sym c.in_ok-base.ensures.variant in
-    let none : position (λ word. not (has folder word)) extras ≡ None =
-    position-map (λ word. not (has folder word)) string_bytes c.args.extras.now ∙ sym c.first_absent.ensures.place ∙ c.in_default.is in
-    absurd (never_found _ fault (none_absent folder base extras there none) early)
+    let at = goal.at.returns-in_err-extras-clause-early c in
+    absurd (never_found _ fault (none at.After-present_extras (there at.After-first_absent)) early)
 
 pub returns-in_err-set-clause-early : goal.returns-in_err-set-clause-early
 returns-in_err-set-clause-early c fault early =
-    let folder = c.args.folder.now.files in
-    let base = c.args.base.now in
-    let extras : List (List ℕ) = map string_bytes c.args.extras.now in
-    let there : has folder base ≡ true = sym c.present.ensures.variant ∙ sym c.in_ok-base.ensures.variant in
-    let none : position (λ word. not (has folder word)) extras ≡ None =
-    position-map (λ word. not (has folder word)) string_bytes c.args.extras.now ∙ sym c.first_absent.ensures.place ∙ c.in_default.is in
-    absurd (never_found _ fault (none_absent folder base extras there none) early)
+    let at = goal.at.returns-in_err-set-clause-early c in
+    absurd (never_found _ fault (none at.After-present_extras (there at.After-first_absent)) early)
 
 pub returns-clause-early : goal.returns-clause-early
 returns-clause-early c fault early =
-    let folder = c.args.folder.now.files in
-    let base = c.args.base.now in
-    let extras : List (List ℕ) = map string_bytes c.args.extras.now in
-    let there : has folder base ≡ true = sym c.present.ensures.variant ∙ sym c.in_ok-base.ensures.variant in
-    let none : position (λ word. not (has folder word)) extras ≡ None =
-    position-map (λ word. not (has folder word)) string_bytes c.args.extras.now ∙ sym c.first_absent.ensures.place ∙ c.in_default.is in
-    absurd (never_found _ fault (none_absent folder base extras there none) early)
+    let at = goal.at.returns-clause-early c in
+    absurd (never_found _ fault (none at.After-present_extras (there at.After-first_absent)) early)

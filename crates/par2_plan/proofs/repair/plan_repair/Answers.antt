@@ -14,6 +14,7 @@ use Rattle.par2_restore.specs.Restoring.{IsAsDescribed}
 use Rattle.par2_plan.specs.Repairing.{WritesAsDescribed, IsWholeWhereMatched, repair_by}
 use Rattle.par2_plan.proofs.Passing.{refused_by, joined, err_passed, ok_no_err}
 use Rattle.par2_plan.proofs.Planned.{early_repair, repair_unread, whole_if_matched, repair_refused, repair_changes, repair_leads, same_set}
+use Rattle.par2_plan.proofs.repair.plan_repair.Goals.{After-repair_of}
 use Rattle.par2_plan.proofs.repair.plan_repair.Goals as goal
 
 pub returns-in_err-reading-clause-early : goal.returns-in_err-reading-clause-early
@@ -49,25 +50,21 @@ repair_of-requires c =
     subst (λ words. IsWholeWhereMatched folder set (candidates folder set words)) (sym (c.deref.ensures.value ∙ c.in_ok-reading.ensures.extras))
     (whole_if_matched folder c.args.base.now extras c.args.purge set c.in_ok-reading.ensures.set)
 
+-- it is refused as a repair of the set that was read
+as_of_set : (c : After-repair_of) → refusal c.args.folder.now.files (Repair c.args.base.now (map string_bytes c.args.extras.now) c.args.purge) ≡ repair_refusal c.args.folder.now.files c.in_ok-reading.reading.set (candidates c.args.folder.now.files c.in_ok-reading.reading.set c.deref.result.now)
+as_of_set c =
+    let folder = c.args.folder.now.files in
+    let set = c.in_ok-reading.reading.set in
+    repair_refused folder c.args.base.now (map string_bytes c.args.extras.now) c.args.purge set c.in_ok-reading.ensures.set
+    ∙ ap (λ words. repair_refusal folder set (candidates folder set words)) (sym (c.deref.ensures.value ∙ c.in_ok-reading.ensures.extras))
+
 pub returns-clause-refused : goal.returns-clause-refused
 returns-clause-refused c =
-    let folder = c.args.folder.now.files in
-    let extras : List (List ℕ) = map string_bytes c.args.extras.now in
-    let set = c.in_ok-reading.reading.set in
-    let reason : refusal folder (Repair c.args.base.now extras c.args.purge) ≡ repair_refusal folder set (candidates folder set c.deref.result.now) =
-    repair_refused folder c.args.base.now extras c.args.purge set c.in_ok-reading.ensures.set
-    ∙ ap (λ words. repair_refusal folder set (candidates folder set words)) (sym (c.deref.ensures.value ∙ c.in_ok-reading.ensures.extras)) in
-    subst (λ (o : Option Fault). IfErr c.repair_of.result (λ y. (y ≡ Memory) ⊎ (o ≡ Some y))) (sym reason) c.repair_of.ensures.refused
+    subst (λ (o : Option Fault). IfErr c.repair_of.result (λ y. (y ≡ Memory) ⊎ (o ≡ Some y))) (sym (as_of_set (goal.at.returns-clause-refused c).After-repair_of)) c.repair_of.ensures.refused
 
 pub returns-clause-accepted : goal.returns-clause-accepted
 returns-clause-accepted c =
-    let folder = c.args.folder.now.files in
-    let extras : List (List ℕ) = map string_bytes c.args.extras.now in
-    let set = c.in_ok-reading.reading.set in
-    let reason : refusal folder (Repair c.args.base.now extras c.args.purge) ≡ repair_refusal folder set (candidates folder set c.deref.result.now) =
-    repair_refused folder c.args.base.now extras c.args.purge set c.in_ok-reading.ensures.set
-    ∙ ap (λ words. repair_refusal folder set (candidates folder set words)) (sym (c.deref.ensures.value ∙ c.in_ok-reading.ensures.extras)) in
-    subst (λ (o : Option Fault). IfOk c.repair_of.result (λ _. o ≡ None)) (sym reason) c.repair_of.ensures.accepted
+    subst (λ (o : Option Fault). IfOk c.repair_of.result (λ _. o ≡ None)) (sym (as_of_set (goal.at.returns-clause-accepted c).After-repair_of)) c.repair_of.ensures.accepted
 
 pub returns-clause-changes : goal.returns-clause-changes
 returns-clause-changes c =
