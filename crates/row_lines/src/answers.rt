@@ -2,14 +2,15 @@
 //! holds it: each answer that differs from the one to the journal before, and the digest of all files and journals that
 //! are there afterwards. All of this was computed by another program from the formats and the rules alone.
 
-use crate::damage::{damage_of, each_damaged, each_resealed};
+use crate::calls::{journal_of, names_of, put_journal, read_file};
+use crate::damage::{Seal, damage_of, with_damage};
 use crate::files::files_of;
+use crate::openings::{Answer, digest_of, opened};
 use crate::returns::fingerprint_of;
 use crate::rows::{Answer as Run, answer_of};
 use anyhow::Result;
 use md5::{Digest, Md5};
-use par2_folder::{FolderStore, MemoryStore, Name, read_folder};
-use par2_journal::{Opened, Session};
+use par2_folder::{MemoryStore, Name};
 use std::alloc::{AllocError, Global};
 
 // What is done with a store: its folder is opened, or the words of a line are run on it.
@@ -30,82 +31,23 @@ const SHORT: usize = 1024;
 // More commands than a history below has.
 const MANY: u64 = 200;
 
-// What came of it.
-#[derive(Drop)]
-struct Answer {
-    text: String,
-    // The digest of all that is there afterwards.
-    digest: [u8; 16],
-}
-
-fn digest_of(fingerprint: &[u8; 16], journal: &[u8]) -> [u8; 16] {
-    let mut hasher = Md5::new();
-    hasher.update(fingerprint);
-    hasher.update(journal);
-    hasher.finalize()
-}
-
-fn print_by(alloc: Global, session: &Session) -> Result<[u8; 16], AllocError> {
-    session.folder().fingerprint(alloc)
-}
-
-fn journal_by(alloc: Global, session: &Session) -> Result<Vec<u8>, AllocError> {
-    session.encode(alloc)
-}
-
-// The digest of a session's folder and its journal.
-fn digest_by(alloc: Global, session: &Session) -> Result<[u8; 16], AllocError> {
-    let fingerprint = print_by(alloc, session)?;
-    Ok(digest_of(&fingerprint, &journal_by(alloc, session)?))
-}
-
-// Of a session, how far it goes back and forth.
-fn answer_by(alloc: Global, session: &Session, opened: &str) -> Result<Answer> {
-    let (undos, redos) = (session.undo_depth(), session.redo_depth());
-    Ok(Answer {
-        text: format!(in alloc; "{opened}, undos {undos}, redos {redos}")?,
-        digest: digest_by(alloc, session)?,
-    })
-}
-
-// Opens the folder of a store by a journal.
-fn opened(alloc: Global, store: &mut MemoryStore, journal: &[u8]) -> Result<Answer> {
-    match Session::open(alloc, read_folder(alloc, store)?, journal) {
-        Ok(Opened::Settled(session)) => answer_by(alloc, &session, "settled"),
-        Ok(Opened::Halfway(halfway)) => {
-            let way_back = format!(in alloc; "halfway, {} changes back", halfway.changes().len())?;
-            answer_by(alloc, &halfway.finish(), &way_back)
-        }
-        Err((fault, folder)) => Ok(Answer {
-            text: format!(in alloc; "{fault:?}")?,
-            digest: digest_of(&folder.fingerprint(alloc)?, journal),
-        }),
-    }
-}
-
-// Adds the name of a file with its length.
-fn append_file(
-    alloc: Global,
-    store: &mut MemoryStore,
-    told: &mut String,
-    name: &Name,
-) -> Result<()> {
-    let length = store.read(alloc, name)?.len();
-    let file = format!(in alloc; " {}:{length}", name.as_str())?;
-    Ok(told.push_str(file.as_str())?)
+// The name of a file with its length.
+fn file_told(alloc: Global, store: &mut MemoryStore, name: &Name) -> Result<String> {
+    let length = read_file(alloc, store, name)?.len();
+    Ok(format!(in alloc; " {}:{length}", name.as_str())?)
 }
 
 fn few_told(alloc: Global, store: &mut MemoryStore, names: &[Name]) -> Result<String> {
     let mut told = String::from_str(alloc, "files")?;
     for name in names {
-        append_file(alloc, store, &mut told, name)?;
+        told.push_str(&file_told(alloc, store, name)?)?;
     }
     Ok(told)
 }
 
 // The names of the files with their lengths, where they are few.
 fn files_told(alloc: Global, store: &mut MemoryStore) -> Result<String> {
-    let names = store.names(alloc)?;
+    let names = names_of(alloc, store)?;
     if names.len() > FEW {
         return Ok(format!(in alloc; "{} files", names.len())?);
     }
@@ -120,8 +62,8 @@ fn files_since(alloc: Global, store: &mut MemoryStore, before: &[u8; 16]) -> Res
     files_told(alloc, store)
 }
 
-fn journal_of(alloc: Global, store: &mut MemoryStore) -> Result<Vec<u8>> {
-    match store.read_journal(alloc)? {
+fn journal_bytes(alloc: Global, store: &mut MemoryStore) -> Result<Vec<u8>> {
+    match journal_of(alloc, store)? {
         Some(text) => Ok(text),
         None => Ok(Vec::new(alloc)),
     }
@@ -149,7 +91,7 @@ fn held(
     told: &str,
     files: &str,
 ) -> Result<Answer> {
-    let after = journal_of(alloc, store)?;
+    let after = journal_bytes(alloc, store)?;
     let same = after.as_slice() == journal;
     Ok(Answer {
         text: format!(in alloc; "{told}, {files}, journal as before: {same}")?,
@@ -168,7 +110,7 @@ fn ran(alloc: Global, store: &mut MemoryStore, journal: &[u8], line: &str) -> Re
 // What comes of one way on a copy of the store with this journal.
 fn answer_to(alloc: Global, store: &mut MemoryStore, journal: &[u8], way: &str) -> Result<Answer> {
     let mut copy = files_of(alloc, store)?;
-    copy.put_journal(journal)?;
+    put_journal(&mut copy, journal)?;
     if way == "open" {
         return opened(alloc, &mut copy, journal);
     }
@@ -214,31 +156,17 @@ pub fn attack_by(
     Ok(())
 }
 
-/// The same for each of the journals with a damage at each place.
-pub fn attack_by_damaged(
+/// The same for each of the journals with a damage at each place, with their digests as they come or true ones.
+pub fn attack_by_damage(
     rt: &HostRuntime,
     store: &mut MemoryStore,
     journals: &[Vec<u8>],
     rest: &str,
+    seal: Seal,
 ) -> Result<()> {
     let (damage, title) = rest.split_once(' ').unwrap_or((rest, ""));
     for journal in journals {
-        let texts = each_damaged(rt.alloc(), journal, damage_of(damage))?;
-        attack_by(rt, store, &texts, title)?;
-    }
-    Ok(())
-}
-
-/// The same with true digests.
-pub fn attack_by_resealed(
-    rt: &HostRuntime,
-    store: &mut MemoryStore,
-    journals: &[Vec<u8>],
-    rest: &str,
-) -> Result<()> {
-    let (damage, title) = rest.split_once(' ').unwrap_or((rest, ""));
-    for journal in journals {
-        let texts = each_resealed(rt.alloc(), journal, damage_of(damage))?;
+        let texts = with_damage(rt.alloc(), journal, damage_of(damage), seal)?;
         attack_by(rt, store, &texts, title)?;
     }
     Ok(())
@@ -250,10 +178,8 @@ fn is_refused(rt: &HostRuntime, store: &mut MemoryStore, line: &str, count: u64)
     if run.status == 0 {
         return Ok(false);
     }
-    println!(rt;
-        "  {line}: {count}, then {}",
-        run_told(rt.alloc(), &run)?.as_str()
-    )?;
+    let told = run_told(rt.alloc(), &run)?;
+    println!(rt; "  {line}: {count}, then {told}")?;
     Ok(true)
 }
 

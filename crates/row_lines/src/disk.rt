@@ -1,20 +1,21 @@
 //! Calls of a store in the folder where the program runs, and what comes of them. These show what a user meets whom the
 //! modes of files bind, so not the superuser.
 
+use crate::calls::{names_of, put_file, put_journal, read_file, remove_file, rename_file};
 use crate::files::name_of;
 use crate::index_lines::show_packets;
-use crate::rows::answer_of;
+use crate::rows::{Answer, answer_of, show_journal};
 use anyhow::{Error, Result};
 use hex::encode;
 use md5::{Digest, Md5};
-use par2_folder::{DiskStore, FolderStore, Name, ReadFault};
+use par2_folder::{DiskStore, Name, ReadFault, StoreFault};
 use std::fs::Permissions;
 use std::os::unix::fs::{PermissionsExt, symlink};
 use std::{env, fs};
 
 // What a read of a file answers.
 fn answer_to_read(rt: &HostRuntime, name: &Name) -> Result<Vec<u8>, ReadFault> {
-    DiskStore::new(rt).read(rt.alloc(), name)
+    read_file(rt.alloc(), &mut DiskStore::new(rt), name)
 }
 
 // The bytes of a file.
@@ -30,8 +31,13 @@ fn show_length(rt: &HostRuntime, name: &Name) -> Result<()> {
     Ok(())
 }
 
+// What a listing of the files answers.
+fn answer_to_names(rt: &HostRuntime) -> Result<Vec<Name>, ReadFault> {
+    names_of(rt.alloc(), &mut DiskStore::new(rt))
+}
+
 fn show_files(rt: &HostRuntime) -> Result<()> {
-    match DiskStore::new(rt).names(rt.alloc()) {
+    match answer_to_names(rt) {
         Ok(names) => {
             for name in &names {
                 show_length(rt, name)?;
@@ -45,36 +51,50 @@ fn show_files(rt: &HostRuntime) -> Result<()> {
 // The files with their lengths, and the journal's length.
 fn show(rt: &HostRuntime) -> Result<()> {
     show_files(rt)?;
-    match DiskStore::new(rt).read_journal(rt.alloc()) {
-        Ok(Some(bytes)) => println!(rt; "  journal: {}", bytes.len())?,
-        Ok(None) => println!(rt; "  no journal")?,
-        Err(fault) => println!(rt; "  journal: {fault:?}")?,
-    }
+    show_journal(rt, &mut DiskStore::new(rt))
+}
+
+// What a write of a file answers.
+fn answer_to_put(rt: &HostRuntime, name: &Name, bytes: &[u8]) -> Result<(), StoreFault> {
+    put_file(&mut DiskStore::new(rt), name, bytes)
+}
+
+// What a change of a name answers.
+fn answer_to_rename(rt: &HostRuntime, from: &Name, to: &Name) -> Result<(), StoreFault> {
+    rename_file(&mut DiskStore::new(rt), from, to)
+}
+
+// What a removal of a file answers.
+fn answer_to_remove(rt: &HostRuntime, name: &Name) -> Result<(), StoreFault> {
+    remove_file(&mut DiskStore::new(rt), name)
+}
+
+// What a write of a journal answers.
+fn answer_to_journal(rt: &HostRuntime, bytes: &[u8]) -> Result<(), StoreFault> {
+    put_journal(&mut DiskStore::new(rt), bytes)
+}
+
+fn show_answer(rt: &HostRuntime, call: &str, answer: Result<(), StoreFault>) -> Result<()> {
+    println!(rt; "{call}: {answer:?}")?;
     Ok(())
 }
 
 fn put(rt: &HostRuntime, text: &str, bytes: &[u8]) -> Result<()> {
-    let answer = DiskStore::new(rt).put(&name_of(text)?, bytes);
-    println!(rt; "put {text}: {answer:?}")?;
-    Ok(())
+    let answer = answer_to_put(rt, &name_of(text)?, bytes);
+    print!(rt; "put ")?;
+    show_answer(rt, text, answer)
 }
 
 fn rename(rt: &HostRuntime, from: &str, to: &str) -> Result<()> {
-    let answer = DiskStore::new(rt).rename(&name_of(from)?, &name_of(to)?);
-    println!(rt; "rename {from} to {to}: {answer:?}")?;
-    Ok(())
+    let answer = answer_to_rename(rt, &name_of(from)?, &name_of(to)?);
+    print!(rt; "rename {from} to ")?;
+    show_answer(rt, to, answer)
 }
 
 fn remove(rt: &HostRuntime, text: &str) -> Result<()> {
-    let answer = DiskStore::new(rt).remove(&name_of(text)?);
-    println!(rt; "remove {text}: {answer:?}")?;
-    Ok(())
-}
-
-fn put_journal(rt: &HostRuntime, bytes: &[u8]) -> Result<()> {
-    let answer = DiskStore::new(rt).put_journal(bytes);
-    println!(rt; "put journal: {answer:?}")?;
-    Ok(())
+    let answer = answer_to_remove(rt, &name_of(text)?);
+    print!(rt; "remove ")?;
+    show_answer(rt, text, answer)
 }
 
 fn read(rt: &HostRuntime, text: &str) -> Result<()> {
@@ -85,9 +105,14 @@ fn read(rt: &HostRuntime, text: &str) -> Result<()> {
     Ok(())
 }
 
+// Runs the words of a line.
+fn answer_to_line(rt: &HostRuntime, line: &str) -> Result<Answer> {
+    answer_of(rt.alloc(), &mut DiskStore::new(rt), line)
+}
+
 // Runs the words of a line, and prints what the run wrote and the status.
 fn run_words(rt: &HostRuntime, line: &str) -> Result<()> {
-    let answer = answer_of(rt.alloc(), &mut DiskStore::new(rt), line)?;
+    let answer = answer_to_line(rt, line)?;
     print!(rt; "{}", answer.text(rt.alloc())?.as_str())?;
     println!(rt; "status: {}", answer.status)?;
     Ok(())
@@ -102,7 +127,7 @@ fn show_digest(rt: &HostRuntime, name: &Name) -> Result<()> {
 }
 
 fn show_digests(rt: &HostRuntime) -> Result<()> {
-    for name in &DiskStore::new(rt).names(rt.alloc())? {
+    for name in &answer_to_names(rt)? {
         show_digest(rt, name)?;
     }
     Ok(())
@@ -135,7 +160,7 @@ pub fn call(rt: &HostRuntime, line: &str) -> Result<()> {
         "put" => put(rt, first, second.as_bytes()),
         "rename" => rename(rt, first, second),
         "remove" => remove(rt, first),
-        "put-journal" => put_journal(rt, rest.as_bytes()),
+        "put-journal" => show_answer(rt, "put journal", answer_to_journal(rt, rest.as_bytes())),
         "read" => read(rt, first),
         "run" => run_words(rt, rest),
         "digests" => show_digests(rt),

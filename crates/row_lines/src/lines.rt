@@ -1,7 +1,8 @@
 //! The lines of the input: a word, a space and what the word is about.
 
-use crate::answers::{attack_by, attack_by_damaged, attack_by_resealed, run_on};
+use crate::answers::{attack_by, attack_by_damage, run_on};
 use crate::attacks::{attack, sweep};
+use crate::damage::Seal;
 use crate::disk;
 use crate::files::change;
 use crate::forging::{Forge, forge_line};
@@ -43,8 +44,8 @@ fn forged(
         "attack" => attack(rt, store, rest),
         "sweep" => sweep(rt, store, rest),
         "attack-by" => attack_by(rt, store, &forge.journals, rest),
-        "attack-by-damaged" => attack_by_damaged(rt, store, &forge.journals, rest),
-        "attack-by-resealed" => attack_by_resealed(rt, store, &forge.journals, rest),
+        "attack-by-damaged" => attack_by_damage(rt, store, &forge.journals, rest, Seal::Kept),
+        "attack-by-resealed" => attack_by_damage(rt, store, &forge.journals, rest, Seal::Renewed),
         "run-on" => run_on(rt, store, rest),
         _ => change(rt.alloc(), store, word, rest),
     }
@@ -70,8 +71,8 @@ fn fail(
     }
 }
 
-/// Carries out a line. An empty one, and one that begins with `#`, is read over.
-pub fn carry_out(
+// Carries out a line. An empty one, and one that begins with `#`, is read over.
+fn carry_out(
     rt: &HostRuntime,
     store: &mut MemoryStore,
     forge: &mut Forge,
@@ -93,4 +94,14 @@ pub fn carry_out(
         "set" => show_set(rt, store),
         _ => fail(rt, store, forge, word, rest),
     }
+}
+
+/// Carries out the lines of the input, on a store in memory that is empty at first.
+pub fn carry_out_all(rt: &HostRuntime) -> Result<()> {
+    let mut store = MemoryStore::new(rt.alloc());
+    let mut forge = Forge::new(rt.alloc());
+    for line in rt.lines(rt.alloc()) {
+        carry_out(rt, &mut store, &mut forge, line?.as_str())?;
+    }
+    Ok(())
 }

@@ -1,11 +1,12 @@
 //! Forged texts: files of packets, and journals, with true digests as an attacker would write them.
 
+use crate::calls::put_journal;
 use crate::files::{bytes_of, put};
 use crate::packets::{append_headers, append_lies, append_packet};
 use crate::terms::bytes_told;
 use anyhow::{Error, Result};
 use md5::{Digest, Md5};
-use par2_folder::{FolderStore, MemoryStore};
+use par2_folder::MemoryStore;
 use std::alloc::{AllocError, Global};
 
 /// What was forged so far.
@@ -34,7 +35,7 @@ impl Forge {
 }
 
 /// Adds the digest of all that is there.
-pub fn seal(text: &mut Vec<u8>) -> Result<(), AllocError> {
+pub fn append_digest(text: &mut Vec<u8>) -> Result<(), AllocError> {
     let digest = Md5::digest(text.as_slice());
     text.extend_from_slice(&digest)
 }
@@ -102,7 +103,7 @@ fn change_front(alloc: Global, forge: &mut Forge, terms: &str) -> Result<()> {
 fn add_journal(alloc: Global, forge: &mut Forge, terms: &str) -> Result<()> {
     let mut text = Vec::from_slice(alloc, &forge.front)?;
     text.extend_from_slice(&bytes_told(alloc, terms)?)?;
-    seal(&mut text)?;
+    append_digest(&mut text)?;
     Ok(forge.journals.push(text)?)
 }
 
@@ -120,7 +121,7 @@ fn forget(alloc: Global, forge: &mut Forge) -> Result<()> {
 // The journals are put in place of the store's, so that the last one stays.
 fn put_journals(forge: &Forge, store: &mut MemoryStore) -> Result<()> {
     for journal in &forge.journals {
-        store.put_journal(journal)?;
+        put_journal(store, journal)?;
     }
     Ok(())
 }

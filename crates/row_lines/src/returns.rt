@@ -1,9 +1,10 @@
 //! Runs that are undone and redone, runs that are refused and runs that keep the journal, with the bytes of the files.
 
+use crate::calls::{folder_of, journal_of, names_of, print_of, put_journal, read_file};
 use crate::files::files_of;
 use crate::rows::{row, told};
 use anyhow::Result;
-use par2_folder::{FolderStore, MemoryStore, Name, read_folder};
+use par2_folder::{MemoryStore, Name};
 use std::alloc::Global;
 
 // Files of more bytes are shown by their length alone.
@@ -11,15 +12,14 @@ const SHORT: usize = 32;
 
 /// The fingerprint of a store's folder.
 pub fn fingerprint_of(alloc: Global, store: &mut MemoryStore) -> Result<[u8; 16]> {
-    let folder = read_folder(alloc, store)?;
-    Ok(folder.fingerprint(alloc)?)
+    Ok(print_of(alloc, &folder_of(alloc, store)?)?)
 }
 
 /// A store with the same files and the same journal.
 pub fn copy_of(alloc: Global, store: &mut MemoryStore) -> Result<MemoryStore> {
     let mut copy = files_of(alloc, store)?;
-    if let Some(journal) = store.read_journal(alloc)? {
-        copy.put_journal(&journal)?;
+    if let Some(journal) = journal_of(alloc, store)? {
+        put_journal(&mut copy, &journal)?;
     }
     Ok(copy)
 }
@@ -38,8 +38,8 @@ fn show_file(rt: &HostRuntime, name: &Name, bytes: &[u8]) -> Result<()> {
 /// Runs the words of a line on a store, prints what comes of it and the files.
 pub fn shown(rt: &HostRuntime, store: &mut MemoryStore, line: &str) -> Result<()> {
     told(rt, store, line)?;
-    for name in &store.names(rt.alloc())? {
-        show_file(rt, name, &store.read(rt.alloc(), name)?)?;
+    for name in &names_of(rt.alloc(), store)? {
+        show_file(rt, name, &read_file(rt.alloc(), store, name)?)?;
     }
     Ok(())
 }
@@ -69,14 +69,14 @@ pub fn there_and_back(rt: &HostRuntime, store: &mut MemoryStore, line: &str) -> 
 
 // Says whether the journal has the bytes that it had.
 fn show_kept(rt: &HostRuntime, store: &mut MemoryStore, before: &Option<Vec<u8>>) -> Result<()> {
-    let is_kept = &store.read_journal(rt.alloc())? == before;
+    let is_kept = &journal_of(rt.alloc(), store)? == before;
     println!(rt; "  journal as before: {is_kept}")?;
     Ok(())
 }
 
 /// Runs the words of a line, prints what comes of it, and says whether the journal is as before.
 pub fn kept(rt: &HostRuntime, store: &mut MemoryStore, line: &str) -> Result<()> {
-    let before = store.read_journal(rt.alloc())?;
+    let before = journal_of(rt.alloc(), store)?;
     told(rt, store, line)?;
     show_kept(rt, store, &before)
 }
@@ -84,14 +84,14 @@ pub fn kept(rt: &HostRuntime, store: &mut MemoryStore, line: &str) -> Result<()>
 /// Runs the words of a line, prints what comes of it and what the store holds then, and says whether the journal is as
 /// before.
 pub fn row_kept(rt: &HostRuntime, store: &mut MemoryStore, line: &str) -> Result<()> {
-    let before = store.read_journal(rt.alloc())?;
+    let before = journal_of(rt.alloc(), store)?;
     row(rt, store, line)?;
     show_kept(rt, store, &before)
 }
 
 /// Runs the words of a line that is refused, and says whether files and journal are as before.
 pub fn refused(rt: &HostRuntime, store: &mut MemoryStore, line: &str) -> Result<()> {
-    let journal = store.read_journal(rt.alloc())?;
+    let journal = journal_of(rt.alloc(), store)?;
     let before = fingerprint_of(rt.alloc(), store)?;
     leads_to(rt, store, line, before, "before")?;
     show_kept(rt, store, &journal)

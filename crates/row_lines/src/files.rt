@@ -1,7 +1,9 @@
 //! Changes of the files and the journal of a store, as another hand makes them.
 
+use crate::calls;
+use crate::calls::{names_of, put_file, read_file, remove_file, rename_file};
 use anyhow::{Error, Result};
-use par2_folder::{FolderStore, MemoryStore, Name};
+use par2_folder::{MemoryStore, Name};
 use std::alloc::Global;
 
 /// The name of a text.
@@ -14,31 +16,42 @@ pub fn name_of(text: &str) -> Result<Name> {
 
 /// Writes a file.
 pub fn put(store: &mut MemoryStore, text: &str, bytes: &[u8]) -> Result<()> {
-    Ok(store.put(&name_of(text)?, bytes)?)
+    Ok(put_file(store, &name_of(text)?, bytes)?)
 }
 
 /// The bytes of a file.
 pub fn bytes_of(alloc: Global, store: &mut MemoryStore, text: &str) -> Result<Vec<u8>> {
-    Ok(store.read(alloc, &name_of(text)?)?)
+    Ok(read_file(alloc, store, &name_of(text)?)?)
+}
+
+// Writes a file of a store into another one.
+fn copy_file(
+    alloc: Global,
+    store: &mut MemoryStore,
+    copy: &mut MemoryStore,
+    name: &Name,
+) -> Result<()> {
+    let bytes = read_file(alloc, store, name)?;
+    Ok(put_file(copy, name, &bytes)?)
 }
 
 /// A store with the same files.
 pub fn files_of(alloc: Global, store: &mut MemoryStore) -> Result<MemoryStore> {
     let mut copy = MemoryStore::new(alloc);
-    for name in &store.names(alloc)? {
-        copy.put(name, &store.read(alloc, name)?)?;
+    for name in &names_of(alloc, store)? {
+        copy_file(alloc, store, &mut copy, name)?;
     }
     Ok(copy)
 }
 
 // Takes a file away.
 fn remove(store: &mut MemoryStore, text: &str) -> Result<()> {
-    Ok(store.remove(&name_of(text)?)?)
+    Ok(remove_file(store, &name_of(text)?)?)
 }
 
 // Gives a file another name.
 fn rename(store: &mut MemoryStore, from: &str, to: &str) -> Result<()> {
-    Ok(store.rename(&name_of(from)?, &name_of(to)?)?)
+    Ok(rename_file(store, &name_of(from)?, &name_of(to)?)?)
 }
 
 // Gives a file the bytes of another one.
@@ -56,7 +69,8 @@ fn append(alloc: Global, store: &mut MemoryStore, from: &str, to: &str) -> Resul
 
 // Puts the journal of these digits.
 fn put_journal(alloc: Global, store: &mut MemoryStore, digits: &str) -> Result<()> {
-    Ok(store.put_journal(&hex::decode(alloc, digits)?)?)
+    let journal = hex::decode(alloc, digits)?;
+    Ok(calls::put_journal(store, &journal)?)
 }
 
 // Takes all files and the journal away.

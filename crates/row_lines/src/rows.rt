@@ -1,8 +1,9 @@
 //! Runs on a store, and what comes of them.
 
+use crate::calls::{journal_of, names_of, read_file};
 use crate::files::bytes_of;
 use anyhow::Result;
-use par2_folder::{FolderStore, MemoryStore};
+use par2_folder::{FolderStore, MemoryStore, Name};
 use par2_tool::{Printer, run};
 use std::alloc::{AllocError, Global};
 
@@ -32,6 +33,16 @@ pub fn parted(alloc: Global, line: &str) -> Result<Vec<String>, AllocError> {
     Ok(words)
 }
 
+// A printer on bytes.
+fn printer(alloc: Global) -> Printer<Vec<u8>> {
+    Printer::new(Vec::new(alloc))
+}
+
+// What a printer wrote.
+fn bytes_on(printer: Printer<Vec<u8>>) -> Vec<u8> {
+    printer.into_inner()
+}
+
 // The status of a run.
 fn status_of<S: FolderStore>(
     alloc: Global,
@@ -43,17 +54,22 @@ fn status_of<S: FolderStore>(
     run(alloc, words, store, out, err)
 }
 
+// Runs words on a store.
+fn answer_to<S: FolderStore>(alloc: Global, store: &mut S, words: &[String]) -> Answer {
+    let mut out = printer(alloc);
+    let mut err = printer(alloc);
+    let status = status_of(alloc, words, store, &mut out, &mut err);
+    Answer {
+        status,
+        out: bytes_on(out),
+        err: bytes_on(err),
+    }
+}
+
 /// Runs the words of a line on a store.
 pub fn answer_of<S: FolderStore>(alloc: Global, store: &mut S, line: &str) -> Result<Answer> {
     let words = parted(alloc, line)?;
-    let mut out = Printer::new(Vec::new(alloc));
-    let mut err = Printer::new(Vec::new(alloc));
-    let status = status_of(alloc, &words, store, &mut out, &mut err);
-    Ok(Answer {
-        status,
-        out: out.into_inner(),
-        err: err.into_inner(),
-    })
+    Ok(answer_to(alloc, store, &words))
 }
 
 // Prints what a writer got, if anything.
@@ -81,20 +97,34 @@ pub fn told<S: FolderStore>(rt: &HostRuntime, store: &mut S, line: &str) -> Resu
     Ok(())
 }
 
+// Prints a file with its length, or why it can't be read.
+fn show_length<S: FolderStore>(rt: &HostRuntime, store: &mut S, name: &Name) -> Result<()> {
+    match read_file(rt.alloc(), store, name) {
+        Ok(bytes) => println!(rt; "  file {}: {}", name.as_str(), bytes.len())?,
+        Err(fault) => println!(rt; "  file {}: {fault:?}", name.as_str())?,
+    }
+    Ok(())
+}
+
 // Prints the files with their lengths, as far as the store answers.
 fn show_files<S: FolderStore>(rt: &HostRuntime, store: &mut S) -> Result<()> {
-    let names = match store.names(rt.alloc()) {
-        Ok(names) => names,
-        Err(fault) => {
-            println!(rt; "  names: {fault:?}")?;
-            return Ok(());
+    match names_of(rt.alloc(), store) {
+        Ok(names) => {
+            for name in &names {
+                show_length(rt, store, name)?;
+            }
         }
-    };
-    for name in &names {
-        match store.read(rt.alloc(), name) {
-            Ok(bytes) => println!(rt; "  file {}: {}", name.as_str(), bytes.len())?,
-            Err(fault) => println!(rt; "  file {}: {fault:?}", name.as_str())?,
-        }
+        Err(fault) => println!(rt; "  names: {fault:?}")?,
+    }
+    Ok(())
+}
+
+/// Prints the journal's length.
+pub fn show_journal<S: FolderStore>(rt: &HostRuntime, store: &mut S) -> Result<()> {
+    match journal_of(rt.alloc(), store) {
+        Ok(Some(bytes)) => println!(rt; "  journal: {}", bytes.len())?,
+        Ok(None) => println!(rt; "  no journal")?,
+        Err(fault) => println!(rt; "  journal: {fault:?}")?,
     }
     Ok(())
 }
@@ -102,12 +132,7 @@ fn show_files<S: FolderStore>(rt: &HostRuntime, store: &mut S) -> Result<()> {
 /// Prints the files with their lengths, and the journal's length.
 pub fn show<S: FolderStore>(rt: &HostRuntime, store: &mut S) -> Result<()> {
     show_files(rt, store)?;
-    match store.read_journal(rt.alloc()) {
-        Ok(Some(bytes)) => println!(rt; "  journal: {}", bytes.len())?,
-        Ok(None) => println!(rt; "  no journal")?,
-        Err(fault) => println!(rt; "  journal: {fault:?}")?,
-    }
-    Ok(())
+    show_journal(rt, store)
 }
 
 /// Runs the words of a line on a store, and prints what comes of it and what the store holds then.

@@ -1,6 +1,6 @@
 //! A text that is cut at each place, or has one of its bytes changed.
 
-use crate::forging::seal;
+use crate::forging::append_digest;
 use std::alloc::{AllocError, Global};
 
 // How many bytes the digest of a journal has.
@@ -42,12 +42,17 @@ pub fn damaged(
     }
 }
 
-/// The texts with the damage at each place, the last one without it.
-pub fn each_damaged(
-    alloc: Global,
-    text: &[u8],
-    damage: Damage,
-) -> Result<Vec<Vec<u8>>, AllocError> {
+/// Which digest a journal has that was damaged.
+#[derive(Clone, Copy, Drop)]
+pub enum Seal {
+    /// The one that comes of the damage.
+    Kept,
+    /// A true one.
+    Renewed,
+}
+
+// The texts with the damage at each place, the last one without it.
+fn at_each_place(alloc: Global, text: &[u8], damage: Damage) -> Result<Vec<Vec<u8>>, AllocError> {
     let mut texts = Vec::new(alloc);
     for place in 0..=text.len() {
         texts.push(damaged(alloc, text, damage, place)?)?;
@@ -55,16 +60,32 @@ pub fn each_damaged(
     Ok(texts)
 }
 
-/// The journals with the damage at each place before the digest, and a true digest.
-pub fn each_resealed(
+// What stands before the digest of a journal.
+fn body_of(journal: &[u8]) -> &[u8] {
+    let (body, _) = journal.split_at(journal.len().saturating_sub(DIGEST));
+    body
+}
+
+fn seal_each(texts: &mut [Vec<u8>]) -> Result<(), AllocError> {
+    for text in texts.iter_mut() {
+        append_digest(text)?;
+    }
+    Ok(())
+}
+
+/// The journals with the damage at each place; before the digest, where that is a true one.
+pub fn with_damage(
     alloc: Global,
     journal: &[u8],
     damage: Damage,
+    seal: Seal,
 ) -> Result<Vec<Vec<u8>>, AllocError> {
-    let (body, _) = journal.split_at(journal.len().saturating_sub(DIGEST));
-    let mut texts = each_damaged(alloc, body, damage)?;
-    for text in texts.iter_mut() {
-        seal(text)?;
+    match seal {
+        Seal::Kept => at_each_place(alloc, journal, damage),
+        Seal::Renewed => {
+            let mut texts = at_each_place(alloc, body_of(journal), damage)?;
+            seal_each(&mut texts)?;
+            Ok(texts)
+        }
     }
-    Ok(texts)
 }

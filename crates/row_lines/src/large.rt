@@ -1,10 +1,11 @@
 //! Large files and many of them, and what comes of words on them. Of what is printed the last line is shown.
 
+use crate::calls::{names_of, rename_file};
 use crate::files::{bytes_of, name_of, put};
 use crate::returns::fingerprint_of;
 use crate::rows::answer_of;
 use anyhow::{Error, Result};
-use par2_folder::{FolderStore, MemoryStore, Name};
+use par2_folder::{MemoryStore, Name};
 use std::alloc::{AllocError, Global};
 
 // So many bytes without a pattern, by xorshift.
@@ -47,12 +48,17 @@ fn is_par_file(name: &Name) -> bool {
     name.as_str().ends_with(".par2")
 }
 
+// Gives a file a name with an `x` in front.
+fn move_file(alloc: Global, store: &mut MemoryStore, name: &Name) -> Result<()> {
+    let to = format!(in alloc; "x{}", name.as_str())?;
+    Ok(rename_file(store, name, &name_of(to.as_str())?)?)
+}
+
 // Gives each file but the par files a name with an `x` in front.
 fn move_all(alloc: Global, store: &mut MemoryStore) -> Result<()> {
-    for name in &store.names(alloc)? {
+    for name in &names_of(alloc, store)? {
         if !is_par_file(name) {
-            let to = format!(in alloc; "x{}", name.as_str())?;
-            store.rename(name, &name_of(to.as_str())?)?;
+            move_file(alloc, store, name)?;
         }
     }
     Ok(())
@@ -64,7 +70,7 @@ fn with_names(alloc: Global, store: &mut MemoryStore, line: &str) -> Result<Stri
         return Ok(String::from_str(alloc, line)?);
     };
     let mut all = String::from_str(alloc, words)?;
-    for name in &store.names(alloc)? {
+    for name in &names_of(alloc, store)? {
         if !is_par_file(name) {
             all.push(' ')?;
             all.push_str(name.as_str())?;

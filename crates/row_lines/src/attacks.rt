@@ -1,12 +1,13 @@
 //! Commands on a store with a forged set, and what comes of them: what they answer, and whether they change files. A
 //! verify changes none, and what a repair or a purge changes is undone.
 
+use crate::calls::{journal_of, names_of, read_file};
 use crate::damage::{damage_of, damaged};
 use crate::files::{bytes_of, files_of, put};
 use crate::returns::fingerprint_of;
 use crate::rows::answer_of;
 use anyhow::Result;
-use par2_folder::{FolderStore, MemoryStore, Name};
+use par2_folder::{MemoryStore, Name};
 use std::alloc::Global;
 
 // Files of more bytes are shown by their length alone.
@@ -25,8 +26,8 @@ fn show_file(rt: &HostRuntime, name: &Name, bytes: &[u8]) -> Result<()> {
 
 // Prints the files.
 fn show_files(rt: &HostRuntime, store: &mut MemoryStore) -> Result<()> {
-    for name in &store.names(rt.alloc())? {
-        show_file(rt, name, &store.read(rt.alloc(), name)?)?;
+    for name in &names_of(rt.alloc(), store)? {
+        show_file(rt, name, &read_file(rt.alloc(), store, name)?)?;
     }
     Ok(())
 }
@@ -47,7 +48,7 @@ fn run_told(alloc: Global, store: &mut MemoryStore, line: &str) -> Result<String
 }
 
 fn has_journal(alloc: Global, store: &mut MemoryStore) -> Result<bool> {
-    Ok(store.read_journal(alloc)?.is_some())
+    Ok(journal_of(alloc, store)?.is_some())
 }
 
 // Prints and gives whether the folder has this fingerprint, and prints whether there is a journal.

@@ -1,0 +1,65 @@
+//! Calls of stores and folders, each behind a function that promises nothing: of such a call the prover sees its type
+//! alone.
+
+use par2_folder::{Folder, FolderStore, Name, ReadFault, StoreFault, read_folder};
+use std::alloc::{AllocError, Global};
+
+/// The names of the files.
+pub fn names_of<S: FolderStore>(alloc: Global, store: &mut S) -> Result<Vec<Name>, ReadFault> {
+    store.names(alloc)
+}
+
+/// The bytes of a file.
+pub fn read_file<S: FolderStore>(
+    alloc: Global,
+    store: &mut S,
+    name: &Name,
+) -> Result<Vec<u8>, ReadFault> {
+    store.read(alloc, name)
+}
+
+/// The journal, if there is one.
+pub fn journal_of<S: FolderStore>(
+    alloc: Global,
+    store: &mut S,
+) -> Result<Option<Vec<u8>>, ReadFault> {
+    store.read_journal(alloc)
+}
+
+/// Writes a file.
+pub fn put_file<S: FolderStore>(
+    store: &mut S,
+    name: &Name,
+    bytes: &[u8],
+) -> Result<(), StoreFault> {
+    store.put(name, bytes)
+}
+
+/// Gives a file another name.
+pub fn rename_file<S: FolderStore>(
+    store: &mut S,
+    from: &Name,
+    to: &Name,
+) -> Result<(), StoreFault> {
+    store.rename(from, to)
+}
+
+/// Takes a file away.
+pub fn remove_file<S: FolderStore>(store: &mut S, name: &Name) -> Result<(), StoreFault> {
+    store.remove(name)
+}
+
+/// Puts a journal in place of the one that is there.
+pub fn put_journal<S: FolderStore>(store: &mut S, bytes: &[u8]) -> Result<(), StoreFault> {
+    store.put_journal(bytes)
+}
+
+/// The folder of a store.
+pub fn folder_of<S: FolderStore>(alloc: Global, store: &mut S) -> Result<Folder, ReadFault> {
+    read_folder(alloc, store)
+}
+
+/// The fingerprint of a folder.
+pub fn print_of(alloc: Global, folder: &Folder) -> Result<[u8; 16], AllocError> {
+    folder.fingerprint(alloc)
+}
