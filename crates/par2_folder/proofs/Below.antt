@@ -14,7 +14,7 @@ use Rattle.par2_spec.specs.Folders.{File, Folder, bytes_of, behind_length}
 use Rattle.par2_spec.specs.Changes.{Change, Write, Replace, Rename, Remove, effect}
 use Rattle.par2_folder.specs.Sorting.{name_cmp, IsSortedByName, folder_of, file_at, IsAt, IsGapFor, IsKept}
 use Rattle.par2_folder.specs.Below.{is_below, folder_below, fingerprint_input, IsFrom, IsFront}
-use Rattle.par2_folder.proofs.Sorted.{same_names, holds, rises, turned, turned_back}
+use Rattle.par2_folder.proofs.SortedFiles.{same_names, holds, rises, turned, turned_back}
 
 -- ---- the files before a place
 

@@ -18,7 +18,7 @@ use Rattle.par2_folder.specs.declared.border.Border.TheVariants.{Beginning, At, 
 use Rattle.par2_folder.specs.declared.snapshot.BorrowedFile.{BorrowedFile}
 use Rattle.par2_folder.specs.Snapshots.{file_of}
 use Rattle.par2_folder.proofs.Below.{effect_below, front_entries, front_further, hashed-append}
-use Rattle.par2_folder.proofs.Sorted.{same_names}
+use Rattle.par2_folder.proofs.SortedFiles.{same_names}
 
 -- ---- borders in order
 

@@ -1,11 +1,11 @@
 pub mod Texts
-pub mod Sorted
+pub mod SortedFiles
 pub mod Lists
 pub mod Steps
 pub mod Filling
 pub mod Below
 mod Disks
-mod Lent
+mod LentChanges
 pub mod Snapshots
 pub mod Borders
 pub mod RunLaws

@@ -10,7 +10,7 @@ use Rattle.par2_spec.specs.Folders.{File, Folder, has, bytes_of}
 use Rattle.par2_folder.specs.Sorting.{name_cmp, folder_of, file_at, IsAt, IsGapFor, IsFile, IsKept}
 use Rattle.par2_folder.specs.declared.snapshot.BorrowedFile.{BorrowedFile}
 use Rattle.par2_folder.specs.Snapshots.{file_of}
-use Rattle.par2_folder.proofs.Sorted.{Makes, searched_folder, inserted, exchanged, removed, bytes_at}
+use Rattle.par2_folder.proofs.SortedFiles.{Makes, searched_folder, inserted, exchanged, removed, bytes_at}
 
 -- ---- lists seen through a function
 

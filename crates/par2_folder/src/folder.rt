@@ -44,7 +44,7 @@ impl Folder {
     ghost use Rattle.par2_folder.specs.Snapshots.{files_in, folder_in};
 
     /// The folder without files. It has no vacant places.
-    #[tactic(auto, using(crate::proofs::Sorted::no_files))]
+    #[tactic(auto, using(crate::proofs::SortedFiles::no_files))]
     pub fn new(alloc: Global) -> Self
         ensures files { result.files ≡ empty }
         ensures vacant { result.vacant ≡ 0 }

@@ -1,2 +1,2 @@
-mod Answered
-mod TakenBack
+mod RepairAnswers
+mod UndoRuns

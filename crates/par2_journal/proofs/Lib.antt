@@ -1,11 +1,11 @@
 mod Entries
-mod Turned
-mod Asked
-pub mod Acting
-pub mod Spelled
+mod Turns
+mod Readiness
+pub mod Actions
+pub mod SessionJournals
 mod Each
 mod Ways
-mod Tried
+mod Trials
 mod Prints
-mod Settled
-mod Reopened
+mod SessionEntries
+mod Openings

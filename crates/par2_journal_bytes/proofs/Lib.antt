@@ -2,6 +2,6 @@ pub mod Many
 pub mod Fields
 pub mod Pieces
 pub mod Whole
-pub mod Decoded
+pub mod ReaderAnswers
 pub mod NameTests
 pub mod Fronts

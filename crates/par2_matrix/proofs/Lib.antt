@@ -1,4 +1,4 @@
-pub mod Reduced
+pub mod ReducedSystems
 pub mod Taking
 pub mod Clearing
 pub mod Placing

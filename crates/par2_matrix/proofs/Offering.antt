@@ -7,7 +7,7 @@ use Rattle.par2_spec.proofs.FieldOrder.{product-zero}
 use Rattle.par2_matrix.specs.Echelon.{echelon, IsReduced, PutAt, ReducedBelow, IsPrepared}
 use Rattle.par2_spec.specs.Sums.{list_at}
 use Rattle.par2_spec.proofs.WordLaws.{word-lt}
-use Rattle.par2_matrix.proofs.Reduced.{ToldApart, told_apart, all_present, present_at_most}
+use Rattle.par2_matrix.proofs.ReducedSystems.{ToldApart, told_apart, all_present, present_at_most}
 use Rattle.par2_matrix.proofs.Placing.{Placed, Cut, cut_down}
 use Rattle.par2_matrix.proofs.Standing.{placed_reduced}
 

@@ -13,7 +13,7 @@ use Rattle.par2_matrix.specs.Echelon.{Echelon, echelon, Vanishes, IsReduced, equ
 use Rattle.par2_spec.specs.Sums.{row_sum, AreElements, list_at}
 use Rattle.par2_spec.proofs.WordLaws.{bytes_at, word-lt, combination_words, same_texts}
 use Rattle.par2_spec.proofs.SumLaws.{field_sum_same, row_sum-lt}
-use Rattle.par2_matrix.proofs.Reduced.{ToldApart, all_present, unit_row, full_rank, free_vector, one≢zero}
+use Rattle.par2_matrix.proofs.ReducedSystems.{ToldApart, all_present, unit_row, full_rank, free_vector, one≢zero}
 use Rattle.par2_matrix.proofs.Placing.{Cut}
 use Rattle.par2_matrix.proofs.Views.{elements_of, dot_spelled, rank_view, kills_view, solves_view, words_at, words_are_elements, words_by_elements}
 use Rattle.par2_spec.proofs.ListsLaws.{all_at, all_from}

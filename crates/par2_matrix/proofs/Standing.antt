@@ -11,7 +11,7 @@ use Rattle.par2_spec.proofs.FieldOrder.{product-zero}
 use Rattle.par2_matrix.specs.Echelon.{Echelon, echelon, IsReduced, count_present, AllEmpty}
 use Rattle.par2_spec.specs.Sums.{list_at}
 use Rattle.par2_spec.proofs.WordLaws.{word_past, word_empty, word-lt}
-use Rattle.par2_matrix.proofs.Reduced.{present_at_most}
+use Rattle.par2_matrix.proofs.ReducedSystems.{present_at_most}
 use Rattle.par2_matrix.proofs.Placing.{Placed, entry}
 
 count_same : (A B : List (List ℕ)) (n : ℕ) → ((p : ℕ) → p < n → length (list_at B p) ≡ length (list_at A p)) → count_present B n ≡ count_present A n

@@ -11,7 +11,7 @@ use Rattle.par2_spec.proofs.FieldOrder.{product-zero}
 use Rattle.par2_matrix.specs.Echelon.{Echelon, IsReduced, echelon, ReducedBelow, Scaled, IsMultiple}
 use Rattle.par2_spec.specs.Sums.{row_sum, AreElements, list_at}
 use Rattle.par2_spec.proofs.SumLaws.{row_sum_added}
-use Rattle.par2_matrix.proofs.Reduced.{one≢zero}
+use Rattle.par2_matrix.proofs.ReducedSystems.{one≢zero}
 
 pub reduce_skip : (s : Echelon) (r0 d0 row right : List ℕ) (p : ℕ) → ReducedBelow s r0 d0 row right p
     → (0 < length (list_at s.rows p) → word p row ≡ 0) → ReducedBelow s r0 d0 row right (p + 1)

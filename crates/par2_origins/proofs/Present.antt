@@ -17,10 +17,10 @@ use Rattle.par2_spec.specs.Volumes.{FileRecord, record_of, id_of, index_packets,
 use Rattle.par2_spec.specs.Sets.{packets_with, main_of, description_of, pairs_of, target_of, target_of_file, all_some}
 use Rattle.par2_origins.specs.Packets.{AreDescribed}
 use Rattle.par2_origins.proofs.Laws.{AreRead}
-use Rattle.par2_origins.proofs.Said.{of_contained, all_contained, same_some, IsDescribed, each_described, main_of_files, desc_of_file, ifsc_of_file, main_written, desc_written, ifsc_written}
+use Rattle.par2_origins.proofs.FilePackets.{of_contained, all_contained, same_some, IsDescribed, each_described, main_of_files, desc_of_file, ifsc_of_file, main_written, desc_written, ifsc_written}
 use Rattle.par2_origins.proofs.Reading.{AllSay, itself, contained_cases, map-map, by_ids, target_with, description_is, pairs_are_its, target_is}
 use Rattle.par2_origins.proofs.Inputs.{pairs_count}
-use Rattle.par2_origins.proofs.Written.{index_of}
+use Rattle.par2_origins.proofs.VolumePackets.{index_of}
 use Rattle.par2_spec.proofs.RankLaws.{all_weaker}
 
 -- ---- one of a list

@@ -23,7 +23,7 @@ use Rattle.par2_spec.specs.Volumes.{record_of, id_of, all_slices}
 use Rattle.par2_spec.specs.Sets.{Target, all_some, main_of, description_of, pairs_of, target_of, recovery_of, target_of_file}
 use Rattle.par2_origins.specs.Packets.{AreDescribed}
 use Rattle.par2_origins.proofs.Laws.{AreRead}
-use Rattle.par2_origins.proofs.Said.{of_contained, all_contained, Says, same_some, no_some, main_of_files, desc_of_file, ifsc_of_file, main_said, desc_said, ifsc_said, recovery_said, IsOfOne, IsTrueSlice}
+use Rattle.par2_origins.proofs.FilePackets.{of_contained, all_contained, Says, same_some, no_some, main_of_files, desc_of_file, ifsc_of_file, main_said, desc_said, ifsc_said, recovery_said, IsOfOne, IsTrueSlice}
 use Rattle.par2_spec.proofs.ListsLaws.{all-append, all-map}
 use Rattle.par2_spec.proofs.RankLaws.{all_weaker}
 use Rattle.par2_spec.proofs.FoundLaws.{all-filter}

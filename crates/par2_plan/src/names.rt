@@ -157,7 +157,7 @@ fn is_volume_there(folder: &Folder, volumes: &[Volume]) -> bool
 }
 
 // Whether the index or a volume is there already.
-#[tactic(auto, using(crate::proofs::Numbered::any_named))]
+#[tactic(auto, using(crate::proofs::VolumeNumbers::any_named))]
 fn is_there(folder: &Folder, base: &Name, volumes: &[Volume]) -> bool
     ensures { result ≡ list_any (has folder.now.files) (base.now ∷ names_of volumes.now) }
 {

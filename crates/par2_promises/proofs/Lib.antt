@@ -3,7 +3,7 @@ pub mod Causes
 pub mod Lists
 pub mod Texts
 pub mod ReadSets
-pub mod Recovered
+pub mod RecoveryBytes
 pub mod SliceSizes
-pub mod Surviving
-pub mod Agreeing
+pub mod Survivals
+pub mod Agreements

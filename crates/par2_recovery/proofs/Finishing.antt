@@ -20,7 +20,7 @@ use Rattle.par2_spec.proofs.WordLaws.{word-lt}
 use Rattle.par2_recovery.specs.Inverses.{recovery_at, IsEliminated, lack, AreCombined}
 use Rattle.par2_recovery.specs.Products.{AreBytes}
 use Rattle.par2_recovery.specs.Survivors.{with_lost_slices, lost_from, known_from, known_alone, sum_at}
-use Rattle.par2_recovery.proofs.Combined.{coefficients-lt, dot_padded}
+use Rattle.par2_recovery.proofs.Combinations.{coefficients-lt, dot_padded}
 use Rattle.par2_recovery.proofs.Inverting.{inverted, differences, dot_differences, differences_vector, same_texts_by}
 use Rattle.par2_recovery.proofs.Rebuilding.{AreSized, AreKnown, IsFound, Meets, lost_is, rebuilt_from}
 use Rattle.par2_spec.proofs.FoundLaws.{all-filter}

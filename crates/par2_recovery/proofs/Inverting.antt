@@ -21,7 +21,7 @@ use Rattle.par2_recovery.specs.Products.{AreBytes, Adds, products}
 use Rattle.par2_recovery.specs.Survivors.{recovered_of}
 use Rattle.par2_recovery.specs.Views.{AreBlank}
 use Rattle.par2_recovery.proofs.Dots.{combined}
-use Rattle.par2_recovery.proofs.Combined.{coefficients-lt, blank_word, blank_bytes, length-blank}
+use Rattle.par2_recovery.proofs.Combinations.{coefficients-lt, blank_word, blank_bytes, length-blank}
 use Rattle.par2_recovery.proofs.Rebuilding.{AreSized}
 use Rattle.par2_spec.proofs.UniqueLaws.{coefficients_are, dot-lt, words_are}
 

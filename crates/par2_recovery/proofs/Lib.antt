@@ -2,10 +2,10 @@ pub mod RankTests
 pub mod Dots
 pub mod Adding
 pub mod Ranks
-pub mod Combined
+pub mod Combinations
 pub mod Rebuilding
 pub mod Inverting
 pub mod Standing
 pub mod Finishing
 pub mod Records
-pub mod Known
+pub mod KnownSlices

@@ -21,7 +21,7 @@ use par2_slices::{slice_bytes, slice_count};
 use std::alloc::{AllocError, Global};
 
 // The numbers below n.
-#[tactic(auto, using(crate::proofs::Combined::range_more))]
+#[tactic(auto, using(crate::proofs::Combinations::range_more))]
 fn numbers_below(alloc: Global, n: usize) -> Result<Vec<u32>, AllocError>
     requires { n ≤ 32768 }
     ensures { IfOk result (λ numbers. numbers.items ≡ range_with_len 0 n) }

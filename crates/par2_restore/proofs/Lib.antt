@@ -1,5 +1,5 @@
 mod Cutting
 mod Merging
-mod Rebuilt
+mod Rebuilds
 mod Trees
-mod Walked
+mod TargetWalks

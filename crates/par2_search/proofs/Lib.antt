@@ -1,3 +1,3 @@
-pub mod Compared
-pub mod Searched
+pub mod Comparisons
+pub mod FoundWindows
 pub mod Matches

@@ -2,6 +2,6 @@ pub mod Lists
 pub mod Names
 pub mod Exponents
 pub mod Keeping
-pub mod Checked
+pub mod KeptPackets
 pub mod Refusals
 pub mod Reading

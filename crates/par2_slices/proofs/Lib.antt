@@ -5,6 +5,6 @@ pub mod Shifts
 pub mod Sliding
 pub mod Groups
 pub mod Places
-pub mod Windowed
+pub mod NextWindows
 pub mod Searching
 pub mod Wholes

@@ -18,9 +18,9 @@ use Rattle.par2_tool.specs.Telling.{IsBack, IsDone, IsFailed, SameOutput}
 use Rattle.par2_tool.specs.declared.opening.Started as program
 use Rattle.par2_tool.specs.declared.performing.PerformFault.{PerformFault}
 use Rattle.par2_tool.specs.declared.performing.PerformFault.TheVariants.{Session as Refusing, Store}
-use Rattle.par2_tool.proofs.Carried.{perform_failed}
-use Rattle.par2_tool.proofs.Reopened.{opens_new}
-use Rattle.par2_tool.proofs.Verified.{as_it_was, verify_leaves}
+use Rattle.par2_tool.proofs.Outcomes.{perform_failed}
+use Rattle.par2_tool.proofs.Openings.{opens_new}
+use Rattle.par2_tool.proofs.VerifyRuns.{as_it_was, verify_leaves}
 
 -- ---- opening
 

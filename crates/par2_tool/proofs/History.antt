@@ -20,7 +20,7 @@ use Rattle.par2_tool.specs.Opening.{IsOpened}
 use Rattle.par2_tool.specs.Performing.{IsWritten}
 use Rattle.par2_tool.specs.Holding.{Holds, with_history}
 use Rattle.par2_tool.specs.Runs.{Runs, Ended, Accepted, Passed}
-use Rattle.par2_tool.proofs.Reopened.{settled_on, halfway_by}
+use Rattle.par2_tool.proofs.Openings.{settled_on, halfway_by}
 
 -- ---- a store opens in one way
 

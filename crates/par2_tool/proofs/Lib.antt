@@ -1,8 +1,8 @@
-mod Made
-mod Verified
-mod Reopened
-mod Stopping
-mod Carried
+mod MadeChanges
+mod VerifyRuns
+mod Openings
+mod Stops
+mod Outcomes
 mod AsIs
 mod History
-mod Unread
+mod UnreadWords

@@ -1,2 +1,2 @@
-pub mod Tested
-pub mod Counted
+pub mod ElementTests
+pub mod SliceCounts

@@ -105,7 +105,7 @@ fn has_few_slices(set: &SetRecord, folder: &Folder) -> bool
 }
 
 // Whether recovery slices may be asked for.
-#[tactic(auto, using(crate::proofs::Tested::are_names))]
+#[tactic(auto, using(crate::proofs::ElementTests::are_names))]
 fn fits(set: &SetRecord, folder: &Folder) -> bool
     ensures size { IsTrue result → 1 ≤ set.now.slice_size }
     ensures even { IsTrue result → set.now.slice_size % 2 ≡ 0 }

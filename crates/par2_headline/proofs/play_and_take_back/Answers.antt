@@ -2,7 +2,7 @@ use Rattle.std.proofs.Common.{◌≡◌, ◌-◌, ◌∙◌, ℕ, arith, drop, r
 use Rattle.par2_spec.specs.Commands.{Undo}
 use Rattle.par2_spec.specs.History.{Run, Ended, folders}
 use Rattle.par2_spec.specs.Sessions.{session_of_kept, history_of}
-use Rattle.par2_headline.proofs.TakenBack.{AreLaws, next_is_accepted}
+use Rattle.par2_headline.proofs.UndoRuns.{AreLaws, next_is_accepted}
 use Rattle.par2_headline.proofs.play_and_take_back.Goals as goal
 
 pub loop-init : goal.loop-init

@@ -3,7 +3,7 @@ use Rattle.std.specs.List.{AllByRecursion}
 use Rattle.par2_spec.specs.History.{IsChanging}
 use Rattle.par2_spec.specs.Sessions.{session_of_kept, history_of}
 use Rattle.par2_spec.specs.Views.{action_of}
-use Rattle.par2_headline.proofs.TakenBack.{IsOnTheWay}
+use Rattle.par2_headline.proofs.UndoRuns.{IsOnTheWay}
 use Rattle.par2_headline.proofs.play_and_take_back.Given as goal
 
 abbrev pub invariant-loop : goal.invariant-loop

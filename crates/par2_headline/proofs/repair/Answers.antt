@@ -8,7 +8,7 @@ use Rattle.par2_spec.specs.Repairs.{HoldsRepaired}
 use Rattle.par2_spec.specs.Search.{candidates}
 use Rattle.par2_spec.specs.Sessions.{session_of_kept}
 use Rattle.par2_spec.specs.declared.Fault.TheVariants.{Memory, RepairFailed}
-use Rattle.par2_headline.proofs.Answered.{IsRepaired, answered, told, stands_in_front, on_ok, if_err}
+use Rattle.par2_headline.proofs.RepairAnswers.{IsRepaired, answered, told, stands_in_front, on_ok, if_err}
 use Rattle.par2_headline.proofs.repair.Goals as goal
 
 abbrev Is : goal.After-repair → Type 0

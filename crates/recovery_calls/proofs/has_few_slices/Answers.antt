@@ -3,7 +3,7 @@ use Rattle.std.proofs.lemmas.List.{length-map}
 use Rattle.par2_spec.specs.Folders.{bytes_of}
 use Rattle.par2_packets.specs.declared.record.FileRecord.{FileRecord}
 use Rattle.par2_recovery.specs.Views.{names_of}
-use Rattle.recovery_calls.proofs.Counted.{one_more}
+use Rattle.recovery_calls.proofs.SliceCounts.{one_more}
 use Rattle.recovery_calls.proofs.has_few_slices.Goals as goal
 
 pub loop-i-preserved : goal.loop-i-preserved

@@ -1,7 +1,7 @@
 use Rattle.std.proofs.Common.{◌≡◌, ◌<◌, ◌≤◌, length, subst, IsTrue, rules}
 use Rattle.std.specs.Prelude.{All, IfSome}
 use Rattle.std.specs.List.{AllAdjacentBelow}
-use Rattle.recovery_calls.proofs.Tested.{known_fits, recovery_fits, exponents_rise}
+use Rattle.recovery_calls.proofs.ElementTests.{known_fits, recovery_fits, exponents_rise}
 use Rattle.recovery_calls.proofs.rebuilt.Goals as goal
 
 pub rebuild-requires-clause-known : goal.rebuild-requires-clause-known

@@ -1,6 +1,6 @@
 use Rattle.std.proofs.Common.{◌≡◌}
 use Rattle.par2_spec.specs.Repairs.{aside, taken_for}
-use Rattle.par2_asides.proofs.Taken.{first_from}
+use Rattle.par2_asides.proofs.TakenNames.{first_from}
 use Rattle.par2_asides.proofs.numbering.aside.Given as goal
 
 abbrev pub invariant-loop-n : goal.invariant-loop-n

@@ -1,6 +1,6 @@
 use Rattle.std.proofs.Common.{◌≡◌, ◌<◌, length, rules, IfErr}
 use Rattle.par2_spec.specs.Names.{numbered}
-use Rattle.par2_asides.proofs.Taken.{long_where_err}
+use Rattle.par2_asides.proofs.TakenNames.{long_where_err}
 use Rattle.par2_asides.proofs.numbering.numbered.Goals as goal
 
 pub returns-clause-refused : goal.returns-clause-refused

@@ -1,4 +1,4 @@
-use Rattle.par2_asides.proofs.Taken.{all_names}
+use Rattle.par2_asides.proofs.TakenNames.{all_names}
 use Rattle.par2_asides.proofs.numbering.taken_are_names.Goals as goal
 
 pub returns : goal.returns

@@ -2,7 +2,7 @@ use Rattle.std.proofs.Common.{◌≡◌, ◌∙◌, ◌+◌, ◌++◌, ◌∷◌
 use Rattle.std.proofs.lemmas.List.{map_more}
 use Rattle.par2_spec.specs.Sets.{Target}
 use Rattle.par2_asides.specs.Asides.{HoldsNames}
-use Rattle.par2_asides.proofs.Taken.{holds_more}
+use Rattle.par2_asides.proofs.TakenNames.{holds_more}
 use Rattle.par2_asides.proofs.targets.target_names.Goals as goal
 
 pub loop-target-preserved : goal.loop-target-preserved

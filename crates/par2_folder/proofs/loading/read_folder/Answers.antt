@@ -2,7 +2,7 @@ use Rattle.std.proofs.Common.{◌∙◌, ◌≡◌, ◌<◌, ◌≤◌, length, 
 use Rattle.std.specs.FinMap as map_of
 use Rattle.std.specs.FinMap.{entries}
 use Rattle.par2_spec.specs.Folders.{names}
-use Rattle.par2_folder.proofs.Sorted.{begins_empty, still_there, next_file, is_whole}
+use Rattle.par2_folder.proofs.SortedFiles.{begins_empty, still_there, next_file, is_whole}
 use Rattle.par2_spec.specs.Stores.{Contents}
 use Rattle.par2_folder.proofs.Filling.{tried}
 use Rattle.par2_folder.proofs.loading.read_folder.Goals as goal

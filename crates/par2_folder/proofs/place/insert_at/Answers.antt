@@ -1,4 +1,4 @@
-use Rattle.par2_folder.proofs.Sorted.{inserted}
+use Rattle.par2_folder.proofs.SortedFiles.{inserted}
 use Rattle.par2_folder.proofs.place.insert_at.Goals as goal
 
 pub returns-clause-kept : goal.returns-clause-kept

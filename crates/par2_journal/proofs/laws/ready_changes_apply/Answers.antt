@@ -1,4 +1,4 @@
-use Rattle.par2_journal.proofs.Spelled.{asked_session, kind_taken}
+use Rattle.par2_journal.proofs.SessionJournals.{asked_session, kind_taken}
 use Rattle.par2_journal.proofs.laws.ready_changes_apply.Goals as goal
 
 pub returns-clause-applies : goal.returns-clause-applies

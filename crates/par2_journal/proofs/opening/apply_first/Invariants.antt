@@ -1,6 +1,6 @@
 use Rattle.std.proofs.Common.{◌≡◌}
 use Rattle.par2_journal_bytes.specs.Views.{changes_in}
-use Rattle.par2_journal.proofs.Tried.{AreTurned}
+use Rattle.par2_journal.proofs.Trials.{AreTurned}
 use Rattle.par2_journal.proofs.opening.apply_first.Given as goal
 
 abbrev pub invariant-loop-change : goal.invariant-loop-change

@@ -3,7 +3,7 @@ use Rattle.std.specs.Prelude.{reverse, Vec}
 use Rattle.std.specs.declared.alloc.Global.{Global}
 use Rattle.par2_folder.specs.declared.change.Change.{Change}
 use Rattle.par2_journal_bytes.specs.Views.{changes_in, entries_of}
-use Rattle.par2_journal.proofs.Tried.{walked_home, entries_home}
+use Rattle.par2_journal.proofs.Trials.{walked_home, entries_home}
 use Rattle.par2_journal.proofs.opening.can_walk.Goals as goal
 
 pub returns-clause-folder : goal.returns-clause-folder

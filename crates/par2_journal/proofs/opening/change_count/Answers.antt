@@ -5,8 +5,8 @@ use Rattle.par2_spec.specs.Changes.{places_taken}
 use Rattle.par2_folder.specs.declared.change.Change.{Change}
 use Rattle.par2_folder.specs.Views.{change_of}
 use Rattle.par2_journal_bytes.specs.Views.{changes_in}
-use Rattle.par2_journal.proofs.Asked.{places_within}
-use Rattle.par2_journal.proofs.Settled.{count_more}
+use Rattle.par2_journal.proofs.Readiness.{places_within}
+use Rattle.par2_journal.proofs.SessionEntries.{count_more}
 use Rattle.par2_journal.proofs.opening.change_count.Goals as goal
 
 pub loop-entry-preserved : goal.loop-entry-preserved

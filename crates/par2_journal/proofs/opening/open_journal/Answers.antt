@@ -8,7 +8,7 @@ use Rattle.par2_spec.specs.declared.JournalFault.{JournalFault}
 use Rattle.par2_spec.specs.declared.JournalFault.TheVariants.{Memory}
 use Rattle.par2_journal_bytes.specs.Views.{changes_in, halfway_of, journal_of}
 use Rattle.par2_journal.specs.Opening.{halfway_as}
-use Rattle.par2_journal.proofs.Reopened.{one_or, refused_so, opened_settled, opened_halfway}
+use Rattle.par2_journal.proofs.Openings.{one_or, refused_so, opened_settled, opened_halfway}
 use Rattle.par2_journal.proofs.opening.open_journal.Goals as goal
 
 -- an opening is refused so

@@ -3,7 +3,7 @@ use Rattle.std.specs.Prelude.{reverse, sum_by}
 use Rattle.par2_spec.specs.Changes.{places_taken}
 use Rattle.par2_spec.specs.Opening.{leads}
 use Rattle.par2_journal_bytes.specs.Views.{entries_of}
-use Rattle.par2_journal.proofs.Settled.{walks_as_leads, places_before, places_behind}
+use Rattle.par2_journal.proofs.SessionEntries.{walks_as_leads, places_before, places_behind}
 use Rattle.par2_journal.proofs.opening.settle.Goals as goal
 
 pub returns-clause-valid : goal.returns-clause-valid

@@ -3,7 +3,7 @@ use Rattle.std.specs.Prelude.{reverse}
 use Rattle.par2_folder.specs.Views.{change_of}
 use Rattle.par2_journal_bytes.specs.Views.{changes_in}
 use Rattle.par2_journal.proofs.Ways.{back_taken, back_leads}
-use Rattle.par2_journal.proofs.Tried.{turned_front, whole_turned, all_back}
+use Rattle.par2_journal.proofs.Trials.{turned_front, whole_turned, all_back}
 use Rattle.par2_journal.proofs.opening.turn_whole.Goals as goal
 
 pub returns-then-applied-changes-clause-way_back : goal.returns-then-applied-changes-clause-way_back

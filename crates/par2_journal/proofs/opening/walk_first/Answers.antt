@@ -8,7 +8,7 @@ use Rattle.par2_spec.specs.Changes.{takes_all, state_after_all, way_back}
 use Rattle.par2_folder.specs.declared.change.Change.{Change}
 use Rattle.par2_journal_bytes.specs.Views.{changes_in, entries_of}
 use Rattle.par2_journal.specs.Walks.{ways_back}
-use Rattle.par2_journal.proofs.Tried.{entries_set_out, entry_turned, entry_refused}
+use Rattle.par2_journal.proofs.Trials.{entries_set_out, entry_turned, entry_refused}
 use Rattle.par2_journal.proofs.opening.walk_first.Goals as goal
 
 pub loop-entry-init : goal.loop-entry-init

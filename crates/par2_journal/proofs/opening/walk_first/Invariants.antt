@@ -1,6 +1,6 @@
 use Rattle.std.proofs.Common.{◌≡◌}
 use Rattle.par2_journal_bytes.specs.Views.{entries_of}
-use Rattle.par2_journal.proofs.Tried.{AreWalked}
+use Rattle.par2_journal.proofs.Trials.{AreWalked}
 use Rattle.par2_journal.proofs.opening.walk_first.Given as goal
 
 abbrev pub invariant-loop-entry : goal.invariant-loop-entry

@@ -3,7 +3,7 @@ use Rattle.std.proofs.lemmas.List.{length-map}
 use Rattle.par2_folder.specs.Views.{change_of}
 use Rattle.par2_journal_bytes.specs.Views.{changes_in}
 use Rattle.par2_journal.proofs.Ways.{back_taken, back_leads, back_again, back_length}
-use Rattle.par2_journal.proofs.Spelled.{folders_count}
+use Rattle.par2_journal.proofs.SessionJournals.{folders_count}
 use Rattle.par2_journal.proofs.spelling.spell_command.Goals as goal
 
 pub spell_made-answer-requires-clause-each : goal.spell_made-answer-requires-clause-each

@@ -2,7 +2,7 @@ use Rattle.std.specs.Prelude.{List}
 use Rattle.std.specs.Borrow.{Bor}
 use Rattle.par2_folder.specs.declared.change.Change.{Change}
 use Rattle.par2_journal_bytes.specs.Views.{changes_in}
-use Rattle.par2_journal.proofs.Spelled.{taken_and_one}
+use Rattle.par2_journal.proofs.SessionJournals.{taken_and_one}
 use Rattle.par2_journal.proofs.spelling.with_command.Goals as goal
 
 pub returns-clause-list : goal.returns-clause-list

@@ -3,7 +3,7 @@ use Rattle.std.proofs.lemmas.List.{length-map}
 use Rattle.par2_spec.specs.Changes.{places_taken}
 use Rattle.par2_folder.specs.Views.{change_of}
 use Rattle.par2_journal_bytes.specs.Views.{changes_in}
-use Rattle.par2_journal.proofs.Asked.{places_within}
+use Rattle.par2_journal.proofs.Readiness.{places_within}
 use Rattle.par2_journal.proofs.Ways.{went_forth}
 use Rattle.par2_journal.proofs.taking_back.go_back.Goals as goal
 

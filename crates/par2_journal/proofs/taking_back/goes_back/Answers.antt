@@ -8,7 +8,7 @@ use Rattle.par2_spec.specs.Opening.{leads_through}
 use Rattle.par2_folder.specs.Views.{change_of}
 use Rattle.par2_journal_bytes.specs.Views.{changes_in}
 use Rattle.par2_journal.proofs.Ways.{back_taken, back_leads}
-use Rattle.par2_journal.proofs.Reopened.{goes, goes_not}
+use Rattle.par2_journal.proofs.Openings.{goes, goes_not}
 use Rattle.par2_journal.proofs.taking_back.goes_back.Goals.{After-pass_through, In-Ok}
 use Rattle.par2_journal.proofs.taking_back.goes_back.Goals as goal
 

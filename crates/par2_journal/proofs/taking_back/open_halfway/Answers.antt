@@ -13,7 +13,7 @@ use Rattle.par2_spec.specs.declared.JournalFault.TheVariants.{Memory}
 use Rattle.par2_folder.specs.Views.{change_of}
 use Rattle.par2_journal_bytes.specs.Views.{changes_in, entries_of}
 use Rattle.par2_journal.specs.Opening.{session_at, halfway_as}
-use Rattle.par2_journal.proofs.Reopened.{one_or, refused_so, halfway_ok, halfway_refused}
+use Rattle.par2_journal.proofs.Openings.{one_or, refused_so, halfway_ok, halfway_refused}
 use Rattle.par2_journal.proofs.taking_back.open_halfway.Goals.{After-take_back}
 use Rattle.par2_journal.proofs.taking_back.open_halfway.Goals as goal
 

@@ -3,7 +3,7 @@ use Rattle.par2_spec.specs.Changes.{FolderState, effects}
 use Rattle.par2_spec.specs.Opening.{is_valid, leads_through}
 use Rattle.par2_journal_bytes.specs.Views.{changes_in, entries_of}
 use Rattle.par2_journal.specs.Opening.{session_at}
-use Rattle.par2_journal.proofs.Reopened.{one_or, and_false, takes_roomier, same_files_after}
+use Rattle.par2_journal.proofs.Openings.{one_or, and_false, takes_roomier, same_files_after}
 use Rattle.par2_journal.proofs.taking_back.take_back.Goals as goal
 
 pub apply_all-requires : goal.apply_all-requires

@@ -1,6 +1,6 @@
 use Rattle.std.proofs.Common.{arith}
 use Rattle.par2_journal_bytes.proofs.Fields.{bytes-from_each}
-use Rattle.par2_journal_bytes.proofs.Decoded.{is_found, is_only, is_invalid}
+use Rattle.par2_journal_bytes.proofs.ReaderAnswers.{is_found, is_only, is_invalid}
 use Rattle.par2_journal_bytes.proofs.reading.decode.Goals as goal
 
 pub returns-clause-found : goal.returns-clause-found

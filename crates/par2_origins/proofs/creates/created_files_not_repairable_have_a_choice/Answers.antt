@@ -1,4 +1,4 @@
-use Rattle.par2_origins.proofs.Returned.{have_a_choice}
+use Rattle.par2_origins.proofs.Returns.{have_a_choice}
 use Rattle.par2_origins.proofs.creates.created_files_not_repairable_have_a_choice.Goals as goal
 
 pub returns : goal.returns

@@ -1,5 +1,5 @@
 use Rattle.par2_spec.specs.Commands.{files_of}
-use Rattle.par2_origins.proofs.Damaged.{holds_volumes}
+use Rattle.par2_origins.proofs.Damage.{holds_volumes}
 use Rattle.par2_origins.proofs.creates.created_set_is_made_from_its_files.Goals as goal
 
 pub returns : goal.returns

@@ -1,4 +1,4 @@
-use Rattle.par2_origins.proofs.Removed.{removal}
+use Rattle.par2_origins.proofs.Removals.{removal}
 use Rattle.par2_origins.proofs.creates.removal_is_damage.Goals as goal
 
 pub returns : goal.returns

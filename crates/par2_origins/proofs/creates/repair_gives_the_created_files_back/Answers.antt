@@ -1,5 +1,5 @@
 use Rattle.par2_origins.proofs.Laws.{AreRepaired}
-use Rattle.par2_origins.proofs.Returned.{gives_back}
+use Rattle.par2_origins.proofs.Returns.{gives_back}
 use Rattle.par2_origins.proofs.creates.repair_gives_the_created_files_back.Goals as goal
 
 pub returns : goal.returns

@@ -1,5 +1,5 @@
 use Rattle.par2_origins.proofs.Laws.{AreRepaired}
-use Rattle.par2_origins.proofs.Returned.{few_causes}
+use Rattle.par2_origins.proofs.Returns.{few_causes}
 use Rattle.par2_origins.proofs.creates.repair_of_created_files_is_refused_for_few_causes.Goals as goal
 
 pub returns : goal.returns

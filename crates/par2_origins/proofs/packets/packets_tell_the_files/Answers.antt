@@ -1,5 +1,5 @@
 use Rattle.par2_origins.proofs.Laws.{AreRead}
-use Rattle.par2_origins.proofs.Made.{made_from}
+use Rattle.par2_origins.proofs.SetsOfFiles.{made_from}
 use Rattle.par2_origins.proofs.packets.packets_tell_the_files.Goals as goal
 
 pub returns : goal.returns

@@ -1,5 +1,5 @@
 use Rattle.par2_origins.proofs.Laws.{AreRead, AreKept}
-use Rattle.par2_origins.proofs.Kept.{set_made}
+use Rattle.par2_origins.proofs.VolumeFolders.{set_made}
 use Rattle.par2_origins.proofs.volumes.volumes_tell_the_files.Goals as goal
 
 pub returns : goal.returns

@@ -4,7 +4,7 @@ use Rattle.par2_spec.specs.Packets.{packet}
 use Rattle.par2_spec.specs.Volumes.{packet_of}
 use Rattle.par2_spec.specs.declared.Kind.TheVariants.{Recovery}
 use Rattle.par2_spec.specs.Sums.{lists_of}
-use Rattle.par2_packets.proofs.Counted.{list_at_place, packet_more}
+use Rattle.par2_packets.proofs.RecoveryPackets.{list_at_place, packet_more}
 use Rattle.par2_packets.proofs.recoveries.append_group.Goals as goal
 
 pub loop-k-preserved : goal.loop-k-preserved

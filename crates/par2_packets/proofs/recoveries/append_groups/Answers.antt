@@ -4,7 +4,7 @@ use Rattle.std.proofs.lemmas.List.{length-map, take-map, drop-map}
 use Rattle.par2_spec.specs.Packets.{packet}
 use Rattle.par2_spec.specs.Sums.{lists_of}
 use Rattle.par2_packets.specs.Recoveries.{packets_from}
-use Rattle.par2_packets.proofs.Counted.{packets_more}
+use Rattle.par2_packets.proofs.RecoveryPackets.{packets_more}
 use Rattle.par2_packets.proofs.recoveries.append_groups.Goals as goal
 
 pub loop-group-preserved : goal.loop-group-preserved

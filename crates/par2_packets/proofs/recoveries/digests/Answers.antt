@@ -1,6 +1,6 @@
 use Rattle.std.proofs.Common.{[], ap, ◌∙◌, arith}
 use Rattle.md5.specs.Md5.{md5}
-use Rattle.par2_packets.proofs.Counted.{behind_two}
+use Rattle.par2_packets.proofs.RecoveryPackets.{behind_two}
 use Rattle.par2_packets.proofs.recoveries.digests.Goals as goal
 
 pub returns : goal.returns

@@ -11,9 +11,9 @@ use Rattle.par2_packets.specs.Views.{file_record_of}
 use Rattle.par2_packets.specs.declared.record.FileRecord.{FileRecord}
 use Rattle.par2_recovery.specs.Views.{names_of}
 use Rattle.par2_plan.specs.declared.names.Volume.{Volume}
-use Rattle.par2_plan.proofs.Numbered.{volumes_end}
-use Rattle.par2_plan.proofs.Passed.{IsHead, AreInputs, head_passed, inputs_passed, names_in_order, few_slices, few_in_order}
-use Rattle.par2_plan.proofs.Written.{written, create_written}
+use Rattle.par2_plan.proofs.VolumeNumbers.{volumes_end}
+use Rattle.par2_plan.proofs.GoodWords.{IsHead, AreInputs, head_passed, inputs_passed, names_in_order, few_slices, few_in_order}
+use Rattle.par2_plan.proofs.OutputChanges.{written, create_written}
 use Rattle.par2_plan.proofs.create.outputs_written.Goals as goal
 
 few_records : (folder : Folder) (s : ℕ) (inputs : List (List ℕ)) (records : List FileRecord) → map file_record_of records ≡ map (record_of s) (in_id_order (files_of folder inputs))

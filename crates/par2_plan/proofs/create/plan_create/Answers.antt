@@ -10,9 +10,9 @@ use Rattle.par2_spec.specs.declared.Fault.TheVariants.{Memory}
 use Rattle.par2_plan.specs.declared.names.Volume.{Volume}
 use Rattle.par2_plan.specs.Faults.{long_name, there_already}
 use Rattle.par2_plan.specs.Outputs.{volumes_of, names_of, output_names}
-use Rattle.par2_plan.proofs.Passed.{head_passed}
-use Rattle.par2_plan.proofs.Refused.{early_by_head, early_by_name, not_early, refused_by_head, refused_by_name, refused_by_inputs, refused_by_length, refused_by_there, not_refused, are_planned, apply_in_order, lead_to_folder}
-use Rattle.par2_plan.proofs.Passing.{answered_so, never_found}
+use Rattle.par2_plan.proofs.GoodWords.{head_passed}
+use Rattle.par2_plan.proofs.RefusalGroups.{early_by_head, early_by_name, not_early, refused_by_head, refused_by_name, refused_by_inputs, refused_by_length, refused_by_there, not_refused, are_planned, apply_in_order, lead_to_folder}
+use Rattle.par2_plan.proofs.PassedAnswers.{answered_so, never_found}
 use Rattle.par2_plan.proofs.Present.{refused_so}
 use Rattle.par2_plan.proofs.create.plan_create.Goals.{In-Some, After-set_of_inputs, After-there_already}
 use Rattle.par2_plan.proofs.create.plan_create.Goals as goal

@@ -3,7 +3,7 @@ use Rattle.std.specs.Iterator.Adapters.{zip_first, zip_second}
 use Rattle.std.specs.Slice.Iter.{iter_rest}
 use Rattle.std.proofs.lemmas.Slice.Zip.{either_empty_from_Zip}
 use Rattle.par2_plan.specs.Findings.{sought_by}
-use Rattle.par2_plan.proofs.Standing.{sought_end}
+use Rattle.par2_plan.proofs.Standings.{sought_end}
 use Rattle.par2_plan.proofs.finding.sought_pairs.Goals as goal
 
 pub returns : goal.returns

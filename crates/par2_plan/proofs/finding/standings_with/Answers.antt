@@ -12,7 +12,7 @@ use Rattle.par2_plan.specs.Findings.{Standing, Unmatched, needing_standing, pair
 use Rattle.par2_plan.specs.Views.{standings_of}
 use Rattle.par2_plan.specs.declared.finding.Standing as code
 use Rattle.par2_plan.specs.declared.finding.Standing.TheVariants as variants
-use Rattle.par2_plan.proofs.Standing.{standings_end, own_windows, standing_more, given_out}
+use Rattle.par2_plan.proofs.Standings.{standings_end, own_windows, standing_more, given_out}
 use Rattle.par2_plan.proofs.finding.standings_with.Goals as goal
 use Rattle.par2_plan.proofs.finding.standings_with.Goals.{in_default-via-in-Some+in_default, in_default-via-in_default}
 

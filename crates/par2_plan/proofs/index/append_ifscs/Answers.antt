@@ -5,7 +5,7 @@ use Rattle.par2_spec.specs.Volumes.{packet_of, ifsc_bytes}
 use Rattle.par2_spec.specs.declared.Kind.TheVariants.{Ifsc}
 use Rattle.par2_packets.specs.Views.{file_record_of}
 use Rattle.par2_packets.specs.declared.record.FileRecord.{FileRecord}
-use Rattle.par2_plan.proofs.Listed.{flat_map_next}
+use Rattle.par2_plan.proofs.SliceLists.{flat_map_next}
 use Rattle.par2_plan.proofs.index.append_ifscs.Goals as goal
 
 pub loop-file-preserved : goal.loop-file-preserved

@@ -4,7 +4,7 @@ use Rattle.std.proofs.lemmas.List.{get_or_default}
 use Rattle.par2_spec.specs.Slices.{slice_count}
 use Rattle.par2_spec.specs.Folders.{File, bytes_of}
 use Rattle.par2_spec.specs.Commands.{files_of}
-use Rattle.par2_plan.proofs.Listed.{part_of_sum}
+use Rattle.par2_plan.proofs.SliceLists.{part_of_sum}
 use Rattle.par2_plan.proofs.inputs.are_too_many.Goals as goal
 
 pub returns-then-count-left : goal.returns-then-count-left

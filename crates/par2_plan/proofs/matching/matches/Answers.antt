@@ -9,7 +9,7 @@ use Rattle.par2_spec.specs.Search.{needing}
 use Rattle.par2_search.specs.Matching.{text_at, matched_numbers, Describe}
 use Rattle.par2_search.specs.Texts.{texts_of}
 use Rattle.par2_plan.specs.Matches.{ArePlaces, items_where, intact_by}
-use Rattle.par2_plan.proofs.Given.{are_places, chosen_needing, given_by_numbers, free_by}
+use Rattle.par2_plan.proofs.MatchNumbers.{are_places, chosen_needing, given_by_numbers, free_by}
 use Rattle.par2_plan.proofs.matching.matches.Goals as goal
 
 pub names_at-requires : goal.names_at-requires

@@ -2,7 +2,7 @@ use Rattle.std.proofs.Common.{◌∙◌, ◌<◌, ◌++◌, ◌∷◌, [], List,
 use Rattle.std.specs.Prelude.{Option, None, option_map, IfSome}
 use Rattle.std.proofs.lemmas.List.{map_more}
 use Rattle.par2_search.specs.Matching.{text_at}
-use Rattle.par2_plan.proofs.Listed.{all_get}
+use Rattle.par2_plan.proofs.SliceLists.{all_get}
 use Rattle.par2_plan.proofs.matching.names_at.Goals as goal
 
 pub name_at-requires : goal.name_at-requires

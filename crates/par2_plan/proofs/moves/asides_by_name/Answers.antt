@@ -6,7 +6,7 @@ use Rattle.std.specs.Slice.Iter.{iter_rest}
 use Rattle.std.proofs.lemmas.Slice.Zip.{Zip-more}
 use Rattle.par2_spec.specs.Names.{is_among}
 use Rattle.par2_plan.specs.Matches.{name_cmp}
-use Rattle.par2_plan.proofs.Paired.{firsts, asides_with_rest}
+use Rattle.par2_plan.proofs.Pairs.{firsts, asides_with_rest}
 use Rattle.par2_plan.proofs.moves.asides_by_name.Goals as goal
 
 pub loop-name-preserved : goal.loop-name-preserved

@@ -4,7 +4,7 @@ use Rattle.std.proofs.lemmas.List.{take_more, get_or_default}
 use Rattle.par2_plan.specs.Matches.{HoldsNames}
 use Rattle.par2_plan.specs.Repairing.{names_given}
 use Rattle.par2_plan.proofs.Choices.{holds_more}
-use Rattle.par2_plan.proofs.Paired.{given_push}
+use Rattle.par2_plan.proofs.Pairs.{given_push}
 use Rattle.par2_plan.proofs.moves.matching_names.Goals as goal
 use Rattle.par2_plan.proofs.moves.matching_names.Goals.{in-Some+in_ok-insert, in_default}
 

@@ -3,7 +3,7 @@ use Rattle.std.specs.Prelude.{filter_map, option_map}
 use Rattle.std.proofs.lemmas.Slice.Zip.{either_empty_from_Zip}
 use Rattle.par2_spec.specs.Changes.{Rename}
 use Rattle.par2_plan.specs.Repairing.{place_by}
-use Rattle.par2_plan.proofs.Paired.{all_done}
+use Rattle.par2_plan.proofs.Pairs.{all_done}
 use Rattle.par2_plan.proofs.moves.push_matches.Goals as goal
 
 pub returns : goal.returns

@@ -1,7 +1,7 @@
 use Rattle.std.proofs.Common.{map, refl}
 use Rattle.std.proofs.lemmas.Slice.Zip.{either_empty_from_Zip}
 use Rattle.par2_spec.specs.Changes.{Rename}
-use Rattle.par2_plan.proofs.Paired.{all_done}
+use Rattle.par2_plan.proofs.Pairs.{all_done}
 use Rattle.par2_plan.proofs.moves.push_renames.Goals as goal
 
 pub returns : goal.returns

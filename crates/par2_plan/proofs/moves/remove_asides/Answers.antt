@@ -6,7 +6,7 @@ use Rattle.std.proofs.lemmas.Slice.Zip.{Zip-more, either_empty_from_Zip}
 use Rattle.par2_spec.specs.Changes.{Change, Remove}
 use Rattle.par2_spec.specs.Names.{is_among}
 use Rattle.par2_plan.specs.Repairing.{asides_removed}
-use Rattle.par2_plan.proofs.Paired.{all_done, kept_aside, removed_aside}
+use Rattle.par2_plan.proofs.Pairs.{all_done, kept_aside, removed_aside}
 use Rattle.par2_plan.proofs.moves.remove_asides.Goals as goal
 
 pub loop-name-preserved-in-Continue-1 : goal.loop-name-preserved-in-Continue-1

@@ -3,7 +3,7 @@ use Rattle.std.proofs.lemmas.List.{take_more, get_or_default}
 use Rattle.par2_spec.specs.Changes.{Change, Remove}
 use Rattle.par2_spec.specs.Names.{is_among}
 use Rattle.par2_plan.specs.Repairing.{files_removed}
-use Rattle.par2_plan.proofs.Paired.{removed_push}
+use Rattle.par2_plan.proofs.Pairs.{removed_push}
 use Rattle.par2_plan.proofs.moves.remove_files.Goals as goal
 use Rattle.par2_plan.proofs.moves.remove_files.Goals.{then-not-contains+in_ok-push, else-not-contains}
 

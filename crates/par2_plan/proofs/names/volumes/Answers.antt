@@ -4,7 +4,7 @@ use Rattle.par2_spec.specs.declared.Fault.{Fault}
 use Rattle.par2_spec.specs.declared.Fault.TheVariants.{Memory}
 use Rattle.par2_plan.specs.Faults.{long_name}
 use Rattle.par2_plan.specs.Outputs.{volume_if, volumes_of, names_of}
-use Rattle.par2_plan.proofs.Numbered.{volumes_below, volumes_more, none_long, one_is_long}
+use Rattle.par2_plan.proofs.VolumeNumbers.{volumes_below, volumes_more, none_long, one_is_long}
 use Rattle.par2_plan.proofs.Present.{refused_so}
 use Rattle.par2_plan.proofs.names.volumes.Goals as goal
 

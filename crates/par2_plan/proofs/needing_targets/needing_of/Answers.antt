@@ -5,8 +5,8 @@ use Rattle.par2_spec.specs.Search.{needing_names, matches}
 use Rattle.par2_spec.specs.Sets.{Target}
 use Rattle.par2_plan.specs.Matches.{items_where}
 use Rattle.par2_plan.specs.Repairing.{unmatched_names}
-use Rattle.par2_plan.proofs.Given.{chosen_needing}
-use Rattle.par2_plan.proofs.Repaired.{names_in_pairs, unmatched_of}
+use Rattle.par2_plan.proofs.MatchNumbers.{chosen_needing}
+use Rattle.par2_plan.proofs.RepairParts.{names_in_pairs, unmatched_of}
 use Rattle.par2_plan.proofs.needing_targets.needing_of.Goals as goal
 
 pub returns : goal.returns

@@ -11,7 +11,7 @@ use Rattle.par2_spec.specs.Sums.{lists_of}
 use Rattle.par2_packets.specs.Recoveries.{packets_from}
 use Rattle.par2_recovery.specs.Views.{texts_of}
 use Rattle.par2_plan.specs.Outputs.{inputs_of, packets_between}
-use Rattle.par2_plan.proofs.Listed.{packets_of_range}
+use Rattle.par2_plan.proofs.SliceLists.{packets_of_range}
 use Rattle.par2_plan.proofs.outputs.append_slices.Goals as goal
 
 pub recovery_slices_over-requires-clause-slices : goal.recovery_slices_over-requires-clause-slices

@@ -5,7 +5,7 @@ use Rattle.par2_folder.specs.Views.{change_of}
 use Rattle.par2_spec.specs.Sums.{lists_of}
 use Rattle.par2_plan.specs.Outputs.{volume_text, put_change}
 use Rattle.par2_plan.specs.declared.names.Volume.{Volume}
-use Rattle.par2_plan.proofs.Listed.{first_of}
+use Rattle.par2_plan.proofs.SliceLists.{first_of}
 use Rattle.par2_plan.proofs.outputs.changes_of.Goals as goal
 
 pub loop-volume-init : goal.loop-volume-init

@@ -1,6 +1,6 @@
 use Rattle.std.proofs.Common.{arith}
 use Rattle.par2_plan.specs.Outputs.{inputs_of}
-use Rattle.par2_plan.proofs.Listed.{packets_joined}
+use Rattle.par2_plan.proofs.SliceLists.{packets_joined}
 use Rattle.par2_plan.proofs.outputs.volume_bytes.Goals as goal
 
 pub loop-done-preserved : goal.loop-done-preserved

@@ -6,7 +6,7 @@ use Rattle.std.proofs.lemmas.Iterator.Search.{any_from_yields_List}
 use Rattle.par2_spec.specs.Faults.{fault_where}
 use Rattle.par2_spec.specs.Search.{is_needing}
 use Rattle.par2_spec.specs.declared.Fault.TheVariants.{NotComplete}
-use Rattle.par2_plan.proofs.Repaired.{any_needing}
+use Rattle.par2_plan.proofs.RepairParts.{any_needing}
 use Rattle.par2_plan.proofs.purge.purge_of.Goals.{After-any}
 use Rattle.par2_plan.proofs.purge.purge_of.Goals as goal
 

@@ -8,7 +8,7 @@ use Rattle.par2_spec.specs.declared.Fault.TheVariants.{NoSuchFile}
 use Rattle.par2_spec.specs.Faults.{or_fault}
 use Rattle.par2_spec.specs.Folders.{has}
 use Rattle.par2_plan.specs.Readings.{present_from}
-use Rattle.par2_plan.proofs.Listed.{get_at_place}
+use Rattle.par2_plan.proofs.SliceLists.{get_at_place}
 use Rattle.par2_plan.proofs.Places.{found_at, found_nowhere}
 use Rattle.par2_plan.proofs.Present.{passed_on}
 use Rattle.par2_plan.proofs.reading.present_extras.Goals as goal

@@ -6,7 +6,7 @@ use Rattle.par2_spec.specs.declared.Fault.TheVariants.{NoSuchFile, Memory}
 use Rattle.par2_spec.specs.Folders.{has}
 use Rattle.par2_spec.specs.Sets.{set_of}
 use Rattle.par2_spec.specs.Refusals.{absent_file, set_in}
-use Rattle.par2_plan.proofs.Passing.{answered_so, never_found}
+use Rattle.par2_plan.proofs.PassedAnswers.{answered_so, never_found}
 use Rattle.par2_plan.proofs.Places.{position-map}
 use Rattle.par2_plan.proofs.Present.{passed_on, base_first, extra_first, none_absent, extra_refused, base_absent, extra_absent, all_present}
 use Rattle.par2_plan.proofs.reading.read.Goals.{In_err-base, After-first_absent, In-Some, After-present_extras, After-set_of}

@@ -12,8 +12,8 @@ use Rattle.par2_spec.specs.declared.Fault.{Fault}
 use Rattle.par2_spec.specs.declared.Fault.TheVariants.{Memory}
 use Rattle.par2_restore.specs.Restoring.{IsAsDescribed}
 use Rattle.par2_plan.specs.Repairing.{WritesAsDescribed, IsWholeWhereMatched, repair_by}
-use Rattle.par2_plan.proofs.Passing.{refused_by, joined, err_passed, ok_no_err}
-use Rattle.par2_plan.proofs.Planned.{early_repair, repair_unread, whole_if_matched, repair_refused, repair_changes, repair_leads, same_set}
+use Rattle.par2_plan.proofs.PassedAnswers.{refused_by, joined, err_passed, ok_no_err}
+use Rattle.par2_plan.proofs.PlanParts.{early_repair, repair_unread, whole_if_matched, repair_refused, repair_changes, repair_leads, same_set}
 use Rattle.par2_plan.proofs.repair.plan_repair.Goals.{After-repair_of}
 use Rattle.par2_plan.proofs.repair.plan_repair.Goals as goal
 

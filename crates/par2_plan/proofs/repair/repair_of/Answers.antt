@@ -10,8 +10,8 @@ use Rattle.par2_asides.specs.Asides.{long_aside}
 use Rattle.par2_restore.specs.Restoring.{known_in, undetermined_fault, wrong_digest, files_of, IsAsDescribed}
 use Rattle.par2_plan.specs.Repairing.{AreNeeding, AreRestoredFor, targets_by}
 use Rattle.par2_plan.proofs.Choices.{distinct_once}
-use Rattle.par2_plan.proofs.Passing.{refused_by}
-use Rattle.par2_plan.proofs.Repaired.{IsPrepared, slices_known, told_by, targets_are, not_repairable, too_long, failed, accepted, all_changes}
+use Rattle.par2_plan.proofs.PassedAnswers.{refused_by}
+use Rattle.par2_plan.proofs.RepairParts.{IsPrepared, slices_known, told_by, targets_are, not_repairable, too_long, failed, accepted, all_changes}
 use Rattle.par2_plan.proofs.repair.repair_of.Goals.{After-asides}
 use Rattle.par2_plan.proofs.repair.repair_of.Goals as goal
 

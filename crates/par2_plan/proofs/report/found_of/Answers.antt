@@ -2,7 +2,7 @@ use Rattle.std.proofs.Common.{◌∙◌, List, ℕ, Bor, sym, ap, length}
 use Rattle.std.specs.Prelude.{filter, is_some, Option}
 use Rattle.par2_plan.specs.Parts.{found_by}
 use Rattle.par2_plan.specs.Views.{standing_of}
-use Rattle.par2_plan.proofs.Standing.{some_padded}
+use Rattle.par2_plan.proofs.Standings.{some_padded}
 use Rattle.par2_plan.proofs.report.found_of.Goals as goal
 
 pub returns-in-Unmatched : goal.returns-in-Unmatched

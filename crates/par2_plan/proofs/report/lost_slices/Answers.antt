@@ -9,7 +9,7 @@ use Rattle.par2_spec.specs.Sets.{Target}
 use Rattle.par2_plan.specs.Findings.{Standing, AreSized}
 use Rattle.par2_plan.specs.Parts.{lost_from, missing_from}
 use Rattle.par2_plan.specs.Views.{standing_of, standings_of}
-use Rattle.par2_plan.proofs.Lost.{lost_step, sized_rest, few_rest, lost_end_of, lost_below, each_below, missing_in, none_in}
+use Rattle.par2_plan.proofs.LostSlices.{lost_step, sized_rest, few_rest, lost_end_of, lost_below, each_below, missing_in, none_in}
 use Rattle.par2_plan.proofs.report.lost_slices.Goals as goal
 use Rattle.par2_plan.proofs.report.lost_slices.Goals.{in-Unmatched+in_ok-push_missing, in_default}
 

@@ -5,7 +5,7 @@ use Rattle.std.proofs.lemmas.Result.{IfOk-weaker}
 use Rattle.par2_spec.specs.Rank.{rank}
 use Rattle.par2_spec.specs.Search.{survivors}
 use Rattle.par2_sets.specs.Slices.{entry_of}
-use Rattle.par2_plan.proofs.Lost.{rank_of_nothing, nothing_from}
+use Rattle.par2_plan.proofs.LostSlices.{rank_of_nothing, nothing_from}
 use Rattle.par2_plan.proofs.report.rank_of.Goals as goal
 
 pub returns-then-is_empty : goal.returns-then-is_empty

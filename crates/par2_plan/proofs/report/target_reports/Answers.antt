@@ -5,7 +5,7 @@ use Rattle.std.proofs.lemmas.Slice.Zip.{either_empty_from_Zip}
 use Rattle.par2_spec.specs.Reports as reports
 use Rattle.par2_plan.specs.Parts.{target_reports_by}
 use Rattle.par2_plan.specs.Views.{standings_of, target_report_of}
-use Rattle.par2_plan.proofs.Standing.{reports_end}
+use Rattle.par2_plan.proofs.Standings.{reports_end}
 use Rattle.par2_plan.proofs.report.target_reports.Goals as goal
 
 pub returns : goal.returns

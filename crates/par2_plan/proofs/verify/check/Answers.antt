@@ -10,9 +10,9 @@ use Rattle.par2_spec.specs.declared.Fault.{Fault}
 use Rattle.par2_spec.specs.declared.Fault.TheVariants.{Memory}
 use Rattle.par2_spec.specs.Reports as reports
 use Rattle.par2_spec.specs.Reports.{report_in}
-use Rattle.par2_plan.proofs.Passing.{err_passed, ok_no_err}
-use Rattle.par2_plan.proofs.Planned.{early_verify}
-use Rattle.par2_plan.proofs.Answered.{refused_in, answered}
+use Rattle.par2_plan.proofs.PassedAnswers.{err_passed, ok_no_err}
+use Rattle.par2_plan.proofs.PlanParts.{early_verify}
+use Rattle.par2_plan.proofs.ReportValues.{refused_in, answered}
 use Rattle.par2_plan.proofs.verify.check.Goals.{After-report_with}
 use Rattle.par2_plan.proofs.verify.check.Goals as goal
 

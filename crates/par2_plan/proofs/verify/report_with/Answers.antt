@@ -8,7 +8,7 @@ use Rattle.par2_plan.specs.Findings.{Standing, AreSized, standings}
 use Rattle.par2_plan.specs.Parts.{report_by}
 use Rattle.par2_plan.specs.Views.{standings_of}
 use Rattle.par2_plan.proofs.Choices.{distinct_once}
-use Rattle.par2_plan.proofs.Standing.{sized_by}
+use Rattle.par2_plan.proofs.Standings.{sized_by}
 use Rattle.par2_plan.proofs.verify.report_with.Goals as goal
 
 pub standings-requires : goal.standings-requires

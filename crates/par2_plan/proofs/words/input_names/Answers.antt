@@ -4,7 +4,7 @@ use Rattle.std.proofs.lemmas.Bool.{cases_lt}
 use Rattle.std.proofs.lemmas.List.{length-map, take_more, take-map}
 use Rattle.par2_spec.specs.Refusals.{is_input_name}
 use Rattle.par2_spec.specs.declared.Fault.TheVariants.{BadName}
-use Rattle.par2_plan.proofs.Listed.{get_at_place}
+use Rattle.par2_plan.proofs.SliceLists.{get_at_place}
 use Rattle.par2_plan.proofs.Places.{found_at, found_nowhere}
 use Rattle.par2_plan.proofs.words.input_names.Goals as goal
 

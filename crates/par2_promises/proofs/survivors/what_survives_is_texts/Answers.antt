@@ -1,4 +1,4 @@
-use Rattle.par2_promises.proofs.Surviving.{survivors_are}
+use Rattle.par2_promises.proofs.Survivals.{survivors_are}
 use Rattle.par2_promises.proofs.survivors.what_survives_is_texts.Goals as goal
 
 pub returns : goal.returns

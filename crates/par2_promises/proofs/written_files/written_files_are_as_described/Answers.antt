@@ -4,7 +4,7 @@ use Rattle.par2_spec.specs.Search.{candidates, known, matches}
 use Rattle.par2_spec.specs.Names.{is_among}
 use Rattle.par2_spec.specs.Repairs.{rebuilt, rebuilt_targets, files_of_slices, names_without_match}
 use Rattle.par2_promises.specs.Slices.{kept_recovery}
-use Rattle.par2_promises.proofs.Agreeing.{as_many_as_pairs}
+use Rattle.par2_promises.proofs.Agreements.{as_many_as_pairs}
 use Rattle.par2_promises.proofs.written_files.written_files_are_as_described.Goals as goal
 use Rattle.par2_spec.proofs.FoundLaws.{all-filter}
 

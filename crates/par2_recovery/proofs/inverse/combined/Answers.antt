@@ -7,7 +7,7 @@ use Rattle.par2_recovery.specs.Products.{Adds}
 use Rattle.par2_recovery.specs.Survivors.{recovered_of}
 use Rattle.par2_recovery.specs.Views.{texts_of, AreBlank}
 use Rattle.par2_recovery.specs.Inverses.{AreFactors, AreCombined}
-use Rattle.par2_recovery.proofs.Combined.{length-texts_of}
+use Rattle.par2_recovery.proofs.Combinations.{length-texts_of}
 use Rattle.par2_recovery.proofs.Inverting.{are_combined, length-slices, length-recovered_of}
 use Rattle.par2_recovery.proofs.inverse.combined.Goals as goal
 

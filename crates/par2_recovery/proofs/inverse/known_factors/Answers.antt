@@ -7,7 +7,7 @@ use Rattle.par2_recovery.specs.Products.{Adds}
 use Rattle.par2_recovery.specs.Survivors.{recovered_of}
 use Rattle.par2_recovery.specs.Views.{texts_of}
 use Rattle.par2_recovery.specs.Inverses.{AreCoefficients, AreFactors}
-use Rattle.par2_recovery.proofs.Combined.{length-texts_of}
+use Rattle.par2_recovery.proofs.Combinations.{length-texts_of}
 use Rattle.par2_recovery.proofs.Inverting.{are_factors, length-recovered_of}
 use Rattle.par2_recovery.proofs.inverse.known_factors.Goals as goal
 

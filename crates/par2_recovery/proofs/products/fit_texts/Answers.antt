@@ -3,7 +3,7 @@ use Rattle.std.proofs.lemmas.Bool.{cases_eq, cases_lt}
 use Rattle.std.proofs.lemmas.List.{get_or_past}
 use Rattle.par2_spec.specs.Sums.{list_at}
 use Rattle.par2_recovery.specs.Views.{texts_of}
-use Rattle.par2_recovery.proofs.Combined.{length-texts_of}
+use Rattle.par2_recovery.proofs.Combinations.{length-texts_of}
 use Rattle.par2_recovery.proofs.products.fit_texts.Goals as goal
 
 pub loop-i-preserved : goal.loop-i-preserved

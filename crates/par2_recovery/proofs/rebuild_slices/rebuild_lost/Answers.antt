@@ -5,7 +5,7 @@ use Rattle.par2_recovery.specs.Survivors.{with_lost_slices}
 use Rattle.std.specs.Borrow.{Bor}
 use Rattle.par2_recovery.specs.Rebuilding.{known_among, AreRebuilt}
 use Rattle.par2_recovery.specs.Rebuilding.{IsKnown}
-use Rattle.par2_recovery.proofs.Known.{known_are_enough, known_are_rebuilt}
+use Rattle.par2_recovery.proofs.KnownSlices.{known_are_enough, known_are_rebuilt}
 use Rattle.par2_recovery.proofs.rebuild_slices.rebuild_lost.Goals as goal
 
 pub returns-then-all_known-clause-rebuilt : goal.returns-then-all_known-clause-rebuilt

@@ -8,7 +8,7 @@ use Rattle.par2_recovery.specs.Inverses.{IsEliminated, AreCombined}
 use Rattle.par2_recovery.specs.Products.{AreBytes}
 use Rattle.par2_recovery.specs.Survivors.{known_of, recovered_of, lost_from, known_from, known_alone}
 use Rattle.par2_recovery.specs.Views.{texts_of}
-use Rattle.par2_recovery.proofs.Combined.{length-texts_of}
+use Rattle.par2_recovery.proofs.Combinations.{length-texts_of}
 use Rattle.par2_recovery.proofs.Finishing.{finished_ok, finished_err}
 use Rattle.par2_recovery.proofs.Rebuilding.{lost_of_map, known_of_map, lost-lt, length-lost_from, length-present}
 use Rattle.par2_recovery.proofs.Standing.{are_known, slices_are}

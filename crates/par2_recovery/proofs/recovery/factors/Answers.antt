@@ -2,7 +2,7 @@ use Rattle.std.proofs.Common.{◌≡◌, ◌<◌, ◌++◌, ◌∷◌, [], sym, 
 use Rattle.std.specs.List.{range_with_len}
 use Rattle.par2_spec.specs.Recovery.{coefficients}
 use Rattle.par2_spec.specs.Sums.{lists_of}
-use Rattle.par2_recovery.proofs.Combined.{range-lt, rows_push}
+use Rattle.par2_recovery.proofs.Combinations.{range-lt, rows_push}
 use Rattle.par2_recovery.proofs.recovery.factors.Goals as goal
 
 pub coefficients-requires : goal.coefficients-requires

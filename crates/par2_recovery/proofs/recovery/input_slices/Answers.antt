@@ -5,7 +5,7 @@ use Rattle.par2_spec.specs.Slices.{padded}
 use Rattle.par2_spec.specs.Folders.{bytes_of}
 use Rattle.par2_packets.specs.declared.record.FileRecord.{FileRecord}
 use Rattle.par2_recovery.specs.Views.{texts_of, names_of}
-use Rattle.par2_recovery.proofs.Combined.{name_within}
+use Rattle.par2_recovery.proofs.Combinations.{name_within}
 use Rattle.par2_spec.proofs.SliceLaws.{files_push}
 use Rattle.par2_recovery.proofs.recovery.input_slices.Goals as goal
 

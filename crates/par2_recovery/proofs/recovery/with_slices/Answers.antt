@@ -3,7 +3,7 @@ use Rattle.std.specs.List.{range_with_len, AllByRecursion}
 use Rattle.par2_spec.specs.Slices.{padded, slice_at}
 use Rattle.par2_recovery.specs.Products.{AreBytes}
 use Rattle.par2_recovery.specs.Views.{texts_of}
-use Rattle.par2_recovery.proofs.Combined.{slices_push, bytes_push}
+use Rattle.par2_recovery.proofs.Combinations.{slices_push, bytes_push}
 use Rattle.par2_recovery.proofs.recovery.with_slices.Goals as goal
 
 pub loop-j-preserved : goal.loop-j-preserved

@@ -6,7 +6,7 @@ use Rattle.par2_spec.specs.Folders.{File}
 use Rattle.par2_spec.specs.Names.{is_among}
 use Rattle.par2_spec.specs.Sets.{Target}
 use Rattle.par2_restore.specs.Restoring.{target_at, files_of}
-use Rattle.par2_restore.proofs.Walked.{among, items_more}
+use Rattle.par2_restore.proofs.TargetWalks.{among, items_more}
 use Rattle.par2_restore.proofs.files.made_files.Goals as goal
 use Rattle.par2_restore.proofs.files.made_files.Goals.{then-contains+in_ok-file_of+in_ok-push+in_ok-push-2, else-contains}
 

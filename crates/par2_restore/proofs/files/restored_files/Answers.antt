@@ -12,7 +12,7 @@ use Rattle.par2_spec.specs.Sets.{Target}
 use Rattle.par2_spec.specs.declared.Fault.TheVariants.{RepairFailed}
 use Rattle.par2_restore.specs.Restoring.{targets_among, files_of, has_digest}
 use Rattle.par2_restore.specs.declared.files.Made.{Made}
-use Rattle.par2_restore.proofs.Walked.{all_right, described, first_wrong}
+use Rattle.par2_restore.proofs.TargetWalks.{all_right, described, first_wrong}
 use Rattle.par2_restore.proofs.files.restored_files.Goals as goal
 
 -- what was made has the digests of the targets where they all have

@@ -9,7 +9,7 @@ use Rattle.par2_spec.specs.Sets.{ParSet, all_pairs}
 use Rattle.par2_search.specs.Texts.{texts_of}
 use Rattle.par2_restore.specs.Restoring.{known_in, undetermined_fault}
 use Rattle.par2_spec.specs.declared.Fault.TheVariants.{Memory}
-use Rattle.par2_restore.proofs.Rebuilt.{rebuilt_for, enough_for, fault_for, no_fault}
+use Rattle.par2_restore.proofs.Rebuilds.{rebuilt_for, enough_for, fault_for, no_fault}
 use Rattle.par2_restore.proofs.slices.restored_slices.Goals.{In-Ok}
 use Rattle.par2_restore.proofs.slices.restored_slices.Goals as goal
 

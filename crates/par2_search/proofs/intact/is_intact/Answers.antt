@@ -1,5 +1,5 @@
 use Rattle.std.proofs.Common.{◌≡◌, length, arith}
-use Rattle.par2_search.proofs.Compared.{compared_is, intact_by_md5s, not_intact_by_crcs}
+use Rattle.par2_search.proofs.Comparisons.{compared_is, intact_by_md5s, not_intact_by_crcs}
 use Rattle.par2_search.proofs.intact.is_intact.Goals as goal
 
 pub returns-then-have_crc32s : goal.returns-then-have_crc32s

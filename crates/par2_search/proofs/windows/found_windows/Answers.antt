@@ -6,7 +6,7 @@ use Rattle.par2_spec.specs.Checksums.{Pair}
 use Rattle.par2_spec.specs.Windows.{found}
 use Rattle.par2_slices.specs.Searches.{no_pair, pair_at}
 use Rattle.par2_search.specs.Texts.{AreShort, IsWithin, Window, padded_window, padded_windows, texts_of, window_in}
-use Rattle.par2_search.proofs.Searched.{spot_of_pair, spot_found, spot_within}
+use Rattle.par2_search.proofs.FoundWindows.{spot_of_pair, spot_found, spot_within}
 use Rattle.par2_search.proofs.windows.found_windows.Goals as goal
 
 pub window_at-requires : goal.window_at-requires

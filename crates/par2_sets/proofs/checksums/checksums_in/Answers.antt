@@ -8,7 +8,7 @@ use Rattle.std.proofs.lemmas.List.{take_all}
 use Rattle.par2_spec.specs.Packets.{Packet, IfscBody, read_ifsc}
 use Rattle.par2_packets.specs.Views.{packet_of}
 use Rattle.par2_sets.specs.Firsts.{count_cmp}
-use Rattle.par2_sets.proofs.Checked.{checksums_of}
+use Rattle.par2_sets.proofs.KeptPackets.{checksums_of}
 use Rattle.par2_sets.proofs.Keeping.{one_more, nothing_more, same_count}
 use Rattle.par2_sets.proofs.checksums.checksums_in.Goals as goal
 use Rattle.par2_sets.proofs.checksums.checksums_in.Goals.{in-Some+in_ok-keep_first, in_default}

@@ -2,7 +2,7 @@ use Rattle.std.proofs.Common.{◌≡◌, ℕ, List, map, take}
 use Rattle.std.specs.BTreeMap.{get}
 use Rattle.par2_packets.specs.Views.{packet_of}
 use Rattle.par2_sets.specs.Firsts.{count_cmp}
-use Rattle.par2_sets.proofs.Checked.{checksums_of}
+use Rattle.par2_sets.proofs.KeptPackets.{checksums_of}
 use Rattle.par2_sets.proofs.checksums.checksums_in.Given as goal
 
 abbrev pub invariant-loop-packet : goal.invariant-loop-packet

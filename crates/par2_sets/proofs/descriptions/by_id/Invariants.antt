@@ -3,7 +3,7 @@ use Rattle.std.specs.Prelude.{find}
 use Rattle.std.specs.BTreeMap.{get}
 use Rattle.par2_sets.specs.Firsts.{id_cmp}
 use Rattle.par2_sets.proofs.Keeping.{reads}
-use Rattle.par2_sets.proofs.Checked.{desc_in, has_id}
+use Rattle.par2_sets.proofs.KeptPackets.{desc_in, has_id}
 use Rattle.par2_sets.proofs.descriptions.by_id.Given as goal
 
 abbrev pub invariant-loop-packet : goal.invariant-loop-packet

@@ -6,7 +6,7 @@ use Rattle.par2_spec.specs.Stores.{Contents}
 use Rattle.par2_tool.specs.Holding.{IsOpening, OpensAsBefore, TellsApartBack, with_history}
 use Rattle.par2_tool.specs.Opening.{started_of, IsOpened, IsUnopened, OnlyTakesBack}
 use Rattle.par2_tool.proofs.AsIs.{opened_as_is, opened_new, stands_on}
-use Rattle.par2_tool.proofs.Reopened.{is_read}
+use Rattle.par2_tool.proofs.Openings.{is_read}
 use Rattle.par2_tool.proofs.opening.open_for_verify.Goals as goal
 
 pub returns-in-Ok-None-clause-opened : goal.returns-in-Ok-None-clause-opened

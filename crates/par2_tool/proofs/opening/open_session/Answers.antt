@@ -6,8 +6,8 @@ use Rattle.par2_spec.specs.Sessions.{session_of_kept}
 use Rattle.par2_spec.specs.Stores.{Contents}
 use Rattle.par2_tool.specs.Holding.{Holds, IsOpening, OpensAsBefore, TellsApartBack, with_history}
 use Rattle.par2_tool.specs.Opening.{started_of, IsUnopened, OnlyTakesBack}
-use Rattle.par2_tool.proofs.Made.{is_new}
-use Rattle.par2_tool.proofs.Reopened.{is_read, opens_new}
+use Rattle.par2_tool.proofs.MadeChanges.{is_new}
+use Rattle.par2_tool.proofs.Openings.{is_read, opens_new}
 use Rattle.par2_tool.proofs.opening.open_session.Goals as goal
 
 pub returns-in-Ok-Some-clause-stopped : goal.returns-in-Ok-Some-clause-stopped

@@ -6,8 +6,8 @@ use Rattle.par2_spec.specs.Stores.{Contents}
 use Rattle.par2_spec.specs.declared.JournalFault.TheVariants.{JournalInvalid, FolderChanged}
 use Rattle.par2_journal.specs.Opening.{opened_of, session_before, way_left}
 use Rattle.par2_tool.specs.Holding.{Holds, OpensAsBefore, with_history}
-use Rattle.par2_tool.proofs.Made.{is_new}
-use Rattle.par2_tool.proofs.Reopened.{any_err, holds_settled, holds_taken_back, opens_read, opens_refused, opens_still, takes_back, way_applies}
+use Rattle.par2_tool.proofs.MadeChanges.{is_new}
+use Rattle.par2_tool.proofs.Openings.{any_err, holds_settled, holds_taken_back, opens_read, opens_refused, opens_still, takes_back, way_applies}
 use Rattle.par2_tool.proofs.opening.open_with.Goals as goal
 
 pub returns-in_err-session-in-Ok-Halfway-clause-stopped : goal.returns-in_err-session-in-Ok-Halfway-clause-stopped

@@ -3,7 +3,7 @@ use Rattle.par2_spec.specs.Sessions.{session_of_kept}
 use Rattle.par2_folder.specs.Views.{change_of}
 use Rattle.par2_journal.specs.Opening.{session_before}
 use Rattle.par2_tool.specs.Opening.{IsStillHalfway}
-use Rattle.par2_tool.proofs.Reopened.{still_halfway}
+use Rattle.par2_tool.proofs.Openings.{still_halfway}
 use Rattle.par2_tool.proofs.opening.take_back.Goals as goal
 
 pub returns-in-Err-write_down-clause-stopped : goal.returns-in-Err-write_down-clause-stopped

@@ -14,8 +14,8 @@ use Rattle.par2_folder.specs.Views.{change_of}
 use Rattle.par2_journal.specs.Ready.{changes_by_kind, after_commit}
 use Rattle.par2_tool.specs.Holding.{TellsApartAlong, OpensAsBeforeOrAfter}
 use Rattle.par2_tool.specs.Performing.{after_write_down, AreSomeMade, HoldsJournaled, IsStoppedAt, IsWritten}
-use Rattle.par2_tool.proofs.Verified.{as_it_was, verify_leaves, verify_refused, written_by}
-use Rattle.par2_tool.proofs.Stopping.{none_made, made_ready, ready_applies, written_holds, written_journal, stopped_opens, asked_in_order}
+use Rattle.par2_tool.proofs.VerifyRuns.{as_it_was, verify_leaves, verify_refused, written_by}
+use Rattle.par2_tool.proofs.Stops.{none_made, made_ready, ready_applies, written_holds, written_journal, stopped_opens, asked_in_order}
 use Rattle.par2_tool.proofs.performing.perform.Goals as goal
 
 pub returns-in-Ok-clause-session : goal.returns-in-Ok-clause-session

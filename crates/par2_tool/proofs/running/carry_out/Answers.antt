@@ -9,7 +9,7 @@ use Rattle.par2_tool.specs.Performing.{outcome_of}
 use Rattle.par2_tool.specs.Refusals.{failure_for}
 use Rattle.par2_tool.specs.Telling.{IsBack, IsCause, IsFailed}
 use Rattle.par2_tool.proofs.AsIs.{done_for, no_way_back, verify_failed}
-use Rattle.par2_tool.proofs.Carried.{opening_cause, opening_failed, perform_cause, perform_failed}
+use Rattle.par2_tool.proofs.Outcomes.{opening_cause, opening_failed, perform_cause, perform_failed}
 use Rattle.par2_tool.proofs.running.carry_out.Goals as goal
 use Rattle.par2_tool.proofs.running.carry_out.Goals.{else-dropped-via-then-dropped+else-is_back, else-dropped-via-else-dropped}
 

@@ -7,7 +7,7 @@ use Rattle.par2_printing.specs.Views.{words_asked}
 use Rattle.par2_tool.specs.Asking.{AskFor}
 use Rattle.par2_tool.specs.Performing.{outcome_of}
 use Rattle.par2_tool.specs.Telling.{Answered, Failed, IsUnread, IsPrinted}
-use Rattle.par2_tool.proofs.Unread.{unread_words}
+use Rattle.par2_tool.proofs.UnreadWords.{unread_words}
 use Rattle.par2_tool.proofs.running.run.Goals as goal
 
 pub returns-in-Err-clause-told : goal.returns-in-Err-clause-told

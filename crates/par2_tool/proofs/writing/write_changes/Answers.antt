@@ -3,7 +3,7 @@ use Rattle.std.proofs.lemmas.List.{take-map}
 use Rattle.par2_spec.specs.Stores.{Contents, with_change}
 use Rattle.par2_folder.specs.Views.{change_of}
 use Rattle.par2_tool.specs.Performing.{with_all_changes}
-use Rattle.par2_tool.proofs.Made.{applicable_here, made_next}
+use Rattle.par2_tool.proofs.MadeChanges.{applicable_here, made_next}
 use Rattle.par2_tool.proofs.writing.write_changes.Goals as goal
 
 pub returns-in-Err-clause-stopped : goal.returns-in-Err-clause-stopped

@@ -1,6 +1,6 @@
 use Rattle.std.proofs.lemmas.Result.{IfOk-weaker}
 use Rattle.par2_words.specs.Definition.{file_commands_app}
-use Rattle.par2_words.proofs.Added.{with_command}
+use Rattle.par2_words.proofs.Additions.{with_command}
 use Rattle.par2_words.proofs.definition.file_commands.Goals as goal
 
 pub returns : goal.returns

@@ -1,6 +1,6 @@
 use Rattle.std.proofs.lemmas.Result.{IfOk-weaker}
 use Rattle.par2_words.specs.Definition.{par2_app}
-use Rattle.par2_words.proofs.Added.{with_command}
+use Rattle.par2_words.proofs.Additions.{with_command}
 use Rattle.par2_words.proofs.definition.par2_command.Goals as goal
 
 pub returns : goal.returns

@@ -1,6 +1,6 @@
 use Rattle.std.proofs.lemmas.Result.{IfOk-weaker}
 use Rattle.par2_words.specs.Definition.{repair_app}
-use Rattle.par2_words.proofs.Added.{with_argument}
+use Rattle.par2_words.proofs.Additions.{with_argument}
 use Rattle.par2_words.proofs.definition.repair_command.Goals as goal
 
 pub returns : goal.returns

@@ -3,7 +3,7 @@ use Rattle.std.specs.Prelude.{is_some, option_and_then}
 use Rattle.std.proofs.lemmas.Result.{IfErr-weaker, IfOk-weaker}
 use Rattle.clap.specs.Words.{found_of, rows_of}
 use Rattle.par2_words.specs.Meanings.{meaning}
-use Rattle.par2_words.proofs.Known.{faultless, known, met, unmet}
+use Rattle.par2_words.proofs.Subcommands.{faultless, known, met, unmet}
 use Rattle.par2_words.proofs.read.read_words.Goals as goal
 
 pub returns-in-Some-clause-command : goal.returns-in-Some-clause-command

@@ -3,7 +3,7 @@ use Rattle.par2_spec.specs.Changes as defined
 use Rattle.par2_folder.specs.Views.{change_of}
 use Rattle.par2_folder.specs.declared.change.Change.{Change}
 use Rattle.par2_folder.specs.Lending.{with_changes}
-use Rattle.par2_folder.proofs.Lent.{refilled}
+use Rattle.par2_folder.proofs.LentChanges.{refilled}
 use Rattle.par2_folder.proofs.changes.Changes.as_mut_slice.Goals as goal
 
 pub returns : goal.returns

@@ -1,7 +1,7 @@
 use Rattle.std.proofs.Common.{[], ◌∙◌, ap, sym}
 use Rattle.md5.specs.Md5.{md5}
 use Rattle.par2_folder.specs.Below.{fingerprint_input}
-use Rattle.par2_folder.proofs.Sorted.{fingerprint_of}
+use Rattle.par2_folder.proofs.SortedFiles.{fingerprint_of}
 use Rattle.par2_folder.proofs.folder.Folder.fingerprint.Goals as goal
 
 pub returns : goal.returns

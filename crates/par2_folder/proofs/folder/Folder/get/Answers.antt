@@ -1,7 +1,7 @@
 use Rattle.std.proofs.Common.{subst}
 use Rattle.par2_spec.specs.Folders.{IsFolder}
 use Rattle.par2_spec.specs.Changes.{FolderState}
-use Rattle.par2_folder.proofs.Sorted.{is_folder}
+use Rattle.par2_folder.proofs.SortedFiles.{is_folder}
 use Rattle.par2_folder.proofs.folder.Folder.get.Goals as goal
 
 pub returns-in-Ok-clause-folder : goal.returns-in-Ok-clause-folder

@@ -4,7 +4,7 @@ use Rattle.par2_spec.specs.Sessions.{KeptSession, session_of_kept, session_after
 use Rattle.par2_spec.specs.Views.{action_of}
 use Rattle.par2_spec.proofs.NamesLaws.{false_true}
 use Rattle.par2_spec.specs.declared.commands.Action.{Action}
-use Rattle.par2_journal.proofs.Acting.{undo_done, redo_done, undo_refused, redo_refused, of_error}
+use Rattle.par2_journal.proofs.Actions.{undo_done, redo_done, undo_refused, redo_refused, of_error}
 use Rattle.par2_journal.proofs.session.Session.act.Goals as goal
 
 pub returns-in_ok-undo-in-Undo-clause-done : goal.returns-in_ok-undo-in-Undo-clause-done

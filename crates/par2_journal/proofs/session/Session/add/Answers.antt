@@ -4,7 +4,7 @@ use Rattle.std.specs.List.{insert}
 use Rattle.par2_spec.specs.Changes.{takes_all}
 use Rattle.par2_spec.specs.Sessions.{KeptSession}
 use Rattle.par2_journal.proofs.Entries.{length_added}
-use Rattle.par2_journal.proofs.Turned.{done_walks}
+use Rattle.par2_journal.proofs.Turns.{done_walks}
 use Rattle.par2_journal.proofs.session.Session.add.Goals as goal
 
 pub invariant_of-self : goal.invariant_of-self

@@ -5,7 +5,7 @@ use Rattle.par2_spec.specs.Sessions.{session_of_kept}
 use Rattle.par2_spec.specs.Opening.{settled_journal}
 use Rattle.par2_spec.specs.declared.Version.TheVariants.{Two}
 use Rattle.par2_journal.specs.Spelling.{settled_with}
-use Rattle.par2_journal.proofs.Spelled.{settled_at}
+use Rattle.par2_journal.proofs.SessionJournals.{settled_at}
 use Rattle.par2_journal.proofs.session.Session.encode.Goals as goal
 
 pub returns : goal.returns

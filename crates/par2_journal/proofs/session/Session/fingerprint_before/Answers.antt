@@ -1,6 +1,6 @@
 use Rattle.std.proofs.Common.{◌∙◌}
 use Rattle.par2_spec.specs.Changes.{takes_all}
-use Rattle.par2_journal.proofs.Spelled.{ahead_taken}
+use Rattle.par2_journal.proofs.SessionJournals.{ahead_taken}
 use Rattle.par2_journal.proofs.session.Session.fingerprint_before.Goals as goal
 
 pub of-requires : goal.of-requires

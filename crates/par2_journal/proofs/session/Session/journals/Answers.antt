@@ -2,7 +2,7 @@ use Rattle.std.proofs.Common.{◌-◌, sym, ap, ◌∙◌, vec_len, vec_capacity
 use Rattle.par2_journal.specs.Kinds.{kind_of}
 use Rattle.par2_journal.specs.Ready.{Kind, Ready, changes_by_kind}
 use Rattle.par2_journal.specs.Spelling.{Add, Undo, Redo, turn_of}
-use Rattle.par2_journal.proofs.Spelled.{ready_applies, ready_spelled, undo_entry, redo_entry}
+use Rattle.par2_journal.proofs.SessionJournals.{ready_applies, ready_spelled, undo_entry, redo_entry}
 use Rattle.par2_journal.proofs.session.Session.journals.Goals.{in-Change, in-Undo, in-Redo}
 use Rattle.par2_journal.proofs.session.Session.journals.Goals as goal
 

@@ -3,7 +3,7 @@ use Rattle.par2_spec.specs.Views.{action_of}
 use Rattle.par2_spec.specs.History.{Run, Ended}
 use Rattle.par2_spec.specs.Sessions.{session_of_kept, history_of}
 use Rattle.par2_spec.proofs.SessionLaws.{run_leaves}
-use Rattle.par2_journal.proofs.Acting.{within_all, read_at, none_left, on_accepted, on_refused}
+use Rattle.par2_journal.proofs.Actions.{within_all, read_at, none_left, on_accepted, on_refused}
 use Rattle.par2_journal.proofs.session.Session.play.Goals as goal
 
 pub loop-action-preserved-in-Err : goal.loop-action-preserved-in-Err

@@ -4,7 +4,7 @@ use Rattle.par2_spec.specs.Commands.{Create, Repair, Purge}
 use Rattle.par2_spec.specs.Views.{action_of, create_args_of}
 use Rattle.par2_spec.specs.declared.commands.Action.{Action}
 use Rattle.par2_journal.specs.Refusals.{MayRefuse}
-use Rattle.par2_journal.proofs.Asked.{refused_for}
+use Rattle.par2_journal.proofs.Readiness.{refused_for}
 use Rattle.par2_journal.proofs.session.Session.prepare.Goals as goal
 
 pub returns-in_err-prepare_create-in-Create-clause-refused : goal.returns-in_err-prepare_create-in-Create-clause-refused

@@ -1,6 +1,6 @@
 use Rattle.std.proofs.Common.{map, ap, ◌∙◌}
 use Rattle.par2_spec.specs.Texts.{step_of}
-use Rattle.par2_journal.proofs.Asked.{fits_changes}
+use Rattle.par2_journal.proofs.Readiness.{fits_changes}
 use Rattle.par2_journal.proofs.session.Session.prepare_changes.Goals as goal
 
 pub returns-clause-fits : goal.returns-clause-fits

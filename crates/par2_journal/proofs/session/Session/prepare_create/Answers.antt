@@ -1,6 +1,6 @@
 use Rattle.par2_spec.specs.Commands.{Create}
 use Rattle.par2_spec.specs.Views.{create_args_of}
-use Rattle.par2_journal.proofs.Asked.{plan_ready}
+use Rattle.par2_journal.proofs.Readiness.{plan_ready}
 use Rattle.par2_journal.proofs.session.Session.prepare_create.Goals as goal
 
 pub returns-clause-ready : goal.returns-clause-ready

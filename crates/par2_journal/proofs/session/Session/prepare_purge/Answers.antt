@@ -1,5 +1,5 @@
 use Rattle.par2_spec.specs.Commands.{Purge}
-use Rattle.par2_journal.proofs.Asked.{plan_ready}
+use Rattle.par2_journal.proofs.Readiness.{plan_ready}
 use Rattle.par2_journal.proofs.session.Session.prepare_purge.Goals as goal
 
 pub returns-clause-ready : goal.returns-clause-ready

@@ -1,6 +1,6 @@
 use Rattle.std.proofs.Common.{map, string_bytes}
 use Rattle.par2_spec.specs.Commands.{Repair}
-use Rattle.par2_journal.proofs.Asked.{plan_ready}
+use Rattle.par2_journal.proofs.Readiness.{plan_ready}
 use Rattle.par2_journal.proofs.session.Session.prepare_repair.Goals as goal
 
 pub returns-clause-ready : goal.returns-clause-ready

@@ -1,7 +1,7 @@
 use Rattle.std.proofs.Common.{◌≡◌, ◌<◌, ◌∙◌, length, ap, arith}
 use Rattle.par2_spec.specs.Texts.{step_of}
 use Rattle.std.specs.Prelude.{map}
-use Rattle.par2_journal.proofs.Asked.{nothing_to_undo, ready_undo}
+use Rattle.par2_journal.proofs.Readiness.{nothing_to_undo, ready_undo}
 use Rattle.par2_journal.proofs.session.Session.prepare_undo.Goals as goal
 
 pub returns-then-undo_depth-eq0-clause-refused : goal.returns-then-undo_depth-eq0-clause-refused

@@ -2,7 +2,7 @@ use Rattle.std.proofs.Common.{◌<◌, ◌-◌, length, length-set, ap, ◌∙�
 use Rattle.par2_spec.specs.Sessions.{KeptSession, kept_redone}
 use Rattle.par2_journal.specs.Ready.{next_of}
 use Rattle.par2_journal.specs.Sessions.{kept_session}
-use Rattle.par2_journal.proofs.Turned.{redo_taken, redone_to, redone_walks, next_redo_is}
+use Rattle.par2_journal.proofs.Turns.{redo_taken, redone_to, redone_walks, next_redo_is}
 use Rattle.par2_journal.proofs.session.Session.redo.Goals as goal
 
 pub turn-requires : goal.turn-requires

@@ -2,7 +2,7 @@ use Rattle.std.proofs.Common.{◌≡◌, ◌<◌, ◌+◌, ◌-◌, length, leng
 use Rattle.par2_spec.specs.Sessions.{KeptSession, kept_undone}
 use Rattle.par2_journal.specs.Ready.{next_of}
 use Rattle.par2_journal.specs.Sessions.{kept_session}
-use Rattle.par2_journal.proofs.Turned.{undo_taken, undone_to, undone_walks, next_undo_is}
+use Rattle.par2_journal.proofs.Turns.{undo_taken, undone_to, undone_walks, next_undo_is}
 use Rattle.par2_journal.proofs.session.Session.undo.Goals as goal
 
 pub turn-requires : goal.turn-requires

@@ -1,5 +1,5 @@
 use Rattle.std.proofs.Common.{◌∙◌, ◌+◌, ◌*◌, ◌<◌, ◌≤◌, ◌/◌, length, arith}
-use Rattle.par2_slices.proofs.Windowed.{group_windows, in_text}
+use Rattle.par2_slices.proofs.NextWindows.{group_windows, in_text}
 use Rattle.par2_slices.proofs.search.Search.by_fours.Goals as goal
 
 pub test_four-requires : goal.test_four-requires

@@ -4,7 +4,7 @@ use Rattle.par2_spec.specs.Checksums.{crc32}
 use Rattle.par2_spec.specs.Windows.{window}
 use Rattle.par2_slices.specs.Searches.{IsAt}
 use Rattle.par2_slices.proofs.Searching.{none_left}
-use Rattle.par2_slices.proofs.Windowed.{first_byte, next_window, rest_len}
+use Rattle.par2_slices.proofs.NextWindows.{first_byte, next_window, rest_len}
 use Rattle.par2_slices.proofs.search.Search.one_by_one.Goals as goal
 
 pub loop-offset-preserved : goal.loop-offset-preserved

@@ -21,8 +21,8 @@ use Rattle.par2_spec.specs.declared.Fault.{Fault}
 use Rattle.par2_spec.specs.declared.Fault.TheVariants.{BadSliceSize, BadCount, BadBase, NoInput, NoSuchFile, EmptyFile, TooManySlices}
 use Rattle.par2_plan.specs.Faults.{duplicate_input, files_fault, ids_fault, inputs_fault, long_name, there_already, create_fault}
 use Rattle.par2_plan.specs.Outputs.{volume_at, volumes_of, names_of, output_names}
-use Rattle.par2_plan.proofs.Numbered.{long_without_base}
-use Rattle.par2_plan.proofs.Passed.{head_passed}
+use Rattle.par2_plan.proofs.VolumeNumbers.{long_without_base}
+use Rattle.par2_plan.proofs.GoodWords.{head_passed}
 
 pub behind : {F : Type 0} (x : Option F) (xs ys : List (Option F)) → first_fault xs ≡ first_fault ys → first_fault (x ∷ xs) ≡ first_fault (x ∷ ys)
 behind None xs ys e = e

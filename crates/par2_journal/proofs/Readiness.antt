@@ -13,7 +13,7 @@ use Rattle.par2_spec.specs.declared.Fault.{Fault}
 use Rattle.par2_journal.specs.Ready.{Ready, Changing, Undoing, Redoing, Fits, IsKindOf, IsReady, changes_by_kind, next_of}
 use Rattle.par2_journal.specs.Refusals.{MayFail, MayRefuse}
 use Rattle.par2_spec.specs.History.{IsChanging}
-use Rattle.par2_journal.proofs.Acting.{command_done, undo_done, redo_done}
+use Rattle.par2_journal.proofs.Actions.{command_done, undo_done, redo_done}
 use Rattle.par2_journal.specs.declared.preparation.SessionFault.{SessionFault}
 use Rattle.par2_journal.specs.declared.preparation.SessionFault.TheVariants.{Plan, NothingToUndo, NothingToRedo}
 

@@ -12,7 +12,7 @@ use Rattle.par2_spec.specs.Opening.{is_valid}
 use Rattle.par2_spec.specs.Plans.{LeadsToAfterAsked}
 use Rattle.par2_spec.specs.Sessions.{KeptSession, Session, folders_along, history_of, session_after, changes_asked, session_of_kept, session_with, kept_undone}
 use Rattle.par2_journal.specs.Ready.{next_of}
-use Rattle.par2_headline.proofs.Answered.{GoesAlong}
+use Rattle.par2_headline.proofs.RepairAnswers.{GoesAlong}
 
 -- the laws that a session goes where its history goes, and a kept session where the session goes
 pub record AreLaws : Type 0 where

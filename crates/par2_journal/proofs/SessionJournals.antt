@@ -18,7 +18,7 @@ use Rattle.par2_journal.specs.Spelling.{Turn, SpellsWhere, AreSpelled, HasNext, 
 use Rattle.par2_journal.specs.declared.spelling.Journals.{Journals}
 use Rattle.par2_spec.proofs.FolderLaws.{state_files}
 use Rattle.par2_spec.proofs.SessionLaws.{next_taken, same_session}
-use Rattle.par2_journal.proofs.Turned.{at, undone_to, redone_to, next_undo_is, next_redo_is}
+use Rattle.par2_journal.proofs.Turns.{at, undone_to, redone_to, next_undo_is, next_redo_is}
 use Rattle.par2_journal.proofs.Ways.{back_length, takes_none}
 
 module _ (xs : List (List Change)) (n : ℕ) (within : n ≤ length xs) where

@@ -14,7 +14,7 @@ use Rattle.par2_spec.specs.Volumes.{FileRecord, record_of, all_slices, in_id_ord
 use Rattle.par2_spec.specs.Refusals.{are_counts}
 use Rattle.par2_origins.specs.Volumes.{AreInputs, IsVolume}
 use Rattle.par2_origins.proofs.Laws.{AreKept}
-use Rattle.par2_origins.proofs.Said.{Says, of_contained, all_contained}
+use Rattle.par2_origins.proofs.FilePackets.{Says, of_contained, all_contained}
 use Rattle.par2_origins.proofs.Inputs.{size_parts, records_fit}
 use Rattle.par2_spec.proofs.ListsLaws.{all-append}
 

@@ -14,7 +14,7 @@ use Rattle.par2_spec.specs.Refusals.{are_counts, is_input_name, head_fault, bad_
 use Rattle.par2_spec.specs.declared.Fault.TheVariants.{BadName, NoSuchFile, EmptyFile, TooManySlices}
 use Rattle.par2_spec.proofs.ListsLaws.{all-map}
 use Rattle.par2_spec.proofs.NamesLaws.{true_from_not}
-use Rattle.par2_plan.proofs.Ordered.{all_ordered, sum_ordered, length_ordered, slices_counted, few_files}
+use Rattle.par2_plan.proofs.FileOrder.{all_ordered, sum_ordered, length_ordered, slices_counted, few_files}
 use Rattle.par2_plan.specs.Faults.{duplicate_input, files_fault, ids_fault, inputs_fault}
 
 -- ---- no fault among several

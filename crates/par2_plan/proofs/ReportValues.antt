@@ -17,7 +17,7 @@ use Rattle.par2_spec.proofs.ReadLaws.{sound_of}
 use Rattle.par2_spec.proofs.ReportLaws.{by_target, states_follow, found_whole_in}
 use Rattle.par2_plan.specs.Findings.{needing_standing, standings_by, matches_given, standings}
 use Rattle.par2_plan.specs.Parts.{target_report_by, target_reports_by, missing_from, lost_from, report_by}
-use Rattle.par2_plan.proofs.Lost.{missing-append, none_missing}
+use Rattle.par2_plan.proofs.LostSlices.{missing-append, none_missing}
 
 -- how many of a target's slices are found
 abbrev count_of : (Pair → Option (List ℕ)) → Target → ℕ

@@ -14,7 +14,7 @@ use Rattle.par2_promises.specs.Premises.{HoldsBytes}
 use Rattle.par2_promises.specs.Slices.{recovery_slice}
 use Rattle.par2_promises.proofs.SliceSizes.{size_even}
 use Rattle.par2_promises.proofs.Texts.{IsText, bytes_at_key, known_are}
-use Rattle.par2_promises.proofs.Recovered.{each_has_its_own, recovery_of_bytes}
+use Rattle.par2_promises.proofs.RecoveryBytes.{each_has_its_own, recovery_of_bytes}
 
 sizes_of : (s : ℕ) (ks : List (Option (List ℕ))) → AllByRecursion (λ slice. ForSome slice (IsText s)) ks → AllByRecursion (λ slice. ForSome slice (λ found. length found ≡ s)) ks
 sizes_of s [] h = tt

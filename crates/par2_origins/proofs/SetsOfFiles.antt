@@ -13,7 +13,7 @@ use Rattle.par2_spec.specs.Volumes.{all_slices}
 use Rattle.par2_spec.specs.Sets.{ParSet, Target, MadeFrom, ◌>>=◌, unless, all_some, is_slice_size, packets_with, main_of, description_of, target_of, are_in_profile, recovery_of, read_set, other_par_names, set_of, target_of_file}
 use Rattle.par2_origins.specs.Packets.{AreDescribed, is_read, IsOf, AreOf, AreAllOf}
 use Rattle.par2_origins.proofs.Laws.{AreRead}
-use Rattle.par2_origins.proofs.Said.{Says, packet_says, main_of_files, desc_of_file}
+use Rattle.par2_origins.proofs.FilePackets.{Says, packet_says, main_of_files, desc_of_file}
 use Rattle.par2_origins.proofs.Reading.{AllSay, same_bytes, main_is, descriptions_are, targets_are, recovery_is}
 use Rattle.par2_spec.proofs.ListsLaws.{all-append}
 use Rattle.par2_spec.proofs.RankLaws.{all_weaker}

@@ -16,11 +16,11 @@ use Rattle.par2_spec.specs.Volumes.{record_of, in_id_order, index_packets, packe
 use Rattle.par2_spec.specs.Sets.{ParSet, MadeFrom, ◌>>=◌, unless, all_some, packets_with, main_of, description_of, target_of, target_of_file, are_in_profile, read_set, other_par_names, set_of}
 use Rattle.par2_origins.specs.Volumes.{AreInputs, IsVolume, set_id_of, IsOfOthers, HoldsVolumes}
 use Rattle.par2_origins.proofs.Laws.{AreRead, AreKept}
-use Rattle.par2_origins.proofs.Said.{main_of_files, desc_of_file}
+use Rattle.par2_origins.proofs.FilePackets.{main_of_files, desc_of_file}
 use Rattle.par2_origins.proofs.Reading.{AllSay, itself}
-use Rattle.par2_origins.proofs.Made.{finished, by_checksums, by_profile, by_descriptions, by_size, by_main, set_with, SaysIfOurs, folder_says, made_if_said}
+use Rattle.par2_origins.proofs.SetsOfFiles.{finished, by_checksums, by_profile, by_descriptions, by_size, by_main, set_with, SaysIfOurs, folder_says, made_if_said}
 use Rattle.par2_origins.proofs.Inputs.{moved, described}
-use Rattle.par2_origins.proofs.Written.{index_of, slices_of, IsReadAs, volumes_read, IsOurs, volume_ours}
+use Rattle.par2_origins.proofs.VolumePackets.{index_of, slices_of, IsReadAs, volumes_read, IsOurs, volume_ours}
 use Rattle.par2_origins.proofs.Present.{main_there, descriptions_found, targets_found}
 use Rattle.par2_spec.proofs.RankLaws.{all_weaker, test_from_all}
 

@@ -14,7 +14,7 @@ use Rattle.par2_spec.proofs.AsideNames.{name_is_short}
 use Rattle.par2_spec.proofs.ListsLaws.{all-map, any-map}
 use Rattle.par2_plan.specs.declared.names.Volume.{Volume}
 use Rattle.par2_plan.specs.Faults.{long_name}
-use Rattle.par2_plan.proofs.Listed.{all_passed}
+use Rattle.par2_plan.proofs.SliceLists.{all_passed}
 use Rattle.par2_plan.specs.Outputs.{volume_at, volume_if, volumes_of, names_of}
 
 -- those with numbers below n

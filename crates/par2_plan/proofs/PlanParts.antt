@@ -11,7 +11,7 @@ use Rattle.par2_spec.specs.Sets.{ParSet}
 use Rattle.par2_spec.specs.declared.Fault.{Fault}
 use Rattle.par2_spec.proofs.AcceptedCommands.{command_leads, set_in_reads}
 use Rattle.par2_plan.specs.Repairing.{IsWholeWhereMatched, repair_by}
-use Rattle.par2_plan.proofs.Repaired.{whole_where_matched}
+use Rattle.par2_plan.proofs.RepairParts.{whole_where_matched}
 
 pub same_set : (set other : ParSet) → ◌≡◌ {A = Result ParSet Fault} (Ok set) (Ok other) → set ≡ other
 same_set set other e = cc

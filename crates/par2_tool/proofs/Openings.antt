@@ -17,7 +17,7 @@ use Rattle.par2_spec.proofs.StopLaws.{settled_stored, still_stored, taken_back_l
 use Rattle.par2_tool.specs.Holding.{Holds, IsOpening, OpensAsBefore, TellsApartBack, with_history}
 use Rattle.par2_tool.specs.Opening.{IsRead, IsStillHalfway, IsTakenBack, TakesBack}
 use Rattle.par2_tool.specs.Performing.{IsStoppedAt}
-use Rattle.par2_tool.proofs.Made.{all_changed_is}
+use Rattle.par2_tool.proofs.MadeChanges.{all_changed_is}
 
 -- ---- what a folder opens as
 

@@ -16,9 +16,9 @@ use Rattle.par2_spec.specs.Commands.{CreateArgs, Create, files_of, outputs_of}
 use Rattle.par2_spec.specs.Refusals.{refusal, after}
 use Rattle.par2_origins.specs.Volumes.{IsVolume, IsVolumeOrOther, IsOfOthers, set_id_of, HoldsVolumes}
 use Rattle.par2_origins.specs.Creates.{FitsCreate, IsDamage, output_names}
-use Rattle.par2_origins.proofs.Said.{same_some}
+use Rattle.par2_origins.proofs.FilePackets.{same_some}
 use Rattle.par2_origins.proofs.Present.{contained_first, contained_later}
-use Rattle.par2_origins.proofs.Accepted.{passes}
+use Rattle.par2_origins.proofs.CreateInputs.{passes}
 use Rattle.par2_spec.proofs.RankLaws.{all_weaker}
 use Rattle.par2_spec.proofs.MovesLaws.{get_put}
 use Rattle.par2_spec.proofs.FilesLaws.{at_name}

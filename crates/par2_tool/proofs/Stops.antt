@@ -19,7 +19,7 @@ use Rattle.par2_journal.specs.Spelling.{SpellsWhere, AreSpelled}
 use Rattle.par2_journal.specs.declared.spelling.Journals.{Journals}
 use Rattle.par2_tool.specs.Performing.{with_all_changes, with_halfway, after_write_down, IsStoppedAt}
 use Rattle.par2_tool.specs.Holding.{IsOpening, Holds, HasJournalOf, with_history, TellsApartAlong, OpensAsBeforeOrAfter}
-use Rattle.par2_tool.proofs.Made.{all_changed_is, same_changes}
+use Rattle.par2_tool.proofs.MadeChanges.{all_changed_is, same_changes}
 
 -- ---- the session afterwards
 

@@ -25,9 +25,9 @@ use Rattle.par2_spec.specs.Commands.{CreateArgs, Repair, files_of}
 use Rattle.par2_spec.specs.Refusals.{refusal, after, set_in, by_set, repair_refusal}
 use Rattle.par2_origins.specs.Creates.{FollowsCreate, may_refuse, HaveAChoice}
 use Rattle.par2_origins.proofs.Laws.{AreRepaired, OthersAgree}
-use Rattle.par2_origins.proofs.Said.{same_some}
-use Rattle.par2_origins.proofs.Accepted.{all_none, where_none, at_none, from_not, passes, names_of_files}
-use Rattle.par2_origins.proofs.Damaged.{some_bytes}
+use Rattle.par2_origins.proofs.FilePackets.{same_some}
+use Rattle.par2_origins.proofs.CreateInputs.{all_none, where_none, at_none, from_not, passes, names_of_files}
+use Rattle.par2_origins.proofs.Damage.{some_bytes}
 use Rattle.par2_spec.proofs.ListsLaws.{all-append}
 use Rattle.par2_spec.proofs.RankLaws.{all_weaker}
 use Rattle.par2_spec.proofs.FoundLaws.{all-filter}
