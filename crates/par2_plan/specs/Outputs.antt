@@ -9,7 +9,6 @@ use Rattle.par2_spec.specs.Names.{is_name}
 use Rattle.par2_spec.specs.Volumes.{volume_name, volume_numbers, volumes_before, volume_size, all_slices, recovery_packets}
 use Rattle.par2_spec.specs.Commands.{CreateArgs, files_of}
 use Rattle.par2_spec.specs.Slices.{padded}
-use Rattle.par2_recovery.specs.Products.{AreBytes}
 use Rattle.par2_recovery.specs.Views as records
 use Rattle.par2_recovery.specs.Views.{texts_of}
 use Rattle.par2_plan.specs.declared.names.Volume.{Volume}
@@ -50,9 +49,8 @@ pub record HasSlices (parts : Parts) : Type 0 where
   pub few : length (inputs_of parts) ≤ 32768
 
 -- these are the set's input slices, which zeros follow where a file ends early
-pub record ListsInputs (parts : Parts) (inputs : List (Bor (List ℕ))) : Type 0 where
-  pub slices : map (padded parts.set.now.slice_size) (texts_of inputs) ≡ inputs_of parts
-  pub bytes : AreBytes (texts_of inputs)
+abbrev pub ListsInputs : Parts → List (Bor (List ℕ)) → Type 0
+ListsInputs parts inputs = map (padded parts.set.now.slice_size) (texts_of inputs) ≡ inputs_of parts
 
 -- the packets of n recovery slices from exponent e on
 abbrev pub packets_between : Parts → ℕ → ℕ → List Packet

@@ -9,11 +9,10 @@ ghost use Rattle.par2_spec.specs.Volumes.{all_slices};
 ghost use Rattle.par2_spec.specs.Commands.{files_of};
 ghost use Rattle.par2_spec.specs.Recovery.{recovery, coefficients};
 ghost use Rattle.par2_spec.specs.Sums.{lists_of};
-ghost use Rattle.par2_recovery.specs.Products.{AreBytes};
 ghost use Rattle.par2_recovery.specs.Views.{texts_of, names_of, AreBlank};
 
 use crate::exponents::coefficients;
-use crate::products::with_products;
+use crate::products::{fit_texts, with_products};
 use crate::set_record::SetRecord;
 use par2_folder::{Folder, Name};
 use par2_gf16::Gf;
@@ -76,25 +75,15 @@ pub fn recovery_slices_over(
     count: u32,
 ) -> Result<Vec<Vec<u8>>, AllocError>
     requires slices { length slices.now ≤ 32768 }
-    requires bytes { AreBytes (texts_of slices.now) }
     requires even { size % 2 ≡ 0 }
     requires exponents { first + count ≤ 65536 }
     ensures { IfOk result (λ texts. lists_of texts.items ≡ map (recovery size
         (map (spec.padded size) (texts_of slices.now))) (range_with_len first count)) }
 {
+    fit_texts(slices);
     let factors = factors(alloc, gf, slices.len(), first, count)?;
     let zeros = blank(alloc, count as usize, size)?;
     with_products(alloc, gf, &factors, slices, zeros, size / 2)
-}
-
-// What the type says of each byte, for proofs.
-#[inline(always)]
-fn fitting(bytes: &[u8]) -> &[u8]
-    ensures same { result.now ≡ bytes.now }
-    ensures bytes { AllByRecursion (λ b. b < 256) bytes.now }
-{
-    let _ = bytes.len();
-    bytes
 }
 
 // The bytes of a file, none where it is absent.
@@ -117,15 +106,13 @@ fn with_slices<'a>(
     bytes: &'a [u8],
     s: u64,
 ) -> Result<Vec<&'a [u8]>, AllocError>
-    requires size { 1 ≤ s }
-    requires bytes { AreBytes (texts_of slices.items) }
-    ensures slices { IfOk result (λ all. map (spec.padded s) (texts_of all.items)
+    requires { 1 ≤ s }
+    ensures { IfOk result (λ all. map (spec.padded s) (texts_of all.items)
         ≡ map (spec.padded s) (texts_of slices.entry.items) ++ spec.slices s bytes.now) }
-    ensures bytes { IfOk result (λ all. AreBytes (texts_of all.items)) }
 {
     let mut all = slices;
     for j in 0..slice_count(bytes.len() as u64, s) {
-        all.push(fitting(slice_bytes(bytes, s, j)))?;
+        all.push(slice_bytes(bytes, s, j))?;
     }
     Ok(all)
 }
@@ -147,10 +134,8 @@ pub fn input_slices<'a>(
 ) -> Result<Vec<&'a [u8]>, AllocError>
     requires size { 1 ≤ record.now.slice_size }
     requires names { AllByRecursion (λ name. IsTrue (is_name name)) (names_of record.now) }
-    ensures slices { IfOk result (λ all. map (spec.padded record.now.slice_size) (texts_of
-        all.items)
+    ensures { IfOk result (λ all. map (spec.padded record.now.slice_size) (texts_of all.items)
         ≡ all_slices record.now.slice_size (files_of folder.now.files (names_of record.now))) }
-    ensures bytes { IfOk result (λ all. AreBytes (texts_of all.items)) }
 {
     let mut all = Vec::new(alloc);
     for i in 0..record.files.len() {

@@ -19,7 +19,7 @@ recovery_slices_over-requires-clause-slices c =
     let inputs : List (Bor (List ℕ)) = c.args.inputs.now in
     let texts = length-map inputs (λ (slice : Bor (List ℕ)). slice.now) in
     let padded = length-map (texts_of inputs) (padded c.args.parts.now.set.now.slice_size) in
-    omega (arith, texts, padded, ap length c.requires.inputs.slices, c.requires.parts.few)
+    omega (arith, texts, padded, ap length c.requires.inputs, c.requires.parts.few)
 
 pub append_recoveries-requires : goal.append_recoveries-requires
 append_recoveries-requires c =
@@ -32,7 +32,7 @@ returns c =
     let parts = c.args.parts.now in
     let old = c.args.out.now.items in
     let new = c.append_recoveries.new.out.items in
-    let inputs = c.requires.inputs.slices in
+    let inputs = c.requires.inputs in
     let made = λ (slices : List (List ℕ)). map (recovery parts.set.now.slice_size slices) (range_with_len c.args.first c.args.count) in
     let same : packets_from parts.set_id c.args.first (lists_of c.deref.result.now) ≡ packets_between parts c.args.first c.args.count =
     ap (packets_from parts.set_id c.args.first) (ap lists_of c.deref.ensures.value ∙ c.in_ok-slices.ensures ∙ ap made inputs)

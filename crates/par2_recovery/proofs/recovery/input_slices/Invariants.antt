@@ -3,12 +3,8 @@ use Rattle.std.specs.Prelude.{take}
 use Rattle.par2_spec.specs.Slices.{padded}
 use Rattle.par2_spec.specs.Volumes.{all_slices}
 use Rattle.par2_spec.specs.Commands.{files_of}
-use Rattle.par2_recovery.specs.Products.{AreBytes}
 use Rattle.par2_recovery.specs.Views.{texts_of, names_of}
 use Rattle.par2_recovery.proofs.recovery.input_slices.Given as goal
 
 abbrev pub invariant-loop-i : goal.invariant-loop-i
-invariant-loop-i l = record {
-  slices : map (padded l.record.slice_size) (texts_of l.all.items) ≡ all_slices l.record.slice_size (files_of l.folder.files (take l.i (names_of l.record)));
-  bytes : AreBytes (texts_of l.all.items);
-}
+invariant-loop-i l = map (padded l.record.slice_size) (texts_of l.all.items) ≡ all_slices l.record.slice_size (files_of l.folder.files (take l.i (names_of l.record)))

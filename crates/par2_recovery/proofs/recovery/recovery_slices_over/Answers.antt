@@ -41,7 +41,7 @@ returns c =
     let added : Adds F X zeros (lists_of sums.items) 0 (c.args.size / 2) (length X) =
     subst (λ m. Adds F X zeros (lists_of sums.items) 0 (c.args.size / 2) m) n
     (subst (λ xs. Adds (lists_of xs) X zeros (lists_of sums.items) 0 (c.args.size / 2) (length c.args.slices.now)) c.deref.ensures.value sum) in
-    are_recovery c.args.size c.args.first c.args.count F X zeros (lists_of sums.items) c.requires.even c.requires.bytes
+    are_recovery c.args.size c.args.first c.args.count F X zeros (lists_of sums.items) c.requires.even c.fit_texts.ensures
     (subst (λ m. F ≡ map (coefficients (range_with_len 0 m)) (range_with_len c.args.first c.args.count)) n c.in_ok-factors.ensures)
     c.in_ok-zeros.ensures added)
     c.with_products.ensures

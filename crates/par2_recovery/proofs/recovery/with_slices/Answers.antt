@@ -1,16 +1,12 @@
-use Rattle.std.proofs.Common.{◌≡◌, ◌<◌, ◌∙◌, ◌++◌, ◌∷◌, ◌+◌, [], map, rules, sym, subst}
-use Rattle.std.specs.List.{range_with_len, AllByRecursion}
+use Rattle.std.proofs.Common.{◌≡◌, ◌++◌, ◌∷◌, ◌+◌, [], map, rules, sym, subst}
+use Rattle.std.specs.List.{range_with_len}
 use Rattle.par2_spec.specs.Slices.{padded, slice_at}
-use Rattle.par2_recovery.specs.Products.{AreBytes}
 use Rattle.par2_recovery.specs.Views.{texts_of}
-use Rattle.par2_recovery.proofs.Combinations.{slices_push, bytes_push}
+use Rattle.par2_recovery.proofs.Combinations.{slices_push}
 use Rattle.par2_recovery.proofs.recovery.with_slices.Goals as goal
 
 pub loop-j-preserved : goal.loop-j-preserved
 loop-j-preserved c =
-    let is : c.push.new.self.items ≡ c.loop-j.all.items ++ c.fitting.result ∷ [] = search rules in
-    record {
-      slices = subst (λ xs. map (padded c.args.s) (texts_of xs) ≡ map (padded c.args.s) (texts_of c.args.slices.items) ++ map (slice_at c.args.s c.args.bytes.now) (range_with_len 0 (c.loop-j.j + 1))) (sym is)
-          (slices_push c.args.s c.loop-j.j c.args.bytes.now c.loop-j.all.items c.fitting.result (map (padded c.args.s) (texts_of c.args.slices.items)) c.loop-j.invariant.slices (c.fitting.ensures.same ∙ c.slice_bytes.ensures.value));
-      bytes = subst (λ xs. AreBytes (texts_of xs)) (sym is) (bytes_push c.loop-j.all.items c.fitting.result c.loop-j.invariant.bytes (subst (λ xs. AllByRecursion (λ b. b < 256) xs) (sym c.fitting.ensures.same) c.fitting.ensures.bytes));
-    }
+    let is : c.push.new.self.items ≡ c.loop-j.all.items ++ c.slice_bytes.result ∷ [] = search rules in
+    subst (λ xs. map (padded c.args.s) (texts_of xs) ≡ map (padded c.args.s) (texts_of c.args.slices.items) ++ map (slice_at c.args.s c.args.bytes.now) (range_with_len 0 (c.loop-j.j + 1))) (sym is)
+    (slices_push c.args.s c.loop-j.j c.args.bytes.now c.loop-j.all.items c.slice_bytes.result (map (padded c.args.s) (texts_of c.args.slices.items)) c.loop-j.invariant c.slice_bytes.ensures.value)

@@ -1,12 +1,8 @@
 use Rattle.std.proofs.Common.{◌≡◌, ◌++◌, map}
 use Rattle.std.specs.List.{range_with_len}
 use Rattle.par2_spec.specs.Slices.{padded, slice_at}
-use Rattle.par2_recovery.specs.Products.{AreBytes}
 use Rattle.par2_recovery.specs.Views.{texts_of}
 use Rattle.par2_recovery.proofs.recovery.with_slices.Given as goal
 
 abbrev pub invariant-loop-j : goal.invariant-loop-j
-invariant-loop-j l = record {
-  slices : map (padded l.s) (texts_of l.all.items) ≡ map (padded l.s) (texts_of l.fn.slices.items) ++ map (slice_at l.s l.bytes) (range_with_len 0 l.j);
-  bytes : AreBytes (texts_of l.all.items);
-}
+invariant-loop-j l = map (padded l.s) (texts_of l.all.items) ≡ map (padded l.s) (texts_of l.fn.slices.items) ++ map (slice_at l.s l.bytes) (range_with_len 0 l.j)
