@@ -1,7 +1,7 @@
 //! Systems of equations that are solved as soon as their equations determine the texts.
 
 use par2_gf16::Gf;
-use par2_matrix::{Offer, System};
+use par2_matrix::{Offer, System, bytes_of_row, element, put_element};
 use std::alloc::{AllocError, Global};
 use std::test::Fail;
 
@@ -38,6 +38,17 @@ fn solved(
 #[test]
 fn rank_of_no_equations(rt: HostRuntime) -> Result<(), Fail> {
     assert!(rt; System::new(rt.alloc(), 2, 2)?.rank() == 0);
+    Ok(())
+}
+
+#[test]
+fn elements_of_a_row(rt: HostRuntime) -> Result<(), Fail> {
+    let mut row = bytes_of_row(rt.alloc(), &[0x0201, 0xff00, 7])?;
+    assert!(rt; row.as_slice() == [1, 2, 0, 0xff, 7, 0].as_slice());
+    put_element(row.as_mut_slice(), 1, 0x1234);
+    assert!(rt;
+        element(&row, 1) == 0x1234 && row.as_slice() == [1, 2, 0x34, 0x12, 7, 0].as_slice()
+    );
     Ok(())
 }
 

@@ -5,7 +5,8 @@ ghost use Rattle.par2_spec.specs.Journals.{IsCursor};
 use md5::{Digest, Md5};
 use par2_folder::{Bytes, Change, Name};
 use par2_journal_bytes::{
-    DecodeFault, HalfwayPart, HalfwayPartView, Journal, JournalView, Version, decode, encode,
+    DecodeFault, HalfwayPart, HalfwayPartView, Journal, JournalTexts, JournalView, Version, begin,
+    decode, encode, finish_both,
 };
 use std::alloc::{AllocError, Global};
 use std::process::Abort;
@@ -172,6 +173,25 @@ fn halfway_text<R: Abort + AllocGlobal>(
 
 const FINGERPRINTS: [[u8; 16]; 2] = [*b"aaaaaaaaaaaaaaaa", *b"bbbbbbbbbbbbbbbb"];
 
+// The texts of a command's two journals: while it is halfway, and afterwards in the older version.
+fn both_texts(alloc: Global, back: &[Change]) -> Result<JournalTexts, AllocError>
+    requires { length back.now ≡ 2 }
+{
+    let front = begin(alloc, Version::Two, FINGERPRINT, 0, &[])?;
+    let halfway = HalfwayPartView {
+        fingerprints: &FINGERPRINTS,
+        back,
+    };
+    let after = JournalView {
+        version: Version::One,
+        fingerprint: FINGERPRINT,
+        cursor: 0,
+        entries: &[],
+        halfway: None,
+    };
+    finish_both(alloc, front, &halfway, &after)
+}
+
 #[test]
 fn halfway_journals(rt: HostRuntime) -> Result<(), Fail> {
     let back = [
@@ -181,6 +201,8 @@ fn halfway_journals(rt: HostRuntime) -> Result<(), Fail> {
     for (version, wanted) in [(Version::One, HALFWAY_ONE), (Version::Two, HALFWAY_TWO)] {
         assert!(rt; halfway_text(&rt, version, &FINGERPRINTS, &back)?.as_slice() == wanted);
     }
+    let texts = both_texts(rt.alloc(), &back)?;
+    assert!(rt; texts.halfway.as_slice() == HALFWAY_TWO && texts.after.as_slice() == NOTHING_ONE);
     Ok(())
 }
 
