@@ -17,7 +17,7 @@ use Rattle.par2_spec.proofs.FieldProducts.{product-lt}
 use Rattle.par2_spec.proofs.FieldConstants.{constant-lt}
 use Rattle.par2_spec.specs.Sums.{field_sum, list_at, lists_of}
 use Rattle.par2_spec.proofs.SumLaws.{field_sum_same, field_sum-lt, dot_sum, product_at}
-use Rattle.par2_spec.proofs.WordLaws.{byte_at, combination_words, word-lt}
+use Rattle.par2_spec.proofs.WordLaws.{combination_words, word-lt}
 use Rattle.par2_recovery.specs.Products.{AreBytes, Adds, products}
 use Rattle.par2_recovery.specs.Views.{texts_of, AreBlank}
 
@@ -176,18 +176,6 @@ slices_push s j bytes xs v before so_far is =
     ∙ ap₂ (λ a b. a ++ padded s b ∷ []) so_far is
     ∙ append_assoc before (map (slice_at s bytes) (range_with_len 0 j)) (slice_at s bytes j ∷ [])
     ∙ ap (λ xs. before ++ xs) (sym (map-range_with_len_more (slice_at s bytes) 0 j j (zero-add j)))
-
-pub bytes_push : (xs : List (Bor (List ℕ))) (v : Bor (List ℕ)) → AreBytes (texts_of xs) → AllByRecursion (λ b. b < 256) v.now → AreBytes (texts_of (xs ++ v ∷ []))
-bytes_push xs v before fits = subst AreBytes (sym (map-append (λ (x : Bor (List ℕ)). x.now) xs (v ∷ []))) (go (texts_of xs) before)
-  where
-    here : (k : ℕ) → get_or v.now k 0 < 256
-    here = byte_at v.now fits
-
-    go : (lists : List (List ℕ)) → AreBytes lists → AreBytes (lists ++ v.now ∷ [])
-    go [] all zero k = here k
-    go [] all (suc r) k = all r k
-    go (x ∷ lists) all zero k = all 0 k
-    go (x ∷ lists) all (suc r) k = go lists (λ q m. all (suc q) m) r k
 
 pub all_of_them : (names : List (List ℕ)) (n : ℕ) → n ≡ length names → take n names ≡ names
 all_of_them names n e = take_all n names (omega (arith, e))
