@@ -6,14 +6,7 @@ use Rattle.std.proofs.lemmas.List.{reverse-append, map-append, drop-set-lt, take
 use Rattle.par2_spec.specs.Folders.{Folder}
 use Rattle.par2_spec.specs.Changes.{Change, FolderState, change_refusal, effect, inverse, state_after, state_after_all, takes_all, way_back}
 use Rattle.par2_spec.specs.declared.ChangeFault.{ChangeFault}
-
-first : (a b : Bool) → IsTrue (a && b) → IsTrue a
-first true b h = refl
-first false b h = h
-
-second : (a b : Bool) → IsTrue (a && b) → IsTrue b
-second true b h = h
-second false b h = cc
+use Rattle.par2_spec.proofs.FolderLaws.{both_first, both_second}
 
 no_fault : (o : Option ChangeFault) → IsTrue (is_none o) → o ≡ None
 no_fault None h = refl
@@ -21,11 +14,11 @@ no_fault (Some x) h = cc
 
 pub taken_first : (state : FolderState) (change : Change) (changes : List Change) → IsTrue (takes_all state (change ∷ changes)) → change_refusal state change ≡ None
 unfolding takes_all
-taken_first state change changes h = no_fault _ (first _ _ h)
+taken_first state change changes h = no_fault _ (both_first _ _ h)
 
 pub taken_rest : (state : FolderState) (change : Change) (changes : List Change) → IsTrue (takes_all state (change ∷ changes)) → IsTrue (takes_all (state_after state change) changes)
 unfolding takes_all
-taken_rest state change changes h = second _ _ h
+taken_rest state change changes h = both_second _ _ h
 
 pub after_first : (state : FolderState) (change : Change) (changes : List Change) → state_after_all state (change ∷ changes) ≡ state_after_all (state_after state change) changes
 unfolding state_after_all

@@ -18,6 +18,7 @@ use Rattle.par2_folder.specs.declared.change.Change.{Change}
 use Rattle.par2_folder.specs.declared.runs.Runs.{Runs}
 use Rattle.par2_folder.specs.declared.snapshot.Snapshot.{Snapshot}
 use Rattle.par2_folder.proofs.Borders.{no_text, text_on, whole_text}
+use Rattle.par2_spec.proofs.FolderLaws.{both_first, both_second}
 
 -- ---- states and texts one by one
 
@@ -62,14 +63,6 @@ digested_more digests new digest texts i lt pushed so_far is =
     ∙ sym (ap (map md5) (take_more texts i [] lt) ∙ map-append md5 (take i texts) (get_or texts i [] ∷ []))
 
 -- ---- a change
-
-both_first : (a b : Bool) → IsTrue (a && b) → IsTrue a
-both_first true b h = refl
-both_first false b h = h
-
-both_second : (a b : Bool) → IsTrue (a && b) → IsTrue b
-both_second true b h = h
-both_second false b h = cc
 
 first_applicable : (folder : Folder) (change : defined.Change) (rest : List defined.Change) → IsTrue (are_applicable folder (change ∷ rest)) → IsTrue (is_applicable folder change)
 unfolding are_applicable

@@ -27,7 +27,7 @@ pub use change::Change;
 pub use changes::{Changes, copies_of};
 pub use disk::DiskStore;
 pub use failures::Failures;
-pub use fingerprint::fingerprints_along;
+pub use fingerprint::{fingerprints_along, fingerprints_along_and_digest};
 pub use folder::Folder;
 pub use fuse::FuseStore;
 pub use loading::read_folder;

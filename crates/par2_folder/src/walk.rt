@@ -2,7 +2,7 @@
 //!
 //! Before a border, neighbours among these folders are alike unless the change between them touches a name there. So
 //! they fall into runs, and one state that has absorbed the files before the border serves a run.
-ghost use Rattle.std.specs.Prelude.{◌≡◌, ◌≤◌, ◌<◌, ◌+◌, ◌++◌, ◌∷◌, ◌^◌, cond, ℕ, List, length, map, IfOk, OnOk, IsTrue};
+ghost use Rattle.std.specs.Prelude.{◌≡◌, ◌≤◌, ◌<◌, ◌+◌, ◌++◌, ◌∷◌, [], ◌^◌, cond, ℕ, List, length, map, IfOk, OnOk, IsTrue};
 ghost use Rattle.md5.specs.Md5.{md5};
 ghost use Rattle.par2_digests.specs.Messages.{HasAbsorbed};
 ghost use Rattle.par2_spec.specs.Changes.{are_applicable};
@@ -17,7 +17,7 @@ use crate::border::{Border, is_further, parts_between, touches};
 use crate::runs::Runs;
 use crate::snapshot::Snapshot;
 use crate::{Change, Folder, Name};
-use par2_digests::{Midstate, Pending};
+use par2_digests::{Midstate, Part, Pending};
 use std::alloc::{AllocError, Global};
 
 // The most borders at names: at each, the changes are gone along once.
@@ -89,21 +89,22 @@ fn follow<'a>(
     }
 }
 
-// The states before a border, from those before an earlier one.
-fn states_before(
+// The runs up to a border, from the states before an earlier one.
+fn runs_before<'a>(
     alloc: Global,
-    folder: &Folder,
-    changes: &[Change],
+    folder: &'a Folder,
+    changes: &'a [Change],
     states: &[Midstate],
     from: &Border,
     to: &Border,
-) -> Result<Vec<Midstate>, AllocError>
+) -> Result<Runs<'a>, AllocError>
     requires further { IsFurther from.now to.now }
     requires applicable { IsTrue (are_applicable folder.now.files (map change_of changes.now)) }
     requires absorbed { let changes = map change_of changes.now in
         HaveAbsorbed states.now (run_texts from.now folder.now.files changes) }
-    ensures { let texts = run_texts to.now folder.now.files (map change_of changes.now) in
-        IfOk result (λ after. HaveAbsorbed after.items texts) }
+    ensures few { IfOk result (λ runs. length runs.pendings.items ≤ 8) }
+    ensures texts { let texts = run_texts to.now folder.now.files (map change_of changes.now) in
+        IfOk result (λ runs. AreTo runs texts) }
 {
     let mut snapshot = folder.snapshot(alloc)?;
     let mut runs = Runs::new(alloc);
@@ -114,18 +115,19 @@ fn states_before(
         place = next_place(place, from, change);
         follow(alloc, &mut runs, states[place], &snapshot, change, from, to)?;
     }
-    runs.finish()
+    Ok(runs)
 }
 
-// The states of all folders.
-fn states_along(
+// The runs of all folders.
+fn runs_along<'a>(
     alloc: Global,
-    folder: &Folder,
-    changes: &[Change],
-) -> Result<Vec<Midstate>, AllocError>
+    folder: &'a Folder,
+    changes: &'a [Change],
+) -> Result<Runs<'a>, AllocError>
     requires { IsTrue (are_applicable folder.now.files (map change_of changes.now)) }
-    ensures { let changes = map change_of changes.now in
-        IfOk result (λ states. HaveAbsorbed states.items (run_texts End folder.now.files changes)) }
+    ensures few { IfOk result (λ runs. length runs.pendings.items ≤ 8) }
+    ensures texts { let changes = map change_of changes.now in
+        IfOk result (λ runs. AreTo runs (run_texts End folder.now.files changes)) }
 {
     let names = border_names(alloc, changes)?;
     let mut border = Border::Beginning;
@@ -133,11 +135,23 @@ fn states_along(
     for name in &names {
         if is_further(&border, name) {
             let next = Border::At(name);
-            states = states_before(alloc, folder, changes, &states, &border, &next)?;
+            states = runs_before(alloc, folder, changes, &states, &border, &next)?.finish()?;
             border = next;
         }
     }
-    states_before(alloc, folder, changes, &states, &border, &Border::End)
+    runs_before(alloc, folder, changes, &states, &border, &Border::End)
+}
+
+// A text by itself.
+fn run_of_text(alloc: Global, text: &[u8]) -> Result<Pending<'_>, AllocError>
+    ensures { IfOk result (λ run. Reaches run text.now) }
+{
+    let mut parts = Vec::with_capacity(alloc, 1)?;
+    parts.push(Part::Bytes(text))?;
+    Ok(Pending {
+        state: Midstate::new(),
+        parts,
+    })
 }
 
 // The digests of what the states have absorbed.
@@ -162,5 +176,21 @@ pub fn digests_along(
     ensures { let changes = map change_of changes.now in
         IfOk result (λ digests. digests.items ≡ map md5 (run_texts End folder.now.files changes)) }
 {
-    digests_of(alloc, &states_along(alloc, folder, changes)?)
+    digests_of(alloc, &runs_along(alloc, folder, changes)?.finish()?)
+}
+
+/// The same, and behind them the digest of a text, which is computed side by side with them.
+pub fn digests_along_and_of(
+    alloc: Global,
+    folder: &Folder,
+    changes: &[Change],
+    text: &[u8],
+) -> Result<Vec<[u8; 16]>, AllocError>
+    requires { IsTrue (are_applicable folder.now.files (map change_of changes.now)) }
+    ensures { let texts = run_texts End folder.now.files (map change_of changes.now) in
+        IfOk result (λ digests. digests.items ≡ map md5 (texts ++ text.now ∷ [])) }
+{
+    let mut runs = runs_along(alloc, folder, changes)?;
+    runs.push(run_of_text(alloc, text)?)?;
+    digests_of(alloc, &runs.finish()?)
 }

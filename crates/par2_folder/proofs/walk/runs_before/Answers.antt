@@ -5,7 +5,7 @@ use Rattle.par2_folder.specs.Borders.{run_texts, text_before}
 use Rattle.par2_folder.specs.Runs.{HaveAbsorbed}
 use Rattle.par2_folder.specs.Snapshots.{folder_in}
 use Rattle.par2_folder.proofs.Walks.{absorbed_here, arrived, goes_on, in_range, next_applicable, parents_then}
-use Rattle.par2_folder.proofs.walk.states_before.Goals as goal
+use Rattle.par2_folder.proofs.walk.runs_before.Goals as goal
 
 pub loop-change-init : goal.loop-change-init
 loop-change-init c =
@@ -51,8 +51,7 @@ loop-change-preserved c =
     c.loop-change-test.true c.change-item.result c.change-item.is next c.in_ok-apply.ensures.folder place c.next_place-place.ensures
     c.in_ok-apply.ensures.kept c.follow.new.runs c.in_ok-follow.ensures.few reached
 
-pub returns : goal.returns
-returns c =
+pub returns-clause-texts : goal.returns-clause-texts
+returns-clause-texts c =
     let walk = c.loop-change in
-    c.finish.ensures (run_texts c.args.to.now c.args.folder.now.files (map change_of c.args.changes.now))
-    (arrived c.args.from.now c.args.to.now c.args.states.now c.args.folder.now.files c.args.changes.now walk.snapshot walk.runs walk.place walk.change-index walk.invariant c.loop-change-test.false)
+    arrived c.args.from.now c.args.to.now c.args.states.now c.args.folder.now.files c.args.changes.now walk.snapshot walk.runs walk.place walk.change-index walk.invariant c.loop-change-test.false
