@@ -2,6 +2,7 @@ pub mod Many
 pub mod Fields
 pub mod Pieces
 pub mod Whole
+pub mod UntestedTexts
 pub mod ReaderAnswers
 pub mod NameTests
 pub mod Fronts

@@ -98,7 +98,7 @@ after_print v print = cursor_at v print.1 >>= after_cursor v print.0
 abbrev after_heading : Version × List ℕ → Option Journal
 after_heading v = block_at 16 v.1 >>= after_print v.0
 
-parts_take : (bytes : List ℕ) (j : Journal) → IsBytes bytes → parts_at bytes ≡ Some j → IsJournal j × (bytes ≡ journal_bytes j)
+pub parts_take : (bytes : List ℕ) (j : Journal) → IsBytes bytes → parts_at bytes ≡ Some j → IsJournal j × (bytes ≡ journal_bytes j)
 unfolding parts_at journal_bytes
 parts_take bytes j fits e =
     let a = bind_some (heading_at bytes) after_heading j e in

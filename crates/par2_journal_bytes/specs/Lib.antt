@@ -1,3 +1,4 @@
 pub mod Views
 pub mod Reading
+pub mod Untested
 pub mod Fronts

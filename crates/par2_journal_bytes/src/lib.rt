@@ -12,5 +12,5 @@ pub use fault::DecodeFault;
 pub use journal::{HalfwayPart, HalfwayPartView, Journal, JournalView};
 pub use laws::one_reading;
 pub use par2_spec::Version;
-pub use reading::decode;
+pub use reading::{Untested, decode, decode_untested};
 pub use writing::{JournalTexts, begin, encode, finish, finish_both};

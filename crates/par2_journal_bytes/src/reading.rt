@@ -1,11 +1,12 @@
 //! A journal from its bytes. Each reader takes its part from the front, and gives the bytes behind it too.
-ghost use Rattle.std.specs.Prelude.{◌≡◌, ℕ, List, IfOk, IfSome, IsTrue, Some, Err, is_some, MatchResult};
+ghost use Rattle.std.specs.Prelude.{◌≡◌, ◌<◌, ◌≤◌, ◌-◌, ℕ, List, length, take, drop, IfOk, IfErr, IfSome, IsTrue, Some, Err, is_some, MatchResult};
 ghost use Rattle.md5.specs.Md5.{md5};
 ghost use Rattle.par2_spec.specs.Names.{is_name};
 ghost use Rattle.par2_spec.specs.Journals.{Journal as Defined, Spells};
 ghost use Rattle.par2_folder.specs.Views.{change_of};
 ghost use Rattle.par2_journal_bytes.specs.Reading as reads;
 ghost use Rattle.par2_journal_bytes.specs.Reading.{Gives, IsSealed};
+ghost use Rattle.par2_journal_bytes.specs.Untested.{IsUntested};
 ghost use Rattle.par2_journal_bytes.specs.Views.{changes_in, entries_of, halfway_of, journal_of};
 ghost use Rattle.par2_journal_bytes.specs.declared.fault.DecodeFault.TheVariants.{JournalInvalid, Memory};
 
@@ -260,16 +261,26 @@ fn read_parts(alloc: Global, bytes: &[u8]) -> Result<Journal, DecodeFault>
     })
 }
 
+// A text of a journal, in two: the digest at its end, and what it is the digest of.
+fn split_digest(bytes: &[u8]) -> Result<(&[u8], &[u8]), DecodeFault>
+    ensures long { IfOk result (λ _. 16 ≤ length bytes.now) }
+    ensures body { IfOk result (λ x. x.0.now ≡ take (length bytes.now - 16) bytes.now) }
+    ensures digest { IfOk result (λ x. x.1.now ≡ drop (length bytes.now - 16) bytes.now) }
+    ensures short { IfErr result (λ fault. (fault ≡ JournalInvalid) × (length bytes.now < 16)) }
+{
+    if bytes.len() < 16 {
+        return Err(DecodeFault::JournalInvalid);
+    }
+    Ok(bytes.split_at(bytes.len() - 16))
+}
+
 // The digest is tested first, so of a text that nobody wrote nothing is read.
 #[tactic(auto, unfolding(crate::specs::Reading::journal_at))]
 fn read_journal(alloc: Global, bytes: &[u8]) -> Result<Journal, DecodeFault>
     ensures read { Gives journal_of result (reads.journal_at bytes.now) }
     ensures unsealed { ¬ (IsSealed bytes.now) → result ≡ Err JournalInvalid }
 {
-    if bytes.len() < 16 {
-        return Err(DecodeFault::JournalInvalid);
-    }
-    let (body, end) = bytes.split_at(bytes.len() - 16);
+    let (body, end) = split_digest(bytes)?;
     if end != digest_of(body).as_slice() {
         return Err(DecodeFault::JournalInvalid);
     }
@@ -287,4 +298,30 @@ pub fn decode(alloc: Global, bytes: &[u8]) -> Result<Journal, DecodeFault>
     ensures unsealed { ¬ (IsSealed bytes.now) → result ≡ Err JournalInvalid }
 {
     read_journal(alloc, bytes)
+}
+
+/// A journal that was read before the digest at the end of its text is tested.
+#[derive(Debug, Drop)]
+pub struct Untested<'a> {
+    pub journal: Journal,
+    /// All of the text but the digest.
+    pub body: &'a [u8],
+    /// What the digest of the body should be.
+    pub digest: &'a [u8],
+}
+
+/// The journal that the bytes spell if they end with their digest, which the caller tests: it can be computed side by
+/// side with other digests. Memory is asked for as [`decode`] does, but for a text that nobody wrote too.
+pub fn decode_untested(alloc: Global, bytes: &[u8]) -> Result<Untested<'_>, DecodeFault>
+    ensures found { IfOk result (IsUntested bytes.now) }
+    ensures invalid { result ≡ Err JournalInvalid
+        → (j : Defined) → Spells bytes.now j → ⊥ }
+{
+    let (body, digest) = split_digest(bytes)?;
+    let journal = read_parts(alloc, body)?;
+    Ok(Untested {
+        journal,
+        body,
+        digest,
+    })
 }

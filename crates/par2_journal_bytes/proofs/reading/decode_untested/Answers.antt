@@ -1,0 +1,24 @@
+use Rattle.std.proofs.Common.{arith}
+use Rattle.std.proofs.lemmas.Result.{err_from_is_err_and}
+use Rattle.par2_journal_bytes.specs.Reading.{parts_at}
+use Rattle.par2_journal_bytes.specs.Views.{journal_of}
+use Rattle.par2_journal_bytes.proofs.Fields.{bytes-from_each}
+use Rattle.par2_journal_bytes.proofs.UntestedTexts.{refused, too_short, unread, untested}
+use Rattle.par2_journal_bytes.proofs.reading.decode_untested.Goals as goal
+
+pub returns-in_err-body-clause-invalid : goal.returns-in_err-body-clause-invalid
+returns-in_err-body-clause-invalid c = λ _ j spells. too_short c.args.bytes.now c.in_err-body.ensures.short.1 j spells
+
+pub returns-in_err-journal-clause-invalid : goal.returns-in_err-journal-clause-invalid
+returns-in_err-journal-clause-invalid c = λ e j spells.
+    let split = c.in_ok-body.ensures in
+    let residual = c.from_residual-in_err-journal in
+    let none = refused c.in_err-journal.field-0.0 residual.result (parts_at c.in_ok-body.body.now) c.in_err-journal.ensures (err_from_is_err_and residual.result residual.ensures.1) e in
+    unread c.args.bytes.now c.in_ok-body.body.now c.in_ok-body.digest.now split.long split.body split.digest none j spells
+
+pub returns-clause-found : goal.returns-clause-found
+returns-clause-found c =
+    let split = c.in_ok-body.ensures in
+    let fits = bytes-from_each c.args.bytes.now (λ i. omega (arith, c.type_inv.bytes i)) in
+    let all = untested c.args.bytes.now c.in_ok-body.body.now c.in_ok-body.digest.now split.long split.body split.digest (journal_of c.in_ok-journal.journal) fits c.in_ok-journal.ensures in
+    record { journal = all.0; right = all.1; wrong = all.2 }
