@@ -1,6 +1,6 @@
 -- What a journal opens as.
 use Rattle.std.proofs.Common.{◌≡◌, ◌⊎◌, inl, inr, ℕ, ◌+◌, ◌-◌, ◌≤◌, Bool, true, false, not, ◌&&◌, List, [], ◌∷◌, length, map, take, drop, Option, Some, None, Result, Ok, Err, refl, sym, ap, subst, ◌∙◌, arith}
-use Rattle.std.specs.Prelude.{reverse, position, is_some, IfOk, IfErr, if◌then◌else◌}
+use Rattle.std.specs.Prelude.{reverse, position, is_some, IfOk, IfErr, IsTrue, IsFalse, if◌then◌else◌}
 use Rattle.std.specs.Cmp.Lexicographic.{pointwise}
 use Rattle.std.specs.Str.{bytes_eq}
 use Rattle.par2_spec.specs.Folders.{Folder, fingerprint}
@@ -11,7 +11,12 @@ use Rattle.par2_spec.specs.Opening as defined
 use Rattle.par2_spec.specs.Opening.{leads_through, is_valid}
 use Rattle.par2_spec.specs.declared.JournalFault.{JournalFault}
 use Rattle.par2_spec.specs.declared.JournalFault.TheVariants.{JournalInvalid, Memory, FolderChanged}
-use Rattle.par2_journal.specs.Opening.{session_at, journal_with, halfway_as, OpensAsIs}
+use Rattle.md5.specs.Md5.{md5}
+use Rattle.par2_journal_bytes.specs.Untested.{IsUntested}
+use Rattle.par2_journal_bytes.specs.Views.{journal_of}
+use Rattle.par2_journal_bytes.specs.declared.reading.Untested.{Untested}
+use Rattle.par2_journal.specs.Opening.{session_at, journal_with, halfway_as, opened_of, AnswersOpening, OpensAsIs}
+use Rattle.par2_journal.specs.declared.opening.Opened.{Opened}
 use Rattle.par2_spec.proofs.FolderLaws.{takes_applicable, taken_are_applicable, both_first, both_second, more_room_all, state_files}
 use Rattle.par2_spec.proofs.StopLaws.{through_applies}
 
@@ -123,13 +128,72 @@ pub none_if : {A : Type 0} (o : Option A) → is_some o ≡ false → o ≡ None
 none_if None h = refl
 none_if (Some x) h = let no : ⊥ = cc h in absurd no
 
+-- what a settled journal opens as, by whether the folder has its fingerprint
+settled_by_print : (f : Folder) (j : Journal) (b : Bool) → j.halfway ≡ None → bytes_eq (fingerprint f) j.fingerprint ≡ b
+    → defined.opened f j ≡ (if not b then Err (FolderChanged false) else if is_valid (session_at f j.cursor j.entries) then Ok (defined.Settled (session_at f j.cursor j.entries)) else Err JournalInvalid)
+settled_by_print f j b settled is =
+    let s = session_at f j.cursor j.entries in
+    opened_settled f j settled ∙ ap (λ b. if not b then Err (FolderChanged false) else if is_valid s then Ok (defined.Settled s) else Err JournalInvalid) is
+
+settled_changed : (f : Folder) (text : List ℕ) (j : Journal) → Spells text j → j.halfway ≡ None → bytes_eq (fingerprint f) j.fingerprint ≡ false → defined.Opens f text (Err (FolderChanged false))
+unfolding defined.Opens
+settled_changed f text j spells settled other = inl (j, spells, sym (settled_by_print f j false settled other))
+
+settled_opens : (f : Folder) (text : List ℕ) (j : Journal) → Spells text j → j.halfway ≡ None → bytes_eq (fingerprint f) j.fingerprint ≡ true → is_valid (session_at f j.cursor j.entries) ≡ true
+    → defined.Opens f text (Ok (defined.Settled (session_at f j.cursor j.entries)))
+unfolding defined.Opens
+settled_opens f text j spells settled same valid =
+    let s = session_at f j.cursor j.entries in
+    inl (j, spells, sym (settled_by_print f j true settled same ∙ ap (λ b. if b then Ok (defined.Settled s) else Err JournalInvalid) valid))
+
 -- a settled journal whose entries lead opens on the folder, whatever its fingerprint says
 pub settled_as_is : (f : Folder) (text : List ℕ) (j : Journal) → Spells text j → j.halfway ≡ None → is_valid (session_at f j.cursor j.entries) ≡ true → OpensAsIs f text
-unfolding defined.OpensAs defined.Opens
-settled_as_is f text j spells settled valid = by_print (bytes_eq (fingerprint f) j.fingerprint) (opened_settled f j settled)
+unfolding defined.OpensAs
+settled_as_is f text j spells settled valid = by_test (bytes_eq (fingerprint f) j.fingerprint) refl
   where
-    by_print : (b : Bool) → defined.opened f j ≡ (if not b then Err (FolderChanged false) else if is_valid (session_at f j.cursor j.entries) then Ok (defined.Settled (session_at f j.cursor j.entries)) else Err JournalInvalid) → OpensAsIs f text
-    by_print false e = (record { session = defined.new_session f; dropped = true }, (Err (FolderChanged false), inl (j, spells, sym e), refl), refl)
-    by_print true e =
-        let is = e ∙ ap (λ b. if b then Ok (defined.Settled (session_at f j.cursor j.entries)) else Err JournalInvalid) valid in
-        (record { session = session_at f j.cursor j.entries; dropped = false }, (Ok (defined.Settled (session_at f j.cursor j.entries)), inl (j, spells, sym is), refl), refl)
+    by_test : (b : Bool) → bytes_eq (fingerprint f) j.fingerprint ≡ b → OpensAsIs f text
+    by_test false is = (record { session = defined.new_session f; dropped = true }, (Err (FolderChanged false), settled_changed f text j spells settled is, refl), refl)
+    by_test true is =
+        let s = session_at f j.cursor j.entries in
+        (record { session = s; dropped = false }, (Ok (defined.Settled s), settled_opens f text j spells settled is valid, refl), refl)
+
+-- ---- where the digest of the journal is tested last
+
+module _ (folder : FolderState) (text : List ℕ) (untested : Untested) (j : Journal) (sum print : List ℕ) (s : Session)
+    (found : IsUntested text untested) (is : journal_of untested.journal ≡ j) (settled : j.halfway ≡ None) (sum_is : sum ≡ md5 untested.body.now) (print_is : print ≡ fingerprint s.folder)
+    (session : s ≡ session_at folder.files j.cursor j.entries) (valid : is_valid (session_at folder.files j.cursor j.entries) ≡ true) where
+  abbrev Right : Type 0
+  Right = untested.digest.now ≡ sum
+
+  right : Right → untested.digest.now ≡ md5 untested.body.now
+  right h = h ∙ sum_is
+
+  spells : Right → Spells text j
+  spells h = subst (Spells text) is (found.right (right h))
+
+  printed : (b : Bool) → bytes_eq print j.fingerprint ≡ b → bytes_eq (fingerprint folder.files) j.fingerprint ≡ b
+  printed b h = (λ i. bytes_eq ((ap fingerprint (sym (ap (λ (s : Session). s.folder) session)) ∙ sym print_is) i) j.fingerprint) ∙ h
+
+  pub answers : (r : Result Opened (JournalFault × FolderState)) → IfOk r (λ opened. opened_of opened ≡ defined.Settled s) → IfOk r (λ _. Right × IsTrue (bytes_eq print j.fingerprint))
+      → IfErr r (λ e. ((e.0 ≡ JournalInvalid) × ¬ Right) ⊎ ((e.0 ≡ FolderChanged false) × Right × IsFalse (bytes_eq print j.fingerprint))) → IfErr r (λ e. e.1.files ≡ s.folder)
+      → AnswersOpening folder text r
+  answers (Ok opened) opens same _ _ = record {
+    opened = subst (λ o. defined.Opens folder.files text (Ok o)) (ap defined.Settled (sym session) ∙ sym opens) (settled_opens folder.files text j (spells same.0) settled (printed true same.1) valid);
+    refused = tt;
+    unsealed = λ un. un (found.sealed (right same.0));
+    files = tt;
+  }
+  answers (Err e) _ _ (inl (fault, wrong)) files =
+      let foreign = found.wrong (λ h. wrong (h ∙ sym sum_is)) in
+      record {
+        opened = tt;
+        refused = inr (subst (λ x. defined.Opens folder.files text (Err x)) (sym fault) (no_journal folder.files text foreign.unspelled));
+        unsealed = λ _. fault;
+        files = files ∙ ap (λ (s : Session). s.folder) session;
+      }
+  answers (Err e) _ _ (inr (fault, same, other)) files = record {
+    opened = tt;
+    refused = inr (subst (λ x. defined.Opens folder.files text (Err x)) (sym fault) (settled_changed folder.files text j (spells same) settled (printed false other)));
+    unsealed = λ un. absurd (un (found.sealed (right same)));
+    files = files ∙ ap (λ (s : Session). s.folder) session;
+  }

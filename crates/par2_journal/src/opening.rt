@@ -14,9 +14,10 @@ ghost use Rattle.par2_journal.specs.Opening.{session_at, journal_with, opened_of
 ghost use Rattle.par2_journal.specs.Walks.{state_along, ways_back};
 
 use crate::taking_back::{Halfway, open_halfway};
+use crate::session::Digests;
 use crate::{Changes, Next, Session};
 use par2_folder::{Change, Folder};
-use par2_journal_bytes::{DecodeFault, Journal, decode};
+use par2_journal_bytes::{DecodeFault, Journal, Untested, decode, decode_untested};
 use par2_spec::JournalFault;
 use std::alloc::{AllocError, Global};
 
@@ -232,9 +233,8 @@ pub enum Opened {
 // The session, where its folder has this fingerprint.
 fn unless_changed(
     alloc: Global,
-    mut session: Session,
+    session: Session,
     wanted: [u8; 16],
-    next: Option<Next>,
 ) -> Result<Session, (JournalFault, Folder)>
     ensures session { IfOk result (λ kept. kept ≡ session) }
     ensures same { IfOk result (λ _. IsTrue (bytes_eq (fingerprint session.folder.files) wanted)) }
@@ -242,7 +242,7 @@ fn unless_changed(
         × IsFalse (bytes_eq (fingerprint session.folder.files) wanted))) }
     ensures files { IfErr result (λ e. e.1.files ≡ session.folder.files) }
 {
-    let print = match session.fingerprint_before(alloc, next) {
+    let print = match session.folder().fingerprint(alloc) {
         Ok(print) => print,
         Err(AllocError) => return Err((JournalFault::Memory, session.into_folder())),
     };
@@ -260,21 +260,19 @@ fn invalid_unless_changed(alloc: Global, folder: Folder, wanted: [u8; 16]) -> (J
         else FolderChanged false)) }
     ensures files { result.1.files ≡ folder.files }
 {
-    match unless_changed(alloc, Session::new(alloc, folder), wanted, None) {
+    match unless_changed(alloc, Session::new(alloc, folder), wanted) {
         Ok(session) => (JournalFault::JournalInvalid, session.into_folder()),
         Err(refused) => refused,
     }
 }
 
-// Opens by a journal of a session that no command has left. The entries are tried before the folder is digested, which
-// is done along those that come next.
+// Opens by a journal of a session that no command has left. The entries are tried before the folder is digested.
 fn open_settled(
     alloc: Global,
     folder: Folder,
     fingerprint: [u8; 16],
     entries: Vec<Vec<Change>>,
     cursor: usize,
-    next: Option<Next>,
 ) -> Result<Session, (JournalFault, Folder)>
     requires { cursor ≤ length entries.items }
     ensures opened { IfOk result (λ session. defined.opened_by_part folder.files
@@ -285,7 +283,7 @@ fn open_settled(
     ensures files { IfErr result (λ e. e.1.files ≡ folder.files) }
 {
     match session_from(alloc, folder, entries, cursor) {
-        Ok(session) => unless_changed(alloc, session, fingerprint, next),
+        Ok(session) => unless_changed(alloc, session, fingerprint),
         Err((JournalFault::JournalInvalid, folder)) => {
             Err(invalid_unless_changed(alloc, folder, fingerprint))
         }
@@ -298,7 +296,6 @@ fn open_journal(
     alloc: Global,
     folder: Folder,
     journal: Journal,
-    next: Option<Next>,
 ) -> Result<Opened, (JournalFault, Folder)>
     requires { IsJournal (journal_of journal) }
     ensures opened { IfOk result (λ found. defined.opened folder.files (journal_of journal)
@@ -316,7 +313,7 @@ fn open_journal(
     } = journal;
     match halfway {
         None => {
-            let session = open_settled(alloc, folder, fingerprint, entries, cursor, next)?;
+            let session = open_settled(alloc, folder, fingerprint, entries, cursor)?;
             Ok(Opened::Settled(session))
         }
         Some(part) => {
@@ -335,9 +332,90 @@ fn open_journal(
     }
 }
 
+// Opens by the bytes of a journal, whose digest is tested first.
+fn open_tested(
+    alloc: Global,
+    folder: Folder,
+    bytes: &[u8],
+) -> Result<Opened, (JournalFault, Folder)>
+    ensures { AnswersOpening folder bytes.now result }
+{
+    match decode(alloc, bytes) {
+        Ok(journal) => open_journal(alloc, folder, journal),
+        Err(DecodeFault::JournalInvalid) => Err((JournalFault::JournalInvalid, folder)),
+        Err(DecodeFault::Memory) => Err((JournalFault::Memory, folder)),
+    }
+}
+
+// What a session opens as that is of a journal with this fingerprint, if the digest at the end of its text is right.
+fn answer_of(
+    session: Session,
+    found: &Digests,
+    fingerprint: [u8; 16],
+    digest: &[u8],
+) -> Result<Opened, (JournalFault, Folder)>
+    ensures session { IfOk result (λ opened.
+        opened_of opened ≡ defined.Settled (session_of_kept session)) }
+    ensures same { IfOk result (λ _. (digest.now ≡ found.now.text)
+        × IsTrue (bytes_eq found.now.folder fingerprint)) }
+    ensures refused { IfErr result (λ e. ((e.0 ≡ JournalInvalid) × ¬ (digest.now ≡ found.now.text))
+        ⊎ ((e.0 ≡ FolderChanged false) × (digest.now ≡ found.now.text)
+        × IsFalse (bytes_eq found.now.folder fingerprint))) }
+    ensures files { IfErr result (λ e. e.1.files ≡ session.folder.files) }
+{
+    if digest != found.text.as_slice() {
+        return Err((JournalFault::JournalInvalid, session.into_folder()));
+    }
+    if found.folder.as_slice() != fingerprint.as_slice() {
+        let fault = JournalFault::FolderChanged { halfway: false };
+        return Err((fault, session.into_folder()));
+    }
+    Ok(Opened::Settled(session))
+}
+
+// Opens by the bytes of a journal of a session that no command has left. Their digest is computed side by side with
+// that of the folder, so it is tested last. Where the entries can't be applied, or memory runs out before, nothing is
+// told, and the folder is given back.
+fn open_untested(
+    alloc: Global,
+    folder: Folder,
+    bytes: &[u8],
+    next: Option<Next>,
+) -> Result<Result<Opened, (JournalFault, Folder)>, Folder>
+    ensures told { IfOk result (AnswersOpening folder bytes.now) }
+    ensures files { IfErr result (λ kept. kept.files ≡ folder.files) }
+{
+    let Ok(untested) = decode_untested(alloc, bytes) else {
+        return Err(folder);
+    };
+    let Untested {
+        journal,
+        body,
+        digest,
+    } = untested;
+    let Journal {
+        fingerprint,
+        cursor,
+        entries,
+        halfway,
+        ..
+    } = journal;
+    if halfway.is_some() {
+        return Err(folder);
+    }
+    let mut session = match session_from(alloc, folder, entries, cursor) {
+        Ok(session) => session,
+        Err((_, folder)) => return Err(folder),
+    };
+    match session.digests_before(alloc, next, body) {
+        Ok(found) => Ok(answer_of(session, &found, fingerprint, digest)),
+        Err(AllocError) => Err(session.into_folder()),
+    }
+}
+
 impl Session {
     /// Opens a folder with the bytes of a journal, in either version. At a refusal the folder is given back, names and
-    /// bytes as they were. Bytes that don't end with their digest are refused without memory.
+    /// bytes as they were. Bytes that don't end with their digest are refused as such, also where memory runs out.
     pub fn open(
         alloc: Global,
         folder: Folder,
@@ -358,10 +436,9 @@ impl Session {
     ) -> Result<Opened, (JournalFault, Folder)>
         ensures { AnswersOpening folder bytes.now result }
     {
-        match decode(alloc, bytes) {
-            Ok(journal) => open_journal(alloc, folder, journal, next),
-            Err(DecodeFault::JournalInvalid) => Err((JournalFault::JournalInvalid, folder)),
-            Err(DecodeFault::Memory) => Err((JournalFault::Memory, folder)),
+        match open_untested(alloc, folder, bytes, next) {
+            Ok(answer) => answer,
+            Err(folder) => open_tested(alloc, folder, bytes),
         }
     }
 }

@@ -15,6 +15,13 @@ pub struct NothingToUndo;
 #[derive(Clone, Copy, PartialEq, Eq, Debug, Drop)]
 pub struct NothingToRedo;
 
+// The digests that tell whether a session is that of a journal.
+#[derive(Debug, Clone, Copy, Drop)]
+pub struct Digests {
+    pub folder: [u8; 16],
+    pub text: [u8; 16],
+}
+
 /// A session on a folder: the folder, and a list of entries with a cursor. The entries before it are as undos apply
 /// them, those from it on as redos do. Where an undo or redo was announced, the fingerprints along its changes stand
 /// ready.
@@ -43,6 +50,7 @@ impl Model for Session {
 
 impl Session {
     ghost use Rattle.std.specs.Prelude.{◌≡◌, ◌↔◌, ◌<◌, ◌≤◌, ◌≢◌, [], map, length, take, drop, reverse, IsErr, IfOk, OnOk, OnErr, IsTrue};
+    ghost use Rattle.md5.specs.Md5.{md5};
     ghost use Rattle.par2_spec.specs.Changes.{takes_all};
     ghost use Rattle.par2_spec.specs.Folders.{fingerprint};
     ghost use Rattle.par2_spec.specs.Sessions.{CanWalk, OnlyGrew, KeptSession, walks, session_of_kept, kept_done, kept_undone, kept_redone};
@@ -213,23 +221,28 @@ impl Session {
         }
     }
 
-    // The fingerprint of the folder. Where an undo or redo is next, those along its changes, side by side with it, take
-    // little longer than it alone, and are kept for its journals.
-    pub(crate) fn fingerprint_before(
+    // The digests of the folder and of a text, side by side. Where an undo or redo is next, the fingerprints along its
+    // changes, side by side with these, take little longer, and are kept for its journals.
+    pub(crate) fn digests_before(
         &mut self,
         alloc: Global,
         next: Option<Next>,
-    ) -> Result<[u8; 16], AllocError>
+        text: &[u8],
+    ) -> Result<Digests, AllocError>
         ensures unchanged { self.new ≡ self.old }
-        ensures fingerprint { IfOk result (λ print. print ≡ fingerprint self.old.folder.files) }
+        ensures folder { IfOk result (λ found. found.folder ≡ fingerprint self.old.folder.files) }
+        ensures text { IfOk result (λ found. found.text ≡ md5 text.now) }
     {
         let Some(next) = next else {
-            return self.folder.fingerprint(alloc);
+            let (fingerprints, text) = Fingerprints::and_digest(alloc, &self.folder, &[], text)?;
+            let folder = fingerprints.before;
+            return Ok(Digests { folder, text });
         };
-        let fingerprints = Fingerprints::of(alloc, self.folder(), self.next_changes(next))?;
-        let before = fingerprints.before;
+        let changes = self.next_changes(next);
+        let (fingerprints, text) = Fingerprints::and_digest(alloc, self.folder(), changes, text)?;
+        let folder = fingerprints.before;
         self.ahead = Some(Ahead { next, fingerprints });
-        Ok(before)
+        Ok(Digests { folder, text })
     }
 
     /// What committing does to the folder, in order.

@@ -1,7 +1,9 @@
 //! The journals of a session, and the fingerprints that stand in them.
-ghost use Rattle.std.specs.Prelude.{◌≡◌, ◌≤◌, ◌<◌, ◌∷◌, ◌++◌, ◌+◌, [], IfOk, IfSome, IsTrue, length, map, get_or, set, slice_get, take, Some, None};
+ghost use Rattle.std.specs.Prelude.{◌≡◌, ◌≤◌, ◌<◌, ◌∷◌, ◌++◌, ◌+◌, [], List, IfOk, IfSome, IsTrue, length, map, get_or, set, slice_get, take, Some, None};
+ghost use Rattle.md5.specs.Md5.{md5};
+ghost use Rattle.par2_spec.specs.Changes as defined;
 ghost use Rattle.par2_spec.specs.Changes.{effects, folders_after, state_after_all, takes_all, way_back};
-ghost use Rattle.par2_spec.specs.Folders.{fingerprint};
+ghost use Rattle.par2_spec.specs.Folders.{Folder as Files, fingerprint};
 ghost use Rattle.par2_spec.specs.Journals.{Spells};
 ghost use Rattle.par2_spec.specs.declared.Version.TheVariants.{Two};
 ghost use Rattle.par2_journal_bytes.specs.Fronts.{Begins};
@@ -10,7 +12,7 @@ ghost use Rattle.par2_journal.specs.Ahead.{AreAlong};
 ghost use Rattle.par2_journal.specs.Spelling.{Add, SpellsWhere, CompletesHalfway, entries_with, halfway_with, settled_with};
 
 use crate::Changes;
-use par2_folder::{Change, Folder, fingerprints_along};
+use par2_folder::{Change, Folder, fingerprints_along, fingerprints_along_and_digest};
 use par2_journal_bytes::{HalfwayPartView, JournalView, Version, begin, encode, finish_both};
 use std::alloc::{AllocError, Global};
 
@@ -30,6 +32,22 @@ fn last_of(before: [u8; 16], after_each: &[[u8; 16]]) -> [u8; 16]
 }
 
 impl Fingerprints {
+    // Of the fingerprints before the changes and after each, in order.
+    fn of_list(mut list: Vec<[u8; 16]>) -> Fingerprints
+        requires { 0 < length list.items }
+        ensures { (files : Files) (changes : List defined.Change)
+            → list.items ≡ map fingerprint (files ∷ folders_after files changes)
+            → AreAlong result files changes }
+    {
+        let before = list.remove(0);
+        let after_all = last_of(before, &list);
+        Fingerprints {
+            before,
+            after_each: list,
+            after_all,
+        }
+    }
+
     // The fingerprint before the changes, which aren't applied, and after each.
     pub(crate) fn of(
         alloc: Global,
@@ -40,14 +58,25 @@ impl Fingerprints {
         ensures { IfOk result (λ prints.
             AreAlong prints folder.now.files (changes_in changes.now)) }
     {
-        let mut after_each = fingerprints_along(alloc, folder, changes)?;
-        let before = after_each.remove(0);
-        let after_all = last_of(before, &after_each);
-        Ok(Fingerprints {
-            before,
-            after_each,
-            after_all,
-        })
+        Ok(Fingerprints::of_list(fingerprints_along(
+            alloc, folder, changes,
+        )?))
+    }
+
+    // The same, and the digest of a text, side by side with them.
+    pub(crate) fn and_digest(
+        alloc: Global,
+        folder: &Folder,
+        changes: &[Change],
+        text: &[u8],
+    ) -> Result<(Fingerprints, [u8; 16]), AllocError>
+        requires { IsTrue (takes_all folder.now (changes_in changes.now)) }
+        ensures fingerprints { IfOk result (λ x.
+            AreAlong x.0 folder.now.files (changes_in changes.now)) }
+        ensures digest { IfOk result (λ x. x.1 ≡ md5 text.now) }
+    {
+        let (list, digest) = fingerprints_along_and_digest(alloc, folder, changes, text)?;
+        Ok((Fingerprints::of_list(list), digest))
     }
 
     // The same, computed only where they aren't known.

@@ -46,6 +46,9 @@ module _ (text body digest : List ℕ) (long : 16 ≤ length text) (front : body
       by_test true is j spells = wrong ((bytes_eq-Decides digest (md5 body)).0 is)
       by_test false is j spells = none-some j (sym (at_is ∙ ap (λ b. cond b (parts_at body) None) is) ∙ journal_again text j spells)
 
+  pub sealed : digest ≡ md5 body → IsSealed text
+  sealed right = record { long = long; digest = sym end ∙ right ∙ ap md5 front }
+
   pub untested : (j : Journal) → IsBytes text → parts_at body ≡ Some j → IsJournal j × (digest ≡ md5 body → Spells text j) × (¬ (digest ≡ md5 body) → IsForeign text)
   untested j fits is =
       let part : IsBytes body = subst-bytes in

@@ -14,6 +14,7 @@ pub record IsForeign (text : List ℕ) : Type 0 where
 -- what was read of a text
 pub record IsUntested (text : List ℕ) (found : Untested) : Type 0 where
   pub journal : IsJournal (journal_of found.journal)
+  pub sealed : found.digest.now ≡ md5 found.body.now → IsSealed text
   -- where the digest is right, the text spells the journal
   pub right : found.digest.now ≡ md5 found.body.now → Spells text (journal_of found.journal)
   pub wrong : ¬ (found.digest.now ≡ md5 found.body.now) → IsForeign text

@@ -3,7 +3,7 @@ use Rattle.std.proofs.lemmas.Result.{err_from_is_err_and}
 use Rattle.par2_journal_bytes.specs.Reading.{parts_at}
 use Rattle.par2_journal_bytes.specs.Views.{journal_of}
 use Rattle.par2_journal_bytes.proofs.Fields.{bytes-from_each}
-use Rattle.par2_journal_bytes.proofs.UntestedTexts.{refused, too_short, unread, untested}
+use Rattle.par2_journal_bytes.proofs.UntestedTexts.{refused, sealed, too_short, unread, untested}
 use Rattle.par2_journal_bytes.proofs.reading.decode_untested.Goals as goal
 
 pub returns-in_err-body-clause-invalid : goal.returns-in_err-body-clause-invalid
@@ -21,4 +21,9 @@ returns-clause-found c =
     let split = c.in_ok-body.ensures in
     let fits = bytes-from_each c.args.bytes.now (λ i. omega (arith, c.type_inv.bytes i)) in
     let all = untested c.args.bytes.now c.in_ok-body.body.now c.in_ok-body.digest.now split.long split.body split.digest (journal_of c.in_ok-journal.journal) fits c.in_ok-journal.ensures in
-    record { journal = all.0; right = all.1; wrong = all.2 }
+    record {
+      journal = all.0;
+      sealed = sealed c.args.bytes.now c.in_ok-body.body.now c.in_ok-body.digest.now split.long split.body split.digest;
+      right = all.1;
+      wrong = all.2;
+    }

@@ -1,0 +1,18 @@
+use Rattle.std.proofs.Common.{refl, sym, ap, ◌∙◌}
+use Rattle.par2_spec.specs.Folders.{fingerprint}
+use Rattle.par2_spec.specs.Sessions.{KeptSession, session_of_kept}
+use Rattle.par2_journal_bytes.specs.Views.{halfway_of, journal_of}
+use Rattle.par2_journal.proofs.Openings.{answers, none_if}
+use Rattle.par2_journal.proofs.opening.open_untested.Goals as goal
+
+pub returns-in-Ok-digests_before-clause-told : goal.returns-in-Ok-digests_before-clause-told
+returns-in-Ok-digests_before-clause-told c =
+    let untested = c.in-Ok.untested in
+    let found = c.in-Ok-digests_before.found in
+    let opened = c.in-Ok-session_from in
+    let settled = ap halfway_of (none_if untested.journal.halfway (sym c.is_some.ensures ∙ c.if-is_some.false)) in
+    let still = c.in-Ok-digests_before.ensures.unchanged in
+    let print = c.in-Ok-digests_before.ensures.folder ∙ ap (λ (kept : KeptSession). fingerprint kept.folder.files) (sym still) in
+    answers c.args.folder c.args.bytes.now untested (journal_of untested.journal) found.text found.folder (session_of_kept c.digests_before.new.self) c.in-Ok.ensures.found refl settled
+    c.in-Ok-digests_before.ensures.text print (ap session_of_kept still ∙ opened.ensures.session) opened.ensures.valid
+    c.answer_of.result c.answer_of.ensures.session c.answer_of.ensures.same c.answer_of.ensures.refused c.answer_of.ensures.files

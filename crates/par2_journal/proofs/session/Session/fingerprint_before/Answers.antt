@@ -1,7 +1,0 @@
-use Rattle.std.proofs.Common.{◌∙◌}
-use Rattle.par2_spec.specs.Changes.{takes_all}
-use Rattle.par2_journal.proofs.SessionJournals.{ahead_taken}
-use Rattle.par2_journal.proofs.session.Session.fingerprint_before.Goals as goal
-
-pub of-requires : goal.of-requires
-of-requires c = (λ i. takes_all (c.folder.ensures.folder i) (c.next_changes.ensures i)) ∙ ahead_taken c.in-Some.next c.args.self.now c.folder.ensures.walks
