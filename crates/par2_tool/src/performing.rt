@@ -31,6 +31,19 @@ pub enum PerformFault {
     Store,
 }
 
+impl From<AllocError> for PerformFault {
+    ghost use Rattle.std.specs.Prelude.{◌≡◌};
+    ghost use Rattle.par2_spec.specs.declared.Fault.TheVariants.{Memory};
+    ghost use Rattle.par2_journal.specs.declared.preparation.SessionFault.TheVariants.{Plan};
+    ghost use Rattle.par2_tool.specs.declared.performing.PerformFault.TheVariants as refused;
+
+    ghost from_gives = { λ _ fault. fault ≡ refused.Session (Plan Memory) };
+
+    fn from(_: AllocError) -> Self {
+        PerformFault::Session(SessionFault::Plan(Fault::Memory))
+    }
+}
+
 /// Performs a command. A verify answers its report, and leaves store and session alone. Of any other command what it
 /// wants is made ready in memory, its changes are made in the store between two journals, the session goes along, and
 /// the steps are answered. After a refusal store and session are as before. After Store the session is to be dropped
@@ -95,12 +108,7 @@ pub fn perform<S: FolderStore>(
         Ok(prepared) => prepared,
         Err(fault) => return Err(PerformFault::Session(fault)),
     };
-    let journals = match session.journals(alloc, &mut prepared) {
-        Ok(journals) => journals,
-        Err(AllocError) => {
-            return Err(PerformFault::Session(SessionFault::Plan(Fault::Memory)));
-        }
-    };
+    let journals = session.journals(alloc, &mut prepared)?;
     match write_down(store, &journals, session.changes(&prepared)) {
         Ok(()) => Ok(Outcome::Done(session.commit(prepared))),
         Err(_) => Err(PerformFault::Store),

@@ -14,6 +14,7 @@ use Rattle.par2_folder.specs.Views.{change_of}
 use Rattle.par2_journal.specs.Ready.{changes_by_kind, after_commit}
 use Rattle.par2_tool.specs.Holding.{TellsApartAlong, OpensAsBeforeOrAfter}
 use Rattle.par2_tool.specs.Performing.{after_write_down, AreSomeMade, HoldsJournaled, IsStoppedAt, IsWritten}
+use Rattle.par2_tool.proofs.Openings.{any_err}
 use Rattle.par2_tool.proofs.VerifyRuns.{as_it_was, verify_leaves, verify_refused, written_by}
 use Rattle.par2_tool.proofs.Stops.{none_made, made_ready, ready_applies, written_holds, written_journal, stopped_opens, asked_in_order}
 use Rattle.par2_tool.proofs.performing.perform.Goals as goal
@@ -45,8 +46,11 @@ returns-in-Err-clause-in_order g c honest = none_made (g.S.FolderStore.contents 
 pub returns-in-Err-prepare-clause-in_order : goal.returns-in-Err-prepare-clause-in_order
 returns-in-Err-prepare-clause-in_order g c honest = none_made (g.S.FolderStore.contents c.args.store.now).files (changes_asked (session_of_kept c.args.session.now) (command_of c.args.command.now))
 
-pub returns-in-Err-journals-clause-in_order : goal.returns-in-Err-journals-clause-in_order
-returns-in-Err-journals-clause-in_order g c honest = none_made (g.S.FolderStore.contents c.args.store.now).files (changes_asked (session_of_kept c.args.session.now) (command_of c.args.command.now))
+pub returns-in_err-journals-clause-in_order : goal.returns-in_err-journals-clause-in_order
+returns-in_err-journals-clause-in_order g c honest =
+    let files = (g.S.FolderStore.contents c.args.store.now).files in
+    let asked = changes_asked (session_of_kept c.args.session.now) (command_of c.args.command.now) in
+    any_err c.from_residual.result (AreSomeMade asked files files) (none_made files asked)
 
 pub returns-in-Ok-write_down-clause-written : goal.returns-in-Ok-write_down-clause-written
 returns-in-Ok-write_down-clause-written g c honest files =
@@ -54,14 +58,14 @@ returns-in-Ok-write_down-clause-written g c honest files =
     let old = c.args.session.now in
     let mid = c.prepare.new.self in
     let made = made_ready c.ready_changes_apply.ensures.applies c.ready_changes_apply.ensures.commits (action_of c.in-Act.action) old ready mid c.in-Ok-prepare.ensures.kept c.in-Ok-prepare.ensures.ready c.folder-folder.ensures.walks in
-    let journals = c.in-Ok-journals.journals in
+    let journals = c.in_ok-journals.journals in
     let given = c.in-Act.action in
     let start = g.S.FolderStore.contents c.args.store.now in
     let new = g.S.FolderStore.contents c.write_down.new.store in
-    let spelled = c.in-Ok-journals.ensures.journals (action_of given) old made.grew made.is in
-    let changed : map change_of c.changes.result.now ≡ changes_by_kind ready.kind mid = c.changes.ensures ∙ (λ i. changes_by_kind (c.in-Ok-journals.ensures.prepared i).kind (c.in-Ok-journals.ensures.unchanged i)) in
+    let spelled = c.in_ok-journals.ensures.journals (action_of given) old made.grew made.is in
+    let changed : map change_of c.changes.result.now ≡ changes_by_kind ready.kind mid = c.changes.ensures ∙ (λ i. changes_by_kind (c.in_ok-journals.ensures.prepared i).kind (c.in_ok-journals.ensures.unchanged i)) in
     let there : new ≡ after_write_down start journals (changes_by_kind ready.kind mid) = c.in-Ok-write_down.ensures.done honest ∙ ap (after_write_down start journals) changed in
-    let after : c.commit.new.self ≡ after_commit ready.kind mid = c.commit.ensures.session ∙ (λ i. after_commit (c.in-Ok-journals.ensures.prepared i).kind (c.in-Ok-journals.ensures.unchanged i)) in
+    let after : c.commit.new.self ≡ after_commit ready.kind mid = c.commit.ensures.session ∙ (λ i. after_commit (c.in_ok-journals.ensures.prepared i).kind (c.in_ok-journals.ensures.unchanged i)) in
     let all : HoldsJournaled (session_of_kept (after_commit ready.kind mid)) (after_write_down start journals (changes_by_kind ready.kind mid)) = (
       written_holds (action_of given) old ready mid made journals spelled start files,
       written_journal (action_of given) old ready mid made journals spelled start files,
@@ -77,15 +81,15 @@ returns-in-Err-write_down-clause-stopped g c honest files apart =
     let old = c.args.session.now in
     let mid = c.prepare.new.self in
     let made = made_ready c.ready_changes_apply.ensures.applies c.ready_changes_apply.ensures.commits (action_of c.in-Act.action) old ready mid c.in-Ok-prepare.ensures.kept c.in-Ok-prepare.ensures.ready c.folder-folder.ensures.walks in
-    let journals = c.in-Ok-journals.journals in
+    let journals = c.in_ok-journals.journals in
     let action = action_of c.in-Act.action in
     let start = g.S.FolderStore.contents c.args.store.now in
     let new = g.S.FolderStore.contents c.write_down.new.store in
-    let changed : map change_of c.changes.result.now ≡ changes_by_kind ready.kind mid = c.changes.ensures ∙ (λ i. changes_by_kind (c.in-Ok-journals.ensures.prepared i).kind (c.in-Ok-journals.ensures.unchanged i)) in
+    let changed : map change_of c.changes.result.now ≡ changes_by_kind ready.kind mid = c.changes.ensures ∙ (λ i. changes_by_kind (c.in_ok-journals.ensures.prepared i).kind (c.in_ok-journals.ensures.unchanged i)) in
     let stop = subst (λ (cs : List defined.Change). IsStoppedAt start journals cs new) changed (c.in-Err-write_down.ensures.stopped honest) in
     let apart_from : TellsApartAlong (session_of_kept old) action = subst (λ (x : Command). TellsApartAlong (session_of_kept old) (command_of x)) c.in-Act.is apart in
     subst (λ (x : Command). OpensAsBeforeOrAfter (session_of_kept old) (command_of x) start new) (sym c.in-Act.is)
-    (stopped_opens action old ready mid made journals (c.in-Ok-journals.ensures.journals action old made.grew made.is) start files new stop apart_from)
+    (stopped_opens action old ready mid made journals (c.in_ok-journals.ensures.journals action old made.grew made.is) start files new stop apart_from)
 
 pub returns-in-Err-write_down-clause-in_order : goal.returns-in-Err-write_down-clause-in_order
 returns-in-Err-write_down-clause-in_order g c honest =
@@ -93,10 +97,10 @@ returns-in-Err-write_down-clause-in_order g c honest =
     let old = c.args.session.now in
     let mid = c.prepare.new.self in
     let made = made_ready c.ready_changes_apply.ensures.applies c.ready_changes_apply.ensures.commits (action_of c.in-Act.action) old ready mid c.in-Ok-prepare.ensures.kept c.in-Ok-prepare.ensures.ready c.folder-folder.ensures.walks in
-    let journals = c.in-Ok-journals.journals in
+    let journals = c.in_ok-journals.journals in
     let start = g.S.FolderStore.contents c.args.store.now in
     let new = g.S.FolderStore.contents c.write_down.new.store in
-    let changed : map change_of c.changes.result.now ≡ changes_by_kind ready.kind mid = c.changes.ensures ∙ (λ i. changes_by_kind (c.in-Ok-journals.ensures.prepared i).kind (c.in-Ok-journals.ensures.unchanged i)) in
+    let changed : map change_of c.changes.result.now ≡ changes_by_kind ready.kind mid = c.changes.ensures ∙ (λ i. changes_by_kind (c.in_ok-journals.ensures.prepared i).kind (c.in_ok-journals.ensures.unchanged i)) in
     let stop = subst (λ (cs : List defined.Change). IsStoppedAt start journals cs new) changed (c.in-Err-write_down.ensures.stopped honest) in
     subst (λ (x : Command). AreSomeMade (changes_asked (session_of_kept old) (command_of x)) start.files new.files) (sym c.in-Act.is)
     (asked_in_order (action_of c.in-Act.action) old ready mid made start journals new stop)
@@ -107,7 +111,7 @@ returns-in-Ok-write_down-clause-possible g c honest files =
     let old = c.args.session.now in
     let mid = c.prepare.new.self in
     let made = made_ready c.ready_changes_apply.ensures.applies c.ready_changes_apply.ensures.commits (action_of c.in-Act.action) old ready mid c.in-Ok-prepare.ensures.kept c.in-Ok-prepare.ensures.ready c.folder-folder.ensures.walks in
-    let changed : map change_of c.changes.result.now ≡ changes_by_kind ready.kind mid = c.changes.ensures ∙ (λ i. changes_by_kind (c.in-Ok-journals.ensures.prepared i).kind (c.in-Ok-journals.ensures.unchanged i)) in
+    let changed : map change_of c.changes.result.now ≡ changes_by_kind ready.kind mid = c.changes.ensures ∙ (λ i. changes_by_kind (c.in_ok-journals.ensures.prepared i).kind (c.in_ok-journals.ensures.unchanged i)) in
     c.write_down.ensures.possible honest
     (ready_applies (action_of c.in-Act.action) old ready mid made (g.S.FolderStore.contents c.args.store.now) files _ changed)
 
@@ -117,6 +121,6 @@ returns-in-Err-write_down-clause-possible g c honest files =
     let old = c.args.session.now in
     let mid = c.prepare.new.self in
     let made = made_ready c.ready_changes_apply.ensures.applies c.ready_changes_apply.ensures.commits (action_of c.in-Act.action) old ready mid c.in-Ok-prepare.ensures.kept c.in-Ok-prepare.ensures.ready c.folder-folder.ensures.walks in
-    let changed : map change_of c.changes.result.now ≡ changes_by_kind ready.kind mid = c.changes.ensures ∙ (λ i. changes_by_kind (c.in-Ok-journals.ensures.prepared i).kind (c.in-Ok-journals.ensures.unchanged i)) in
+    let changed : map change_of c.changes.result.now ≡ changes_by_kind ready.kind mid = c.changes.ensures ∙ (λ i. changes_by_kind (c.in_ok-journals.ensures.prepared i).kind (c.in_ok-journals.ensures.unchanged i)) in
     c.write_down.ensures.possible honest
     (ready_applies (action_of c.in-Act.action) old ready mid made (g.S.FolderStore.contents c.args.store.now) files _ changed)
