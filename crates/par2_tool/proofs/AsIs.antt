@@ -1,6 +1,6 @@
 -- What a store is opened as for a command, and what comes of it.
 use Rattle.std.proofs.Common.{◌≡◌, inl, inr, ℕ, Bool, List, Some, None, Result, Ok, Err, refl, sym, ap, subst, ◌∙◌}
-use Rattle.std.specs.Prelude.{IfOk, OnOk}
+use Rattle.std.specs.Prelude.{IfOk}
 use Rattle.par2_spec.specs.Commands.{Action, Command, Do, Undo, Redo, Create, Verify, Repair, Purge}
 use Rattle.par2_spec.specs.Folders.{Folder}
 use Rattle.par2_spec.specs.Opening.{Started, OpensAs, new_session}
@@ -10,8 +10,8 @@ use Rattle.par2_spec.specs.Reports.{report_in}
 use Rattle.par2_spec.specs.Sessions.{Session, KeptSession, changes_asked, changes_unless, session_after, session_of_kept}
 use Rattle.par2_spec.specs.Stores.{Contents}
 use Rattle.par2_spec.specs.Texts.{Outcome, output_of}
-use Rattle.par2_tool.specs.Holding.{Holds, IsOpening, with_history}
-use Rattle.par2_tool.specs.Opening.{IsOpened, IsRead, OnlyTakesBack, StandsFor, started_of}
+use Rattle.par2_tool.specs.Holding.{IsOpening, with_history}
+use Rattle.par2_tool.specs.Opening.{IsOpened, IsRead, StandsFor, started_of}
 use Rattle.par2_tool.specs.Performing.{IsAnswer, IsReport, IsVerify, IsWritten}
 use Rattle.par2_tool.specs.Refusals.{IsRefused, failure_for}
 use Rattle.par2_tool.specs.Telling.{IsBack, IsDone, IsFailed, SameOutput}
@@ -28,26 +28,26 @@ use Rattle.par2_tool.proofs.VerifyRuns.{as_it_was, verify_leaves}
 pub opened_on : (contents : Contents) (started : Started) → IsOpening contents (Ok started) → contents.files ≡ started.session.folder → IsOpened contents contents started
 opened_on contents started opens files = record { opens = opens; holds = record { files = files; opens = opens }; left = inl refl }
 
-pub opened_as_is : (contents : Contents) (files : Folder) (text : List ℕ) (started : Started) → IsRead contents files text → OpensAs files (Some text) (Ok started) → started.session.folder ≡ files → IsOpened contents contents started
+pub opened_as_is : (contents : Contents) (files : Folder) (text : List ℕ) (started : Started) → IsRead contents files (Some text) → OpensAs files (Some text) (Ok started) → started.session.folder ≡ files → IsOpened contents contents started
 opened_as_is contents files text started read opens on =
     opened_on contents started (subst (λ k. IsOpening k (Ok started)) (sym read) opens) (ap (λ (k : Contents). k.files) read ∙ sym on)
 
-pub opened_new : (contents : Contents) (files : Folder) → contents.journal ≡ None → files ≡ contents.files → IsOpened contents contents (with_history (new_session files))
-opened_new contents files none same = opened_on contents (with_history (new_session files)) (opens_new contents (new_session files) none (ap new_session same)) (sym same)
+pub opened_new : (contents : Contents) (files : Folder) → IsRead contents files None → IsOpened contents contents (with_history (new_session files))
+opened_new contents files read =
+    let same = ap (λ (k : Contents). k.files) read in
+    opened_on contents (with_history (new_session files)) (opens_new contents (new_session files) (ap (λ (k : Contents). k.journal) read) (ap new_session (sym same))) same
 
 -- what a store was opened as stands for itself
-pub stands : {E : Type 0} (action : Action) (honest : Type 0) (result : Result program.Started E) (old new : Contents)
-    → (honest → IfOk result (λ s. IsOpening old (Ok (started_of s)))) → (honest → IfOk result (λ s. Holds new (started_of s))) → (honest → OnOk result (OnlyTakesBack old new))
+pub stands : {E : Type 0} (action : Action) (honest : Type 0) (result : Result program.Started E) (old new : Contents) → (honest → IfOk result (λ s. IsOpened old new (started_of s)))
     → IfOk result (λ s. (o : Started) × StandsFor action o (started_of s) × (honest → IsOpened old new o))
-stands action honest (Err e) old new opens holds left = tt
-stands action honest (Ok s) old new opens holds left = (started_of s, inl refl, λ h. record { opens = opens h; holds = holds h; left = left h })
+stands action honest (Err e) old new opened = tt
+stands action honest (Ok s) old new opened = (started_of s, inl refl, opened)
 
 -- so does it for a verify
-pub stands_on : {E : Type 0} (honest : Type 0) (result : Result program.Started E) (old new : Contents)
-    → (honest → IfOk result (λ s. IsOpening old (Ok (started_of s)))) → (honest → IfOk result (λ s. Holds new (started_of s))) → (honest → OnOk result (OnlyTakesBack old new))
+pub stands_on : {E : Type 0} (honest : Type 0) (result : Result program.Started E) (old new : Contents) → (honest → IfOk result (λ s. IsOpened old new (started_of s)))
     → IfOk result (λ s. (o : Started) × (o.session.folder ≡ (started_of s).session.folder) × (honest → IsOpened old new o))
-stands_on honest (Err e) old new opens holds left = tt
-stands_on honest (Ok s) old new opens holds left = (started_of s, refl, λ h. record { opens = opens h; holds = holds h; left = left h })
+stands_on honest (Err e) old new opened = tt
+stands_on honest (Ok s) old new opened = (started_of s, refl, opened)
 
 pub stands_for_verify : {E : Type 0} (action : Action) (honest : Type 0) (result : Result program.Started E) (old new : Contents) → IsVerify action
     → IfOk result (λ s. (o : Started) × (o.session.folder ≡ (started_of s).session.folder) × (honest → IsOpened old new o))

@@ -1,6 +1,6 @@
 -- What a store opens as, and what a stop leaves of it.
 use Rattle.std.proofs.Common.{◌≡◌, ◌⊎◌, inl, inr, ℕ, Bool, true, false, not, ◌&&◌, IsTrue, List, ◌∷◌, length, take, drop, ◌-◌, Option, Some, None, Result, Ok, Err, refl, sym, ap, subst, ◌∙◌, arith}
-use Rattle.std.specs.Prelude.{reverse, position, OnErr, Vec, if◌then◌else◌}
+use Rattle.std.specs.Prelude.{reverse, position, option_map, OnErr, Vec, if◌then◌else◌}
 use Rattle.std.specs.Str.{bytes_eq}
 use Rattle.std.specs.declared.alloc.Global.{Global}
 use Rattle.par2_spec.specs.Folders.{Folder, fingerprint}
@@ -15,7 +15,7 @@ use Rattle.par2_spec.specs.declared.JournalFault.TheVariants.{JournalInvalid, Fo
 use Rattle.par2_spec.specs.declared.Version.TheVariants.{Two}
 use Rattle.par2_spec.proofs.StopLaws.{settled_stored, still_stored, taken_back_leads}
 use Rattle.par2_tool.specs.Holding.{Holds, IsOpening, OpensAsBefore, TellsApartBack, with_history}
-use Rattle.par2_tool.specs.Opening.{IsRead, IsStillHalfway, IsTakenBack, TakesBack}
+use Rattle.par2_tool.specs.Opening.{IsOpened, IsRead, IsStillHalfway, IsTakenBack, TakesBack}
 use Rattle.par2_tool.specs.Performing.{IsStoppedAt}
 use Rattle.par2_tool.proofs.MadeChanges.{all_changed_is}
 
@@ -66,16 +66,22 @@ halfway_by folder text s back (inr p) = let no : ⊥ = cc p.1 in absurd no
 -- ---- what a store opens as
 
 -- the contents that were read
-pub is_read : (contents : Contents) (files : Folder) (text : List ℕ) → files ≡ contents.files → Some text ≡ contents.journal → IsRead contents files text
-is_read contents files text of_files of_journal = λ i. record { files = sym of_files i; journal = sym of_journal i }
+pub is_read : (contents : Contents) (files : Folder) (journal : Option (List ℕ)) → files ≡ contents.files → journal ≡ contents.journal → IsRead contents files journal
+is_read contents files journal of_files of_journal = λ i. record { files = sym of_files i; journal = sym of_journal i }
+
+-- the text of the journal that was read
+pub text_read : (contents : Contents) (files : Folder) (journal : Option (Vec ℕ Global)) (text : Vec ℕ Global) (bytes : List ℕ) → IsRead contents files (option_map (λ bytes. bytes.items) journal) → journal ≡ Some text → bytes ≡ text.items
+    → IsRead contents files (Some bytes)
+text_read contents files journal text bytes read some is =
+    subst (IsRead contents files) (ap (option_map (λ (v : Vec ℕ Global). v.items)) some ∙ ap Some (sym is)) read
 
 -- what is read opens as its journal does
-pub opens_read : (contents : Contents) (files : Folder) (text : List ℕ) (o : Result Opened JournalFault) (answer : Result Started JournalFault) → IsRead contents files text → Opens files text o → answer ≡ started files o → IsOpening contents answer
+pub opens_read : (contents : Contents) (files : Folder) (text : List ℕ) (o : Result Opened JournalFault) (answer : Result Started JournalFault) → IsRead contents files (Some text) → Opens files text o → answer ≡ started files o → IsOpening contents answer
 unfolding OpensAs
 opens_read contents files text o answer read opens is = subst (λ k. IsOpening k answer) (sym read) (o, opens, is)
 
 -- a refusal that is not for want of memory decides what the store opens as
-pub opens_refused : (contents : Contents) (files : Folder) (text : List ℕ) (e named : JournalFault) (answer : Result Started JournalFault) → IsRead contents files text → (e ≡ fault.Memory) ⊎ Opens files text (Err e) → e ≡ named → (named ≡ fault.Memory → ⊥) → answer ≡ started files (Err named)
+pub opens_refused : (contents : Contents) (files : Folder) (text : List ℕ) (e named : JournalFault) (answer : Result Started JournalFault) → IsRead contents files (Some text) → (e ≡ fault.Memory) ⊎ Opens files text (Err e) → e ≡ named → (named ≡ fault.Memory → ⊥) → answer ≡ started files (Err named)
     → IsOpening contents answer
 opens_refused contents files text e named answer read (inl memory) same other is = absurd (other (sym same ∙ memory))
 opens_refused contents files text e named answer read (inr opens) same other is =
@@ -87,7 +93,7 @@ unfolding OpensAs
 opens_new contents s none is = subst (λ j. OpensAs contents.files j (Ok (with_history s))) (sym none) (ap (λ t. Ok (with_history t)) is)
 
 -- where no command is halfway, the store that was read holds the session
-pub holds_settled : (contents : Contents) (files : Folder) (text : List ℕ) (s : Session) → IsRead contents files text → Opens files text (Ok (Settled s)) → Holds contents (with_history s)
+pub holds_settled : (contents : Contents) (files : Folder) (text : List ℕ) (s : Session) → IsRead contents files (Some text) → Opens files text (Ok (Settled s)) → Holds contents (with_history s)
 holds_settled contents files text s read opens = record {
   files = ap (λ (k : Contents). k.files) read ∙ sym (settled_on files text s opens).0;
   opens = opens_read contents files text (Ok (Settled s)) (Ok (with_history s)) read opens refl;
@@ -96,7 +102,7 @@ holds_settled contents files text s read opens = record {
 -- ---- what is taken back
 
 -- the store holds the session once the changes are made and its journal is put
-pub holds_taken_back : (old new : Contents) (files : Folder) (text : List ℕ) (s : Session) (back : List Change) → IsRead old files text → Opens files text (Ok (Halfway s back)) → IsTakenBack s back old new → Holds new (with_history s)
+holds_taken_back : (old new : Contents) (files : Folder) (text : List ℕ) (s : Session) (back : List Change) → IsRead old files (Some text) → Opens files text (Ok (Halfway s back)) → IsTakenBack s back old new → Holds new (with_history s)
 holds_taken_back old new files text s back read opens done =
     let by = halfway_by files text s back opens in
     let leads = taken_back_leads by.0 files s back by.2 in
@@ -105,7 +111,7 @@ holds_taken_back old new files text s back read opens done =
     done.2 ∙ ap (λ k. with_journal k done.0) (all_changed_is old back) ∙ ap (λ f. record { files = f; journal = Some done.0 }) home in
     subst (λ k. Holds k (with_history s)) (sym is) (record { files = refl; opens = settled_stored Two s done.0 leads.2 done.1 })
 
-pub takes_back : (old new : Contents) (files : Folder) (text : List ℕ) (s : Session) (back : List Change) → IsRead old files text → Opens files text (Ok (Halfway s back)) → IsTakenBack s back old new → TakesBack old new
+takes_back : (old new : Contents) (files : Folder) (text : List ℕ) (s : Session) (back : List Change) → IsRead old files (Some text) → Opens files text (Ok (Halfway s back)) → IsTakenBack s back old new → TakesBack old new
 takes_back old new files text s back read opens done = record {
   text = text;
   session = s;
@@ -115,14 +121,22 @@ takes_back old new files text s back read opens done = record {
   taken = done;
 }
 
+-- so the store is opened
+pub opened_taken_back : (old new : Contents) (files : Folder) (text : List ℕ) (s : Session) (back : List Change) → IsRead old files (Some text) → Opens files text (Ok (Halfway s back)) → IsTakenBack s back old new → IsOpened old new (with_history s)
+opened_taken_back old new files text s back read opens done = record {
+  opens = opens_read old files text (Ok (Halfway s back)) (Ok (with_history s)) read opens refl;
+  holds = holds_taken_back old new files text s back read opens done;
+  left = inr (takes_back old new files text s back read opens done);
+}
+
 -- the changes of the way back can be made one after the other
-pub way_applies : (contents : Contents) (files : Folder) (text : List ℕ) (s : Session) (back : List Change) → IsRead contents files text → Opens files text (Ok (Halfway s back)) → IsTrue (are_applicable contents.files back)
+pub way_applies : (contents : Contents) (files : Folder) (text : List ℕ) (s : Session) (back : List Change) → IsRead contents files (Some text) → Opens files text (Ok (Halfway s back)) → IsTrue (are_applicable contents.files back)
 way_applies contents files text s back read opens =
     let by = halfway_by files text s back opens in
     subst (λ (f : Folder). IsTrue (are_applicable f back)) (sym (ap (λ (k : Contents). k.files) read)) (taken_back_leads by.0 files s back by.2).0
 
 -- wherever that stops, the store opens as it did
-pub opens_still : (old new : Contents) (files : Folder) (text : List ℕ) (s : Session) (back : List Change) → IsRead old files text → Opens files text (Ok (Halfway s back)) → TellsApartBack old → IsStillHalfway s back old new → OpensAsBefore old new
+pub opens_still : (old new : Contents) (files : Folder) (text : List ℕ) (s : Session) (back : List Change) → IsRead old files (Some text) → Opens files text (Ok (Halfway s back)) → TellsApartBack old → IsStillHalfway s back old new → OpensAsBefore old new
 opens_still old new files text s back read opens apart stop = inr (with_history s, opens_read old files text (Ok (Halfway s back)) (Ok (with_history s)) read opens refl, by_stop stop)
   where
     by_stop : IsStillHalfway s back old new → IsOpening new (Ok (with_history s))

@@ -1,5 +1,5 @@
 -- What a store is opened as, and what opening does to it; or why it isn't opened.
-use Rattle.std.specs.Prelude.{◌≡◌, ◌⊎◌, ◌<◌, ◌≤◌, ℕ, List, length, take, Some, Ok, Err, true}
+use Rattle.std.specs.Prelude.{◌≡◌, ◌⊎◌, ◌<◌, ◌≤◌, ℕ, List, length, take, Option, Some, Result, Ok, Err, IfErr, OnOk, OnErr, true}
 use Rattle.par2_spec.specs.Changes.{Change}
 use Rattle.par2_spec.specs.Commands.{Action}
 use Rattle.par2_spec.specs.Folders.{Folder}
@@ -12,7 +12,7 @@ use Rattle.par2_spec.specs.declared.JournalFault.TheVariants as journal
 use Rattle.par2_spec.specs.declared.Version.TheVariants.{Two}
 use Rattle.par2_folder.specs.declared.store.ReadFault.{ReadFault}
 use Rattle.par2_folder.specs.declared.store.ReadFault.TheVariants as read
-use Rattle.par2_tool.specs.Holding.{IsOpening, Holds}
+use Rattle.par2_tool.specs.Holding.{IsOpening, Holds, OpensAsBefore, TellsApartBack}
 use Rattle.par2_tool.specs.Performing.{with_all_changes, IsVerify}
 use Rattle.par2_tool.specs.declared.opening.OpenFault.{OpenFault}
 use Rattle.par2_tool.specs.declared.opening.OpenFault.TheVariants.{Store, Memory, JournalInvalid, FolderChanged}
@@ -41,8 +41,8 @@ unread_as read.Store = Store
 unread_as read.Memory = Memory
 
 -- the contents are those that were read
-abbrev pub IsRead : Contents → Folder → List ℕ → Type 0
-IsRead contents files text = contents ≡ record { files = files; journal = Some text }
+abbrev pub IsRead : Contents → Folder → Option (List ℕ) → Type 0
+IsRead contents files journal = contents ≡ record { files = files; journal = journal }
 
 -- the changes of the way back are made, and the journal is that of the session
 abbrev pub IsTakenBack : Session → List Change → Contents → Contents → Type 0
@@ -72,6 +72,18 @@ pub record IsOpened (old new : Contents) (started : defined.Started) : Type 0 wh
   pub opens : IsOpening old (Ok started)
   pub holds : Holds new started
   pub left : OnlyTakesBack old new
+
+-- a store isn't opened: why, and what it holds and opens as then
+pub record LeavesUnopened {T : Type 0} (old new : Contents) (result : Result T OpenFault) : Type 0 where
+  pub refused : IfErr result (IsUnopened old new)
+  -- where fingerprints tell apart the folders that are passed through
+  pub stopped : TellsApartBack old → OnErr result (OpensAsBefore old new)
+
+-- how often the store has failed, before an opening and after it
+pub record CountsFailures {T : Type 0} (before after : ℕ) (result : Result T OpenFault) : Type 0 where
+  pub later : before ≤ after
+  pub counted : IfErr result (IsCounted before after)
+  pub steady : OnOk result (after ≡ before)
 
 -- an action has the same answer on both: they are equal, or it is a verify and they are on the same folder
 abbrev pub StandsFor : Action → defined.Started → defined.Started → Type 0

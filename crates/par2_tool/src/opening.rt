@@ -1,12 +1,12 @@
 //! A store is opened as a session.
-ghost use Rattle.std.specs.Prelude.{◌≡◌, ◌<◌, ◌≤◌, IfOk, IfErr, OnErr, IsErrOf, IsTrue, OnOk, Ok};
+ghost use Rattle.std.specs.Prelude.{◌≡◌, IfOk, IsErrOf, IsTrue, OnErr, OnOk, Some, option_map};
 ghost use Rattle.par2_journal.specs.Opening.{session_before, way_left};
 ghost use Rattle.par2_spec.specs.Changes.{are_applicable};
-ghost use Rattle.par2_spec.specs.Sessions.{session_of_kept};
-ghost use Rattle.par2_tool.specs.Holding.{with_history, IsOpening, Holds, OpensAsBefore, TellsApartBack};
 ghost use Rattle.par2_spec.specs.Opening.{Started as Opening, new_session};
+ghost use Rattle.par2_spec.specs.Sessions.{session_of_kept};
 ghost use Rattle.par2_spec.specs.Views.{command_of};
-ghost use Rattle.par2_tool.specs.Opening.{started_of, unread_as, IsCounted, IsOpened, IsRead, IsUnopened, IsTakenBack, IsStillHalfway, OnlyTakesBack, StandsFor};
+ghost use Rattle.par2_tool.specs.Holding.{with_history};
+ghost use Rattle.par2_tool.specs.Opening.{started_of, CountsFailures, IsOpened, IsRead, IsStillHalfway, IsTakenBack, LeavesUnopened, StandsFor};
 
 use crate::writing::write_down;
 use par2_folder::{Folder, FolderStore, ReadFault, read_folder};
@@ -32,6 +32,31 @@ pub enum OpenFault {
     FolderChanged,
 }
 
+impl From<AllocError> for OpenFault {
+    ghost use Rattle.std.specs.Prelude.{◌≡◌};
+    ghost use Rattle.par2_tool.specs.declared.opening.OpenFault.TheVariants.{Memory};
+
+    ghost from_gives = { λ _ unopened. unopened ≡ Memory };
+
+    fn from(_: AllocError) -> Self {
+        OpenFault::Memory
+    }
+}
+
+impl From<ReadFault> for OpenFault {
+    ghost use Rattle.std.specs.Prelude.{◌≡◌};
+    ghost use Rattle.par2_tool.specs.Opening.{unread_as};
+
+    ghost from_gives = { λ fault unopened. unopened ≡ unread_as fault };
+
+    fn from(fault: ReadFault) -> Self {
+        match fault {
+            ReadFault::Store => OpenFault::Store,
+            ReadFault::Memory => OpenFault::Memory,
+        }
+    }
+}
+
 // A store that opens on this folder without a history.
 fn without_history(alloc: Global, folder: Folder) -> Started
     ensures { started_of result ≡ with_history (new_session folder.files) }
@@ -42,14 +67,23 @@ fn without_history(alloc: Global, folder: Folder) -> Started
     }
 }
 
-// Why a store can't be read.
-fn unread(fault: ReadFault) -> OpenFault
-    ensures { result ≡ unread_as fault }
+// Reads the folder of a store, and its journal where there is one.
+fn read_store<S: FolderStore>(
+    alloc: Global,
+    store: &mut S,
+) -> Result<(Folder, Option<Vec<u8>>), OpenFault>
+    ensures honest { S.honest store.old → S.honest store.new }
+    ensures read { S.honest store.old → IfOk result (λ read. IsRead (S.contents store.old)
+        read.0.files (option_map (λ text. text.items) read.1)) }
+    ensures same { S.honest store.old → S.contents store.new ≡ S.contents store.old }
+    ensures unopened { S.honest store.old
+        → LeavesUnopened (S.contents store.old) (S.contents store.new) result }
+    ensures failures { CountsFailures (S.failures store.old) (S.failures store.new) result }
+    ensures possible { S.honest store.old → S.impossible store.new ≡ S.impossible store.old }
 {
-    match fault {
-        ReadFault::Store => OpenFault::Store,
-        ReadFault::Memory => OpenFault::Memory,
-    }
+    let folder = read_folder(alloc, store)?;
+    let journal = store.read_journal(alloc)?;
+    Ok((folder, journal))
 }
 
 // Takes a halfway command back in the store, and settles its journal.
@@ -70,17 +104,12 @@ fn take_back<S: FolderStore>(
         → S.honest store.old → S.contents store.new ≡ S.contents store.old }
     ensures no_journal { (IsErrOf result OpenFault.JournalInvalid → ⊥)
         × (IsErrOf result OpenFault.FolderChanged → ⊥) }
-    ensures later { S.failures store.old ≤ S.failures store.new }
-    ensures counted { IfErr result (IsCounted (S.failures store.old) (S.failures store.new)) }
-    ensures steady { OnOk result (S.failures store.new ≡ S.failures store.old) }
+    ensures failures { CountsFailures (S.failures store.old) (S.failures store.new) result }
     ensures possible { S.honest store.old
         → IsTrue (are_applicable (S.contents store.old).files (way_left halfway))
         → S.impossible store.new ≡ S.impossible store.old }
 {
-    let after = match halfway.settled(alloc) {
-        Ok(after) => after,
-        Err(AllocError) => return Err(OpenFault::Memory),
-    };
+    let after = halfway.settled(alloc)?;
     let journals = Journals {
         halfway: None,
         after,
@@ -100,21 +129,15 @@ fn open_with<S: FolderStore>(
     next: Option<Next>,
 ) -> Result<Started, OpenFault>
     ensures honest { S.honest store.old → S.honest store.new }
-    ensures opened { S.honest store.old → IsRead (S.contents store.old) folder.files text.now
-        → IfOk result (λ started. IsOpening (S.contents store.old) (Ok (started_of started))) }
-    ensures holds { S.honest store.old → IsRead (S.contents store.old) folder.files text.now
-        → IfOk result (λ started. Holds (S.contents store.new) (started_of started)) }
-    ensures left { S.honest store.old → IsRead (S.contents store.old) folder.files text.now
-        → OnOk result (OnlyTakesBack (S.contents store.old) (S.contents store.new)) }
-    ensures refused { S.honest store.old → IsRead (S.contents store.old) folder.files text.now
-        → IfErr result (IsUnopened (S.contents store.old) (S.contents store.new)) }
-    ensures stopped { S.honest store.old → IsRead (S.contents store.old) folder.files text.now
-        → TellsApartBack (S.contents store.old)
-        → OnErr result (OpensAsBefore (S.contents store.old) (S.contents store.new)) }
-    ensures later { S.failures store.old ≤ S.failures store.new }
-    ensures counted { IfErr result (IsCounted (S.failures store.old) (S.failures store.new)) }
-    ensures steady { OnOk result (S.failures store.new ≡ S.failures store.old) }
-    ensures possible { S.honest store.old → IsRead (S.contents store.old) folder.files text.now
+    ensures opened { S.honest store.old
+        → IsRead (S.contents store.old) folder.files (Some text.now) → IfOk result
+        (λ started. IsOpened (S.contents store.old) (S.contents store.new) (started_of started)) }
+    ensures unopened { S.honest store.old
+        → IsRead (S.contents store.old) folder.files (Some text.now)
+        → LeavesUnopened (S.contents store.old) (S.contents store.new) result }
+    ensures failures { CountsFailures (S.failures store.old) (S.failures store.new) result }
+    ensures possible { S.honest store.old
+        → IsRead (S.contents store.old) folder.files (Some text.now)
         → S.impossible store.new ≡ S.impossible store.old }
 {
     match Session::open_before(alloc, folder, text, next) {
@@ -146,32 +169,17 @@ fn open_session<S: FolderStore>(
     next: Option<Next>,
 ) -> Result<Started, OpenFault>
     ensures honest { S.honest store.old → S.honest store.new }
-    ensures opened { S.honest store.old
-        → IfOk result (λ started. IsOpening (S.contents store.old) (Ok (started_of started))) }
-    ensures holds { S.honest store.old
-        → IfOk result (λ started. Holds (S.contents store.new) (started_of started)) }
-    ensures left { S.honest store.old
-        → OnOk result (OnlyTakesBack (S.contents store.old) (S.contents store.new)) }
-    ensures refused { S.honest store.old
-        → IfErr result (IsUnopened (S.contents store.old) (S.contents store.new)) }
-    ensures stopped { S.honest store.old → TellsApartBack (S.contents store.old)
-        → OnErr result (OpensAsBefore (S.contents store.old) (S.contents store.new)) }
-    ensures later { S.failures store.old ≤ S.failures store.new }
-    ensures counted { IfErr result (IsCounted (S.failures store.old) (S.failures store.new)) }
-    ensures steady { OnOk result (S.failures store.new ≡ S.failures store.old) }
+    ensures opened { S.honest store.old → IfOk result
+        (λ started. IsOpened (S.contents store.old) (S.contents store.new) (started_of started)) }
+    ensures unopened { S.honest store.old
+        → LeavesUnopened (S.contents store.old) (S.contents store.new) result }
+    ensures failures { CountsFailures (S.failures store.old) (S.failures store.new) result }
     ensures possible { S.honest store.old → S.impossible store.new ≡ S.impossible store.old }
 {
-    let folder = match read_folder(alloc, store) {
-        Ok(folder) => folder,
-        Err(fault) => return Err(unread(fault)),
-    };
-    match store.read_journal(alloc) {
-        Ok(Some(text)) => open_with(alloc, store, folder, &text, next),
-        Ok(None) => Ok(Started {
-            session: Session::new(alloc, folder),
-            dropped: false,
-        }),
-        Err(fault) => Err(unread(fault)),
+    let (folder, journal) = read_store(alloc, store)?;
+    match journal {
+        Some(text) => open_with(alloc, store, folder, &text, next),
+        None => Ok(without_history(alloc, folder)),
     }
 }
 
@@ -180,19 +188,11 @@ fn open_session<S: FolderStore>(
 /// to the store. After Store and Memory it opens as it did.
 pub fn open_store<S: FolderStore>(alloc: Global, store: &mut S) -> Result<Started, OpenFault>
     ensures honest { S.honest store.old → S.honest store.new }
-    ensures opened { S.honest store.old
-        → IfOk result (λ started. IsOpening (S.contents store.old) (Ok (started_of started))) }
-    ensures holds { S.honest store.old
-        → IfOk result (λ started. Holds (S.contents store.new) (started_of started)) }
-    ensures left { S.honest store.old
-        → OnOk result (OnlyTakesBack (S.contents store.old) (S.contents store.new)) }
-    ensures refused { S.honest store.old
-        → IfErr result (IsUnopened (S.contents store.old) (S.contents store.new)) }
-    ensures stopped { S.honest store.old → TellsApartBack (S.contents store.old)
-        → OnErr result (OpensAsBefore (S.contents store.old) (S.contents store.new)) }
-    ensures later { S.failures store.old ≤ S.failures store.new }
-    ensures counted { IfErr result (IsCounted (S.failures store.old) (S.failures store.new)) }
-    ensures steady { OnOk result (S.failures store.new ≡ S.failures store.old) }
+    ensures opened { S.honest store.old → IfOk result
+        (λ started. IsOpened (S.contents store.old) (S.contents store.new) (started_of started)) }
+    ensures unopened { S.honest store.old
+        → LeavesUnopened (S.contents store.old) (S.contents store.new) result }
+    ensures failures { CountsFailures (S.failures store.old) (S.failures store.new) result }
     ensures possible { S.honest store.old → S.impossible store.new ≡ S.impossible store.old }
 {
     open_session(alloc, store, None)
@@ -205,29 +205,19 @@ fn open_for_verify<S: FolderStore>(alloc: Global, store: &mut S) -> Result<Start
     ensures opened { IfOk result (λ started. (opened : Opening)
         × (opened.session.folder ≡ (started_of started).session.folder)
         × (S.honest store.old → IsOpened (S.contents store.old) (S.contents store.new) opened)) }
-    ensures refused { S.honest store.old
-        → IfErr result (IsUnopened (S.contents store.old) (S.contents store.new)) }
-    ensures stopped { S.honest store.old → TellsApartBack (S.contents store.old)
-        → OnErr result (OpensAsBefore (S.contents store.old) (S.contents store.new)) }
-    ensures later { S.failures store.old ≤ S.failures store.new }
-    ensures counted { IfErr result (IsCounted (S.failures store.old) (S.failures store.new)) }
-    ensures steady { OnOk result (S.failures store.new ≡ S.failures store.old) }
+    ensures unopened { S.honest store.old
+        → LeavesUnopened (S.contents store.old) (S.contents store.new) result }
+    ensures failures { CountsFailures (S.failures store.old) (S.failures store.new) result }
     ensures possible { S.honest store.old → S.impossible store.new ≡ S.impossible store.old }
 {
-    let mut folder = match read_folder(alloc, store) {
-        Ok(folder) => folder,
-        Err(fault) => return Err(unread(fault)),
+    let (mut folder, journal) = read_store(alloc, store)?;
+    let Some(text) = journal else {
+        return Ok(without_history(alloc, folder));
     };
-    let text = match store.read_journal(alloc) {
-        Ok(Some(text)) => text,
-        Ok(None) => return Ok(without_history(alloc, folder)),
-        Err(fault) => return Err(unread(fault)),
-    };
-    match opens_as_is(alloc, &mut folder, &text) {
-        Ok(true) => Ok(without_history(alloc, folder)),
-        Ok(false) => open_with(alloc, store, folder, &text, None),
-        Err(AllocError) => Err(OpenFault::Memory),
+    if opens_as_is(alloc, &mut folder, &text)? {
+        return Ok(without_history(alloc, folder));
     }
+    open_with(alloc, store, folder, &text, None)
 }
 
 // The undo or redo that an action is.
@@ -250,13 +240,9 @@ pub(crate) fn open_for<S: FolderStore>(
     ensures opened { IfOk result (λ started. (opened : Opening)
         × StandsFor (command_of command.now) opened (started_of started)
         × (S.honest store.old → IsOpened (S.contents store.old) (S.contents store.new) opened)) }
-    ensures refused { S.honest store.old
-        → IfErr result (IsUnopened (S.contents store.old) (S.contents store.new)) }
-    ensures stopped { S.honest store.old → TellsApartBack (S.contents store.old)
-        → OnErr result (OpensAsBefore (S.contents store.old) (S.contents store.new)) }
-    ensures later { S.failures store.old ≤ S.failures store.new }
-    ensures counted { IfErr result (IsCounted (S.failures store.old) (S.failures store.new)) }
-    ensures steady { OnOk result (S.failures store.new ≡ S.failures store.old) }
+    ensures unopened { S.honest store.old
+        → LeavesUnopened (S.contents store.old) (S.contents store.new) result }
+    ensures failures { CountsFailures (S.failures store.old) (S.failures store.new) result }
     ensures possible { S.honest store.old → S.impossible store.new ≡ S.impossible store.old }
 {
     match command {

@@ -13,5 +13,4 @@ returns-in-Verify-clause-opened g c =
 pub returns-in-Act-clause-opened : goal.returns-in-Act-clause-opened
 returns-in-Act-clause-opened g c =
     stands (command_of c.args.command.now) (g.S.FolderStore.honest c.args.store.now) c.open_session.result
-    (g.S.FolderStore.contents c.args.store.now) (g.S.FolderStore.contents c.open_session.new.store)
-    c.open_session.ensures.opened c.open_session.ensures.holds c.open_session.ensures.left
+    (g.S.FolderStore.contents c.args.store.now) (g.S.FolderStore.contents c.open_session.new.store) c.open_session.ensures.opened

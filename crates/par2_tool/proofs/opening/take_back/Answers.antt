@@ -6,10 +6,10 @@ use Rattle.par2_tool.specs.Opening.{IsStillHalfway}
 use Rattle.par2_tool.proofs.Openings.{still_halfway}
 use Rattle.par2_tool.proofs.opening.take_back.Goals as goal
 
-pub returns-in-Err-write_down-clause-stopped : goal.returns-in-Err-write_down-clause-stopped
-returns-in-Err-write_down-clause-stopped g c honest =
+pub returns-in-Err-clause-stopped : goal.returns-in-Err-clause-stopped
+returns-in-Err-clause-stopped g c honest =
     let old = g.S.FolderStore.contents c.args.store.now in
     let new = g.S.FolderStore.contents c.write_down.new.store in
     let session = session_of_kept (session_before c.args.halfway) in
     subst (λ changes. IsStillHalfway session changes old new) c.changes.ensures
-    (still_halfway old new session (map change_of c.changes.result.now) c.in-Ok.after c.in-Ok.ensures (c.in-Err-write_down.ensures.stopped honest))
+    (still_halfway old new session (map change_of c.changes.result.now) c.in_ok-after.after c.in_ok-after.ensures (c.in-Err.ensures.stopped honest))

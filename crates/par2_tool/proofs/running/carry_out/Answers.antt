@@ -18,8 +18,9 @@ returns-in-Err-clause-failed g c honest =
     let action = command_of c.args.command.now in
     let old = g.S.FolderStore.contents c.args.store.now in
     let new = g.S.FolderStore.contents c.open_for.new.store in
+    let unopened = c.in-Err.ensures.unopened honest in
     subst (λ (failure : Failure). IsFailed action old new failure) (sym c.unopened.ensures)
-    (opening_failed action old new c.in-Err.fault (c.in-Err.ensures.refused honest) (c.in-Err.ensures.stopped honest))
+    (opening_failed action old new c.in-Err.fault unopened.refused unopened.stopped)
 
 pub returns-in-Err-clause-cause : goal.returns-in-Err-clause-cause
 returns-in-Err-clause-cause g c =
@@ -27,7 +28,7 @@ returns-in-Err-clause-cause g c =
     let before = g.S.FolderStore.failures c.args.store.now in
     let after = g.S.FolderStore.failures c.open_for.new.store in
     subst (λ (failure : Failure). IsCause action before after failure) (sym c.unopened.ensures)
-    (opening_cause action before after c.in-Err.fault c.in-Err.ensures.counted)
+    (opening_cause action before after c.in-Err.fault c.in-Err.ensures.failures.counted)
 
 pub returns-then-is_back-clause-failed : goal.returns-then-is_back-clause-failed
 returns-then-is_back-clause-failed g c honest =
@@ -57,7 +58,7 @@ returns-clause-cause g c =
     let middle = g.S.FolderStore.failures c.open_for.new.store in
     let after = g.S.FolderStore.failures c.perform.new.store in
     subst (λ (failure : Failure). IsCause action before after failure) (sym c.failure_of.ensures)
-    (perform_cause action c.in-Ok.started.session c.perform.new.session before middle after c.in-Err-perform.fault c.in-Ok.ensures.steady c.in-Err-perform.ensures.refused)
+    (perform_cause action c.in-Ok.started.session c.perform.new.session before middle after c.in-Err-perform.fault c.in-Ok.ensures.failures.steady c.in-Err-perform.ensures.refused)
 
 pub returns-clause-failed : goal.returns-clause-failed
 returns-clause-failed g c honest =
