@@ -1,11 +1,10 @@
 //! The field's arithmetic.
 
-ghost use Rattle.std.specs.Prelude.{◌≡◌, ◌%◌, length};
-
+use crate::clock::{nanos_since, start};
 use crate::random::random_bytes;
-use par2_gf16::{Factor, Gf};
+use crate::sums::{add_by_factors, add_in_steps};
+use par2_gf16::Gf;
 use std::io;
-use std::time::Instant;
 
 /// How many bytes lie in a buffer: few enough to stay in the cache.
 const BYTES: usize = 65536;
@@ -19,42 +18,25 @@ fn weight(bytes: &[u8]) -> u32 {
     weight
 }
 
-fn next_factor(factor: u16) -> u16 {
-    factor.wrapping_mul(5).wrapping_add(7)
-}
-
-fn add_in_steps(gf: &Gf, rounds: u32, src: &[u8], dst: &mut [u8])
-    requires same { length src.now ≡ length dst.old }
-    requires even { length dst.old % 2 ≡ 0 }
-{
-    let mut factor = 3u16;
-    for _ in 0..rounds {
-        gf.mul_add(factor, src, dst);
-        factor = next_factor(factor);
+// writes another first byte for each round
+fn change(src: &mut [u8], round: u32) {
+    if let Some(first) = src.first_mut() {
+        *first = (round % 256) as u8;
     }
 }
 
-// each round makes a factor
-fn add_by_factors(gf: &Gf, rounds: u32, src: &[u8], dst: &mut [u8])
-    requires same { length src.now ≡ length dst.old }
-    requires even { length dst.old % 2 ≡ 0 }
-{
-    let mut factor = 3u16;
-    for _ in 0..rounds {
-        gf.mul_add_by(&Factor::new(factor), src, dst);
-        factor = next_factor(factor);
+// copies a text over one of its length
+fn copy(src: &[u8], dst: &mut [u8]) {
+    if src.len() == dst.len() {
+        dst.copy_from_slice(src);
     }
 }
 
 // each copy changes with its round
-fn copy_often(rounds: u32, src: &mut [u8], dst: &mut [u8])
-    requires { length src.old ≡ length dst.old }
-{
+fn copy_often(rounds: u32, src: &mut [u8], dst: &mut [u8]) {
     for round in 0..rounds {
-        if let Some(first) = src.first_mut() {
-            *first = (round % 256) as u8;
-        }
-        dst.copy_from_slice(src);
+        change(src, round);
+        copy(src, dst);
     }
 }
 
@@ -71,26 +53,73 @@ fn report(rt: &HostRuntime, what: &str, rounds: u32, nanos: u128, copies: u128) 
     )
 }
 
-pub fn measure(rt: &HostRuntime, rounds: u32) -> io::Result<()> {
-    let start = Instant::now(rt)?;
+fn measure_tables(rt: &HostRuntime) -> io::Result<Gf> {
+    let start = start(rt)?;
     let gf = Gf::new(rt.alloc())?;
-    let tables = start.elapsed(rt)?.as_nanos();
+    println!(rt; "tables: {} microseconds", nanos_since(rt, start)? / 1000)?;
+    Ok(gf)
+}
+
+// the nanoseconds of plain copies
+fn measure_copies(
+    rt: &HostRuntime,
+    rounds: u32,
+    src: &mut [u8],
+    dst: &mut [u8],
+) -> io::Result<u128> {
+    let start = start(rt)?;
+    copy_often(rounds, src, dst);
+    let nanos = nanos_since(rt, start)?;
+    println!(rt; "plain copies: {} MB/s", rate(rounds, nanos))?;
+    Ok(nanos)
+}
+
+fn steps_nanos(
+    rt: &HostRuntime,
+    gf: &Gf,
+    rounds: u32,
+    src: &[u8],
+    dst: &mut [u8],
+) -> io::Result<u128> {
+    let start = start(rt)?;
+    add_in_steps(gf, u64::from(rounds), src, dst);
+    nanos_since(rt, start)
+}
+
+fn factors_nanos(
+    rt: &HostRuntime,
+    gf: &Gf,
+    rounds: u32,
+    src: &[u8],
+    dst: &mut [u8],
+) -> io::Result<u128> {
+    let start = start(rt)?;
+    add_by_factors(gf, u64::from(rounds), src, dst);
+    nanos_since(rt, start)
+}
+
+// prints how fast sums are, and gives the weight of what they made
+fn measure_sums(
+    rt: &HostRuntime,
+    gf: &Gf,
+    rounds: u32,
+    src: &[u8],
+    dst: &mut [u8],
+    copies: u128,
+) -> io::Result<u32> {
+    let nanos = steps_nanos(rt, gf, rounds, src, dst)?;
+    let in_steps = weight(dst);
+    report(rt, "products in 16 steps", rounds, nanos, copies)?;
+    let nanos = factors_nanos(rt, gf, rounds, src, dst)?;
+    report(rt, "products by a factor", rounds, nanos, copies)?;
+    Ok(in_steps ^ weight(dst))
+}
+
+pub fn measure(rt: &HostRuntime, rounds: u32) -> io::Result<()> {
+    let gf = measure_tables(rt)?;
     let mut src = random_bytes(rt.alloc(), BYTES, 1)?;
     let mut dst = random_bytes(rt.alloc(), BYTES, 2)?;
-    let start = Instant::now(rt)?;
-    copy_often(rounds, &mut src, &mut dst);
-    let copies = start.elapsed(rt)?.as_nanos();
-    let start = Instant::now(rt)?;
-    add_in_steps(&gf, rounds, &src, &mut dst);
-    let in_steps = start.elapsed(rt)?.as_nanos();
-    let mut total = weight(&dst);
-    let start = Instant::now(rt)?;
-    add_by_factors(&gf, rounds, &src, &mut dst);
-    let by_factors = start.elapsed(rt)?.as_nanos();
-    total ^= weight(&dst);
-    println!(rt; "tables: {} microseconds", tables / 1000)?;
-    println!(rt; "plain copies: {} MB/s", rate(rounds, copies))?;
-    report(rt, "products in 16 steps", rounds, in_steps, copies)?;
-    report(rt, "products by a factor", rounds, by_factors, copies)?;
-    println!(rt; "weight: {total}")
+    let copies = measure_copies(rt, rounds, &mut src, &mut dst)?;
+    let weight = measure_sums(rt, &gf, rounds, &src, &mut dst, copies)?;
+    println!(rt; "weight: {weight}")
 }

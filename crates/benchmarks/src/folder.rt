@@ -1,110 +1,182 @@
 //! Folders and stores: how long a folder of 1,000 and of 10,000 names takes to be read, looked up and changed, and how
 //! fast a fingerprint and MD5 are. A file can also be read by the store alone, for others to measure.
 
+use crate::clock::{megabytes_a_second, nanos_since, start};
+use crate::digest;
 use crate::random::random_bytes;
-use crate::rate::megabytes_a_second;
 use anyhow::Result;
-use md5::{Digest, Md5};
-use par2_folder::{Bytes, Change, DiskStore, Folder, FolderStore, MemoryStore, Name, read_folder};
-use std::alloc::Global;
-use std::time::{Duration, Instant};
+use par2_folder::{
+    Bytes, Change, DiskStore, Folder, FolderStore, MemoryStore, Name, ReadFault, StoreFault,
+    read_folder,
+};
+use std::alloc::{AllocError, Global};
+use std::io;
+use std::time::Instant;
 
 const SIZE: usize = 64 << 20;
 
-fn named(alloc: Global, number: usize) -> Result<Name> {
-    let text = format!(in alloc; "file {number:05}")?;
-    match Name::new(text.as_str()) {
+fn name_of(text: &str) -> Result<Name> {
+    match Name::new(text) {
         Ok(name) => Ok(name),
         Err(fault) => Err(fault.into()),
     }
 }
 
+fn named(alloc: Global, number: usize) -> Result<Name> {
+    name_of(format!(in alloc; "file {number:05}")?.as_str())
+}
+
+// Calls of stores and folders: they promise nothing, so that the prover sees their types alone.
+
+fn put(store: &mut MemoryStore, name: &Name) -> Result<(), StoreFault> {
+    store.put(name, b"bytes")
+}
+
+fn folder_of(alloc: Global, store: &mut MemoryStore) -> Result<Folder, ReadFault> {
+    read_folder(alloc, store)
+}
+
+fn names_in(alloc: Global, folder: &Folder) -> Result<Vec<Name>, AllocError> {
+    folder.names(alloc)
+}
+
+fn is_there(folder: &Folder, name: &Name) -> bool {
+    folder.get(name).is_some()
+}
+
+fn apply(folder: &mut Folder, change: &mut Change) {
+    let _answer = folder.apply(change);
+}
+
+fn reserve(folder: &mut Folder) -> Result<(), AllocError> {
+    folder.reserve(1)
+}
+
+fn first_of_fingerprint(alloc: Global, folder: &Folder) -> Result<u8, AllocError> {
+    Ok(folder.fingerprint(alloc)?[0])
+}
+
+fn bytes_on_disk(rt: &HostRuntime, name: &Name) -> Result<Vec<u8>, ReadFault> {
+    DiskStore::new(rt).read(rt.alloc(), name)
+}
+
 fn filled(alloc: Global, count: usize) -> Result<MemoryStore> {
     let mut store = MemoryStore::new(alloc);
     for number in 0..count {
-        store.put(&named(alloc, number)?, b"bytes")?;
+        put(&mut store, &named(alloc, number)?)?;
     }
     Ok(store)
 }
 
-fn each(took: Duration, count: usize) -> u128 {
-    took.as_nanos() / (count as u128).max(1)
+// The nanoseconds since that moment for each of so many.
+fn each(rt: &HostRuntime, start: Instant, count: usize) -> io::Result<u128> {
+    Ok(nanos_since(rt, start)? / (count as u128).max(1))
 }
 
-// Looks each name up, takes each file away and writes it back, and gives one file other bytes again and again.
-fn look_up_and_change(rt: &HostRuntime, folder: &mut Folder, names: &[Name]) -> Result<()> {
-    let count = names.len();
-    let start = Instant::now(rt)?;
-    let found = names
-        .iter()
-        .filter(|name| folder.get(name).is_some())
-        .count();
-    println!(rt;
-        "  look up: {} ns each ({found} found)",
-        each(start.elapsed(rt)?, count)
-    )?;
-    let other = named(rt.alloc(), 0)?;
-    let start = Instant::now(rt)?;
+fn report(rt: &HostRuntime, what: &str, start: Instant, count: usize) -> io::Result<()> {
+    println!(rt; "  {what}: {} ns each", each(rt, start, count)?)
+}
+
+fn look_up(rt: &HostRuntime, folder: &Folder, names: &[Name]) -> io::Result<()> {
+    let start = start(rt)?;
+    let found = names.iter().filter(|name| is_there(folder, name)).count();
+    let each = each(rt, start, names.len())?;
+    println!(rt; "  look up: {each} ns each ({found} found)")
+}
+
+// Takes a file away and writes it back.
+fn remove_and_write(folder: &mut Folder, name: &Name) {
+    let mut change = Change::Remove(name.copied());
+    apply(folder, &mut change);
+    apply(folder, &mut change);
+}
+
+fn remove_and_write_each(rt: &HostRuntime, folder: &mut Folder, names: &[Name]) -> io::Result<()> {
+    let start = start(rt)?;
     for name in names {
-        let mut change = Change::Remove(name.copied());
-        let _removed = folder.apply(&mut change);
-        let _written = folder.apply(&mut change);
+        remove_and_write(folder, name);
     }
-    println!(rt;
-        "  remove and write: {} ns each",
-        each(start.elapsed(rt)?, count)
-    )?;
-    let mut change = Change::Replace(other, Bytes::copy_of(rt.alloc(), b"other")?);
-    let start = Instant::now(rt)?;
-    for _ in names {
-        let _replaced = folder.apply(&mut change);
-    }
-    println!(rt; "  replace: {} ns each", each(start.elapsed(rt)?, count))?;
-    Ok(())
+    report(rt, "remove and write", start, names.len())
 }
 
-fn names_of(rt: &HostRuntime, count: usize) -> Result<()> {
+// A change that gives the first file other bytes.
+fn replacement(alloc: Global) -> Result<Change> {
+    let bytes = Bytes::copy_of(alloc, b"other")?;
+    Ok(Change::Replace(named(alloc, 0)?, bytes))
+}
+
+// Gives a file other bytes as often as there are files.
+fn replace_often(rt: &HostRuntime, folder: &mut Folder, count: usize) -> Result<()> {
+    let mut change = replacement(rt.alloc())?;
+    let start = start(rt)?;
+    for _ in 0..count {
+        apply(folder, &mut change);
+    }
+    Ok(report(rt, "replace", start, count)?)
+}
+
+fn look_up_and_change(rt: &HostRuntime, folder: &mut Folder, names: &[Name]) -> Result<()> {
+    look_up(rt, folder, names)?;
+    remove_and_write_each(rt, folder, names)?;
+    replace_often(rt, folder, names.len())
+}
+
+fn measure_put(rt: &HostRuntime, count: usize) -> Result<MemoryStore> {
+    let start = start(rt)?;
+    let store = filled(rt.alloc(), count)?;
+    report(rt, "put", start, count)?;
+    Ok(store)
+}
+
+fn measure_read(rt: &HostRuntime, store: &mut MemoryStore, count: usize) -> Result<Folder> {
+    let start = start(rt)?;
+    let folder = folder_of(rt.alloc(), store)?;
+    report(rt, "read", start, count)?;
+    Ok(folder)
+}
+
+fn measure_names(rt: &HostRuntime, count: usize) -> Result<()> {
     println!(rt; "{count} names")?;
-    let start = Instant::now(rt)?;
-    let mut store = filled(rt.alloc(), count)?;
-    println!(rt; "  put: {} ns each", each(start.elapsed(rt)?, count))?;
-    let start = Instant::now(rt)?;
-    let mut folder = read_folder(rt.alloc(), &mut store)?;
-    println!(rt; "  read: {} ns each", each(start.elapsed(rt)?, count))?;
-    let names = folder.names(rt.alloc())?;
+    let mut store = measure_put(rt, count)?;
+    let mut folder = measure_read(rt, &mut store, count)?;
+    let names = names_in(rt.alloc(), &folder)?;
     look_up_and_change(rt, &mut folder, &names)
 }
 
-fn fingerprints(rt: &HostRuntime) -> Result<()> {
+// A folder of one file.
+fn folder_with(alloc: Global, bytes: Vec<u8>) -> Result<Folder> {
+    let mut folder = Folder::new(alloc);
+    reserve(&mut folder)?;
+    apply(
+        &mut folder,
+        &mut Change::Write(named(alloc, 0)?, bytes.into()),
+    );
+    Ok(folder)
+}
+
+fn measure_fingerprint(rt: &HostRuntime, folder: &Folder) -> io::Result<()> {
+    let start = start(rt)?;
+    let first = first_of_fingerprint(rt.alloc(), folder)?;
+    let rate = megabytes_a_second(SIZE, nanos_since(rt, start)?);
+    println!(rt; "fingerprint: {rate} MB/s (first byte {first})")
+}
+
+fn measure_fingerprints(rt: &HostRuntime) -> Result<()> {
     let bytes = random_bytes(rt.alloc(), SIZE, 1)?;
-    let start = Instant::now(rt)?;
-    let first = Md5::digest(&bytes)[0];
-    let rate = megabytes_a_second(SIZE, start.elapsed(rt)?);
-    println!(rt; "MD5 alone: {rate} MB/s (first byte {first})")?;
-    let mut folder = Folder::new(rt.alloc());
-    folder.reserve(1)?;
-    let mut change = Change::Write(named(rt.alloc(), 0)?, bytes.into());
-    let _written = folder.apply(&mut change);
-    let start = Instant::now(rt)?;
-    let first = folder.fingerprint(rt.alloc())?[0];
-    let rate = megabytes_a_second(SIZE, start.elapsed(rt)?);
-    println!(rt; "fingerprint: {rate} MB/s (first byte {first})")?;
-    Ok(())
+    digest::measure(rt, &bytes)?;
+    let folder = folder_with(rt.alloc(), bytes)?;
+    Ok(measure_fingerprint(rt, &folder)?)
 }
 
 /// Reads a file of the current directory by the store, and prints its length.
 pub fn read_file(rt: &HostRuntime, path: &str) -> Result<()> {
-    let name = match Name::new(path) {
-        Ok(name) => name,
-        Err(fault) => return Err(fault.into()),
-    };
-    let bytes = DiskStore::new(rt).read(rt.alloc(), &name)?;
+    let bytes = bytes_on_disk(rt, &name_of(path)?)?;
     println!(rt; "{} bytes", bytes.len())?;
     Ok(())
 }
 
 pub fn measure(rt: &HostRuntime) -> Result<()> {
-    names_of(rt, 1000)?;
-    names_of(rt, 10000)?;
-    fingerprints(rt)
+    measure_names(rt, 1000)?;
+    measure_names(rt, 10000)?;
+    measure_fingerprints(rt)
 }

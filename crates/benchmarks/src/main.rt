@@ -2,14 +2,16 @@
 //! word it only says how to call it, so that its output is fixed.
 #![tactic(auto)]
 
+mod clock;
+mod digest;
 mod field;
 mod folder;
 mod matrix;
 mod packets;
 mod random;
-mod rate;
 mod recovery;
 mod slices;
+mod sums;
 
 use anyhow::Result;
 use std::env;
@@ -39,7 +41,7 @@ fn measure(rt: &HostRuntime, word: &str, next: &str) -> Result<()> {
     match word {
         "field" => measure_field(rt, next),
         "matrix" => measure_matrix(rt, next),
-        "slices" => Ok(slices::measure(rt, rt.alloc())?),
+        "slices" => Ok(slices::measure(rt)?),
         "packets" => packets::measure(rt),
         "recovery" => recovery::measure(rt),
         "folder" => folder::measure(rt),

@@ -2,15 +2,20 @@
 
 ghost use Rattle.std.specs.Prelude.{◌≡◌, ℕ, ◌<◌, length, IfOk};
 
+use crate::clock::{nanos_since, start};
 use crate::random::random_bytes;
 use par2_gf16::Gf;
 use par2_matrix::System;
 use std::alloc::{AllocError, Global};
 use std::io;
-use std::time::Instant;
 
 /// How many bytes each unknown text has.
 const BYTES: usize = 4096;
+
+// an element of a slice's column
+fn coefficient(gf: &Gf, slice: u32, exponent: u32) -> u16 {
+    gf.pow(gf.constant(slice).unwrap_or(1), exponent)
+}
 
 // what the recovery slice of an exponent multiplies the slices by
 fn coefficients(
@@ -23,30 +28,71 @@ fn coefficients(
 {
     let mut row = vec![in alloc; 0u16; columns]?;
     let mut slice = 0u32;
-    for coefficient in row.iter_mut() {
-        *coefficient = gf.pow(gf.constant(slice).unwrap_or(1), exponent);
+    for element in row.iter_mut() {
+        *element = coefficient(gf, slice, exponent);
         slice = slice.wrapping_add(1);
     }
     Ok(row)
 }
 
-// the microseconds that it takes to solve a system
+// takes an equation in, and keeps the size of the system alone
+fn offer(
+    alloc: Global,
+    gf: &Gf,
+    system: &mut System,
+    row: &[u16],
+    right: Vec<u8>,
+) -> Result<(), AllocError>
+    requires row { length row.now ≡ system.old.columns }
+    requires right { length right.items ≡ system.old.bytes }
+    ensures columns { system.new.columns ≡ system.old.columns }
+    ensures bytes { system.new.bytes ≡ system.old.bytes }
+{
+    let _offer = system.offer(alloc, gf, row, right)?;
+    Ok(())
+}
+
+fn rank_of(system: &System) -> usize {
+    system.rank()
+}
+
+// the nanoseconds that the equation of an exponent takes
+fn offer_nanos(
+    rt: &HostRuntime,
+    gf: &Gf,
+    system: &mut System,
+    columns: usize,
+    exponent: u32,
+) -> io::Result<u128>
+    requires columns { columns ≡ system.old.columns }
+    requires bytes { system.old.bytes ≡ 4096 }
+    ensures columns { system.new.columns ≡ system.old.columns }
+    ensures bytes { system.new.bytes ≡ system.old.bytes }
+{
+    let row = coefficients(rt.alloc(), gf, columns, exponent)?;
+    let right = random_bytes(rt.alloc(), BYTES, u64::from(exponent))?;
+    let start = start(rt)?;
+    offer(rt.alloc(), gf, system, &row, right)?;
+    nanos_since(rt, start)
+}
+
+fn report(rt: &HostRuntime, columns: u16, rank: usize, nanos: u128) -> io::Result<()> {
+    println!(rt;
+        "{columns} columns: rank {rank}, {} microseconds",
+        nanos / 1000
+    )
+}
+
+// the nanoseconds that it takes to solve a system
 fn solve(rt: &HostRuntime, gf: &Gf, columns: u16) -> io::Result<u128> {
     let mut system = System::new(rt.alloc(), usize::from(columns), BYTES)?;
     let mut nanos = 0u128;
     for exponent in 0..columns {
         let exponent = u32::from(exponent);
-        let row = coefficients(rt.alloc(), gf, usize::from(columns), exponent)?;
-        let right = random_bytes(rt.alloc(), BYTES, u64::from(exponent))?;
-        let start = Instant::now(rt)?;
-        let _ = system.offer(rt.alloc(), gf, &row, right)?;
-        nanos = nanos.saturating_add(start.elapsed(rt)?.as_nanos());
+        let more = offer_nanos(rt, gf, &mut system, usize::from(columns), exponent)?;
+        nanos = nanos.saturating_add(more);
     }
-    println!(rt;
-        "{columns} columns: rank {}, {} microseconds",
-        system.rank(),
-        nanos / 1000
-    )?;
+    report(rt, columns, rank_of(&system), nanos)?;
     Ok(nanos)
 }
 

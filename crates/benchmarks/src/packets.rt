@@ -1,12 +1,12 @@
 //! The packet scanner, over a volume and over random bytes of 64 MiB each, and MD5 alone.
 
+use crate::clock::{megabytes_a_second, nanos_since, start};
+use crate::digest;
 use crate::random::random_bytes;
-use crate::rate::megabytes_a_second;
 use anyhow::Result;
-use md5::{Digest, Md5};
 use par2_packets::{Packets, append_recoveries};
 use std::alloc::{AllocError, Global};
-use std::time::Instant;
+use std::io;
 
 const MEBIBYTE: usize = 1 << 20;
 
@@ -14,12 +14,22 @@ const SIZE: usize = 64 * MEBIBYTE;
 
 const SLICE: usize = 65536;
 
+// Adds the recovery slice of an exponent.
+fn append_slice(
+    alloc: Global,
+    text: &mut Vec<u8>,
+    exponent: u16,
+    slice: &[Vec<u8>; 1],
+) -> Result<(), AllocError> {
+    append_recoveries(alloc, text, &[7; 16], u32::from(exponent), slice)
+}
+
 // A volume of recovery slices.
 fn volume(alloc: Global) -> Result<Vec<u8>, AllocError> {
-    let slices = vec![in alloc; random_bytes(alloc, SLICE, 1)?]?;
+    let slice = [random_bytes(alloc, SLICE, 1)?];
     let mut text = Vec::with_capacity(alloc, SIZE + MEBIBYTE)?;
     for exponent in 0..1024 {
-        append_recoveries(alloc, &mut text, &[7; 16], exponent, &slices)?;
+        append_slice(alloc, &mut text, exponent, &slice)?;
     }
     Ok(text)
 }
@@ -35,21 +45,24 @@ fn scanned(text: &[u8]) -> (u64, u64) {
     (packets, bytes)
 }
 
+fn measure_volume(rt: &HostRuntime, text: &[u8]) -> io::Result<()> {
+    let start = start(rt)?;
+    let (packets, bytes) = scanned(text);
+    let rate = megabytes_a_second(text.len(), nanos_since(rt, start)?);
+    println!(rt; "volume: {rate} MB/s ({packets} packets, {bytes} bytes)")
+}
+
+fn measure_random_bytes(rt: &HostRuntime, text: &[u8]) -> io::Result<()> {
+    let start = start(rt)?;
+    let (packets, _) = scanned(text);
+    let rate = megabytes_a_second(text.len(), nanos_since(rt, start)?);
+    println!(rt; "random bytes: {rate} MB/s ({packets} packets)")
+}
+
 pub fn measure(rt: &HostRuntime) -> Result<()> {
-    let alloc = rt.alloc();
-    let text = volume(alloc)?;
-    let start = Instant::now(rt)?;
-    let first = Md5::digest(&text)[0];
-    let rate = megabytes_a_second(text.len(), start.elapsed(rt)?);
-    println!(rt; "MD5 alone: {rate} MB/s (first byte {first})")?;
-    let start = Instant::now(rt)?;
-    let (packets, bytes) = scanned(&text);
-    let rate = megabytes_a_second(text.len(), start.elapsed(rt)?);
-    println!(rt; "volume: {rate} MB/s ({packets} packets, {bytes} bytes)")?;
-    let text = random_bytes(alloc, SIZE, 2)?;
-    let start = Instant::now(rt)?;
-    let (packets, _) = scanned(&text);
-    let rate = megabytes_a_second(text.len(), start.elapsed(rt)?);
-    println!(rt; "random bytes: {rate} MB/s ({packets} packets)")?;
-    Ok(())
+    let text = volume(rt.alloc())?;
+    digest::measure(rt, &text)?;
+    measure_volume(rt, &text)?;
+    let text = random_bytes(rt.alloc(), SIZE, 2)?;
+    Ok(measure_random_bytes(rt, &text)?)
 }

@@ -1,14 +1,15 @@
 //! Recovery slices and rebuilding, each beside the field's sums of as many texts in the same run.
 
-ghost use Rattle.std.specs.Prelude.{◌≡◌, ◌%◌};
-
+use crate::clock::{nanos_since, start};
 use crate::random::random_bytes;
-use anyhow::Result;
-use par2_gf16::{Factor, Gf};
-use par2_recovery::Survivors;
+use crate::sums::add_by_factors;
+use anyhow::{Error, Result};
+use par2_folder::Folder;
+use par2_gf16::Gf;
+use par2_recovery::{RebuildFault, SetRecord, Survivors};
 use recovery_calls::{folder_of, rebuilt, recovery_slices_of, set_of};
 use std::alloc::{AllocError, Global};
-use std::time::{Duration, Instant};
+use std::io;
 
 // 100 recovery slices over 1,024 slices.
 const LARGE_SLICE: usize = 65536;
@@ -24,34 +25,79 @@ const SMALL_SLICES: usize = 4096;
 
 const LOST: u32 = 300;
 
+const NANOS_IN_MILLISECOND: u128 = 1_000_000;
+
 // How long so many sums of products of texts of this size take, whose texts stay in the cache.
-fn sums(rt: &HostRuntime, gf: &Gf, count: u64, size: usize) -> Result<Duration>
-    requires { size % 2 ≡ 0 }
-{
+fn sums_nanos(rt: &HostRuntime, gf: &Gf, count: u64, size: usize) -> io::Result<u128> {
     let source = random_bytes(rt.alloc(), size, 1)?;
     let mut target = random_bytes(rt.alloc(), size, 2)?;
-    let mut factor = 3u16;
-    let start = Instant::now(rt)?;
-    for _ in 0..count {
-        gf.mul_add_by(&Factor::new(factor), &source, &mut target);
-        factor = factor.wrapping_mul(5).wrapping_add(7);
-    }
-    let took = start.elapsed(rt)?;
-    println!(rt;
-        "{count} sums of {size} bytes: {} ms (first byte {:?})",
-        took.as_millis(),
-        target.first()
-    )?;
-    Ok(took)
+    let start = start(rt)?;
+    add_by_factors(gf, count, &source, &mut target);
+    let nanos = nanos_since(rt, start)?;
+    report_sums(rt, count, &target, nanos)?;
+    Ok(nanos)
 }
 
-fn report(rt: &HostRuntime, what: &str, took: Duration, sums: Duration) -> Result<()> {
-    let ratio = took.as_nanos().saturating_mul(100) / sums.as_nanos().max(1);
+fn report_sums(rt: &HostRuntime, count: u64, target: &[u8], nanos: u128) -> io::Result<()> {
+    println!(rt;
+        "{count} sums of {} bytes: {} ms (first byte {:?})",
+        target.len(),
+        nanos / NANOS_IN_MILLISECOND,
+        target.first()
+    )
+}
+
+fn report(rt: &HostRuntime, what: &str, nanos: u128, sums: u128) -> io::Result<()> {
+    let ratio = nanos.saturating_mul(100) / sums.max(1);
     println!(rt;
         "{what}: {} ms, {ratio} hundredths of the sums",
-        took.as_millis()
+        nanos / NANOS_IN_MILLISECOND
+    )
+}
+
+// A folder of one file, and what its set says of it.
+#[derive(Drop)]
+struct Protected {
+    folder: Folder,
+    set: SetRecord,
+}
+
+fn protect(alloc: Global, bytes: &[u8], slice_size: usize) -> Result<Protected> {
+    let folder = folder_of(alloc, &[("a", bytes)])?;
+    match set_of(alloc, &folder, &["a"], slice_size as u64)? {
+        Some(Ok(set)) => Ok(Protected { folder, set }),
+        _ => Err(Error::msg("no set")),
+    }
+}
+
+// The first recovery slices of the set.
+fn first_slices(
+    alloc: Global,
+    gf: &Gf,
+    protected: &Protected,
+    count: u32,
+) -> Result<Option<Vec<Vec<u8>>>, AllocError> {
+    recovery_slices_of(alloc, gf, &protected.set, &protected.folder, 0, count)
+}
+
+fn recover(rt: &HostRuntime, gf: &Gf, protected: &Protected, sums: u128) -> io::Result<()> {
+    let start = start(rt)?;
+    let texts = first_slices(rt.alloc(), gf, protected, RECOVERY_SLICES)?;
+    report(
+        rt,
+        "100 recovery slices of 64 KiB over 1024 slices",
+        nanos_since(rt, start)?,
+        sums,
     )?;
-    Ok(())
+    println!(rt; "they are there: {}", texts.is_some())
+}
+
+fn measure_recovery(rt: &HostRuntime, gf: &Gf) -> Result<()> {
+    let bytes = random_bytes(rt.alloc(), LARGE_SLICE * LARGE_SLICES, 1)?;
+    let protected = protect(rt.alloc(), &bytes, LARGE_SLICE)?;
+    let count = u64::from(RECOVERY_SLICES) * LARGE_SLICES as u64;
+    let sums = sums_nanos(rt, gf, count, LARGE_SLICE)?;
+    Ok(recover(rt, gf, &protected, sums)?)
 }
 
 // Every 13th slice is lost, until there are enough.
@@ -59,25 +105,33 @@ fn is_lost(k: usize) -> bool {
     k % 13 == 0 && k / 13 < LOST as usize
 }
 
-fn survivors_of<'a>(
-    alloc: Global,
-    bytes: &'a [u8],
-    texts: &'a [Vec<u8>],
-) -> Result<Survivors<'a>, AllocError> {
+fn known_of<'a>(alloc: Global, bytes: &'a [u8]) -> Result<Vec<Option<&'a [u8]>>, AllocError> {
     let mut known = Vec::new(alloc);
     for (k, slice) in bytes.chunks(SMALL_SLICE).enumerate() {
         known.push(if is_lost(k) { None } else { Some(slice) })?;
     }
+    Ok(known)
+}
+
+fn numbered<'a>(alloc: Global, texts: &'a [Vec<u8>]) -> Result<Vec<(u32, &'a [u8])>, AllocError> {
     let mut recovery = Vec::new(alloc);
     let mut exponent = 0u32;
     for text in texts {
         recovery.push((exponent, text.as_slice()))?;
         exponent = exponent.wrapping_add(1);
     }
+    Ok(recovery)
+}
+
+fn survivors_of<'a>(
+    alloc: Global,
+    bytes: &'a [u8],
+    texts: &'a [Vec<u8>],
+) -> Result<Survivors<'a>, AllocError> {
     Ok(Survivors {
         slice_size: SMALL_SLICE,
-        known,
-        recovery,
+        known: known_of(alloc, bytes)?,
+        recovery: numbered(alloc, texts)?,
     })
 }
 
@@ -93,60 +147,41 @@ fn are_the_lost(bytes: &[u8], texts: &[Vec<u8>]) -> bool {
             .all(|((_, slice), text)| slice == text.as_slice())
 }
 
-fn measure_recovery(rt: &HostRuntime, gf: &Gf) -> Result<()> {
-    let alloc = rt.alloc();
-    let bytes = random_bytes(alloc, LARGE_SLICE * LARGE_SLICES, 1)?;
-    let folder = folder_of(alloc, &[("a", bytes.as_slice())])?;
-    let Some(Ok(set)) = set_of(alloc, &folder, &["a"], LARGE_SLICE as u64)? else {
-        println!(rt; "no set")?;
-        return Ok(());
-    };
-    let alone = sums(
-        rt,
-        gf,
-        RECOVERY_SLICES as u64 * LARGE_SLICES as u64,
-        LARGE_SLICE,
-    )?;
-    let start = Instant::now(rt)?;
-    let texts = recovery_slices_of(alloc, gf, &set, &folder, 0, RECOVERY_SLICES)?;
-    report(
-        rt,
-        "100 recovery slices of 64 KiB over 1024 slices",
-        start.elapsed(rt)?,
-        alone,
-    )?;
-    println!(rt; "they are there: {}", texts.is_some())?;
-    Ok(())
+// Whether the lost slices were rebuilt.
+fn are_back(bytes: &[u8], answer: &Option<Result<Vec<Vec<u8>>, RebuildFault>>) -> bool {
+    match answer {
+        Some(Ok(texts)) => are_the_lost(bytes, texts),
+        _ => false,
+    }
 }
 
-fn measure_rebuild(rt: &HostRuntime, gf: &Gf) -> Result<()> {
-    let alloc = rt.alloc();
-    let bytes = random_bytes(alloc, SMALL_SLICE * SMALL_SLICES, 1)?;
-    let folder = folder_of(alloc, &[("a", bytes.as_slice())])?;
-    let Some(Ok(set)) = set_of(alloc, &folder, &["a"], SMALL_SLICE as u64)? else {
-        println!(rt; "no set")?;
-        return Ok(());
-    };
-    let Some(texts) = recovery_slices_of(alloc, gf, &set, &folder, 0, LOST)? else {
-        println!(rt; "no recovery slices")?;
-        return Ok(());
-    };
-    let survivors = survivors_of(alloc, &bytes, &texts)?;
-    let alone = sums(rt, gf, LOST as u64 * SMALL_SLICES as u64, SMALL_SLICE)?;
-    let start = Instant::now(rt)?;
-    let answer = rebuilt(alloc, gf, &survivors);
+fn rebuild(
+    rt: &HostRuntime,
+    gf: &Gf,
+    bytes: &[u8],
+    texts: &[Vec<u8>],
+    sums: u128,
+) -> io::Result<()> {
+    let survivors = survivors_of(rt.alloc(), bytes, texts)?;
+    let start = start(rt)?;
+    let answer = rebuilt(rt.alloc(), gf, &survivors);
     report(
         rt,
         "300 lost slices of 4 KiB among 4096",
-        start.elapsed(rt)?,
-        alone,
+        nanos_since(rt, start)?,
+        sums,
     )?;
-    let are_back = match answer {
-        Some(Ok(texts)) => are_the_lost(&bytes, &texts),
-        _ => false,
+    println!(rt; "they are back: {}", are_back(bytes, &answer))
+}
+
+fn measure_rebuild(rt: &HostRuntime, gf: &Gf) -> Result<()> {
+    let bytes = random_bytes(rt.alloc(), SMALL_SLICE * SMALL_SLICES, 1)?;
+    let protected = protect(rt.alloc(), &bytes, SMALL_SLICE)?;
+    let Some(texts) = first_slices(rt.alloc(), gf, &protected, LOST)? else {
+        return Err(Error::msg("no recovery slices"));
     };
-    println!(rt; "they are back: {are_back}")?;
-    Ok(())
+    let sums = sums_nanos(rt, gf, u64::from(LOST) * SMALL_SLICES as u64, SMALL_SLICE)?;
+    Ok(rebuild(rt, gf, &bytes, &texts, sums)?)
 }
 
 pub fn measure(rt: &HostRuntime) -> Result<()> {

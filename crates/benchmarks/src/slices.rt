@@ -1,13 +1,12 @@
 //! The checksums and the search, beside a plain copy and MD5 alone in the same run. Each figure is the best of some
 //! rounds, since other programs disturb a round.
 
+use crate::clock::{seconds_since, start};
 use crate::random::random_bytes;
 use md5::{Digest, Md5};
-use par2_slices::{Pair, Wanted, crc32, find_among, pair_of, slice_bytes, slice_count};
+use par2_slices::{Pair, Spot, Wanted, crc32, find_among, pair_of, slice_bytes, slice_count};
 use std::alloc::{AllocError, Global};
 use std::io;
-use std::rt::Clock;
-use std::time::Instant;
 
 const SLICE: u64 = 65536;
 
@@ -55,60 +54,56 @@ impl Round {
     }
 }
 
-fn copy_round(rt: &impl Clock, bytes: &[u8], copy: &mut Vec<u8>) -> io::Result<Round> {
-    let start = Instant::now(rt)?;
+fn copy_round(rt: &HostRuntime, bytes: &[u8], copy: &mut Vec<u8>) -> io::Result<Round> {
+    let start = start(rt)?;
     copy.clear();
     copy.extend_from_slice(bytes)?;
+    let seconds = seconds_since(rt, start)?;
     Ok(Round {
-        seconds: start.elapsed(rt)?.as_secs_f64(),
+        seconds,
         made: copy.len(),
     })
 }
 
-fn crc32_round(rt: &impl Clock, bytes: &[u8]) -> io::Result<Round> {
-    let start = Instant::now(rt)?;
-    let made = crc32(bytes) as usize;
-    Ok(Round {
-        seconds: start.elapsed(rt)?.as_secs_f64(),
-        made,
-    })
+// What is done with the bytes alone.
+#[derive(Clone, Copy)]
+enum Kernel {
+    Md5,
+    Crc32,
+    Pairs,
 }
 
-fn md5_round(rt: &impl Clock, bytes: &[u8]) -> io::Result<Round> {
-    let start = Instant::now(rt)?;
-    let made = Md5::digest(bytes)[15] as usize;
-    Ok(Round {
-        seconds: start.elapsed(rt)?.as_secs_f64(),
-        made,
-    })
+fn made_by(alloc: Global, kernel: Kernel, bytes: &[u8]) -> Result<usize, AllocError> {
+    match kernel {
+        Kernel::Md5 => Ok(usize::from(Md5::digest(bytes)[15])),
+        Kernel::Crc32 => Ok(crc32(bytes) as usize),
+        Kernel::Pairs => Ok(pairs_of(alloc, bytes)?.len()),
+    }
 }
 
-fn pairs_round(rt: &impl Clock, alloc: Global, bytes: &[u8]) -> io::Result<Round> {
-    let start = Instant::now(rt)?;
-    let made = pairs_of(alloc, bytes)?.len();
-    Ok(Round {
-        seconds: start.elapsed(rt)?.as_secs_f64(),
-        made,
-    })
+fn kernel_round(rt: &HostRuntime, kernel: Kernel, bytes: &[u8]) -> io::Result<Round> {
+    let start = start(rt)?;
+    let made = made_by(rt.alloc(), kernel, bytes)?;
+    let seconds = seconds_since(rt, start)?;
+    Ok(Round { seconds, made })
 }
 
-fn search_round(
-    rt: &impl Clock,
-    alloc: Global,
-    bytes: &[u8],
-    wanted: &Wanted,
-) -> io::Result<Round> {
-    let start = Instant::now(rt)?;
-    let spots = find_among(alloc, &[bytes], SLICE, wanted)?;
-    let seconds = start.elapsed(rt)?.as_secs_f64();
+fn spots_of(alloc: Global, bytes: &[u8], wanted: &Wanted) -> Result<Vec<Option<Spot>>, AllocError> {
+    find_among(alloc, &[bytes], SLICE, wanted)
+}
+
+fn search_round(rt: &HostRuntime, bytes: &[u8], wanted: &Wanted) -> io::Result<Round> {
+    let start = start(rt)?;
+    let spots = spots_of(rt.alloc(), bytes, wanted)?;
+    let seconds = seconds_since(rt, start)?;
     let made = spots.iter().filter(|spot| spot.is_some()).count();
     Ok(Round { seconds, made })
 }
 
-fn best_search(rt: &impl Clock, alloc: Global, bytes: &[u8], wanted: &Wanted) -> io::Result<Round> {
-    let mut best = search_round(rt, alloc, bytes, wanted)?;
+fn best_search(rt: &HostRuntime, bytes: &[u8], wanted: &Wanted) -> io::Result<Round> {
+    let mut best = search_round(rt, bytes, wanted)?;
     for _ in 1..ROUNDS {
-        best = best.better(search_round(rt, alloc, bytes, wanted)?);
+        best = best.better(search_round(rt, bytes, wanted)?);
     }
     Ok(best)
 }
@@ -120,7 +115,7 @@ struct Yardstick {
     md5: Round,
 }
 
-fn report(rt: &impl Print, what: &str, round: &Round, beside: &Yardstick) -> io::Result<()> {
+fn report(rt: &HostRuntime, what: &str, round: &Round, beside: &Yardstick) -> io::Result<()> {
     let speed = LEN as f64 / round.seconds / 1e9;
     let copy = beside.copy.seconds / round.seconds;
     let md5 = round.seconds / beside.md5.seconds;
@@ -130,63 +125,92 @@ fn report(rt: &impl Print, what: &str, round: &Round, beside: &Yardstick) -> io:
     )
 }
 
-fn measure_kernels(
-    rt: &(impl Clock + Print),
-    alloc: Global,
-    bytes: &[u8],
-    copy: &mut Vec<u8>,
-) -> io::Result<Yardstick> {
-    let mut md5 = md5_round(rt, bytes)?;
-    let mut copied = copy_round(rt, bytes, copy)?;
-    let mut crc = crc32_round(rt, bytes)?;
-    let mut pairs = pairs_round(rt, alloc, bytes)?;
-    for _ in 1..ROUNDS {
-        md5 = md5.better(md5_round(rt, bytes)?);
-        copied = copied.better(copy_round(rt, bytes, copy)?);
-        crc = crc.better(crc32_round(rt, bytes)?);
-        pairs = pairs.better(pairs_round(rt, alloc, bytes)?);
+// The best round of each kernel.
+#[derive(Clone, Copy, Drop)]
+struct Rounds {
+    beside: Yardstick,
+    crc: Round,
+    pairs: Round,
+}
+
+fn rounds_of(rt: &HostRuntime, bytes: &[u8], copy: &mut Vec<u8>) -> io::Result<Rounds> {
+    let md5 = kernel_round(rt, Kernel::Md5, bytes)?;
+    let copy = copy_round(rt, bytes, copy)?;
+    Ok(Rounds {
+        beside: Yardstick { copy, md5 },
+        crc: kernel_round(rt, Kernel::Crc32, bytes)?,
+        pairs: kernel_round(rt, Kernel::Pairs, bytes)?,
+    })
+}
+
+impl Rounds {
+    fn better(self, other: Rounds) -> Rounds {
+        Rounds {
+            beside: Yardstick {
+                copy: self.beside.copy.better(other.beside.copy),
+                md5: self.beside.md5.better(other.beside.md5),
+            },
+            crc: self.crc.better(other.crc),
+            pairs: self.pairs.better(other.pairs),
+        }
     }
-    let beside = Yardstick { copy: copied, md5 };
-    report(rt, "a plain copy of the file", &copied, &beside)?;
-    report(rt, "MD5 of the file alone", &md5, &beside)?;
-    report(rt, "CRC-32 of the file", &crc, &beside)?;
-    report(rt, "MD5 and CRC-32 of each slice", &pairs, &beside)?;
+}
+
+fn best_rounds(rt: &HostRuntime, bytes: &[u8], copy: &mut Vec<u8>) -> io::Result<Rounds> {
+    let mut best = rounds_of(rt, bytes, copy)?;
+    for _ in 1..ROUNDS {
+        best = best.better(rounds_of(rt, bytes, copy)?);
+    }
+    Ok(best)
+}
+
+fn measure_kernels(rt: &HostRuntime, bytes: &[u8], copy: &mut Vec<u8>) -> io::Result<Yardstick> {
+    let best = best_rounds(rt, bytes, copy)?;
+    let beside = best.beside;
+    report(rt, "a plain copy of the file", &beside.copy, &beside)?;
+    report(rt, "MD5 of the file alone", &beside.md5, &beside)?;
+    report(rt, "CRC-32 of the file", &best.crc, &beside)?;
+    report(rt, "MD5 and CRC-32 of each slice", &best.pairs, &beside)?;
     Ok(beside)
 }
 
-pub fn measure(rt: &(impl Clock + Print), alloc: Global) -> io::Result<()> {
-    let bytes = random_bytes(alloc, LEN, 1)?;
-    let mut copy = random_bytes(alloc, LEN, 2)?;
-    println!(rt; "a file of {LEN} bytes, slices of {SLICE}; best of {ROUNDS} rounds")?;
-    let beside = measure_kernels(rt, alloc, &bytes, &mut copy)?;
+fn measure_search(
+    rt: &HostRuntime,
+    what: &str,
+    bytes: &[u8],
+    pairs: &[Pair],
+    beside: &Yardstick,
+) -> io::Result<()> {
+    let wanted = Wanted::new(rt.alloc(), pairs)?;
+    report(rt, what, &best_search(rt, bytes, &wanted)?, beside)
+}
 
-    let wanted = Wanted::new(alloc, &strangers(alloc, PAIRS)?)?;
-    let nothing = best_search(rt, alloc, &bytes, &wanted)?;
-    report(
-        rt,
-        "search for 10,000 pairs, none is there",
-        &nothing,
-        &beside,
-    )?;
+fn measure_strangers(rt: &HostRuntime, bytes: &[u8], beside: &Yardstick) -> io::Result<()> {
+    let pairs = strangers(rt.alloc(), PAIRS)?;
+    let what = "search for 10,000 pairs, none is there";
+    measure_search(rt, what, bytes, &pairs, beside)
+}
 
-    let own = pairs_of(alloc, &bytes)?;
-    let wanted = Wanted::new(alloc, &own)?;
-    let everything = best_search(rt, alloc, &bytes, &wanted)?;
-    report(
-        rt,
-        "search of the file for its own slices, all found",
-        &everything,
-        &beside,
-    )?;
+fn measure_own(rt: &HostRuntime, bytes: &[u8], beside: &Yardstick) -> io::Result<()> {
+    let pairs = pairs_of(rt.alloc(), bytes)?;
+    let what = "search of the file for its own slices, all found";
+    measure_search(rt, what, bytes, &pairs, beside)
+}
 
-    copy.fill(0);
+fn measure_zeros(rt: &HostRuntime, bytes: &mut [u8], beside: &Yardstick) -> io::Result<()> {
+    bytes.fill(0);
     let stranger = ([7; 16], crc32(b"stranger"));
-    let wanted = Wanted::new(alloc, &[pair_of(b"\0", SLICE), stranger])?;
-    let zeros = best_search(rt, alloc, &copy, &wanted)?;
-    report(
-        rt,
-        "search of zeros for a slice of zeros and another",
-        &zeros,
-        &beside,
-    )
+    let pairs = [pair_of(b"\0", SLICE), stranger];
+    let what = "search of zeros for a slice of zeros and another";
+    measure_search(rt, what, bytes, &pairs, beside)
+}
+
+pub fn measure(rt: &HostRuntime) -> io::Result<()> {
+    let bytes = random_bytes(rt.alloc(), LEN, 1)?;
+    let mut copy = random_bytes(rt.alloc(), LEN, 2)?;
+    println!(rt; "a file of {LEN} bytes, slices of {SLICE}; best of {ROUNDS} rounds")?;
+    let beside = measure_kernels(rt, &bytes, &mut copy)?;
+    measure_strangers(rt, &bytes, &beside)?;
+    measure_own(rt, &bytes, &beside)?;
+    measure_zeros(rt, &mut copy, &beside)
 }

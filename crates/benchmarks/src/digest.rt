@@ -1,0 +1,17 @@
+//! MD5 alone.
+
+use crate::clock::{megabytes_a_second, nanos_since, start};
+use md5::{Digest, Md5};
+use std::io;
+
+fn first_byte(bytes: &[u8]) -> u8 {
+    Md5::digest(bytes)[0]
+}
+
+/// Prints how fast the digest of these bytes is.
+pub fn measure(rt: &HostRuntime, bytes: &[u8]) -> io::Result<()> {
+    let start = start(rt)?;
+    let first = first_byte(bytes);
+    let rate = megabytes_a_second(bytes.len(), nanos_since(rt, start)?);
+    println!(rt; "MD5 alone: {rate} MB/s (first byte {first})")
+}
