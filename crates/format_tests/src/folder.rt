@@ -1,16 +1,10 @@
-//! Worked examples, each refusal, and each call of the stores with failures before and after their work.
+//! Worked examples of folders and names, and each refusal.
 
-use par2_folder::{
-    BadName, Bytes, Change, ChangeFault, Folder, FolderStore, FuseStore, MemoryStore, Name,
-    ReadFault, StoreFault, fingerprints_along, read_folder,
-};
+use crate::calls::{bytes_in, fingerprint, listed, name};
+use par2_folder::{BadName, Bytes, Change, ChangeFault, Folder, Name, fingerprints_along};
 use std::alloc::{AllocError, Global};
 use std::process::Abort;
 use std::test::Fail;
-
-fn name(rt: &impl Abort, text: &str) -> Name {
-    Name::new(text).expect(rt, "a name")
-}
 
 // A change, in plain texts.
 #[derive(Clone, Copy)]
@@ -73,16 +67,6 @@ fn folder_of<R: Abort + AllocGlobal>(
     Ok(folder)
 }
 
-// The names of a folder, one after the other.
-fn listed(alloc: Global, folder: &Folder) -> Result<String, AllocError> {
-    let mut text = String::new(alloc);
-    for name in &folder.names(alloc)? {
-        text.push_str(name.as_str())?;
-        text.push(' ')?;
-    }
-    Ok(text)
-}
-
 // Whether a folder has these names, one after the other, and so many vacant places.
 fn is_listed(
     alloc: Global,
@@ -95,11 +79,7 @@ fn is_listed(
 
 // Whether a folder gives these bytes for the name.
 fn gives(rt: &impl Abort, folder: &Folder, text: &str, bytes: Option<&[u8]>) -> bool {
-    folder.get(&name(rt, text)) == bytes
-}
-
-fn fingerprint(alloc: Global, folder: &Folder) -> Result<[u8; 16], AllocError> {
-    folder.fingerprint(alloc)
+    bytes_in(folder, &name(rt, text)) == bytes
 }
 
 // Files and vacant places, changes and the answer to each, and what is seen behind them.
@@ -351,166 +331,5 @@ fn changes_and_their_way_back(rt: HostRuntime) -> Result<(), Fail> {
     let before = fingerprint(rt.alloc(), &folder)?;
     assert!(rt; does_and_takes_back(&mut folder, &mut accepted(&rt)?));
     assert!(rt; folder.vacant() == 1 && fingerprint(rt.alloc(), &folder)? == before);
-    Ok(())
-}
-
-// Whether each call in turn has an answer, on a store with the file `a` and the journal `j`.
-fn calls<S: FolderStore, R: Abort + AllocGlobal>(rt: &R, store: &mut S) -> [bool; 7] {
-    let (a, b) = (name(rt, "a"), name(rt, "b"));
-    [
-        store.names(rt.alloc()).is_ok(),
-        store.read(rt.alloc(), &a).is_ok(),
-        store.read_journal(rt.alloc()).is_ok(),
-        store.put(&b, b"2").is_ok(),
-        store.rename(&a, &name(rt, "c")).is_ok(),
-        store.remove(&b).is_ok(),
-        store.put_journal(b"new").is_ok(),
-    ]
-}
-
-// The store with the file `a` and the journal `j`.
-fn started<R: Abort + AllocGlobal>(rt: &R) -> MemoryStore {
-    let mut store = MemoryStore::new(rt.alloc());
-    let (file, journal) = (store.put(&name(rt, "a"), b"1"), store.put_journal(b"j"));
-    assert!(rt; file.is_ok() && journal.is_ok());
-    store
-}
-
-// The names, one after the other, and the journal.
-fn held<S: FolderStore, R: Abort + AllocGlobal>(rt: &R, store: &mut S) -> Result<String, Fail> {
-    let mut text = listed(
-        rt.alloc(),
-        &read_folder(rt.alloc(), store).expect(rt, "a folder"),
-    )?;
-    if let Some(journal) = store.read_journal(rt.alloc()).expect(rt, "a journal") {
-        let tail = if journal.as_slice() == b"j".as_slice() {
-            "old"
-        } else {
-            "new"
-        };
-        text.push_str(tail)?;
-    }
-    Ok(text)
-}
-
-// Whether the store gives these bytes for the name, or None where it fails.
-fn reads<S: FolderStore, R: Abort + AllocGlobal>(
-    rt: &R,
-    store: &mut S,
-    text: &str,
-    wanted: Option<&[u8]>,
-) -> bool {
-    match store.read(rt.alloc(), &name(rt, text)) {
-        Ok(bytes) => wanted == Some(bytes.as_slice()),
-        Err(fault) => wanted.is_none() && fault == ReadFault::Store,
-    }
-}
-
-fn without_files(alloc: Global) -> MemoryStore {
-    MemoryStore::new(alloc)
-}
-
-// Whether the store has this text of its names and the journal.
-fn holds<S: FolderStore, R: Abort + AllocGlobal>(
-    rt: &R,
-    store: &mut S,
-    wanted: &str,
-) -> Result<bool, Fail> {
-    Ok(held(rt, store)?.as_str() == wanted)
-}
-
-#[test]
-fn store_without_files(rt: HostRuntime) -> Result<(), Fail> {
-    let mut store = without_files(rt.alloc());
-    assert!(rt; holds(&rt, &mut store, "")?);
-    Ok(())
-}
-
-#[test]
-fn store_in_memory(rt: HostRuntime) -> Result<(), Fail> {
-    let mut store = started(&rt);
-    assert!(rt; holds(&rt, &mut store, "a old")?);
-    assert!(rt; calls(&rt, &mut store) == [true; 7]);
-    assert!(rt; holds(&rt, &mut store, "c new")? && reads(&rt, &mut store, "c", Some(b"1")));
-    Ok(())
-}
-
-// Whether the store keeps a journal of so many bytes.
-fn keeps_journal<S: FolderStore>(
-    alloc: Global,
-    store: &mut S,
-    bytes: usize,
-) -> Result<bool, AllocError> {
-    let text = "j".repeat(alloc, bytes)?;
-    Ok(
-        store.put_journal(text.as_bytes()).is_ok()
-            && matches!(store.read_journal(alloc), Ok(Some(kept)) if kept.as_slice() == text.as_bytes()),
-    )
-}
-
-#[test]
-fn store_without_its_last_file(rt: HostRuntime) -> Result<(), Fail> {
-    let mut store = started(&rt);
-    assert!(rt; store.remove(&name(&rt, "a")).is_ok() && holds(&rt, &mut store, "old")?);
-    assert!(rt; keeps_journal(rt.alloc(), &mut store, 5000)?);
-    Ok(())
-}
-
-// The answers to calls that no store can do that has the files `a` and `b` alone.
-fn impossible<S: FolderStore>(rt: &impl Abort, store: &mut S) -> [Result<(), StoreFault>; 4] {
-    let (a, b, c) = (name(rt, "a"), name(rt, "b"), name(rt, "c"));
-    [
-        store.rename(&c, &name(rt, "d")),
-        store.rename(&a, &b),
-        store.rename(&a, &a),
-        store.remove(&c),
-    ]
-}
-
-fn put<S: FolderStore>(rt: &impl Abort, store: &mut S, text: &str, bytes: &[u8]) -> bool {
-    store.put(&name(rt, text), bytes).is_ok()
-}
-
-#[test]
-fn impossible_calls_fail(rt: HostRuntime) -> Result<(), Fail> {
-    let mut store = started(&rt);
-    assert!(rt; put(&rt, &mut store, "b", b"2") && reads(&rt, &mut store, "c", None));
-    assert!(rt; impossible(&rt, &mut store) == [Err(StoreFault); 4]);
-    assert!(rt; holds(&rt, &mut store, "a b old")?);
-    Ok(())
-}
-
-// What the store holds after so many of these calls.
-const AFTER: &[&str; 8] = &[
-    "a old", "a old", "a old", "a old", "a b old", "b c old", "c old", "c new",
-];
-
-// The answers of the calls on a store whose fuse blows at the k-th, and what it holds then.
-fn fused<R: Abort + AllocGlobal>(rt: &R, k: u64, works: bool) -> Result<([bool; 7], String), Fail> {
-    let mut fuse = FuseStore::new(started(rt), k, works);
-    let answers = calls(rt, &mut fuse);
-    Ok((answers, held(rt, &mut fuse.into_inner())?))
-}
-
-// Whether the first `k` calls have an answer, and no other.
-fn are_first(answers: &[bool; 7], k: usize) -> bool {
-    answers
-        .iter()
-        .enumerate()
-        .all(|(place, answer)| *answer == (place < k))
-}
-
-#[test]
-fn fuse_fails_before_or_after_its_work(rt: HostRuntime) -> Result<(), Fail> {
-    for k in 0..8usize {
-        for works in [false, true] {
-            let (answers, text) = fused(&rt, k as u64, works)?;
-            let done = if works && k < 7 { k + 1 } else { k };
-            assert!(rt;
-                are_first(&answers, k) && text.as_str() == AFTER[done],
-                "{k} {works}"
-            );
-        }
-    }
     Ok(())
 }

@@ -1,6 +1,6 @@
 //! What is read of a folder whose base is `m.par2`.
 
-use crate::packets::{
+use crate::set_packets::{
     DESCRIPTION, Files, MAIN, Part, Parts, folder_for, packet, pair, parts_for, parts_of, put,
     put_parts, read_set, record, set_in,
 };
