@@ -13,8 +13,8 @@ ghost use Rattle.par2_journal_bytes.specs.Views.{changes_in, entries_of, journal
 ghost use Rattle.par2_journal.specs.Opening.{session_at, journal_with, opened_of, AnswersOpening, OpensAsIs};
 ghost use Rattle.par2_journal.specs.Walks.{state_along, ways_back};
 
-use crate::taking_back::{Halfway, open_halfway};
 use crate::session::Digests;
+use crate::taking_back::{Halfway, open_halfway};
 use crate::{Changes, Next, Session};
 use par2_folder::{Change, Folder};
 use par2_journal_bytes::{DecodeFault, Journal, Untested, decode, decode_untested};

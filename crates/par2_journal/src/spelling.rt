@@ -58,9 +58,7 @@ impl Fingerprints {
         ensures { IfOk result (λ prints.
             AreAlong prints folder.now.files (changes_in changes.now)) }
     {
-        Ok(Fingerprints::of_list(fingerprints_along(
-            alloc, folder, changes,
-        )?))
+        Ok(Fingerprints::of_list(fingerprints_along(alloc, folder, changes)?))
     }
 
     // The same, and the digest of a text, side by side with them.

@@ -13,4 +13,4 @@ pub use journal::{HalfwayPart, HalfwayPartView, Journal, JournalView};
 pub use laws::one_reading;
 pub use par2_spec::Version;
 pub use reading::{Untested, decode, decode_untested};
-pub use writing::{JournalTexts, begin, encode, finish, finish_both};
+pub use writing::{JournalTexts, begin, encode, finish_both};

@@ -152,7 +152,7 @@ fn append_cursor(out: &mut Vec<u8>, version: Version, cursor: usize) -> Result<(
     }
 }
 
-/// The bytes of a journal as far as its entries go, for [`finish`].
+/// The bytes of a journal as far as its entries go, for [`finish_both`].
 #[tactic(auto, unfolding(crate::specs::Fronts::front_bytes))]
 pub fn begin(
     alloc: Global,
@@ -199,8 +199,8 @@ fn with_digest(body: Vec<u8>, digest: [u8; 16]) -> Result<Vec<u8>, AllocError>
     Ok(out)
 }
 
-/// The bytes of a journal whose front stands, with its halfway part.
-pub fn finish(front: Vec<u8>, halfway: &Option<HalfwayPartView<'_>>) -> Result<Vec<u8>, AllocError>
+// The bytes of a journal whose front stands, with its halfway part.
+fn finish(front: Vec<u8>, halfway: &Option<HalfwayPartView<'_>>) -> Result<Vec<u8>, AllocError>
     requires some { IfSome halfway.now (λ h. 1 ≤ length h.back.now) }
     requires each { IfSome halfway.now (λ h. length h.fingerprints.now ≡ length h.back.now) }
     ensures { IfOk result (λ bytes. Finishes front.items (halfway_from halfway.now) bytes.items) }
