@@ -1,13 +1,12 @@
 -- Numbers of slices that are not found.
-use Rattle.std.proofs.Common.{◌≡◌, ℕ, zero, suc, ◌+◌, ◌≤◌, ◌<◌, List, [], ◌∷◌, ◌++◌, length, map, take, get_or, refl, sym, ap, ◌∙◌, Bool, true, false, cond, ◌&&◌, ◌||◌, ◌==◌, ◌⊎◌, inl, inr, Bor, arith, append-nil, append_assoc, length-append, Vec, Global}
+use Rattle.std.proofs.Common.{◌≡◌, ℕ, zero, suc, ◌+◌, ◌≤◌, ◌<◌, List, [], ◌∷◌, ◌++◌, length, take, get_or, refl, sym, ap, ◌∙◌, true, cond, ◌==◌, ◌⊎◌, inl, inr, Bor, arith, append-nil, append_assoc, length-append, Vec, Global}
 use Rattle.std.specs.Prelude.{Option, Some, None, is_some, is_none, filter, flat_map, slice_index}
-use Rattle.std.specs.List.{AllByRecursion, list_all}
+use Rattle.std.specs.List.{AllByRecursion}
 use Rattle.std.proofs.lemmas.List.{take_more, length-take-le}
-use Rattle.par2_spec.specs.Lists.{all_lists}
-use Rattle.par2_spec.specs.Recovery.{dot, coefficients}
-use Rattle.par2_spec.specs.Rank.{is_independent, kills, smaller, rank}
+use Rattle.par2_spec.specs.Rank.{rank}
 use Rattle.par2_spec.specs.Sets.{Target}
 use Rattle.par2_spec.proofs.ListsLaws.{all-append}
+use Rattle.par2_spec.proofs.RankLaws.{none_kept}
 use Rattle.std.proofs.lemmas.Bool.{eqb-true}
 use Rattle.par2_search.specs.Texts.{padded_windows}
 use Rattle.par2_plan.specs.Findings.{Standing, Intact, Matched, Unmatched, AreSized}
@@ -70,21 +69,9 @@ each_below m (x ∷ xs) positive h (suc i) = each_below m xs positive h.1 i
 
 -- ---- where nothing is lost
 
-nothing_told : (before : List (List ℕ)) → is_independent 0 before [] ≡ false
-unfolding is_independent dot all_lists
-nothing_told before = step (list_all (kills []) before)
-  where
-    step : (b : Bool) → ((b && false) || false) ≡ false
-    step true = refl
-    step false = refl
-
-none_pass : (p : ℕ → Bool) (xs : List ℕ) → ((x : ℕ) → p x ≡ false) → filter p xs ≡ []
-none_pass p [] no_one = refl
-none_pass p (x ∷ xs) no_one = ap (λ b. cond b (x ∷ filter p xs) (filter p xs)) (no_one x) ∙ none_pass p xs no_one
-
 -- no exponent tells anything of no slice
 pub rank_of_nothing : (survivors : List ℕ) → rank [] survivors ≡ 0
-rank_of_nothing survivors = ap length (none_pass _ survivors (λ e. nothing_told (map (coefficients []) (smaller e survivors))))
+rank_of_nothing survivors = ap length (none_kept survivors)
 
 -- ---- slice by slice, and target by target
 

@@ -1,12 +1,10 @@
 -- Where no slice is lost, nothing is rebuilt.
-use Rattle.std.proofs.Common.{◌≡◌, ◌∙◌, ℕ, zero, suc, ◌+◌, List, [], ◌∷◌, length, map, refl, sym, ap, subst, arith, Bool, true, false, cond, ◌&&◌, ◌||◌, ◌==◌}
-use Rattle.std.specs.Prelude.{Option, Some, None, filter}
-use Rattle.std.specs.List.{All, list_all, list_any}
+use Rattle.std.proofs.Common.{◌≡◌, ◌∙◌, ℕ, zero, suc, ◌+◌, List, [], ◌∷◌, length, refl, sym, ap, subst, arith, ◌==◌}
+use Rattle.std.specs.Prelude.{Option, Some, None}
+use Rattle.std.specs.List.{All, list_any}
 use Rattle.std.proofs.lemmas.List.{nil_from_length}
 use Rattle.std.proofs.lemmas.List.Elements.{All-head, All-tail}
-use Rattle.par2_spec.specs.Lists.{all_lists}
-use Rattle.par2_spec.specs.Rank.{IsRebuilt, IsRepairable, is_independent, kept, kept_slices, kills, smaller}
-use Rattle.par2_spec.specs.Recovery.{dot, coefficients}
+use Rattle.par2_spec.specs.Rank.{IsRebuilt, IsRepairable, kept_slices}
 use Rattle.par2_spec.specs.Search.{lost}
 use Rattle.par2_recovery.specs.Products.{AreBytes}
 use Rattle.par2_recovery.specs.Survivors.{known_alone, with_lost_slices, lost_from, recovered_of, exponents_of}
@@ -15,6 +13,8 @@ use Rattle.par2_recovery.specs.declared.rebuild_slices.Survivors as code
 use Rattle.par2_recovery.proofs.Rebuilding.{lost_is, lost_of_map, rebuilt_from}
 use Rattle.par2_recovery.proofs.Standing.{are_known}
 use Rattle.par2_spec.specs.Slices.{padded}
+use Rattle.par2_spec.proofs.ListsLaws.{filter-none}
+use Rattle.par2_spec.proofs.RankLaws.{none_kept}
 use Rattle.std.specs.Borrow.{Bor}
 use Rattle.par2_recovery.specs.Rebuilding.{CanRebuild, AreRebuilt, AreEnough, known_among}
 use Rattle.par2_recovery.specs.Rebuilding.{IsKnown}
@@ -30,25 +30,8 @@ none_lost a [] h = refl
 none_lost a (None ∷ slices) h = absurd (All-head IsKnown None slices h)
 none_lost a (Some slice ∷ slices) h = none_lost (a + 1) slices (All-tail IsKnown (Some slice) slices h)
 
--- ---- no exponent is kept where no slice is lost
-
-nothing_told : (before : List (List ℕ)) → is_independent 0 before [] ≡ false
-unfolding is_independent dot all_lists
-nothing_told before = step (list_all (kills []) before)
-  where
-    step : (b : Bool) → ((b && false) || false) ≡ false
-    step true = refl
-    step false = refl
-
-none_pass : {A : Type 0} (p : A → Bool) (xs : List A) → ((x : A) → p x ≡ false) → filter p xs ≡ []
-none_pass p [] no_one = refl
-none_pass p (x ∷ xs) no_one = ap (λ b. cond b (x ∷ filter p xs) (filter p xs)) (no_one x) ∙ none_pass p xs no_one
-
-none_kept : (exponents : List ℕ) → kept [] exponents ≡ []
-none_kept exponents = none_pass _ exponents (λ e. nothing_told (map (coefficients []) (smaller e exponents)))
-
 no_slice_kept : (exponents : List ℕ) (recovery : List (ℕ × List ℕ)) → kept_slices [] exponents recovery ≡ []
-no_slice_kept exponents recovery = none_pass _ recovery (λ r. ap (list_any (λ e. e == r.0)) (none_kept exponents))
+no_slice_kept exponents recovery = filter-none _ recovery (λ r. ap (list_any (λ e. e == r.0)) (none_kept exponents))
 
 pub nothing_lost : (survivors : code.Survivors) → All IsKnown survivors.known.items → lost (known_among survivors) ≡ []
 nothing_lost survivors all =

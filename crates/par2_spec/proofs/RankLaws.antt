@@ -15,7 +15,7 @@ use Rattle.par2_spec.specs.Rank.{kills, is_zero, is_independent, is_solvable, is
 use Rattle.par2_spec.specs.Sets.{ParSet}
 use Rattle.par2_spec.specs.Search.{lost, survivors}
 use Rattle.par2_spec.specs.Repairs.{rebuilt}
-use Rattle.par2_spec.proofs.ListsLaws.{AreOf, IsBelow, IsComplete, some_list, all_below_are, all_below_complete, all_lists_are, all_lists_complete, find_one}
+use Rattle.par2_spec.proofs.ListsLaws.{AreOf, IsBelow, IsComplete, some_list, all_below_are, all_below_complete, all_lists_are, all_lists_complete, find_one, filter-none}
 use Rattle.par2_spec.proofs.NamesLaws.{same_name, itself, clash, false_true}
 
 is_true : {b : Bool} → T b → b ≡ true
@@ -181,6 +181,20 @@ kept-iff lost survivors e =
       λ c. let r = law.0 c in (r.0, (independent-iff lost survivors e).0 r.1),
       λ c. law.1 (c.0, (independent-iff lost survivors e).1 c.1),
     )
+
+-- ---- where no slice is lost
+
+nothing_told : (before : List (List ℕ)) → is_independent 0 before [] ≡ false
+unfolding is_independent dot all_lists
+nothing_told before = step (list_all (kills []) before)
+  where
+    step : (b : Bool) → ((b && false) || false) ≡ false
+    step true = refl
+    step false = refl
+
+-- no exponent tells anything
+pub none_kept : (survivors : List ℕ) → kept [] survivors ≡ []
+none_kept survivors = filter-none _ survivors (λ e. nothing_told (map (coefficients []) (smaller e survivors)))
 
 -- ---- lists that agree
 
