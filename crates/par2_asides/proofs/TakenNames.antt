@@ -1,14 +1,8 @@
 -- Names that are taken, and the first number that is free.
-use Rattle.std.proofs.Common.{◌≡◌, ℕ, suc, ◌+◌, ◌-◌, ◌^◌, ◌<◌, ◌≤◌, length, List, [], ◌∷◌, ◌++◌, map, refl, sym, ap, ap₂, subst, ◌∙◌, ◌⊎◌, Bool, true, false, not, cond, ◌||◌, arith, inl, inr, IsTrue, Ok, Err, Result}
+use Rattle.std.proofs.Common.{◌≡◌, ℕ, suc, ◌+◌, ◌-◌, ◌^◌, ◌<◌, ◌≤◌, length, List, [], ◌∷◌, map, refl, sym, ap, subst, ◌∙◌, ◌⊎◌, Bool, true, false, not, cond, ◌||◌, arith, inl, inr, IsTrue, Ok, Err, Result}
 use Rattle.std.specs.Prelude.{find, IfErr, IsOk, Option, Some, unwrap_or}
-use Rattle.std.specs.BTreeSet.{BTreeSet, contains}
-use Rattle.std.specs.BTreeMap.{is_at}
-use Rattle.std.specs.Cmp.Lexicographic.{slice_cmp}
 use Rattle.std.specs.List.{AllByRecursion, list_all, range_with_len}
-use Rattle.std.specs.Ordering.{nat_cmp}
-use Rattle.std.specs.Str.{bytes_eq}
 use Rattle.std.proofs.lemmas.Bool.{and_from, and_parts, cases_lt, false_from_ne_true, leb-true, lt-ltb, or_from}
-use Rattle.std.proofs.lemmas.Map.Text.{is_eq-slice_cmp}
 use Rattle.std.proofs.lemmas.List.Folds.{list_all-append}
 use Rattle.par2_spec.specs.declared.Fault.{Fault}
 use Rattle.par2_spec.specs.declared.Fault.TheVariants.{Memory, NameTooLong}
@@ -18,33 +12,8 @@ use Rattle.par2_spec.specs.Names.{is_among, is_name, numbered}
 use Rattle.par2_spec.specs.Repairs.{aside, taken_for}
 use Rattle.par2_spec.specs.Sets.{IsSound, target_names, ParSet}
 use Rattle.par2_spec.proofs.AsideNames.{name_is_short, numbered_is_name}
-use Rattle.par2_spec.proofs.NamesLaws.{among-append, clash, false_true, itself, other_name, same_name}
-use Rattle.par2_asides.specs.Asides.{HoldsNames, long_aside}
-
--- ---- trees of names
-
-either_order : (a b : List ℕ) → bytes_eq a b ≡ bytes_eq b a
-either_order a b = step (bytes_eq b a) refl
-  where
-    step : (e : Bool) → bytes_eq b a ≡ e → bytes_eq a b ≡ e
-    step true h = ap (λ x. bytes_eq a x) (same_name b a h) ∙ itself a
-    step false h = other_name a b (λ e. clash (ap (λ x. bytes_eq b x) e ∙ itself b) h)
-
--- a tree with one more name
-pub holds_more : (old new : BTreeSet (List ℕ)) (key : List ℕ) (names : List (List ℕ))
-    → ((q : List ℕ) → contains (slice_cmp nat_cmp) new q ≡ cond (is_at (slice_cmp nat_cmp key) q) true (contains (slice_cmp nat_cmp) old q))
-    → HoldsNames old names → HoldsNames new (names ++ key ∷ [])
-holds_more old new key names up holds = λ q.
-    up q
-    ∙ ap₂ (λ a b. cond a true b) (is_eq-slice_cmp key q ∙ either_order key q) (holds q)
-    ∙ either (bytes_eq q key) (is_among names q)
-    ∙ sym (among-append names (key ∷ []) q)
-  where
-    either : (a b : Bool) → cond a true b ≡ (b || (a || false))
-    either true true = refl
-    either true false = refl
-    either false true = refl
-    either false false = refl
+use Rattle.par2_spec.proofs.NamesLaws.{clash, false_true, other_name}
+use Rattle.par2_asides.specs.Asides.{long_aside}
 
 -- ---- what is taken
 

@@ -1,5 +1,5 @@
 -- The items that are chosen by their flags, and a list whose items come once.
-use Rattle.std.proofs.Common.{◌≡◌, ℕ, List, [], ◌∷◌, ◌++◌, map, refl, sym, ap, ap₂, ◌∙◌, Bool, true, false, not, cond, ◌||◌, ◌&&◌, ◌⊎◌, inl, inr, Bor}
+use Rattle.std.proofs.Common.{◌≡◌, ℕ, List, [], ◌∷◌, ◌++◌, map, refl, ap, ◌∙◌, Bool, true, false, not, cond, ◌||◌, ◌&&◌, ◌⊎◌, inl, inr, Bor}
 use Rattle.std.specs.Prelude.{filter}
 use Rattle.std.specs.BTreeSet.{BTreeSet, contains}
 use Rattle.std.specs.BTreeMap.{is_at}
@@ -7,13 +7,12 @@ use Rattle.std.specs.List.{list_all}
 use Rattle.std.specs.Str.{bytes_eq}
 use Rattle.std.proofs.lemmas.Map.Text.{is_eq-slice_cmp}
 use Rattle.std.proofs.lemmas.Slice.Eq.{bytes_eq-Decides}
-use Rattle.std.proofs.lemmas.Bool.Decides.{same_from_decides}
 use Rattle.par2_spec.specs.Names.{is_among, distinct}
 use Rattle.par2_spec.specs.Sets.{Target}
-use Rattle.par2_spec.proofs.NamesLaws.{among-append, AreDistinct, among-filter, distinct-filter}
+use Rattle.par2_spec.proofs.NamesLaws.{same_either_way, AreDistinct, among-filter, distinct-filter}
 use Rattle.par2_search.specs.Matching.{Describe, Describes}
 use Rattle.par2_search.specs.declared.matching.Target as search
-use Rattle.par2_plan.specs.Matches.{items_where, passed_over, name_cmp, HoldsNames}
+use Rattle.par2_plan.specs.Matches.{items_where, passed_over, name_cmp}
 
 -- ---- by flags
 
@@ -56,9 +55,6 @@ Describe-more (y ∷ xs) [] x t h d = absurd h
 Describe-more (y ∷ xs) (u ∷ ts) x t h d = (h.0, Describe-more xs ts x t h.1 d)
 
 -- ---- each once
-
-pub same_either_way : (a b : List ℕ) → bytes_eq a b ≡ bytes_eq b a
-same_either_way a b = same_from_decides _ _ (λ h. (bytes_eq-Decides a b).0 h, λ e. (bytes_eq-Decides a b).1 e) (λ h. sym ((bytes_eq-Decides b a).0 h), λ e. (bytes_eq-Decides b a).1 (sym e))
 
 filter-append : (p : List ℕ → Bool) (xs ys : List (List ℕ)) → filter p (xs ++ ys) ≡ filter p xs ++ filter p ys
 filter-append p [] ys = refl
@@ -105,21 +101,6 @@ distinct_once [] = tt
 distinct_once (x ∷ xs) = (out_of_filter x (distinct xs), distinct-filter (λ z. not (bytes_eq x z)) (distinct xs) (distinct_once xs))
 
 -- ---- trees of names
-
--- a tree with one more name
-pub holds_more : (old new : BTreeSet (Bor (List ℕ))) (key : Bor (List ℕ)) (xs : List (List ℕ))
-    → ((q : Bor (List ℕ)) → contains name_cmp new q ≡ cond (is_at (name_cmp key) q) true (contains name_cmp old q)) → HoldsNames old xs → HoldsNames new (xs ++ key.now ∷ [])
-holds_more old new key xs up holds = λ q.
-    up q
-    ∙ ap₂ (λ a b. cond a true b) (is_eq-slice_cmp key.now q.now ∙ same_either_way key.now q.now) (holds q)
-    ∙ either (bytes_eq q.now key.now) (is_among xs q.now)
-    ∙ sym (among-append xs (key.now ∷ []) q.now)
-  where
-    either : (a b : Bool) → cond a true b ≡ (b || (a || false))
-    either true true = refl
-    either true false = refl
-    either false true = refl
-    either false false = refl
 
 -- what a tree holds together with the names that are left stays the same where the first of these is put into it
 pub holds_with_rest : (old new : BTreeSet (Bor (List ℕ))) (key : Bor (List ℕ)) (rest : List (List ℕ)) (q : Bor (List ℕ))

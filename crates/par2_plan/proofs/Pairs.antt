@@ -7,10 +7,10 @@ use Rattle.std.proofs.lemmas.List.{map-append}
 use Rattle.std.proofs.lemmas.Map.Text.{is_eq-slice_cmp}
 use Rattle.par2_spec.specs.Changes.{Remove}
 use Rattle.par2_spec.specs.Names.{is_among}
-use Rattle.par2_spec.proofs.NamesLaws.{same_name}
+use Rattle.par2_spec.proofs.NamesLaws.{same_either_way, same_name}
 use Rattle.par2_plan.specs.Matches.{name_cmp}
 use Rattle.par2_plan.specs.Repairing.{names_given, asides_removed, files_removed}
-use Rattle.par2_plan.proofs.Choices.{same_either_way, filter_push}
+use Rattle.par2_plan.proofs.Choices.{filter_push}
 
 -- there is no pair where one of two lists is empty
 zip_end : {A B : Type 0} (xs : List A) (ys : List B) → (xs ≡ []) ⊎ (ys ≡ []) → zip xs ys ≡ []

@@ -1,5 +1,4 @@
 mod Cutting
 mod Merging
 mod Rebuilds
-mod Trees
 mod TargetWalks

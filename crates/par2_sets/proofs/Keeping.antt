@@ -11,12 +11,11 @@ use Rattle.std.specs.Str.{bytes_eq}
 use Rattle.std.specs.declared.cmp.Ordering.{Ordering}
 use Rattle.std.specs.declared.cmp.Ordering.TheVariants.{Less, Equal, Greater}
 use Rattle.std.proofs.lemmas.Bool.{false≢true}
-use Rattle.std.proofs.lemmas.Bool.Decides.{same_from_decides}
 use Rattle.std.proofs.lemmas.List.{map_more, take_more}
 use Rattle.std.proofs.lemmas.List.Elements.{filter_map-append}
 use Rattle.std.proofs.lemmas.List.Folds.{find-append}
 use Rattle.std.proofs.lemmas.Map.Text.{is_eq-slice_cmp}
-use Rattle.std.proofs.lemmas.Slice.Eq.{bytes_eq-Decides}
+use Rattle.par2_spec.proofs.NamesLaws.{same_either_way}
 use Rattle.par2_sets.specs.Firsts.{KeepsFirst, id_cmp, count_cmp}
 
 -- ---- one more value
@@ -116,9 +115,6 @@ module _ {B X : Type 0} (read : B → Option X) where
       ∙ ap (find (reads test)) (sym (take_more items i d low))
 
 -- ---- the keys
-
-same_either_way : (a b : List ℕ) → bytes_eq a b ≡ bytes_eq b a
-same_either_way a b = same_from_decides _ _ (λ h. (bytes_eq-Decides a b).0 h, λ e. (bytes_eq-Decides a b).1 e) (λ h. sym ((bytes_eq-Decides b a).0 h), λ e. (bytes_eq-Decides b a).1 (sym e))
 
 -- File IDs are told apart by their bytes
 pub same_id : (a b : List ℕ) → eq_by_cmp id_cmp a b ≡ bytes_eq b a

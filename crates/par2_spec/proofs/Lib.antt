@@ -9,6 +9,7 @@ pub mod SumLaws
 pub mod FolderLaws
 pub mod CommandLaws
 pub mod NamesLaws
+pub mod TreeLaws
 pub mod MovesLaws
 pub mod CreateLaws
 pub mod SearchLaws

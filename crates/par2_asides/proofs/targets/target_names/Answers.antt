@@ -2,7 +2,7 @@ use Rattle.std.proofs.Common.{◌≡◌, ◌∙◌, ◌+◌, ◌++◌, ◌∷◌
 use Rattle.std.proofs.lemmas.List.{map_more}
 use Rattle.par2_spec.specs.Sets.{Target}
 use Rattle.par2_asides.specs.Asides.{HoldsNames}
-use Rattle.par2_asides.proofs.TakenNames.{holds_more}
+use Rattle.par2_spec.proofs.TreeLaws.{holds_more}
 use Rattle.par2_asides.proofs.targets.target_names.Goals as goal
 
 pub loop-target-preserved : goal.loop-target-preserved
@@ -17,4 +17,4 @@ loop-target-preserved c =
     let more : map name_of (take i ts) ++ key ∷ [] ≡ map name_of (take (i + 1) ts) =
     ap (λ k. map name_of (take i ts) ++ k ∷ []) (c.copied.ensures ∙ c.name.ensures ∙ ap name_of c.target-item.is) ∙ sym (map_more name_of ts i _ c.loop-target-test.true) in
     subst (HoldsNames c.insert.new.self) (more ∙ ap (λ (xs : List Target). map name_of (take (i + 1) xs)) (sym all))
-    (holds_more c.loop-target.names c.insert.new.self key (map name_of (take i ts)) c.in_ok-insert.ensures.updates.0 before)
+    (holds_more (λ (name : List ℕ). name) c.loop-target.names c.insert.new.self key (map name_of (take i ts)) c.in_ok-insert.ensures.updates.0 before)

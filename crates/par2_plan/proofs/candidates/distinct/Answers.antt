@@ -3,7 +3,8 @@ use Rattle.std.proofs.lemmas.List.{take_more, get_or_default}
 use Rattle.par2_spec.specs.Names.{is_among, distinct}
 use Rattle.par2_spec.proofs.NamesLaws.{false_from_not, true_from_not}
 use Rattle.par2_plan.specs.Matches.{HoldsNames}
-use Rattle.par2_plan.proofs.Choices.{distinct_more, holds_more}
+use Rattle.par2_spec.proofs.TreeLaws.{holds_more}
+use Rattle.par2_plan.proofs.Choices.{distinct_more}
 use Rattle.par2_plan.proofs.candidates.distinct.Goals as goal
 use Rattle.par2_plan.proofs.candidates.distinct.Goals.{then-branch+in_ok-push, else-branch}
 
@@ -30,5 +31,5 @@ loop-name-preserved c =
           same ∙ c.loop-name.invariant.0 ∙ ap (λ b. cond b (distinct before) (distinct before ++ item ∷ [])) (sym there)
     ] in (
       once ∙ sym (distinct_more before item) ∙ ap distinct (sym more),
-      subst (HoldsNames c.insert.new.self) (sym more) (holds_more _ _ key before c.in_ok-insert.ensures.updates.0 c.loop-name.invariant.1),
+      subst (HoldsNames c.insert.new.self) (sym more) (holds_more (λ (k : Bor (List ℕ)). k.now) _ _ key before c.in_ok-insert.ensures.updates.0 c.loop-name.invariant.1),
     )

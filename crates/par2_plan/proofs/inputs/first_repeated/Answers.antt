@@ -3,7 +3,7 @@ use Rattle.std.proofs.lemmas.List.{get_or_default, take_more}
 use Rattle.par2_spec.specs.Names.{is_among}
 use Rattle.par2_spec.proofs.NamesLaws.{false_from_not, true_from_not}
 use Rattle.par2_plan.specs.Matches.{HoldsNames}
-use Rattle.par2_plan.proofs.Choices.{holds_more}
+use Rattle.par2_spec.proofs.TreeLaws.{holds_more}
 use Rattle.par2_plan.proofs.Places.{again_found, again_nowhere}
 use Rattle.par2_plan.proofs.inputs.first_repeated.Goals as goal
 
@@ -30,7 +30,7 @@ loop-i-preserved c =
     let added : c.in_ok-insert.field-0 ≡ not (is_among before item) = c.in_ok-insert.ensures.added ∙ ap not (c.loop-i.invariant.1 key) in
     let out : is_among before item ≡ false = false_from_not _ (sym added ∙ c.if-not-branch.false) in (
       below_more _ _ c.loop-i.invariant.0 (ap (is_among before) (sym name) ∙ out),
-      subst (HoldsNames c.insert.new.self) (sym more) (holds_more _ _ key before c.in_ok-insert.ensures.updates.0 c.loop-i.invariant.1),
+      subst (HoldsNames c.insert.new.self) (sym more) (holds_more (λ (k : Bor (List ℕ)). k.now) _ _ key before c.in_ok-insert.ensures.updates.0 c.loop-i.invariant.1),
     )
 
 pub returns-clause-place : goal.returns-clause-place

@@ -3,7 +3,7 @@ use Rattle.std.specs.Prelude.{Option, None, option_to_list}
 use Rattle.std.proofs.lemmas.List.{take_more, get_or_default}
 use Rattle.par2_plan.specs.Matches.{HoldsNames}
 use Rattle.par2_plan.specs.Repairing.{names_given}
-use Rattle.par2_plan.proofs.Choices.{holds_more}
+use Rattle.par2_spec.proofs.TreeLaws.{holds_more}
 use Rattle.par2_plan.proofs.Pairs.{given_push}
 use Rattle.par2_plan.proofs.moves.matching_names.Goals as goal
 use Rattle.par2_plan.proofs.moves.matching_names.Goals.{in-Some+in_ok-insert, in_default}
@@ -22,7 +22,7 @@ loop-found-preserved c =
           let key : Bor (List ℕ) = record { ref_ptr = (0, 0); now = w.in-Some.name } in
           let all : names_given (take (i + 1) given) ≡ before ++ w.in-Some.name ∷ [] = more ∙ ap (λ o. before ++ option_to_list o) w.in-Some.is in
           subst (λ names. HoldsNames names (names_given (take (i + 1) given))) (sym w.names-is)
-          (subst (HoldsNames w.insert.new.self) (sym all) (holds_more c.loop-found.names w.insert.new.self key before w.in_ok-insert.ensures.updates.0 c.loop-found.invariant))
+          (subst (HoldsNames w.insert.new.self) (sym all) (holds_more (λ (k : Bor (List ℕ)). k.now) c.loop-found.names w.insert.new.self key before w.in_ok-insert.ensures.updates.0 c.loop-found.invariant))
       | in_default w ↦
           let all : names_given (take (i + 1) given) ≡ before = more ∙ ap (λ o. before ++ option_to_list o) w.in_default.is ∙ append-nil before in
           subst (λ names. HoldsNames names (names_given (take (i + 1) given))) (sym w.names-is) (subst (HoldsNames c.loop-found.names) (sym all) c.loop-found.invariant)

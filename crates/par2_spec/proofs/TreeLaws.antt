@@ -1,0 +1,32 @@
+-- Trees of names, or of keys that stand for names.
+use Rattle.std.proofs.Common.{◌≡◌, ℕ, List, [], ◌∷◌, ◌++◌, refl, sym, ap₂, ◌∙◌, Bool, true, false, cond, ◌||◌}
+use Rattle.std.specs.BTreeSet.{BTreeSet, contains}
+use Rattle.std.specs.BTreeMap.{is_at}
+use Rattle.std.specs.Cmp.Lexicographic.{slice_cmp}
+use Rattle.std.specs.Ordering.{nat_cmp}
+use Rattle.std.specs.Str.{bytes_eq}
+use Rattle.std.specs.declared.cmp.Ordering.{Ordering}
+use Rattle.std.proofs.lemmas.Map.Text.{is_eq-slice_cmp}
+use Rattle.par2_spec.specs.Names.{is_among}
+use Rattle.par2_spec.proofs.NamesLaws.{among-append, same_either_way}
+
+-- the order of keys by their names
+abbrev pub name_order : {K : Type 0} → (K → List ℕ) → K → K → Ordering
+name_order name_of a b = slice_cmp nat_cmp (name_of a) (name_of b)
+
+-- a tree with one more key
+pub holds_more : {K : Type 0} (name_of : K → List ℕ) (old new : BTreeSet K) (key : K) (names : List (List ℕ))
+    → ((q : K) → contains (name_order name_of) new q ≡ cond (is_at (name_order name_of key) q) true (contains (name_order name_of) old q))
+    → ((q : K) → contains (name_order name_of) old q ≡ is_among names (name_of q))
+    → (q : K) → contains (name_order name_of) new q ≡ is_among (names ++ name_of key ∷ []) (name_of q)
+holds_more name_of old new key names updates holds q =
+    updates q
+    ∙ ap₂ (λ a b. cond a true b) (is_eq-slice_cmp (name_of key) (name_of q) ∙ same_either_way (name_of key) (name_of q)) (holds q)
+    ∙ either (bytes_eq (name_of q) (name_of key)) (is_among names (name_of q))
+    ∙ sym (among-append names (name_of key ∷ []) (name_of q))
+  where
+    either : (a b : Bool) → cond a true b ≡ (b || (a || false))
+    either true true = refl
+    either true false = refl
+    either false true = refl
+    either false false = refl
