@@ -1,9 +1,19 @@
 //! Folders and the arguments of creates.
+use crate::calls::{applied, reserve};
 use par2_folder::{Bytes, Change, Folder, Name};
 use par2_plan::CreateArgs;
 use std::alloc::{AllocError, Global};
 use std::process::Abort;
 use std::test::Fail;
+
+// The words of a command.
+pub fn words_of(alloc: Global, words: &[&str]) -> Result<Vec<String>, AllocError> {
+    let mut list = Vec::new(alloc);
+    for word in words {
+        list.push(String::from_str(alloc, word)?)?;
+    }
+    Ok(list)
+}
 
 // A create without recovery slices.
 pub fn args_of(
@@ -12,28 +22,33 @@ pub fn args_of(
     base: &str,
     words: &[&str],
 ) -> Result<CreateArgs, AllocError> {
-    let mut inputs = Vec::new(alloc);
-    for word in words {
-        inputs.push(String::from_str(alloc, word)?)?;
-    }
     Ok(CreateArgs {
         slice_size,
         count: 0,
         first: 0,
         base: String::from_str(alloc, base)?,
-        inputs,
+        inputs: words_of(alloc, words)?,
         overwrite: false,
     })
+}
+
+// The name of this text.
+pub fn name_of<R: Abort>(rt: &R, text: &str) -> Name {
+    Name::new(text).expect(rt, "a name")
+}
+
+// Does a change, which the folder takes.
+pub fn apply<R: Abort>(rt: &R, folder: &mut Folder, mut change: Change) {
+    assert!(rt; applied(folder, &mut change));
 }
 
 // A folder of these files.
 pub fn folder_of<R: Abort + AllocGlobal>(rt: &R, files: &[(&str, &[u8])]) -> Result<Folder, Fail> {
     let mut folder = Folder::new(rt.alloc());
-    folder.reserve(files.len())?;
+    reserve(&mut folder, files.len())?;
     for (text, bytes) in files {
-        let name = Name::new(text).expect(rt, "a name");
-        let answer = folder.apply(&mut Change::Write(name, Bytes::copy_of(rt.alloc(), bytes)?));
-        assert!(rt; answer.is_ok());
+        let bytes = Bytes::copy_of(rt.alloc(), bytes)?;
+        apply(rt, &mut folder, Change::Write(name_of(rt, text), bytes));
     }
     Ok(folder)
 }

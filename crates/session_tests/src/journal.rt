@@ -1,4 +1,6 @@
 //! The journals of a session.
+use crate::calls;
+use crate::calls::{encode, journals_of, prepare};
 use crate::session::{Row, create_of, fingerprint_of, session_after, session_of};
 use par2_folder::Change;
 use par2_journal::{Action, Journals, Session};
@@ -20,7 +22,7 @@ const CREATE: &[Row] = &[Row::Create("t.par2")];
 pub const UNDONE_CREATE: &[Row] = &[Row::Create("t.par2"), Row::Undo];
 
 pub fn journal_of<R: Abort + AllocGlobal>(rt: &R, session: &Session) -> Result<Vec<u8>, Fail> {
-    Ok(session.encode(rt.alloc())?)
+    Ok(encode(session, rt.alloc())?)
 }
 
 fn decoded<R: Abort + AllocGlobal>(rt: &R, text: &[u8]) -> Journal {
@@ -41,12 +43,12 @@ pub fn commit<R: Abort + AllocGlobal>(
     action: &Action,
 ) -> Result<Journals, Fail> {
     let before = fingerprint_of(rt.alloc(), session)?;
-    let Ok(mut prepared) = session.prepare(rt.alloc(), action) else {
+    let Ok(mut prepared) = prepare(session, rt.alloc(), action) else {
         panic!(rt; "refused");
     };
-    let journals = session.journals(rt.alloc(), &mut prepared)?;
+    let journals = journals_of(session, rt.alloc(), &mut prepared)?;
     assert_eq!(rt; fingerprint_of(rt.alloc(), session)?, before);
-    let _steps = session.commit(prepared);
+    let _steps = calls::commit(session, prepared);
     Ok(journals)
 }
 

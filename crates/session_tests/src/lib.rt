@@ -1,6 +1,8 @@
-//! Tests of plans and sessions. They stand apart from the libraries, so that these are proved without them.
+//! Tests of plans, reports and sessions. They stand apart from the libraries, so that these are proved without them.
 #![tactic(auto)]
 
+#[cfg(test)]
+mod calls;
 #[cfg(test)]
 mod fixtures;
 #[cfg(test)]
@@ -9,5 +11,7 @@ mod journal;
 mod opening;
 #[cfg(test)]
 mod plan;
+#[cfg(test)]
+mod reports;
 #[cfg(test)]
 mod session;

@@ -1,4 +1,7 @@
 //! Folders that are opened with a journal.
+use crate::calls::{
+    bytes_in, changes_back, fingerprint, folder_in, open, settled_text, taken_back,
+};
 use crate::fixtures::folder_of;
 use crate::journal::{UNDONE_CREATE, assert_settled, halfway_of, is_removal_of, journal_of};
 use crate::session::{assert_stands, redo, session_after, session_of};
@@ -9,10 +12,6 @@ use std::alloc::Global;
 use std::process::Abort;
 use std::test::Fail;
 
-fn open(alloc: Global, folder: Folder, text: &[u8]) -> Result<Opened, (JournalFault, Folder)> {
-    Session::open(alloc, folder, text)
-}
-
 // The journal does not open the folder with this file alone, which is given back as it was.
 fn assert_refused<R: Abort + AllocGlobal>(
     rt: &R,
@@ -21,12 +20,12 @@ fn assert_refused<R: Abort + AllocGlobal>(
     wanted: JournalFault,
 ) -> Result<(), Fail> {
     let folder = folder_of(rt, &[(file, b"abcdefgh")])?;
-    let before = folder.fingerprint(rt.alloc())?;
+    let before = fingerprint(rt.alloc(), &folder)?;
     let Err((fault, folder)) = open(rt.alloc(), folder, text) else {
         panic!(rt; "opened in place of {wanted:?}");
     };
     assert_eq!(rt; fault, wanted);
-    assert_eq!(rt; folder.fingerprint(rt.alloc())?, before);
+    assert_eq!(rt; fingerprint(rt.alloc(), &folder)?, before);
     Ok(())
 }
 
@@ -92,14 +91,14 @@ fn open_halfway<R: Abort + AllocGlobal>(rt: &R, folder: Folder, text: &[u8]) -> 
 fn opens_before_the_first_change(rt: HostRuntime) -> Result<(), Fail> {
     let text = halfway_of(&rt, &mut session_of(&rt)?)?;
     let before = folder_of(&rt, &[("a", b"abcdefgh")])?;
-    assert_eq!(rt; open_halfway(&rt, before, &text).changes().len(), 0);
+    assert_eq!(rt; changes_back(&open_halfway(&rt, before, &text)).len(), 0);
     Ok(())
 }
 
 // The folder of a session with the files `a` and `t.par2`.
 fn folder_after<R: Abort + AllocGlobal>(rt: &R, session: &Session) -> Result<Folder, Fail> {
     let name = Name::new("t.par2").expect(rt, "a name");
-    let Some(index) = session.folder().get(&name) else {
+    let Some(index) = bytes_in(folder_in(session), &name) else {
         panic!(rt; "no index");
     };
     folder_of(rt, &[("a", b"abcdefgh"), ("t.par2", index)])
@@ -111,10 +110,10 @@ fn assert_taken_back<R: Abort + AllocGlobal>(
     halfway: Halfway,
     settled: &[u8],
 ) -> Result<(), Fail> {
-    assert!(rt; is_removal_of(halfway.changes(), "t.par2"));
-    let text = halfway.settled(rt.alloc())?;
+    assert!(rt; is_removal_of(changes_back(&halfway), "t.par2"));
+    let text = settled_text(&halfway, rt.alloc())?;
     assert_eq!(rt; text.as_slice(), settled);
-    assert_stands(rt, &halfway.finish(), "t.par2", (0, 0, None));
+    assert_stands(rt, &taken_back(halfway), "t.par2", (0, 0, None));
     Ok(())
 }
 

@@ -1,7 +1,8 @@
 //! Each fault of a create, and outputs beside bytes that another program made and par2cmdline verifies and repairs by.
+use crate::calls::plan_of;
 use crate::fixtures::{args_of, folder_of};
 use par2_folder::{Change, Folder};
-use par2_plan::{CreateArgs, Fault, plan_create};
+use par2_plan::{CreateArgs, Fault};
 use par2_slices::crc32;
 use std::alloc::{AllocError, Global};
 use std::process::Abort;
@@ -153,7 +154,7 @@ fn planned_creates(rt: HostRuntime) -> Result<(), Fail> {
     for row in &PLANNED {
         let folder = folder_of(&rt, row.files)?;
         let args = planned_args(rt.alloc(), row)?;
-        let Ok(changes) = plan_create(rt.alloc(), &folder, &args) else {
+        let Ok(changes) = plan_of(rt.alloc(), &folder, &args) else {
             panic!(rt; "refused");
         };
         assert!(rt; !changes.is_empty() && are_written(changes.as_slice(), row));
@@ -192,7 +193,7 @@ fn refused_args(alloc: Global, row: &Refused) -> Result<CreateArgs, AllocError> 
 }
 
 fn fault_of(alloc: Global, folder: &Folder, args: &CreateArgs) -> Option<Fault> {
-    plan_create(alloc, folder, args).err()
+    plan_of(alloc, folder, args).err()
 }
 
 #[test]
@@ -231,7 +232,7 @@ fn names_that_are_too_long(rt: HostRuntime) -> Result<(), Fail> {
         Some(Fault::NameTooLong)
     );
     args.count = 0;
-    let changes = plan_create(rt.alloc(), &folder, &args);
+    let changes = plan_of(rt.alloc(), &folder, &args);
     assert!(rt; matches!(&changes, Ok(changes) if changes.len() == 1));
     Ok(())
 }

@@ -1,5 +1,7 @@
 //! Worked examples of a session, and each refusal that it knows. The helpers have no clauses, so that the proof of a
 //! test carries none from one call to the next.
+use crate::calls;
+use crate::calls::{bytes_in, commit, counts_of, depths_of, fingerprint, folder_in, play, prepare};
 use crate::fixtures::{args_of, folder_of};
 use par2_folder::Name;
 use par2_journal::{Action, Fault, NothingToRedo, NothingToUndo, Session, SessionFault, Step};
@@ -14,7 +16,7 @@ pub fn session_of<R: Abort + AllocGlobal>(rt: &R) -> Result<Session, Fail> {
 }
 
 pub fn fingerprint_of(alloc: Global, session: &Session) -> Result<[u8; 16], AllocError> {
-    session.folder().fingerprint(alloc)
+    fingerprint(alloc, folder_in(session))
 }
 
 // The length of a file, where there is one.
@@ -22,7 +24,7 @@ fn length_of(session: &Session, text: &str) -> Option<usize> {
     let Ok(name) = Name::new(text) else {
         return None;
     };
-    Some(session.folder().get(&name)?.len())
+    Some(bytes_in(folder_in(session), &name)?.len())
 }
 
 // The session has these depths of undo and redo, and a file of this length or none.
@@ -32,7 +34,7 @@ pub fn assert_stands<R: Abort>(
     text: &str,
     wanted: (usize, usize, Option<usize>),
 ) {
-    let depths = (session.undo_depth(), session.redo_depth());
+    let depths = depths_of(session);
     assert_eq!(rt; (depths.0, depths.1, length_of(session, text)), wanted);
 }
 
@@ -48,7 +50,7 @@ pub fn create<R: Abort + AllocGlobal>(
     base: &str,
 ) -> Result<(), Fail> {
     let args = args_of(rt.alloc(), 4, base, &["a"])?;
-    let Ok(steps) = session.create(rt.alloc(), &args) else {
+    let Ok(steps) = calls::create(session, rt.alloc(), &args) else {
         panic!(rt; "refused");
     };
     assert!(rt; matches!(steps.as_slice(), [Step::Write(name)] if name.as_str() == base));
@@ -56,11 +58,11 @@ pub fn create<R: Abort + AllocGlobal>(
 }
 
 pub fn undo<R: Abort>(rt: &R, session: &mut Session) {
-    assert_eq!(rt; session.undo(), Ok(()));
+    assert!(rt; calls::undo(session).is_ok());
 }
 
 pub fn redo<R: Abort>(rt: &R, session: &mut Session) {
-    assert_eq!(rt; session.redo(), Ok(()));
+    assert!(rt; calls::redo(session).is_ok());
 }
 
 // Makes a create ready, and does it then.
@@ -70,12 +72,12 @@ fn prepare_and_commit<R: Abort + AllocGlobal>(
     base: &str,
 ) -> Result<(), Fail> {
     let action = create_of(rt.alloc(), base)?;
-    let Ok(prepared) = session.prepare(rt.alloc(), &action) else {
+    let Ok(prepared) = prepare(session, rt.alloc(), &action) else {
         panic!(rt; "refused");
     };
-    let counts = (session.changes(&prepared).len(), prepared.steps().len());
+    let counts = counts_of(session, &prepared);
     assert_stands(rt, session, base, (0, 0, None));
-    let done = session.commit(prepared).len();
+    let done = commit(session, prepared);
     assert_eq!(rt; (counts, done), ((1, 1), 1));
     Ok(())
 }
@@ -88,7 +90,7 @@ fn assert_refused<R: Abort + AllocGlobal>(
     wanted: SessionFault,
 ) -> Result<(), Fail> {
     let action = create_of(rt.alloc(), base)?;
-    let fault = session.prepare(rt.alloc(), &action).err();
+    let fault = prepare(session, rt.alloc(), &action).err();
     assert_eq!(rt; fault, Some(wanted));
     Ok(())
 }
@@ -102,13 +104,13 @@ fn play_five<R: Abort + AllocGlobal>(rt: &R, session: &mut Session) -> Result<()
         Action::Undo,
         Action::Redo,
     ];
-    assert_eq!(rt; session.play(rt.alloc(), &actions), 3);
+    assert_eq!(rt; play(session, rt.alloc(), &actions), 3);
     Ok(())
 }
 
 // There is nothing to undo and nothing to redo.
 fn assert_ends<R: Abort>(rt: &R, session: &mut Session) {
-    let answers = (session.undo(), session.redo());
+    let answers = (calls::undo(session), calls::redo(session));
     assert_eq!(rt; answers, (Err(NothingToUndo), Err(NothingToRedo)));
 }
 

@@ -1,60 +1,35 @@
 //! Reports on a set of two slices and a recovery slice: what is found of a file that was renamed, cut or shifted.
-use par2_folder::{Bytes, Change, Folder, Name};
-use par2_plan::{CreateArgs, Fault, Report, State, Verdict, check, plan_create};
+use crate::calls::{plan_of, reserve};
+use crate::fixtures::{apply, args_of, folder_of, name_of, words_of};
+use par2_folder::{Bytes, Change, Folder, copies_of};
+use par2_plan::{CreateArgs, Fault, Report, State, Verdict, check};
 use std::alloc::{AllocError, Global};
 use std::process::Abort;
 use std::test::Fail;
 
-// The name of this text.
-fn name_of<R: Abort>(rt: &R, text: &str) -> Name {
-    Name::new(text).expect(rt, "a name")
-}
-
-// Does a change, which the folder takes.
-fn apply<R: Abort>(rt: &R, folder: &mut Folder, change: Change) {
-    let mut change = change;
-    let answer = folder.apply(&mut change);
-    assert!(rt; answer.is_ok());
-}
-
-// The words of a command.
-fn words_of(alloc: Global, words: &[&str]) -> Result<Vec<String>, AllocError> {
-    let mut list = Vec::new(alloc);
-    for word in words {
-        list.push(String::from_str(alloc, word)?)?;
-    }
-    Ok(list)
-}
-
-// A folder of one file.
-fn folder_of<R: Abort + AllocGlobal>(rt: &R, text: &str, bytes: &[u8]) -> Result<Folder, Fail> {
-    let mut folder = Folder::new(rt.alloc());
-    folder.reserve(8)?;
-    let bytes = Bytes::copy_of(rt.alloc(), bytes)?;
-    apply(rt, &mut folder, Change::Write(name_of(rt, text), bytes));
-    Ok(folder)
-}
-
-// A folder with the file `a` of 8 bytes, which a set of slice size 4 and one recovery slice protects.
-fn protected<R: Abort + AllocGlobal>(rt: &R) -> Result<Folder, Fail> {
-    let mut folder = folder_of(rt, "a", b"abcdefgh")?;
+// The changes of a create of a set of slice size 4 and one recovery slice over the file `a`.
+fn changes_of<R: Abort + AllocGlobal>(rt: &R, folder: &Folder) -> Result<Vec<Change>, Fail> {
     let args = CreateArgs {
-        slice_size: 4,
         count: 1,
-        first: 0,
-        base: String::from_str(rt.alloc(), "t.par2")?,
-        inputs: words_of(rt.alloc(), &["a"])?,
-        overwrite: false,
+        ..args_of(rt.alloc(), 4, "t.par2", &["a"])?
     };
-    let Ok(changes) = plan_create(rt.alloc(), &folder, &args) else {
+    let Ok(changes) = plan_of(rt.alloc(), folder, &args) else {
         panic!(rt; "refused");
     };
-    for change in changes.as_slice() {
-        let Change::Write(name, bytes) = change else {
-            panic!(rt; "not written");
-        };
-        let bytes = Bytes::copy_of(rt.alloc(), bytes.as_slice())?;
-        apply(rt, &mut folder, Change::Write(name.copied(), bytes));
+    Ok(copies_of(rt.alloc(), changes.as_slice())?)
+}
+
+fn is_write(change: &Change) -> bool {
+    matches!(change, Change::Write(..))
+}
+
+// A folder with the file `a` of 8 bytes, which that set protects.
+fn protected<R: Abort + AllocGlobal>(rt: &R) -> Result<Folder, Fail> {
+    let mut folder = folder_of(rt, &[("a", b"abcdefgh")])?;
+    reserve(&mut folder, 8)?;
+    for change in changes_of(rt, &folder)? {
+        assert!(rt; is_write(&change));
+        apply(rt, &mut folder, change);
     }
     Ok(folder)
 }

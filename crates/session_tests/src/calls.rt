@@ -1,0 +1,115 @@
+//! Calls of folders and sessions, each behind a function that promises nothing or little: of such a call the prover sees
+//! its type and those few clauses.
+ghost use Rattle.std.specs.Prelude.{IfOk};
+ghost use Rattle.par2_journal.specs.Ready.{Fits};
+
+use par2_folder::{Change, Folder, Name};
+use par2_journal::{
+    Action, CreateArgs, Fault, Halfway, Journals, NothingToRedo, NothingToUndo, Opened, Prepared,
+    Session, SessionFault, Steps,
+};
+use par2_plan::Changes;
+use par2_spec::JournalFault;
+use std::alloc::{AllocError, Global};
+
+pub fn applied(folder: &mut Folder, change: &mut Change) -> bool {
+    folder.apply(change).is_ok()
+}
+
+// Makes places for so many files more.
+pub fn reserve(folder: &mut Folder, places: usize) -> Result<(), AllocError> {
+    folder.reserve(places)
+}
+
+pub fn bytes_in<'a>(folder: &'a Folder, name: &Name) -> Option<&'a [u8]> {
+    folder.get(name)
+}
+
+pub fn fingerprint(alloc: Global, folder: &Folder) -> Result<[u8; 16], AllocError> {
+    folder.fingerprint(alloc)
+}
+
+pub fn plan_of(alloc: Global, folder: &Folder, args: &CreateArgs) -> Result<Changes, Fault> {
+    par2_plan::plan_create(alloc, folder, args)
+}
+
+pub fn create(session: &mut Session, alloc: Global, args: &CreateArgs) -> Result<Steps, Fault> {
+    session.create(alloc, args)
+}
+
+pub fn prepare(
+    session: &mut Session,
+    alloc: Global,
+    action: &Action,
+) -> Result<Prepared, SessionFault>
+    ensures { IfOk result (λ prepared. Fits prepared session.new) }
+{
+    session.prepare(alloc, action)
+}
+
+// How many changes were made ready, and how many steps.
+pub fn counts_of(session: &Session, prepared: &Prepared) -> (usize, usize)
+    requires { Fits prepared.now session.now }
+{
+    (session.changes(prepared).len(), prepared.steps().len())
+}
+
+pub fn journals_of(
+    session: &mut Session,
+    alloc: Global,
+    prepared: &mut Prepared,
+) -> Result<Journals, AllocError>
+    requires { Fits prepared.old session.old }
+    ensures { Fits prepared.new session.new }
+{
+    session.journals(alloc, prepared)
+}
+
+// How many steps were done.
+pub fn commit(session: &mut Session, prepared: Prepared) -> usize
+    requires { Fits prepared session.old }
+{
+    session.commit(prepared).len()
+}
+
+pub fn undo(session: &mut Session) -> Result<(), NothingToUndo> {
+    session.undo()
+}
+
+pub fn redo(session: &mut Session) -> Result<(), NothingToRedo> {
+    session.redo()
+}
+
+// How many of the actions were done.
+pub fn play(session: &mut Session, alloc: Global, actions: &[Action]) -> usize {
+    session.play(alloc, actions)
+}
+
+// How many commands a session can undo and redo.
+pub fn depths_of(session: &Session) -> (usize, usize) {
+    (session.undo_depth(), session.redo_depth())
+}
+
+pub fn folder_in(session: &Session) -> &Folder {
+    session.folder()
+}
+
+pub fn encode(session: &Session, alloc: Global) -> Result<Vec<u8>, AllocError> {
+    session.encode(alloc)
+}
+
+pub fn open(alloc: Global, folder: Folder, text: &[u8]) -> Result<Opened, (JournalFault, Folder)> {
+    Session::open(alloc, folder, text)
+}
+
+pub fn changes_back(halfway: &Halfway) -> &[Change] {
+    halfway.changes()
+}
+
+pub fn settled_text(halfway: &Halfway, alloc: Global) -> Result<Vec<u8>, AllocError> {
+    halfway.settled(alloc)
+}
+
+pub fn taken_back(halfway: Halfway) -> Session {
+    halfway.finish()
+}
