@@ -358,7 +358,8 @@ fn answer_of(
         opened_of opened ≡ defined.Settled (session_of_kept session)) }
     ensures same { IfOk result (λ _. (digest.now ≡ found.now.text)
         × IsTrue (bytes_eq found.now.folder fingerprint)) }
-    ensures refused { IfErr result (λ e. ((e.0 ≡ JournalInvalid) × ¬ (digest.now ≡ found.now.text))
+    ensures refused { IfErr result (λ e.
+        ((e.0 ≡ JournalInvalid) × ¬ (digest.now ≡ found.now.text))
         ⊎ ((e.0 ≡ FolderChanged false) × (digest.now ≡ found.now.text)
         × IsFalse (bytes_eq found.now.folder fingerprint))) }
     ensures files { IfErr result (λ e. e.1.files ≡ session.folder.files) }

@@ -230,7 +230,8 @@ impl Session {
         text: &[u8],
     ) -> Result<Digests, AllocError>
         ensures unchanged { self.new ≡ self.old }
-        ensures folder { IfOk result (λ found. found.folder ≡ fingerprint self.old.folder.files) }
+        ensures folder { IfOk result
+            (λ found. found.folder ≡ fingerprint self.old.folder.files) }
         ensures text { IfOk result (λ found. found.text ≡ md5 text.now) }
     {
         let Some(next) = next else {
