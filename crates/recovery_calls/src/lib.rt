@@ -13,7 +13,8 @@ use par2_folder::{Bytes, Change, Folder, Name};
 use par2_gf16::Gf;
 use par2_packets::{DuplicateId, FileRecord};
 use par2_recovery::{
-    RebuildFault, SetRecord, Survivors, file_records, rebuild, recovery_slice, recovery_slices,
+    RebuildFault, SetRecord, Survivors, file_records, input_slices, rebuild, recovery_slice,
+    recovery_slices,
 };
 use par2_slices::slice_count;
 use std::alloc::{AllocError, Global};
@@ -117,6 +118,18 @@ fn fits(set: &SetRecord, folder: &Folder) -> bool
 {
     let s = set.slice_size;
     s != 0 && s % 2 == 0 && are_names(&set.files) && has_few_slices(set, folder)
+}
+
+/// The slices of the set's files.
+pub fn input_slices_of<'a>(
+    alloc: Global,
+    set: &SetRecord,
+    folder: &'a Folder,
+) -> Result<Option<Vec<&'a [u8]>>, AllocError> {
+    if !fits(set, folder) {
+        return Ok(None);
+    }
+    Ok(Some(input_slices(alloc, set, folder)?))
 }
 
 /// The recovery slices of these exponents.

@@ -2,8 +2,10 @@
 
 use par2_gf16::Gf;
 use par2_packets::{DuplicateId, FileRecord};
-use par2_recovery::{RebuildFault, Survivors, rank};
-use recovery_calls::{folder_of, rebuilt, recovery_slice_of, recovery_slices_of, set_of};
+use par2_recovery::{RebuildFault, Survivors, rank, recovery_slices_over};
+use recovery_calls::{
+    folder_of, input_slices_of, rebuilt, recovery_slice_of, recovery_slices_of, set_of,
+};
 use std::alloc::{AllocError, Global};
 use std::test::Fail;
 
@@ -177,6 +179,25 @@ fn nothing_lost(rt: HostRuntime) -> Result<(), Fail> {
     let survivors = survivors_of(alloc, 4, &known, &[(3, b"abcd".as_slice())])?;
     assert!(rt; comes_back(alloc, &survivors, &[])?);
     assert_eq!(rt; rank(alloc, &gf, &[], &[0, 1])?, 0);
+    Ok(())
+}
+
+// The slices of two files, and the recovery slice over them as texts.
+#[test]
+fn slices_as_texts(rt: HostRuntime) -> Result<(), Fail> {
+    let alloc = rt.alloc();
+    let folder = folder_of(alloc, &[("a", b"abcde"), ("b", b"fgh")])?;
+    let Some(Ok(set)) = set_of(alloc, &folder, &["b", "a"], 4)? else {
+        panic!(rt; "no record");
+    };
+    let Some(slices) = input_slices_of(alloc, &set, &folder)? else {
+        panic!(rt; "no slices");
+    };
+    assert!(rt;
+        slices.as_slice() == [b"fgh".as_slice(), b"abcd".as_slice(), b"e".as_slice()].as_slice()
+    );
+    let sums = recovery_slices_over(alloc, &Gf::new(alloc)?, &[b"abcd", b"e"], 4, 0, 1)?;
+    assert!(rt; are(&sums, &[b"\x04\x62\x63\x64"]));
     Ok(())
 }
 
