@@ -6,7 +6,7 @@ use md5::{Digest, Md5};
 use par2_folder::{Bytes, Change, Name};
 use par2_journal_bytes::{
     DecodeFault, HalfwayPart, HalfwayPartView, Journal, JournalTexts, JournalView, Version, begin,
-    decode, encode, finish_both,
+    decode, decode_untested, encode, finish_both,
 };
 use std::alloc::{AllocError, Global};
 use std::process::Abort;
@@ -284,5 +284,26 @@ fn false_journals(rt: HostRuntime) -> Result<(), Fail> {
     for body in FALSE_BODIES {
         assert!(rt; is_refused(rt.alloc(), &closed(rt.alloc(), body)?));
     }
+    Ok(())
+}
+
+// Whether the digest at the end of a text is that of what was read, where a journal was read.
+fn has_its_digest(alloc: Global, text: &[u8]) -> Option<bool> {
+    match decode_untested(alloc, text) {
+        Ok(found) => Some(Md5::digest(found.body).as_slice() == found.digest),
+        Err(_) => None,
+    }
+}
+
+#[test]
+fn digest_left_to_the_caller(rt: HostRuntime) -> Result<(), Fail> {
+    let alloc = rt.alloc();
+    let mut changed = Vec::from_slice(alloc, UNDO_TWO)?;
+    if let Some(last) = changed.last_mut() {
+        *last ^= 1;
+    }
+    assert!(rt; has_its_digest(alloc, UNDO_TWO) == Some(true));
+    assert!(rt; has_its_digest(alloc, &changed) == Some(false));
+    assert!(rt; has_its_digest(alloc, b"no journal, but long enough").is_none());
     Ok(())
 }
