@@ -1,7 +1,10 @@
 //! Worked examples of folders and names, and each refusal.
 
 use crate::calls::{bytes_in, fingerprint, listed, name};
-use par2_folder::{BadName, Bytes, Change, ChangeFault, Folder, Name, fingerprints_along};
+use par2_folder::{
+    BadName, Bytes, Change, ChangeFault, Folder, Name, fingerprints_along, fingerprints_along_from,
+    survey_folder,
+};
 use std::alloc::{AllocError, Global};
 use std::process::Abort;
 use std::test::Fail;
@@ -200,6 +203,11 @@ const TWO_FILES: [u8; 16] = [
     0x77, 0x08, 0x56, 0x50, 0x42, 0xc3, 0x29, 0xb4, 0x65, 0x12, 0xee, 0x4a, 0x16, 0x50, 0xe4, 0x84,
 ];
 
+// The MD5 digest of `abc` (RFC 1321, A.5).
+const DIGEST_OF_ABC: [u8; 16] = [
+    0x90, 0x01, 0x50, 0x98, 0x3c, 0xd2, 0x4f, 0xb0, 0xd6, 0x96, 0x3f, 0x7d, 0x28, 0xe1, 0x7f, 0x72,
+];
+
 // MD5 of nothing, of 01 00 00 00 00 00 00 00 `a` 02 00 00 00 00 00 00 00 `bc`, and of 01 .. `b` 00 .. behind it.
 const FINGERPRINTS: &[(Files, [u8; 16])] = &[
     (&[], NO_FILES),
@@ -232,6 +240,30 @@ fn fingerprints_along_a_change(rt: HostRuntime) -> Result<(), Fail> {
     let change = change_of(&rt, PlainChange::Write("b", b""))?;
     let prints = fingerprints_back(rt.alloc(), folder, change)?;
     assert!(rt; prints.as_slice() == [TWO_FILES, ONE_FILE].as_slice());
+    Ok(())
+}
+
+// The fingerprints of the folder with the change and without it again, from the landmarks of a survey, and the digest
+// of the text beside it.
+fn fingerprints_from_survey(
+    alloc: Global,
+    mut folder: Folder,
+    mut change: Change,
+    text: &[u8],
+) -> Result<(Vec<[u8; 16]>, [u8; 16]), Fail> {
+    folder.apply(&mut change)?;
+    let survey = survey_folder(alloc, &folder, text)?;
+    let prints = fingerprints_along_from(alloc, &survey.landmarks, &folder, &[change])?;
+    Ok((prints, survey.digest))
+}
+
+#[test]
+fn fingerprints_from_landmarks(rt: HostRuntime) -> Result<(), Fail> {
+    let folder = folder_of(&rt, &[("a", b"bc")], 1)?;
+    let change = change_of(&rt, PlainChange::Write("b", b""))?;
+    let (prints, digest) = fingerprints_from_survey(rt.alloc(), folder, change, b"abc")?;
+    assert!(rt; prints.as_slice() == [TWO_FILES, ONE_FILE].as_slice());
+    assert!(rt; digest == DIGEST_OF_ABC);
     Ok(())
 }
 

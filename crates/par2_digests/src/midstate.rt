@@ -36,7 +36,7 @@ pub struct Message<'a> {
 }
 
 /// MD5 behind the first bytes of a message.
-#[derive(Clone, Copy, Drop)]
+#[derive(Clone, Copy, Debug, Drop)]
 pub struct Midstate {
     // The hash value behind the whole blocks.
     pub(crate) hash: [u32; 4],

@@ -43,7 +43,7 @@ pub if_ok : {A E : Type 0} {P Q : A → Type 0} (r : Result A E) → IfOk r P �
 if_ok (Ok x) held f = f x held
 if_ok (Err e) held f = tt
 
-taken_on : {A : Type 0} (xs : List A) (from to : ℕ) → from ≤ to → take from xs ++ take (to - from) (drop from xs) ≡ take to xs
+pub taken_on : {A : Type 0} (xs : List A) (from to : ℕ) → from ≤ to → take from xs ++ take (to - from) (drop from xs) ≡ take to xs
 taken_on xs from to le =
     let whole : from + (to - from) ≡ to = omega (arith, le) in
     ap (λ l. take from xs ++ l) (sym (drop-take from (to - from) xs) ∙ ap (λ n. drop from (take n xs)) whole)

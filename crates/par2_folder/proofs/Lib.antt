@@ -11,3 +11,4 @@ pub mod Snapshots
 pub mod Borders
 pub mod RunLaws
 pub mod Walks
+pub mod Surveys

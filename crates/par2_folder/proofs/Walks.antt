@@ -1,5 +1,5 @@
 -- States of runs of folders, on their way from a border to the next along changes.
-use Rattle.std.proofs.Common.{◌≡◌, ℕ, zero, suc, ◌+◌, ◌<◌, ◌≤◌, Bool, true, false, cond, ◌&&◌, IsTrue, List, [], ◌∷◌, ◌++◌, length, map, take, drop, get_or, refl, sym, ap, subst, ◌∙◌, append_assoc, append-nil, add-one, drop-cons, arith}
+use Rattle.std.proofs.Common.{◌≡◌, ℕ, zero, suc, ◌+◌, ◌<◌, ◌≤◌, Bool, true, false, cond, IsTrue, List, [], ◌∷◌, ◌++◌, length, map, take, drop, get_or, refl, sym, ap, subst, ◌∙◌, append_assoc, append-nil, add-one, drop-cons, arith}
 use Rattle.std.proofs.lemmas.List.{drop_all, map-append, take_more}
 use Rattle.md5.specs.Md5.{md5}
 use Rattle.par2_digests.specs.Messages.{HasAbsorbed}
@@ -10,6 +10,7 @@ use Rattle.par2_spec.specs.Changes.{effect, is_applicable, are_applicable, folde
 use Rattle.par2_folder.specs.Sorting.{IsKept}
 use Rattle.par2_folder.specs.Views.{change_of}
 use Rattle.par2_folder.specs.Borders.{new_run, later_texts, run_texts, text_before, touches}
+use Rattle.par2_folder.specs.Landmarks.{AreBehind}
 use Rattle.par2_folder.specs.Runs.{AreTo, HaveAbsorbed}
 use Rattle.par2_folder.specs.Snapshots.{files_in, folder_in}
 use Rattle.par2_folder.specs.declared.border.Border.{Border}
@@ -80,6 +81,10 @@ later_first border folder change rest = refl
 later_none : (border : Border) (folder : Folder) → later_texts border folder [] ≡ []
 unfolding later_texts
 later_none border folder = refl
+
+pub none_applicable : (folder : Folder) → IsTrue (are_applicable folder [])
+unfolding are_applicable
+none_applicable folder = refl
 
 -- the states that are left once a change is done
 next_parents : (from : Border) (folder : Folder) (change : defined.Change) (rest : List defined.Change) (states : List Midstate) (place : ℕ)
@@ -155,21 +160,29 @@ module _ (from to : Border) (states : List Midstate) (folder : Folder) (changes 
       ap (λ l. later_texts to (folder_in snapshot) (map change_of l)) (drop_all i changes over) ∙ later_none to (folder_in snapshot) in
       subst (AreTo runs) (sym (append-nil within.done) ∙ ap (λ l. within.done ++ l) (sym none) ∙ within.whole) within.reached
 
--- ---- before all names
+-- ---- where a walk sets out
 
-none_later : (folder : Folder) (changes : List defined.Change) → later_texts Beginning folder changes ≡ []
-unfolding later_texts
-none_later folder [] = refl
-none_later folder (change ∷ changes) = none_later (effect folder change) changes
+none_later : (border : Border) (folder : Folder) (changes : List Change) → AreBehind border changes → later_texts border folder (map change_of changes) ≡ []
+none_later border folder [] behind = later_none border folder
+none_later border folder (change ∷ changes) behind =
+    let next : Folder = effect folder (change_of change) in
+    later_first border folder (change_of change) (map change_of changes)
+    ∙ ap (λ t. cond t (text_before border next ∷ []) [] ++ later_texts border next (map change_of changes)) (behind 0 change (omega arith))
+    ∙ none_later border next changes (λ i none lt. behind (suc i) none (omega (arith, lt)))
 
--- one state that has absorbed nothing
-pub sets_out : (folder : Folder) (changes : List defined.Change) (state : Midstate) → HasAbsorbed state [] → HaveAbsorbed (state ∷ []) (run_texts Beginning folder changes)
-sets_out folder changes state held =
-    subst (λ l. HaveAbsorbed (state ∷ []) (text_before Beginning folder ∷ l)) (sym (none_later folder changes)) (subst (HasAbsorbed state) (sym (no_text folder)) held, tt)
+-- one state, at a border that no change lies before
+pub sets_out : (border : Border) (folder : Folder) (changes : List Change) (state : Midstate) → AreBehind border changes → HasAbsorbed state (text_before border folder)
+    → HaveAbsorbed (state ∷ []) (run_texts border folder (map change_of changes))
+sets_out border folder changes state behind held =
+    subst (λ l. HaveAbsorbed (state ∷ []) (text_before border folder ∷ l)) (sym (none_later border folder changes behind)) (held, tt)
+
+-- before all names the state has absorbed nothing
+pub sets_out_first : (folder : Folder) (changes : List Change) (state : Midstate) → HasAbsorbed state [] → HaveAbsorbed (state ∷ []) (run_texts Beginning folder (map change_of changes))
+sets_out_first folder changes state held = sets_out Beginning folder changes state (λ i none lt. refl) (subst (HasAbsorbed state) (sym (no_text folder)) held)
 
 -- ---- all folders
 
-fingerprint_is : (folder : Folder) → md5 (text_before End folder) ≡ fingerprint folder
+pub fingerprint_is : (folder : Folder) → md5 (text_before End folder) ≡ fingerprint folder
 unfolding fingerprint
 fingerprint_is folder = ap md5 (whole_text folder)
 

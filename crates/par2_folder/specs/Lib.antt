@@ -9,3 +9,5 @@ pub mod Lending
 pub mod Snapshots
 pub mod Borders
 pub mod Runs
+pub mod Landmarks
+pub mod Surveys

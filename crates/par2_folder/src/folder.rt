@@ -1,9 +1,9 @@
 //! A flat folder in memory.
-use crate::fingerprint::hash_files;
+use crate::landmarks::Landmarks;
 use crate::place::{exchange_at, insert_at, remove_at, search};
 use crate::snapshot::Snapshot;
+use crate::walk::digests_along;
 use crate::{Bytes, Change, Name};
-use md5::{Digest, Md5};
 use par2_spec::ChangeFault;
 use std::alloc::{AllocError, Global};
 use std::marker::Model;
@@ -101,12 +101,10 @@ impl Folder {
 
     /// What tells folders apart: the MD5 of names and bytes, in the order of the names, each behind its length as
     /// eight bytes.
-    pub fn fingerprint(&self, _alloc: Global) -> Result<[u8; 16], AllocError>
+    pub fn fingerprint(&self, alloc: Global) -> Result<[u8; 16], AllocError>
         ensures { IfOk result (λ digest. digest ≡ fingerprint self.now.files) }
     {
-        let mut hasher = Md5::new();
-        hash_files(&mut hasher, &self.files);
-        Ok(hasher.finalize())
+        Ok(digests_along(alloc, &Landmarks::none(alloc), self, &[])?[0])
     }
 
     // The files where they lie.

@@ -12,6 +12,7 @@ mod failures;
 mod fingerprint;
 mod folder;
 mod fuse;
+mod landmarks;
 mod loading;
 mod memory;
 mod name;
@@ -20,6 +21,7 @@ mod reading;
 mod runs;
 mod snapshot;
 mod store;
+mod survey;
 mod walk;
 
 pub use bytes::Bytes;
@@ -27,12 +29,16 @@ pub use change::Change;
 pub use changes::{Changes, copies_of};
 pub use disk::DiskStore;
 pub use failures::Failures;
-pub use fingerprint::{fingerprints_along, fingerprints_along_and_digest};
+pub use fingerprint::{
+    fingerprints_along, fingerprints_along_and_digest, fingerprints_along_from,
+};
 pub use folder::Folder;
 pub use fuse::FuseStore;
+pub use landmarks::Landmarks;
 pub use loading::read_folder;
 pub use memory::MemoryStore;
 pub use name::{BadName, Name};
 pub use par2_spec::ChangeFault;
 pub use reading::read_within;
 pub use store::{FolderStore, ReadFault, StoreFault};
+pub use survey::{Survey, survey_folder};

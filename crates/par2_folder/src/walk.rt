@@ -9,11 +9,13 @@ ghost use Rattle.par2_spec.specs.Changes.{are_applicable};
 ghost use Rattle.par2_folder.specs.Sorting.{IsKept};
 ghost use Rattle.par2_folder.specs.Views.{change_of};
 ghost use Rattle.par2_folder.specs.Borders.{IsFurther, new_run, run_texts, text_before, touches};
+ghost use Rattle.par2_folder.specs.Landmarks.{AreLandmarksOf};
 ghost use Rattle.par2_folder.specs.Runs.{AreTo, HaveAbsorbed, Reaches};
 ghost use Rattle.par2_folder.specs.Snapshots.{files_in, folder_in};
 ghost use Rattle.par2_folder.specs.declared.border.Border.TheVariants.{End};
 
 use crate::border::{Border, is_further, parts_between, touches};
+use crate::landmarks::Landmarks;
 use crate::runs::Runs;
 use crate::snapshot::Snapshot;
 use crate::{Change, Folder, Name};
@@ -34,8 +36,8 @@ fn border_names(alloc: Global, changes: &[Change]) -> Result<Vec<Name>, AllocErr
     names.into_iter().step_by(step).collect(alloc)
 }
 
-// The state of a run, with the files of its first folder between the borders.
-fn run_of<'a>(
+/// The state of a run, with the files of its first folder between the borders.
+pub fn run_of<'a>(
     alloc: Global,
     state: Midstate,
     snapshot: &Snapshot<'a>,
@@ -118,20 +120,22 @@ fn runs_before<'a>(
     Ok(runs)
 }
 
-// The runs of all folders.
+// The runs of all folders, from the last landmark that the changes leave.
 fn runs_along<'a>(
     alloc: Global,
+    landmarks: &Landmarks,
     folder: &'a Folder,
     changes: &'a [Change],
 ) -> Result<Runs<'a>, AllocError>
-    requires { IsTrue (are_applicable folder.now.files (map change_of changes.now)) }
+    requires landmarks { AreLandmarksOf folder.now.files landmarks.now }
+    requires applicable { IsTrue (are_applicable folder.now.files (map change_of changes.now)) }
     ensures few { IfOk result (λ runs. length runs.pendings.items ≤ 8) }
     ensures texts { let changes = map change_of changes.now in
         IfOk result (λ runs. AreTo runs (run_texts End folder.now.files changes)) }
 {
     let names = border_names(alloc, changes)?;
-    let mut border = Border::Beginning;
-    let mut states = vec![in alloc; Midstate::new()]?;
+    let (mut border, state) = landmarks.start(changes);
+    let mut states = vec![in alloc; state]?;
     for name in &names {
         if is_further(&border, name) {
             let next = Border::At(name);
@@ -142,16 +146,18 @@ fn runs_along<'a>(
     runs_before(alloc, folder, changes, &states, &border, &Border::End)
 }
 
-// A text by itself.
-fn run_of_text(alloc: Global, text: &[u8]) -> Result<Pending<'_>, AllocError>
-    ensures { IfOk result (λ run. Reaches run text.now) }
+/// The state, with the bytes of a text behind it.
+pub fn run_of_text(
+    alloc: Global,
+    state: Midstate,
+    text: &[u8],
+) -> Result<Pending<'_>, AllocError>
+    ensures { (m : List ℕ) → HasAbsorbed state m
+        → IfOk result (λ run. Reaches run (m ++ text.now)) }
 {
     let mut parts = Vec::with_capacity(alloc, 1)?;
     parts.push(Part::Bytes(text))?;
-    Ok(Pending {
-        state: Midstate::new(),
-        parts,
-    })
+    Ok(Pending { state, parts })
 }
 
 // The digests of what the states have absorbed.
@@ -169,14 +175,19 @@ fn digests_of(alloc: Global, states: &[Midstate]) -> Result<Vec<[u8; 16]>, Alloc
 /// The digests of the folder's texts, and of those of the folders that the changes lead it through.
 pub fn digests_along(
     alloc: Global,
+    landmarks: &Landmarks,
     folder: &Folder,
     changes: &[Change],
 ) -> Result<Vec<[u8; 16]>, AllocError>
-    requires { IsTrue (are_applicable folder.now.files (map change_of changes.now)) }
+    requires landmarks { AreLandmarksOf folder.now.files landmarks.now }
+    requires applicable { IsTrue (are_applicable folder.now.files (map change_of changes.now)) }
     ensures { let changes = map change_of changes.now in
         IfOk result (λ digests. digests.items ≡ map md5 (run_texts End folder.now.files changes)) }
 {
-    digests_of(alloc, &runs_along(alloc, folder, changes)?.finish()?)
+    digests_of(
+        alloc,
+        &runs_along(alloc, landmarks, folder, changes)?.finish()?,
+    )
 }
 
 /// The same, and behind them the digest of a text, which is computed side by side with them.
@@ -190,7 +201,7 @@ pub fn digests_along_and_of(
     ensures { let texts = run_texts End folder.now.files (map change_of changes.now) in
         IfOk result (λ digests. digests.items ≡ map md5 (texts ++ text.now ∷ [])) }
 {
-    let mut runs = runs_along(alloc, folder, changes)?;
-    runs.push(run_of_text(alloc, text)?)?;
+    let mut runs = runs_along(alloc, &Landmarks::none(alloc), folder, changes)?;
+    runs.push(run_of_text(alloc, Midstate::new(), text)?)?;
     digests_of(alloc, &runs.finish()?)
 }

@@ -5,9 +5,11 @@ use Rattle.std.specs.declared.alloc.Global.{Global}
 use Rattle.par2_spec.specs.Folders.{Folder, fingerprint}
 use Rattle.par2_spec.specs.Changes.{Change, effect, effects, folders_after}
 use Rattle.par2_spec.specs.Sessions.{KeptSession, OnlyGrew}
+use Rattle.par2_folder.specs.Landmarks.{AreLandmarksOf}
 use Rattle.par2_journal.specs.Ahead.{AreAlong, IsAhead, next_changes}
 use Rattle.par2_journal.specs.Ready.{next_of}
 use Rattle.par2_journal.specs.declared.ahead.Ahead.{Ahead}
+use Rattle.par2_journal.specs.declared.ahead.Ahead.TheVariants as ahead
 use Rattle.par2_journal.specs.declared.ahead.Next.{Next}
 use Rattle.par2_journal.specs.declared.ahead.Next.TheVariants.{Undo, Redo}
 
@@ -27,13 +29,14 @@ prints_along f cs before each after b es is =
 -- ---- those of the next undo or redo
 
 -- they hang on files and entries alone
-pub ahead_still : (ahead : Option Ahead) (old new : KeptSession) → OnlyGrew old new → IsAhead ahead old → IsAhead ahead new
+pub ahead_still : (kept : Option Ahead) (old new : KeptSession) → OnlyGrew old new → IsAhead kept old → IsAhead kept new
 ahead_still None old new grew h = tt
-ahead_still (Some ahead) old new grew h = by_next ahead.next h
+ahead_still (Some (ahead.Landmarks landmarks)) old new grew h = subst (λ f. AreLandmarksOf f landmarks) (sym grew.files) h
+ahead_still (Some (ahead.Fingerprints next prints)) old new grew h = by_next next h
   where
-    along : {a b : List Change} → a ≡ b → AreAlong ahead.fingerprints old.folder.files a → AreAlong ahead.fingerprints new.folder.files b
-    along same h = subst (λ (p : Folder × List Change). AreAlong ahead.fingerprints p.0 p.1) (λ i. (sym grew.files i, same i)) h
+    along : {a b : List Change} → a ≡ b → AreAlong prints old.folder.files a → AreAlong prints new.folder.files b
+    along same h = subst (λ (p : Folder × List Change). AreAlong prints p.0 p.1) (λ i. (sym grew.files i, same i)) h
 
-    by_next : (next : Next) → AreAlong ahead.fingerprints old.folder.files (next_changes next old) → AreAlong ahead.fingerprints new.folder.files (next_changes next new)
+    by_next : (next : Next) → AreAlong prints old.folder.files (next_changes next old) → AreAlong prints new.folder.files (next_changes next new)
     by_next Undo h = along (ap next_of (sym grew.undos)) h
     by_next Redo h = along (ap next_of (sym grew.redos)) h

@@ -3,8 +3,10 @@ use Rattle.std.specs.Prelude.{◌≡◌, List, map, Option, Some, None}
 use Rattle.par2_spec.specs.Folders.{Folder, fingerprint}
 use Rattle.par2_spec.specs.Changes.{Change, effects, folders_after}
 use Rattle.par2_spec.specs.Sessions.{KeptSession}
+use Rattle.par2_folder.specs.Landmarks.{AreLandmarksOf}
 use Rattle.par2_journal.specs.Ready.{next_of}
 use Rattle.par2_journal.specs.declared.ahead.Ahead.{Ahead}
+use Rattle.par2_journal.specs.declared.ahead.Ahead.TheVariants as ahead
 use Rattle.par2_journal.specs.declared.ahead.Next.{Next}
 use Rattle.par2_journal.specs.declared.ahead.Next.TheVariants.{Undo, Redo}
 use Rattle.par2_journal.specs.declared.spelling.Fingerprints.{Fingerprints}
@@ -20,7 +22,8 @@ abbrev pub next_changes : Next → KeptSession → List Change
 next_changes Undo s = next_of s.undos
 next_changes Redo s = next_of s.redos
 
--- what was computed ahead, if anything, is along the next changes of the session
+-- what was computed ahead, if anything, is along the next changes of the session, or of its folder
 abbrev pub IsAhead : Option Ahead → KeptSession → Type 0
 IsAhead None s = Unit {0}
-IsAhead (Some ahead) s = AreAlong ahead.fingerprints s.folder.files (next_changes ahead.next s)
+IsAhead (Some (ahead.Fingerprints next prints)) s = AreAlong prints s.folder.files (next_changes next s)
+IsAhead (Some (ahead.Landmarks landmarks)) s = AreLandmarksOf s.folder.files landmarks

@@ -1,7 +1,9 @@
-//! Fingerprints that are computed before the undo or redo whose journals name them.
+//! What an opening finds of the fingerprints that the next action's journals name.
 ghost use Rattle.std.specs.Prelude.{◌≡◌, IfSome, Some};
+ghost use Rattle.par2_journal.specs.declared.ahead.Ahead.TheVariants as ahead;
 
 use crate::spelling::Fingerprints;
+use par2_folder::Landmarks;
 
 /// What will be asked of a session next: to take the newest command back, or to do again what was taken back last.
 #[derive(Debug, Clone, Copy, PartialEq, Eq)]
@@ -10,20 +12,31 @@ pub enum Next {
     Redo,
 }
 
-// The fingerprints along the changes of the next undo or redo.
+// What a session keeps of the digests that were taken when it was opened.
 #[derive(Debug, Drop)]
-pub struct Ahead {
-    pub next: Next,
-    pub fingerprints: Fingerprints,
+pub enum Ahead {
+    // The fingerprints along the changes of the next undo or redo.
+    Fingerprints(Next, Fingerprints),
+    // From where the fingerprints along changes set out that are not known yet.
+    Landmarks(Landmarks),
 }
 
 // The fingerprints, where they were computed for this.
 pub(crate) fn fingerprints_for(ahead: Option<Ahead>, next: Next) -> Option<Fingerprints>
-    ensures { IfSome result (λ prints.
-        ahead ≡ Some (record { next = next; fingerprints = prints })) }
+    ensures { IfSome result (λ prints. ahead ≡ Some (ahead.Fingerprints next prints)) }
 {
     match ahead {
-        Some(ahead) if ahead.next == next => Some(ahead.fingerprints),
+        Some(Ahead::Fingerprints(of, fingerprints)) => (of == next).then_some(fingerprints),
+        _ => None,
+    }
+}
+
+// The landmarks, where there are any.
+pub(crate) fn landmarks_in(ahead: &Option<Ahead>) -> Option<&Landmarks>
+    ensures { IfSome result (λ marks. ahead.now ≡ Some (ahead.Landmarks marks.now)) }
+{
+    match ahead {
+        Some(Ahead::Landmarks(landmarks)) => Some(landmarks),
         _ => None,
     }
 }

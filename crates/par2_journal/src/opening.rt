@@ -242,7 +242,7 @@ fn unless_changed(
         × IsFalse (bytes_eq (fingerprint session.folder.files) wanted))) }
     ensures files { IfErr result (λ e. e.1.files ≡ session.folder.files) }
 {
-    let print = match session.folder().fingerprint(alloc) {
+    let print = match session.fingerprint(alloc) {
         Ok(print) => print,
         Err(AllocError) => return Err((JournalFault::Memory, session.into_folder())),
     };

@@ -1,9 +1,9 @@
 //! One folder, the changes that lead back, and those that lead forward again.
-use crate::ahead::{Ahead, fingerprints_for};
+use crate::ahead::{Ahead, fingerprints_for, landmarks_in};
 use crate::preparation::Task;
 use crate::spelling::{Fingerprints, spell_command, spell_entry, spell_settled};
 use crate::{Changes, Journals, Next, Prepared, Steps};
-use par2_folder::{Change, Folder};
+use par2_folder::{Change, Folder, survey_folder};
 use std::alloc::{AllocError, Global};
 use std::marker::Model;
 
@@ -23,8 +23,8 @@ pub struct Digests {
 }
 
 /// A session on a folder: the folder, and a list of entries with a cursor. The entries before it are as undos apply
-/// them, those from it on as redos do. Where an undo or redo was announced, the fingerprints along its changes stand
-/// ready.
+/// them, those from it on as redos do. What its opening found of the folder's fingerprints stands ready for the next
+/// journals.
 #[derive(Debug, Drop)]
 pub struct Session {
     folder: Folder,
@@ -156,12 +156,20 @@ impl Session {
         Ok(())
     }
 
+    // The folder's fingerprint.
+    pub(crate) fn fingerprint(&self, alloc: Global) -> Result<[u8; 16], AllocError>
+        ensures { IfOk result (λ print. print ≡ fingerprint self.now.folder.files) }
+    {
+        let landmarks = landmarks_in(&self.ahead);
+        Ok(Fingerprints::of(alloc, landmarks, &self.folder, &[])?.before)
+    }
+
     /// The bytes of the session's journal. Nothing but the result is made of the bytes of its changes.
     pub fn encode(&self, alloc: Global) -> Result<Vec<u8>, AllocError>
         ensures { IfOk result
             (λ bytes. Spells bytes.items (settled_journal Two (session_of_kept self.now))) }
     {
-        let fingerprint = self.folder.fingerprint(alloc)?;
+        let fingerprint = self.fingerprint(alloc)?;
         spell_settled(alloc, &self.entries, self.cursor, fingerprint)
     }
 
@@ -222,7 +230,7 @@ impl Session {
     }
 
     // The digests of the folder and of a text, side by side. Where an undo or redo is next, the fingerprints along its
-    // changes, side by side with these, take little longer, and are kept for its journals.
+    // changes, side by side with these, take little longer, and are kept for its journals; else landmarks are kept.
     pub(crate) fn digests_before(
         &mut self,
         alloc: Global,
@@ -235,14 +243,15 @@ impl Session {
         ensures text { IfOk result (λ found. found.text ≡ md5 text.now) }
     {
         let Some(next) = next else {
-            let (fingerprints, text) = Fingerprints::and_digest(alloc, &self.folder, &[], text)?;
-            let folder = fingerprints.before;
+            let found = survey_folder(alloc, &self.folder, text)?;
+            let (folder, text) = (found.fingerprint, found.digest);
+            self.ahead = Some(Ahead::Landmarks(found.landmarks));
             return Ok(Digests { folder, text });
         };
         let changes = self.next_changes(next);
         let (fingerprints, text) = Fingerprints::and_digest(alloc, self.folder(), changes, text)?;
         let folder = fingerprints.before;
-        self.ahead = Some(Ahead { next, fingerprints });
+        self.ahead = Some(Ahead::Fingerprints(next, fingerprints));
         Ok(Digests { folder, text })
     }
 
@@ -279,7 +288,8 @@ impl Session {
         match &mut prepared.task {
             Task::Change(changes) => {
                 let changes = changes.as_mut_slice();
-                spell_command(alloc, &self.entries, cursor, folder, changes)
+                let landmarks = landmarks_in(&self.ahead);
+                spell_command(alloc, landmarks, &self.entries, cursor, folder, changes)
             }
             Task::Undo => {
                 let at = cursor - 1;

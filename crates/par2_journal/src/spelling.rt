@@ -6,13 +6,17 @@ ghost use Rattle.par2_spec.specs.Changes.{effects, folders_after, state_after_al
 ghost use Rattle.par2_spec.specs.Folders.{Folder as Files, fingerprint};
 ghost use Rattle.par2_spec.specs.Journals.{Spells};
 ghost use Rattle.par2_spec.specs.declared.Version.TheVariants.{Two};
+ghost use Rattle.par2_folder.specs.Landmarks.{AreLandmarksOf};
 ghost use Rattle.par2_journal_bytes.specs.Fronts.{Begins};
 ghost use Rattle.par2_journal_bytes.specs.Views.{changes_in, lent_entries_of};
 ghost use Rattle.par2_journal.specs.Ahead.{AreAlong};
 ghost use Rattle.par2_journal.specs.Spelling.{Add, SpellsWhere, CompletesHalfway, entries_with, halfway_with, settled_with};
 
 use crate::Changes;
-use par2_folder::{Change, Folder, fingerprints_along, fingerprints_along_and_digest};
+use par2_folder::{
+    Change, Folder, Landmarks, fingerprints_along, fingerprints_along_and_digest,
+    fingerprints_along_from,
+};
 use par2_journal_bytes::{HalfwayPartView, JournalView, Version, begin, encode, finish_both};
 use std::alloc::{AllocError, Global};
 
@@ -48,17 +52,24 @@ impl Fingerprints {
         }
     }
 
-    // The fingerprint before the changes, which aren't applied, and after each.
+    // The fingerprint before the changes, which aren't applied, and after each; from landmarks, where there are any.
     pub(crate) fn of(
         alloc: Global,
+        landmarks: Option<&Landmarks>,
         folder: &Folder,
         changes: &[Change],
     ) -> Result<Fingerprints, AllocError>
-        requires { IsTrue (takes_all folder.now (changes_in changes.now)) }
+        requires landmarks { IfSome landmarks
+            (λ marks. AreLandmarksOf folder.now.files marks.now) }
+        requires applies { IsTrue (takes_all folder.now (changes_in changes.now)) }
         ensures { IfOk result (λ prints.
             AreAlong prints folder.now.files (changes_in changes.now)) }
     {
-        Ok(Fingerprints::of_list(fingerprints_along(alloc, folder, changes)?))
+        let list = match landmarks {
+            Some(landmarks) => fingerprints_along_from(alloc, landmarks, folder, changes)?,
+            None => fingerprints_along(alloc, folder, changes)?,
+        };
+        Ok(Fingerprints::of_list(list))
     }
 
     // The same, and the digest of a text, side by side with them.
@@ -92,7 +103,7 @@ impl Fingerprints {
     {
         match known {
             Some(fingerprints) => Ok(fingerprints),
-            None => Fingerprints::of(alloc, folder, changes),
+            None => Fingerprints::of(alloc, None, folder, changes),
         }
     }
 }
@@ -111,7 +122,7 @@ pub(crate) fn pass_through(
     ensures fingerprints { IfOk result (λ list. list.items
         ≡ map fingerprint (folders_after folder.old.files (changes_in changes.old))) }
 {
-    let fingerprints = Fingerprints::of(alloc, folder, changes);
+    let fingerprints = Fingerprints::of(alloc, None, folder, changes);
     folder.apply_all(changes);
     Ok(fingerprints?.after_each)
 }
@@ -281,11 +292,14 @@ fn spell_turned(
 /// them is copied but into the journals.
 pub(crate) fn spell_command(
     alloc: Global,
+    landmarks: Option<&Landmarks>,
     entries: &[Changes],
     cursor: usize,
     folder: &mut Folder,
     changes: &mut [Change],
 ) -> Result<Journals, AllocError>
+    requires landmarks { IfSome landmarks
+        (λ marks. AreLandmarksOf folder.old.files marks.now) }
     requires applies { IsTrue (takes_all folder.old (changes_in changes.old)) }
     requires cursor { cursor ≤ length entries.now }
     ensures folder { folder.new ≡ folder.old }
@@ -298,7 +312,7 @@ pub(crate) fn spell_command(
         Spells journals.after.items (settled_with (fingerprint (effects folder.old.files given))
         (entries_with Add cursor entries.now (way_back folder.old.files given)))) }
 {
-    let fingerprints = Fingerprints::of(alloc, folder, changes)?;
+    let fingerprints = Fingerprints::of(alloc, landmarks, folder, changes)?;
     let front = front(alloc, entries, cursor, fingerprints.before)?;
     folder.apply_all(changes);
     let answer = spell_made(alloc, front, &fingerprints, entries, cursor, changes);

@@ -1,11 +1,11 @@
-use Rattle.std.proofs.Common.{[], ◌∙◌, ap, sym}
-use Rattle.md5.specs.Md5.{md5}
-use Rattle.par2_folder.specs.Below.{fingerprint_input}
-use Rattle.par2_folder.proofs.SortedFiles.{fingerprint_of}
+use Rattle.std.proofs.Common.{[], ◌∙◌, rules}
+use Rattle.par2_folder.proofs.Walks.{all_fingerprints, none_applicable}
 use Rattle.par2_folder.proofs.folder.Folder.fingerprint.Goals as goal
+
+pub digests_along-requires-clause-applicable : goal.digests_along-requires-clause-applicable
+digests_along-requires-clause-applicable c = none_applicable c.args.self.now.files
 
 pub returns : goal.returns
 returns c =
-    rw (← c.self.view_is) (c.finalize.ensures _ (c.hash_files.ensures [] c.new-hasher.ensures)
-    ∙ ap (λ files. md5 (fingerprint_input files)) c.deref.ensures.value
-    ∙ sym (fingerprint_of c.self.inside.files.items c.self.invariant.sorted))
+    let all = c.in_ok-digests_along.ensures ∙ all_fingerprints c.args.self.now.files [] in
+    search rules

@@ -1,0 +1,40 @@
+-- A survey on its way.
+use Rattle.std.proofs.Common.{◌≡◌, ℕ, zero, suc, ◌-◌, ◌<◌, ◌≤◌, List, [], ◌∷◌, ◌++◌, length, take, drop, get_or, sym, ap, subst, ◌∙◌, arith}
+use Rattle.std.specs.FinMap.{entries}
+use Rattle.par2_digests.specs.Messages.{HasAbsorbed, message_of}
+use Rattle.par2_digests.specs.declared.midstate.Midstate.{Midstate}
+use Rattle.par2_digests.specs.declared.pending.Pending.{Pending}
+use Rattle.par2_spec.specs.Folders.{Folder}
+use Rattle.par2_folder.specs.Below.{fingerprint_input, folder_below}
+use Rattle.par2_folder.specs.Landmarks.{AreLandmarksOf, IsLandmarkOf}
+use Rattle.par2_folder.specs.Runs.{Reaches}
+use Rattle.par2_folder.specs.declared.landmarks.Landmark.{Landmark}
+use Rattle.par2_folder.specs.declared.landmarks.Landmarks.{Landmarks}
+use Rattle.par2_folder.proofs.Borders.{taken_on}
+
+-- the state behind the parts of a pending one has absorbed what that reaches
+pub behind : (pending : Pending) (text : List ℕ) (state : Midstate) → Reaches pending text
+    → ((m : List ℕ) → HasAbsorbed pending.state m → HasAbsorbed state (m ++ message_of pending.parts.items)) → HasAbsorbed state text
+behind pending text state reached held = subst (HasAbsorbed state) reached.1.1 (held reached.0 reached.1.0)
+
+-- the bytes that are taken next
+pub moved : (text : List ℕ) (from to : ℕ) (bytes : List ℕ) (state : Midstate) → from ≤ to → bytes ≡ take (to - from) (drop from text)
+    → HasAbsorbed state (take from text ++ bytes) → HasAbsorbed state (take to text)
+moved text from to bytes state le is held = subst (HasAbsorbed state) (ap (λ b. take from text ++ b) is ∙ taken_on text from to le) held
+
+-- one more landmark
+one_more : (folder : Folder) (marks : List Landmark) (mark : Landmark) → ((i : ℕ) (none : Landmark) → i < length marks → IsLandmarkOf folder (get_or marks i none)) → IsLandmarkOf folder mark
+    → (i : ℕ) (none : Landmark) → i < length (marks ++ mark ∷ []) → IsLandmarkOf folder (get_or (marks ++ mark ∷ []) i none)
+one_more folder [] mark each one zero none lt = one
+one_more folder [] mark each one (suc i) none lt = absurd (omega (arith, lt))
+one_more folder (m ∷ marks) mark each one zero none lt = each 0 none (omega arith)
+one_more folder (m ∷ marks) mark each one (suc i) none lt = one_more folder marks mark (λ j d l. each (suc j) d (omega (arith, l))) one i none (omega (arith, lt))
+
+pub with_mark : (folder : Folder) (old new : Landmarks) (mark : Landmark) → new.list.items ≡ old.list.items ++ mark ∷ [] → AreLandmarksOf folder old → IsLandmarkOf folder mark → AreLandmarksOf folder new
+with_mark folder old new mark pushed are is = λ i none lt.
+    subst (λ l. IsLandmarkOf folder (get_or l i none)) (sym pushed) (one_more folder old.list.items mark are is i none (subst (λ l. i < length l) pushed lt))
+
+-- the state at a border at a name is a landmark
+pub is_mark : (name copy : List ℕ) (here folder : Folder) (state : Midstate) → copy ≡ name → here ≡ folder → HasAbsorbed state (fingerprint_input (entries (folder_below name here)))
+    → IsLandmarkOf folder (record { name = copy; state = state })
+is_mark name copy here folder state copied is held = subst (λ (p : List ℕ × Folder). HasAbsorbed state (fingerprint_input (entries (folder_below p.0 p.1)))) (λ i. (sym copied i, is i)) held

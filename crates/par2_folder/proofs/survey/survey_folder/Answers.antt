@@ -1,0 +1,44 @@
+use Rattle.std.proofs.Common.{◌≡◌, ◌-◌, ◌++◌, length, take, drop, ap, arith, subst, sym, ◌∙◌}
+use Rattle.std.proofs.lemmas.List.{take_all}
+use Rattle.md5.specs.Md5.{md5}
+use Rattle.par2_digests.specs.Messages.{HasAbsorbed}
+use Rattle.par2_spec.specs.Folders.{fingerprint}
+use Rattle.par2_folder.specs.Snapshots.{folder_in}
+use Rattle.par2_folder.proofs.Borders.{no_text, taken_on}
+use Rattle.par2_folder.proofs.Surveys.{is_mark, with_mark}
+use Rattle.par2_folder.proofs.Walks.{fingerprint_is}
+use Rattle.par2_folder.proofs.survey.survey_folder.Goals as goal
+use Rattle.par2_folder.proofs.survey.survey_folder.Goals.{then-is_further+in_ok-progress+in_ok-push, else-is_further}
+
+pub loop-name-init : goal.loop-name-init
+loop-name-init c = (
+  record {
+    absorbed = subst (HasAbsorbed c.new.result) (sym (no_text (folder_in c.in_ok-snapshot.snapshot))) c.new.ensures;
+    within = omega arith;
+    beside = c.new-2.ensures;
+  },
+  c.none-landmarks.ensures c.args.folder.now.files,
+)
+
+pub loop-name-preserved : goal.loop-name-preserved
+loop-name-preserved c =
+    let walk = c.loop-name in
+    elim c.if-is_further.branch [
+      | then-is_further+in_ok-progress+in_ok-push w ↦
+          let there = w.in_ok-progress.ensures.there in
+          let mark = is_mark c.name-item.result w.copied.result _ _ _ w.copied.ensures c.in_ok-snapshot.ensures.folder there.absorbed in
+          rw (w.landmarks-is, w.border-is, w.progress-is) (there, with_mark c.args.folder.now.files walk.landmarks w.push.new.self _ w.in_ok-push.ensures walk.invariant.1 mark)
+      | else-is_further w ↦ rw (w.landmarks-is, w.border-is, w.progress-is) walk.invariant
+    ]
+
+pub returns-clause-fingerprint : goal.returns-clause-fingerprint
+returns-clause-fingerprint c =
+    c.digest.ensures _ c.in_ok-end.ensures.there.absorbed ∙ fingerprint_is (folder_in c.in_ok-snapshot.snapshot) ∙ ap fingerprint c.in_ok-snapshot.ensures.folder
+
+pub returns-clause-digest : goal.returns-clause-digest
+returns-clause-digest c =
+    let end = c.in_ok-end.end in
+    let text = c.args.text.now in
+    let beside : HasAbsorbed end.text (take end.taken text) = c.in_ok-end.ensures.there.beside in
+    let digest : c.digest_behind.result ≡ md5 (take end.taken text ++ take (length text - end.taken) (drop end.taken text)) = c.digest_behind.ensures _ beside in
+    digest ∙ ap md5 (taken_on text end.taken (length text) c.in_ok-end.ensures.there.within ∙ take_all (length text) text (omega arith))

@@ -1,0 +1,72 @@
+//! States within a folder's fingerprint, from which other fingerprints set out.
+ghost use Rattle.std.specs.Prelude.{◌≡◌, ◌++◌, ◌∷◌, [], map, OnOk, IsTrue};
+ghost use Rattle.par2_spec.specs.Folders.{Folder};
+ghost use Rattle.par2_folder.specs.Borders.{run_texts};
+ghost use Rattle.par2_folder.specs.Landmarks.{AreBehind, AreLandmarksOf};
+ghost use Rattle.par2_folder.specs.Runs.{HaveAbsorbed};
+ghost use Rattle.par2_folder.specs.Views.{change_of};
+
+use crate::border::{Border, touches};
+use crate::{Change, Name};
+use par2_digests::Midstate;
+use std::alloc::{AllocError, Global};
+
+/// The state behind the files before a name.
+#[derive(Debug, Drop)]
+pub struct Landmark {
+    pub name: Name,
+    pub state: Midstate,
+}
+
+/// Landmarks within a folder's fingerprint, in the order of their names. A fingerprint along changes sets out from the
+/// last one that the changes leave as it is.
+#[derive(Debug, Drop)]
+pub struct Landmarks {
+    list: Vec<Landmark>,
+}
+
+// Whether no change touches a name before the border.
+fn are_behind(border: &Border, changes: &[Change]) -> bool
+    ensures { IsTrue result → AreBehind border.now changes.now }
+{
+    for change in changes {
+        if touches(border, change) {
+            return false;
+        }
+    }
+    true
+}
+
+impl Landmarks {
+    pub fn none(alloc: Global) -> Landmarks
+        ensures { (folder : Folder) → AreLandmarksOf folder result }
+    {
+        Landmarks {
+            list: Vec::new(alloc),
+        }
+    }
+
+    /// Adds a landmark behind the others.
+    pub fn push(&mut self, mark: Landmark) -> Result<(), AllocError>
+        ensures { OnOk result (self.new.list.items ≡ self.old.list.items ++ mark ∷ []) }
+    {
+        self.list.push(mark)?;
+        Ok(())
+    }
+
+    /// Where fingerprints along the changes set out: a border that no change lies before, and the state there.
+    pub fn start(&self, changes: &[Change]) -> (Border<'_>, Midstate)
+        ensures { (folder : Folder) → AreLandmarksOf folder self.now
+            → HaveAbsorbed (result.1 ∷ []) (run_texts result.0 folder (map change_of changes.now)) }
+    {
+        let mut start = (Border::Beginning, Midstate::new());
+        for mark in &self.list {
+            let border = Border::At(&mark.name);
+            if !are_behind(&border, changes) {
+                return start;
+            }
+            start = (border, mark.state);
+        }
+        start
+    }
+}

@@ -1,0 +1,136 @@
+//! A folder's fingerprint and a text's digest in one pass, with landmarks on the way.
+ghost use Rattle.std.specs.Prelude.{◌≡◌, ◌++◌, ℕ, List, IfOk};
+ghost use Rattle.md5.specs.Md5.{md5};
+ghost use Rattle.par2_digests.specs.Messages.{HasAbsorbed};
+ghost use Rattle.par2_spec.specs.Folders.{fingerprint};
+ghost use Rattle.par2_folder.specs.Borders.{IsFurther};
+ghost use Rattle.par2_folder.specs.Landmarks.{AreLandmarksOf};
+ghost use Rattle.par2_folder.specs.Snapshots.{files_in, folder_in};
+ghost use Rattle.par2_folder.specs.Sorting.{IsKept};
+ghost use Rattle.par2_folder.specs.Surveys.{IsAt};
+
+use crate::border::{Border, is_further};
+use crate::landmarks::{Landmark, Landmarks};
+use crate::snapshot::Snapshot;
+use crate::walk::{run_of, run_of_text};
+use crate::{Folder, Name};
+use par2_digests::{Midstate, Part, absorb_each};
+use std::alloc::{AllocError, Global};
+
+// The most landmarks: each is a name and a state, and where it stands the two messages are brought to the same block.
+const MOST_LANDMARKS: usize = 64;
+
+/// What one pass over a folder and a text finds.
+#[derive(Debug, Drop)]
+pub struct Survey {
+    /// What tells the folder apart: see [`Folder::fingerprint`].
+    pub fingerprint: [u8; 16],
+    /// The MD5 digest of the text.
+    pub digest: [u8; 16],
+    pub landmarks: Landmarks,
+}
+
+// How far the pass is.
+#[derive(Clone, Copy, Drop)]
+struct Progress {
+    folder: Midstate,
+    text: Midstate,
+    // How many bytes of the text are absorbed.
+    taken: usize,
+}
+
+// The names where landmarks stand: of the folder's names, in order, the first and others as far apart as they are.
+fn landmark_names(alloc: Global, snapshot: &Snapshot) -> Result<Vec<Name>, AllocError> {
+    let mut names = Vec::new(alloc);
+    let step = snapshot.files.len().div_ceil(MOST_LANDMARKS).max(1);
+    for file in snapshot.files.iter().step_by(step) {
+        names.push(file.name.copied())?;
+    }
+    Ok(names)
+}
+
+// How many bytes the parts lend, as far as a number tells.
+fn bytes_lent(parts: &[Part]) -> usize {
+    let mut count: usize = 0;
+    for part in parts {
+        if let Part::Bytes(bytes) = part {
+            count = count.saturating_add(bytes.len());
+        }
+    }
+    count
+}
+
+// Goes on to the next border, and in the text by as many bytes as the files on the way have.
+fn go_on<'a>(
+    alloc: Global,
+    snapshot: &Snapshot<'a>,
+    text: &'a [u8],
+    progress: Progress,
+    from: &Border,
+    to: &Border,
+) -> Result<Progress, AllocError>
+    requires kept { IsKept (files_in snapshot.now) }
+    requires further { IsFurther from.now to.now }
+    requires here { IsAt from.now (folder_in snapshot.now) text.now progress }
+    ensures there { IfOk result (IsAt to.now (folder_in snapshot.now) text.now) }
+{
+    let files = run_of(alloc, progress.folder, snapshot, from, to)?;
+    let end = text
+        .len()
+        .min(progress.taken.saturating_add(bytes_lent(&files.parts)));
+    let bytes = run_of_text(alloc, progress.text, &text[progress.taken..end])?;
+    let states = absorb_each(&[files, bytes]);
+    Ok(Progress {
+        folder: states[0],
+        text: states[1],
+        taken: end,
+    })
+}
+
+// The digest of what the state has absorbed and the bytes behind it.
+fn digest_behind(mut state: Midstate, bytes: &[u8]) -> [u8; 16]
+    ensures { (m : List ℕ) → HasAbsorbed state m → result ≡ md5 (m ++ bytes.now) }
+{
+    state.absorb(&[Part::Bytes(bytes)]);
+    state.digest()
+}
+
+/// The folder's fingerprint and the digest of a text, which are computed side by side, and landmarks of the folder.
+pub fn survey_folder<'a>(
+    alloc: Global,
+    folder: &'a Folder,
+    text: &'a [u8],
+) -> Result<Survey, AllocError>
+    ensures fingerprint { IfOk result
+        (λ found. found.fingerprint ≡ fingerprint folder.now.files) }
+    ensures digest { IfOk result (λ found. found.digest ≡ md5 text.now) }
+    ensures landmarks { IfOk result
+        (λ found. AreLandmarksOf folder.now.files found.landmarks) }
+{
+    let snapshot = folder.snapshot(alloc)?;
+    let names = landmark_names(alloc, &snapshot)?;
+    let mut landmarks = Landmarks::none(alloc);
+    let mut border = Border::Beginning;
+    let mut progress = Progress {
+        folder: Midstate::new(),
+        text: Midstate::new(),
+        taken: 0,
+    };
+    for name in &names {
+        if is_further(&border, name) {
+            let next = Border::At(name);
+            progress = go_on(alloc, &snapshot, text, progress, &border, &next)?;
+            landmarks.push(Landmark {
+                name: name.copied(),
+                state: progress.folder,
+            })?;
+            border = next;
+        }
+    }
+    let end = go_on(alloc, &snapshot, text, progress, &border, &Border::End)?;
+    Ok(Survey {
+        fingerprint: end.folder.digest(),
+        digest: digest_behind(end.text, &text[end.taken..]),
+        landmarks,
+    })
+}
