@@ -22,20 +22,20 @@ pub enum Ahead {
 }
 
 // The fingerprints, where they were computed for this.
-pub(crate) fn fingerprints_for(ahead: Option<Ahead>, next: Next) -> Option<Fingerprints>
-    ensures { IfSome result (λ prints. ahead ≡ Some (ahead.Fingerprints next prints)) }
+pub(crate) fn fingerprints_for(found: Option<Ahead>, next: Next) -> Option<Fingerprints>
+    ensures { IfSome result (λ prints. found ≡ Some (ahead.Fingerprints next prints)) }
 {
-    match ahead {
+    match found {
         Some(Ahead::Fingerprints(of, fingerprints)) => (of == next).then_some(fingerprints),
         _ => None,
     }
 }
 
 // The landmarks, where there are any.
-pub(crate) fn landmarks_in(ahead: &Option<Ahead>) -> Option<&Landmarks>
-    ensures { IfSome result (λ marks. ahead.now ≡ Some (ahead.Landmarks marks.now)) }
+pub(crate) fn landmarks_in(found: &Option<Ahead>) -> Option<&Landmarks>
+    ensures { IfSome result (λ marks. found.now ≡ Some (ahead.Landmarks marks.now)) }
 {
-    match ahead {
+    match found {
         Some(Ahead::Landmarks(landmarks)) => Some(landmarks),
         _ => None,
     }

@@ -11,7 +11,7 @@ ghost use Rattle.par2_tool.specs.Opening.{started_of, CountsFailures, IsOpened, 
 use crate::writing::write_down;
 use par2_folder::{Folder, FolderStore, ReadFault, read_folder};
 use par2_journal::{Halfway, Journals, Next, Opened, Session, opens_as_is};
-use par2_spec::{Action, Command, JournalFault};
+use par2_spec::{Action, Command, Failure, Fault, JournalFault};
 use std::alloc::{AllocError, Global};
 
 /// A store that was opened.
@@ -53,6 +53,22 @@ impl From<ReadFault> for OpenFault {
         match fault {
             ReadFault::Store => OpenFault::Store,
             ReadFault::Memory => OpenFault::Memory,
+        }
+    }
+}
+
+impl From<OpenFault> for Failure {
+    ghost use Rattle.std.specs.Prelude.{◌≡◌};
+    ghost use Rattle.par2_tool.specs.Refusals.{unopened_as};
+
+    ghost from_gives = { λ fault failure. failure ≡ unopened_as fault };
+
+    fn from(fault: OpenFault) -> Self {
+        match fault {
+            OpenFault::Store => Failure::Store,
+            OpenFault::Memory => Failure::Refused(Fault::Memory),
+            OpenFault::JournalInvalid => Failure::JournalInvalid,
+            OpenFault::FolderChanged => Failure::FolderChanged,
         }
     }
 }

@@ -12,7 +12,7 @@ ghost use Rattle.par2_tool.specs.Refusals.{IsRefused, IsSession};
 use crate::writing::write_down;
 use par2_folder::FolderStore;
 use par2_journal::{Report, Session, SessionFault, Steps, ready_changes_apply};
-use par2_spec::{Command, Fault};
+use par2_spec::{Command, Failure, Fault};
 use std::alloc::{AllocError, Global};
 
 /// What an accepted command answers.
@@ -41,6 +41,22 @@ impl From<AllocError> for PerformFault {
 
     fn from(_: AllocError) -> Self {
         PerformFault::Session(SessionFault::Plan(Fault::Memory))
+    }
+}
+
+impl From<PerformFault> for Failure {
+    ghost use Rattle.std.specs.Prelude.{◌≡◌};
+    ghost use Rattle.par2_tool.specs.Refusals.{failure_for};
+
+    ghost from_gives = { λ fault failure. failure ≡ failure_for fault };
+
+    fn from(fault: PerformFault) -> Self {
+        match fault {
+            PerformFault::Session(SessionFault::Plan(fault)) => Failure::Refused(fault),
+            PerformFault::Session(SessionFault::NothingToUndo) => Failure::NothingToUndo,
+            PerformFault::Session(SessionFault::NothingToRedo) => Failure::NothingToRedo,
+            PerformFault::Store => Failure::Store,
+        }
     }
 }
 

@@ -2,15 +2,14 @@
 ghost use Rattle.std.specs.Prelude.{◌≡◌, ◌≤◌, Bool, IfOk, IfErr, OnOk, IsTrue, map, string_bytes};
 ghost use Rattle.par2_spec.specs.Sessions.{Session};
 ghost use Rattle.par2_spec.specs.Views.{command_of};
-ghost use Rattle.par2_tool.specs.Refusals.{failure_for, unopened_as, unread_as};
+ghost use Rattle.par2_tool.specs.Refusals.{unread_as};
 ghost use Rattle.par2_tool.specs.Performing.{outcome_of, IsAnswer};
 ghost use Rattle.par2_tool.specs.Telling.{Telling, IsBack, IsCause, IsDone, IsFailed, IsTold, Leaves, SameOutput, IsShown};
 
-use crate::opening::{OpenFault, Started, open_for};
-use crate::performing::{Outcome, PerformFault, perform};
+use crate::opening::{Started, open_for};
+use crate::performing::{Outcome, perform};
 use crate::printing::{fail, tell};
 use par2_folder::FolderStore;
-use par2_journal::SessionFault;
 use par2_printing::Printer;
 use par2_spec::{Action, Command, Failure, Fault};
 use par2_words::{WordsFault, read_words};
@@ -31,30 +30,6 @@ fn unread(fault: WordsFault) -> Failure
     match fault {
         WordsFault::Arguments => Failure::Arguments,
         WordsFault::Memory => Failure::Refused(Fault::Memory),
-    }
-}
-
-// Why a command failed.
-fn failure_of(fault: PerformFault) -> Failure
-    ensures { result ≡ failure_for fault }
-{
-    match fault {
-        PerformFault::Session(SessionFault::Plan(fault)) => Failure::Refused(fault),
-        PerformFault::Session(SessionFault::NothingToUndo) => Failure::NothingToUndo,
-        PerformFault::Session(SessionFault::NothingToRedo) => Failure::NothingToRedo,
-        PerformFault::Store => Failure::Store,
-    }
-}
-
-// Why a store isn't opened.
-fn unopened(fault: OpenFault) -> Failure
-    ensures { result ≡ unopened_as fault }
-{
-    match fault {
-        OpenFault::Store => Failure::Store,
-        OpenFault::Memory => Failure::Refused(Fault::Memory),
-        OpenFault::JournalInvalid => Failure::JournalInvalid,
-        OpenFault::FolderChanged => Failure::FolderChanged,
     }
 }
 
@@ -91,17 +66,12 @@ fn carry_out<S: FolderStore>(
     let Started {
         mut session,
         dropped,
-    } = match open_for(alloc, store, command) {
-        Ok(started) => started,
-        Err(fault) => return Err(unopened(fault)),
-    };
+    } = open_for(alloc, store, command)?;
     if dropped && is_back(command) {
         return Err(Failure::FolderChanged);
     }
-    match perform(alloc, store, &mut session, command) {
-        Ok(outcome) => Ok(Accepted { outcome, dropped }),
-        Err(fault) => Err(failure_of(fault)),
-    }
+    let outcome = perform(alloc, store, &mut session, command)?;
+    Ok(Accepted { outcome, dropped })
 }
 
 /// A run of the program: the words are read, the store is opened, what they ask for is performed on it, and what

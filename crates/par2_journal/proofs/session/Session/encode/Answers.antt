@@ -1,7 +1,8 @@
-use Rattle.std.proofs.Common.{◌-◌, ap, subst, ◌∙◌, vec_len, vec_capacity}
+use Rattle.std.proofs.Common.{◌-◌, ap, subst, sym, ◌∙◌, vec_len, vec_capacity}
 use Rattle.std.specs.Prelude.{IfOk}
+use Rattle.par2_spec.specs.Folders.{fingerprint}
 use Rattle.par2_spec.specs.Journals.{Journal, Spells}
-use Rattle.par2_spec.specs.Sessions.{session_of_kept}
+use Rattle.par2_spec.specs.Sessions.{KeptSession, session_of_kept}
 use Rattle.par2_spec.specs.Opening.{settled_journal}
 use Rattle.par2_spec.specs.declared.Version.TheVariants.{Two}
 use Rattle.par2_journal.specs.Spelling.{settled_with}
@@ -10,9 +11,10 @@ use Rattle.par2_journal.proofs.session.Session.encode.Goals as goal
 
 pub returns : goal.returns
 returns c =
+    let print = c.in_ok-fingerprint.ensures ∙ ap (λ (s : KeptSession). fingerprint s.folder.files) (sym c.self.view_is) in
     let room = vec_capacity c.self.inside.entries - vec_len c.self.inside.entries in
     subst (λ (j : Journal). IfOk c.spell_settled.result (λ bytes. Spells bytes.items j))
-    ((λ i. settled_with (c.in_ok-fingerprint.ensures i) (c.deref.ensures.value i, c.self.inside.cursor))
+    ((λ i. settled_with (print i) (c.deref.ensures.value i, c.self.inside.cursor))
     ∙ settled_at c.self.inside.entries.items c.self.inside.cursor c.self.invariant.within c.self.inside.folder room
     ∙ ap (λ s. settled_journal Two (session_of_kept s)) c.self.view_is)
     c.spell_settled.ensures
