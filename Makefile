@@ -1,5 +1,6 @@
 # make demo     builds the program and protects a real file in a fresh folder
 # make test     proves everything from nothing, tries the must-fail edits, runs tests and programs
+# make edits    shows that each function that a must-fail edit changes is refused by itself, which takes half an hour
 # make bench    measures the kernels and whole commands, as ratios within one run
 # make install  puts the program at PREFIX/bin/par2, and its page where man finds it
 # install and bench take CPU=x86-64-v3, for machines that have AVX2; without it the program runs on all that have SSE 4.2.
@@ -8,7 +9,7 @@ PREFIX ?= $(HOME)/.local
 CPU ?= x86-64-v2
 PROGRAM = crates/par2/out/par2$(if $(filter-out x86-64-v2,$(CPU)),-$(CPU))
 
-.PHONY: build demo test bench install
+.PHONY: build demo test edits bench install
 
 # Proves what the program stands on and builds it, unless it was built from the same sources.
 build:
@@ -19,6 +20,9 @@ demo: build
 
 test:
 	sh scripts/test
+
+edits: build
+	python3 scripts/each_change --together
 
 bench:
 	sh scripts/bench "$(CPU)"
