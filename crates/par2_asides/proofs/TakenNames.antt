@@ -1,9 +1,9 @@
 -- Names that are taken, and the first number that is free.
 use Rattle.std.proofs.Common.{◌≡◌, ℕ, suc, ◌+◌, ◌-◌, ◌^◌, ◌<◌, ◌≤◌, length, List, [], ◌∷◌, map, refl, sym, ap, subst, ◌∙◌, ◌⊎◌, Bool, true, false, not, cond, ◌||◌, arith, inl, inr, IsTrue, Ok, Err, Result}
-use Rattle.std.specs.Prelude.{find, IfErr, IsOk, Option, Some, unwrap_or}
-use Rattle.std.specs.List.{AllByRecursion, list_all, range_with_len}
+use Rattle.std.specs.Prelude.{find, get_or, IfErr, IsOk, nat_lt, Option, Some, unwrap_or}
+use Rattle.std.specs.List.{AllByRecursion, list_all, list_any, range_with_len}
 use Rattle.std.proofs.lemmas.Bool.{and_from, and_parts, cases_lt, false_from_ne_true, leb-true, lt-ltb, or_from}
-use Rattle.std.proofs.lemmas.List.Folds.{list_all-append}
+use Rattle.std.proofs.lemmas.List.Folds.{list_all-append, list_any_at}
 use Rattle.par2_spec.specs.declared.Fault.{Fault}
 use Rattle.par2_spec.specs.declared.Fault.TheVariants.{Memory, NameTooLong}
 use Rattle.par2_spec.specs.Faults.{fault_where}
@@ -74,9 +74,25 @@ pub passed_on : {X : Type 0} (r : Result X Fault) (fault : Fault) (long : Option
     → (fault ≡ Memory) ⊎ (long ≡ Some fault) → IfErr r (λ f. (f ≡ Memory) ⊎ (long ≡ Some f))
 passed_on r fault long p h = subst (λ x. IfErr x (λ f. (f ≡ Memory) ⊎ (long ≡ Some f))) (sym (p.1 ∙ ap Err p.2)) h
 
+-- what a `?` answers, where a step wants memory
+pub memory_told : {X : Type 0} (r : Result X Fault) (long : Option Fault) → (y : Fault) × (r ≡ Err y) × (y ≡ Memory)
+    → IfErr r (λ f. (f ≡ Memory) ⊎ (long ≡ Some f))
+memory_told r long p = subst (λ x. IfErr x (λ f. (f ≡ Memory) ⊎ (long ≡ Some f))) (sym p.1) (inl p.2)
+
 -- a name whose aside is too long
 pub too_long : (folder : Folder) (set : ParSet) (name : List ℕ) → 255 < length (aside folder set name) → long_aside folder set (name ∷ []) ≡ Some NameTooLong
 too_long folder set name h = ap (λ b. fault_where (b || false) NameTooLong) (lt-ltb 255 (length (aside folder set name)) h)
+
+settled : (one all : Bool) (fault : Fault) → (one ≡ true → all ≡ true) → fault_where (one || false) NameTooLong ≡ Some fault → fault_where all NameTooLong ≡ Some fault
+settled true all fault every h = ap (λ b. fault_where b NameTooLong) (every refl) ∙ h
+settled false all fault every h = cc
+
+-- one such name settles what is said of all
+pub one_too_long : (folder : Folder) (set : ParSet) (names : List (List ℕ)) (i : ℕ) (name : List ℕ) (fault : Fault) → i < length names → name ≡ get_or names i name
+    → long_aside folder set (name ∷ []) ≡ Some fault → long_aside folder set names ≡ Some fault
+one_too_long folder set names i name fault low is h =
+    let test : List ℕ → Bool = λ other. nat_lt 255 (length (aside folder set other)) in
+    settled (test name) (list_any test names) fault (λ long. list_any_at test names i name low (ap test (sym is) ∙ long)) h
 
 -- what is too long is no name
 pub long_is_no_name : (text : List ℕ) → 255 < length text → is_name text ≡ false
