@@ -1,31 +1,15 @@
 ghost use Rattle.std.specs.Prelude.{◌≡◌, ◌≤◌, ◌%◌, length, IfOk};
 
+use crate::plain_field::product;
 use par2_gf16::{Columns, Factor, Gf};
 use std::alloc::{AllocError, Global};
-
-// the product of two elements, bit by bit
-fn plain_mul(a: u16, b: u16) -> u16 {
-    let mut sum = 0u16;
-    let mut copy = a;
-    for i in 0..16u16 {
-        if b >> i & 1 == 1 {
-            sum ^= copy;
-        }
-        copy = if copy & 0x8000 == 0 {
-            copy << 1
-        } else {
-            (copy << 1) ^ 0x100B
-        };
-    }
-    sum
-}
 
 // adds the products word by word
 fn plain_mul_add(c: u16, src: &[u8], dst: &mut [u8])
     requires { length src.now ≡ length dst.old }
 {
     for i in 0..dst.len() / 2 {
-        let [low, high] = plain_mul(
+        let [low, high] = product(
             c,
             u16::from_le_bytes([src[2 * i], src[2 * i + 1]]),
         ).to_le_bytes();

@@ -1,5 +1,5 @@
-//! Tests of the digests, the field, the elimination, the slices, the records and of what is found among texts, through
-//! what their crates make public.
+//! Tests of the digests, the field, the elimination, the slices, the records, of what is found among texts, of recovery
+//! slices and of rebuilding, through what their crates make public.
 #![tactic(auto)]
 
 #[cfg(test)]
@@ -17,7 +17,15 @@ mod midstates;
 #[cfg(test)]
 mod pairs;
 #[cfg(test)]
+mod plain_elimination;
+#[cfg(test)]
+mod plain_field;
+#[cfg(test)]
 mod records;
+#[cfg(test)]
+mod recovery;
+#[cfg(test)]
+mod recovery_choices;
 #[cfg(test)]
 mod slices;
 #[cfg(test)]

@@ -32,13 +32,25 @@ fn message(alloc: Global, text: &[u8], turn: usize, k: usize) -> Result<Message,
     Ok(Message { parts })
 }
 
-fn digest_by_the_hasher(text: &[u8], turn: usize, k: usize) -> [u8; 16] {
+// The digest of message k between other bytes.
+fn digest_by_the_hasher(
+    before: &[u8],
+    text: &[u8],
+    turn: usize,
+    k: usize,
+    behind: &[u8],
+) -> [u8; 16] {
     let mut hasher = Md5::new();
-    hasher.update(piece(text, 500, turn));
+    hasher.update(before);
     hasher.update((k as u64).to_le_bytes().as_slice());
     hasher.update(piece(text, k, turn.wrapping_add(k.wrapping_mul(5))));
     hasher.update(piece(text, 300, turn.wrapping_mul(k)));
+    hasher.update(behind);
     hasher.finalize()
+}
+
+fn digest_of_message(text: &[u8], turn: usize, k: usize) -> [u8; 16] {
+    digest_by_the_hasher(piece(text, 500, turn), text, turn, k, b"")
 }
 
 fn messages(
@@ -65,7 +77,7 @@ fn one_to_eight_messages(rt: HostRuntime) -> Result<(), Fail> {
             assert!(rt; messages.len() <= 8);
             let digests = state.digests(messages.as_slice());
             for k in 0..count {
-                assert!(rt; digests[k] == digest_by_the_hasher(&text, turn, k));
+                assert!(rt; digests[k] == digest_of_message(&text, turn, k));
             }
         }
     }
@@ -97,13 +109,8 @@ fn pendings(
 }
 
 fn digest_behind(text: &[u8], turn: usize, k: usize) -> [u8; 16] {
-    let mut hasher = Md5::new();
-    hasher.update(piece(text, 500, turn.wrapping_add(k)));
-    hasher.update((k as u64).to_le_bytes().as_slice());
-    hasher.update(piece(text, k, turn.wrapping_add(k.wrapping_mul(5))));
-    hasher.update(piece(text, 300, turn.wrapping_mul(k)));
-    hasher.update(piece(text, 7, turn));
-    hasher.finalize()
+    let before = piece(text, 500, turn.wrapping_add(k));
+    digest_by_the_hasher(before, text, turn, k, piece(text, 7, turn))
 }
 
 #[test]

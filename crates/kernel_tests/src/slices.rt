@@ -1,5 +1,6 @@
 ghost use Rattle.std.specs.Prelude.{◌≤◌, length};
 
+use crate::pairs::pairs_of;
 use par2_slices::{
     Pair, Rolling, Wanted, crc32, find_among, padded_crc32, padded_md5, pair_of, slice_bytes,
     slice_count, slice_into,
@@ -192,23 +193,12 @@ const TEXTS: [&[u8]; 9] = [
     b"abcdefghiabcdefghiabcdefghi",
 ];
 
-// The pairs of the slices of a file.
-fn slice_pairs(alloc: Global, bytes: &[u8], s: u64) -> Result<Vec<Pair>, AllocError>
-    requires { 1 ≤ s }
-{
-    let mut pairs = Vec::new(alloc);
-    for j in 0..slice_count(bytes.len() as u64, s) {
-        pairs.push(pair_of(slice_bytes(bytes, s, j), s))?;
-    }
-    Ok(pairs)
-}
-
 #[test]
 fn same_as_a_plain_search(rt: HostRuntime) {
     for text in TEXTS {
         for other in TEXTS {
             for s in 1..10u64 {
-                let pairs = slice_pairs(rt.alloc(), other, s).expect(&rt, "memory");
+                let pairs = pairs_of(rt.alloc(), other, s).expect(&rt, "memory");
                 assert!(rt; is_as_plain(rt.alloc(), text, s, &pairs).expect(&rt, "memory"));
             }
         }

@@ -1,40 +1,12 @@
-//! Products bit by bit, and an elimination over words, which share nothing with what they are compared with.
+//! An elimination over words, which shares nothing with what it is compared with.
 
 ghost use Rattle.std.specs.Prelude.{◌≡◌, ◌<◌};
 
+use crate::plain_field::{power, product};
 use std::alloc::{AllocError, Global};
 
 /// What an equation multiplies each of four slices by, and the two words of its right side.
 pub(super) type Equation = [u16; 6];
-
-// The product of two polynomials over bits, reduced.
-pub(super) fn product(a: u16, b: u16) -> u16 {
-    let mut sum = 0;
-    let mut shifted = a;
-    for bit in 0..16u32 {
-        if (b >> bit) & 1 == 1 {
-            sum ^= shifted;
-        }
-        shifted = if shifted < 0x8000 {
-            shifted << 1
-        } else {
-            (shifted << 1) ^ 0x100b
-        };
-    }
-    sum
-}
-
-pub(super) fn power(a: u16, e: u32) -> u16 {
-    let mut outcome = 1;
-    let mut square = a;
-    for bit in 0..32u32 {
-        if (e >> bit) & 1 == 1 {
-            outcome = product(outcome, square);
-        }
-        square = product(square, square);
-    }
-    outcome
-}
 
 fn scaled(equation: &Equation, factor: u16) -> Equation {
     let mut scaled = *equation;

@@ -3,8 +3,9 @@
 
 ghost use Rattle.std.specs.Prelude.{◌≡◌, ◌<◌, ◌≤◌};
 
-use crate::examples::recovery_of_a;
-use crate::plain::{Equation, eliminated, power, product};
+use crate::plain_elimination::{Equation, eliminated};
+use crate::plain_field::{power, product};
+use crate::recovery::recovery_of_a;
 use par2_gf16::Gf;
 use par2_recovery::{RebuildFault, Survivors};
 use recovery_calls::rebuilt;

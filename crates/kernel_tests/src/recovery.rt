@@ -1,4 +1,4 @@
-//! Worked examples.
+//! Worked examples of recovery slices and of rebuilding.
 
 use par2_gf16::Gf;
 use par2_packets::{DuplicateId, FileRecord};
