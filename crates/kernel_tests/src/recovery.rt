@@ -1,34 +1,14 @@
 //! Worked examples of recovery slices and of rebuilding.
 
+use par2_folder::Folder;
 use par2_gf16::Gf;
 use par2_packets::{DuplicateId, FileRecord};
-use par2_recovery::{RebuildFault, Survivors, rank, recovery_slices_over};
+use par2_recovery::{RebuildFault, SetRecord, Survivors, rank, recovery_slices_over};
 use recovery_calls::{
     folder_of, input_slices_of, rebuilt, recovery_slice_of, recovery_slices_of, set_of,
 };
 use std::alloc::{AllocError, Global};
 use std::test::Fail;
-
-fn survivors_of<'a>(
-    alloc: Global,
-    slice_size: usize,
-    known: &[Option<&'a [u8]>],
-    recovery: &[(u32, &'a [u8])],
-) -> Result<Survivors<'a>, AllocError> {
-    let mut slices = Vec::new(alloc);
-    for one in known {
-        slices.push(*one)?;
-    }
-    let mut recovered = Vec::new(alloc);
-    for one in recovery {
-        recovered.push(*one)?;
-    }
-    Ok(Survivors {
-        slice_size,
-        known: slices,
-        recovery: recovered,
-    })
-}
 
 // The recovery slices of one file, which is called `a`.
 pub(super) fn recovery_of_a(
@@ -53,150 +33,179 @@ fn are(texts: &[Vec<u8>], wanted: &[&[u8]]) -> bool {
             .all(|(text, other)| text.as_slice() == *other)
 }
 
-// Whether the lost slices come back as these texts.
-fn comes_back(alloc: Global, survivors: &Survivors, wanted: &[&[u8]]) -> Result<bool, AllocError> {
-    match rebuilt(alloc, &Gf::new(alloc)?, survivors) {
-        Some(Ok(texts)) => Ok(are(&texts, wanted)),
-        _ => Ok(false),
+// The bytes of a file, the size of a slice, and the recovery slices from a number on, so many.
+type Recovered = (&'static [u8], u64, (u32, u32), &'static [&'static [u8]]);
+
+const RECOVERED: &[Recovered] = &[
+    (
+        b"abcdefgh",
+        4,
+        (0, 3),
+        &[
+            b"\x04\x04\x04\x0c",
+            b"\x5d\x4d\x51\x79",
+            b"\xe5\x9f\xcd\x67",
+        ],
+    ),
+    // What par2cmdline 0.8.1 makes of these bytes by `par2 create -s16 -c2`.
+    (
+        b"The quick brown fox jumps over the lazy dog.\n",
+        16,
+        (0, 2),
+        &[
+            b"Zb=lzz}3|oj*\x00\x05NT",
+            b"\x81\x4b\x10\x63\x60\xf9\xeb\x30\x60\x57\x15\xeb\xe1\x37\x57\x80",
+        ],
+    ),
+    // The last slice is padded.
+    (b"abcde", 4, (0, 1), &[b"\x04\x62\x63\x64"]),
+    (b"abcdefghijkl", 4, (0, 1), &[b"\x6d\x6e\x6f\x60"]),
+    (
+        b"abcdefghijkl",
+        4,
+        (21845, 2),
+        &[b"\xd9\x03\x18\xeb", b"\x31\x9f\xac\xa9"],
+    ),
+];
+
+// Whether the file has these recovery slices.
+fn is_recovered_as(alloc: Global, row: &Recovered) -> Result<bool, AllocError> {
+    let (bytes, s, (first, count), wanted) = *row;
+    Ok(match &recovery_of_a(alloc, bytes, s, first, count)? {
+        Some(texts) => are(texts, wanted),
+        None => false,
+    })
+}
+
+#[test]
+fn recovery_slices_of_a_file(rt: HostRuntime) -> Result<(), Fail> {
+    for (k, row) in RECOVERED.iter().enumerate() {
+        assert!(rt; is_recovered_as(rt.alloc(), row)?, "row {k}");
+    }
+    Ok(())
+}
+
+// Slices of four bytes of which some are lost, recovery slices, and the lost ones, or how many are lost and how many
+// exponents are kept.
+type Rebuilt = (
+    &'static [Option<&'static [u8]>],
+    &'static [(u32, &'static [u8])],
+    Result<&'static [&'static [u8]], (usize, usize)>,
+);
+
+const REBUILT: &[Rebuilt] = &[
+    // Between the constants of slices 0 and 2 lies a power whose 21845th power is 1.
+    (
+        &[None, Some(b"efgh"), None],
+        &[(0, b"\x6d\x6e\x6f\x60"), (21845, b"\xd9\x03\x18\xeb")],
+        Err((2, 1)),
+    ),
+    (
+        &[None, Some(b"efgh"), None],
+        &[
+            (0, b"\x6d\x6e\x6f\x60"),
+            (21845, b"\xd9\x03\x18\xeb"),
+            (21846, b"\x31\x9f\xac\xa9"),
+        ],
+        Ok(&[b"abcd", b"ijkl"]),
+    ),
+    // Every constant's 65535th power is 1, as its power of 0 is.
+    (
+        &[None, None],
+        &[(0, b"\x04\x04\x04\x0c"), (65535, b"\x04\x04\x04\x0c")],
+        Err((2, 1)),
+    ),
+    // The last slice is padded.
+    (
+        &[Some(b"abcd"), None],
+        &[(0, b"\x04\x62\x63\x64")],
+        Ok(&[b"e\0\0\0"]),
+    ),
+    (
+        &[None, Some(b"e")],
+        &[(0, b"\x04\x62\x63\x64")],
+        Ok(&[b"abcd"]),
+    ),
+    // Nothing is lost.
+    (&[Some(b"abcd"), Some(b"efgh")], &[], Ok(&[])),
+    (&[Some(b"abcd"), Some(b"efgh")], &[(3, b"abcd")], Ok(&[])),
+];
+
+// Whether the answer is what the row says.
+fn is_as_told(
+    answer: &Option<Result<Vec<Vec<u8>>, RebuildFault>>,
+    wanted: Result<&[&[u8]], (usize, usize)>,
+) -> bool {
+    match (answer, wanted) {
+        (Some(Ok(texts)), Ok(told)) => are(texts, told),
+        (Some(Err(fault)), Err((missing, rank))) => {
+            *fault == RebuildFault::NotRepairable { missing, rank }
+        }
+        _ => false,
     }
 }
 
-// Whether the answer is that of so many lost slices so few exponents are kept.
-fn is_refused(
+fn is_rebuilt_as(alloc: Global, gf: &Gf, row: &Rebuilt) -> Result<bool, AllocError> {
+    let survivors = Survivors {
+        slice_size: 4,
+        known: Vec::from_slice(alloc, row.0)?,
+        recovery: Vec::from_slice(alloc, row.1)?,
+    };
+    Ok(is_as_told(&rebuilt(alloc, gf, &survivors), row.2))
+}
+
+#[test]
+fn lost_slices_come_back(rt: HostRuntime) -> Result<(), Fail> {
+    let gf = Gf::new(rt.alloc())?;
+    for (k, row) in REBUILT.iter().enumerate() {
+        assert!(rt; is_rebuilt_as(rt.alloc(), &gf, row)?, "row {k}");
+    }
+    Ok(())
+}
+
+// For the reasons that stand above.
+#[test]
+fn exponents_that_are_kept(rt: HostRuntime) -> Result<(), Fail> {
+    let gf = Gf::new(rt.alloc())?;
+    assert!(rt; rank(rt.alloc(), &gf, &[0, 2], &[0, 21845])? == 1);
+    assert!(rt; rank(rt.alloc(), &gf, &[0, 2], &[0, 21845, 21846])? == 2);
+    assert!(rt; rank(rt.alloc(), &gf, &[0, 1], &[0, 65535])? == 1);
+    assert!(rt; rank(rt.alloc(), &gf, &[], &[0, 1])? == 0);
+    Ok(())
+}
+
+// The files `a` and `b`.
+fn two_files(alloc: Global) -> Result<Folder, AllocError> {
+    folder_of(alloc, &[("a", b"abcde"), ("b", b"fgh")])
+}
+
+// Whether the files of the set have these slices.
+fn has_slices(
     alloc: Global,
-    survivors: &Survivors,
-    lost: usize,
-    kept: usize,
+    set: &SetRecord,
+    folder: &Folder,
+    wanted: &[&[u8]],
 ) -> Result<bool, AllocError> {
-    match rebuilt(alloc, &Gf::new(alloc)?, survivors) {
-        Some(Err(fault)) => Ok(
-            fault
-                == RebuildFault::NotRepairable {
-                    missing: lost,
-                    rank: kept,
-                },
-        ),
-        _ => Ok(false),
-    }
+    Ok(match &input_slices_of(alloc, set, folder)? {
+        Some(slices) => slices.as_slice() == wanted,
+        None => false,
+    })
 }
 
 #[test]
-fn two_recovery_slices(rt: HostRuntime) -> Result<(), Fail> {
-    let Some(texts) = recovery_of_a(rt.alloc(), b"abcdefgh", 4, 0, 3)? else {
-        panic!(rt; "no recovery slices");
-    };
-    assert!(rt;
-        are(
-            &texts,
-            &[
-                b"\x04\x04\x04\x0c",
-                b"\x5d\x4d\x51\x79",
-                b"\xe5\x9f\xcd\x67"
-            ]
-        )
-    );
-    Ok(())
-}
-
-// What par2cmdline 0.8.1 makes of these bytes by `par2 create -s16 -c2`.
-#[test]
-fn as_par2cmdline(rt: HostRuntime) -> Result<(), Fail> {
-    let fox = b"The quick brown fox jumps over the lazy dog.\n";
-    let Some(texts) = recovery_of_a(rt.alloc(), fox, 16, 0, 2)? else {
-        panic!(rt; "no recovery slices");
-    };
-    let first = b"Zb=lzz}3|oj*\x00\x05NT";
-    let second = b"\x81\x4b\x10\x63\x60\xf9\xeb\x30\x60\x57\x15\xeb\xe1\x37\x57\x80";
-    assert!(rt; are(&texts, &[first, second]));
-    Ok(())
-}
-
-// Between the constants of slices 0 and 2 lies a power whose 21845th power is 1.
-#[test]
-fn dependent_exponents(rt: HostRuntime) -> Result<(), Fail> {
-    let alloc = rt.alloc();
-    let gf = Gf::new(alloc)?;
-    let bytes = b"abcdefghijkl";
-    let Some(low) = recovery_of_a(alloc, bytes, 4, 0, 1)? else {
-        panic!(rt; "no recovery slice");
-    };
-    let Some(high) = recovery_of_a(alloc, bytes, 4, 21845, 2)? else {
-        panic!(rt; "no recovery slices");
-    };
-    let (Some(first), [second, third]) = (low.first(), high.as_slice()) else {
-        panic!(rt; "not three recovery slices");
-    };
-    let known = [None, Some(b"efgh".as_slice()), None];
-    let two = [(0, first.as_slice()), (21845, second.as_slice())];
-    let survivors = survivors_of(alloc, 4, &known, &two)?;
-    assert!(rt; is_refused(alloc, &survivors, 2, 1)?);
-    assert_eq!(rt; rank(alloc, &gf, &[0, 2], &[0, 21845])?, 1);
-    let three = [
-        (0, first.as_slice()),
-        (21845, second.as_slice()),
-        (21846, third.as_slice()),
-    ];
-    let survivors = survivors_of(alloc, 4, &known, &three)?;
-    assert!(rt; comes_back(alloc, &survivors, &[b"abcd", b"ijkl"])?);
-    assert_eq!(rt; rank(alloc, &gf, &[0, 2], &[0, 21845, 21846])?, 2);
-    Ok(())
-}
-
-// Every constant's 65535th power is 1, as its power of 0 is.
-#[test]
-fn two_bases_one_set(rt: HostRuntime) -> Result<(), Fail> {
-    let alloc = rt.alloc();
-    let gf = Gf::new(alloc)?;
-    assert_eq!(rt; rank(alloc, &gf, &[0, 1], &[0, 65535])?, 1);
-    let sum = b"\x04\x04\x04\x0c".as_slice();
-    let survivors = survivors_of(alloc, 4, &[None, None], &[(0, sum), (65535, sum)])?;
-    assert!(rt; is_refused(alloc, &survivors, 2, 1)?);
-    Ok(())
-}
-
-#[test]
-fn padded_last_slice(rt: HostRuntime) -> Result<(), Fail> {
-    let alloc = rt.alloc();
-    let Some(texts) = recovery_of_a(alloc, b"abcde", 4, 0, 1)? else {
-        panic!(rt; "no recovery slice");
-    };
-    let sum = b"\x04\x62\x63\x64".as_slice();
-    assert!(rt; are(&texts, &[sum]));
-    let survivors = survivors_of(alloc, 4, &[Some(b"abcd".as_slice()), None], &[(0, sum)])?;
-    assert!(rt; comes_back(alloc, &survivors, &[b"e\0\0\0"])?);
-    let survivors = survivors_of(alloc, 4, &[None, Some(b"e".as_slice())], &[(0, sum)])?;
-    assert!(rt; comes_back(alloc, &survivors, &[b"abcd"])?);
-    Ok(())
-}
-
-#[test]
-fn nothing_lost(rt: HostRuntime) -> Result<(), Fail> {
-    let alloc = rt.alloc();
-    let gf = Gf::new(alloc)?;
-    let known = [Some(b"abcd".as_slice()), Some(b"efgh".as_slice())];
-    let survivors = survivors_of(alloc, 4, &known, &[])?;
-    assert!(rt; comes_back(alloc, &survivors, &[])?);
-    let survivors = survivors_of(alloc, 4, &known, &[(3, b"abcd".as_slice())])?;
-    assert!(rt; comes_back(alloc, &survivors, &[])?);
-    assert_eq!(rt; rank(alloc, &gf, &[], &[0, 1])?, 0);
-    Ok(())
-}
-
-// The slices of two files, and the recovery slice over them as texts.
-#[test]
-fn slices_as_texts(rt: HostRuntime) -> Result<(), Fail> {
-    let alloc = rt.alloc();
-    let folder = folder_of(alloc, &[("a", b"abcde"), ("b", b"fgh")])?;
-    let Some(Ok(set)) = set_of(alloc, &folder, &["b", "a"], 4)? else {
+fn slices_of_two_files(rt: HostRuntime) -> Result<(), Fail> {
+    let folder = two_files(rt.alloc())?;
+    let Some(Ok(set)) = set_of(rt.alloc(), &folder, &["b", "a"], 4)? else {
         panic!(rt; "no record");
     };
-    let Some(slices) = input_slices_of(alloc, &set, &folder)? else {
-        panic!(rt; "no slices");
-    };
-    assert!(rt;
-        slices.as_slice() == [b"fgh".as_slice(), b"abcd".as_slice(), b"e".as_slice()].as_slice()
-    );
-    let sums = recovery_slices_over(alloc, &Gf::new(alloc)?, &[b"abcd", b"e"], 4, 0, 1)?;
+    assert!(rt; has_slices(rt.alloc(), &set, &folder, &[b"fgh", b"abcd", b"e"])?);
+    Ok(())
+}
+
+#[test]
+fn recovery_slice_over_texts(rt: HostRuntime) -> Result<(), Fail> {
+    let gf = Gf::new(rt.alloc())?;
+    let sums = recovery_slices_over(rt.alloc(), &gf, &[b"abcd", b"e"], 4, 0, 1)?;
     assert!(rt; are(&sums, &[b"\x04\x62\x63\x64"]));
     Ok(())
 }
@@ -207,9 +216,8 @@ fn is_file(file: &FileRecord, name: &str, id: u128) -> bool {
 
 #[test]
 fn record_of_two_files(rt: HostRuntime) -> Result<(), Fail> {
-    let alloc = rt.alloc();
-    let folder = folder_of(alloc, &[("a", b"abcde"), ("b", b"fgh")])?;
-    let Some(Ok(set)) = set_of(alloc, &folder, &["b", "a"], 4)? else {
+    let folder = two_files(rt.alloc())?;
+    let Some(Ok(set)) = set_of(rt.alloc(), &folder, &["b", "a"], 4)? else {
         panic!(rt; "no record");
     };
     assert!(rt; set.slice_size == 4);
@@ -223,35 +231,57 @@ fn record_of_two_files(rt: HostRuntime) -> Result<(), Fail> {
 
 #[test]
 fn one_name_twice(rt: HostRuntime) -> Result<(), Fail> {
-    let alloc = rt.alloc();
-    let folder = folder_of(alloc, &[("a", b"abcde"), ("b", b"fgh")])?;
-    let Some(Err(fault)) = set_of(alloc, &folder, &["a", "b", "a"], 4)? else {
+    let folder = two_files(rt.alloc())?;
+    let Some(Err(fault)) = set_of(rt.alloc(), &folder, &["a", "b", "a"], 4)? else {
         panic!(rt; "a record");
     };
-    assert_eq!(rt; fault, DuplicateId);
+    assert!(rt; fault == DuplicateId);
     Ok(())
+}
+
+// The first exponent from 5 on whose slice, of six bytes, is another where it is made alone.
+fn first_other(
+    alloc: Global,
+    set: &SetRecord,
+    folder: &Folder,
+    texts: &[Vec<u8>],
+) -> Result<Option<u32>, AllocError> {
+    let gf = Gf::new(alloc)?;
+    let mut e = 5u32;
+    for text in texts {
+        let alone = recovery_slice_of(alloc, &gf, set, folder, e)?;
+        if text.len() != 6 || alone.as_ref() != Some(text) {
+            return Ok(Some(e));
+        }
+        e = e.wrapping_add(1);
+    }
+    Ok(None)
+}
+
+// The recovery slices of four exponents, from 5 on.
+fn four_slices(
+    alloc: Global,
+    set: &SetRecord,
+    folder: &Folder,
+) -> Result<Option<Vec<Vec<u8>>>, AllocError> {
+    recovery_slices_of(alloc, &Gf::new(alloc)?, set, folder, 5, 4)
+}
+
+// Whether they are made alone as they are made together.
+fn are_as_alone(alloc: Global, set: &SetRecord, folder: &Folder) -> Result<bool, AllocError> {
+    let Some(texts) = four_slices(alloc, set, folder)? else {
+        return Ok(false);
+    };
+    Ok(texts.len() == 4 && first_other(alloc, set, folder, &texts)?.is_none())
 }
 
 #[test]
 fn one_by_one(rt: HostRuntime) -> Result<(), Fail> {
-    let alloc = rt.alloc();
-    let gf = Gf::new(alloc)?;
-    let folder = folder_of(alloc, &[("a", b"abcdefghijk"), ("b", b"lm"), ("c", b"")])?;
-    let Some(Ok(set)) = set_of(alloc, &folder, &["a", "b", "c"], 6)? else {
+    let files: [(&str, &[u8]); 3] = [("a", b"abcdefghijk"), ("b", b"lm"), ("c", b"")];
+    let folder = folder_of(rt.alloc(), &files)?;
+    let Some(Ok(set)) = set_of(rt.alloc(), &folder, &["a", "b", "c"], 6)? else {
         panic!(rt; "no record");
     };
-    let Some(texts) = recovery_slices_of(alloc, &gf, &set, &folder, 5, 4)? else {
-        panic!(rt; "no recovery slices");
-    };
-    assert!(rt; texts.len() == 4);
-    let mut e = 5u32;
-    for text in &texts {
-        let alone = recovery_slice_of(alloc, &gf, &set, &folder, e)?;
-        assert!(rt;
-            text.len() == 6 && alone.as_ref() == Some(text),
-            "exponent {e}"
-        );
-        e = e.wrapping_add(1);
-    }
+    assert!(rt; are_as_alone(rt.alloc(), &set, &folder)?);
     Ok(())
 }
