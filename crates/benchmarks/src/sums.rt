@@ -11,36 +11,27 @@ fn are_alike(src: &[u8], dst: &[u8]) -> bool
     src.len() == dst.len() && dst.len() % 2 == 0
 }
 
-fn add(gf: &Gf, factor: u16, src: &[u8], dst: &mut [u8]) {
+/// How products are added: in 16 steps of tables, or by a factor that is made for them.
+#[derive(Clone, Copy)]
+pub enum Way {
+    Steps,
+    Factor,
+}
+
+fn add(gf: &Gf, way: Way, factor: u16, src: &[u8], dst: &mut [u8]) {
     if are_alike(src, dst) {
-        gf.mul_add(factor, src, dst);
+        match way {
+            Way::Steps => gf.mul_add(factor, src, dst),
+            Way::Factor => gf.mul_add_by(&Factor::new(factor), src, dst),
+        }
     }
 }
 
-fn add_by_factor(gf: &Gf, factor: u16, src: &[u8], dst: &mut [u8]) {
-    if are_alike(src, dst) {
-        gf.mul_add_by(&Factor::new(factor), src, dst);
-    }
-}
-
-fn next_factor(factor: u16) -> u16 {
-    factor.wrapping_mul(5).wrapping_add(7)
-}
-
-/// Adds the products in steps, by a factor after the other.
-pub fn add_in_steps(gf: &Gf, rounds: u64, src: &[u8], dst: &mut [u8]) {
+/// Adds the products by a factor after the other.
+pub fn add_products(gf: &Gf, way: Way, rounds: u64, src: &[u8], dst: &mut [u8]) {
     let mut factor = 3u16;
     for _ in 0..rounds {
-        add(gf, factor, src, dst);
-        factor = next_factor(factor);
-    }
-}
-
-/// The same, where each round makes a factor.
-pub fn add_by_factors(gf: &Gf, rounds: u64, src: &[u8], dst: &mut [u8]) {
-    let mut factor = 3u16;
-    for _ in 0..rounds {
-        add_by_factor(gf, factor, src, dst);
-        factor = next_factor(factor);
+        add(gf, way, factor, src, dst);
+        factor = factor.wrapping_mul(5).wrapping_add(7);
     }
 }
