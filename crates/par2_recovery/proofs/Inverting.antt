@@ -1,7 +1,8 @@
 -- The lost slices by the inverse of the kept equations.
-use Rattle.std.proofs.Common.{inl, inr, ℕ, zero, suc, ◌+◌, ◌*◌, ◌/◌, ◌%◌, ◌<◌, ◌≤◌, ◌≡◌, refl, sym, ap, ap₂, ◌∙◌, arith, List, [], ◌∷◌, length, get_or, map, bit_xor}
-use Rattle.std.proofs.lemmas.Bool.{cases_eq}
-use Rattle.std.proofs.lemmas.List.{get_or-map, length-map}
+use Rattle.std.proofs.Common.{inl, inr, ℕ, zero, suc, ◌+◌, ◌*◌, ◌/◌, ◌%◌, ◌<◌, ◌≤◌, ◌≡◌, refl, sym, ap, ap₂, ◌∙◌, arith, List, [], ◌∷◌, ◌++◌, length, length-append, get_or, Global, map, subst, Vec, bit_xor}
+use Rattle.std.proofs.Math.Seq.{get_or-append_seam}
+use Rattle.std.proofs.lemmas.Bool.{cases_eq, cases_lt}
+use Rattle.std.proofs.lemmas.List.{get_or_append_left, get_or-map, length-map, map-append}
 use Rattle.std.proofs.lemmas.Nat.{xor_comm, xor_lt}
 use Rattle.std.specs.Int.Bits.{xor_assoc, xor_self, xor_zero_l, xor_zero_r}
 use Rattle.std.specs.List.{AllByRecursion}
@@ -12,9 +13,10 @@ use Rattle.par2_spec.specs.Recovery.{dot, coefficients}
 use Rattle.par2_spec.specs.Rank.{IsVector}
 use Rattle.par2_spec.proofs.FieldBits.{xor_middle}
 use Rattle.par2_spec.proofs.FieldProducts.{product_linear_right}
-use Rattle.par2_spec.specs.Sums.{field_sum, list_at, AreElements}
+use Rattle.par2_matrix.specs.Echelon.{Spells}
+use Rattle.par2_spec.specs.Sums.{field_sum, list_at, lists_of, AreElements}
 use Rattle.par2_spec.proofs.SumLaws.{field_sum_same, field_sum_xor, row_sum_unit, dot_sum, product_at}
-use Rattle.par2_spec.proofs.WordLaws.{byte_at, bytes_at, combination_words, same_texts, word-lt}
+use Rattle.par2_spec.proofs.WordLaws.{byte_at, bytes_at, combination_words, length-lists_of, same_texts, word-lt}
 use Rattle.par2_recovery.specs.Elements.{AreRows, IsUnit}
 use Rattle.par2_recovery.specs.Inverses.{recovery_at, GivesUnit, AreCoefficients, AreFactors, lack, AreCombined}
 use Rattle.par2_recovery.specs.Products.{AreBytes, Adds, products}
@@ -43,6 +45,29 @@ from_zeros size n words k factors sources zeros sums blank room added r p low he
     added.inside r p (omega (arith, blank.count)) (omega arith) here fits
     ∙ ap (λ x. bit_xor x (products k factors sources r p)) (ap (λ xs. word p xs) (blank.each r low) ∙ blank_word size p)
     ∙ xor_zero_l (products k factors sources r p)
+
+-- one more row
+pub coefficients_push : (numbers : List ℕ) (kept : List (ℕ × List ℕ)) (texts : List (Vec ℕ Global)) (text : Vec ℕ Global) (n : ℕ) → AreCoefficients numbers kept (lists_of texts) n
+    → Spells (coefficients numbers (recovery_at kept n).0) text.items (length numbers) → AreCoefficients numbers kept (lists_of (texts ++ text ∷ [])) (n + 1)
+coefficients_push numbers kept texts text n are spells = record {
+  count = length-lists_of (texts ++ text ∷ []) ∙ length-append texts (text ∷ []) ∙ ap (λ m. m + 1) old_count;
+  each = λ j h. elim (cases_lt j n) as (λ _. Spells (coefficients numbers (recovery_at kept j).0) (list_at (lists_of (texts ++ text ∷ [])) j) (length numbers)) [
+    | inl low ↦ subst (λ xs. Spells (coefficients numbers (recovery_at kept j).0) xs (length numbers))
+        (sym (ap (λ xs. list_at xs j) all ∙ get_or_append_left (lists_of texts) (text.items ∷ []) [] j (omega (arith, are.count)))) (are.each j low)
+    | inr high ↦
+        let last : n ≡ j = omega (arith, h, high) in
+        let there : length (lists_of texts) ≡ j = omega (arith, are.count, last) in
+        subst (λ xs. Spells (coefficients numbers (recovery_at kept j).0) xs (length numbers))
+        (sym (ap (λ xs. list_at xs j) all ∙ ap (λ k. list_at (lists_of texts ++ text.items ∷ []) k) (sym there) ∙ get_or-append_seam (lists_of texts) text.items [] []))
+        (subst (λ k. Spells (coefficients numbers (recovery_at kept k).0) text.items (length numbers)) last spells)
+  ];
+}
+  where
+    old_count : length texts ≡ n
+    old_count = sym (length-lists_of texts) ∙ are.count
+
+    all : lists_of (texts ++ text ∷ []) ≡ lists_of texts ++ text.items ∷ []
+    all = map-append (λ (x : Vec ℕ Global). x.items) texts (text ∷ [])
 
 pub are_factors : (n : ℕ) (numbers : List ℕ) (kept : List (ℕ × List ℕ)) (inverse texts zeros sums factors : List (List ℕ)) → length inverse ≡ n
     → AreCoefficients numbers kept texts (length kept) → AreBlank (2 * length numbers) n zeros → Adds inverse texts zeros sums 0 (length numbers) (length kept)
