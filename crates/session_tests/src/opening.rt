@@ -95,6 +95,38 @@ fn opens_before_the_first_change(rt: HostRuntime) -> Result<(), Fail> {
     Ok(())
 }
 
+// A halfway journal, made by another program from the format alone: two files gave way to two others in four changes.
+const FOUR_CHANGES: &[u8] = b"P2UNDO2\n\
+    \xb7\x43\x87\x0e\x63\x2f\x99\xfb\x01\xaa\xfe\xf7\x6f\xdb\x40\xce\
+    \0\0\0\0\0\0\0\0\0\0\0\0\0\0\0\0\x01\x04\0\0\0\0\0\0\0\
+    \xfa\x63\x40\x68\x6e\x37\x25\x23\x00\x94\x17\x6d\x73\x53\xfb\xef\
+    \x89\xb9\x8a\x67\x95\xdf\x83\xfa\x40\x02\xe9\xb6\x82\x08\x3f\xd6\
+    \xf0\xfe\xb0\xcd\x49\x76\xb3\x53\x3d\x84\x13\xa7\x21\xf6\xb5\xa3\
+    \xf1\xbf\xd4\xbf\x07\x32\x58\x86\x16\x4c\x3a\x8f\x41\x96\xce\xe0\
+    \x01\x03a.1\x08\0\0\0\0\0\0\0abcdefgh\x02\x01b\x03\0\0\0\0\0\0\0xyz\x04\x01a\x03\x03a.1\x01a\
+    \xf7\xb0\xce\x82\x53\x26\x97\x86\x8a\xec\xae\xa6\x1e\x98\xeb\xb0";
+
+// The files before those changes, after the first one, and so on.
+const ALONG: &[&[(&str, &[u8])]] = &[
+    &[("a", b"abcdefgh"), ("b", b"xyz")],
+    &[("a.1", b"abcdefgh"), ("b", b"xyz")],
+    &[("a", b"new"), ("a.1", b"abcdefgh"), ("b", b"xyz")],
+    &[("a", b"new"), ("a.1", b"abcdefgh"), ("b", b"b2")],
+    &[("a", b"new"), ("b", b"b2")],
+];
+
+#[test]
+fn takes_back_as_many_changes_as_were_made(rt: HostRuntime) -> Result<(), Fail> {
+    for (made, files) in ALONG.iter().enumerate() {
+        let folder = folder_of(&rt, files)?;
+        assert_eq!(rt;
+            changes_back(&open_halfway(&rt, folder, FOUR_CHANGES)).len(),
+            made
+        );
+    }
+    Ok(())
+}
+
 // The folder of a session with the files `a` and `t.par2`.
 fn folder_after<R: Abort + AllocGlobal>(rt: &R, session: &Session) -> Result<Folder, Fail> {
     let name = Name::new("t.par2").expect(rt, "a name");
