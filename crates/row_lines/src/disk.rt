@@ -3,11 +3,8 @@
 
 use crate::calls::{names_of, put_file, put_journal, read_file, remove_file, rename_file};
 use crate::files::name_of;
-use crate::index_lines::show_packets;
-use crate::rows::{Answer, answer_of, show_journal};
+use crate::rows::show_journal;
 use anyhow::{Error, Result};
-use hex::encode;
-use md5::{Digest, Md5};
 use par2_folder::{DiskStore, Name, ReadFault, StoreFault};
 use std::fs::Permissions;
 use std::os::unix::fs::{PermissionsExt, symlink};
@@ -16,11 +13,6 @@ use std::{env, fs};
 // What a read of a file answers.
 fn answer_to_read(rt: &HostRuntime, name: &Name) -> Result<Vec<u8>, ReadFault> {
     read_file(rt.alloc(), &mut DiskStore::new(rt), name)
-}
-
-// The bytes of a file.
-fn bytes_of(rt: &HostRuntime, name: &Name) -> Result<Vec<u8>> {
-    Ok(answer_to_read(rt, name)?)
 }
 
 fn show_length(rt: &HostRuntime, name: &Name) -> Result<()> {
@@ -105,34 +97,6 @@ fn read(rt: &HostRuntime, text: &str) -> Result<()> {
     Ok(())
 }
 
-// Runs the words of a line.
-fn answer_to_line(rt: &HostRuntime, line: &str) -> Result<Answer> {
-    answer_of(rt.alloc(), &mut DiskStore::new(rt), line)
-}
-
-// Runs the words of a line, and prints what the run wrote and the status.
-fn run_words(rt: &HostRuntime, line: &str) -> Result<()> {
-    let answer = answer_to_line(rt, line)?;
-    print!(rt; "{}", answer.text(rt.alloc())?.as_str())?;
-    println!(rt; "status: {}", answer.status)?;
-    Ok(())
-}
-
-// Prints the digest of a file, its length and its name.
-fn show_digest(rt: &HostRuntime, name: &Name) -> Result<()> {
-    let bytes = bytes_of(rt, name)?;
-    let digest = encode(rt.alloc(), Md5::digest(&bytes))?;
-    println!(rt; "{digest} {} {}", bytes.len(), name.as_str())?;
-    Ok(())
-}
-
-fn show_digests(rt: &HostRuntime) -> Result<()> {
-    for name in &answer_to_names(rt)? {
-        show_digest(rt, name)?;
-    }
-    Ok(())
-}
-
 // Gives a file or a folder a mode, a number of base ten.
 fn set_mode(rt: &HostRuntime, path: &str, mode: &str) -> Result<()> {
     Ok(fs::set_permissions(rt, path, Permissions::from_mode(mode.parse()?))?)
@@ -162,9 +126,6 @@ pub fn call(rt: &HostRuntime, line: &str) -> Result<()> {
         "remove" => remove(rt, first),
         "put-journal" => show_answer(rt, "put journal", answer_to_journal(rt, rest.as_bytes())),
         "read" => read(rt, first),
-        "run" => run_words(rt, rest),
-        "digests" => show_digests(rt),
-        "packets" => show_packets(rt, &bytes_of(rt, &name_of(first)?)?),
         _ => prepare(rt, word, rest),
     }
 }

@@ -1,7 +1,6 @@
 //! Runs on a store, and what comes of them.
 
 use crate::calls::{journal_of, names_of, read_file};
-use crate::files::bytes_of;
 use anyhow::Result;
 use par2_folder::{FolderStore, MemoryStore, Name};
 use par2_tool::{Printer, run};
@@ -139,12 +138,4 @@ pub fn show<S: FolderStore>(rt: &HostRuntime, store: &mut S) -> Result<()> {
 pub fn row(rt: &HostRuntime, store: &mut MemoryStore, line: &str) -> Result<()> {
     told(rt, store, line)?;
     show(rt, store)
-}
-
-/// Prints the bytes of the index that hold the identifier of its set.
-pub fn show_set(rt: &HostRuntime, store: &mut MemoryStore) -> Result<()> {
-    let bytes = bytes_of(rt.alloc(), store, "t.par2")?;
-    let id = hex::encode(rt.alloc(), bytes.get(32..48).unwrap_or(&[]))?;
-    println!(rt; "  bytes 32 to 47 of t.par2: {id}")?;
-    Ok(())
 }

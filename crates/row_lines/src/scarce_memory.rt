@@ -1,7 +1,7 @@
 //! Runs on a store that has memory for some reading calls alone.
 ghost use Rattle.std.specs.Prelude.{◌≡◌};
 
-use crate::returns::copy_of;
+use crate::files::copy_of;
 use crate::rows::{show, status_told};
 use anyhow::Result;
 use par2_folder::{FolderStore, MemoryStore, Name, ReadFault, StoreFault};

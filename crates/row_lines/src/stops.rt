@@ -1,6 +1,6 @@
 //! Runs that are stopped, since the store fails from some call on, and the runs that come next.
 
-use crate::returns::{copy_of, fingerprint_of};
+use crate::files::{copy_of, fingerprint_of};
 use crate::rows::{Answer, answer_of, row, show, status_told, told};
 use anyhow::Result;
 use par2_folder::{FuseStore, MemoryStore};
