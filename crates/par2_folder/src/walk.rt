@@ -147,11 +147,7 @@ fn runs_along<'a>(
 }
 
 /// The state, with the bytes of a text behind it.
-pub fn run_of_text(
-    alloc: Global,
-    state: Midstate,
-    text: &[u8],
-) -> Result<Pending<'_>, AllocError>
+pub fn run_of_text(alloc: Global, state: Midstate, text: &[u8]) -> Result<Pending<'_>, AllocError>
     ensures { (m : List ℕ) → HasAbsorbed state m
         → IfOk result (λ run. Reaches run (m ++ text.now)) }
 {

@@ -13,7 +13,7 @@ use Rattle.par2_spec.proofs.NamesLaws.{false_true}
 use Rattle.par2_journal.specs.declared.preparation.SessionFault.{SessionFault}
 use Rattle.par2_journal.specs.declared.preparation.SessionFault.TheVariants.{Plan, NothingToUndo, NothingToRedo}
 use Rattle.par2_tool.specs.Holding.{TellsApartAlong, TellsApartBack, OpensAsBefore, OpensAsBeforeOrAfter}
-use Rattle.par2_tool.specs.Opening.{IsCounted, IsOpened, IsUnopened}
+use Rattle.par2_tool.specs.Opening.{IsOpened, IsUnopened}
 use Rattle.par2_tool.specs.Refusals.{IsRefused, IsSession, failure_for, unopened_as}
 use Rattle.par2_tool.specs.Telling.{IsBack, IsCause, IsFailed, IsAtTheEnd, OpensAsBeforeOrAfterRun}
 use Rattle.par2_tool.specs.declared.opening.OpenFault.{OpenFault}
@@ -121,9 +121,3 @@ perform_cause action s later before middle after (Refusing NothingToRedo) steady
       | inr asked ↦ ((session_of_kept s, asked), refused.2 ∙ steady)
     ]
 perform_cause action s later before middle after Store steady refused = omega (arith, steady, refused)
-
-pub opening_cause : (action : Action) (before after : ℕ) (fault : OpenFault) → IsCounted before after fault → IsCause action before after (unopened_as fault)
-opening_cause action before after unopened.JournalInvalid counted = counted
-opening_cause action before after unopened.FolderChanged counted = counted
-opening_cause action before after unopened.Memory counted = (inl refl, counted)
-opening_cause action before after unopened.Store counted = counted
