@@ -2,7 +2,7 @@
 use Rattle.std.proofs.Common.{◌≡◌, ◌≢◌, inl, inr, ◌<◌, ◌≤◌, List, [], ◌∷◌, length, map, None, Result, Ok, Err, true, refl, sym, ap, subst, ◌∙◌, arith}
 use Rattle.std.specs.Prelude.{IfOk, IfErr, IsErrAnd}
 use Rattle.par2_spec.specs.Changes.{Change, Write, Replace, Rename, Remove, places_taken, are_applicable}
-use Rattle.par2_spec.specs.Commands.{Command, Do, Undo, Redo}
+use Rattle.par2_spec.specs.Commands.{Action, Command, Do, Undo, Redo}
 use Rattle.par2_spec.specs.Refusals.{refusal}
 use Rattle.par2_spec.specs.Plans as plans
 use Rattle.par2_spec.specs.History as history
@@ -10,7 +10,7 @@ use Rattle.par2_spec.specs.Sessions.{KeptSession, OnlyGrew, session_of_kept, cha
 use Rattle.par2_spec.specs.Texts.{Step, step_of}
 use Rattle.par2_spec.proofs.FolderLaws.{takes_applicable}
 use Rattle.par2_spec.specs.declared.Fault.{Fault}
-use Rattle.par2_journal.specs.Ready.{Ready, Changing, Undoing, Redoing, Fits, IsKindOf, IsReady, changes_by_kind, next_of}
+use Rattle.par2_journal.specs.Ready.{Kind, Ready, Changing, Undoing, Redoing, Fits, IsKindOf, IsReady, changes_by_kind, next_of}
 use Rattle.par2_journal.specs.Refusals.{MayFail, MayRefuse}
 use Rattle.par2_spec.specs.History.{IsChanging}
 use Rattle.par2_journal.proofs.Actions.{command_done, undo_done, redo_done}
@@ -112,3 +112,16 @@ ready_redo s steps some told = record {
   asked = first_is_next history.NothingToRedo s.redos some;
   leads = redo_done s (some_there s.redos some);
 }
+
+-- ---- what is told of what was committed
+
+pub same_changes : (kind : Kind) (old new : KeptSession) → OnlyGrew old new → changes_by_kind kind new ≡ changes_by_kind kind old
+same_changes (Changing changes) old new grew = refl
+same_changes Undoing old new grew = ap next_of grew.undos
+same_changes Redoing old new grew = ap next_of grew.redos
+
+-- the steps are those of the changes that were asked for
+pub steps_asked : (action : Action) (old new : KeptSession) (ready : Ready) (steps : List Step) → IsReady action old ready new → OnlyGrew old new → steps ≡ ready.steps
+    → IfOk (changes_asked (session_of_kept old) action) (λ changes. steps ≡ map step_of changes)
+steps_asked action old new ready steps is grew told =
+    subst (λ r. IfOk r (λ changes. steps ≡ map step_of changes)) (sym is.asked) (told ∙ is.fits.steps ∙ ap (map step_of) (same_changes ready.kind old new grew))

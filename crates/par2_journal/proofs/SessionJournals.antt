@@ -10,6 +10,7 @@ use Rattle.par2_spec.specs.Sessions.{Session, KeptSession, OnlyGrew, CanWalk, wa
 use Rattle.par2_spec.specs.Journals.{Journal, Spells}
 use Rattle.par2_spec.specs.Opening.{settled_journal, halfway_journal, halfway_where, journals_of}
 use Rattle.par2_spec.specs.declared.Version.TheVariants.{Two}
+use Rattle.par2_journal.proofs.Readiness.{same_changes}
 use Rattle.par2_journal.specs.Ready.{Kind, Changing, Undoing, Redoing, Ready, IsReady, CanBe, next_of, changes_by_kind, after_commit}
 use Rattle.par2_journal.specs.Ahead.{next_changes}
 use Rattle.par2_journal.specs.declared.ahead.Next.{Next}
@@ -117,11 +118,6 @@ has_next xs n folder room Redoing within can = below xs n (λ over. can (drop_al
 
 ok_same : {F : Type 0} (x : Result Session F) (a b : Session) → x ≡ Ok a → x ≡ Ok b → a ≡ b
 ok_same x a b e h = cc
-
-same_changes : (kind : Kind) (before s : KeptSession) → OnlyGrew before s → changes_by_kind kind s ≡ changes_by_kind kind before
-same_changes (Changing cs) before s grew = refl
-same_changes Undoing before s grew = ap next_of grew.undos
-same_changes Redoing before s grew = ap next_of grew.redos
 
 pub asked_session : (action : Action) (before s : KeptSession) (ready : Ready) → OnlyGrew before s → IsReady action before ready s
     → session_of_kept (after_commit ready.kind s) ≡ session_with (session_of_kept s) action (changes_by_kind ready.kind s)
