@@ -1,5 +1,9 @@
 //! Worked examples of folders and names, and each refusal.
 
+ghost use Rattle.std.specs.Prelude.{map, IsTrue};
+ghost use Rattle.par2_folder.specs.Views.{change_of};
+ghost use Rattle.par2_spec.specs.Changes.{takes_all};
+
 use crate::calls::{bytes_in, fingerprint, listed, name};
 use par2_folder::{
     BadName, Bytes, Change, ChangeFault, Folder, Name, fingerprints_along, fingerprints_along_from,
@@ -243,25 +247,36 @@ fn fingerprints_along_a_change(rt: HostRuntime) -> Result<(), Fail> {
     Ok(())
 }
 
-// The fingerprints of the folder with the change and without it again, from the landmarks of a survey, and the digest
-// of the text beside it.
-fn fingerprints_from_survey(
+// The fingerprints along the changes from the landmarks of a survey, and the digest of the text beside it.
+fn surveyed(
+    alloc: Global,
+    folder: &Folder,
+    changes: &[Change],
+    text: &[u8],
+) -> Result<(Vec<[u8; 16]>, [u8; 16]), AllocError>
+    requires { IsTrue (takes_all folder.now (map change_of changes.now)) }
+{
+    let survey = survey_folder(alloc, folder, text)?;
+    let prints = fingerprints_along_from(alloc, &survey.landmarks, folder, changes)?;
+    Ok((prints, survey.digest))
+}
+
+// Those of the folder with the change and without it again.
+fn surveyed_back(
     alloc: Global,
     mut folder: Folder,
     mut change: Change,
     text: &[u8],
 ) -> Result<(Vec<[u8; 16]>, [u8; 16]), Fail> {
     folder.apply(&mut change)?;
-    let survey = survey_folder(alloc, &folder, text)?;
-    let prints = fingerprints_along_from(alloc, &survey.landmarks, &folder, &[change])?;
-    Ok((prints, survey.digest))
+    Ok(surveyed(alloc, &folder, &[change], text)?)
 }
 
 #[test]
 fn fingerprints_from_landmarks(rt: HostRuntime) -> Result<(), Fail> {
     let folder = folder_of(&rt, &[("a", b"bc")], 1)?;
     let change = change_of(&rt, PlainChange::Write("b", b""))?;
-    let (prints, digest) = fingerprints_from_survey(rt.alloc(), folder, change, b"abc")?;
+    let (prints, digest) = surveyed_back(rt.alloc(), folder, change, b"abc")?;
     assert!(rt; prints.as_slice() == [TWO_FILES, ONE_FILE].as_slice());
     assert!(rt; digest == DIGEST_OF_ABC);
     Ok(())

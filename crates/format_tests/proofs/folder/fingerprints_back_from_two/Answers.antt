@@ -1,12 +1,9 @@
-use Rattle.std.proofs.Common.{◌≡◌, [], ◌∷◌, IsTrue, None, refl, sym, subst, ◌∙◌}
-use Rattle.par2_spec.specs.Changes.{FolderState, takes_all, state_after, change_refusal, inverse}
+use Rattle.std.proofs.Common.{◌≡◌, [], ◌∷◌, IsTrue, None, sym, subst, ◌∙◌}
+use Rattle.par2_spec.specs.Changes.{takes_all, state_after, change_refusal, inverse}
 use Rattle.par2_spec.proofs.FolderLaws.{takes_both, inverse_taken, state_back}
 use Rattle.par2_folder.specs.Views.{change_of}
+use Rattle.format_tests.proofs.ChangesBack.{back_taken}
 use Rattle.format_tests.proofs.folder.fingerprints_back_from_two.Goals as goal
-
-none_taken : (state : FolderState) → IsTrue (takes_all state [])
-unfolding takes_all
-none_taken state = refl
 
 pub fingerprints_along-requires : goal.fingerprints_along-requires
 fingerprints_along-requires c =
@@ -17,8 +14,7 @@ fingerprints_along-requires c =
     let back_two = inverse one.files (change_of c.args.second) in
     let middle : c.apply.new.self ≡ one = c.in_ok-apply.ensures.folder in
     let accepted : change_refusal one (change_of c.args.second) ≡ None = subst (λ s. change_refusal s (change_of c.args.second) ≡ None) middle c.in_ok-apply-2.ensures.accepted in
-    let last : IsTrue (takes_all one (back_one ∷ [])) =
-    takes_both one back_one [] (inverse_taken start (change_of c.args.first) c.in_ok-apply.ensures.accepted) (none_taken _) in
+    let last : IsTrue (takes_all one (back_one ∷ [])) = back_taken start (change_of c.args.first) c.in_ok-apply.ensures.accepted in
     let both : IsTrue (takes_all two (back_two ∷ back_one ∷ [])) =
     takes_both two back_two (back_one ∷ []) (inverse_taken one (change_of c.args.second) accepted)
     (subst (λ s. IsTrue (takes_all s (back_one ∷ []))) (sym (state_back one (change_of c.args.second) accepted)) last) in
