@@ -1,0 +1,24 @@
+use Rattle.std.proofs.Common.{◌≡◌, ◌≤◌, ℕ, List, ◌++◌, length, take, drop, arith, ◌∙◌}
+use Rattle.std.proofs.lemmas.List.{take-take, take-append-le}
+use Rattle.std.proofs.KnownBytes.{Consumes-kept, Consumes-trans}
+use Rattle.par2_folder.proofs.reading.read_within.Goals.{in-Ok-read+in-Ok-extend_from_slice, in-Err-read}
+use Rattle.par2_folder.proofs.reading.read_within.Goals as goal
+
+-- the first bytes of a block whose front was read
+first_read : (n size : ℕ) (front rest : List ℕ) → n ≤ length front → n ≤ size → take n (take size (front ++ rest)) ≡ take n front
+first_read n size front rest fits within = take-take n size (front ++ rest) within ∙ take-append-le n front rest fits
+
+pub loop-preserved : goal.loop-preserved
+loop-preserved g c = record {
+  read =
+      elim c.match-read.branch [
+        | in-Ok-read+in-Ok-extend_from_slice w ↦
+            let block = c.loop.block in
+            let front = c.read.new.buf in
+            let bound = w.in-Ok-read.ensures.bound.0 in
+            let first = first_read w.in-Ok-read.n block.len front (drop (length front) block.items) bound (omega (arith, bound)) in
+            rw (w.bytes-is, w.in-Ok-extend_from_slice.ensures.items, w.deref.ensures.value, first) (Consumes-trans _ _ _ _ _ c.loop.invariant.read w.in-Ok-read.ensures.bytes.0)
+        | in-Err-read w ↦ rw w.bytes-is (Consumes-kept _ _ _ _ c.loop.invariant.read w.in-Err-read.ensures.bytes)
+      ];
+  room = c.loop.invariant.room;
+}
