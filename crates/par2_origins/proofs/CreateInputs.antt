@@ -6,7 +6,7 @@ use Rattle.std.specs.Str.{bytes_eq}
 use Rattle.std.specs.FinMap.{find, get-entries}
 use Rattle.std.specs.Ordering.{nat_cmp, eq_by_cmp}
 use Rattle.std.specs.Cmp.Lexicographic.{slice_cmp}
-use Rattle.std.proofs.lemmas.Bool.{false≢true, and_parts, or_parts, eqb-true, eqb-false, ltb-false, leb-true}
+use Rattle.std.proofs.lemmas.Bool.{false≢true, not-false, and_parts, or_parts, eqb-true, eqb-false, ltb-false, leb-true}
 use Rattle.std.proofs.lemmas.Iterator.Adapters.{position_from-zero}
 use Rattle.std.proofs.lemmas.Grind.{div_ceil_times}
 use Rattle.std.proofs.lemmas.List.{length-map}
@@ -66,10 +66,6 @@ pub record Passes (folder : Folder) (a : CreateArgs) : Type 0 where
   pub slices : nat_lt 32768 (sum_by (λ file. slice_count a.slice_size (length file.1)) (files_of folder a.inputs)) ≡ false
   pub ids : not (length (distinct (map id_of (files_of folder a.inputs))) == length (files_of folder a.inputs)) ≡ false
 
-pub from_not : (b : Bool) → not b ≡ false → b ≡ true
-from_not true h = refl
-from_not false h = absurd (false≢true (sym h))
-
 -- the tests in their order
 abbrev tests : Folder → CreateArgs → List (Option Fault)
 tests folder a =
@@ -95,9 +91,9 @@ passes folder a h =
     let none = all_none (tests folder a) h in
     let later = none.1.1.1.1 in
     record {
-      size = from_not (is_slice_size a.slice_size) (where_none (not (is_slice_size a.slice_size)) BadSliceSize none.0);
-      counts = from_not (are_counts a.first a.count) (where_none (not (are_counts a.first a.count)) BadCount none.1.0);
-      base = from_not (is_name a.base && is_par_name a.base) (where_none (not (is_name a.base && is_par_name a.base)) BadBase none.1.1.0);
+      size = not-false (is_slice_size a.slice_size) (where_none (not (is_slice_size a.slice_size)) BadSliceSize none.0);
+      counts = not-false (are_counts a.first a.count) (where_none (not (are_counts a.first a.count)) BadCount none.1.0);
+      base = not-false (is_name a.base && is_par_name a.base) (where_none (not (is_name a.base && is_par_name a.base)) BadBase none.1.1.0);
       names = at_none 1 BadName (λ word. not (is_input_name word)) a.inputs later.0;
       once = at_none 1 DuplicateInput (λ z. is_among (take z.0 a.inputs) z.1) (enumerate_from 0 a.inputs) later.1.0;
       there = at_none 1 NoSuchFile (λ word. not (has folder word)) a.inputs later.1.1.0;
@@ -194,7 +190,7 @@ files_small folder whole (name ∷ inputs) = (file_small folder whole name, file
 
 files_named : (folder : Folder) (inputs : List (List ℕ)) → AllByRecursion (λ word. not (is_input_name word) ≡ false) inputs → AllByRecursion (λ file. is_name file.0 ≡ true) (files_of folder inputs)
 files_named folder [] h = tt
-files_named folder (name ∷ inputs) h = ((and_parts (is_name name) (not (is_par_name name)) (from_not (is_input_name name) h.0)).0, files_named folder inputs h.1)
+files_named folder (name ∷ inputs) h = ((and_parts (is_name name) (not (is_par_name name)) (not-false (is_input_name name) h.0)).0, files_named folder inputs h.1)
 
 no_times : (s : ℕ) → 0 * s ≡ 0
 no_times s = omega arith
@@ -224,7 +220,7 @@ inputs_taken folder a accepted fits =
     let fs = files_of folder a.inputs in
     let most : sum_by (λ file. slice_count a.slice_size (length file.1)) fs ≤ 32768 = ltb-false 32768 (sum_by (λ file. slice_count a.slice_size (length file.1)) fs) p.slices in
     let few = count_small a.slice_size fs (size_positive a.slice_size p.size) p.full in
-    let ids : length (distinct (map id_of fs)) ≡ length fs = eqb-true (length (distinct (map id_of fs))) (length fs) (from_not _ p.ids) in
+    let ids : length (distinct (map id_of fs)) ≡ length fs = eqb-true (length (distinct (map id_of fs))) (length fs) (not-false _ p.ids) in
     record {
       slice_size = p.size;
       few = omega (arith, most, few);

@@ -3,7 +3,7 @@ use Rattle.std.proofs.Common.{◌≡◌, ℕ, zero, suc, ◌+◌, ◌%◌, ◌^�
 use Rattle.std.specs.Prelude.{IsTrue, IsPermutation, sum_by, nat_le, nat_eq, ◌==◌, codes}
 use Rattle.std.specs.List.{AllByRecursion, list_any, starts_with, range_with_len}
 use Rattle.std.specs.Str.{bytes_eq, is_utf8}
-use Rattle.std.proofs.lemmas.Bool.{and_parts, leb-true, eqb-true}
+use Rattle.std.proofs.lemmas.Bool.{not-true, and_parts, leb-true, eqb-true}
 use Rattle.std.proofs.lemmas.List.{length-map}
 use Rattle.std.proofs.lemmas.List.Sums.{sum_by-cons}
 use Rattle.std.proofs.lemmas.List.Sorted.{IsPermutation-map, sum_by-IsPermutation, length_permutation}
@@ -67,11 +67,7 @@ name_parts name h =
     let d = and_parts _ (not (list_any (λ x. x == 0) name)) c.0 in
     let e = and_parts _ (not (list_any (λ x. x == 0x2F) name)) d.0 in
     let f = and_parts (nat_le 1 (length name) && nat_le (length name) 255) (is_utf8 name) e.0 in
-    (leb-true (length name) 255 (and_parts (nat_le 1 (length name)) (nat_le (length name) 255) f.0).1, no_from_not (list_any (λ x. x == 0) name) d.1)
-  where
-    no_from_not : (b : Bool) → not b ≡ true → b ≡ false
-    no_from_not true k = sym k
-    no_from_not false k = refl
+    (leb-true (length name) 255 (and_parts (nat_le 1 (length name)) (nat_le (length name) 255) f.0).1, not-true (list_any (λ x. x == 0) name) d.1)
 
 -- each part of a sum is at most the sum
 each_below : {A : Type 0} (f : A → ℕ) (xs : List A) (n : ℕ) → sum_by f xs ≤ n → AllByRecursion (λ x. f x ≤ n) xs

@@ -4,7 +4,7 @@ use Rattle.std.specs.Prelude.{IsPermutation, is_some, nat_lt, filter, position, 
 use Rattle.std.specs.List.{AllByRecursion, list_all, list_any}
 use Rattle.std.specs.Str.{bytes_eq}
 use Rattle.std.specs.FinMap as map_of
-use Rattle.std.proofs.lemmas.Bool.{false≢true, and_from}
+use Rattle.std.proofs.lemmas.Bool.{false≢true, not-false, and_from}
 use Rattle.std.proofs.lemmas.List.{length-map}
 use Rattle.std.proofs.lemmas.List.Sorted.{IsPermutation-sym, IsPermutation-map, length_permutation}
 use Rattle.par2_spec.specs.declared.Fault.{Fault}
@@ -26,7 +26,7 @@ use Rattle.par2_spec.specs.Refusals.{refusal, after, set_in, by_set, repair_refu
 use Rattle.par2_origins.specs.Creates.{FollowsCreate, may_refuse, HaveAChoice}
 use Rattle.par2_origins.proofs.Laws.{AreRepaired, OthersAgree}
 use Rattle.par2_origins.proofs.FilePackets.{same_some}
-use Rattle.par2_origins.proofs.CreateInputs.{all_none, where_none, at_none, from_not, passes, names_of_files}
+use Rattle.par2_origins.proofs.CreateInputs.{all_none, where_none, at_none, passes, names_of_files}
 use Rattle.par2_origins.proofs.Damage.{some_bytes}
 use Rattle.par2_spec.proofs.ListsLaws.{all-append}
 use Rattle.par2_spec.proofs.RankLaws.{all_weaker}
@@ -42,7 +42,7 @@ missing folder words = position (λ word. not (has folder word)) words
 
 all_there : (folder : Folder) (words : List (List ℕ)) → AllByRecursion (λ word. not (has folder word) ≡ false) words → list_all (has folder) words ≡ true
 all_there folder [] h = refl
-all_there folder (word ∷ words) h = and_from (has folder word) (list_all (has folder) words) (from_not (has folder word) h.0) (all_there folder words h.1)
+all_there folder (word ∷ words) h = and_from (has folder word) (list_all (has folder) words) (not-false (has folder word) h.0) (all_there folder words h.1)
 
 -- a repair over a set that reads: a further file isn't there, or the set's refusal is the answer
 record IsAsked (folder : Folder) (base : List ℕ) (extras : List (List ℕ)) (set : ParSet) (answer : Option Fault) : Type 0 where
@@ -90,7 +90,7 @@ repairable laws folder set searched h =
     let missing = lost (known folder set searched) in
     let is = is_repairable missing (survivors set) in
     (laws.words missing (survivors set)).0
-    (from_not is (where_none (not is) (NotRepairable (length missing) (rank missing (survivors set))) (all_none (tests folder set searched) h).0))
+    (not-false is (where_none (not is) (NotRepairable (length missing) (rank missing (survivors set))) (all_none (tests folder set searched) h).0))
 
 -- the first cause that holds is one of few
 first_cause : (b c d : Bool) (count known : ℕ) (fault : Fault) → (b ≡ false → d ≡ false)
@@ -108,7 +108,7 @@ refused_for laws folder set searched fault right h =
     let missing = lost (known folder set searched) in
     let is = is_repairable missing (survivors set) in
     first_cause (not is) (list_any (λ name. nat_lt 255 (length (aside folder set name))) (put_aside folder set)) (not (list_all (λ c. bytes_eq (md5 c.1) c.0.digest) (rebuilt_targets folder set searched)))
-    (length missing) (rank missing (survivors set)) fault (λ e. ap not (right ((laws.words missing (survivors set)).0 (from_not is e)))) h
+    (length missing) (rank missing (survivors set)) fault (λ e. ap not (right ((laws.words missing (survivors set)).0 (not-false is e)))) h
 
 -- ---- what is searched
 
@@ -202,7 +202,7 @@ module _ (order : (files : List File) → IsPermutation files (in_id_order files
   as_before : (folder : Folder) (words : List (List ℕ)) → AllByRecursion (λ word. not (has before word) ≡ false) words → AllByRecursion (λ file. map_of.get folder file.0 ≡ Some file.1) (files_of before words)
       → AllByRecursion (λ name. map_of.get folder name ≡ map_of.get before name) words
   as_before folder [] there h = tt
-  as_before folder (name ∷ words) there h = (h.0 ∙ sym (some_bytes before name (from_not (has before name) there.0)), as_before folder words there.1 h.1)
+  as_before folder (name ∷ words) there h = (h.0 ∙ sym (some_bytes before name (not-false (has before name) there.0)), as_before folder words there.1 h.1)
 
   pub gives_back : AreRepaired → MadeFrom damaged base ordered s → (purge : Bool) → refusal damaged (Repair base extras purge) ≡ None
       → AllByRecursion (λ name. map_of.get (after damaged (Repair base extras purge)) name ≡ map_of.get before name) a.inputs

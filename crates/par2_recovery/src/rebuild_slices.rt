@@ -163,25 +163,15 @@ fn solve(
 /// The lost slices in order, with their padding. NotRepairable is answered where the recovery slices don't determine
 /// them: then of `missing` lost slices no more than `rank` exponents are kept.
 pub fn rebuild(alloc: Global, gf: &Gf, survivors: &Survivors) -> Result<Vec<Vec<u8>>, RebuildFault>
-    requires count { length survivors.now.known.items ≤ 32768 }
-    requires even { survivors.now.slice_size % 2 ≡ 0 }
-    requires known { AllByRecursion (λ slice. length slice.now
-        ≤ survivors.now.slice_size) (known_alone survivors.now.known.items) }
-    requires recovery { AllByRecursion (λ r. length r.1
-        ≡ survivors.now.slice_size) (recovered_of survivors.now.recovery.items) }
-    requires exponents { IsStrictlyIncreasing (exponents_of survivors.now.recovery.items) }
-    ensures rebuilt { let known = known_of survivors.now.slice_size survivors.now.known.items in
-        IfOk result (λ texts. IsRebuilt survivors.now.slice_size known
-        (kept_slices (lost known) (exponents_of survivors.now.recovery.items)
-        (recovered_of survivors.now.recovery.items)) (with_lost_slices known (lists_of
+    requires { CanRebuild survivors.now }
+    ensures rebuilt { let known = known_among survivors.now in
+        IfOk result (λ texts. AreRebuilt survivors.now (with_lost_slices known (lists_of
         texts.items))) }
     ensures count { IfOk result (λ texts. length texts.items
-        ≡ length (lost (known_of survivors.now.slice_size survivors.now.known.items))) }
-    ensures repairable { IsOk result
-        → IsRepairable (lost (known_of survivors.now.slice_size survivors.now.known.items))
-        (exponents_of survivors.now.recovery.items) }
-    ensures refused { IfErr result (IsTrueFault (lost (known_of survivors.now.slice_size
-        survivors.now.known.items)) (exponents_of survivors.now.recovery.items)) }
+        ≡ length (lost (known_among survivors.now))) }
+    ensures enough { IsOk result → AreEnough survivors.now }
+    ensures refused { let exponents = exponents_of survivors.now.recovery.items in
+        IfErr result (IsTrueFault (lost (known_among survivors.now)) exponents) }
 {
     solve(alloc, gf, survivors)?
 }

@@ -7,14 +7,15 @@ ghost use Rattle.par2_spec.specs.Commands.{files_of};
 ghost use Rattle.par2_spec.specs.Folders.{bytes_of};
 ghost use Rattle.par2_spec.specs.Names.{is_name};
 ghost use Rattle.par2_spec.specs.Volumes.{all_slices};
+ghost use Rattle.par2_recovery.specs.Rebuilding.{CanRebuild};
 ghost use Rattle.par2_recovery.specs.Views.{names_of};
 
 use par2_folder::{Bytes, Change, Folder, Name};
 use par2_gf16::Gf;
 use par2_packets::{DuplicateId, FileRecord};
 use par2_recovery::{
-    RebuildFault, SetRecord, Survivors, file_records, input_slices, rebuild, recovery_slice,
-    recovery_slices,
+    RebuildFault, SetRecord, Survivors, file_records, input_slices, rebuild, rebuild_lost,
+    recovery_slice, recovery_slices,
 };
 use par2_slices::slice_count;
 use std::alloc::{AllocError, Global};
@@ -188,21 +189,39 @@ fn exponents_rise(recovery: &[(u32, &[u8])]) -> bool
     true
 }
 
+// Whether slices may be rebuilt from these.
+fn can_rebuild(survivors: &Survivors) -> bool
+    ensures { IsTrue result → CanRebuild survivors.now }
+{
+    let size = survivors.slice_size;
+    if size % 2 != 0 || survivors.known.len() > 32768 {
+        return false;
+    }
+    if !known_fits(&survivors.known, size) || !recovery_fits(&survivors.recovery, size) {
+        return false;
+    }
+    exponents_rise(&survivors.recovery)
+}
+
 /// What `rebuild` answers.
 pub fn rebuilt(
     alloc: Global,
     gf: &Gf,
     survivors: &Survivors,
 ) -> Option<Result<Vec<Vec<u8>>, RebuildFault>> {
-    let size = survivors.slice_size;
-    if size % 2 != 0 || survivors.known.len() > 32768 {
-        return None;
-    }
-    if !known_fits(&survivors.known, size)
-        || !recovery_fits(&survivors.recovery, size)
-        || !exponents_rise(&survivors.recovery)
-    {
+    if !can_rebuild(survivors) {
         return None;
     }
     Some(rebuild(alloc, gf, survivors))
+}
+
+/// What `rebuild_lost` answers.
+pub fn lost_rebuilt(
+    alloc: Global,
+    survivors: &Survivors,
+) -> Option<Result<Vec<Vec<u8>>, RebuildFault>> {
+    if !can_rebuild(survivors) {
+        return None;
+    }
+    Some(rebuild_lost(alloc, survivors))
 }
