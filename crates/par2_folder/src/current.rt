@@ -7,7 +7,7 @@ use crate::directory::{Directory, Found, Place};
 use crate::reading::{fault_of, read_opened};
 use crate::{BadName, Name, ReadFault, StoreFault};
 use std::alloc::Global;
-use std::fs::{Files, Metadata};
+use std::fs::{DirEntry, Files, Metadata};
 use std::io::{Error, ErrorKind};
 use std::{fs, io};
 
@@ -42,17 +42,23 @@ fn made(answer: io::Result<()>) -> Result<(), StoreFault>
     }
 }
 
+// The name of a regular file. None is for anything else, and for what is kept for the history.
+fn name_in<R: Files + AllocGlobal>(entry: &DirEntry<&R>) -> io::Result<Option<Name>> {
+    if !entry.file_type()?.is_file() {
+        return Ok(None);
+    }
+    match Name::listed(entry.file_name()) {
+        Ok(name) => Ok(name),
+        Err(BadName) => Err(Error::from(ErrorKind::InvalidFilename)),
+    }
+}
+
 // The names of the regular files, in order, without those that are kept for the history.
 fn list<R: Files + AllocGlobal>(rt: &R, alloc: Global) -> io::Result<Vec<Name>> {
     let mut names = Vec::new(alloc);
     for entry in fs::read_dir(&rt, ".")? {
-        let entry = entry?;
-        if entry.file_type()?.is_file() {
-            match Name::listed(entry.file_name()) {
-                Ok(Some(name)) => names.push(name)?,
-                Ok(None) => {}
-                Err(BadName) => return Err(Error::from(ErrorKind::InvalidFilename)),
-            }
+        if let Some(name) = name_in(&entry?)? {
+            names.push(name)?;
         }
     }
     names.sort_unstable();

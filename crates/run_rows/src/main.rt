@@ -1,11 +1,24 @@
-//! Carries out the lines of its input and prints what comes of them.
+//! Carries out the lines of its input and prints what comes of them: words that are read, words that are run on stores
+//! in memory (with the files, their lengths and the journal's length), on stores that fail or want memory at the first
+//! of their calls, at the second, and so on until none is refused, actions on one session, and calls on real folders.
+//! What whole commands answer in any folder is carried out by `scripts/folder_rows`.
 //!
 //! Memory is ample but where a store answers otherwise, so the stored output also refuses a `run` that always
 //! answers want of memory. `rt run` builds the program; `rt try` takes minutes and can't go into real folders.
 #![tactic(auto)]
 
+mod calls;
+mod disk;
+mod files;
+mod lines;
+mod rows;
+mod scarce_memory;
+mod sessions;
+mod stops;
+mod words;
+
 use anyhow::Result;
-use row_lines::carry_out_all;
+use lines::carry_out_all;
 
 fn main(rt: HostRuntime) -> Result<()> {
     carry_out_all(&rt)

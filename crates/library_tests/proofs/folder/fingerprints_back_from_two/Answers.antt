@@ -2,8 +2,8 @@ use Rattle.std.proofs.Common.{◌≡◌, [], ◌∷◌, IsTrue, None, sym, subst
 use Rattle.par2_spec.specs.Changes.{takes_all, state_after, change_refusal, inverse}
 use Rattle.par2_spec.proofs.FolderLaws.{takes_both, inverse_taken, state_back}
 use Rattle.par2_folder.specs.Views.{change_of}
-use Rattle.format_tests.proofs.ChangesBack.{back_taken}
-use Rattle.format_tests.proofs.folder.fingerprints_back_from_two.Goals as goal
+use Rattle.library_tests.proofs.ChangesBack.{back_taken}
+use Rattle.library_tests.proofs.folder.fingerprints_back_from_two.Goals as goal
 
 pub fingerprints_along-requires : goal.fingerprints_along-requires
 fingerprints_along-requires c =

@@ -1,6 +1,7 @@
 //! The names under which files are put aside, and a set's par files.
 
-use crate::set_packets::{Files, Part, folder_for, name, set_in};
+use crate::calls::name;
+use crate::set_packets::{Files, Part, folder_for, set_in};
 use par2_asides::{asides, par_files};
 use par2_folder::{Folder, Name};
 use par2_spec::Fault;

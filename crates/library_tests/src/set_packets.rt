@@ -1,7 +1,8 @@
 //! Packets of small sets, and folders that hold them.
 
+use crate::calls::name;
 use md5::{Digest, Md5};
-use par2_folder::{Bytes, Change, Folder, Name};
+use par2_folder::{Bytes, Change, Folder};
 use par2_packets::{FileRecord, Pair, append_desc, append_ifsc, append_main, main_id};
 use par2_sets::{ParSet, set_of};
 use par2_spec::Fault;
@@ -99,10 +100,6 @@ fn recovery(alloc: Global, id: &[u8; 16], e: u32, bytes: &[u8]) -> Result<Vec<u8
     let mut body = Vec::from_slice(alloc, &e.to_le_bytes())?;
     body.extend_from_slice(bytes)?;
     packet(alloc, id, RECOVERY, &body)
-}
-
-pub fn name(rt: &impl Abort, text: &str) -> Name {
-    Name::new(text).expect(rt, "a name")
 }
 
 /// A part of a file: a packet of a set, or other bytes.

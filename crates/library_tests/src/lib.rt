@@ -1,0 +1,49 @@
+//! Tests of the libraries below the plan, through what their crates make public: of the digests, the field, the
+//! elimination, the slices, the search, the packets, sets, recovery slices and rebuilding, and of folders and their
+//! stores.
+#![tactic(auto)]
+
+#[cfg(test)]
+mod asides;
+#[cfg(test)]
+mod calls;
+#[cfg(test)]
+mod digests;
+#[cfg(test)]
+mod elimination;
+#[cfg(test)]
+mod field;
+#[cfg(test)]
+mod folder;
+#[cfg(test)]
+mod intact;
+#[cfg(test)]
+mod matching;
+#[cfg(test)]
+mod midstates;
+#[cfg(test)]
+mod packets;
+#[cfg(test)]
+mod pairs;
+#[cfg(test)]
+mod plain_elimination;
+#[cfg(test)]
+mod plain_field;
+#[cfg(test)]
+mod reading;
+#[cfg(test)]
+mod records;
+#[cfg(test)]
+mod recovery;
+#[cfg(test)]
+mod recovery_choices;
+#[cfg(test)]
+mod set_packets;
+#[cfg(test)]
+mod sets;
+#[cfg(test)]
+mod slices;
+#[cfg(test)]
+mod stores;
+#[cfg(test)]
+mod windows;
