@@ -38,7 +38,7 @@ fn are_behind(border: &Border, changes: &[Change]) -> bool
 }
 
 impl Landmarks {
-    pub fn none(alloc: Global) -> Landmarks
+    pub(crate) fn none(alloc: Global) -> Landmarks
         ensures { (folder : Folder) → AreLandmarksOf folder result }
     {
         Landmarks {
@@ -47,7 +47,7 @@ impl Landmarks {
     }
 
     /// Adds a landmark behind the others.
-    pub fn push(&mut self, mark: Landmark) -> Result<(), AllocError>
+    pub(crate) fn push(&mut self, mark: Landmark) -> Result<(), AllocError>
         ensures { OnOk result (self.new.list.items ≡ self.old.list.items ++ mark ∷ []) }
     {
         self.list.push(mark)?;
@@ -55,7 +55,7 @@ impl Landmarks {
     }
 
     /// Where fingerprints along the changes set out: a border that no change lies before, and the state there.
-    pub fn start(&self, changes: &[Change]) -> (Border<'_>, Midstate)
+    pub(crate) fn start(&self, changes: &[Change]) -> (Border<'_>, Midstate)
         ensures { (folder : Folder) → AreLandmarksOf folder self.now
             → HaveAbsorbed (result.1 ∷ []) (run_texts result.0 folder (map change_of changes.now)) }
     {

@@ -13,7 +13,7 @@ pub struct Runs<'a> {
 }
 
 impl<'a> Runs<'a> {
-    pub fn new(alloc: Global) -> Runs<'a>
+    pub(crate) fn new(alloc: Global) -> Runs<'a>
         ensures few { length result.pendings.items ≤ 8 }
         ensures texts { AreTo result [] }
     {
@@ -38,7 +38,7 @@ impl<'a> Runs<'a> {
     }
 
     /// Adds a state and the parts that it has to absorb.
-    pub fn push(&mut self, pending: Pending<'a>) -> Result<(), AllocError>
+    pub(crate) fn push(&mut self, pending: Pending<'a>) -> Result<(), AllocError>
         requires few { length self.old.pendings.items ≤ 8 }
         ensures few { OnOk result (length self.new.pendings.items ≤ 8) }
         ensures texts { (texts : List (List ℕ)) (text : List ℕ)
@@ -53,7 +53,7 @@ impl<'a> Runs<'a> {
     }
 
     /// The states behind all parts.
-    pub fn finish(mut self) -> Result<Vec<Midstate>, AllocError>
+    pub(crate) fn finish(mut self) -> Result<Vec<Midstate>, AllocError>
         requires few { length self.pendings.items ≤ 8 }
         ensures { (texts : List (List ℕ)) → AreTo self.entry texts
             → IfOk result (λ states. HaveAbsorbed states.items texts) }
