@@ -195,6 +195,8 @@ pub fn rebuild_lost(alloc: Global, survivors: &Survivors) -> Result<Vec<Vec<u8>>
     ensures rebuilt { let known = known_among survivors.now in
         IfOk result (λ texts. AreRebuilt survivors.now (with_lost_slices known (lists_of
         texts.items))) }
+    ensures count { IfOk result (λ texts. length texts.items
+        ≡ length (lost (known_among survivors.now))) }
     ensures enough { IsOk result → AreEnough survivors.now }
     ensures refused { let exponents = exponents_of survivors.now.recovery.items in
         IfErr result (IsTrueFault (lost (known_among survivors.now)) exponents) }

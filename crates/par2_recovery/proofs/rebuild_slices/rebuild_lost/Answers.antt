@@ -1,11 +1,11 @@
-use Rattle.std.proofs.Common.{List, sym, ap, subst, Option, ℕ}
+use Rattle.std.proofs.Common.{List, length, sym, ap, subst, Option, ℕ, ◌∙◌}
 use Rattle.std.specs.List.{All}
 use Rattle.par2_spec.specs.Sums.{lists_of}
 use Rattle.par2_recovery.specs.Survivors.{with_lost_slices}
 use Rattle.std.specs.Borrow.{Bor}
 use Rattle.par2_recovery.specs.Rebuilding.{known_among, AreRebuilt}
 use Rattle.par2_recovery.specs.Rebuilding.{IsKnown}
-use Rattle.par2_recovery.proofs.KnownSlices.{known_are_enough, known_are_rebuilt}
+use Rattle.par2_recovery.proofs.KnownSlices.{known_are_enough, known_are_rebuilt, nothing_lost}
 use Rattle.par2_recovery.proofs.rebuild_slices.rebuild_lost.Goals as goal
 
 pub returns-then-all_known-clause-rebuilt : goal.returns-then-all_known-clause-rebuilt
@@ -18,3 +18,9 @@ pub returns-then-all_known-clause-enough : goal.returns-then-all_known-clause-en
 returns-then-all_known-clause-enough c = λ _.
     let survivors = c.args.survivors.now in
     known_are_enough survivors (subst (λ (ws : List (Option (Bor (List ℕ)))). All IsKnown ws) c.deref.ensures.value (c.all_known.ensures c.if-all_known.true))
+
+pub returns-then-all_known-clause-count : goal.returns-then-all_known-clause-count
+returns-then-all_known-clause-count c =
+    let survivors = c.args.survivors.now in
+    let all : All IsKnown survivors.known.items = subst (λ (ws : List (Option (Bor (List ℕ)))). All IsKnown ws) c.deref.ensures.value (c.all_known.ensures c.if-all_known.true) in
+    ap length c.new.ensures.items ∙ sym (ap length (nothing_lost survivors all))
