@@ -1,13 +1,9 @@
 -- What a command has once an argument or a subcommand was added.
 use Rattle.std.proofs.Common.{◌≡◌, ◌∙◌, false, ◌||◌}
-use Rattle.clap.specs.Words.{App, Rule, AddsArg, AddsSubcommand, app_of, rule_of, with_rule, with_subcommand}
+use Rattle.clap.specs.Words.{App, Rule, AddsArg, AddsSubcommand, rule_of, with_rule, with_subcommand}
 use Rattle.clap.specs.declared.builder.arg.Arg.{Arg}
 use Rattle.clap.specs.declared.builder.command.Command.{Command}
-use Rattle.clap.specs.declared.builder.command.Command.TheViews.{out-Command}
-
--- the command is this one, and has no global argument
-abbrev pub IsApp : Command → App → Type 0
-IsApp command app = (app_of command ≡ app) × ((out-Command command).has_globals ≡ false)
+use Rattle.par2_words.specs.Definition.{IsApp}
 
 pub with_argument : (old new : Command) (a : Arg) (app : App) (rule : Rule) → AddsArg old a new → IsApp old app → rule_of a ≡ rule → a.global ≡ false → IsApp new (with_rule app rule)
 with_argument old new a app rule adds is same local = (

@@ -88,18 +88,12 @@ named (Some b) n rows e f =
     let rows_are : rows ≡ rows_of (found_of (out-SubCommand (box_value b)).matches) = ap (λ o. unwrap_or o rows) f in
     rw (name_is, rows_are) refl
 
-pub met : (command : Command) (m : ArgMatches) (words : List Text) (n : Text) (rows : List Row) → app_of command ≡ par2_app
-    → HasMatchesOf (app_of command) words m → Some n ≡ subcommand_name_of m → Some rows ≡ option_map (λ p. p.1) (subcommand_rows_of m)
-    → subcommand_of par2_app words ≡ Some (n, rows)
-met command m words n rows app has name_is rows_are =
-    let has_par2 : HasMatchesOf par2_app words m = subst (λ (a : App). HasMatchesOf a words m) app has in
-    sym (has_par2 simple).1 ∙ named (out-ArgMatches m).subcommand n rows name_is rows_are
+pub met : (m : ArgMatches) (words : List Text) (n : Text) (rows : List Row) → HasMatchesOf par2_app words m → Some n ≡ subcommand_name_of m
+    → Some rows ≡ option_map (λ p. p.1) (subcommand_rows_of m) → subcommand_of par2_app words ≡ Some (n, rows)
+met m words n rows has name_is rows_are = sym (has simple).1 ∙ named (out-ArgMatches m).subcommand n rows name_is rows_are
 
-pub unmet : (command : Command) (m : ArgMatches) (words : List Text) → app_of command ≡ par2_app → HasMatchesOf (app_of command) words m
-    → None ≡ subcommand_name_of m → is_some (subcommand_of par2_app words) ≡ true → ⊥
-unmet command m words app has none there =
-    let has_par2 : HasMatchesOf par2_app words m = subst (λ (a : App). HasMatchesOf a words m) app has in
-    go (out-ArgMatches m).subcommand none (ap is_some (has_par2 simple).1 ∙ there)
+pub unmet : (m : ArgMatches) (words : List Text) → HasMatchesOf par2_app words m → None ≡ subcommand_name_of m → is_some (subcommand_of par2_app words) ≡ true → ⊥
+unmet m words has none there = go (out-ArgMatches m).subcommand none (ap is_some (has simple).1 ∙ there)
   where
     go : {Z : Type 0} (o : Option (Box SubCommand Z)) → None ≡ option_map (λ b. (out-SubCommand (box_value b)).name.now) o → is_some (subcommand_rows o) ≡ true → ⊥
     go None e h = true≢false (sym h)

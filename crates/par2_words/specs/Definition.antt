@@ -3,8 +3,10 @@
 --   | undo | redo
 -- An option is given once at most, also between the names, and `--` ends the options. There is no `help` command.
 -- `--help` and `-h` end the parse with a fault, as every simple clap command does.
-use Rattle.std.specs.Prelude.{[], ◌∷◌, Some, codes, pos, true}
-use Rattle.clap.specs.Words.{App, Rule, new_app, new_rule, with_rule, with_subcommand}
+use Rattle.std.specs.Prelude.{◌≡◌, [], ◌∷◌, Some, codes, false, pos, true}
+use Rattle.clap.specs.Words.{App, Rule, app_of, new_app, new_rule, with_rule, with_subcommand}
+use Rattle.clap.specs.declared.builder.command.Command.{Command}
+use Rattle.clap.specs.declared.builder.command.Command.TheViews.{out-Command}
 use Rattle.clap.specs.declared.builder.action.ArgAction.TheVariants.{Append, Set, SetTrue}
 use Rattle.clap.specs.declared.builder.value_parser.ValueParser.TheVariants as vp
 
@@ -77,3 +79,7 @@ file_commands_app = with_subcommand (with_subcommand (with_subcommand start_app 
 unfoldable pub par2_app : App
 par2_app = with_subcommand (with_subcommand (with_subcommand file_commands_app purge_app.top)
     (new_app (codes "undo")).top) (new_app (codes "redo")).top
+
+-- the command is this one, and has no global argument
+abbrev pub IsApp : Command → App → Type 0
+IsApp command app = (app_of command ≡ app) × ((out-Command command).has_globals ≡ false)

@@ -1,8 +1,8 @@
 //! The command line of `par2`.
 ghost use Rattle.std.specs.Prelude.{◌≡◌, IfOk, true, false};
-ghost use Rattle.clap.specs.Words.{app_of, rule_of};
+ghost use Rattle.clap.specs.Words.{App, app_of, rule_of, with_rule, with_subcommand};
 ghost use Rattle.clap.specs.declared.builder.command.Command.TheViews.{out-Command};
-ghost use Rattle.par2_words.specs.Definition.{create_app, create_numbers_app, file_commands_app, start_app, verify_app, repair_app, purge_app, par2_app, slice_rule, count_rule, first_rule, overwrite_rule, purge_rule, base_rule, files_rule};
+ghost use Rattle.par2_words.specs.Definition.{create_app, create_numbers_app, file_commands_app, IsApp, start_app, verify_app, repair_app, purge_app, par2_app, slice_rule, count_rule, first_rule, overwrite_rule, purge_rule, base_rule, files_rule};
 
 use clap::{Arg, ArgAction, Command, value_parser};
 use std::alloc::{AllocError, Global};
@@ -84,33 +84,35 @@ fn create_numbers<'a>(alloc: Global) -> Result<Command<'a>, AllocError>
         .arg(first_arg(alloc))
 }
 
+// The command with its base and its files.
+fn with_files<'a>(alloc: Global, command: Command<'a>) -> Result<Command<'a>, AllocError>
+    ensures { (app : App) → IsApp command.entry app
+        → IfOk result (λ c. IsApp c (with_rule (with_rule app base_rule) files_rule)) }
+{
+    command.arg(base_arg(alloc))?.arg(files_arg(alloc))
+}
+
 fn create_command<'a>(alloc: Global) -> Result<Command<'a>, AllocError>
     ensures { IfOk result (λ c. (app_of c ≡ create_app)
         × ((out-Command c).has_globals ≡ false)) }
 {
-    create_numbers(alloc)?
-        .arg(overwrite_arg(alloc))?
-        .arg(base_arg(alloc))?
-        .arg(files_arg(alloc))
+    let command = create_numbers(alloc)?.arg(overwrite_arg(alloc))?;
+    with_files(alloc, command)
 }
 
 fn verify_command<'a>(alloc: Global) -> Result<Command<'a>, AllocError>
     ensures { IfOk result (λ c. (app_of c ≡ verify_app)
         × ((out-Command c).has_globals ≡ false)) }
 {
-    Command::new(alloc, "verify")
-        .arg(base_arg(alloc))?
-        .arg(files_arg(alloc))
+    with_files(alloc, Command::new(alloc, "verify"))
 }
 
 fn repair_command<'a>(alloc: Global) -> Result<Command<'a>, AllocError>
     ensures { IfOk result (λ c. (app_of c ≡ repair_app)
         × ((out-Command c).has_globals ≡ false)) }
 {
-    Command::new(alloc, "repair")
-        .arg(purge_arg(alloc))?
-        .arg(base_arg(alloc))?
-        .arg(files_arg(alloc))
+    let command = Command::new(alloc, "repair").arg(purge_arg(alloc))?;
+    with_files(alloc, command)
 }
 
 fn purge_command<'a>(alloc: Global) -> Result<Command<'a>, AllocError>
@@ -129,14 +131,26 @@ fn start_command<'a>(alloc: Global) -> Command<'a>
         .disable_help_subcommand(true)
 }
 
+// The command with one subcommand more.
+fn with_command<'a>(
+    command: Result<Command<'a>, AllocError>,
+    subcommand: Result<Command<'a>, AllocError>,
+) -> Result<Command<'a>, AllocError>
+    ensures { (app other : App) → IfOk command.entry (λ c. IsApp c app)
+        → IfOk subcommand.entry (λ c. IsApp c other)
+        → IfOk result (λ c. IsApp c (with_subcommand app other.top)) }
+{
+    let subcommand = subcommand?;
+    command?.subcommand(subcommand)
+}
+
 fn file_commands<'a>(alloc: Global) -> Result<Command<'a>, AllocError>
     ensures { IfOk result (λ c. (app_of c ≡ file_commands_app)
         × ((out-Command c).has_globals ≡ false)) }
 {
-    start_command(alloc)
-        .subcommand(create_command(alloc)?)?
-        .subcommand(verify_command(alloc)?)?
-        .subcommand(repair_command(alloc)?)
+    let command = with_command(Ok(start_command(alloc)), create_command(alloc));
+    let command = with_command(command, verify_command(alloc));
+    with_command(command, repair_command(alloc))
 }
 
 /// The command line with its six commands, as clap takes it.
@@ -144,8 +158,7 @@ pub(crate) fn par2_command<'a>(alloc: Global) -> Result<Command<'a>, AllocError>
     ensures { IfOk result (λ c. (app_of c ≡ par2_app)
         × ((out-Command c).has_globals ≡ false)) }
 {
-    file_commands(alloc)?
-        .subcommand(purge_command(alloc)?)?
-        .subcommand(Command::new(alloc, "undo"))?
-        .subcommand(Command::new(alloc, "redo"))
+    let command = with_command(file_commands(alloc), purge_command(alloc));
+    let command = with_command(command, Ok(Command::new(alloc, "undo")));
+    with_command(command, Ok(Command::new(alloc, "redo")))
 }

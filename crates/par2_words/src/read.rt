@@ -1,6 +1,6 @@
 //! What the words ask for.
 ghost use Rattle.std.specs.Prelude.{◌≡◌, ◌⊎◌, ℕ, List, [], IfOk, IfErr, Some, None, true, false, codes, map, is_some, string_bytes, unwrap_or, option_and_then, option_map};
-ghost use Rattle.clap.specs.Words.{Text, fault_of, found_of, one_of, rows_of, kind_of, subcommand_of, takes};
+ghost use Rattle.clap.specs.Words.{HasMatchesOf, Text, fault_of, found_of, one_of, rows_of, kind_of, subcommand_of, takes};
 ghost use Rattle.par2_spec.specs.Views.{action_of, command_of};
 ghost use Rattle.par2_words.specs.Definition.{par2_app};
 ghost use Rattle.par2_words.specs.Meanings.{asked_by, meaning, number_of, text_of, texts_of, flag_of, create_meaning, verify_meaning, repair_meaning, purge_meaning};
@@ -137,6 +137,20 @@ fn fault_for(error: &clap::Error) -> WordsFault
     }
 }
 
+// What clap finds in the words.
+fn matches_of<'a>(alloc: Global, words: &'a [String]) -> Result<ArgMatches<'a>, WordsFault>
+    ensures matches { IfOk result (HasMatchesOf par2_app (map string_bytes words.now)) }
+    ensures faultless { IfOk result (λ _. fault_of par2_app (map string_bytes words.now) ≡ []) }
+    ensures arguments { IfErr result (λ e.
+        takes par2_app (map string_bytes words.now) ≡ true → e ≡ WordsFault.Memory) }
+{
+    let command = par2_command(alloc)?;
+    match command.try_get_matches_from(words) {
+        Ok(matches) => Ok(matches),
+        Err(error) => Err(fault_for(&error)),
+    }
+}
+
 /// The command that the words ask for, the program's name left out.
 ///
 /// Every refusal by clap but want of memory is `Arguments`, `--help` too.
@@ -149,11 +163,7 @@ pub fn read_words(alloc: Global, words: &[String]) -> Result<Command, WordsFault
         takes par2_app texts ≡ true → is_some (subcommand_of par2_app texts) ≡ true
         → IfErr result (λ e. e ≡ WordsFault.Memory) }
 {
-    let command = par2_command(alloc)?;
-    let matches = match command.try_get_matches_from(words) {
-        Ok(matches) => matches,
-        Err(error) => return Err(fault_for(&error)),
-    };
+    let matches = matches_of(alloc, words)?;
     match matches.subcommand() {
         Some((name, matches)) => named(alloc, name, matches),
         None => Err(WordsFault::Arguments),

@@ -1,4 +1,3 @@
-use Rattle.std.proofs.lemmas.Result.{IfOk-weaker}
 use Rattle.par2_words.specs.Definition.{create_app}
 use Rattle.par2_words.proofs.Additions.{with_argument}
 use Rattle.par2_words.proofs.definition.create_command.Goals as goal
@@ -6,6 +5,4 @@ use Rattle.par2_words.proofs.definition.create_command.Goals as goal
 pub returns : goal.returns
 unfolding create_app
 returns c =
-    let overwrite = with_argument _ _ _ _ _ c.in_ok-arg.ensures c.in_ok-create_numbers.ensures c.overwrite_arg.ensures.rule c.overwrite_arg.ensures.local in
-    let base = with_argument _ _ _ _ _ c.in_ok-arg-2.ensures overwrite c.base_arg.ensures.rule c.base_arg.ensures.local in
-    IfOk-weaker c.arg-3.result _ _ (λ r adds. with_argument _ _ _ _ _ adds base c.files_arg.ensures.rule c.files_arg.ensures.local) c.arg-3.ensures
+    c.with_files.ensures _ (with_argument _ _ _ _ _ c.in_ok-command.ensures c.in_ok-create_numbers.ensures c.overwrite_arg.ensures.rule c.overwrite_arg.ensures.local)

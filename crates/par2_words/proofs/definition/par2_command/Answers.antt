@@ -1,11 +1,10 @@
-use Rattle.std.proofs.lemmas.Result.{IfOk-weaker}
-use Rattle.par2_words.specs.Definition.{par2_app}
-use Rattle.par2_words.proofs.Additions.{with_command}
+use Rattle.std.proofs.Common.{codes}
+use Rattle.clap.specs.Words.{new_app}
+use Rattle.par2_words.specs.Definition.{file_commands_app, par2_app, purge_app}
 use Rattle.par2_words.proofs.definition.par2_command.Goals as goal
 
 pub returns : goal.returns
 unfolding par2_app
 returns c =
-    let purge = with_command _ _ _ _ _ c.in_ok-subcommand.ensures c.in_ok-file_commands.ensures c.in_ok-purge_command.ensures in
-    let undo = with_command _ _ _ _ _ c.in_ok-subcommand-2.ensures purge (c.new.ensures.app, c.new.ensures.local) in
-    IfOk-weaker c.subcommand-3.result _ _ (λ r adds. with_command _ _ _ _ _ adds undo (c.new-2.ensures.app, c.new-2.ensures.local)) c.subcommand-3.ensures
+    let purge = c.with_command-command.ensures file_commands_app purge_app c.file_commands.ensures c.purge_command.ensures in
+    c.with_command.ensures _ (new_app (codes "redo")) (c.with_command-command-2.ensures _ (new_app (codes "undo")) purge (c.new.ensures.app, c.new.ensures.local)) (c.new-2.ensures.app, c.new-2.ensures.local)

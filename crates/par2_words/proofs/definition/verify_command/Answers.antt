@@ -1,10 +1,6 @@
-use Rattle.std.proofs.lemmas.Result.{IfOk-weaker}
 use Rattle.par2_words.specs.Definition.{verify_app}
-use Rattle.par2_words.proofs.Additions.{with_argument}
 use Rattle.par2_words.proofs.definition.verify_command.Goals as goal
 
 pub returns : goal.returns
 unfolding verify_app
-returns c =
-    let base = with_argument _ _ _ _ _ c.in_ok-arg.ensures (c.new.ensures.app, c.new.ensures.local) c.base_arg.ensures.rule c.base_arg.ensures.local in
-    IfOk-weaker c.arg-2.result _ _ (λ r adds. with_argument _ _ _ _ _ adds base c.files_arg.ensures.rule c.files_arg.ensures.local) c.arg-2.ensures
+returns c = c.with_files.ensures _ (c.new.ensures.app, c.new.ensures.local)

@@ -1,0 +1,8 @@
+use Rattle.std.proofs.lemmas.Result.{IfOk-at_ok, IfOk-weaker}
+use Rattle.par2_words.specs.Definition.{IsApp}
+use Rattle.par2_words.proofs.Additions.{with_command}
+use Rattle.par2_words.proofs.definition.with_command.Goals as goal
+
+pub returns : goal.returns
+returns c = λ app other is same.
+    IfOk-weaker c.subcommand.result _ _ (λ r adds. with_command _ _ _ app other adds (IfOk-at_ok (λ k. IsApp k app) c.in_ok-command.was is) (IfOk-at_ok (λ k. IsApp k other) c.in_ok-subcommand.was same)) c.subcommand.ensures
