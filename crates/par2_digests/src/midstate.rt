@@ -6,6 +6,7 @@ ghost use Rattle.par2_digests.specs.Digests.{digest_at};
 ghost use Rattle.par2_digests.specs.Feeds.{hash_behind, bytes_left};
 ghost use Rattle.par2_digests.specs.Messages.{HasAbsorbed, message_at, message_of, part_bytes};
 ghost use Rattle.par2_digests.specs.declared.midstate.Part.{Part};
+ghost use Rattle.par2_digests.specs.declared.tasks.Task.{Task};
 
 use crate::alone::hashed;
 use crate::feeds::Feed;
@@ -114,6 +115,30 @@ fn task<'a>(
     }
 }
 
+// What is to do in each lane.
+fn tasks_of<'a>(
+    rest: &'a [u8],
+    messages: &'a [Message<'a>],
+    endings: &'a [[Part<'a>; 2]; LANES],
+) -> [Task<'a>; LANES]
+    ensures count { length result ≡ 8 }
+    ensures begun { (k : ℕ) (no_task : Task) (none : List Part) → k < 8 → k < length messages.now
+        → ((get_or result k no_task).hash ≡ None)
+        × (bytes_left (get_or result k no_task).feed
+        ≡ rest.now ++ (message_at messages.now k ++ message_of (get_or endings.now k none))) }
+{
+    [
+        task(rest, messages, endings, 0),
+        task(rest, messages, endings, 1),
+        task(rest, messages, endings, 2),
+        task(rest, messages, endings, 3),
+        task(rest, messages, endings, 4),
+        task(rest, messages, endings, 5),
+        task(rest, messages, endings, 6),
+        task(rest, messages, endings, 7),
+    ]
+}
+
 impl Midstate {
     /// Before the first byte.
     pub fn new() -> Midstate
@@ -176,16 +201,7 @@ impl Midstate {
     {
         let rest = &self.rest[..(self.length % 64) as usize];
         let endings = self.endings(messages);
-        let mut tasks = [
-            task(rest, messages, &endings, 0),
-            task(rest, messages, &endings, 1),
-            task(rest, messages, &endings, 2),
-            task(rest, messages, &endings, 3),
-            task(rest, messages, &endings, 4),
-            task(rest, messages, &endings, 5),
-            task(rest, messages, &endings, 6),
-            task(rest, messages, &endings, 7),
-        ];
+        let mut tasks = tasks_of(rest, messages, &endings);
         let [a, b, c, d] = self.hash;
         let state = in_each_lane(a, b, c, d);
         finish_all(&mut tasks, state, words, messages.len());

@@ -4,7 +4,7 @@ ghost use Rattle.std.specs.Prelude.{◌≡◌, ◌≤◌, ◌<◌, ◌++◌, Non
 ghost use Rattle.par2_digests.specs.Feeds.{bytes_left};
 ghost use Rattle.par2_digests.specs.Lanes.{lane};
 ghost use Rattle.par2_digests.specs.Messages.{HasAbsorbed, message_of};
-ghost use Rattle.par2_digests.specs.Pendings.{bytes_to_absorb};
+ghost use Rattle.par2_digests.specs.Pendings.{bytes_to_absorb, IsBegun};
 ghost use Rattle.par2_digests.specs.Tasks.{HasTaken};
 ghost use Rattle.par2_digests.specs.declared.midstate.Midstate.{Midstate};
 ghost use Rattle.par2_digests.specs.declared.pending.Pending.{Pending};
@@ -93,6 +93,24 @@ fn task<'a>(pendings: &'a [Pending<'a>], k: usize) -> Task<'a>
     }
 }
 
+// What is to do in each lane.
+fn tasks_of<'a>(pendings: &'a [Pending<'a>]) -> [Task<'a>; LANES]
+    ensures count { length result ≡ 8 }
+    ensures begun { (k : ℕ) (no_task : Task) (none : Pending) → k < 8 → k < length pendings.now
+        → IsBegun (get_or pendings.now k none) (get_or result k no_task) }
+{
+    [
+        task(pendings, 0),
+        task(pendings, 1),
+        task(pendings, 2),
+        task(pendings, 3),
+        task(pendings, 4),
+        task(pendings, 5),
+        task(pendings, 6),
+        task(pendings, 7),
+    ]
+}
+
 // The state of a task that has ended.
 fn state_behind(pending: &Pending, task: &Task) -> Midstate
     ensures { (m : List ℕ) → HasAbsorbed pending.now.state m
@@ -119,16 +137,7 @@ fn states_behind<'a, V: Lanes>(
         → let pending = get_or pendings.now k none in HasAbsorbed pending.state m
         → HasAbsorbed (get_or result k no_state) (m ++ message_of pending.parts.items) }
 {
-    let mut tasks = [
-        task(pendings, 0),
-        task(pendings, 1),
-        task(pendings, 2),
-        task(pendings, 3),
-        task(pendings, 4),
-        task(pendings, 5),
-        task(pendings, 6),
-        task(pendings, 7),
-    ];
+    let mut tasks = tasks_of(pendings);
     finish_all(&mut tasks, state_of(pendings), words, pendings.len());
     let mut states = [Midstate::new(); LANES];
     for (k, pending) in pendings.iter().enumerate() {

@@ -5,15 +5,22 @@ ghost use Rattle.std.specs.Prelude.{◌≡◌, ◌≤◌, ◌<◌, ◌+◌, ◌+
 ghost use Rattle.md5.specs.Md5.{word_at};
 ghost use Rattle.par2_digests.specs.Lanes.{AreOfFour, four_words_at, quad_words};
 
+use std::alloc::AllocError;
 use std::simd::prelude::*;
 
 /// Four words of each of several messages: the first words, the second words, and so on.
-#[derive(Clone, Copy)]
+#[derive(Copy)]
 pub(crate) struct Quad<V> {
     pub(crate) first: V,
     pub(crate) second: V,
     pub(crate) third: V,
     pub(crate) fourth: V,
+}
+
+impl<V: Copy> Clone for Quad<V> {
+    fn clone(&self) -> Result<Self, AllocError> {
+        Ok(*self)
+    }
 }
 
 #[inline(always)]

@@ -5,6 +5,7 @@ ghost use Rattle.md5.specs.Md5.{add32, add_state, round, rounds, step_constants,
 ghost use Rattle.par2_digests.specs.Lanes.{lane, lane_words};
 
 use crate::lanes::Lanes;
+use std::alloc::AllocError;
 
 // T, the constants of the steps.
 const CONSTANTS: [u32; 64] = [
@@ -82,12 +83,18 @@ const SHIFTS: [u32; 64] = [
 ];
 
 /// The four variables of several messages.
-#[derive(Clone, Copy)]
+#[derive(Copy)]
 pub(crate) struct State<V> {
     pub(crate) a: V,
     pub(crate) b: V,
     pub(crate) c: V,
     pub(crate) d: V,
+}
+
+impl<V: Copy> Clone for State<V> {
+    fn clone(&self) -> Result<Self, AllocError> {
+        Ok(*self)
+    }
 }
 
 /// The sixteen words of a block of each message.

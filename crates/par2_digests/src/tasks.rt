@@ -1,6 +1,6 @@
 //! Messages on their way to their digests, side by side.
 
-ghost use Rattle.std.specs.Prelude.{◌≡◌, ◌≤◌, ◌<◌, ◌*◌, ◌-◌, ℕ, List, Some, length, take, drop, get_or};
+ghost use Rattle.std.specs.Prelude.{◌≡◌, ◌≤◌, ◌<◌, ◌*◌, ◌-◌, ℕ, List, IsTrue, Some, length, take, drop, get_or};
 ghost use Rattle.std.specs.List.{list_any};
 ghost use Rattle.std.specs.Option.{is_none};
 ghost use Rattle.md5.specs.Md5.{digest_bytes};
@@ -134,6 +134,35 @@ fn any_is_open(tasks: &[Task]) -> bool
     tasks.iter().any(|task| task.hash.is_none())
 }
 
+// Whether the hash value of message k is still to come, and so is that of one behind it.
+fn has_company(tasks: &[Task], count: usize, k: usize) -> bool
+    requires within { k < count }
+    requires few { count ≤ length tasks.now }
+    ensures { IsTrue result → 0 < get_or (works tasks.now) k 0 }
+{
+    tasks[k].hash.is_none() && any_is_open(&tasks[k + 1..count])
+}
+
+// Takes as many blocks of each message as can be taken at once.
+fn advance<V: Lanes>(
+    tasks: &mut [Task; 8],
+    blocks: &mut [u8; BLOCKS_LEN],
+    state: State<V>,
+    words: &mut Words<V>,
+    count: usize,
+) -> State<V>
+    requires lanes { count ≤ V.count }
+    requires few { V.count ≤ 8 }
+    ensures leads { LeadOn (lane V.at) count tasks.old state tasks.new result }
+    ensures shrinks { (j : ℕ) → j < count
+        → get_or (works tasks.new) j 0 ≤ get_or (works tasks.old) j 0 - 1 }
+    ensures size { length tasks.new ≡ 8 }
+{
+    let batch = batch_of(&tasks[..count]);
+    turn_all(tasks, blocks, &state, count, batch);
+    absorbed(state, words, blocks, &STARTS, batch)
+}
+
 // Goes on until the hash value of message k is there, or those of all behind it.
 fn go_on<V: Lanes>(
     tasks: &mut [Task; 8],
@@ -152,10 +181,8 @@ fn go_on<V: Lanes>(
 {
     let mut state = state;
     let mut blocks = [0; BLOCKS_LEN];
-    while tasks[k].hash.is_none() && any_is_open(&tasks[k + 1..count]) {
-        let batch = batch_of(&tasks[..count]);
-        turn_all(tasks, &mut blocks, &state, count, batch);
-        state = absorbed(state, words, &blocks, &STARTS, batch);
+    while has_company(tasks, count, k) {
+        state = advance(tasks, &mut blocks, state, words, count);
     }
     state
 }

@@ -12,8 +12,7 @@ use std::alloc::{AllocError, Global};
 fn message(alloc: Global, text: &[u8]) -> Result<Message, AllocError>
     ensures { IfOk result (λ message. message_of message.parts.items ≡ text.now) }
 {
-    let mut parts = Vec::with_capacity(alloc, 1)?;
-    parts.push(Part::Bytes(text))?;
+    let parts = vec![in alloc; Part::Bytes(text)]?;
     Ok(Message { parts })
 }
 
@@ -39,8 +38,7 @@ fn push_digests(
 {
     let messages = messages(alloc, texts)?;
     let added = Midstate::new().digests(&messages);
-    digests.extend_from_slice(&added[..messages.len()])?;
-    Ok(())
+    digests.extend_from_slice(&added[..messages.len()])
 }
 
 /// The MD5 digests of the texts.

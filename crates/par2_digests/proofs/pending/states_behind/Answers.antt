@@ -1,4 +1,4 @@
-use Rattle.std.proofs.Common.{◌≡◌, ◌≢◌, ◌<◌, ◌++◌, ◌*◌, ◌/◌, ◌%◌, ◌∙◌, ℕ, List, None, [], ◌∷◌, ap, refl, sym, subst, drop, take, length, length-set, get_or, get_or-set_other, get_or-set_same, inl, inr, arith}
+use Rattle.std.proofs.Common.{◌≡◌, ◌≢◌, ◌<◌, ◌++◌, ◌*◌, ◌/◌, ◌%◌, ◌∙◌, ℕ, List, ap, refl, sym, subst, drop, take, length, length-set, get_or, get_or-set_other, get_or-set_same, inl, inr, arith}
 use Rattle.std.proofs.lemmas.Bool.{cases_lt}
 use Rattle.std.proofs.lemmas.List.{get_or_default}
 use Rattle.std.proofs.Math.ListN.{set}
@@ -6,19 +6,17 @@ use Rattle.md5.specs.Md5.{hash_after}
 use Rattle.par2_digests.specs.Feeds.{bytes_left}
 use Rattle.par2_digests.specs.Lanes.{lane}
 use Rattle.par2_digests.specs.Messages.{HasAbsorbed, message_of}
-use Rattle.par2_digests.specs.Pendings.{bytes_to_absorb}
 use Rattle.par2_digests.specs.Tasks.{HasTaken, LeadsTo}
 use Rattle.par2_digests.specs.declared.midstate.Midstate.{Midstate}
 use Rattle.par2_digests.specs.declared.pending.Pending.{Pending}
 use Rattle.par2_digests.specs.declared.tasks.Task.{Task}
-use Rattle.par2_digests.proofs.LaneLaws.{each_lane}
 use Rattle.par2_digests.proofs.TaskLaws.{ready}
 use Rattle.par2_digests.proofs.pending.states_behind.Goals as goal
 
 pub loop-k-preserved : goal.loop-k-preserved
 loop-k-preserved g c =
     let pendings = c.args.pendings.now in
-    let tasks : List Task = c.task.result ∷ c.task-2.result ∷ c.task-3.result ∷ c.task-4.result ∷ c.task-5.result ∷ c.task-6.result ∷ c.task-7.result ∷ c.task-8.result ∷ [] in
+    let tasks = c.tasks_of-tasks.result in
     let k = c.loop-k.k in
     let low : k < length pendings = c.loop-k-test.true in
     let states = c.loop-k.states in
@@ -40,17 +38,7 @@ loop-k-preserved g c =
                 let rest = drop (length p / 64 * 64) p in
                 let absorbed : HasAbsorbed state m = subst (λ (i : ℕ). HasAbsorbed (get_or pendings i none).state m) same held in
                 let here : c.index-pendings-k.result ≡ pending = c.index-pendings-k.is ∙ get_or_default pendings k _ none low in
-                let begun = λ (d : Task).
-                each_lane (λ i. i < length pendings → ((get_or tasks i d).hash ≡ None) × (bytes_left (get_or tasks i d).feed ≡ bytes_to_absorb (get_or pendings i none)))
-                (λ h. (c.task.ensures.open, c.task.ensures.bytes none h))
-                (λ h. (c.task-2.ensures.open, c.task-2.ensures.bytes none h))
-                (λ h. (c.task-3.ensures.open, c.task-3.ensures.bytes none h))
-                (λ h. (c.task-4.ensures.open, c.task-4.ensures.bytes none h))
-                (λ h. (c.task-5.ensures.open, c.task-5.ensures.bytes none h))
-                (λ h. (c.task-6.ensures.open, c.task-6.ensures.bytes none h))
-                (λ h. (c.task-7.ensures.open, c.task-7.ensures.bytes none h))
-                (λ h. (c.task-8.ensures.open, c.task-8.ensures.bytes none h))
-                k (omega (arith, c.requires.lanes, c.requires.few)) low in
+                let begun = λ (d : Task). c.tasks_of-tasks.ensures.begun k d none (omega (arith, c.requires.lanes, c.requires.few)) low in
                 let used : state.length % 64 ≡ length m % 64 = omega (arith, absorbed.0) in
                 let taken_is : take (state.length % 64) state.rest ≡ drop (length m / 64 * 64) m = ap (λ (n : ℕ). take n state.rest) used ∙ absorbed.1.1 in
                 let leads = λ (d : Task).

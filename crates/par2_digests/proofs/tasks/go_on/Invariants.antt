@@ -3,13 +3,12 @@ use Rattle.par2_digests.specs.Lanes.{lane}
 use Rattle.par2_digests.specs.Tasks.{LeadOn, works}
 use Rattle.par2_digests.proofs.tasks.go_on.Given as goal
 
-abbrev pub invariant-loop-tasks : goal.invariant-loop-tasks
-invariant-loop-tasks g l = record {
+abbrev pub invariant-loop-blocks : goal.invariant-loop-blocks
+invariant-loop-blocks g l = record {
   tasks : length l.tasks ≡ 8;
-  blocks : length l.blocks ≡ 16384;
   leads : LeadOn (lane g.V.Lanes.at) l.count l.initial.tasks l.initial.state l.tasks l.state;
   stays : (j : ℕ) → j < l.count → get_or (works l.tasks) j 0 ≤ get_or (works l.initial.tasks) j 0;
 }
 
-abbrev pub decreases-loop-tasks : goal.decreases-loop-tasks
-decreases-loop-tasks g l = get_or (works l.tasks) l.k 0
+abbrev pub decreases-loop-blocks : goal.decreases-loop-blocks
+decreases-loop-blocks g l = get_or (works l.tasks) l.k 0

@@ -1,9 +1,15 @@
-use Rattle.std.proofs.Common.{◌≡◌, ◌++◌, ◌≤◌, [], length, map, take, ap, ◌∙◌, arith, rules}
+use Rattle.std.proofs.Common.{◌≡◌, ◌++◌, ◌≤◌, [], Result, Ok, Err, length, map, take, ap, ◌∙◌, arith, rules}
 use Rattle.std.proofs.lemmas.List.{length-map}
+use Rattle.std.specs.Prelude.{OnOk, if◌then◌else◌, is_ok}
 use Rattle.md5.specs.Md5.{md5}
 use Rattle.par2_digests.specs.Texts.{messages_of, texts_of}
 use Rattle.par2_digests.proofs.TextLaws.{first_digests}
 use Rattle.par2_digests.proofs.texts.push_digests.Goals as goal
+
+-- what holds where a call gave no fault
+when_ok : {X E A : Type 0} (r : Result X E) (new done old want : A) → new ≡ (if is_ok r then done else old) → done ≡ want → OnOk r (new ≡ want)
+when_ok (Ok x) new done old want told is = told ∙ is
+when_ok (Err e) new done old want told is = tt
 
 pub returns : goal.returns
 returns c =
@@ -20,4 +26,4 @@ returns c =
     ap (λ n. take n added) count
     ∙ first_digests messages added (omega (arith, eight, few)) (λ k lt. told [] k c.new.ensures (omega (arith, lt, many)))
     ∙ ap (map md5) c.in_ok-messages.ensures in
-    c.in_ok-extend_from_slice.ensures.items ∙ ap (λ xs. c.args.digests.now.items ++ xs) all
+    when_ok c.extend_from_slice.result _ _ _ _ c.extend_from_slice.ensures.items (ap (λ xs. c.args.digests.now.items ++ xs) all)
