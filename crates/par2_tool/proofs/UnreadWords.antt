@@ -5,10 +5,10 @@ use Rattle.clap.specs.Words.{Text, takes, subcommand_of}
 use Rattle.par2_spec.proofs.NamesLaws.{false_true}
 use Rattle.par2_words.specs.Definition.{par2_app}
 use Rattle.par2_words.specs.Meanings.{meaning}
+use Rattle.par2_words.specs.Refusals.{unread_as}
 use Rattle.par2_words.specs.declared.read.WordsFault.{WordsFault}
 use Rattle.par2_words.specs.declared.read.WordsFault.TheVariants.{Arguments, Memory}
 use Rattle.par2_tool.specs.Asking.{IsCommandLine}
-use Rattle.par2_tool.specs.Refusals.{unread_as}
 use Rattle.par2_tool.specs.Telling.{IsUnread}
 
 -- an action is asked for by a subcommand

@@ -6,8 +6,6 @@ use Rattle.par2_journal.specs.Refusals.{MayRefuse}
 use Rattle.par2_spec.specs.declared.Failure.{Failure}
 use Rattle.par2_spec.specs.declared.Failure.TheVariants as failure
 use Rattle.par2_journal.specs.declared.preparation.SessionFault.TheVariants.{Plan, NothingToUndo, NothingToRedo}
-use Rattle.par2_words.specs.declared.read.WordsFault.{WordsFault}
-use Rattle.par2_words.specs.declared.read.WordsFault.TheVariants as unread
 use Rattle.par2_tool.specs.declared.performing.PerformFault.{PerformFault}
 use Rattle.par2_spec.specs.declared.Fault.TheVariants.{Memory}
 use Rattle.par2_tool.specs.declared.performing.PerformFault.TheVariants.{Session, Store}
@@ -37,8 +35,3 @@ unopened_as unopened.Store = failure.Store
 unopened_as unopened.Memory = failure.Refused Memory
 unopened_as unopened.JournalInvalid = failure.JournalInvalid
 unopened_as unopened.FolderChanged = failure.FolderChanged
-
--- what is told of words that aren't read
-abbrev pub unread_as : WordsFault → Failure
-unread_as unread.Arguments = failure.Arguments
-unread_as unread.Memory = failure.Refused Memory

@@ -2,7 +2,6 @@
 ghost use Rattle.std.specs.Prelude.{◌≡◌, ◌≤◌, Bool, IfOk, IfErr, OnOk, IsTrue, map, string_bytes};
 ghost use Rattle.par2_spec.specs.Sessions.{Session};
 ghost use Rattle.par2_spec.specs.Views.{command_of};
-ghost use Rattle.par2_tool.specs.Refusals.{unread_as};
 ghost use Rattle.par2_tool.specs.Performing.{outcome_of, IsAnswer};
 ghost use Rattle.par2_tool.specs.Telling.{Telling, IsBack, IsCause, IsDone, IsFailed, IsTold, Leaves, SameOutput, IsShown};
 
@@ -11,8 +10,8 @@ use crate::performing::{Outcome, perform};
 use crate::printing::{fail, tell};
 use par2_folder::FolderStore;
 use par2_printing::Printer;
-use par2_spec::{Action, Command, Failure, Fault};
-use par2_words::{WordsFault, read_words};
+use par2_spec::{Action, Command, Failure};
+use par2_words::read_words;
 use std::alloc::Global;
 use std::io::Write;
 
@@ -21,16 +20,6 @@ use std::io::Write;
 struct Accepted {
     outcome: Outcome,
     dropped: bool,
-}
-
-// Why words are no command.
-fn unread(fault: WordsFault) -> Failure
-    ensures { result ≡ unread_as fault }
-{
-    match fault {
-        WordsFault::Arguments => Failure::Arguments,
-        WordsFault::Memory => Failure::Refused(Fault::Memory),
-    }
 }
 
 // Whether a command undoes or does again.
@@ -95,7 +84,7 @@ pub fn run<S: FolderStore, O: Write, E: Write>(
 {
     let command = match read_words(alloc, words) {
         Ok(command) => command,
-        Err(fault) => return fail(err, None, unread(fault)),
+        Err(fault) => return fail(err, None, Failure::from(fault)),
     };
     match carry_out(alloc, store, &command) {
         Ok(accepted) => tell(out, &accepted.outcome, accepted.dropped),

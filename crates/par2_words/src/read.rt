@@ -8,7 +8,7 @@ ghost use Rattle.par2_words.specs.Meanings.{asked_by, meaning, number_of, text_o
 use crate::definition::par2_command;
 use clap::ArgMatches;
 use clap::error::ErrorKind;
-use par2_spec::{Action, Command, CreateArgs};
+use par2_spec::{Action, Command, CreateArgs, Failure, Fault};
 use std::alloc::{AllocError, Global};
 
 /// Why words are no command.
@@ -25,6 +25,20 @@ impl From<AllocError> for WordsFault {
 
     fn from(_error: AllocError) -> WordsFault {
         WordsFault::Memory
+    }
+}
+
+impl From<WordsFault> for Failure {
+    ghost use Rattle.std.specs.Prelude.{◌≡◌};
+    ghost use Rattle.par2_words.specs.Refusals.{unread_as};
+
+    ghost from_gives = { λ fault failure. failure ≡ unread_as fault };
+
+    fn from(fault: WordsFault) -> Self {
+        match fault {
+            WordsFault::Arguments => Failure::Arguments,
+            WordsFault::Memory => Failure::Refused(Fault::Memory),
+        }
     }
 }
 

@@ -13,9 +13,9 @@ use Rattle.par2_tool.proofs.running.run.Goals as goal
 pub returns-in-Err-clause-told : goal.returns-in-Err-clause-told
 returns-in-Err-clause-told g c =
     let words = map string_bytes c.args.words.now in
-    let told : IsUnread words c.unread.result =
-    subst (λ (failure : Failure). IsUnread words failure) (sym c.unread.ensures) (unread_words words c.in-Err.fault c.in-Err.ensures.arguments) in (
-      Failed [] c.unread.result,
+    let told : IsUnread words c.from.result =
+    subst (λ (failure : Failure). IsUnread words failure) (sym c.from.ensures) (unread_words words c.in-Err.fault c.in-Err.ensures.arguments) in (
+      Failed [] c.from.result,
       inl (refl, told, refl),
       (c.fail.ensures, refl {a = c.args.out.now}),
       λ _. inl (told, refl),
