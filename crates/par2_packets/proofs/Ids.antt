@@ -97,12 +97,15 @@ distinct_keys key m xs ys moved up =
     IsDistinct-IsPermutation bytes_eq flips (map key ys) (map key xs) (IsPermutation-sym _ _ (IsPermutation-map key xs ys moved))
     (IsDistinct-from_AllPairs bytes_eq-Decides (map key ys) (keys_differ key m ys up))
 
--- two equal keys among what was moved
-pub not_distinct : {X : Type 0} (key : X → List ℕ) (xs ys : List X) (i j : ℕ) (a b : X) → IsPermutation xs ys → i < j → j < length ys
-    → a ≡ get_or ys i a → b ≡ get_or ys j b → key a ≡ key b → ¬ IsDistinct bytes_eq (map key xs)
-not_distinct key xs ys i j a b moved before within at_a at_b same distinct =
-    let there : IsDistinct bytes_eq (map key ys) = IsDistinct-IsPermutation bytes_eq flips (map key xs) (map key ys) (IsPermutation-map key xs ys moved) distinct in
-    let size : length (map key ys) ≡ length ys = length-map ys key in
-    let first : get_or (map key ys) i [] ≡ key a = get_or-map key ys i a [] (omega (arith, before, within)) ∙ ap key (sym at_a) in
-    let second : get_or (map key ys) j [] ≡ key b = get_or-map key ys j b [] within ∙ ap key (sym at_b) in
-    AllPairs-from_IsDistinct bytes_eq-Decides (map key ys) there i j [] before (omega (arith, size, within)) (first ∙ same ∙ sym second)
+-- what was moved has distinct keys as before
+pub moved_distinct : {X : Type 0} (key : X → List ℕ) (xs ys : List X) → IsPermutation xs ys → IsDistinct bytes_eq (map key xs) → IsDistinct bytes_eq (map key ys)
+moved_distinct key xs ys moved = IsDistinct-IsPermutation bytes_eq flips (map key xs) (map key ys) (IsPermutation-map key xs ys moved)
+
+-- two equal keys
+pub not_distinct : {X : Type 0} (key : X → List ℕ) (xs : List X) (i j : ℕ) (a b : X) → i < j → j < length xs
+    → a ≡ get_or xs i a → b ≡ get_or xs j b → key a ≡ key b → ¬ IsDistinct bytes_eq (map key xs)
+not_distinct key xs i j a b before within at_a at_b same distinct =
+    let size : length (map key xs) ≡ length xs = length-map xs key in
+    let first : get_or (map key xs) i [] ≡ key a = get_or-map key xs i a [] (omega (arith, before, within)) ∙ ap key (sym at_a) in
+    let second : get_or (map key xs) j [] ≡ key b = get_or-map key xs j b [] within ∙ ap key (sym at_b) in
+    AllPairs-from_IsDistinct bytes_eq-Decides (map key xs) distinct i j [] before (omega (arith, size, within)) (first ∙ same ∙ sym second)

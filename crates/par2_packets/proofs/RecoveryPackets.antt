@@ -1,10 +1,13 @@
 -- The packets of recovery slices whose exponents count up.
-use Rattle.std.proofs.Common.{◌≡◌, ℕ, zero, suc, ◌+◌, ◌<◌, ◌≤◌, List, [], ◌∷◌, ◌++◌, length, map, get_or, take, drop, sym, ap, ap₂, ◌∙◌, arith, append-nil, append_assoc, Vec, Global}
+use Rattle.std.proofs.Common.{◌≡◌, ℕ, zero, suc, ◌+◌, ◌<◌, ◌≤◌, List, [], ◌∷◌, ◌++◌, length, map, get_or, take, drop, refl, inl, inr, sym, ap, ap₂, ◌∙◌, arith, append-nil, append_assoc, Vec, Global}
 use Rattle.std.specs.Prelude.{flat_map}
 use Rattle.std.specs.List.{enumerate_from}
 use Rattle.std.proofs.Math.Seq.{take-add}
 use Rattle.std.proofs.lemmas.Grind.{flat_map-append}
-use Rattle.std.proofs.lemmas.List.{map-append, take_more, length-take-le}
+use Rattle.std.proofs.lemmas.Bool.{cases_lt}
+use Rattle.std.proofs.lemmas.List.{get_or_append_left, get_or_at, length-map, map-append, take_more, length-take-le}
+use Rattle.par2_digests.specs.declared.midstate.Message.{Message}
+use Rattle.par2_digests.specs.Messages.{message_at, message_of}
 use Rattle.par2_spec.specs.Packets.{packet}
 use Rattle.par2_spec.specs.Volumes.{packet_of, recovery_bytes}
 use Rattle.par2_spec.specs.declared.Kind.TheVariants.{Recovery}
@@ -67,3 +70,25 @@ list_at_place (first ∷ slices) (suc k) slice low is = list_at_place slices k s
 -- a text behind two parts of a message
 pub behind_two : (s type kind text body : List ℕ) → type ≡ kind → text ≡ body → ([] ++ (s ++ (type ++ []))) ++ text ≡ s ++ kind ++ body
 behind_two s type kind text body is same = ap₂ (λ (a b : List ℕ). s ++ a ++ b) (append-nil type ∙ is) same
+
+-- what is in front stays there
+front : (text more : List ℕ) → take (length text) (text ++ more) ≡ text
+front [] more = refl
+front (b ∷ text) more = ap (λ (t : List ℕ). b ∷ t) (front text more)
+
+pub front_kept : (text out more : List ℕ) → out ≡ text ++ more → take (length text) out ≡ text
+front_kept text out more is = ap (take (length text)) is ∙ front text more
+
+-- a message more behind others
+pub message_more : (bodies new : List Message) (body : Message) (k : ℕ) (said : ℕ → List ℕ) → length bodies ≡ k → new ≡ bodies ++ body ∷ []
+    → ((j : ℕ) → j < k → message_at bodies j ≡ said j) → message_of body.parts.items ≡ said k → (j : ℕ) → j < k + 1 → message_at new j ≡ said j
+message_more bodies new body k said size pushed before its j low =
+    let bytes = λ (message : Message). message_of message.parts.items in
+    let texts : List (List ℕ) = map bytes bodies in
+    let count : length texts ≡ k = length-map bodies bytes ∙ size in
+    ap (λ (messages : List Message). message_at messages j) pushed
+    ∙ ap (λ (ts : List (List ℕ)). get_or ts j []) (map-append bytes bodies (body ∷ []))
+    ∙ elim (cases_lt j k) [
+      | inl early ↦ get_or_append_left texts (bytes body ∷ []) [] j (omega (arith, early, count)) ∙ before j early
+      | inr late ↦ get_or_at texts (bytes body) [] [] j (let e : length texts ≡ j = omega (arith, late, low, count) in e) ∙ its ∙ ap said (let e : k ≡ j = omega (arith, late, low) in e)
+    ]

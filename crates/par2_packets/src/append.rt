@@ -33,9 +33,7 @@ pub fn append_digested(
     out.reserve(len)?;
     out.extend_from_slice(b"PAR2\0PKT")?;
     out.extend_from_slice(&u64_bytes(len as u64))?;
-    out.extend_from_slice(digest)?;
-    out.extend_from_slice(set_id)?;
-    out.extend_from_slice(&type_of(kind))?;
+    out.extend_from_slice([*digest, *set_id, type_of(kind)].as_flattened())?;
     out.extend_from_slice(head)?;
     out.extend_from_slice(tail)
 }
@@ -91,9 +89,8 @@ fn main_body(alloc: Global, s: u64, files: &[FileRecord]) -> Result<Vec<u8>, All
 fn desc_body(alloc: Global, file: &FileRecord) -> Result<Vec<u8>, AllocError>
     ensures { IfOk result (λ body. body.items ≡ desc_bytes (file_record_of file.now)) }
 {
-    let mut body = Vec::from_slice(alloc, &file.id)?;
-    body.extend_from_slice(&file.digest)?;
-    body.extend_from_slice(&file.digest_16k)?;
+    let ids = [file.id, file.digest, file.digest_16k];
+    let mut body = Vec::from_slice(alloc, ids.as_flattened())?;
     body.extend_from_slice(&u64_bytes(file.size))?;
     append_padded(&mut body, file.name.as_bytes())?;
     Ok(body)

@@ -1,9 +1,9 @@
 //! The order of the File IDs in a set.
 
-ghost use Rattle.std.specs.Prelude.{◌≡◌, ◌<◌, ◌↔◌, ℕ, length, map, slice_index, IsOk, OnOk, IsPermutation};
+ghost use Rattle.std.specs.Prelude.{◌≡◌, ◌<◌, ◌↔◌, ℕ, false, length, map, slice_index, IsOk, IsTrue, OnOk, IsPermutation};
 ghost use Rattle.std.specs.Int.{w128, from_le_bytes};
 ghost use Rattle.std.specs.List.{IsDistinct};
-ghost use Rattle.std.specs.List.Sorted.{IsStrictlyIncreasing};
+ghost use Rattle.std.specs.List.Sorted.{IsNonDecreasingBy, IsStrictlyIncreasing};
 ghost use Rattle.std.specs.Str.{bytes_eq};
 ghost use Rattle.par2_packets.specs.Views.{id_number};
 
@@ -33,6 +33,20 @@ fn number_of(file: &FileRecord) -> u128
     little_endian(&file.id)
 }
 
+// Whether two records that follow each other have one File ID, where the numbers of the File IDs don't fall.
+fn has_equal_neighbours(files: &[FileRecord]) -> bool
+    requires { IsNonDecreasingBy id_number files.now }
+    ensures none { result ≡ false → IsStrictlyIncreasing (map id_number files.now) }
+    ensures some { IsTrue result → ¬ IsDistinct bytes_eq (map (λ file. file.id) files.now) }
+{
+    for i in 1..files.len() {
+        if number_of(&files[i - 1]) == number_of(&files[i]) {
+            return true;
+        }
+    }
+    false
+}
+
 /// Brings the records into the order of a set: rising File IDs, as little-endian numbers.
 pub fn sort_ids(files: &mut [FileRecord]) -> Result<(), DuplicateId>
     ensures permutation { IsPermutation files.old files.new }
@@ -42,10 +56,8 @@ pub fn sort_ids(files: &mut [FileRecord]) -> Result<(), DuplicateId>
     ensures distinct { IsOk result ↔ IsDistinct bytes_eq (map (λ file. file.id) files.old) }
 {
     files.sort_unstable_by_key(number_of);
-    for i in 1..files.len() {
-        if number_of(&files[i - 1]) == number_of(&files[i]) {
-            return Err(DuplicateId);
-        }
+    if has_equal_neighbours(files) {
+        return Err(DuplicateId);
     }
     Ok(())
 }

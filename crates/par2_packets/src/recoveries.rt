@@ -37,9 +37,7 @@ fn body<'a>(
 ) -> Result<Message<'a>, AllocError>
     ensures { IfOk result (λ body. message_of body.parts.items ≡ exponent.now ++ slice.now) }
 {
-    let mut parts = Vec::with_capacity(alloc, 2)?;
-    parts.push(Part::Bytes(exponent))?;
-    parts.push(Part::Bytes(slice))?;
+    let parts = Vec::from_slice(alloc, &[Part::Bytes(exponent), Part::Bytes(slice)])?;
     Ok(Message { parts })
 }
 

@@ -1,7 +1,7 @@
 use Rattle.std.proofs.Common.{◌<◌}
 use Rattle.std.specs.List.{AllAdjacentBelow}
 use Rattle.par2_packets.specs.Views.{id_number}
-use Rattle.par2_packets.proofs.order.sort_ids.Given as goal
+use Rattle.par2_packets.proofs.order.has_equal_neighbours.Given as goal
 
 abbrev pub invariant-loop-i : goal.invariant-loop-i
 invariant-loop-i l = AllAdjacentBelow (λ a b. id_number a < id_number b) l.files l.i
