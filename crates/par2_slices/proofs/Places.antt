@@ -41,7 +41,7 @@ index_of pairs places sorted are moved rising =
           (found.0, found.1, ap (λ (place : Place). place.index) (get_or_default sorted found.0 no_place x found.1 ∙ found.2));
     }
 
-group_rises : (shift a b : ℕ) → a ≤ b → a / 2 ^ shift ≤ b / 2 ^ shift
+pub group_rises : (shift a b : ℕ) → a ≤ b → a / 2 ^ shift ≤ b / 2 ^ shift
 group_rises shift a b h = le-div (a / 2 ^ shift) b (2 ^ shift) (pow_pos shift) (omega (arith, h, div-mul-le_self a (2 ^ shift)))
 
 not_below : (k start : ℕ) → (k < start → ⊥) → start ≤ k

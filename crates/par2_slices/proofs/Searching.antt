@@ -1,11 +1,12 @@
 -- A search under way.
-use Rattle.std.proofs.Common.{◌≡◌, ℕ, zero, suc, ◌+◌, ◌*◌, ◌/◌, ◌%◌, ◌^◌, ◌<◌, Bool, true, false, cond, List, [], ◌∷◌, ◌++◌, length, length-take, map, drop, take, get_or, set, replicate, refl, sym, ap, subst, ◌∙◌, get_or-set_same, get_or-set_other, inl, inr, arith}
+use Rattle.std.proofs.Common.{◌≡◌, ℕ, zero, suc, ◌+◌, ◌-◌, ◌*◌, ◌/◌, ◌%◌, ◌^◌, ◌<◌, Bool, true, false, cond, List, [], ◌∷◌, ◌++◌, length, length-take, map, drop, take, get_or, set, replicate, refl, sym, ap, subst, ◌∙◌, get_or-set_same, get_or-set_other, inl, inr, arith}
 use Rattle.std.specs.Prelude.{◌⊎◌, ◌==◌, ◌&&◌, Option, Some, None, find, option_map}
 use Rattle.std.specs.List.{count_by, list_all, range_with_len}
 use Rattle.std.specs.Option.{is_none, option_or}
 use Rattle.std.specs.Str.{bytes_eq}
 use Rattle.std.proofs.lemmas.Bool.{cases_eq, cases_lt, eqb-true, eq-eqb}
-use Rattle.std.proofs.lemmas.List.{length-set, length-replicate, length-map, get_or-map, ext_get_or, get_or_append_left, get_or_at, length_push, drop_more, take_more}
+use Rattle.std.proofs.Math.Seq.{drop-length}
+use Rattle.std.proofs.lemmas.List.{append-nil, take_all, length-set, length-replicate, length-map, get_or-map, ext_get_or, get_or_append_left, get_or_at, length_push, drop_more, take_more}
 use Rattle.std.proofs.lemmas.List.Folds.{find-append, sum_by-zero, sum_by-replicate, list_all_at}
 use Rattle.std.proofs.lemmas.List.Sums.{sum_by-set, fold-append}
 use Rattle.md5.specs.Md5.{md5}
@@ -411,6 +412,35 @@ one_settled pairs md5 crc spot old group n found count so_far size inside none m
       total = omega (arith, weighed, heavy, so_far.total);
     }
 
+-- a list whose items were written in place
+pub written : (new old : List (Option Spot)) (n : ℕ) → n ≡ length old → length new ≡ length old → take n (new ++ drop (length new) old) ≡ new
+written new old n len size =
+    ap (take n) (ap (λ xs. new ++ xs) (ap (λ k. drop k old) size ∙ drop-length old) ∙ append-nil new) ∙ take_all n new (omega (arith, len, size))
+
+-- each place of the group has been settled, so each pair has
+pub all_settled : (pairs : List Pair) (md5 : List ℕ) (crc : ℕ) (spot : Spot) (old new : List (Option Spot)) (group : List Place) → HoldsGroup pairs 0 crc group
+    → ((i : ℕ) → i < length pairs → (answer_at new i ≡ answer_at old i) ⊎ (answer_at new i ≡ after_window (has_checksums md5 crc (pair_at pairs i)) spot (answer_at old i)))
+    → ((k : ℕ) → k < length group → answer_at new (place_at group k).index ≡ after_window (has_checksums md5 crc (pair_at pairs (place_at group k).index)) spot (answer_at old (place_at group k).index))
+    → (i : ℕ) → i < length pairs → answer_at new i ≡ after_window (has_checksums md5 crc (pair_at pairs i)) spot (answer_at old i)
+all_settled pairs md5 crc spot old new group holds each done i low =
+    let Is : ℕ → Type 0 = λ j. answer_at new j ≡ after_window (has_checksums md5 crc (pair_at pairs j)) spot (answer_at old j) in
+    elim (cases_eq (pair_at pairs i).1 crc) [
+      | inl same ↦ (let its = holds.whole i low (ap (λ c. c / 2 ^ 0) same) in subst Is its.2 (done its.0 its.1))
+      | inr other ↦ kept (has_checksums md5 crc (pair_at pairs i)) spot (answer_at old i) (answer_at new i) (each i low) (λ none. no_crc (pair_at pairs i) md5 crc other)
+    ]
+
+-- the tally of what is open afterwards
+pub tally_settled : (pairs : List Pair) (md5 : List ℕ) (crc : ℕ) (spot : Spot) (old new : List (Option Spot)) (left count after : ℕ) (filter : Groups) → IsTally pairs old left filter → length new ≡ length old
+    → ((i : ℕ) → i < length pairs → (answer_at new i ≡ answer_at old i) ⊎ (answer_at new i ≡ after_window (has_checksums md5 crc (pair_at pairs i)) spot (answer_at old i)))
+    → count + count_by is_none new ≡ count_by is_none old → after ≡ left - count → IsTally pairs new after filter
+tally_settled pairs md5 crc spot old new left count after filter tally size each total rest = record {
+  len = size ∙ tally.len;
+  count = omega (arith, rest, total, tally.count);
+  marked = λ i low none. tally.marked i low (was_open (has_checksums md5 crc (pair_at pairs i)) spot (answer_at old i) (answer_at new i) (each i low) none);
+  only = tally.only;
+  coarse_only = tally.coarse_only;
+}
+
 pub open_is : (answer : Option Spot) → is_none answer ≡ true → answer ≡ None
 open_is None is = refl
 open_is (Some x) is = absurd (let both : false ≡ true = is in cc)
@@ -424,6 +454,20 @@ has_is pair md5 crc same equal = ap (λ b. b && bytes_eq md5 pair.0) (eq-eqb crc
 never : (b : Bool) → (b && false) ≡ false
 never true = refl
 never false = refl
+
+-- whether the pair of a place has the checksum and no answer
+pub awaited_is : (crc : ℕ) (found : List (Option Spot)) (place : Place) → place.crc ≡ crc → is_none (answer_at found place.index) ≡ true → is_awaited crc found place ≡ true
+awaited_is crc found place same none = ap (λ b. b && is_none (answer_at found place.index)) (eq-eqb place.crc crc same) ∙ none
+
+pub other_crc : (crc : ℕ) (found : List (Option Spot)) (place : Place) → (place.crc ≡ crc → ⊥) → is_awaited crc found place ≡ false
+other_crc crc found place other =
+    elim (place.crc == crc) as (λ b. (place.crc == crc) ≡ b → (b && is_none (answer_at found place.index)) ≡ false) [
+      | true ↦ λ is. absurd (other (eqb-true place.crc crc is))
+      | false ↦ λ is. refl
+    ] refl
+
+pub not_open : (crc : ℕ) (found : List (Option Spot)) (place : Place) → is_none (answer_at found place.index) ≡ false → is_awaited crc found place ≡ false
+not_open crc found place answered = ap (λ b. (place.crc == crc) && b) answered ∙ never (place.crc == crc)
 
 pub no_md5 : (pair : Pair) (md5 : List ℕ) (crc : ℕ) → bytes_eq md5 pair.0 ≡ false → has_checksums md5 crc pair ≡ false
 no_md5 pair md5 crc differs = ap (λ b. (crc == pair.1) && b) differs ∙ never (crc == pair.1)

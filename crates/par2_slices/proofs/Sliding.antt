@@ -71,3 +71,9 @@ pub two_tables : (s : ℕ) (first second : List ℕ) →
 two_tables s first second one two none zero byte below within = one byte within ∙ none_more (leaving s byte)
 two_tables s first second one two none (suc zero) byte below within = two byte within ∙ ap (steps 8) (one byte within)
 two_tables s first second one two none (suc (suc k)) byte below within = absurd (omega (arith, below))
+
+pub each_of_three : (P : ℕ → Type 0) → P 0 → P 1 → P 2 → (k : ℕ) → k < 3 → P k
+each_of_three P first second third zero low = first
+each_of_three P first second third (suc zero) low = second
+each_of_three P first second third (suc (suc zero)) low = third
+each_of_three P first second third (suc (suc (suc k))) low = absurd (omega (arith, low))

@@ -6,3 +6,6 @@ pub returns-else-may_contain : goal.returns-else-may_contain
 returns-else-may_contain g c =
     unmarked c.args.s c.args.bytes.now g.earlier c.args.spot.offset c.args.wanted.now c.args.self.now.found.items c.args.self.now.left c.args.self.now.filter c.args.self.now.batch.items c.args.crc c.requires.0 c.requires.1.1.1
     (λ is. let both : true ≡ false = sym (c.may_contain.ensures.fine is) ∙ c.if-may_contain.false in cc)
+
+pub look-requires : goal.look-requires
+look-requires g c = c.requires

@@ -1,0 +1,28 @@
+use Rattle.std.proofs.Common.{◌≡◌, ◌≤◌, ◌<◌, ◌+◌, ◌*◌, min, ap, ◌∙◌, arith}
+use Rattle.std.proofs.Math.Nat.{mul-le-mul_right}
+use Rattle.par2_slices.specs.Pairs.{first_pairs}
+use Rattle.par2_slices.proofs.pairs.push_groups.Goals as goal
+
+pub push_group-requires-clause-before : goal.push_group-requires-clause-before
+push_group-requires-clause-before c =
+    let start : min (c.loop-group.group * 8) c.args.count ≡ c.loop-group.group * 8 = omega (arith, c.loop-group-test.true, c.div_ceil-group-end.ensures) in
+    c.loop-group.invariant ∙ ap (first_pairs c.args.s c.args.bytes.now) start
+
+pub push_group-requires-clause-whole : goal.push_group-requires-clause-whole
+push_group-requires-clause-whole c =
+    let first = c.loop-group.group * 8 in
+    let low : first < c.args.count = omega (arith, c.loop-group-test.true, c.div_ceil-group-end.ensures) in
+    let within : (first + c.min.result) * c.args.s ≤ c.args.count * c.args.s = mul-le-mul_right c.args.s (omega (arith, low, c.min.ensures)) in
+    omega (arith, within, c.requires.whole)
+
+pub loop-group-preserved : goal.loop-group-preserved
+loop-group-preserved c =
+    let first = c.loop-group.group * 8 in
+    let low : first < c.args.count = omega (arith, c.loop-group-test.true, c.div_ceil-group-end.ensures) in
+    let end : first + c.min.result ≡ min ((c.loop-group.group + 1) * 8) c.args.count = omega (arith, low, c.min.ensures) in
+    c.in_ok-push_group.ensures ∙ ap (first_pairs c.args.s c.args.bytes.now) end
+
+pub returns : goal.returns
+returns c =
+    let all : min (c.loop-group.group * 8) c.args.count ≡ c.args.count = omega (arith, c.loop-group-test.false, c.div_ceil-group-end.ensures) in
+    c.loop-group.invariant ∙ ap (first_pairs c.args.s c.args.bytes.now) all
