@@ -1,6 +1,7 @@
 -- Windows at the spots that a search finds.
-use Rattle.std.proofs.Common.{◌≡◌, ℕ, zero, suc, ◌+◌, ◌<◌, Bool, true, false, cond, List, [], ◌∷◌, ◌++◌, length, map, drop, get_or, refl, sym, ap, ap₂, subst, ◌∙◌, arith}
+use Rattle.std.proofs.Common.{◌≡◌, ℕ, zero, suc, ◌+◌, ◌≤◌, ◌<◌, Bool, true, false, cond, List, [], ◌∷◌, ◌++◌, length, map, drop, get_or, refl, sym, ap, ap₂, subst, ◌∙◌, arith}
 use Rattle.std.specs.Prelude.{Option, Some, None, IfSome, find, flat_map, option_map}
+use Rattle.std.specs.Borrow.{Bor}
 use Rattle.std.specs.List.{range_with_len}
 use Rattle.std.specs.Option.{option_or}
 use Rattle.std.proofs.lemmas.Grind.{flat_map-append}
@@ -11,7 +12,7 @@ use Rattle.par2_spec.specs.Windows.{first_match, found, is_match, window, window
 use Rattle.par2_slices.specs.declared.batch.Spot.{Spot}
 use Rattle.par2_slices.specs.Searches.{first_spot, first_spot_from, no_pair, pair_at, spot_in}
 use Rattle.par2_search.specs.Matching.{text_at}
-use Rattle.par2_search.specs.Texts.{IsWithin, window_in}
+use Rattle.par2_search.specs.Texts.{IsWithin, texts_of, window_in}
 
 find-map : {X Y : Type 0} (p : Y → Bool) (f : X → Y) (xs : List X) → find p (map f xs) ≡ option_map f (find (λ x. p (f x)) xs)
 find-map p f [] = refl
@@ -104,3 +105,10 @@ spot_of_pair s texts pairs wanted spots items i wanted_is spots_are items_are lo
     let are : items ≡ map (first_spot s texts) pairs = items_are ∙ spots_are ∙ ap (map (first_spot s texts)) wanted_is in
     let inside : i < length pairs = omega (arith, low, ap length are, length-map pairs (first_spot s texts)) in
     (inside, ap (λ xs. get_or xs i None) are ∙ get_or-map (first_spot s texts) pairs i no_pair None inside)
+
+-- the text of a spot
+pub text_is : (texts : List (Bor (List ℕ))) (spot : Spot) (d : Bor (List ℕ)) → IsWithin (texts_of texts) spot → text_at (texts_of texts) spot.text ≡ (get_or texts spot.text d).now
+text_is texts spot d its = get_or-map (λ (text : Bor (List ℕ)). text.now) texts spot.text d [] (omega (arith, its.text, length-map texts (λ (text : Bor (List ℕ)). text.now)))
+
+pub spot_inside : (texts : List (Bor (List ℕ))) (spot : Spot) (d : Bor (List ℕ)) → IsWithin (texts_of texts) spot → spot.offset ≤ length (get_or texts spot.text d).now
+spot_inside texts spot d its = omega (arith, its.offset, ap length (text_is texts spot d its))

@@ -1,5 +1,5 @@
 -- What texts and windows say, without where they lie.
-use Rattle.std.specs.Prelude.{◌≤◌, ◌<◌, ℕ, List, length, map, Option, IfSome, option_map}
+use Rattle.std.specs.Prelude.{◌≡◌, ◌≤◌, ◌<◌, ℕ, List, length, map, Option, IfSome, option_map}
 use Rattle.std.specs.Borrow.{Bor}
 use Rattle.std.specs.List.{All}
 use Rattle.par2_spec.specs.Slices.{padded}
@@ -31,3 +31,15 @@ pub record IsWithin (texts : List (List ℕ)) (spot : Spot) : Type 0 where
 -- the window at a spot
 abbrev pub window_in : ℕ → List (List ℕ) → Spot → List ℕ
 window_in s texts spot = window s (text_at texts spot.text) spot.offset
+
+-- the spot, if there is one, is in one of the texts
+abbrev pub IsInTexts : List (List ℕ) → Option Spot → Type 0
+IsInTexts texts spot = IfSome spot (IsWithin texts)
+
+-- the window is the one at the spot
+abbrev pub IsWindowAt : ℕ → List (List ℕ) → Option Spot → Window → Type 0
+IsWindowAt s texts spot window = padded_window s window ≡ option_map (window_in s texts) spot
+
+-- the window is not longer than s bytes
+abbrev pub IsShort : ℕ → Window → Type 0
+IsShort s window = IfSome window (λ bytes. length bytes.now ≤ s)

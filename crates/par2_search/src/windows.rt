@@ -1,17 +1,17 @@
 //! Where slices are found in texts.
 
-ghost use Rattle.std.specs.Prelude.{◌≡◌, ◌≤◌, IfOk, IfSome, length, map, option_map};
+ghost use Rattle.std.specs.Prelude.{◌≡◌, ◌≤◌, IfOk, map};
 ghost use Rattle.par2_spec.specs.Windows.{found};
-ghost use Rattle.par2_search.specs.Texts.{AreShort, IsWithin, padded_window, padded_windows, texts_of, window_in};
+ghost use Rattle.par2_search.specs.Texts.{AreShort, IsInTexts, IsShort, IsWindowAt, padded_windows, texts_of};
 
 use par2_slices::{Pair, Spot, Wanted, find_among, window_bytes};
 use std::alloc::{AllocError, Global};
 
 /// The window at a spot, if there is one.
 fn window_at<'a>(texts: &[&'a [u8]], s: u64, spot: Option<Spot>) -> Option<&'a [u8]>
-    requires { IfSome spot (IsWithin (texts_of texts.now)) }
-    ensures value { padded_window s result ≡ option_map (window_in s (texts_of texts.now)) spot }
-    ensures short { IfSome result (λ bytes. length bytes.now ≤ s) }
+    requires { IsInTexts (texts_of texts.now) spot }
+    ensures value { IsWindowAt s (texts_of texts.now) spot result }
+    ensures short { IsShort s result }
 {
     let Spot { text, offset } = spot?;
     Some(window_bytes(texts[text], s, offset))
@@ -30,8 +30,10 @@ pub fn found_windows<'a>(
         padded_windows s windows.items ≡ map (found s (texts_of texts.now)) pairs.now) }
     ensures short { IfOk result (λ windows. AreShort s windows.items) }
 {
-    let wanted = Wanted::new(alloc, pairs)?;
-    let spots = find_among(alloc, texts, s, &wanted)?;
+    let spots = {
+        let wanted = Wanted::new(alloc, pairs)?;
+        find_among(alloc, texts, s, &wanted)?
+    };
     let mut windows = Vec::with_capacity(alloc, spots.len())?;
     for spot in &spots {
         windows.push(window_at(texts, s, *spot))?;
