@@ -9,3 +9,6 @@ returns-else-may_contain g c =
 
 pub look-requires : goal.look-requires
 look-requires g c = c.requires
+
+pub returns-then-may_contain : goal.returns-then-may_contain
+returns-then-may_contain g c = c.look.ensures
