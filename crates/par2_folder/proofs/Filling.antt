@@ -1,14 +1,9 @@
 -- A write that may be refused, as a folder is filled.
-use Rattle.std.proofs.Common.{◌≡◌, ℕ, ◌+◌, ◌<◌, ◌≤◌, true, false, List, Some, Result, Ok, Err, IfErr, OnOk, OnErr, nat_lt, ap, arith}
-use Rattle.std.specs.FinMap as map_of
+use Rattle.std.proofs.Common.{◌≡◌, ℕ, true, List, Some, Result, Ok, Err, IfErr, OnOk, OnErr, nat_lt, ap, arith}
 use Rattle.std.proofs.lemmas.Bool.Decides.{nat_tests}
-use Rattle.par2_spec.specs.Folders.{has}
 use Rattle.par2_spec.specs.Changes.{FolderState, Write, change_refusal, effect, state_after}
 use Rattle.par2_spec.specs.declared.ChangeFault.{ChangeFault}
-
-pub record IsTried (old new : FolderState) (name bytes : List ℕ) : Type 0 where
-  pub places : (n i : ℕ) → n ≤ old.vacant + i → i < n → n ≤ new.vacant + (i + 1)
-  pub written : has old.files name ≡ false → 0 < old.vacant → new.files ≡ map_of.insert old.files name bytes
+use Rattle.par2_folder.specs.Filling.{IsTried}
 
 pub tried : (C : Type 0) (old new : FolderState) (name bytes : List ℕ) (r : Result (Unit {0}) ChangeFault) → IfErr r (λ fault. change_refusal old (Write name bytes) ≡ Some fault) → OnErr r ((new ≡ old) × C) → OnOk r (new ≡ state_after old (Write name bytes)) → IsTried old new name bytes
 unfolding change_refusal effect

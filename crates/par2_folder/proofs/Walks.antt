@@ -124,25 +124,24 @@ module _ (from to : Border) (states : List Midstate) (folder : Folder) (changes 
     pub next_applicable : IsTrue (is_applicable (folder_in snapshot) (change_of change))
     next_applicable = first_applicable _ _ _ (subst (λ l. IsTrue (are_applicable (folder_in snapshot) (map change_of l))) split within.applicable)
 
-    module _ (next : Snapshot) (after : folder_in next ≡ effect (folder_in snapshot) (change_of change)) (there : ℕ) (place_is : there ≡ cond (touches from (change_of change)) (place + 1) place) where
-      pub parents_then : HaveAbsorbed (drop there states) (run_texts from (folder_in next) (map change_of (drop (suc i) changes)))
+    module _ (there : ℕ) (place_is : there ≡ cond (touches from (change_of change)) (place + 1) place) where
+      pub parents_then : HaveAbsorbed (drop there states) (run_texts from (effect (folder_in snapshot) (change_of change)) (map change_of (drop (suc i) changes)))
       parents_then =
-          subst (λ n. HaveAbsorbed (drop n states) (run_texts from (folder_in next) (map change_of (drop (suc i) changes)))) (sym place_is)
-          (subst (λ f. HaveAbsorbed (drop (cond (touches from (change_of change)) (place + 1) place) states) (run_texts from f (map change_of (drop (suc i) changes)))) (sym after)
+          subst (λ n. HaveAbsorbed (drop n states) (run_texts from (effect (folder_in snapshot) (change_of change)) (map change_of (drop (suc i) changes)))) (sym place_is)
           (next_parents from (folder_in snapshot) (change_of change) (map change_of (drop (suc i) changes)) states place
-          (subst (λ l. HaveAbsorbed (drop place states) (run_texts from (folder_in snapshot) (map change_of l))) split within.parents)))
+          (subst (λ l. HaveAbsorbed (drop place states) (run_texts from (folder_in snapshot) (map change_of l))) split within.parents))
 
-      pub goes_on : IsKept (files_in next) → (more : Runs) → length more.pendings.items ≤ 8
+      pub goes_on : (next : Snapshot) → folder_in next ≡ effect (folder_in snapshot) (change_of change) → IsKept (files_in next) → (more : Runs) → length more.pendings.items ≤ 8
           → AreTo more (within.done ++ new_run to (folder_in next) (change_of change))
           → IsWithin from to states folder changes next more there (drop (i + 1) changes)
-      goes_on kept more few reached =
+      goes_on next after kept more few reached =
           let rest = map change_of (drop (suc i) changes) in
           rw add-one (record {
             kept = kept;
             few = few;
             applicable = subst (λ f. IsTrue (are_applicable f rest)) (sym after)
                 (rest_applicable _ _ _ (subst (λ l. IsTrue (are_applicable (folder_in snapshot) (map change_of l))) split within.applicable));
-            parents = parents_then;
+            parents = subst (λ f. HaveAbsorbed (drop there states) (run_texts from f rest)) (sym after) parents_then;
             done = within.done ++ new_run to (folder_in next) (change_of change);
             reached = reached;
             whole = append_assoc within.done (new_run to (folder_in next) (change_of change)) (later_texts to (folder_in next) rest)

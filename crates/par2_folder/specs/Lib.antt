@@ -4,6 +4,7 @@ pub mod Memory
 pub mod Directories
 pub mod Disk
 pub mod Fuse
+pub mod Filling
 pub mod Below
 pub mod Lending
 pub mod Snapshots

@@ -1,5 +1,5 @@
 //! Borders among names, and what lies between two of them.
-ghost use Rattle.std.specs.Prelude.{◌≡◌, ◌++◌, map, IfOk, OnOk, IsTrue};
+ghost use Rattle.std.specs.Prelude.{◌≡◌, ◌++◌, ◌∷◌, [], map, IfOk, OnOk, IsTrue};
 ghost use Rattle.par2_digests.specs.Messages.{message_of};
 ghost use Rattle.par2_spec.specs.Folders.{behind_length};
 ghost use Rattle.par2_folder.specs.Sorting.{IsKept};
@@ -73,6 +73,15 @@ fn push_counted<'a>(parts: &mut Vec<Part<'a>>, bytes: &'a [u8]) -> Result<(), Al
     Ok(())
 }
 
+// Adds the file's name and its bytes.
+fn push_file<'a>(parts: &mut Vec<Part<'a>>, file: &BorrowedFile<'a>) -> Result<(), AllocError>
+    ensures { OnOk result (message_of parts.new.items
+        ≡ message_of parts.old.items ++ fingerprint_input (file_of file.now ∷ [])) }
+{
+    push_counted(parts, file.name.as_str().as_bytes())?;
+    push_counted(parts, file.bytes.as_slice())
+}
+
 // The files as parts of a message.
 fn parts_of<'a>(alloc: Global, files: &[BorrowedFile<'a>]) -> Result<Vec<Part<'a>>, AllocError>
     ensures { IfOk result (λ parts. message_of parts.items ≡ fingerprint_input (map file_of
@@ -80,8 +89,7 @@ fn parts_of<'a>(alloc: Global, files: &[BorrowedFile<'a>]) -> Result<Vec<Part<'a
 {
     let mut parts = Vec::with_capacity(alloc, files.len().saturating_mul(4))?;
     for file in files {
-        push_counted(&mut parts, file.name.as_str().as_bytes())?;
-        push_counted(&mut parts, file.bytes.as_slice())?;
+        push_file(&mut parts, file)?;
     }
     Ok(parts)
 }

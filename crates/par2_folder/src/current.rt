@@ -53,13 +53,22 @@ fn name_in<R: Files + AllocGlobal>(entry: &DirEntry<&R>) -> io::Result<Option<Na
     }
 }
 
+// Adds the name of a regular file.
+fn add_name<R: Files + AllocGlobal>(
+    names: &mut Vec<Name>,
+    entry: io::Result<DirEntry<&R>>,
+) -> io::Result<()> {
+    if let Some(name) = name_in(&entry?)? {
+        names.push(name)?;
+    }
+    Ok(())
+}
+
 // The names of the regular files, in order, without those that are kept for the history.
 fn list<R: Files + AllocGlobal>(rt: &R, alloc: Global) -> io::Result<Vec<Name>> {
     let mut names = Vec::new(alloc);
     for entry in fs::read_dir(&rt, ".")? {
-        if let Some(name) = name_in(&entry?)? {
-            names.push(name)?;
-        }
+        add_name(&mut names, entry)?;
     }
     names.sort_unstable();
     Ok(names)

@@ -24,6 +24,16 @@ pub struct Snapshot<'a> {
     pub files: Vec<BorrowedFile<'a>>,
 }
 
+// The file where it lies.
+fn borrowed(file: &(Name, Bytes)) -> BorrowedFile<'_>
+    ensures { file_of result ≡ file.now }
+{
+    BorrowedFile {
+        name: &file.0,
+        bytes: &file.1,
+    }
+}
+
 // Where the name is, or where it would go.
 fn search_borrowed(files: &[BorrowedFile], name: &Name) -> Result<usize, usize>
     requires { IsKept (map file_of files.now) }
@@ -52,11 +62,11 @@ impl<'a> Snapshot<'a> {
     pub fn of(alloc: Global, files: &'a [(Name, Bytes)]) -> Result<Snapshot<'a>, AllocError>
         ensures { IfOk result (λ snapshot. files_in snapshot ≡ files.now) }
     {
-        let mut borrowed = Vec::with_capacity(alloc, files.len())?;
-        for (name, bytes) in files {
-            borrowed.push(BorrowedFile { name, bytes })?;
+        let mut all = Vec::with_capacity(alloc, files.len())?;
+        for file in files {
+            all.push(borrowed(file))?;
         }
-        Ok(Snapshot { files: borrowed })
+        Ok(Snapshot { files: all })
     }
 
     // Puts a file of this name and these bytes in, in place of one of the name.

@@ -5,7 +5,7 @@
 ghost use Rattle.std.specs.Prelude.{◌≡◌, ◌≤◌, ◌<◌, ◌+◌, ◌++◌, ◌∷◌, [], ◌^◌, cond, ℕ, List, length, map, IfOk, OnOk, IsTrue};
 ghost use Rattle.md5.specs.Md5.{md5};
 ghost use Rattle.par2_digests.specs.Messages.{HasAbsorbed};
-ghost use Rattle.par2_spec.specs.Changes.{are_applicable};
+ghost use Rattle.par2_spec.specs.Changes.{are_applicable, effect, is_applicable};
 ghost use Rattle.par2_folder.specs.Sorting.{IsKept};
 ghost use Rattle.par2_folder.specs.Views.{change_of};
 ghost use Rattle.par2_folder.specs.Borders.{IsFurther, new_run, run_texts, text_before, touches};
@@ -25,13 +25,19 @@ use std::alloc::{AllocError, Global};
 // The most borders at names: at each, the changes are gone along once.
 const MOST_BORDERS: usize = 64;
 
-// The names where borders are: of the first names that the changes touch, the least and others in order.
-fn border_names(alloc: Global, changes: &[Change]) -> Result<Vec<Name>, AllocError> {
+// The first names that the changes touch, in order.
+fn first_names(alloc: Global, changes: &[Change]) -> Result<Vec<Name>, AllocError> {
     let mut names = Vec::with_capacity(alloc, changes.len())?;
     for change in changes {
         names.push(change.first_name())?;
     }
     names.sort()?;
+    Ok(names)
+}
+
+// The names where borders are: of the first names that the changes touch, the least and others in order.
+fn border_names(alloc: Global, changes: &[Change]) -> Result<Vec<Name>, AllocError> {
+    let names = first_names(alloc, changes)?;
     let step = names.len().div_ceil(MOST_BORDERS).max(1);
     names.into_iter().step_by(step).collect(alloc)
 }
@@ -66,6 +72,26 @@ fn next_place(place: usize, from: &Border, change: &Change) -> usize
     }
 }
 
+// Adds the run of the snapshot's folder.
+fn add_run<'a>(
+    alloc: Global,
+    runs: &mut Runs<'a>,
+    state: Midstate,
+    snapshot: &Snapshot<'a>,
+    from: &Border,
+    to: &Border,
+) -> Result<(), AllocError>
+    requires few { length runs.old.pendings.items ≤ 8 }
+    requires kept { IsKept (files_in snapshot.now) }
+    requires further { IsFurther from.now to.now }
+    ensures few { OnOk result (length runs.new.pendings.items ≤ 8) }
+    ensures texts { (texts : List (List ℕ)) → let folder = folder_in snapshot.now in
+        AreTo runs.old texts → HasAbsorbed state (text_before from.now folder)
+        → OnOk result (AreTo runs.new (texts ++ text_before to.now folder ∷ [])) }
+{
+    runs.push(run_of(alloc, state, snapshot, from, to)?)
+}
+
 // Adds the run that the folder behind the change begins, if it begins one.
 fn follow<'a>(
     alloc: Global,
@@ -85,10 +111,74 @@ fn follow<'a>(
         → OnOk result (AreTo runs.new (texts ++ new_run to.now folder (change_of change.now))) }
 {
     if touches(to, change) {
-        runs.push(run_of(alloc, state, snapshot, from, to)?)
+        add_run(alloc, runs, state, snapshot, from, to)
     } else {
         Ok(())
     }
+}
+
+// Goes on to the folder behind the change.
+fn go_on<'a>(
+    alloc: Global,
+    runs: &mut Runs<'a>,
+    state: Midstate,
+    snapshot: &mut Snapshot<'a>,
+    change: &'a Change,
+    from: &Border,
+    to: &Border,
+) -> Result<(), AllocError>
+    requires few { length runs.old.pendings.items ≤ 8 }
+    requires kept { IsKept (files_in snapshot.old) }
+    requires further { IsFurther from.now to.now }
+    requires applicable { IsTrue (is_applicable (folder_in snapshot.old) (change_of change.now)) }
+    ensures few { OnOk result (length runs.new.pendings.items ≤ 8) }
+    ensures kept { OnOk result (IsKept (files_in snapshot.new)) }
+    ensures folder { OnOk result
+        (folder_in snapshot.new ≡ effect (folder_in snapshot.old) (change_of change.now)) }
+    ensures texts { (texts : List (List ℕ)) → let folder = folder_in snapshot.new in
+        AreTo runs.old texts → HasAbsorbed state (text_before from.now folder)
+        → OnOk result (AreTo runs.new (texts ++ new_run to.now folder (change_of change.now))) }
+{
+    snapshot.apply(change)?;
+    follow(alloc, runs, state, snapshot, change, from, to)
+}
+
+// The runs behind that of the snapshot's folder.
+fn runs_behind<'a>(
+    alloc: Global,
+    mut runs: Runs<'a>,
+    mut snapshot: Snapshot<'a>,
+    changes: &'a [Change],
+    states: &[Midstate],
+    from: &Border,
+    to: &Border,
+) -> Result<Runs<'a>, AllocError>
+    requires few { length runs.pendings.items ≤ 8 }
+    requires kept { IsKept (files_in snapshot) }
+    requires further { IsFurther from.now to.now }
+    requires applicable { IsTrue
+        (are_applicable (folder_in snapshot) (map change_of changes.now)) }
+    requires absorbed { HaveAbsorbed states.now
+        (run_texts from.now (folder_in snapshot) (map change_of changes.now)) }
+    requires first { AreTo runs (text_before to.now (folder_in snapshot) ∷ []) }
+    ensures few { IfOk result (λ runs. length runs.pendings.items ≤ 8) }
+    ensures texts { let changes = map change_of changes.now in
+        IfOk result (λ runs. AreTo runs (run_texts to.now (folder_in snapshot.entry) changes)) }
+{
+    let mut place = 0;
+    for change in changes {
+        place = next_place(place, from, change);
+        go_on(
+            alloc,
+            &mut runs,
+            states[place],
+            &mut snapshot,
+            change,
+            from,
+            to,
+        )?;
+    }
+    Ok(runs)
 }
 
 // The runs up to a border, from the states before an earlier one.
@@ -108,16 +198,52 @@ fn runs_before<'a>(
     ensures texts { let texts = run_texts to.now folder.now.files (map change_of changes.now) in
         IfOk result (λ runs. AreTo runs texts) }
 {
-    let mut snapshot = folder.snapshot(alloc)?;
+    let snapshot = folder.snapshot(alloc)?;
     let mut runs = Runs::new(alloc);
-    let mut place = 0;
-    runs.push(run_of(alloc, states[place], &snapshot, from, to)?)?;
-    for change in changes {
-        snapshot.apply(change)?;
-        place = next_place(place, from, change);
-        follow(alloc, &mut runs, states[place], &snapshot, change, from, to)?;
+    add_run(alloc, &mut runs, states[0], &snapshot, from, to)?;
+    runs_behind(alloc, runs, snapshot, changes, states, from, to)
+}
+
+// The states before a border, from those before an earlier one.
+fn states_before(
+    alloc: Global,
+    folder: &Folder,
+    changes: &[Change],
+    states: &[Midstate],
+    from: &Border,
+    to: &Border,
+) -> Result<Vec<Midstate>, AllocError>
+    requires further { IsFurther from.now to.now }
+    requires applicable { IsTrue (are_applicable folder.now.files (map change_of changes.now)) }
+    requires absorbed { let changes = map change_of changes.now in
+        HaveAbsorbed states.now (run_texts from.now folder.now.files changes) }
+    ensures { let texts = run_texts to.now folder.now.files (map change_of changes.now) in
+        IfOk result (λ states. HaveAbsorbed states.items texts) }
+{
+    runs_before(alloc, folder, changes, states, from, to)?.finish()
+}
+
+// Goes on with the states to the border at the name, if it lies behind.
+fn go_to<'b>(
+    alloc: Global,
+    folder: &Folder,
+    changes: &[Change],
+    states: &mut Vec<Midstate>,
+    border: &mut Border<'b>,
+    name: &'b Name,
+) -> Result<(), AllocError>
+    requires applicable { IsTrue (are_applicable folder.now.files (map change_of changes.now)) }
+    requires absorbed { let changes = map change_of changes.now in
+        HaveAbsorbed states.old.items (run_texts border.old folder.now.files changes) }
+    ensures { let texts = run_texts border.new folder.now.files (map change_of changes.now) in
+        OnOk result (HaveAbsorbed states.new.items texts) }
+{
+    if is_further(border, name) {
+        let next = Border::At(name);
+        *states = states_before(alloc, folder, changes, states, border, &next)?;
+        *border = next;
     }
-    Ok(runs)
+    Ok(())
 }
 
 // The runs of all folders, from the last landmark that the changes leave.
@@ -137,11 +263,7 @@ fn runs_along<'a>(
     let (mut border, state) = landmarks.start(changes);
     let mut states = vec![in alloc; state]?;
     for name in &names {
-        if is_further(&border, name) {
-            let next = Border::At(name);
-            states = runs_before(alloc, folder, changes, &states, &border, &next)?.finish()?;
-            border = next;
-        }
+        go_to(alloc, folder, changes, &mut states, &mut border, name)?;
     }
     runs_before(alloc, folder, changes, &states, &border, &Border::End)
 }
@@ -168,6 +290,15 @@ fn digests_of(alloc: Global, states: &[Midstate]) -> Result<Vec<[u8; 16]>, Alloc
     Ok(digests)
 }
 
+// The digests of what the runs come to.
+fn digests_behind(alloc: Global, runs: Runs) -> Result<Vec<[u8; 16]>, AllocError>
+    requires { length runs.pendings.items ≤ 8 }
+    ensures { (texts : List (List ℕ)) → AreTo runs.entry texts
+        → IfOk result (λ digests. digests.items ≡ map md5 texts) }
+{
+    digests_of(alloc, &runs.finish()?)
+}
+
 /// The digests of the folder's texts, and of those of the folders that the changes lead it through.
 pub fn digests_along(
     alloc: Global,
@@ -180,10 +311,7 @@ pub fn digests_along(
     ensures { let changes = map change_of changes.now in
         IfOk result (λ digests. digests.items ≡ map md5 (run_texts End folder.now.files changes)) }
 {
-    digests_of(
-        alloc,
-        &runs_along(alloc, landmarks, folder, changes)?.finish()?,
-    )
+    digests_behind(alloc, runs_along(alloc, landmarks, folder, changes)?)
 }
 
 /// The same, and behind them the digest of a text, which is computed side by side with them.
@@ -199,5 +327,5 @@ pub fn digests_along_and_of(
 {
     let mut runs = runs_along(alloc, &Landmarks::none(alloc), folder, changes)?;
     runs.push(run_of_text(alloc, Midstate::new(), text)?)?;
-    digests_of(alloc, &runs.finish()?)
+    digests_behind(alloc, runs)
 }

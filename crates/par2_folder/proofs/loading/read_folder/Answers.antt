@@ -4,7 +4,6 @@ use Rattle.std.specs.FinMap.{entries}
 use Rattle.par2_spec.specs.Folders.{names}
 use Rattle.par2_folder.proofs.SortedFiles.{begins_empty, still_there, next_file, is_whole}
 use Rattle.par2_spec.specs.Stores.{Contents}
-use Rattle.par2_folder.proofs.Filling.{tried}
 use Rattle.par2_folder.proofs.loading.read_folder.Goals as goal
 
 pub loop-name-init : goal.loop-name-init
@@ -22,34 +21,33 @@ loop-name-init g c = record {
 pub loop-name-preserved : goal.loop-name-preserved
 loop-name-preserved g c =
     let so_far = c.loop-name.invariant in
-    let after = tried _ c.loop-name.folder c.apply-taken.new.self _ _ c.apply-taken.result c.apply-taken.ensures.refused c.apply-taken.ensures.unchanged c.apply-taken.ensures.folder in
+    let added = c.in_ok-load_file.ensures.tried in
     record {
-      honest = λ h. c.in-Ok-read.ensures.honest (so_far.honest h);
-      same = λ h. c.in-Ok-read.ensures.same (so_far.honest h) ∙ so_far.same h;
-      later = omega (arith, so_far.later, c.in-Ok-read.ensures.later);
-      steady = c.in-Ok-read.ensures.steady ∙ so_far.steady;
+      honest = λ h. c.in_ok-load_file.ensures.honest (so_far.honest h);
+      same = λ h. c.in_ok-load_file.ensures.same (so_far.honest h) ∙ so_far.same h;
+      later = omega (arith, so_far.later, c.in_ok-load_file.ensures.later);
+      steady = c.in_ok-load_file.ensures.steady ∙ so_far.steady;
       possible = λ h.
           let files = ap (λ (k : Contents). k.files) (so_far.same h) in
-          c.in-Ok-read.ensures.possible (so_far.honest h) (still_there _ _ _ _ _ files (so_far.listed h) c.loop-name-test.true c.name-item.is) ∙ so_far.possible h;
+          c.in_ok-load_file.ensures.possible (so_far.honest h) (still_there _ _ _ _ _ files (so_far.listed h) c.loop-name-test.true c.name-item.is) ∙ so_far.possible h;
       listed = so_far.listed;
       files = λ h.
           let whole = (g.S.FolderStore.contents c.args.store.now).files in
           let i = c.loop-name.name-index in
-          let named : c.copied.result ≡ get_or (names whole) i c.name-item.result = c.copied.ensures ∙ c.name-item.is ∙ ap (λ l. get_or l i c.name-item.result) (so_far.listed h) in
-          let found : map_of.get whole c.copied.result ≡ Some c.into.result =
-          let bytes = c.in-Ok-read.ensures.bytes (so_far.honest h) in let same = so_far.same h in let item = c.name-item.is in cc (c.copied.ensures, c.into.ensures) in
+          let named : c.name-item.result ≡ get_or (names whole) i c.name-item.result = c.name-item.is ∙ ap (λ l. get_or l i c.name-item.result) (so_far.listed h) in
+          let found : map_of.get whole c.name-item.result ≡ Some added.0 = subst (λ (k : Contents). map_of.get k.files c.name-item.result ≡ Some added.0) (so_far.same h) (added.1.1 (so_far.honest h)) in
           let in_range : i < length (names whole) = subst (λ l. i < length l) (so_far.listed h) c.loop-name-test.true in
           let next = next_file whole c.loop-name.folder.files i _ _ c.name-item.result (so_far.files h) in_range named found in
           let room : 0 < c.loop-name.folder.vacant = omega (arith, so_far.places, c.loop-name-test.true) in
-          ap entries (after.written next.is_new room) ∙ next.files;
-      places = after.places _ _ so_far.places c.loop-name-test.true;
+          ap entries (added.1.0.written next.is_new room) ∙ next.files;
+      places = added.1.0.places _ _ so_far.places c.loop-name-test.true;
     }
 
-pub returns-in-Err-read-clause-possible : goal.returns-in-Err-read-clause-possible
-returns-in-Err-read-clause-possible g c h =
+pub returns-in_err-load_file-clause-possible : goal.returns-in_err-load_file-clause-possible
+returns-in_err-load_file-clause-possible g c h =
     let so_far = c.loop-name.invariant in
     let files = ap (λ (k : Contents). k.files) (so_far.same h) in
-    c.in-Err-read.ensures.possible (so_far.honest h) (still_there _ _ _ _ _ files (so_far.listed h) c.loop-name-test.true c.name-item.is) ∙ so_far.possible h
+    c.in_err-load_file.ensures.possible (so_far.honest h) (still_there _ _ _ _ _ files (so_far.listed h) c.loop-name-test.true c.name-item.is) ∙ so_far.possible h
 
 pub returns-clause-files : goal.returns-clause-files
 returns-clause-files g c h = is_whole _ _ c.loop-name.name-index (c.loop-name.invariant.files h) (subst (λ l. length l ≤ c.loop-name.name-index) (c.loop-name.invariant.listed h) c.loop-name-test.false)

@@ -1,7 +1,6 @@
-use Rattle.std.proofs.Common.{◌++◌, ◌∷◌, [], map}
+use Rattle.std.proofs.Common.{[], map}
 use Rattle.par2_folder.specs.Views.{change_of}
 use Rattle.par2_folder.specs.Borders.{run_texts}
-use Rattle.par2_folder.specs.Runs.{HaveAbsorbed}
 use Rattle.par2_folder.specs.declared.border.Border.TheVariants.{End}
 use Rattle.par2_folder.proofs.walk.digests_along_and_of.Goals as goal
 
@@ -9,5 +8,4 @@ pub returns : goal.returns
 returns c =
     let texts = run_texts End c.args.folder.now.files (map change_of c.args.changes.now) in
     let runs = c.in_ok-push.ensures.texts texts c.args.text.now c.in_ok-runs.ensures.texts (c.in_ok-run_of_text.ensures [] c.new.ensures) in
-    let absorbed : HaveAbsorbed c.deref.result.now (texts ++ c.args.text.now ∷ []) = rw c.deref.ensures.value (c.in_ok-finish.ensures _ runs) in
-    c.digests_of.ensures _ absorbed
+    c.digests_behind.ensures _ runs
