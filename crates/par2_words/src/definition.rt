@@ -131,7 +131,8 @@ fn start_command<'a>(alloc: Global) -> Command<'a>
         .disable_help_subcommand(true)
 }
 
-// The command with one subcommand more.
+// The command with one subcommand more, where there was memory for both. It takes what made them answered, since a
+// function that holds several commands is dear to prove at each `?`.
 fn with_command<'a>(
     command: Result<Command<'a>, AllocError>,
     subcommand: Result<Command<'a>, AllocError>,
