@@ -1,9 +1,10 @@
 //! The par files of a set.
-ghost use Rattle.std.specs.Prelude.{◌≡◌, ◌&&◌, IfOk};
+ghost use Rattle.std.specs.Prelude.{◌≡◌, ◌&&◌, ℕ, List, IfOk};
 ghost use Rattle.std.specs.List.{list_any, list_all};
 ghost use Rattle.std.specs.Str.{bytes_eq};
 ghost use Rattle.par2_spec.specs.Folders as folders;
 ghost use Rattle.par2_spec.specs.Names as names;
+ghost use Rattle.par2_spec.specs.Names.{is_among};
 ghost use Rattle.par2_spec.specs.Packets.{accepted};
 ghost use Rattle.par2_spec.specs.Repairs as repairs;
 ghost use Rattle.par2_spec.specs.Sets.{target_names};
@@ -48,13 +49,21 @@ fn bytes_of<'a>(folder: &'a Folder, name: &Name) -> &'a [u8]
     folder.get(name).unwrap_or(&[])
 }
 
+// Whether the name is a target's.
+fn is_target(targets: &BTreeSet<Name>, name: &Name) -> bool
+    ensures { (all : List (List ℕ)) → HoldsNames targets.now all
+        → result ≡ is_among all name.now }
+{
+    targets.contains(name)
+}
+
 // Whether the name is that of a par file of the set.
 fn is_par_file(folder: &Folder, set: &ParSet, targets: &BTreeSet<Name>, name: &Name) -> bool
     requires { HoldsNames targets.now (target_names set.now) }
     ensures { result ≡ repairs.is_par_file folder.now.files set.now name.now }
 {
     is_par_name(name)
-        && !targets.contains(name)
+        && !is_target(targets, name)
         && has_only_packets_of(bytes_of(folder, name), &set.id())
 }
 
