@@ -150,6 +150,10 @@ full_follows s row alone v is killed = dot_zeros row v (alone v is killed)
 pub all_offered : (lost all : List ℕ) (i : ℕ) (s : Equations) → i ≡ length all → Eliminated lost all i s → systems.rank s ≡ length (kept lost all)
 all_offered lost all i s e so_far = so_far.rank ∙ ap (λ xs. length (filter (is_kept lost all) xs)) (take_all i all (omega (arith, e)))
 
+-- an equation that follows is not kept
+pub dependent_is_not_kept : (r : Result Offer AllocError) → r ≡ Ok Dependent → r ≡ Ok Kept → ⊥
+dependent_is_not_kept r is kept = (cc)
+
 -- what an offer gives, kept or not
 pub offered : (lost all : List ℕ) (i : ℕ) (s new : Equations) (right : List ℕ) (r : Result Offer AllocError) (o : Offer) → r ≡ Ok o → IsStrictlyIncreasing all → i < length all
     → Eliminated lost all i s → new.columns ≡ s.columns

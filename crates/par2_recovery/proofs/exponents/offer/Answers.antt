@@ -1,8 +1,26 @@
-use Rattle.std.proofs.Common.{sym, ◌∙◌}
+use Rattle.std.proofs.Common.{sym, ◌∙◌, refl, subst, Ok}
 use Rattle.par2_spec.specs.Recovery.{coefficients}
-use Rattle.par2_recovery.proofs.Ranks.{full_follows}
+use Rattle.par2_matrix.specs.Systems.{CutDown, IsIndependent, IsDependent}
+use Rattle.par2_matrix.specs.declared.system.Offer.TheVariants.{Dependent}
+use Rattle.par2_recovery.proofs.Ranks.{full_follows, dependent_is_not_kept}
 use Rattle.par2_recovery.proofs.exponents.offer.Goals as goal
+
+pub returns-then-rank-lost-clause-kept : goal.returns-then-rank-lost-clause-kept
+returns-then-rank-lost-clause-kept c = λ e. absurd (dependent_is_not_kept (Ok Dependent) refl e)
+
+pub returns-then-rank-lost-clause-told : goal.returns-then-rank-lost-clause-told
+returns-then-rank-lost-clause-told c = λ e. absurd (dependent_is_not_kept (Ok Dependent) refl e)
 
 pub returns-then-rank-lost-clause-dependent : goal.returns-then-rank-lost-clause-dependent
 returns-then-rank-lost-clause-dependent c =
     λ _. full_follows c.args.system.now (coefficients c.args.lost.now c.args.e) (c.rank.ensures.full.0 (c.if-rank-lost.true ∙ sym c.requires.columns))
+
+pub returns-clause-kept : goal.returns-clause-kept
+returns-clause-kept c =
+    λ e. subst (λ row. CutDown c.args.system.now c.offer.new.self row c.args.right.items) (c.deref.ensures.value ∙ c.in_ok-row.ensures) (c.offer.ensures.kept e)
+
+pub returns-clause-told : goal.returns-clause-told
+returns-clause-told c = λ e. subst (IsIndependent c.args.system.now) (c.deref.ensures.value ∙ c.in_ok-row.ensures) (c.offer.ensures.independent e)
+
+pub returns-clause-dependent : goal.returns-clause-dependent
+returns-clause-dependent c = λ e. subst (IsDependent c.args.system.now) (c.deref.ensures.value ∙ c.in_ok-row.ensures) (c.offer.ensures.dependent e)

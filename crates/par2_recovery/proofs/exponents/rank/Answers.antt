@@ -1,5 +1,5 @@
-use Rattle.std.proofs.Common.{◌≡◌, ◌∙◌, sym, arith, length}
-use Rattle.par2_recovery.proofs.Ranks.{offered}
+use Rattle.std.proofs.Common.{◌≡◌, ◌∙◌, ◌≤◌, sym, subst, arith, length}
+use Rattle.par2_recovery.proofs.Ranks.{offered, all_offered}
 use Rattle.par2_recovery.proofs.Standing.{repairable_iff}
 use Rattle.par2_recovery.proofs.exponents.rank.Goals as goal
 
@@ -9,6 +9,14 @@ loop-i-preserved c = record {
       c.loop-i.invariant.so_far c.offer.ensures.columns c.offer.ensures.kept c.offer.ensures.told c.offer.ensures.dependent c.offer.ensures.unchanged;
   bytes = c.offer.ensures.bytes ∙ c.loop-i.invariant.bytes;
 }
+
+pub returns-clause-rank : goal.returns-clause-rank
+returns-clause-rank c =
+    let at_end : c.loop-i.i ≡ length c.args.exponents.now = omega (arith, c.loop-i-test.false, c.loop-i.auto.i-end) in
+    c.rank.ensures.value ∙ all_offered c.args.lost.now c.args.exponents.now c.loop-i.i c.loop-i.system at_end c.loop-i.invariant.so_far
+
+pub returns-clause-most : goal.returns-clause-most
+returns-clause-most c = subst (λ n. c.rank.result ≤ n) c.loop-i.invariant.so_far.columns c.rank.ensures.most
 
 pub returns-clause-full : goal.returns-clause-full
 returns-clause-full c =

@@ -1,4 +1,4 @@
-use Rattle.std.proofs.Common.{List, length, sym, ap, subst, Option, ℕ, ◌∙◌}
+use Rattle.std.proofs.Common.{◌≡◌, List, [], length, sym, ap, subst, Option, ℕ, ◌∙◌}
 use Rattle.std.specs.List.{All}
 use Rattle.par2_spec.specs.Sums.{lists_of}
 use Rattle.par2_recovery.specs.Survivors.{with_lost_slices}
@@ -7,6 +7,9 @@ use Rattle.par2_recovery.specs.Rebuilding.{known_among, AreRebuilt}
 use Rattle.par2_recovery.specs.Rebuilding.{IsKnown}
 use Rattle.par2_recovery.proofs.KnownSlices.{known_are_enough, known_are_rebuilt, nothing_lost}
 use Rattle.par2_recovery.proofs.rebuild_slices.rebuild_lost.Goals as goal
+
+as_many_as_none : {A B : Type 0} (xs : List A) (ys : List B) → xs ≡ [] → ys ≡ [] → length xs ≡ length ys
+as_many_as_none xs ys e f = ap length e ∙ sym (ap length f)
 
 pub returns-then-all_known-clause-rebuilt : goal.returns-then-all_known-clause-rebuilt
 returns-then-all_known-clause-rebuilt c =
@@ -23,4 +26,4 @@ pub returns-then-all_known-clause-count : goal.returns-then-all_known-clause-cou
 returns-then-all_known-clause-count c =
     let survivors = c.args.survivors.now in
     let all : All IsKnown survivors.known.items = subst (λ (ws : List (Option (Bor (List ℕ)))). All IsKnown ws) c.deref.ensures.value (c.all_known.ensures c.if-all_known.true) in
-    ap length c.new.ensures.items ∙ sym (ap length (nothing_lost survivors all))
+    as_many_as_none _ _ (cc) (nothing_lost survivors all)

@@ -2,13 +2,28 @@ use Rattle.std.proofs.Common.{◌≡◌, sym, subst, map, rules, length, List}
 use Rattle.std.specs.Prelude.{IsPermutation}
 use Rattle.std.proofs.lemmas.List.{with_items_is}
 use Rattle.std.proofs.lemmas.List.Sorted.{IsPermutation-map}
+use Rattle.std.specs.List.Sorted.{IsStrictlyIncreasing}
 use Rattle.par2_spec.specs.Folders.{File}
 use Rattle.par2_spec.specs.Volumes.{record_of, in_id_order}
 use Rattle.par2_spec.specs.Commands.{files_of}
-use Rattle.par2_packets.specs.Views.{file_record_of}
+use Rattle.par2_packets.specs.Views.{file_record_of, id_number}
 use Rattle.par2_packets.specs.declared.record.FileRecord.{FileRecord}
 use Rattle.par2_recovery.proofs.Records.{in_order, files_of_records}
 use Rattle.par2_recovery.proofs.set_record.SetRecord.of_records.Goals as goal
+
+pub returns-clause-rising : goal.returns-clause-rising
+returns-clause-rising c =
+    let new = c.sort_ids.new.files in
+    let size : length new ≡ c.args.files.len = search rules in
+    subst (λ (xs : List FileRecord). IsStrictlyIncreasing (map id_number xs)) (sym (with_items_is c.args.files new size)) c.in_ok-sort_ids.ensures.rising
+
+pub returns-clause-permutation : goal.returns-clause-permutation
+returns-clause-permutation c =
+    let old = c.args.files.items in
+    let new = c.sort_ids.new.files in
+    let size : length new ≡ c.args.files.len = search rules in
+    subst (λ (xs : List FileRecord). IsPermutation old xs) (sym (with_items_is c.args.files new size))
+    (subst (λ xs. IsPermutation xs new) c.as_mut_slice.ensures.value c.in_ok-sort_ids.ensures.permutation)
 
 pub returns-clause-files : goal.returns-clause-files
 returns-clause-files c =
