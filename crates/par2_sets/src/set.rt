@@ -1,21 +1,24 @@
 //! The set of a base.
 
-ghost use Rattle.std.specs.Prelude.{◌≡◌, ◌⊎◌, length, Ok, Err, IfOk, IfErr};
+ghost use Rattle.std.specs.Prelude.{◌≡◌, ◌≤◌, ◌⊎◌, length, map, Ok, Err, IfOk, IfErr};
 ghost use Rattle.std.specs.List.{AllByRecursion};
 ghost use Rattle.std.specs.List.Sorted.{IsStrictlyIncreasing};
 ghost use Rattle.std.specs.FinMap.{entries};
 ghost use Rattle.par2_spec.specs.Sets as sets;
 ghost use Rattle.par2_spec.specs.Sets.{IsSound};
+ghost use Rattle.par2_packets.specs.Views.{packet_of};
 ghost use Rattle.par2_sets.specs.Slices.{recovered_of, exponents_of};
+ghost use Rattle.par2_sets.specs.Steps.{Gives, targets_in, set_in};
 
 use crate::Target;
 use crate::descriptions::descriptions;
-use crate::main_packet::{is_slice_size, main_of};
+use crate::main_packet::sized_main;
 use crate::packets::{first_id, packets_of};
 use crate::profile::names_in_profile;
 use crate::recovery::recovery_of;
 use crate::targets::targets_of;
 use par2_folder::{Folder, Name};
+use par2_packets::{MainView, Packet};
 use par2_spec::Fault;
 use par2_spec::search_laws::set_is_sound;
 use std::alloc::Global;
@@ -79,6 +82,36 @@ impl<'a> ParSet<'a> {
     }
 }
 
+// The targets that the Main names.
+fn targets_in(alloc: Global, packets: &[Packet], main: &MainView) -> Result<Vec<Target>, Fault>
+    requires { 1 ≤ main.now.slice_size }
+    ensures { Gives (λ targets. targets.items) result
+        (targets_in (map packet_of packets.now) main.now) }
+{
+    let slice_size = main.slice_size();
+    let described = descriptions(alloc, packets, main)?;
+    let names = names_in_profile(alloc, slice_size, &described)?;
+    targets_of(alloc, packets, slice_size, &described, &names)
+}
+
+// The set of the packets that have its identifier.
+fn set_in<'a>(alloc: Global, id: [u8; 16], packets: &[Packet<'a>]) -> Result<ParSet<'a>, Fault>
+    requires { (set : sets.ParSet)
+        → set_in id (map packet_of packets.now) ≡ Ok set → IsSound set }
+    ensures { Gives (λ set. set) result (set_in id (map packet_of packets.now)) }
+{
+    let main = sized_main(packets, &id)?;
+    let slice_size = main.slice_size();
+    let targets = targets_in(alloc, packets, &main)?;
+    let recovery = recovery_of(alloc, packets, slice_size)?;
+    Ok(ParSet {
+        id,
+        slice_size,
+        targets,
+        recovery,
+    })
+}
+
 /// The set that the packets of the base and of the other `.par2` files describe, or the first part
 /// of it that is absent.
 #[tactic(auto, unfolding(par2_spec::specs::Sets::set_of, par2_spec::specs::Sets::read_set))]
@@ -92,19 +125,5 @@ pub fn set_of<'a>(alloc: Global, folder: &'a Folder, base: &Name) -> Result<ParS
     set_is_sound();
     let id = first_id(folder, base).ok_or(Fault::NoPackets)?;
     let packets = packets_of(alloc, folder, base, &id)?;
-    let main = main_of(&packets, &id).ok_or(Fault::NoMain)?;
-    let slice_size = main.slice_size();
-    if !is_slice_size(slice_size) {
-        return Err(Fault::BadSet);
-    }
-    let described = descriptions(alloc, &packets, &main)?;
-    let names = names_in_profile(alloc, slice_size, &described)?;
-    let targets = targets_of(alloc, &packets, slice_size, &described, &names)?;
-    let recovery = recovery_of(alloc, &packets, slice_size)?;
-    Ok(ParSet {
-        id,
-        slice_size,
-        targets,
-        recovery,
-    })
+    set_in(alloc, id, &packets)
 }
