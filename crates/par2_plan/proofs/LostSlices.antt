@@ -2,16 +2,16 @@
 use Rattle.std.proofs.Common.{◌≡◌, ℕ, zero, suc, ◌+◌, ◌≤◌, ◌<◌, List, [], ◌∷◌, ◌++◌, length, take, get_or, refl, sym, ap, ◌∙◌, true, cond, ◌==◌, ◌⊎◌, inl, inr, Bor, arith, append-nil, append_assoc, length-append, Vec, Global}
 use Rattle.std.specs.Prelude.{Option, Some, None, is_some, is_none, filter, flat_map, slice_index}
 use Rattle.std.specs.List.{AllByRecursion}
-use Rattle.std.proofs.lemmas.List.{take_more, length-take-le}
+use Rattle.std.proofs.lemmas.List.{take_more, length-take-le, length-map}
 use Rattle.par2_spec.specs.Rank.{rank}
 use Rattle.par2_spec.specs.Sets.{Target}
 use Rattle.par2_spec.proofs.ListsLaws.{all-append}
 use Rattle.par2_spec.proofs.RankLaws.{none_kept}
 use Rattle.std.proofs.lemmas.Bool.{eqb-true}
-use Rattle.par2_search.specs.Texts.{padded_windows}
+use Rattle.par2_search.specs.Texts.{padded_window, padded_windows}
 use Rattle.par2_plan.specs.Findings.{Standing, Intact, Matched, Unmatched, AreSized}
 use Rattle.par2_plan.specs.Parts.{missing_from, lost_from}
-use Rattle.par2_plan.specs.Views.{standing_of, standings_of}
+use Rattle.par2_plan.specs.Views.{standing_of, standings_of, missing_in, windows_in}
 use Rattle.par2_plan.specs.declared.finding.Standing as code
 use Rattle.par2_plan.specs.declared.finding.Standing.TheVariants as variants
 
@@ -87,11 +87,6 @@ missing_more {A} n xs i low =
     one None = refl
     one (Some x) = refl
 
--- the numbers of a target's slices that are not found
-abbrev pub missing_in : ℕ → code.Standing → List ℕ
-missing_in n (variants.Unmatched windows) = missing_from n windows.items
-missing_in n standing = []
-
 pub lost_step : (s n : ℕ) (t : Target) (ts : List Target) (standing : code.Standing) (standings : List Standing) (old new : List ℕ) → new ≡ old ++ missing_in n standing
     → new ++ lost_from (n + length t.pairs) ts standings ≡ old ++ lost_from n (t ∷ ts) (standing_of s standing ∷ standings)
 lost_step s n t ts variants.Intact standings old new e = ap (λ xs. xs ++ lost_from (n + length t.pairs) ts standings) (e ∙ append-nil old)
@@ -112,10 +107,13 @@ pub nothing_from : (xs : List ℕ) → (length xs == 0) ≡ true → xs ≡ []
 nothing_from [] h = refl
 nothing_from (x ∷ xs) h = absurd (omega (arith, eqb-true (length (x ∷ xs)) 0 h))
 
-pub none_in : (n : ℕ) (standing : code.Standing) → ((windows : Vec (Option (Bor (List ℕ))) Global) → standing ≡ variants.Unmatched windows → ⊥) → missing_in n standing ≡ []
-none_in n variants.Intact h = refl
-none_in n (variants.Matched name) h = refl
-none_in n (variants.Unmatched windows) h = absurd (h windows refl)
+-- the windows of the first target have numbers
+pub windows_fit : (s n m : ℕ) (t : Target) (ts : List Target) (standing : code.Standing) (standings : List Standing) → AreSized (t ∷ ts) (standing_of s standing ∷ standings)
+    → n + length (flat_map (λ u. u.pairs) (t ∷ ts)) ≤ m → n + windows_in standing ≤ m
+windows_fit s n m t ts variants.Intact standings h few = omega (arith, few)
+windows_fit s n m t ts (variants.Matched name) standings h few = omega (arith, few)
+windows_fit s n m t ts (variants.Unmatched windows) standings h few =
+    omega (arith, few_rest n m t ts few, h.0, length-map windows.items (padded_window s))
 
 pub lost_end_of : (s n : ℕ) (ts : List Target) (standings : List code.Standing) → (ts ≡ []) ⊎ (standings ≡ []) → lost_from n ts (standings_of s standings) ≡ []
 lost_end_of s n [] [] h = refl

@@ -1,6 +1,7 @@
 -- The standings of targets, one after the other.
-use Rattle.std.proofs.Common.{◌≡◌, ℕ, suc, List, [], ◌∷◌, ◌++◌, length, map, take, drop, refl, sym, ap, ◌∙◌, Bool, true, false, ◌⊎◌, inl, inr, Bor, append_assoc, arith}
+use Rattle.std.proofs.Common.{◌≡◌, ℕ, suc, List, [], ◌∷◌, ◌++◌, length, map, take, drop, refl, sym, ap, ap₂, subst, ◌∙◌, Bool, true, false, ◌⊎◌, inl, inr, Bor, Iter, MatchOption, append-nil, append_assoc, arith}
 use Rattle.std.specs.Prelude.{Option, Some, None, is_some, filter, slice_index_or}
+use Rattle.std.specs.Slice.Iter.{iter_rest}
 use Rattle.std.proofs.lemmas.List.{map-append, length-map, take-map, drop-map}
 use Rattle.std.proofs.Math.Seq.{drop-append_seam, take-append_seam}
 use Rattle.par2_spec.specs.Checksums.{Pair}
@@ -8,9 +9,9 @@ use Rattle.par2_spec.specs.Sets.{Target}
 use Rattle.par2_search.specs.Texts.{padded_window, padded_windows}
 use Rattle.par2_spec.specs.Folders.{Folder}
 use Rattle.par2_plan.specs.Parts.{target_reports_by}
-use Rattle.par2_plan.specs.Views.{standing_of, standings_of}
+use Rattle.par2_plan.specs.Views.{given_of, standing_of, standings_of}
 use Rattle.par2_plan.specs.declared.finding.Standing as code
-use Rattle.par2_plan.specs.Findings.{Standing, needing_standing, sought_by, standings_by, AreSized}
+use Rattle.par2_plan.specs.Findings.{Standing, needing_standing, standing_by, pairs_sought, sought_by, standings_by, AreSized}
 
 pub sought_end : (needing : List Bool) (ts : List Target) (given : List (Option (List ℕ))) → (ts ≡ []) ⊎ (needing ≡ []) → sought_by needing ts given ≡ []
 sought_end [] ts given h = refl
@@ -26,10 +27,50 @@ standings_end f (false ∷ needing) [] given h = refl
 standings_end f (b ∷ needing) (t ∷ ts) given (inl h) = absurd (let no : ⊥ = cc in no)
 standings_end f (b ∷ needing) (t ∷ ts) given (inr h) = absurd (let no : ⊥ = cc in no)
 
+-- ---- what is given for a target
+
+-- the matches go on behind a target that needs one
+abbrev pub GoesOn : Bool → List (Option (List ℕ)) → Option (Bor (Option (List ℕ))) → List (Option (List ℕ)) → Type 0
+GoesOn true matches given later = (slice_index_or matches 0 None ≡ given_of given) × (later ≡ drop 1 matches)
+GoesOn false matches given later = later ≡ matches
+
 -- behind the last match there is none
-pub given_out : (given later : List (Option (List ℕ))) → length given ≡ 0 → later ≡ given → (slice_index_or given 0 None ≡ None) × (later ≡ drop 1 given)
+given_out : (given later : List (Option (List ℕ))) → length given ≡ 0 → later ≡ given → (slice_index_or given 0 None ≡ None) × (later ≡ drop 1 given)
 given_out [] later h same = (refl, same)
 given_out (o ∷ given) later h same = absurd (let no : ⊥ = grind arith in no)
+
+next_given : (s t : Iter (Option (List ℕ))) (given : Option (Bor (Option (List ℕ))))
+    → MatchOption given ((length (iter_rest s) ≡ 0) × (t ≡ s)) (λ x. iter_rest s ≡ x.now ∷ iter_rest t) → GoesOn true (iter_rest s) given (iter_rest t)
+next_given s t None h = given_out (iter_rest s) (iter_rest t) h.0 (ap iter_rest h.1)
+next_given s t (Some x) h = (ap (λ (os : List (Option (List ℕ))). slice_index_or os 0 None) h, sym (ap (λ (os : List (Option (List ℕ))). drop 1 os) h))
+
+pub goes_on : (needs : Bool) (s t u : Iter (Option (List ℕ))) (given next : Option (Bor (Option (List ℕ)))) → needs ≡ true → u ≡ t → given ≡ next
+    → MatchOption next ((length (iter_rest s) ≡ 0) × (t ≡ s)) (λ x. iter_rest s ≡ x.now ∷ iter_rest t) → GoesOn needs (iter_rest s) given (iter_rest u)
+goes_on false s t u given next e same is h = absurd (let no : ⊥ = cc in no)
+goes_on true s t u given next e same is h =
+    subst (λ v. GoesOn true (iter_rest s) given (iter_rest v)) (sym same) (subst (λ g. GoesOn true (iter_rest s) g (iter_rest t)) (sym is) (next_given s t next h))
+
+pub stays : (needs : Bool) (s u : Iter (Option (List ℕ))) (given : Option (Bor (Option (List ℕ)))) → needs ≡ false → u ≡ s → GoesOn needs (iter_rest s) given (iter_rest u)
+stays true s u given e same = absurd (let no : ⊥ = cc in no)
+stays false s u given e same = ap iter_rest same
+
+pub sought_more : (needs : Bool) (flags : List Bool) (t : Target) (ts : List Target) (matches later : List (Option (List ℕ))) (given : Option (Bor (Option (List ℕ)))) → GoesOn needs matches given later
+    → sought_by (needs ∷ flags) (t ∷ ts) matches ≡ pairs_sought needs (given_of given) t.pairs ++ sought_by flags ts later
+sought_more true flags t ts matches later given h =
+    ap₂ (λ (o : Option (List ℕ)) (g : List (Option (List ℕ))). pairs_sought true o t.pairs ++ sought_by flags ts g) h.0 (sym h.1)
+sought_more false flags t ts matches later given h = ap (sought_by flags ts) (sym h)
+
+stands_by : (f : Pair → Option (List ℕ)) (needs : Bool) (flags : List Bool) (t : Target) (ts : List Target) (matches later : List (Option (List ℕ))) (given : Option (Bor (Option (List ℕ)))) → GoesOn needs matches given later
+    → standings_by f (needs ∷ flags) (t ∷ ts) matches ≡ standing_by needs (given_of given) (map f t.pairs) ∷ standings_by f flags ts later
+stands_by f true flags t ts matches later given h =
+    ap₂ (λ (o : Option (List ℕ)) (g : List (Option (List ℕ))). needing_standing o (map f t.pairs) ∷ standings_by f flags ts g) h.0 (sym h.1)
+stands_by f false flags t ts matches later given h = ap (λ g. standing_by false (given_of given) (map f t.pairs) ∷ standings_by f flags ts g) (sym h)
+
+-- slices that aren't sought don't count
+as_sought : (f : Pair → Option (List ℕ)) (needs : Bool) (o : Option (List ℕ)) (pairs : List Pair) → standing_by needs o (map f (pairs_sought needs o pairs)) ≡ standing_by needs o (map f pairs)
+as_sought f true None pairs = refl
+as_sought f true (Some name) pairs = refl
+as_sought f false o pairs = refl
 
 -- each target without a match has a place for each of its slices
 pub sized_by : (f : Pair → Option (List ℕ)) (needing : List Bool) (ts : List Target) (given : List (Option (List ℕ))) → AreSized ts (standings_by f needing ts given)
@@ -56,6 +97,29 @@ own_windows s windows f own more h =
     sym (drop-map (padded_window s) (length own) windows) ∙ ap (drop (length own)) cut ∙ ap (λ n. drop n (map f own ++ map f more)) (sym size) ∙ drop-append_seam (map f own) (map f more) in
     (front, back, sym (length-map (take (length own) windows) (padded_window s)) ∙ ap length front ∙ size)
 
+pub standing_more : (s : ℕ) (done : List code.Standing) (standing : code.Standing) (rest : List Standing) → standings_of s (done ++ standing ∷ []) ++ rest ≡ standings_of s done ++ (standing_of s standing ∷ rest)
+standing_more s done standing rest = ap (λ xs. xs ++ rest) (map-append (standing_of s) done (standing ∷ [])) ∙ append_assoc (standings_of s done) (standing_of s standing ∷ []) rest
+
+-- the standings go on by one more
+pub stands_more : (s : ℕ) (f : Pair → Option (List ℕ)) (needs : Bool) (flags : List Bool) (t : Target) (ts : List Target) (matches later : List (Option (List ℕ))) (given : Option (Bor (Option (List ℕ))))
+    (windows : List (Option (Bor (List ℕ)))) (done : List code.Standing) (standing : code.Standing) (all : List Standing)
+    → GoesOn needs matches given later
+    → standing_of s standing ≡ standing_by needs (given_of given) (padded_windows s (take (length (pairs_sought needs (given_of given) t.pairs)) windows))
+    → padded_windows s windows ≡ map f (sought_by (needs ∷ flags) (t ∷ ts) matches)
+    → standings_of s done ++ standings_by f (needs ∷ flags) (t ∷ ts) matches ≡ all
+    → (standings_of s (done ++ standing ∷ []) ++ standings_by f flags ts later ≡ all)
+    × (padded_windows s (drop (length (take (length (pairs_sought needs (given_of given) t.pairs)) windows)) windows) ≡ map f (sought_by flags ts later))
+stands_more s f needs flags t ts matches later given windows done standing all on is slices whole =
+    let o : Option (List ℕ) = given_of given in
+    let own : List Pair = pairs_sought needs o t.pairs in
+    let cut = own_windows s windows f own (sought_by flags ts later) (slices ∙ ap (map f) (sought_more needs flags t ts matches later given on)) in
+    let here : standing_of s standing ≡ standing_by needs o (map f t.pairs) = is ∙ ap (standing_by needs o) cut.0 ∙ as_sought f needs o t.pairs in (
+      standing_more s done standing (standings_by f flags ts later)
+          ∙ ap (λ x. standings_of s done ++ (x ∷ standings_by f flags ts later)) here
+          ∙ ap (λ xs. standings_of s done ++ xs) (sym (stands_by f needs flags t ts matches later given on)) ∙ whole,
+      ap (λ n. padded_windows s (drop n windows)) cut.2 ∙ cut.1,
+    )
+
 -- a window is there with or without its zeros
 pub some_padded : (s : ℕ) (windows : List (Option (Bor (List ℕ)))) → length (filter (λ window. is_some window) windows) ≡ length (filter (λ slice. is_some slice) (padded_windows s windows))
 some_padded s [] = refl
@@ -69,5 +133,3 @@ reports_end folder s (t ∷ ts) (standing ∷ standings) (inl h) = absurd (let n
 reports_end folder s (t ∷ ts) (standing ∷ standings) (inr h) = absurd (let no : ⊥ = cc in no)
 
 -- one more standing before the others
-pub standing_more : (s : ℕ) (done : List code.Standing) (standing : code.Standing) (rest : List Standing) → standings_of s (done ++ standing ∷ []) ++ rest ≡ standings_of s done ++ (standing_of s standing ∷ rest)
-standing_more s done standing rest = ap (λ xs. xs ++ rest) (map-append (standing_of s) done (standing ∷ [])) ∙ append_assoc (standings_of s done) (standing_of s standing ∷ []) rest

@@ -17,6 +17,11 @@ abbrev pub needing_standing : Option (List ℕ) → List (Option (List ℕ)) →
 needing_standing (Some name) slices = Matched name
 needing_standing None slices = Unmatched slices
 
+-- a target that may need a match
+abbrev pub standing_by : Bool → Option (List ℕ) → List (Option (List ℕ)) → Standing
+standing_by true given slices = needing_standing given slices
+standing_by false given slices = Intact
+
 -- the standings of targets of which some need a match, by those matches in order
 abbrev pub standings_by : (Pair → Option (List ℕ)) → List Bool → List Target → List (Option (List ℕ)) → List Standing
 standings_by find_slice (true ∷ needing) (t ∷ ts) given =
@@ -29,6 +34,11 @@ standings_by find_slice [] ts given = []
 abbrev pub pairs_unless : Option (List ℕ) → List Pair → List Pair
 pairs_unless (Some name) pairs = []
 pairs_unless None pairs = pairs
+
+-- the same, where it may need none
+abbrev pub pairs_sought : Bool → Option (List ℕ) → List Pair → List Pair
+pairs_sought true given pairs = pairs_unless given pairs
+pairs_sought false given pairs = []
 
 -- the pairs of those targets that need a match and have none
 abbrev pub sought_by : List Bool → List Target → List (Option (List ℕ)) → List Pair

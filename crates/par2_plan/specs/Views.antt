@@ -1,11 +1,12 @@
 -- Standings and reports of this crate as those of the definitions.
-use Rattle.std.specs.Prelude.{◌≡◌, ℕ, Bool, List, Option, map}
+use Rattle.std.specs.Prelude.{◌≡◌, ℕ, Bool, List, [], length, Option, Some, None, map}
 use Rattle.std.specs.Borrow.{Bor}
 use Rattle.par2_spec.specs.Checksums.{Pair}
 use Rattle.par2_spec.specs.Sets.{ParSet}
 use Rattle.par2_spec.specs.Reports as reports
 use Rattle.par2_search.specs.Texts.{padded_windows}
 use Rattle.par2_plan.specs.Findings as findings
+use Rattle.par2_plan.specs.Parts.{missing_from}
 use Rattle.par2_plan.specs.declared.finding.Standing.{Standing}
 use Rattle.par2_plan.specs.declared.finding.Standing.TheVariants.{Intact, Matched, Unmatched}
 use Rattle.par2_plan.specs.declared.report.State.{State}
@@ -19,8 +20,23 @@ standing_of s Intact = findings.Intact
 standing_of s (Matched name) = findings.Matched name
 standing_of s (Unmatched windows) = findings.Unmatched (padded_windows s windows.items)
 
+-- how many windows it has
+abbrev pub windows_in : Standing → ℕ
+windows_in (Unmatched windows) = length windows.items
+windows_in standing = 0
+
+-- the numbers of its slices that are not found, of slices that are numbered from n on
+abbrev pub missing_in : ℕ → Standing → List ℕ
+missing_in n (Unmatched windows) = missing_from n windows.items
+missing_in n standing = []
+
 abbrev pub standings_of : ℕ → List Standing → List findings.Standing
 standings_of s standings = map (standing_of s) standings
+
+-- the match that is given, if one is
+abbrev pub given_of : Option (Bor (Option (List ℕ))) → Option (List ℕ)
+given_of None = None
+given_of (Some given) = given.now
 
 -- the standings of a set's targets, of which some need a match, by those matches and by windows that stand where the
 -- slices of those without one are found

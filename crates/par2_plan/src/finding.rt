@@ -1,18 +1,18 @@
 //! How it stands with each target of a set: which file is intact for it, or else where its slices are found.
-ghost use Rattle.std.specs.Prelude.{◌≡◌, ◌≤◌, ◌+◌, length, map, take, drop, IfOk};
+ghost use Rattle.std.specs.Prelude.{◌≡◌, ◌≤◌, ◌+◌, ℕ, length, map, take, drop, IfOk};
 ghost use Rattle.std.specs.List.{IsDistinct};
 ghost use Rattle.std.specs.Str.{bytes_eq};
 ghost use Rattle.par2_spec.specs.Folders.{bytes_of};
 ghost use Rattle.par2_spec.specs.Windows.{found};
 ghost use Rattle.par2_search.specs.Texts.{padded_windows};
-ghost use Rattle.par2_plan.specs.Findings.{sought_by, standings};
-ghost use Rattle.par2_plan.specs.Views.{standings_of, AreStandingsBy};
+ghost use Rattle.par2_plan.specs.Findings.{pairs_sought, sought_by, standing_by, standings};
+ghost use Rattle.par2_plan.specs.Views.{given_of, standing_of, standings_of, AreStandingsBy};
 
 use crate::candidates::texts_of;
 use crate::matching::{matches, needs};
 use par2_folder::{Folder, Name};
 use par2_search::found_windows;
-use par2_sets::ParSet;
+use par2_sets::{ParSet, Target};
 use par2_slices::Pair;
 use std::alloc::{AllocError, Global};
 
@@ -27,6 +27,17 @@ pub enum Standing<'a> {
     Unmatched(Vec<Option<&'a [u8]>>),
 }
 
+// The pairs of a target, where it needs a match and has none.
+fn sought_of<'t>(target: &'t Target, needs: bool, given: Option<&Option<Name>>) -> &'t [Pair]
+    ensures { result.now ≡ pairs_sought needs (given_of given.entry) target.now.pairs }
+{
+    match given {
+        Some(Some(_)) => &[],
+        _ if needs => target.pairs(),
+        _ => &[],
+    }
+}
+
 // The pairs of the targets that need a match and have none.
 fn sought_pairs(
     alloc: Global,
@@ -38,11 +49,10 @@ fn sought_pairs(
         IfOk result (λ pairs. pairs.items ≡ sought) }
 {
     let mut pairs = Vec::new(alloc);
-    let mut given = matches.iter();
+    let mut matches = matches.iter();
     for (target, needs) in set.targets().iter().zip(needing) {
-        if *needs && !matches!(given.next(), Some(Some(_))) {
-            pairs.extend_from_slice(target.pairs())?;
-        }
+        let given = if *needs { matches.next() } else { None };
+        pairs.extend_from_slice(sought_of(target, *needs, given))?;
     }
     Ok(pairs)
 }
@@ -63,18 +73,37 @@ fn found_slices<'a>(
     found_windows(alloc, &texts, set.slice_size(), pairs)
 }
 
-// So many windows from the first one on, as far as there are any.
+// A window for each of these pairs, from the first one on, as far as there are any.
 fn part<'w, 'a>(
     windows: &'w [Option<&'a [u8]>],
     first: usize,
-    count: usize,
+    pairs: &[Pair],
 ) -> &'w [Option<&'a [u8]>]
     requires { first ≤ length windows.now }
-    ensures value { result.now ≡ take count (drop first windows.now) }
+    ensures value { result.now ≡ take (length pairs.now) (drop first windows.now) }
     ensures within { first + length result.now ≤ length windows.now }
 {
     let rest = &windows[first..];
-    &rest[..count.min(rest.len())]
+    &rest[..pairs.len().min(rest.len())]
+}
+
+// The standing of a target, by whether it needs a match, what is given for it, and the windows of its sought slices.
+fn standing_with<'a>(
+    alloc: Global,
+    needs: bool,
+    given: Option<&Option<Name>>,
+    windows: &[Option<&'a [u8]>],
+) -> Result<Standing<'a>, AllocError>
+    ensures { IfOk result (λ standing. (s : ℕ) → standing_of s standing
+        ≡ standing_by needs (given_of given.entry) (padded_windows s windows.now)) }
+{
+    if !needs {
+        return Ok(Standing::Intact);
+    }
+    match given {
+        Some(Some(name)) => Ok(Standing::Matched(name.copied())),
+        _ => Ok(Standing::Unmatched(Vec::from_slice(alloc, windows)?)),
+    }
 }
 
 // The standings of targets of which some need a match, by those matches and the windows of the slices of those
@@ -90,18 +119,13 @@ fn standings_with<'a>(
         AreStandingsBy set.now needing.now matches.now windows.now list.items) }
 {
     let mut standings = Vec::with_capacity(alloc, needing.len())?;
-    let mut given = matches.iter();
+    let mut matches = matches.iter();
     let mut first = 0;
     for (target, needs) in set.targets().iter().zip(needing) {
-        if !*needs {
-            standings.push(Standing::Intact)?;
-        } else if let Some(Some(name)) = given.next() {
-            standings.push(Standing::Matched(name.copied()))?;
-        } else {
-            let own = part(windows, first, target.pairs().len());
-            first += own.len();
-            standings.push(Standing::Unmatched(Vec::from_slice(alloc, own)?))?;
-        }
+        let given = if *needs { matches.next() } else { None };
+        let own = part(windows, first, sought_of(target, *needs, given));
+        first += own.len();
+        standings.push(standing_with(alloc, *needs, given, own)?)?;
     }
     Ok(standings)
 }

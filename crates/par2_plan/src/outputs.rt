@@ -117,6 +117,29 @@ fn volume_bytes(
     Ok(bytes)
 }
 
+// The bytes of the volumes in order, over the slices of the inputs.
+fn texts_over(
+    alloc: Global,
+    gf: &Gf,
+    parts: &Parts,
+    inputs: &[&[u8]],
+    volumes: &[Volume],
+) -> Result<Vec<Vec<u8>>, AllocError>
+    requires parts { HasSlices parts.now }
+    requires inputs { ListsInputs parts.now inputs.now }
+    requires exponents { AllByRecursion
+        (λ volume. volume.first + volume.count ≤ 65536) volumes.now }
+    ensures { IfOk result
+        (λ texts. lists_of texts.items ≡ map (volume_text parts.now) volumes.now) }
+{
+    let at_once = at_once(parts.set.slice_size, inputs);
+    let mut texts = Vec::with_capacity(alloc, volumes.len())?;
+    for volume in volumes {
+        texts.push(volume_bytes(alloc, gf, parts, inputs, at_once, volume)?)?;
+    }
+    Ok(texts)
+}
+
 // The bytes of the volumes in order. Where there are none, no table is made and no input looked up.
 fn volume_texts(
     alloc: Global,
@@ -129,17 +152,12 @@ fn volume_texts(
     ensures { IfOk result
         (λ texts. lists_of texts.items ≡ map (volume_text parts.now) volumes.now) }
 {
-    let mut texts = Vec::with_capacity(alloc, volumes.len())?;
     if volumes.is_empty() {
-        return Ok(texts);
+        return Ok(Vec::new(alloc));
     }
     let gf = Gf::new(alloc)?;
     let inputs = input_slices(alloc, parts.set, parts.folder)?;
-    let at_once = at_once(parts.set.slice_size, &inputs);
-    for volume in volumes {
-        texts.push(volume_bytes(alloc, &gf, parts, &inputs, at_once, volume)?)?;
-    }
-    Ok(texts)
+    texts_over(alloc, &gf, parts, &inputs, volumes)
 }
 
 // A file is written, or replaced where it is there already.

@@ -7,7 +7,7 @@ ghost use Rattle.par2_spec.specs.Reports.{is_complete, verdict_of};
 ghost use Rattle.par2_spec.specs.Search.{survivors};
 ghost use Rattle.par2_plan.specs.Findings.{AreSized};
 ghost use Rattle.par2_plan.specs.Parts.{state_by, found_by, target_report_by, target_reports_by, missing_from, lost_from, report_by};
-ghost use Rattle.par2_plan.specs.Views.{standing_of, standings_of, state_of, target_report_of, report_of};
+ghost use Rattle.par2_plan.specs.Views.{windows_in, missing_in, standing_of, standings_of, state_of, target_report_of, report_of};
 
 use crate::finding::Standing;
 use par2_folder::{Folder, Name};
@@ -165,6 +165,18 @@ fn push_missing(
     Ok(())
 }
 
+// Adds the numbers of a target's lost slices. The first slice has number `first`.
+fn push_lost(lost: &mut Vec<u32>, first: u32, standing: &Standing) -> Result<(), AllocError>
+    requires { first + windows_in standing.now ≤ 32768 }
+    ensures { let missing = missing_in first standing.now in
+        OnOk result (lost.new.items ≡ lost.old.items ++ missing) }
+{
+    match standing {
+        Standing::Unmatched(windows) => push_missing(lost, first, windows),
+        _ => Ok(()),
+    }
+}
+
 // The numbers of the lost slices, rising.
 fn lost_slices(alloc: Global, set: &ParSet, standings: &[Standing]) -> Result<Vec<u32>, AllocError>
     requires { AreSized set.now.targets (standings_of set.now.slice_size standings.now) }
@@ -175,9 +187,7 @@ fn lost_slices(alloc: Global, set: &ParSet, standings: &[Standing]) -> Result<Ve
     let mut lost = Vec::new(alloc);
     let mut first = 0;
     for (target, standing) in set.targets().iter().zip(standings) {
-        if let Standing::Unmatched(windows) = standing {
-            push_missing(&mut lost, first, windows)?;
-        }
+        push_lost(&mut lost, first, standing)?;
         first += target.pairs().len() as u32;
     }
     Ok(lost)

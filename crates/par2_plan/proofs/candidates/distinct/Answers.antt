@@ -1,5 +1,5 @@
 use Rattle.std.proofs.Common.{◌≡◌, ◌∙◌, ◌+◌, ◌++◌, ◌∷◌, [], List, ℕ, Bor, true, false, not, cond, sym, ap, subst, take, get_or, rules}
-use Rattle.std.proofs.lemmas.List.{take_more, get_or_default}
+use Rattle.std.proofs.lemmas.List.{take_all, take_more, get_or_default}
 use Rattle.par2_spec.specs.Names.{is_among, distinct}
 use Rattle.par2_spec.proofs.NamesLaws.{false_from_not, true_from_not}
 use Rattle.par2_plan.specs.Matches.{HoldsNames}
@@ -33,3 +33,7 @@ loop-name-preserved c =
       once ∙ sym (distinct_more before item) ∙ ap distinct (sym more),
       subst (HoldsNames c.insert.new.self) (sym more) (holds_more (λ (k : Bor (List ℕ)). k.now) _ _ key before c.in_ok-insert.ensures.updates.0 c.loop-name.invariant.1),
     )
+
+pub returns : goal.returns
+returns c =
+    c.loop-name.invariant.0 ∙ ap distinct (take_all c.loop-name.name-index c.args.names.now c.loop-name-test.false)

@@ -102,6 +102,24 @@ returns-in-Some-there_already-clause-refused c =
     let is = named (goal.at.returns-in-Some-there_already-clause-refused c).After-there_already in
     inr (refused_by_there c.args.folder.now.files a c.in_ok-base.ensures.accepted c.in_ok-set.ensures.accepted c.in-Some-there_already.fault is.0 (is.1 ∙ c.in-Some-there_already.is))
 
+pub outputs_written-requires-clause-head : goal.outputs_written-requires-clause-head
+outputs_written-requires-clause-head c = c.in_ok-base.ensures.accepted
+
+pub outputs_written-requires-clause-inputs : goal.outputs_written-requires-clause-inputs
+outputs_written-requires-clause-inputs c = c.in_ok-set.ensures.accepted
+
+pub outputs_written-requires-clause-base : goal.outputs_written-requires-clause-base
+outputs_written-requires-clause-base c = c.in_ok-base.ensures.name
+
+pub outputs_written-requires-clause-slice : goal.outputs_written-requires-clause-slice
+outputs_written-requires-clause-slice c = c.in_ok-set.ensures.slice
+
+pub outputs_written-requires-clause-files : goal.outputs_written-requires-clause-files
+outputs_written-requires-clause-files c = c.in_ok-set.ensures.files
+
+pub outputs_written-requires-clause-order : goal.outputs_written-requires-clause-order
+outputs_written-requires-clause-order c = c.in_ok-set.ensures.order
+
 pub returns-clause-accepted : goal.returns-clause-accepted
 returns-clause-accepted c =
     let is = named (goal.at.returns-clause-accepted c).After-there_already in

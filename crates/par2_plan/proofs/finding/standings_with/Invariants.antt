@@ -13,9 +13,9 @@ invariant-loop-target l =
     let s = l.set.slice_size in
     let flags = iter_rest (zip_second l.target-iterator) in
     let ts = iter_rest (zip_first l.target-iterator) in
-    let given = iter_rest l.given in
+    let matches = iter_rest l.matches in
     (l.first ≤ length l.windows)
     × ((find_slice : Pair → Option (List ℕ))
-    → padded_windows s l.windows ≡ map find_slice (sought_by l.needing l.set.targets l.matches)
-    → (standings_of s l.standings.items ++ standings_by find_slice flags ts given ≡ standings_by find_slice l.needing l.set.targets l.matches)
-    × (padded_windows s (drop l.first l.windows) ≡ map find_slice (sought_by flags ts given)))
+    → padded_windows s l.windows ≡ map find_slice (sought_by l.needing l.set.targets l.fn.matches)
+    → (standings_of s l.standings.items ++ standings_by find_slice flags ts matches ≡ standings_by find_slice l.needing l.set.targets l.fn.matches)
+    × (padded_windows s (drop l.first l.windows) ≡ map find_slice (sought_by flags ts matches)))

@@ -1,5 +1,6 @@
-use Rattle.std.proofs.Common.{◌∙◌, ◌++◌, List, ℕ, take, sym, ap, append_assoc}
+use Rattle.std.proofs.Common.{◌∙◌, ◌++◌, List, ℕ, take, sym, ap, append-nil, append_assoc}
 use Rattle.std.specs.Prelude.{flat_map}
+use Rattle.std.proofs.lemmas.List.{take_all}
 use Rattle.par2_spec.specs.Packets.{packet}
 use Rattle.par2_spec.specs.Volumes.{packet_of, ifsc_bytes}
 use Rattle.par2_spec.specs.declared.Kind.TheVariants.{Ifsc}
@@ -18,3 +19,11 @@ loop-file-preserved c =
     c.in_ok-append_ifsc.ensures.ok ∙ ap (λ (bytes : List ℕ). bytes ++ text file) c.loop-file.invariant
     ∙ append_assoc old (flat_map text (take i files)) (text file)
     ∙ ap (λ (bytes : List ℕ). old ++ bytes) (sym (flat_map_next text files i file c.loop-file-test.true c.file-item.is))
+
+pub loop-file-init : goal.loop-file-init
+loop-file-init c = sym (append-nil c.args.out.now.items)
+
+pub returns : goal.returns
+returns c =
+    let text = λ (file : FileRecord). packet (packet_of c.args.set_id.now Ifsc (ifsc_bytes (file_record_of file))) in
+    c.loop-file.invariant ∙ ap (λ (files : List FileRecord). c.args.out.now.items ++ flat_map text files) (take_all c.loop-file.file-index c.args.files.now c.loop-file-test.false)

@@ -1,6 +1,6 @@
 use Rattle.std.proofs.Common.{◌≡◌, ◌∙◌, ◌+◌, ◌++◌, ◌∷◌, [], List, ℕ, Bor, true, false, not, cond, sym, ap, take, get_or, append-nil, rules}
 use Rattle.std.specs.Prelude.{filter}
-use Rattle.std.proofs.lemmas.List.{take_more, get_or_default}
+use Rattle.std.proofs.lemmas.List.{take_all, take_more, get_or_default}
 use Rattle.par2_spec.specs.Names.{is_among}
 use Rattle.par2_plan.specs.Matches.{intact_by}
 use Rattle.par2_plan.proofs.Choices.{filter_push}
@@ -32,3 +32,11 @@ loop-name-preserved c =
           same ∙ c.loop-name.invariant ∙ sym (append-nil (filter free before)) ∙ ap (λ b. filter free before ++ cond (not b) (item ∷ []) []) (sym there)
     ] in
     step ∙ sym (filter_push free before item) ∙ ap (filter free) (sym more)
+
+pub loop-name-init : goal.loop-name-init
+loop-name-init c = c.new-names.ensures.items
+
+pub returns : goal.returns
+returns c =
+    let free = λ (n : List ℕ). not (is_among (intact_by c.args.needing.now c.args.set.now.targets) n) in
+    c.loop-name.invariant ∙ ap (filter free) (take_all c.loop-name.name-index c.args.candidates.now c.loop-name-test.false)

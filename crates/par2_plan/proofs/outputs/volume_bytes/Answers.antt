@@ -3,6 +3,12 @@ use Rattle.par2_plan.specs.Outputs.{inputs_of}
 use Rattle.par2_plan.proofs.SliceLists.{packets_joined}
 use Rattle.par2_plan.proofs.outputs.volume_bytes.Goals as goal
 
+pub append_slices-requires-clause-parts : goal.append_slices-requires-clause-parts
+append_slices-requires-clause-parts c = c.requires.parts
+
+pub append_slices-requires-clause-inputs : goal.append_slices-requires-clause-inputs
+append_slices-requires-clause-inputs c = c.requires.inputs
+
 pub loop-done-preserved : goal.loop-done-preserved
 loop-done-preserved c =
     let parts = c.args.parts.now in

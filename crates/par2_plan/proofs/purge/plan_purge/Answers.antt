@@ -16,7 +16,7 @@ returns-in_err-reading-clause-early c fault early =
     let folder = c.args.folder.now.files in
     let base = c.args.base.now in
     err_passed c.from_residual.result c.in_err-reading.field-0.0 fault (err_from_is_err_and c.from_residual.result c.from_residual.ensures.1)
-    (c.in_err-reading.ensures.early fault (sym (early_purge folder base) ∙ early))
+    (sym c.in_err-reading.was ∙ c.read.ensures.early fault (sym (early_purge folder base) ∙ early))
 
 pub returns-clause-early : goal.returns-clause-early
 returns-clause-early c fault early =

@@ -23,7 +23,7 @@ returns-in_err-reading-clause-early c fault early =
     let base = c.args.base.now in
     let extras : List (List ℕ) = map string_bytes c.args.extras.now in
     err_passed c.from_residual.result c.in_err-reading.field-0.0 fault (err_from_is_err_and c.from_residual.result c.from_residual.ensures.1)
-    (c.in_err-reading.ensures.early fault (sym (early_repair folder base extras c.args.purge) ∙ early))
+    (sym c.in_err-reading.was ∙ c.read.ensures.early fault (sym (early_repair folder base extras c.args.purge) ∙ early))
 
 pub returns-clause-early : goal.returns-clause-early
 returns-clause-early c fault early =

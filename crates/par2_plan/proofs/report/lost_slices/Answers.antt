@@ -7,11 +7,26 @@ use Rattle.std.specs.Prelude.{flat_map}
 use Rattle.par2_spec.specs.Checksums.{Pair}
 use Rattle.par2_spec.specs.Sets.{Target}
 use Rattle.par2_plan.specs.Findings.{Standing, AreSized}
-use Rattle.par2_plan.specs.Parts.{lost_from, missing_from}
-use Rattle.par2_plan.specs.Views.{standing_of, standings_of}
-use Rattle.par2_plan.proofs.LostSlices.{lost_step, sized_rest, few_rest, lost_end_of, lost_below, each_below, missing_in, none_in}
+use Rattle.par2_plan.specs.Parts.{lost_from}
+use Rattle.par2_plan.specs.Views.{standing_of, standings_of, missing_in}
+use Rattle.par2_plan.proofs.LostSlices.{lost_step, sized_rest, few_rest, windows_fit, lost_end_of, lost_below, each_below}
 use Rattle.par2_plan.proofs.report.lost_slices.Goals as goal
-use Rattle.par2_plan.proofs.report.lost_slices.Goals.{in-Unmatched+in_ok-push_missing, in_default}
+
+pub push_lost-requires : goal.push_lost-requires
+push_lost-requires c =
+    let it = c.loop-target.target-iterator in
+    let more = Zip-more it c.next.new.self c.next.result _ c.in-Some.is c.next.ensures.steps in
+    let s = c.args.set.now.slice_size in
+    let standing = c.in-Some.standing.now in
+    let t : Target = c.in-Some.target.now in
+    let ts : List Target = iter_rest (zip_first c.next.new.self) in
+    let rest : List Standing = standings_of s (iter_rest (zip_second c.next.new.self)) in
+    let here : iter_rest (zip_first it) ≡ t ∷ ts = more.0 in
+    let there : standings_of s (iter_rest (zip_second it)) ≡ standing_of s standing ∷ rest = ap (standings_of s) more.1 in
+    let inv = c.loop-target.invariant in
+    windows_fit s c.loop-target.first 32768 t ts standing rest
+    (subst (λ (us : List Target). AreSized us (standing_of s standing ∷ rest)) here (subst (AreSized (iter_rest (zip_first it))) there inv.sized))
+    (subst (λ (us : List Target). c.loop-target.first + length (flat_map (λ (u : Target). u.pairs) us) ≤ 32768) here inv.few)
 
 pub loop-target-preserved : goal.loop-target-preserved
 loop-target-preserved c =
@@ -24,19 +39,14 @@ loop-target-preserved c =
     let ts : List Target = iter_rest (zip_first c.next.new.self) in
     let rest : List Standing = standings_of s (iter_rest (zip_second c.next.new.self)) in
     let old : List ℕ = c.loop-target.lost.items in
-    let new : c.match-standing.lost.items ≡ old ++ missing_in n standing =
-    elim c.match-standing.branch as (λ _. c.match-standing.lost.items ≡ old ++ missing_in n standing) [
-      | in-Unmatched+in_ok-push_missing w ↦
-          ap (λ v. v.items) w.lost-is ∙ w.in_ok-push_missing.ensures ∙ ap (λ ws. old ++ missing_from n ws) w.deref.ensures.value ∙ ap (λ x. old ++ missing_in n x) (sym w.in-Unmatched.is)
-      | in_default w ↦ ap (λ v. v.items) w.lost-is ∙ sym (append-nil old) ∙ ap (λ xs. old ++ xs) (sym (none_in n standing w.in_default.not-Unmatched))
-    ] in
+    let new : c.push_lost.new.lost.items ≡ old ++ missing_in n standing = c.in_ok-push_lost.ensures in
     let pairs : ◌≡◌ {A = List Pair} c.pairs.result.now t.pairs = c.pairs.ensures in
     let here : iter_rest (zip_first it) ≡ t ∷ ts = more.0 in
     let there : standings_of s (iter_rest (zip_second it)) ≡ standing_of s standing ∷ rest = ap (standings_of s) more.1 in
     let inv = c.loop-target.invariant in record {
       numbers =
-          ap (λ (ps : List Pair). c.match-standing.lost.items ++ lost_from (n + length ps) ts rest) pairs
-          ∙ lost_step s n t ts standing rest old c.match-standing.lost.items new
+          ap (λ (ps : List Pair). c.push_lost.new.lost.items ++ lost_from (n + length ps) ts rest) pairs
+          ∙ lost_step s n t ts standing rest old c.push_lost.new.lost.items new
           ∙ ap₂ (λ (us : List Target) (sts : List Standing). old ++ lost_from n us sts) (sym here) (sym there) ∙ inv.numbers;
       few =
           subst (λ (ps : List Pair). n + length ps + length (flat_map (λ (u : Target). u.pairs) ts) ≤ 32768) (sym pairs)

@@ -1,12 +1,33 @@
-use Rattle.std.proofs.Common.{◌≡◌, ◌∙◌, ◌++◌, [], List, sym, ap, map, append-nil}
+use Rattle.std.proofs.Common.{◌≡◌, ◌∙◌, ◌++◌, ◌∷◌, [], List, sym, ap, ap₂, map, append-nil, append_assoc}
 use Rattle.std.specs.Iterator.Adapters.{zip_first, zip_second}
 use Rattle.std.specs.Slice.Iter.{iter_rest}
-use Rattle.std.proofs.lemmas.Slice.Zip.{either_empty_from_Zip}
+use Rattle.std.proofs.lemmas.List.{map-append}
+use Rattle.std.proofs.lemmas.Slice.Zip.{Zip-more, either_empty_from_Zip}
+use Rattle.par2_spec.specs.Sets.{Target}
 use Rattle.par2_spec.specs.Reports as reports
-use Rattle.par2_plan.specs.Parts.{target_reports_by}
-use Rattle.par2_plan.specs.Views.{standings_of, target_report_of}
+use Rattle.par2_plan.specs.Parts.{target_report_by, target_reports_by}
+use Rattle.par2_plan.specs.Views.{standing_of, standings_of, target_report_of}
+use Rattle.par2_plan.specs.declared.finding.Standing as code
+use Rattle.par2_plan.specs.declared.report.TargetReport as code_report
 use Rattle.par2_plan.proofs.Standings.{reports_end}
 use Rattle.par2_plan.proofs.report.target_reports.Goals as goal
+
+pub loop-target-preserved : goal.loop-target-preserved
+loop-target-preserved c =
+    let it = c.loop-target.target-iterator in
+    let more = Zip-more it c.next.new.self c.next.result _ c.in-Some.is c.next.ensures.steps in
+    let s = c.args.set.now.slice_size in
+    let files = c.args.folder.now.files in
+    let target : Target = c.in-Some.target.now in
+    let standing : code.Standing = c.in-Some.standing.now in
+    let rest : List reports.TargetReport = target_reports_by files (iter_rest (zip_first c.next.new.self)) (standings_of s (iter_rest (zip_second c.next.new.self))) in
+    let done : List reports.TargetReport = map target_report_of c.loop-target.reports.items in
+    ap (λ (rs : List code_report.TargetReport). map target_report_of rs ++ rest) c.in_ok-push.ensures.items
+    ∙ ap (λ (rs : List reports.TargetReport). rs ++ rest) (map-append target_report_of c.loop-target.reports.items (c.target_report.result ∷ []))
+    ∙ append_assoc done (target_report_of c.target_report.result ∷ []) rest
+    ∙ ap (λ (r : reports.TargetReport). done ++ r ∷ rest) (c.target_report.ensures s)
+    ∙ ap₂ (λ (ts : List Target) (ss : List code.Standing). done ++ target_reports_by files ts (standings_of s ss)) (sym more.0) (sym more.1)
+    ∙ c.loop-target.invariant
 
 pub returns : goal.returns
 returns c =

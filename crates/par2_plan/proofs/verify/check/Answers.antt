@@ -22,7 +22,7 @@ returns-in_err-reading-clause-early c fault early =
     let base = c.args.base.now in
     let extras : List (List ℕ) = map string_bytes c.args.extras.now in
     err_passed c.from_residual.result c.in_err-reading.field-0.0 fault (err_from_is_err_and c.from_residual.result c.from_residual.ensures.1)
-    (c.in_err-reading.ensures.early fault (sym (early_verify folder base extras) ∙ early))
+    (sym c.in_err-reading.was ∙ c.read.ensures.early fault (sym (early_verify folder base extras) ∙ early))
 
 -- what was read is refused by nothing that is refused first
 none_early : (c : After-report_with) (fault : Fault) → early_refusal c.args.folder.now.files (Verify c.args.base.now (map string_bytes c.args.extras.now)) ≡ Some fault → ⊥
