@@ -10,7 +10,7 @@ ghost use Rattle.par2_spec.specs.Repairs.{aside, par_files, rebuilt_targets, Are
 ghost use Rattle.par2_spec.specs.Search as search;
 ghost use Rattle.par2_spec.specs.Sets.{all_pairs};
 ghost use Rattle.par2_restore.specs.Restoring.{known_in, undetermined_fault, wrong_digest, files_of, IsAsDescribed};
-ghost use Rattle.par2_plan.specs.Repairing.{IsWholeWhereMatched, AreRestoredFor, targets_by, changes_by, removals_by, with_removals, repair_by, WritesAsDescribed};
+ghost use Rattle.par2_plan.specs.Repairing.{IsWholeWhereMatched, AreNeeding, AreRestoredFor, targets_by, changes_by, removals_by, with_removals, repair_by, WritesAsDescribed};
 
 use crate::Changes;
 use crate::candidates::{candidates, texts_of};
@@ -137,6 +137,34 @@ fn changes_with(
     Ok(changes)
 }
 
+// The changes of a repair of this set, whose needing targets these are, with their matches among the candidates.
+fn repair_with(
+    alloc: Global,
+    folder: &Folder,
+    set: &ParSet,
+    candidates: &[Name],
+    needing: &Needing,
+    purge: bool,
+) -> Result<Changes, Fault>
+    requires needing { AreNeeding folder.now.files set.now candidates.now needing.now }
+    requires whole { IsWholeWhereMatched folder.now.files set.now candidates.now }
+    ensures refused { let reason = repair_refusal folder.now.files set.now candidates.now in
+        IfErr result (λ fault. (fault ≡ Fault.Memory) ⊎ (reason ≡ Some fault)) }
+    ensures accepted { IfOk result
+        (λ _. repair_refusal folder.now.files set.now candidates.now ≡ None) }
+    ensures changes { let all = repair_by purge folder.now.files set.now candidates.now in
+        IfOk result (λ changes. changes ≡ all) }
+    ensures few { IfOk result (λ _. AreFew folder.now.files set.now) }
+    ensures described { let written = rebuilt_targets folder.now.files set.now candidates.now in
+        IfOk result (λ _. AllByRecursion IsAsDescribed written) }
+{
+    let slices = slices_for(alloc, folder, set, candidates, &needing.unmatched)?;
+    let asides = asides(alloc, folder, set, &needing.put_aside)?;
+    let files = files_for(alloc, set, &slices, &needing.unmatched)?;
+    let changes = changes_with(alloc, folder, set, needing, &asides, files, purge)?;
+    Ok(changes)
+}
+
 // The changes of a repair of this set, with further files.
 fn repair_of(
     alloc: Global,
@@ -162,11 +190,7 @@ fn repair_of(
 {
     let candidates = candidates(alloc, folder, set, extras)?;
     let needing = needing_of(alloc, folder, set, &candidates)?;
-    let slices = slices_for(alloc, folder, set, &candidates, &needing.unmatched)?;
-    let asides = asides(alloc, folder, set, &needing.put_aside)?;
-    let files = files_for(alloc, set, &slices, &needing.unmatched)?;
-    let changes = changes_with(alloc, folder, set, &needing, &asides, files, purge)?;
-    Ok(changes)
+    repair_with(alloc, folder, set, &candidates, &needing, purge)
 }
 
 /// The changes of a repair: the files of needing targets are put aside, targets that have a match take it, and the others

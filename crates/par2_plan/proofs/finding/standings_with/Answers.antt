@@ -1,4 +1,4 @@
-use Rattle.std.proofs.Common.{◌≡◌, ◌∙◌, ◌++◌, ◌∷◌, [], List, ℕ, Bool, Bor, length, map, take, drop, sym, ap, ap₂, append-nil}
+use Rattle.std.proofs.Common.{◌≡◌, ◌∙◌, ◌++◌, [], List, ℕ, Bool, Bor, length, map, take, drop, sym, ap, ap₂, append-nil}
 use Rattle.std.proofs.lemmas.List.{drop-drop}
 use Rattle.std.specs.Prelude.{Option}
 use Rattle.std.specs.Iterator.Adapters.{zip_first, zip_second}

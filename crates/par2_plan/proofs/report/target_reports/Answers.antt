@@ -5,8 +5,8 @@ use Rattle.std.proofs.lemmas.List.{map-append}
 use Rattle.std.proofs.lemmas.Slice.Zip.{Zip-more, either_empty_from_Zip}
 use Rattle.par2_spec.specs.Sets.{Target}
 use Rattle.par2_spec.specs.Reports as reports
-use Rattle.par2_plan.specs.Parts.{target_report_by, target_reports_by}
-use Rattle.par2_plan.specs.Views.{standing_of, standings_of, target_report_of}
+use Rattle.par2_plan.specs.Parts.{target_reports_by}
+use Rattle.par2_plan.specs.Views.{standings_of, target_report_of}
 use Rattle.par2_plan.specs.declared.finding.Standing as code
 use Rattle.par2_plan.specs.declared.report.TargetReport as code_report
 use Rattle.par2_plan.proofs.Standings.{reports_end}
