@@ -12,6 +12,25 @@ use Rattle.par2_plan.specs.Views.{standing_of, standings_of, missing_in}
 use Rattle.par2_plan.proofs.LostSlices.{lost_step, sized_rest, few_rest, windows_fit, lost_end_of, lost_below, each_below}
 use Rattle.par2_plan.proofs.report.lost_slices.Goals as goal
 
+pub loop-target-init : goal.loop-target-init
+loop-target-init c =
+    let s = c.args.set.now.slice_size in
+    let targets : List Target = c.args.set.now.targets in
+    let it = c.into_iter-target-iterator.result in
+    let whole : it ≡ c.zip-target-items.result = c.into_iter-target-iterator.ensures.into_iter_gives in
+    let here : iter_rest (zip_first it) ≡ targets =
+    ap (λ z. iter_rest (zip_first z)) whole ∙ ap iter_rest c.zip-target-items.ensures.first ∙ c.iter.ensures.rest ∙ c.targets.ensures.value in
+    let there : standings_of s (iter_rest (zip_second it)) ≡ standings_of s c.args.standings.now =
+    ap (λ z. standings_of s (iter_rest (zip_second z))) whole ∙ ap (standings_of s) c.zip-target-items.ensures.second.0 in
+    let sound = c.targets.ensures.sound in record {
+      numbers =
+          ap (λ (lost : List ℕ). lost ++ lost_from 0 (iter_rest (zip_first it)) (standings_of s (iter_rest (zip_second it)))) c.new-lost.ensures.items
+          ∙ ap₂ (λ (us : List Target) (sts : List Standing). lost_from 0 us sts) here there;
+      few =
+          subst (λ (us : List Target). 0 + length (flat_map (λ (u : Target). u.pairs) us) ≤ 32768) (sym here) (omega (arith, sound.slices));
+      sized = subst (λ (us : List Target). AreSized us (standings_of s (iter_rest (zip_second it)))) (sym here) (subst (AreSized targets) (sym there) c.requires);
+    }
+
 pub push_lost-requires : goal.push_lost-requires
 push_lost-requires c =
     let it = c.loop-target.target-iterator in
