@@ -5,8 +5,8 @@ ghost use Rattle.par2_journal.specs.Ready.{Fits};
 
 use par2_folder::{Change, Folder, Name};
 use par2_journal::{
-    Action, CreateArgs, Fault, Halfway, Journals, NothingToRedo, NothingToUndo, Opened, Prepared,
-    Session, SessionFault, Steps,
+    Action, CreateArgs, Fault, Halfway, Journals, Next, Opened, Prepared, Session, SessionFault,
+    Steps,
 };
 use par2_plan::Changes;
 use par2_spec::JournalFault;
@@ -72,12 +72,13 @@ pub fn commit(session: &mut Session, prepared: Prepared) -> usize
     session.commit(prepared).len()
 }
 
-pub fn undo(session: &mut Session) -> Result<(), NothingToUndo> {
-    session.undo()
+// Whether there was something to undo.
+pub fn undo(session: &mut Session) -> bool {
+    session.undo().is_ok()
 }
 
-pub fn redo(session: &mut Session) -> Result<(), NothingToRedo> {
-    session.redo()
+pub fn redo(session: &mut Session) -> bool {
+    session.redo().is_ok()
 }
 
 // How many of the actions were done.
@@ -100,6 +101,14 @@ pub fn encode(session: &Session, alloc: Global) -> Result<Vec<u8>, AllocError> {
 
 pub fn open(alloc: Global, folder: Folder, text: &[u8]) -> Result<Opened, (JournalFault, Folder)> {
     Session::open(alloc, folder, text)
+}
+
+pub fn open_before_redo(
+    alloc: Global,
+    folder: Folder,
+    text: &[u8],
+) -> Result<Opened, (JournalFault, Folder)> {
+    Session::open_before(alloc, folder, text, Some(Next::Redo))
 }
 
 pub fn changes_back(halfway: &Halfway) -> &[Change] {

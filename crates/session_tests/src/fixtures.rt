@@ -1,10 +1,28 @@
-//! Folders and the arguments of creates.
+//! Folders and the arguments of creates. The helpers of all tests take the allocator alone and answer what holds, so
+//! that one assertion in each test tells it.
 use crate::calls::{applied, reserve};
 use par2_folder::{Bytes, Change, Folder, Name};
 use par2_plan::CreateArgs;
 use std::alloc::{AllocError, Global};
-use std::process::Abort;
-use std::test::Fail;
+
+/// Why a step of a test doesn't come about.
+#[derive(Debug, Drop)]
+pub enum Trouble {
+    Memory,
+    Refused,
+}
+
+impl From<AllocError> for Trouble {
+    fn from(_: AllocError) -> Trouble {
+        Trouble::Memory
+    }
+}
+
+/// The name and the bytes of a file.
+pub type File = (&'static str, &'static [u8]);
+
+/// The file `a` alone.
+pub const A: &[File] = &[("a", b"abcdefgh")];
 
 // The words of a command.
 pub fn words_of(alloc: Global, words: &[&str]) -> Result<Vec<String>, AllocError> {
@@ -32,23 +50,30 @@ pub fn args_of(
     })
 }
 
-// The name of this text.
-pub fn name_of<R: Abort>(rt: &R, text: &str) -> Name {
-    Name::new(text).expect(rt, "a name")
+// Writes a file into a folder that has a place for it.
+fn write(alloc: Global, folder: &mut Folder, text: &str, bytes: &[u8]) -> Result<(), Trouble> {
+    let bytes = Bytes::copy_of(alloc, bytes)?;
+    let Ok(name) = Name::new(text) else {
+        return Err(Trouble::Refused);
+    };
+    apply(folder, Change::Write(name, bytes))
 }
 
-// Does a change, which the folder takes.
-pub fn apply<R: Abort>(rt: &R, folder: &mut Folder, mut change: Change) {
-    assert!(rt; applied(folder, &mut change));
+// Does a change.
+pub fn apply(folder: &mut Folder, mut change: Change) -> Result<(), Trouble> {
+    if applied(folder, &mut change) {
+        Ok(())
+    } else {
+        Err(Trouble::Refused)
+    }
 }
 
 // A folder of these files.
-pub fn folder_of<R: Abort + AllocGlobal>(rt: &R, files: &[(&str, &[u8])]) -> Result<Folder, Fail> {
-    let mut folder = Folder::new(rt.alloc());
+pub fn folder_of(alloc: Global, files: &[(&str, &[u8])]) -> Result<Folder, Trouble> {
+    let mut folder = Folder::new(alloc);
     reserve(&mut folder, files.len())?;
-    for (text, bytes) in files {
-        let bytes = Bytes::copy_of(rt.alloc(), bytes)?;
-        apply(rt, &mut folder, Change::Write(name_of(rt, text), bytes));
+    for file in files {
+        write(alloc, &mut folder, file.0, file.1)?;
     }
     Ok(folder)
 }

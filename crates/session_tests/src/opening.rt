@@ -1,97 +1,131 @@
 //! Folders that are opened with a journal.
 use crate::calls::{
-    bytes_in, changes_back, fingerprint, folder_in, open, settled_text, taken_back,
+    changes_back, encode, fingerprint, open, open_before_redo, settled_text, taken_back,
 };
-use crate::fixtures::folder_of;
-use crate::journal::{UNDONE_CREATE, assert_settled, halfway_of, is_removal_of, journal_of};
-use crate::session::{assert_stands, redo, session_after, session_of};
-use par2_folder::{Folder, Name};
-use par2_journal::{Action, Halfway, Next, Opened, Session};
+use crate::fixtures::{A, File, Trouble, folder_of};
+use crate::journal::{FINGERPRINT, HALFWAY_JOURNAL};
+use crate::session::{file_in, stands};
+use par2_folder::{Change, Folder};
+use par2_journal::{Halfway, Opened, Session};
 use par2_spec::JournalFault;
 use std::alloc::Global;
-use std::process::Abort;
 use std::test::Fail;
 
-// The journal does not open the folder with this file alone, which is given back as it was.
-fn assert_refused<R: Abort + AllocGlobal>(
-    rt: &R,
-    file: &str,
+// The session that the file `a` alone is opened as, with the journal of another.
+pub fn reopened(alloc: Global, session: &Session, is_redo_next: bool) -> Result<Session, Trouble> {
+    let text = encode(session, alloc)?;
+    let folder = folder_of(alloc, A)?;
+    let opened = if is_redo_next {
+        open_before_redo(alloc, folder, &text)
+    } else {
+        open(alloc, folder, &text)
+    };
+    match opened {
+        Ok(Opened::Settled(again)) => Ok(again),
+        _ => Err(Trouble::Refused),
+    }
+}
+
+// A folder of these files, opened by the journal of a halfway command.
+fn halfway_of(alloc: Global, files: &[(&str, &[u8])], text: &[u8]) -> Result<Halfway, Trouble> {
+    let folder = folder_of(alloc, files)?;
+    match open(alloc, folder, text) {
+        Ok(Opened::Halfway(halfway)) => Ok(halfway),
+        _ => Err(Trouble::Refused),
+    }
+}
+
+fn is_removal_of(changes: &[Change], text: &str) -> bool {
+    matches!(changes, [Change::Remove(name)] if name.as_str() == text)
+}
+
+// Whether the halfway command is to be taken back by removing the index, and this journal stands then.
+fn is_as_told(alloc: Global, halfway: &Halfway, settled: &[u8]) -> Result<bool, Trouble> {
+    let text = settled_text(halfway, alloc)?;
+    Ok(text.as_slice() == settled && is_removal_of(changes_back(halfway), "t.par2"))
+}
+
+// Whether that is told and done.
+fn is_removed(alloc: Global, halfway: Halfway, settled: &[u8]) -> Result<bool, Trouble> {
+    let is_told = is_as_told(alloc, &halfway, settled)?;
+    let session = taken_back(halfway);
+    Ok(is_told && stands(&session, &("t.par2", 0, 0, None)))
+}
+
+// The same of a session's folder with the files `a` and `t.par2`, and of this halfway journal.
+pub fn is_taken_back(
+    alloc: Global,
+    session: &Session,
     text: &[u8],
-    wanted: JournalFault,
-) -> Result<(), Fail> {
-    let folder = folder_of(rt, &[(file, b"abcdefgh")])?;
-    let before = fingerprint(rt.alloc(), &folder)?;
-    let Err((fault, folder)) = open(rt.alloc(), folder, text) else {
-        panic!(rt; "opened in place of {wanted:?}");
+    settled: &[u8],
+) -> Result<bool, Trouble> {
+    let Some(index) = file_in(session, "t.par2") else {
+        return Ok(false);
     };
-    assert_eq!(rt; fault, wanted);
-    assert_eq!(rt; fingerprint(rt.alloc(), &folder)?, before);
-    Ok(())
+    let halfway = halfway_of(alloc, &[("a", b"abcdefgh"), ("t.par2", index)], text)?;
+    is_removed(alloc, halfway, settled)
 }
 
-#[test]
-fn opens_its_journal(rt: HostRuntime) -> Result<(), Fail> {
-    let text = journal_of(&rt, &session_after(&rt, UNDONE_CREATE)?)?;
-    let folder = folder_of(&rt, &[("a", b"abcdefgh")])?;
-    let Ok(Opened::Settled(mut again)) = open(rt.alloc(), folder, &text) else {
-        panic!(rt; "not opened");
-    };
-    assert_stands(&rt, &again, "t.par2", (0, 1, None));
-    redo(&rt, &mut again);
-    assert_stands(&rt, &again, "t.par2", (1, 0, Some(420)));
-    Ok(())
-}
+// A journal after whose undo the file `t.par2` of one byte can be written again, made by another program from the
+// format alone.
+const UNDONE: &[u8] = b"P2UNDO2\n\
+    \xd3\x68\x83\xb6\x33\x05\xc2\x0b\x65\xe4\x20\x6a\x90\x61\x28\xc1\
+    \0\0\0\0\0\0\0\0\x01\0\0\0\0\0\0\0\x01\0\0\0\0\0\0\0\x01\x06t.par2\x01\0\0\0\0\0\0\x001\0\
+    \x20\x6a\x48\x9c\xc8\xae\x77\xbd\x76\x4d\x8a\x9d\x6d\xfd\x86\x0b";
 
-fn open_before_redo(
+const B: &[File] = &[("b", b"abcdefgh")];
+
+// Where the folder has the file `b` alone.
+const FINGERPRINT_OF_B: [u8; 16] =
+    *b"\xf4\x12\xa7\x06\x1c\x88\xa5\x3c\x2d\xf2\x23\x15\x59\x1f\x05\xdd";
+
+// The files and their fingerprint, a journal that does not open them, and why.
+type Foreign = (&'static [File], [u8; 16], &'static [u8], JournalFault);
+
+const FOREIGN: &[Foreign] = &[
+    (
+        B,
+        FINGERPRINT_OF_B,
+        UNDONE,
+        JournalFault::FolderChanged { halfway: false },
+    ),
+    (A, FINGERPRINT, b"no journal", JournalFault::JournalInvalid),
+    (
+        B,
+        FINGERPRINT_OF_B,
+        HALFWAY_JOURNAL,
+        JournalFault::FolderChanged { halfway: true },
+    ),
+];
+
+// The folder that is given back by a refusal of this journal.
+fn given_back(
     alloc: Global,
     folder: Folder,
     text: &[u8],
-) -> Result<Opened, (JournalFault, Folder)> {
-    Session::open_before(alloc, folder, text, Some(Next::Redo))
+    wanted: JournalFault,
+) -> Result<Folder, Trouble> {
+    let Err((fault, folder)) = open(alloc, folder, text) else {
+        return Err(Trouble::Refused);
+    };
+    if fault == wanted {
+        Ok(folder)
+    } else {
+        Err(Trouble::Refused)
+    }
 }
 
-#[test]
-fn journal_of_a_redo_that_was_next(rt: HostRuntime) -> Result<(), Fail> {
-    let text = journal_of(&rt, &session_after(&rt, UNDONE_CREATE)?)?;
-    let folder = folder_of(&rt, &[("a", b"abcdefgh")])?;
-    let Ok(Opened::Settled(mut session)) = open_before_redo(rt.alloc(), folder, &text) else {
-        panic!(rt; "not opened");
-    };
-    assert_settled(&rt, &mut session, &Action::Redo)
+// Whether the folder is given back as it was.
+fn is_refused(alloc: Global, row: &Foreign) -> Result<bool, Trouble> {
+    let folder = given_back(alloc, folder_of(alloc, row.0)?, row.2, row.3)?;
+    Ok(fingerprint(alloc, &folder)? == row.1)
 }
 
 #[test]
 fn foreign_journals(rt: HostRuntime) -> Result<(), Fail> {
-    let text = journal_of(&rt, &session_after(&rt, UNDONE_CREATE)?)?;
-    assert_refused(
-        &rt,
-        "b",
-        &text,
-        JournalFault::FolderChanged { halfway: false },
-    )?;
-    assert_refused(&rt, "a", b"no journal", JournalFault::JournalInvalid)?;
-    let halfway = halfway_of(&rt, &mut session_of(&rt)?)?;
-    assert_refused(
-        &rt,
-        "b",
-        &halfway,
-        JournalFault::FolderChanged { halfway: true },
-    )
-}
-
-// Opens by the journal of a halfway command.
-fn open_halfway<R: Abort + AllocGlobal>(rt: &R, folder: Folder, text: &[u8]) -> Halfway {
-    let Ok(Opened::Halfway(halfway)) = open(rt.alloc(), folder, text) else {
-        panic!(rt; "not opened");
-    };
-    halfway
-}
-
-#[test]
-fn opens_before_the_first_change(rt: HostRuntime) -> Result<(), Fail> {
-    let text = halfway_of(&rt, &mut session_of(&rt)?)?;
-    let before = folder_of(&rt, &[("a", b"abcdefgh")])?;
-    assert_eq!(rt; changes_back(&open_halfway(&rt, before, &text)).len(), 0);
+    for row in FOREIGN {
+        assert!(rt; is_refused(rt.alloc(), row)?);
+    }
     Ok(())
 }
 
@@ -106,54 +140,35 @@ const FOUR_CHANGES: &[u8] = b"P2UNDO2\n\
     \x01\x03a.1\x08\0\0\0\0\0\0\0abcdefgh\x02\x01b\x03\0\0\0\0\0\0\0xyz\x04\x01a\x03\x03a.1\x01a\
     \xf7\xb0\xce\x82\x53\x26\x97\x86\x8a\xec\xae\xa6\x1e\x98\xeb\xb0";
 
-// The files before those changes, after the first one, and so on.
-const ALONG: &[&[(&str, &[u8])]] = &[
-    &[("a", b"abcdefgh"), ("b", b"xyz")],
-    &[("a.1", b"abcdefgh"), ("b", b"xyz")],
-    &[("a", b"new"), ("a.1", b"abcdefgh"), ("b", b"xyz")],
-    &[("a", b"new"), ("a.1", b"abcdefgh"), ("b", b"b2")],
-    &[("a", b"new"), ("b", b"b2")],
+// The files in the folder of a halfway command, its journal, and how many changes were made.
+type Along = (&'static [File], &'static [u8], usize);
+
+const ALONG: &[Along] = &[
+    (A, HALFWAY_JOURNAL, 0),
+    (&[("a", b"abcdefgh"), ("b", b"xyz")], FOUR_CHANGES, 0),
+    (&[("a.1", b"abcdefgh"), ("b", b"xyz")], FOUR_CHANGES, 1),
+    (
+        &[("a", b"new"), ("a.1", b"abcdefgh"), ("b", b"xyz")],
+        FOUR_CHANGES,
+        2,
+    ),
+    (
+        &[("a", b"new"), ("a.1", b"abcdefgh"), ("b", b"b2")],
+        FOUR_CHANGES,
+        3,
+    ),
+    (&[("a", b"new"), ("b", b"b2")], FOUR_CHANGES, 4),
 ];
+
+fn is_along(alloc: Global, row: &Along) -> Result<bool, Trouble> {
+    let halfway = halfway_of(alloc, row.0, row.1)?;
+    Ok(changes_back(&halfway).len() == row.2)
+}
 
 #[test]
 fn takes_back_as_many_changes_as_were_made(rt: HostRuntime) -> Result<(), Fail> {
-    for (made, files) in ALONG.iter().enumerate() {
-        let folder = folder_of(&rt, files)?;
-        assert_eq!(rt;
-            changes_back(&open_halfway(&rt, folder, FOUR_CHANGES)).len(),
-            made
-        );
+    for row in ALONG {
+        assert!(rt; is_along(rt.alloc(), row)?);
     }
     Ok(())
-}
-
-// The folder of a session with the files `a` and `t.par2`.
-fn folder_after<R: Abort + AllocGlobal>(rt: &R, session: &Session) -> Result<Folder, Fail> {
-    let name = Name::new("t.par2").expect(rt, "a name");
-    let Some(index) = bytes_in(folder_in(session), &name) else {
-        panic!(rt; "no index");
-    };
-    folder_of(rt, &[("a", b"abcdefgh"), ("t.par2", index)])
-}
-
-// The command is taken back by removing the index.
-fn assert_taken_back<R: Abort + AllocGlobal>(
-    rt: &R,
-    halfway: Halfway,
-    settled: &[u8],
-) -> Result<(), Fail> {
-    assert!(rt; is_removal_of(changes_back(&halfway), "t.par2"));
-    let text = settled_text(&halfway, rt.alloc())?;
-    assert_eq!(rt; text.as_slice(), settled);
-    assert_stands(rt, &taken_back(halfway), "t.par2", (0, 0, None));
-    Ok(())
-}
-
-#[test]
-fn opens_after_the_last_change(rt: HostRuntime) -> Result<(), Fail> {
-    let mut session = session_of(&rt)?;
-    let settled = journal_of(&rt, &session)?;
-    let text = halfway_of(&rt, &mut session)?;
-    let halfway = open_halfway(&rt, folder_after(&rt, &session)?, &text);
-    assert_taken_back(&rt, halfway, &settled)
 }

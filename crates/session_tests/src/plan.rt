@@ -1,20 +1,14 @@
 //! Each fault of a create, and outputs beside bytes that another program made and par2cmdline verifies and repairs by.
 use crate::calls::plan_of;
-use crate::fixtures::{args_of, folder_of};
+use crate::fixtures::{A, File, Trouble, args_of, folder_of};
 use par2_folder::{Change, Folder};
-use par2_plan::{CreateArgs, Fault};
+use par2_plan::{Changes, CreateArgs, Fault};
 use par2_slices::crc32;
 use std::alloc::{AllocError, Global};
-use std::process::Abort;
 use std::test::Fail;
-
-// The name and the bytes of a file.
-type File = (&'static str, &'static [u8]);
 
 // The name, the length and the CRC-32 of a file that a create writes.
 type Output = (&'static str, usize, u32);
-
-const A: &[File] = &[("a", b"abcdefgh")];
 
 // The File ID of `b` is below that of `a`.
 const A_AND_B: &[File] = &[("a", b"abcdefgh"), ("b", b"0123456")];
@@ -27,9 +21,16 @@ const VOLUME_OF_ONE: Output = ("t.vol00000+00001.par2", 492, 0xee78_3aa6);
 
 const VOLUME_OF_TWO: Output = ("t.vol00001+00002.par2", 564, 0x668f_17d4);
 
+// A base of 255 bytes, to which the names of volumes add more.
+const LONGEST_BASE: &str = "\
+    bbbbbbbbbbbbbbbbbbbbbbbbbbbbbbbbbbbbbbbbbbbbbbbbbbbbbbbbbbbbbbbbbbbbbbbbbbbbbbbbbbbbbbbbbb\
+    bbbbbbbbbbbbbbbbbbbbbbbbbbbbbbbbbbbbbbbbbbbbbbbbbbbbbbbbbbbbbbbbbbbbbbbbbbbbbbbbbbbbbbbbbb\
+    bbbbbbbbbbbbbbbbbbbbbbbbbbbbbbbbbbbbbbbbbbbbbbbbbbbbbbbbbbbbbbbbbbbbbb.par2";
+
 // A create on a folder of these files, and its outputs.
 struct Planned {
     files: &'static [File],
+    base: &'static str,
     slice_size: u64,
     count: u32,
     first: u32,
@@ -39,9 +40,10 @@ struct Planned {
     wanted: &'static [Output],
 }
 
-const PLANNED: [Planned; 7] = [
+const PLANNED: &[Planned] = &[
     Planned {
         files: A,
+        base: "t.par2",
         slice_size: 4,
         count: 0,
         first: 0,
@@ -51,6 +53,7 @@ const PLANNED: [Planned; 7] = [
     },
     Planned {
         files: A,
+        base: "t.par2",
         slice_size: 4,
         count: 5,
         first: 0,
@@ -65,6 +68,7 @@ const PLANNED: [Planned; 7] = [
     },
     Planned {
         files: A,
+        base: "t.par2",
         slice_size: 4,
         count: 7,
         first: 0,
@@ -79,6 +83,7 @@ const PLANNED: [Planned; 7] = [
     },
     Planned {
         files: A,
+        base: "t.par2",
         slice_size: 4,
         count: 3,
         first: 0,
@@ -88,6 +93,7 @@ const PLANNED: [Planned; 7] = [
     },
     Planned {
         files: A,
+        base: "t.par2",
         slice_size: 4,
         count: 2,
         first: 7,
@@ -101,6 +107,7 @@ const PLANNED: [Planned; 7] = [
     },
     Planned {
         files: A_AND_B,
+        base: "t.par2",
         slice_size: 4,
         count: 2,
         first: 0,
@@ -114,12 +121,24 @@ const PLANNED: [Planned; 7] = [
     },
     Planned {
         files: A_AND_INDEX,
+        base: "t.par2",
         slice_size: 8,
         count: 0,
         first: 0,
         inputs: &["a"],
         replaces: true,
         wanted: &[("t.par2", 400, 0xcfd6_e37e)],
+    },
+    // The index doesn't tell its own name.
+    Planned {
+        files: A,
+        base: LONGEST_BASE,
+        slice_size: 4,
+        count: 0,
+        first: 0,
+        inputs: &["a"],
+        replaces: false,
+        wanted: &[(LONGEST_BASE, 420, 0xfa5b_22a1)],
     },
 ];
 
@@ -128,36 +147,44 @@ fn planned_args(alloc: Global, row: &Planned) -> Result<CreateArgs, AllocError> 
         count: row.count,
         first: row.first,
         overwrite: row.replaces,
-        ..args_of(alloc, row.slice_size, "t.par2", row.inputs)?
+        ..args_of(alloc, row.slice_size, row.base, row.inputs)?
     })
 }
 
-// Of a change whether it replaces a file, and the file.
-fn output_of(change: &Change) -> Option<(bool, (&str, usize, u32))> {
-    let (replaces, name, bytes) = match change {
-        Change::Write(name, bytes) => (false, name, bytes.as_slice()),
-        Change::Replace(name, bytes) => (true, name, bytes.as_slice()),
-        _ => return None,
+// Whether a change writes or replaces this file.
+fn is_output(change: &Change, replaces: bool, file: &Output) -> bool {
+    let (name, bytes) = match change {
+        Change::Write(name, bytes) if !replaces => (name, bytes.as_slice()),
+        Change::Replace(name, bytes) if replaces => (name, bytes.as_slice()),
+        _ => return false,
     };
-    Some((replaces, (name.as_str(), bytes.len(), crc32(bytes))))
+    name.as_str() == file.0 && bytes.len() == file.1 && crc32(bytes) == file.2
 }
 
 // Whether the changes write these files.
 fn are_written(changes: &[Change], row: &Planned) -> bool {
     changes.len() == row.wanted.len()
-        && changes.iter().zip(row.wanted).all(|(change, file)| output_of(change)
-            == Some((row.replaces, *file)))
+        && changes
+            .iter()
+            .zip(row.wanted)
+            .all(|(change, file)| is_output(change, row.replaces, file))
+}
+
+fn are_all_written(changes: &Changes, row: &Planned) -> bool {
+    !changes.is_empty() && are_written(changes.as_slice(), row)
+}
+
+fn is_planned(alloc: Global, row: &Planned) -> Result<bool, Trouble> {
+    let folder = folder_of(alloc, row.files)?;
+    let args = planned_args(alloc, row)?;
+    let changes = plan_of(alloc, &folder, &args);
+    Ok(matches!(&changes, Ok(changes) if are_all_written(changes, row)))
 }
 
 #[test]
 fn planned_creates(rt: HostRuntime) -> Result<(), Fail> {
-    for row in &PLANNED {
-        let folder = folder_of(&rt, row.files)?;
-        let args = planned_args(rt.alloc(), row)?;
-        let Ok(changes) = plan_of(rt.alloc(), &folder, &args) else {
-            panic!(rt; "refused");
-        };
-        assert!(rt; !changes.is_empty() && are_written(changes.as_slice(), row));
+    for row in PLANNED {
+        assert!(rt; is_planned(rt.alloc(), row)?);
     }
     Ok(())
 }
@@ -179,6 +206,7 @@ const REFUSED: &[Refused] = &[
     // Its second volume is there.
     (4, 2, 0, "t.par2", &["a"], Fault::Exists),
     (4, 2, 65535, "t.par2", &["a"], Fault::BadCount),
+    (4, 1, 0, LONGEST_BASE, &["a"], Fault::NameTooLong),
 ];
 
 // One byte more than 32,768 slices of 4 bytes have.
@@ -192,15 +220,11 @@ fn refused_args(alloc: Global, row: &Refused) -> Result<CreateArgs, AllocError> 
     })
 }
 
-fn fault_of(alloc: Global, folder: &Folder, args: &CreateArgs) -> Option<Fault> {
-    plan_of(alloc, folder, args).err()
-}
-
-#[test]
-fn refused_creates(rt: HostRuntime) -> Result<(), Fail> {
-    let large = vec![in rt.alloc(); 7; LARGE]?;
-    let folder = folder_of(
-        &rt,
+// The folder in which they are refused.
+fn folder_there(alloc: Global) -> Result<Folder, Trouble> {
+    let large = vec![in alloc; 7; LARGE]?;
+    folder_of(
+        alloc,
         &[
             ("a", b"abcdefgh"),
             ("empty", b""),
@@ -208,31 +232,20 @@ fn refused_creates(rt: HostRuntime) -> Result<(), Fail> {
             ("there.par2", b"1"),
             ("t.vol00001+00001.par2", b"1"),
         ],
-    )?;
-    for row in REFUSED {
-        let args = refused_args(rt.alloc(), row)?;
-        assert_eq!(rt; fault_of(rt.alloc(), &folder, &args), Some(row.5));
-    }
-    Ok(())
+    )
 }
 
-// A base of 255 bytes, to which the names of volumes add more.
-const LONGEST_BASE: &str = "\
-    bbbbbbbbbbbbbbbbbbbbbbbbbbbbbbbbbbbbbbbbbbbbbbbbbbbbbbbbbbbbbbbbbbbbbbbbbbbbbbbbbbbbbbbbbb\
-    bbbbbbbbbbbbbbbbbbbbbbbbbbbbbbbbbbbbbbbbbbbbbbbbbbbbbbbbbbbbbbbbbbbbbbbbbbbbbbbbbbbbbbbbbb\
-    bbbbbbbbbbbbbbbbbbbbbbbbbbbbbbbbbbbbbbbbbbbbbbbbbbbbbbbbbbbbbbbbbbbbbb.par2";
+fn is_refused(alloc: Global, row: &Refused) -> Result<bool, Trouble> {
+    let folder = folder_there(alloc)?;
+    let args = refused_args(alloc, row)?;
+    let changes = plan_of(alloc, &folder, &args);
+    Ok(matches!(&changes, Err(fault) if *fault == row.5))
+}
 
 #[test]
-fn names_that_are_too_long(rt: HostRuntime) -> Result<(), Fail> {
-    let folder = folder_of(&rt, A)?;
-    let mut args = args_of(rt.alloc(), 4, LONGEST_BASE, &["a"])?;
-    args.count = 1;
-    assert_eq!(rt;
-        fault_of(rt.alloc(), &folder, &args),
-        Some(Fault::NameTooLong)
-    );
-    args.count = 0;
-    let changes = plan_of(rt.alloc(), &folder, &args);
-    assert!(rt; matches!(&changes, Ok(changes) if changes.len() == 1));
+fn refused_creates(rt: HostRuntime) -> Result<(), Fail> {
+    for row in REFUSED {
+        assert!(rt; is_refused(rt.alloc(), row)?);
+    }
     Ok(())
 }

@@ -1,11 +1,12 @@
 //! The texts word for word, and writers that stop.
 ghost use Rattle.std.specs.Prelude.{Some};
 
+use crate::fixtures::{Trouble, args_of};
 use par2_printing::{
     PrintedState, PrintedStep, PrintedTarget, Printer, WriteFault, write_done, write_failure,
     write_note, write_set, write_step, write_target, write_verdict,
 };
-use par2_spec::{Action, Command, CreateArgs, Failure, Fault, Verdict};
+use par2_spec::{Action, Command, Failure, Fault, Verdict};
 use std::alloc::{AllocError, Global};
 use std::io::{self, ErrorKind, Write};
 use std::test::Fail;
@@ -36,23 +37,22 @@ impl Write for Stopping {
     }
 }
 
-// What a writer holds that takes five bytes, and whether both writes to it failed.
-fn after_five_bytes(alloc: Global, fails: bool) -> (bool, Vec<u8>) {
+// Whether both writes fail to a writer that takes five bytes, which it holds then.
+fn stops_after_five_bytes_of(alloc: Global, fails: bool) -> bool {
     let mut out = Printer::new(Stopping {
         held: Vec::new(alloc),
         left: 5,
         fails,
     });
-    let step = write_step(&mut out, PrintedStep::Write("t.par2"));
-    let failure = write_failure(&mut out, None, Failure::Arguments);
-    (step.is_err() && failure.is_err(), out.into_inner().held)
+    let step = write_step(&mut out, PrintedStep::Write("t.par2")).is_err();
+    let failure = write_failure(&mut out, None, Failure::Arguments).is_err();
+    step && failure && out.into_inner().held.as_slice() == b"write".as_slice()
 }
 
 #[test]
 fn stops_after_five_bytes(rt: HostRuntime) {
     for fails in [false, true] {
-        let (is_told, held) = after_five_bytes(rt.alloc(), fails);
-        assert!(rt; is_told && held.as_slice() == b"write".as_slice());
+        assert!(rt; stops_after_five_bytes_of(rt.alloc(), fails));
     }
 }
 
@@ -81,20 +81,19 @@ impl Write for Halting {
     }
 }
 
-// What such a writer holds after a line, and whether the line was written.
-fn after_interruptions(alloc: Global) -> (bool, Vec<u8>) {
+// Whether such a writer holds a line that is written.
+fn holds_a_line(alloc: Global) -> bool {
     let mut out = Printer::new(Halting {
         held: Vec::new(alloc),
         is_interrupted: false,
     });
-    let step = write_step(&mut out, PrintedStep::Write("b"));
-    (step.is_ok(), out.into_inner().held)
+    let is_written = write_step(&mut out, PrintedStep::Write("b")).is_ok();
+    is_written && out.into_inner().held.as_slice() == b"write b\n".as_slice()
 }
 
 #[test]
 fn goes_on_after_interruptions(rt: HostRuntime) {
-    let (is_written, held) = after_interruptions(rt.alloc());
-    assert!(rt; is_written && held.as_slice() == b"write b\n".as_slice());
+    assert!(rt; holds_a_line(rt.alloc()));
 }
 
 // What one of the calls writes.
@@ -161,36 +160,44 @@ const LINES: &[(Line, &str)] = &[
     ),
 ];
 
-// Each line is written behind those before it.
+// What is written with this line behind it.
+fn line_behind(out: Vec<u8>, line: Line) -> Result<Vec<u8>, Trouble> {
+    let mut printer = Printer::new(out);
+    match write_line(&mut printer, line) {
+        Ok(()) => Ok(printer.into_inner()),
+        Err(_) => Err(Trouble::Refused),
+    }
+}
+
+// The text of the first line that isn't written behind those before it, if there is one.
+fn first_unwritten(alloc: Global) -> Result<Option<&'static str>, Trouble> {
+    let (mut out, mut expected) = (Vec::new(alloc), String::new(alloc));
+    for (line, text) in LINES {
+        out = line_behind(out, *line)?;
+        expected.push_str(text)?;
+        if out.as_slice() != expected.as_bytes() {
+            return Ok(Some(*text));
+        }
+    }
+    Ok(None)
+}
+
 #[test]
 fn lines_of_a_report(rt: HostRuntime) -> Result<(), Fail> {
-    let (mut out, mut expected) = (Vec::new(rt.alloc()), String::new(rt.alloc()));
-    for (line, text) in LINES {
-        let mut printer = Printer::new(out);
-        write_line(&mut printer, *line)?;
-        out = printer.into_inner();
-        expected.push_str(text)?;
-        assert!(rt; out.as_slice() == expected.as_bytes(), "at {text}");
+    if let Some(text) = first_unwritten(rt.alloc())? {
+        panic!(rt; "at {text}");
     }
     Ok(())
 }
 
 // A create of `t.par2` with the inputs `x` and `y z`.
 fn create(alloc: Global) -> Result<Command, AllocError> {
-    let mut inputs = Vec::new(alloc);
-    inputs.push(String::from_str(alloc, "x")?)?;
-    inputs.push(String::from_str(alloc, "y z")?)?;
-    Ok(Command::Act(Action::Create(CreateArgs {
-        slice_size: 4,
-        count: 0,
-        first: 0,
-        base: String::from_str(alloc, "t.par2")?,
-        inputs,
-        overwrite: false,
-    })))
+    let args = args_of(alloc, 4, "t.par2", &["x", "y z"])?;
+    Ok(Command::Act(Action::Create(args)))
 }
 
-const FAULTS_OF_A_CREATE: &[(Fault, &str)] = &[
+// The failure of a command with two inputs, and what is told.
+const REFUSALS: &[(Fault, &str)] = &[
     (
         Fault::BadSliceSize,
         "block size must be a multiple of 4 from 4 to 1073741824",
@@ -214,9 +221,7 @@ const FAULTS_OF_A_CREATE: &[(Fault, &str)] = &[
         "a file name would be longer than 255 bytes",
     ),
     (Fault::Exists, "an output file exists"),
-];
-
-const FAULTS_OF_A_SET: &[(Fault, &str)] = &[
+    // Of a set.
     (Fault::NoPackets, "no packets in the base"),
     (Fault::NoMain, "no main packet"),
     (Fault::NoDescription, "a file description is missing"),
@@ -234,42 +239,35 @@ const FAULTS_OF_A_SET: &[(Fault, &str)] = &[
     (Fault::Memory, "out of memory"),
 ];
 
+// What is told of a failure.
+fn told(alloc: Global, command: Option<&Command>, failure: Failure) -> Result<Vec<u8>, WriteFault> {
+    let mut out = Printer::new(Vec::new(alloc));
+    write_failure(&mut out, command, failure)?;
+    Ok(out.into_inner())
+}
+
 // Whether a failure is told by this text.
 fn is_told(
     alloc: Global,
     command: Option<&Command>,
     failure: Failure,
     text: &str,
-) -> Result<bool, Fail> {
-    let mut out = Printer::new(Vec::new(alloc));
-    write_failure(&mut out, command, failure)?;
+) -> Result<bool, AllocError> {
+    let told = told(alloc, command, failure);
     let expected = format!(in alloc; "par2: {text}\n")?;
-    Ok(out.into_inner().as_slice() == expected.as_bytes())
+    Ok(matches!(&told, Ok(told) if told.as_slice() == expected.as_bytes()))
 }
 
-// The text by which a refusal is not told that stands beside it, if there is one. The command has two inputs.
-fn first_untold(
-    alloc: Global,
-    faults: &[(Fault, &'static str)],
-) -> Result<Option<&'static str>, Fail> {
+fn is_refusal_told(alloc: Global, fault: Fault, text: &str) -> Result<bool, AllocError> {
     let command = create(alloc)?;
-    for (fault, text) in faults {
-        if !is_told(alloc, Some(&command), Failure::Refused(*fault), text)? {
-            return Ok(Some(*text));
-        }
+    is_told(alloc, Some(&command), Failure::Refused(fault), text)
+}
+
+#[test]
+fn fault_lines(rt: HostRuntime) -> Result<(), Fail> {
+    for (fault, text) in REFUSALS {
+        assert!(rt; is_refusal_told(rt.alloc(), *fault, text)?, "{text}");
     }
-    Ok(None)
-}
-
-#[test]
-fn fault_lines_of_a_create(rt: HostRuntime) -> Result<(), Fail> {
-    assert_eq!(rt; first_untold(rt.alloc(), FAULTS_OF_A_CREATE)?, None);
-    Ok(())
-}
-
-#[test]
-fn fault_lines_of_a_set(rt: HostRuntime) -> Result<(), Fail> {
-    assert_eq!(rt; first_untold(rt.alloc(), FAULTS_OF_A_SET)?, None);
     Ok(())
 }
 

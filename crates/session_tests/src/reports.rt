@@ -1,36 +1,38 @@
 //! Reports on a set of two slices and a recovery slice: what is found of a file that was renamed, cut or shifted.
 use crate::calls::{plan_of, reserve};
-use crate::fixtures::{apply, args_of, folder_of, name_of, words_of};
-use par2_folder::{Bytes, Change, Folder, copies_of};
-use par2_plan::{CreateArgs, Fault, Report, State, Verdict, check};
+use crate::fixtures::{A, Trouble, apply, args_of, folder_of, words_of};
+use par2_folder::{Bytes, Change, Folder, Name, copies_of};
+use par2_plan::{Fault, Report, State, Verdict, check};
 use std::alloc::{AllocError, Global};
-use std::process::Abort;
 use std::test::Fail;
 
 // The changes of a create of a set of slice size 4 and one recovery slice over the file `a`.
-fn changes_of<R: Abort + AllocGlobal>(rt: &R, folder: &Folder) -> Result<Vec<Change>, Fail> {
-    let args = CreateArgs {
-        count: 1,
-        ..args_of(rt.alloc(), 4, "t.par2", &["a"])?
-    };
-    let Ok(changes) = plan_of(rt.alloc(), folder, &args) else {
-        panic!(rt; "refused");
-    };
-    Ok(copies_of(rt.alloc(), changes.as_slice())?)
+fn changes_of(alloc: Global, folder: &Folder) -> Result<Vec<Change>, Trouble> {
+    let mut args = args_of(alloc, 4, "t.par2", &["a"])?;
+    args.count = 1;
+    match plan_of(alloc, folder, &args) {
+        Ok(changes) => Ok(copies_of(alloc, changes.as_slice())?),
+        Err(_) => Err(Trouble::Refused),
+    }
 }
 
-fn is_write(change: &Change) -> bool {
-    matches!(change, Change::Write(..))
+// Does changes that write files.
+fn write_all(folder: &mut Folder, changes: Vec<Change>) -> Result<(), Trouble> {
+    for change in changes {
+        if !matches!(&change, Change::Write(..)) {
+            return Err(Trouble::Refused);
+        }
+        apply(folder, change)?;
+    }
+    Ok(())
 }
 
 // A folder with the file `a` of 8 bytes, which that set protects.
-fn protected<R: Abort + AllocGlobal>(rt: &R) -> Result<Folder, Fail> {
-    let mut folder = folder_of(rt, &[("a", b"abcdefgh")])?;
+fn protected(alloc: Global) -> Result<Folder, Trouble> {
+    let mut folder = folder_of(alloc, A)?;
     reserve(&mut folder, 8)?;
-    for change in changes_of(rt, &folder)? {
-        assert!(rt; is_write(&change));
-        apply(rt, &mut folder, change);
-    }
+    let changes = changes_of(alloc, &folder)?;
+    write_all(&mut folder, changes)?;
     Ok(folder)
 }
 
@@ -42,36 +44,46 @@ enum Damage {
     Renamed,
 }
 
+fn name_of(text: &str) -> Result<Name, Trouble> {
+    match Name::new(text) {
+        Ok(name) => Ok(name),
+        Err(_) => Err(Trouble::Refused),
+    }
+}
+
+// The change that does this damage.
+fn change_of(alloc: Global, damage: &Damage) -> Result<Option<Change>, Trouble> {
+    Ok(match damage {
+        Damage::None => None,
+        Damage::Bytes(bytes) => Some(Change::Replace(name_of("a")?, Bytes::copy_of(alloc, bytes)?)),
+        Damage::Renamed => Some(Change::Rename(name_of("a")?, name_of("x")?)),
+    })
+}
+
 // The same folder after this damage.
-fn damaged<R: Abort + AllocGlobal>(rt: &R, damage: &Damage) -> Result<Folder, Fail> {
-    let mut folder = protected(rt)?;
-    let change = match damage {
-        Damage::None => return Ok(folder),
-        Damage::Bytes(bytes) => {
-            Change::Replace(name_of(rt, "a"), Bytes::copy_of(rt.alloc(), bytes)?)
-        }
-        Damage::Renamed => Change::Rename(name_of(rt, "a"), name_of(rt, "x")),
-    };
-    apply(rt, &mut folder, change);
+fn damaged(alloc: Global, damage: &Damage) -> Result<Folder, Trouble> {
+    let mut folder = protected(alloc)?;
+    if let Some(change) = change_of(alloc, damage)? {
+        apply(&mut folder, change)?;
+    }
     Ok(folder)
 }
 
-// What a state says.
-#[derive(Clone, Copy, PartialEq, Eq)]
-enum Kind {
+// What a state says, and of a file that is found elsewhere its name.
+enum Said {
     Complete,
     Missing,
     Damaged,
-    Misplaced,
+    Misplaced(&'static str),
 }
 
-// What a state says, and of a file that is found elsewhere its name.
-fn told(state: &State) -> (Kind, &str) {
-    match state {
-        State::Complete => (Kind::Complete, ""),
-        State::Missing => (Kind::Missing, ""),
-        State::Damaged => (Kind::Damaged, ""),
-        State::Misplaced(name) => (Kind::Misplaced, name.as_str()),
+fn is_said(state: &State, wanted: &Said) -> bool {
+    match (state, wanted) {
+        (State::Complete, Said::Complete)
+        | (State::Missing, Said::Missing)
+        | (State::Damaged, Said::Damaged) => true,
+        (State::Misplaced(name), Said::Misplaced(wanted)) => name.as_str() == *wanted,
+        _ => false,
     }
 }
 
@@ -80,7 +92,7 @@ fn told(state: &State) -> (Kind, &str) {
 type Row = (
     Damage,
     &'static [&'static str],
-    (Kind, &'static str),
+    Said,
     usize,
     usize,
     usize,
@@ -89,14 +101,14 @@ type Row = (
 
 #[rattlefmt::skip]
 const ROWS: &[Row] = &[
-    (Damage::None, &[], (Kind::Complete, ""), 2, 0, 0, Verdict::Complete),
-    (Damage::Renamed, &[], (Kind::Missing, ""), 0, 2, 1, Verdict::NotRepairable),
-    (Damage::Renamed, &["x"], (Kind::Misplaced, "x"), 2, 0, 0, Verdict::Repairable),
-    (Damage::Renamed, &["x", "x"], (Kind::Misplaced, "x"), 2, 0, 0, Verdict::Repairable),
-    (Damage::Bytes(b"abcdef"), &[], (Kind::Damaged, ""), 1, 1, 1, Verdict::Repairable),
+    (Damage::None, &[], Said::Complete, 2, 0, 0, Verdict::Complete),
+    (Damage::Renamed, &[], Said::Missing, 0, 2, 1, Verdict::NotRepairable),
+    (Damage::Renamed, &["x"], Said::Misplaced("x"), 2, 0, 0, Verdict::Repairable),
+    (Damage::Renamed, &["x", "x"], Said::Misplaced("x"), 2, 0, 0, Verdict::Repairable),
+    (Damage::Bytes(b"abcdef"), &[], Said::Damaged, 1, 1, 1, Verdict::Repairable),
     // Shifted by one byte.
-    (Damage::Bytes(b"xabcdefgh"), &[], (Kind::Damaged, ""), 2, 0, 0, Verdict::Repairable),
-    (Damage::Bytes(b"efgh"), &["a"], (Kind::Damaged, ""), 1, 1, 1, Verdict::Repairable),
+    (Damage::Bytes(b"xabcdefgh"), &[], Said::Damaged, 2, 0, 0, Verdict::Repairable),
+    (Damage::Bytes(b"efgh"), &["a"], Said::Damaged, 1, 1, 1, Verdict::Repairable),
 ];
 
 // Whether a report says this of the file `a` alone.
@@ -105,9 +117,11 @@ fn says(report: &Report, row: &Row) -> bool {
         return false;
     };
     target.name.as_str() == "a"
-        && told(&target.state) == row.2
-        && (target.found, target.total) == (row.3, 2)
-        && (report.lost, report.rank) == (row.4, row.5)
+        && is_said(&target.state, &row.2)
+        && target.found == row.3
+        && target.total == 2
+        && report.lost == row.4
+        && report.rank == row.5
         && report.verdict() == row.6
 }
 
@@ -122,12 +136,16 @@ fn report_of(
     Ok(check(alloc, folder, base, &extras))
 }
 
+fn is_reported(alloc: Global, row: &Row) -> Result<bool, Trouble> {
+    let folder = damaged(alloc, &row.0)?;
+    let report = report_of(alloc, &folder, "t.par2", row.1)?;
+    Ok(matches!(&report, Ok(report) if says(report, row)))
+}
+
 #[test]
 fn reports(rt: HostRuntime) -> Result<(), Fail> {
     for row in ROWS {
-        let folder = damaged(&rt, &row.0)?;
-        let report = report_of(rt.alloc(), &folder, "t.par2", row.1)?;
-        assert!(rt; matches!(&report, Ok(report) if says(report, row)));
+        assert!(rt; is_reported(rt.alloc(), row)?);
     }
     Ok(())
 }
@@ -140,12 +158,17 @@ const REFUSED: &[(&str, &[&str], Fault)] = &[
     ("a", &[], Fault::NoPackets),
 ];
 
+// Whether a report on the base, with the further files, is refused like this.
+fn is_refused(alloc: Global, base: &str, extras: &[&str], wanted: Fault) -> Result<bool, Trouble> {
+    let folder = protected(alloc)?;
+    let report = report_of(alloc, &folder, base, extras)?;
+    Ok(matches!(&report, Err(fault) if *fault == wanted))
+}
+
 #[test]
 fn absent_files(rt: HostRuntime) -> Result<(), Fail> {
-    let folder = protected(&rt)?;
     for (base, extras, wanted) in REFUSED {
-        let fault = report_of(rt.alloc(), &folder, base, extras)?.err();
-        assert_eq!(rt; fault, Some(*wanted));
+        assert!(rt; is_refused(rt.alloc(), base, extras, *wanted)?, "{base}");
     }
     Ok(())
 }

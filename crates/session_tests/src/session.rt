@@ -1,201 +1,267 @@
-//! Worked examples of a session, and each refusal that it knows. The helpers have no clauses, so that the proof of a
-//! test carries none from one call to the next.
+//! Worked examples of a session and its journals, and each refusal that it knows. The helpers have no clauses, so that
+//! the proof of a test carries none from one call to the next.
 use crate::calls;
-use crate::calls::{bytes_in, commit, counts_of, depths_of, fingerprint, folder_in, play, prepare};
-use crate::fixtures::{args_of, folder_of};
+use crate::calls::{bytes_in, depths_of, encode, fingerprint, folder_in, prepare};
+use crate::fixtures::{A, Trouble, args_of, folder_of};
+use crate::journal::{
+    CREATE_JOURNAL, FINGERPRINT, FRONT, FRONT_AFTER, HALFWAY_JOURNAL, NEW_JOURNAL, Text,
+    UNDONE_JOURNAL, commits, is_text,
+};
+use crate::opening::{is_taken_back, reopened};
 use par2_folder::Name;
-use par2_journal::{Action, Fault, NothingToRedo, NothingToUndo, Session, SessionFault, Step};
+use par2_journal::{Action, Fault, Session, SessionFault, Step};
 use std::alloc::{AllocError, Global};
-use std::process::Abort;
 use std::test::Fail;
 
 // A session on a folder with the file `a`.
-pub fn session_of<R: Abort + AllocGlobal>(rt: &R) -> Result<Session, Fail> {
-    let folder = folder_of(rt, &[("a", b"abcdefgh")])?;
-    Ok(Session::new(rt.alloc(), folder))
+fn session_of(alloc: Global) -> Result<Session, Trouble> {
+    Ok(Session::new(alloc, folder_of(alloc, A)?))
 }
 
-pub fn fingerprint_of(alloc: Global, session: &Session) -> Result<[u8; 16], AllocError> {
-    fingerprint(alloc, folder_in(session))
+// The bytes of a file, where there is one.
+pub fn file_in<'a>(session: &'a Session, text: &str) -> Option<&'a [u8]> {
+    match Name::new(text) {
+        Ok(name) => bytes_in(folder_in(session), &name),
+        Err(_) => None,
+    }
 }
 
-// The length of a file, where there is one.
-fn length_of(session: &Session, text: &str) -> Option<usize> {
-    let Ok(name) = Name::new(text) else {
-        return None;
-    };
-    Some(bytes_in(folder_in(session), &name)?.len())
+/// A file, the depths of undo and redo, and the file's length, where it is there.
+pub type Standing = (&'static str, usize, usize, Option<usize>);
+
+// Whether the session stands like this.
+pub fn stands(session: &Session, wanted: &Standing) -> bool {
+    let (undos, redos) = depths_of(session);
+    let length = file_in(session, wanted.0).map(|bytes| bytes.len());
+    undos == wanted.1 && redos == wanted.2 && length == wanted.3
 }
 
-// The session has these depths of undo and redo, and a file of this length or none.
-pub fn assert_stands<R: Abort>(
-    rt: &R,
-    session: &Session,
-    text: &str,
-    wanted: (usize, usize, Option<usize>),
-) {
-    let depths = depths_of(session);
-    assert_eq!(rt; (depths.0, depths.1, length_of(session, text)), wanted);
+/// An action. A create writes this index over the file `a`.
+pub enum Task {
+    Create(&'static str),
+    Undo,
+    Redo,
 }
 
-// A create of this index over the file `a`.
-pub fn create_of(alloc: Global, base: &str) -> Result<Action, AllocError> {
+fn create_of(alloc: Global, base: &str) -> Result<Action, AllocError> {
     Ok(Action::Create(args_of(alloc, 4, base, &["a"])?))
 }
 
-// Creates an index over the file `a`.
-pub fn create<R: Abort + AllocGlobal>(
-    rt: &R,
-    session: &mut Session,
-    base: &str,
-) -> Result<(), Fail> {
-    let args = args_of(rt.alloc(), 4, base, &["a"])?;
-    let Ok(steps) = calls::create(session, rt.alloc(), &args) else {
-        panic!(rt; "refused");
-    };
-    assert!(rt; matches!(steps.as_slice(), [Step::Write(name)] if name.as_str() == base));
-    Ok(())
+pub fn action_of(alloc: Global, task: &Task) -> Result<Action, AllocError> {
+    match task {
+        Task::Create(base) => create_of(alloc, base),
+        Task::Undo => Ok(Action::Undo),
+        Task::Redo => Ok(Action::Redo),
+    }
 }
 
-pub fn undo<R: Abort>(rt: &R, session: &mut Session) {
-    assert!(rt; calls::undo(session).is_ok());
+fn actions_of(alloc: Global, tasks: &[Task]) -> Result<Vec<Action>, AllocError> {
+    let mut actions = Vec::new(alloc);
+    for task in tasks {
+        actions.push(action_of(alloc, task)?)?;
+    }
+    Ok(actions)
 }
 
-pub fn redo<R: Abort>(rt: &R, session: &mut Session) {
-    assert!(rt; calls::redo(session).is_ok());
+// How many of the tasks are done.
+fn played(alloc: Global, session: &mut Session, tasks: &[Task]) -> Result<usize, Trouble> {
+    let actions = actions_of(alloc, tasks)?;
+    Ok(calls::play(session, alloc, &actions))
 }
 
-// Makes a create ready, and does it then.
-fn prepare_and_commit<R: Abort + AllocGlobal>(
-    rt: &R,
-    session: &mut Session,
-    base: &str,
-) -> Result<(), Fail> {
-    let action = create_of(rt.alloc(), base)?;
-    let Ok(prepared) = prepare(session, rt.alloc(), &action) else {
-        panic!(rt; "refused");
-    };
-    let counts = counts_of(session, &prepared);
-    assert_stands(rt, session, base, (0, 0, None));
-    let done = commit(session, prepared);
-    assert_eq!(rt; (counts, done), ((1, 1), 1));
-    Ok(())
+// Creates an index over the file `a`, whose writing is the one step.
+fn creates(alloc: Global, session: &mut Session, base: &str) -> Result<bool, Trouble> {
+    let args = args_of(alloc, 4, base, &["a"])?;
+    let steps = calls::create(session, alloc, &args);
+    Ok(matches!(&steps, Ok(steps) if is_write_of(steps.as_slice(), base)))
 }
 
-// A create of this index is refused.
-fn assert_refused<R: Abort + AllocGlobal>(
-    rt: &R,
+fn is_write_of(steps: &[Step], text: &str) -> bool {
+    matches!(steps, [Step::Write(name)] if name.as_str() == text)
+}
+
+// Whether a create of this index is refused like this.
+fn refuses(
+    alloc: Global,
     session: &mut Session,
     base: &str,
     wanted: SessionFault,
-) -> Result<(), Fail> {
-    let action = create_of(rt.alloc(), base)?;
-    let fault = prepare(session, rt.alloc(), &action).err();
-    assert_eq!(rt; fault, Some(wanted));
-    Ok(())
+) -> Result<bool, Trouble> {
+    let action = create_of(alloc, base)?;
+    let prepared = prepare(session, alloc, &action);
+    Ok(matches!(&prepared, Err(fault) if *fault == wanted))
 }
 
-// The second create and the second undo are refused.
-fn play_five<R: Abort + AllocGlobal>(rt: &R, session: &mut Session) -> Result<(), Fail> {
-    let actions = [
-        create_of(rt.alloc(), "t.par2")?,
-        create_of(rt.alloc(), "t.par2")?,
-        Action::Undo,
-        Action::Undo,
-        Action::Redo,
-    ];
-    assert_eq!(rt; play(session, rt.alloc(), &actions), 3);
-    Ok(())
+fn has_fingerprint(alloc: Global, session: &Session, wanted: &[u8; 16]) -> Result<bool, Trouble> {
+    Ok(fingerprint(alloc, folder_in(session))? == *wanted)
 }
 
-// There is nothing to undo and nothing to redo.
-fn assert_ends<R: Abort>(rt: &R, session: &mut Session) {
-    let answers = (calls::undo(session), calls::redo(session));
-    assert_eq!(rt; answers, (Err(NothingToUndo), Err(NothingToRedo)));
-}
-
-// The session has the folder of a new one.
-fn assert_as_new<R: Abort + AllocGlobal>(rt: &R, session: &Session) -> Result<(), Fail> {
-    let new = session_of(rt)?;
-    let wanted = fingerprint_of(rt.alloc(), &new)?;
-    assert_eq!(rt; fingerprint_of(rt.alloc(), session)?, wanted);
-    Ok(())
+fn has_journal(alloc: Global, session: &Session, wanted: &Text) -> Result<bool, Trouble> {
+    Ok(is_text(&encode(session, alloc)?, wanted))
 }
 
 /// What is done with a session, and what holds of it then.
 pub enum Row {
     Create(&'static str),
-    PrepareAndCommit(&'static str),
     Refused(&'static str, SessionFault),
-    PlayFive,
-    Undo,
-    Redo,
-    /// There is nothing to undo and nothing to redo.
-    Ends,
-    /// A file, the depths of undo and redo, and the file's length, where it is there.
-    Stands(&'static str, (usize, usize, Option<usize>)),
-    /// The folder is that of a new session.
-    AsNew,
+    /// How many of these tasks are done.
+    Play(&'static [Task], usize),
+    /// A task that is made ready, with its journal while it is halfway, and done.
+    Commit(Task, Text),
+    /// Whether there is something to undo.
+    Undo(bool),
+    Redo(bool),
+    Stands(Standing),
+    Fingerprint([u8; 16]),
+    Journal(Text),
+    /// The file `a` alone is opened with the session's journal, and whether a redo is next.
+    Reopen(bool),
+    /// The folder as it stands is opened with the first journal. When that command is taken back, the second stands.
+    TakenBack(&'static [u8], &'static [u8]),
 }
 
-fn carry_out<R: Abort + AllocGlobal>(rt: &R, session: &mut Session, row: &Row) -> Result<(), Fail> {
+fn is_met(alloc: Global, session: &mut Session, row: &Row) -> Result<bool, Trouble> {
     match row {
-        Row::Create(base) => return create(rt, session, base),
-        Row::PrepareAndCommit(base) => return prepare_and_commit(rt, session, base),
-        Row::Refused(base, wanted) => return assert_refused(rt, session, base, *wanted),
-        Row::PlayFive => return play_five(rt, session),
-        Row::Undo => undo(rt, session),
-        Row::Redo => redo(rt, session),
-        Row::Ends => assert_ends(rt, session),
-        Row::Stands(name, wanted) => assert_stands(rt, session, name, *wanted),
-        Row::AsNew => return assert_as_new(rt, session),
+        Row::Create(base) => creates(alloc, session, base),
+        Row::Refused(base, wanted) => refuses(alloc, session, base, *wanted),
+        Row::Play(tasks, wanted) => Ok(played(alloc, session, tasks)? == *wanted),
+        Row::Commit(task, halfway) => commits(alloc, session, task, halfway),
+        Row::Undo(wanted) => Ok(calls::undo(session) == *wanted),
+        Row::Redo(wanted) => Ok(calls::redo(session) == *wanted),
+        Row::Stands(wanted) => Ok(stands(session, wanted)),
+        Row::Fingerprint(wanted) => has_fingerprint(alloc, session, wanted),
+        Row::Journal(wanted) => has_journal(alloc, session, wanted),
+        Row::Reopen(is_redo_next) => {
+            *session = reopened(alloc, session, *is_redo_next)?;
+            Ok(true)
+        }
+        Row::TakenBack(text, settled) => is_taken_back(alloc, session, text, settled),
     }
-    Ok(())
 }
 
-/// A session of which these rows hold in turn.
-pub fn session_after<R: Abort + AllocGlobal>(rt: &R, rows: &[Row]) -> Result<Session, Fail> {
-    let mut session = session_of(rt)?;
+// Whether these rows hold in turn of a session on a folder with the file `a`.
+fn are_met(alloc: Global, rows: &[Row]) -> Result<bool, Trouble> {
+    let mut session = session_of(alloc)?;
     for row in rows {
-        carry_out(rt, &mut session, row)?;
+        if !is_met(alloc, &mut session, row)? {
+            return Ok(false);
+        }
     }
-    Ok(session)
+    Ok(true)
 }
 
-const EXAMPLES: &[&[Row]] = &[
-    &[
-        Row::Create("t.par2"),
-        Row::Stands("t.par2", (1, 0, Some(420))),
-        Row::Undo,
-        Row::Stands("t.par2", (0, 1, None)),
-        Row::AsNew,
-    ],
-    &[
-        Row::Create("t.par2"),
-        Row::Undo,
-        Row::Redo,
-        Row::Stands("t.par2", (1, 0, Some(420))),
-    ],
-    &[
-        Row::Create("t.par2"),
-        Row::Undo,
-        Row::Create("u.par2"),
-        Row::Stands("t.par2", (1, 0, None)),
-        Row::Stands("u.par2", (1, 0, Some(420))),
-    ],
-    &[Row::Ends],
-    &[
-        Row::PrepareAndCommit("t.par2"),
-        Row::Stands("t.par2", (1, 0, Some(420))),
-        Row::Refused("t.par2", SessionFault::Plan(Fault::Exists)),
-    ],
-    &[Row::PlayFive, Row::Stands("t.par2", (1, 0, Some(420)))],
+const CREATE: &[Task] = &[Task::Create("t.par2")];
+
+/// What the rows of an example show, and these.
+type Example = (&'static str, &'static [Row]);
+
+const EXAMPLES: &[Example] = &[
+    (
+        "an undo of a create",
+        &[
+            Row::Create("t.par2"),
+            Row::Stands(("t.par2", 1, 0, Some(420))),
+            Row::Undo(true),
+            Row::Stands(("t.par2", 0, 1, None)),
+            Row::Fingerprint(FINGERPRINT),
+            Row::Journal((501, UNDONE_JOURNAL)),
+        ],
+    ),
+    (
+        "a redo of a create",
+        &[
+            Row::Play(CREATE, 1),
+            Row::Undo(true),
+            Row::Redo(true),
+            Row::Stands(("t.par2", 1, 0, Some(420))),
+        ],
+    ),
+    (
+        "a create after an undo",
+        &[
+            Row::Play(CREATE, 1),
+            Row::Undo(true),
+            Row::Play(&[Task::Create("u.par2")], 1),
+            Row::Stands(("t.par2", 1, 0, None)),
+            Row::Stands(("u.par2", 1, 0, Some(420))),
+        ],
+    ),
+    (
+        "a new session",
+        &[
+            Row::Undo(false),
+            Row::Redo(false),
+            Row::Journal((57, NEW_JOURNAL)),
+        ],
+    ),
+    (
+        "a second create of one index",
+        &[
+            Row::Commit(Task::Create("t.par2"), (89, HALFWAY_JOURNAL)),
+            Row::Stands(("t.par2", 1, 0, Some(420))),
+            Row::Refused("t.par2", SessionFault::Plan(Fault::Exists)),
+        ],
+    ),
+    (
+        "refusals of the second create and the second undo",
+        &[
+            Row::Play(
+                &[
+                    Task::Create("t.par2"),
+                    Task::Create("t.par2"),
+                    Task::Undo,
+                    Task::Undo,
+                    Task::Redo,
+                ],
+                3,
+            ),
+            Row::Stands(("t.par2", 1, 0, Some(420))),
+        ],
+    ),
+    (
+        "journals of a create, its undo and its redo",
+        &[
+            Row::Commit(Task::Create("t.par2"), (89, HALFWAY_JOURNAL)),
+            Row::Journal((73, CREATE_JOURNAL)),
+            Row::Commit(Task::Undo, (533, FRONT_AFTER)),
+            Row::Journal((501, UNDONE_JOURNAL)),
+            Row::Commit(Task::Redo, (533, FRONT)),
+            Row::Journal((73, CREATE_JOURNAL)),
+        ],
+    ),
+    (
+        "a folder that is opened with its journal",
+        &[
+            Row::Play(CREATE, 1),
+            Row::Undo(true),
+            Row::Reopen(false),
+            Row::Stands(("t.par2", 0, 1, None)),
+            Row::Redo(true),
+            Row::Stands(("t.par2", 1, 0, Some(420))),
+        ],
+    ),
+    (
+        "a folder that is opened before a redo",
+        &[
+            Row::Play(CREATE, 1),
+            Row::Undo(true),
+            Row::Reopen(true),
+            Row::Commit(Task::Redo, (533, FRONT)),
+        ],
+    ),
+    (
+        "a folder that is opened after the last change",
+        &[
+            Row::Commit(Task::Create("t.par2"), (89, HALFWAY_JOURNAL)),
+            Row::TakenBack(HALFWAY_JOURNAL, NEW_JOURNAL),
+        ],
+    ),
 ];
 
 #[test]
 fn worked_examples(rt: HostRuntime) -> Result<(), Fail> {
-    for rows in EXAMPLES {
-        let _session = session_after(&rt, rows)?;
+    for (name, rows) in EXAMPLES {
+        assert!(rt; are_met(rt.alloc(), rows)?, "{name}");
     }
     Ok(())
 }
