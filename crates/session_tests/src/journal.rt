@@ -52,6 +52,10 @@ pub const UNDONE_JOURNAL: &[u8] = b"P2UNDO2\n\
     \xd3\x68\x83\xb6\x33\x05\xc2\x0b\x65\xe4\x20\x6a\x90\x61\x28\xc1\
     \0\0\0\0\0\0\0\0\x01\0\0\0\0\0\0\0\x01\0\0\0\0\0\0\0\x01\x06t.par2\xa4\x01\0\0\0\0\0\0PAR2\0PKT";
 
+fn is_journal_of(alloc: Global, session: &Session, text: &[u8]) -> Result<bool, AllocError> {
+    Ok(encode(session, alloc)?.as_slice() == text)
+}
+
 // The journals of what was made ready, one change of one step. The session has this journal, as before.
 fn spelled(
     alloc: Global,
@@ -63,7 +67,8 @@ fn spelled(
     ensures { Fits prepared.new session.new }
 {
     let journals = journals_of(session, alloc, prepared)?;
-    if counts_of(session, prepared) == (1, 1) && encode(session, alloc)?.as_slice() == before {
+    let is_as_before = is_journal_of(alloc, session, before)?;
+    if is_as_before && counts_of(session, prepared) == (1, 1) {
         Ok(journals)
     } else {
         Err(Trouble::Refused)
