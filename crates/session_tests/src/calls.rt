@@ -47,11 +47,11 @@ pub fn prepare(
     session.prepare(alloc, action)
 }
 
-// How many changes were made ready, and how many steps.
-pub fn counts_of(session: &Session, prepared: &Prepared) -> (usize, usize)
+// Whether one change was made ready, with one step.
+pub fn is_one_change(session: &Session, prepared: &Prepared) -> bool
     requires { Fits prepared.now session.now }
 {
-    (session.changes(prepared).len(), prepared.steps().len())
+    session.changes(prepared).len() == 1 && prepared.steps().len() == 1
 }
 
 pub fn journals_of(

@@ -3,7 +3,7 @@ ghost use Rattle.std.specs.Prelude.{IfOk};
 ghost use Rattle.par2_journal.specs.Ready.{Fits};
 
 use crate::calls;
-use crate::calls::{counts_of, encode, journals_of, prepare};
+use crate::calls::{encode, is_one_change, journals_of, prepare};
 use crate::fixtures::Trouble;
 use crate::session::{Task, action_of};
 use par2_journal::{Action, Journals, Prepared, Session};
@@ -66,9 +66,11 @@ fn spelled(
     requires { Fits prepared.old session.old }
     ensures { Fits prepared.new session.new }
 {
+    if !is_one_change(session, prepared) {
+        return Err(Trouble::Refused);
+    }
     let journals = journals_of(session, alloc, prepared)?;
-    let is_as_before = is_journal_of(alloc, session, before)?;
-    if is_as_before && counts_of(session, prepared) == (1, 1) {
+    if is_journal_of(alloc, session, before)? {
         Ok(journals)
     } else {
         Err(Trouble::Refused)
