@@ -7,8 +7,7 @@ use Rattle.std.proofs.lemmas.Slice.Eq.{bytes_eq-Decides}
 use Rattle.md5.specs.Md5.{md5}
 use Rattle.par2_spec.specs.Journals.{Journal, IsJournal, Spells}
 use Rattle.par2_journal_bytes.specs.Reading.{Fails, IsSealed, parts_at, journal_at}
-use Rattle.par2_journal_bytes.specs.Untested.{IsForeign, IsUntested}
-use Rattle.par2_journal_bytes.specs.Views.{journal_of}
+use Rattle.par2_journal_bytes.specs.Untested.{IsForeign}
 use Rattle.par2_journal_bytes.specs.declared.fault.DecodeFault.{DecodeFault}
 use Rattle.par2_journal_bytes.specs.declared.fault.DecodeFault.TheVariants.{JournalInvalid, Memory}
 use Rattle.par2_journal_bytes.specs.declared.reading.Untested.{Untested}

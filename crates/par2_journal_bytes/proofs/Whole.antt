@@ -13,7 +13,7 @@ use Rattle.par2_spec.specs.Changes.{Change}
 use Rattle.par2_spec.specs.Journals.{HalfwayPart, Journal, IsEntry, IsCursor, IsJournal, Spells, heading, cursor_bytes, entry_bytes, halfway_bytes, journal_bytes, spelling}
 use Rattle.par2_spec.specs.declared.Version.{Version}
 use Rattle.par2_spec.specs.declared.Version.TheVariants.{One, Two}
-use Rattle.par2_journal_bytes.specs.Reading.{◌>>=◌, some_where, block_at, number_at, many_at, entry_at, halfway_at, heading_at, cursor_at, cursor_in, parts_at, journal_at}
+use Rattle.par2_journal_bytes.specs.Reading.{◌>>=◌, some_where, block_at, number_at, many_at, entry_at, halfway_at, heading_at, cursor_at, cursor_in, behind_cursor_at, parts_at, journal_at}
 use Rattle.par2_journal_bytes.proofs.Fields.{IsBytes, bind_some, Took, Took-then, block_read, block_again, number_read, number_again, many_read, bytes-take}
 use Rattle.par2_journal_bytes.proofs.Pieces.{entry_read, halfway_read}
 
@@ -99,7 +99,7 @@ abbrev after_heading : Version × List ℕ → Option Journal
 after_heading v = block_at 16 v.1 >>= after_print v.0
 
 pub parts_take : (bytes : List ℕ) (j : Journal) → IsBytes bytes → parts_at bytes ≡ Some j → IsJournal j × (bytes ≡ journal_bytes j)
-unfolding parts_at journal_bytes
+unfolding parts_at behind_cursor_at journal_bytes
 parts_take bytes j fits e =
     let a = bind_some (heading_at bytes) after_heading j e in
     let v = a.0.0 in
@@ -144,7 +144,7 @@ right : (a b c d e f : List ℕ) → a ++ b ++ c ++ d ++ e ++ f ≡ a ++ (b ++ (
 right a b c d e f = simp (append_assoc, append-nil)
 
 parts_again : (j : Journal) → IsJournal j → parts_at (journal_bytes j) ≡ Some j
-unfolding parts_at journal_bytes
+unfolding parts_at behind_cursor_at journal_bytes
 parts_again j is =
     let v = j.version in
     let n : ℕ = length j.entries in

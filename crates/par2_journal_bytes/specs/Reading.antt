@@ -107,17 +107,22 @@ abbrev pub cursor_in : Version → ℕ → ℕ → ℕ
 cursor_in One c n = n
 cursor_in Two c n = c
 
+-- what stands behind the cursor that was read
+unfoldable pub behind_cursor_at : Version → List ℕ → ℕ → List ℕ → Option Journal
+behind_cursor_at version print cursor bytes = do
+  n ← number_at bytes
+  entries ← many_at entry_at n.0 n.1
+  halfway ← halfway_at entries.1
+  some_where (nat_le (cursor_in version cursor n.0) n.0 && length halfway.1 == 0)
+      (record { version = version; fingerprint = print; cursor = cursor_in version cursor n.0; entries = entries.0; halfway = halfway.0 })
+
 -- all of the bytes but the digest
 unfoldable pub parts_at : List ℕ → Option Journal
 parts_at bytes = do
   version ← heading_at bytes
   print ← block_at 16 version.1
   cursor ← cursor_at version.0 print.1
-  n ← number_at cursor.1
-  entries ← many_at entry_at n.0 n.1
-  halfway ← halfway_at entries.1
-  some_where (nat_le (cursor_in version.0 cursor.0 n.0) n.0 && length halfway.1 == 0)
-      (record { version = version.0; fingerprint = print.0; cursor = cursor_in version.0 cursor.0 n.0; entries = entries.0; halfway = halfway.0 })
+  behind_cursor_at version.0 print.0 cursor.0 cursor.1
 
 -- the text ends with the digest of all that stands before it
 pub record IsSealed (text : List ℕ) : Type 0 where

@@ -1,5 +1,5 @@
 //! A journal from its bytes. Each reader takes its part from the front, and gives the bytes behind it too.
-ghost use Rattle.std.specs.Prelude.{◌≡◌, ◌<◌, ◌≤◌, ◌-◌, ℕ, List, length, take, drop, IfOk, IfErr, IfSome, IsTrue, Some, Err, is_some, MatchResult};
+ghost use Rattle.std.specs.Prelude.{◌≡◌, ◌<◌, ◌≤◌, ◌-◌, ◌∷◌, ℕ, List, length, take, drop, IfOk, IfErr, IfSome, IsTrue, Some, Err, is_some, MatchResult};
 ghost use Rattle.md5.specs.Md5.{md5};
 ghost use Rattle.par2_spec.specs.Names.{is_name};
 ghost use Rattle.par2_spec.specs.Journals.{Journal as Defined, Spells};
@@ -92,30 +92,52 @@ fn read_bytes(alloc: Global, bytes: &[u8]) -> Result<(Bytes, &[u8]), DecodeFault
     Ok((Bytes::copy_of(alloc, content)?, rest))
 }
 
+// A change of each kind, behind the byte of its kind.
+
+#[tactic(auto, unfolding(crate::specs::Reading::change_at))]
+fn read_write(alloc: Global, bytes: &[u8]) -> Result<(Change, &[u8]), DecodeFault>
+    ensures { Gives (λ x. (change_of x.0, x.1.now)) result (reads.change_at (1 ∷ bytes.now)) }
+{
+    let (name, rest) = read_name(bytes)?;
+    let (content, rest) = read_bytes(alloc, rest)?;
+    Ok((Change::Write(name, content), rest))
+}
+
+#[tactic(auto, unfolding(crate::specs::Reading::change_at))]
+fn read_replace(alloc: Global, bytes: &[u8]) -> Result<(Change, &[u8]), DecodeFault>
+    ensures { Gives (λ x. (change_of x.0, x.1.now)) result (reads.change_at (2 ∷ bytes.now)) }
+{
+    let (name, rest) = read_name(bytes)?;
+    let (content, rest) = read_bytes(alloc, rest)?;
+    Ok((Change::Replace(name, content), rest))
+}
+
+#[tactic(auto, unfolding(crate::specs::Reading::change_at))]
+fn read_rename(bytes: &[u8]) -> Result<(Change, &[u8]), DecodeFault>
+    ensures { Gives (λ x. (change_of x.0, x.1.now)) result (reads.change_at (3 ∷ bytes.now)) }
+{
+    let (from, rest) = read_name(bytes)?;
+    let (to, rest) = read_name(rest)?;
+    Ok((Change::Rename(from, to), rest))
+}
+
+#[tactic(auto, unfolding(crate::specs::Reading::change_at))]
+fn read_remove(bytes: &[u8]) -> Result<(Change, &[u8]), DecodeFault>
+    ensures { Gives (λ x. (change_of x.0, x.1.now)) result (reads.change_at (4 ∷ bytes.now)) }
+{
+    let (name, rest) = read_name(bytes)?;
+    Ok((Change::Remove(name), rest))
+}
+
 #[tactic(auto, unfolding(crate::specs::Reading::change_at))]
 fn read_change(alloc: Global, bytes: &[u8]) -> Result<(Change, &[u8]), DecodeFault>
     ensures { Gives (λ x. (change_of x.0, x.1.now)) result (reads.change_at bytes.now) }
 {
     match bytes {
-        [1, rest @ ..] => {
-            let (name, rest) = read_name(rest)?;
-            let (content, rest) = read_bytes(alloc, rest)?;
-            Ok((Change::Write(name, content), rest))
-        }
-        [2, rest @ ..] => {
-            let (name, rest) = read_name(rest)?;
-            let (content, rest) = read_bytes(alloc, rest)?;
-            Ok((Change::Replace(name, content), rest))
-        }
-        [3, rest @ ..] => {
-            let (from, rest) = read_name(rest)?;
-            let (to, rest) = read_name(rest)?;
-            Ok((Change::Rename(from, to), rest))
-        }
-        [4, rest @ ..] => {
-            let (name, rest) = read_name(rest)?;
-            Ok((Change::Remove(name), rest))
-        }
+        [1, rest @ ..] => read_write(alloc, rest),
+        [2, rest @ ..] => read_replace(alloc, rest),
+        [3, rest @ ..] => read_rename(rest),
+        [4, rest @ ..] => read_remove(rest),
         _ => Err(DecodeFault::JournalInvalid),
     }
 }
@@ -186,19 +208,28 @@ fn read_digests(
 }
 
 #[tactic(auto, unfolding(crate::specs::Reading::halfway_at))]
+fn read_halfway_part(alloc: Global, bytes: &[u8]) -> Result<(HalfwayPart, &[u8]), DecodeFault>
+    ensures { Gives (λ x. (halfway_of (Some x.0), x.1.now)) result
+        (reads.halfway_at (1 ∷ bytes.now)) }
+{
+    let (count, rest) = read_number(bytes)?;
+    let (fingerprints, rest) = read_digests(alloc, count, rest)?;
+    let (back, rest) = read_changes(alloc, count, rest)?;
+    if count == 0 {
+        return Err(DecodeFault::JournalInvalid);
+    }
+    Ok((HalfwayPart { fingerprints, back }, rest))
+}
+
+#[tactic(auto, unfolding(crate::specs::Reading::halfway_at))]
 fn read_halfway(alloc: Global, bytes: &[u8]) -> Result<(Option<HalfwayPart>, &[u8]), DecodeFault>
     ensures { Gives (λ x. (halfway_of x.0, x.1.now)) result (reads.halfway_at bytes.now) }
 {
     match bytes {
         [0, rest @ ..] => Ok((None, rest)),
         [1, rest @ ..] => {
-            let (count, rest) = read_number(rest)?;
-            let (fingerprints, rest) = read_digests(alloc, count, rest)?;
-            let (back, rest) = read_changes(alloc, count, rest)?;
-            if count == 0 {
-                return Err(DecodeFault::JournalInvalid);
-            }
-            Ok((Some(HalfwayPart { fingerprints, back }), rest))
+            let (part, rest) = read_halfway_part(alloc, rest)?;
+            Ok((Some(part), rest))
         }
         _ => Err(DecodeFault::JournalInvalid),
     }
@@ -238,14 +269,19 @@ fn cursor_in(version: Version, read: u64, count: u64) -> u64
     }
 }
 
-#[tactic(auto, unfolding(crate::specs::Reading::parts_at))]
-fn read_parts(alloc: Global, bytes: &[u8]) -> Result<Journal, DecodeFault>
-    ensures { Gives journal_of result (reads.parts_at bytes.now) }
+// The journal with this heading, from the number of its entries on.
+#[tactic(auto, unfolding(crate::specs::Reading::behind_cursor_at))]
+fn read_behind_cursor(
+    alloc: Global,
+    version: Version,
+    fingerprint: [u8; 16],
+    read: u64,
+    bytes: &[u8],
+) -> Result<Journal, DecodeFault>
+    ensures { Gives journal_of result
+        (reads.behind_cursor_at version fingerprint read bytes.now) }
 {
-    let (version, rest) = read_heading(bytes)?;
-    let (fingerprint, rest) = read_digest(rest)?;
-    let (read, rest) = read_cursor(version, rest)?;
-    let (count, rest) = read_number(rest)?;
+    let (count, rest) = read_number(bytes)?;
     let (entries, rest) = read_entries(alloc, count, rest)?;
     let (halfway, rest) = read_halfway(alloc, rest)?;
     let cursor = cursor_in(version, read, count);
@@ -259,6 +295,16 @@ fn read_parts(alloc: Global, bytes: &[u8]) -> Result<Journal, DecodeFault>
         entries,
         halfway,
     })
+}
+
+#[tactic(auto, unfolding(crate::specs::Reading::parts_at))]
+fn read_parts(alloc: Global, bytes: &[u8]) -> Result<Journal, DecodeFault>
+    ensures { Gives journal_of result (reads.parts_at bytes.now) }
+{
+    let (version, rest) = read_heading(bytes)?;
+    let (fingerprint, rest) = read_digest(rest)?;
+    let (read, rest) = read_cursor(version, rest)?;
+    read_behind_cursor(alloc, version, fingerprint, read, rest)
 }
 
 // A text of a journal, in two: the digest at its end, and what it is the digest of.

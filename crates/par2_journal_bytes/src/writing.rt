@@ -1,5 +1,5 @@
 //! The bytes of a journal. Each function adds its part at the end.
-ghost use Rattle.std.specs.Prelude.{◌≡◌, ◌≤◌, ◌++◌, length, flat_map, OnOk, IfOk, IfSome, IsTrue, Some};
+ghost use Rattle.std.specs.Prelude.{◌≡◌, ◌≤◌, ◌∷◌, ◌++◌, length, flat_map, OnOk, IfOk, IfSome, IsTrue, Some};
 ghost use Rattle.std.specs.Int.{w64, to_le_bytes};
 ghost use Rattle.std.specs.List.{concat, AllByRecursion};
 ghost use Rattle.md5.specs.Md5.{md5};
@@ -42,6 +42,16 @@ fn append_bytes(out: &mut Vec<u8>, bytes: &Bytes) -> Result<(), AllocError>
     out.extend_from_slice(content)
 }
 
+// The byte of a change's kind, and its name.
+fn append_kind_and_name(out: &mut Vec<u8>, kind: u8, name: &Name) -> Result<(), AllocError>
+    ensures bytes { OnOk result (out.new.items
+        ≡ out.old.items ++ kind ∷ journals.name_bytes name.now) }
+    ensures name { OnOk result (IsTrue (is_name name.now)) }
+{
+    out.push(kind)?;
+    append_name(out, name)
+}
+
 fn append_change(out: &mut Vec<u8>, change: &Change) -> Result<(), AllocError>
     ensures bytes { OnOk result (out.new.items
         ≡ out.old.items ++ journals.change_bytes (change_of change.now)) }
@@ -49,24 +59,18 @@ fn append_change(out: &mut Vec<u8>, change: &Change) -> Result<(), AllocError>
 {
     match change {
         Change::Write(name, bytes) => {
-            out.push(1)?;
-            append_name(out, name)?;
+            append_kind_and_name(out, 1, name)?;
             append_bytes(out, bytes)
         }
         Change::Replace(name, bytes) => {
-            out.push(2)?;
-            append_name(out, name)?;
+            append_kind_and_name(out, 2, name)?;
             append_bytes(out, bytes)
         }
         Change::Rename(from, to) => {
-            out.push(3)?;
-            append_name(out, from)?;
+            append_kind_and_name(out, 3, from)?;
             append_name(out, to)
         }
-        Change::Remove(name) => {
-            out.push(4)?;
-            append_name(out, name)
-        }
+        Change::Remove(name) => append_kind_and_name(out, 4, name),
     }
 }
 
@@ -152,6 +156,22 @@ fn append_cursor(out: &mut Vec<u8>, version: Version, cursor: usize) -> Result<(
     }
 }
 
+// What stands before the number of the entries.
+fn append_heading(
+    out: &mut Vec<u8>,
+    version: Version,
+    fingerprint: [u8; 16],
+    cursor: usize,
+) -> Result<(), AllocError>
+    ensures bytes { OnOk result (out.new.items ≡ out.old.items
+        ++ journals.heading version ++ fingerprint ++ journals.cursor_bytes version cursor) }
+    ensures digest { OnOk result (journals.IsDigest fingerprint) }
+{
+    out.extend_from_slice(heading(version))?;
+    append_digest(out, fingerprint)?;
+    append_cursor(out, version, cursor)
+}
+
 /// The bytes of a journal as far as its entries go, for [`finish_both`].
 #[tactic(auto, unfolding(crate::specs::Fronts::front_bytes))]
 pub fn begin(
@@ -166,9 +186,7 @@ pub fn begin(
         version fingerprint cursor (lent_entries_of entries.now)) }
 {
     let mut out = Vec::new(alloc);
-    out.extend_from_slice(heading(version))?;
-    append_digest(&mut out, fingerprint)?;
-    append_cursor(&mut out, version, cursor)?;
+    append_heading(&mut out, version, fingerprint, cursor)?;
     append_number(&mut out, entries.len() as u64)?;
     append_entries(&mut out, entries)?;
     Ok(out)
@@ -248,6 +266,19 @@ pub struct JournalTexts {
     pub after: Vec<u8>,
 }
 
+// The journals with these bodies. Their digests are computed side by side.
+fn with_digests(alloc: Global, halfway: Vec<u8>, after: Vec<u8>) -> Result<JournalTexts, AllocError>
+    ensures halfway { IfOk result (λ texts.
+        texts.halfway.items ≡ halfway.items ++ md5 halfway.items) }
+    ensures after { IfOk result (λ texts. texts.after.items ≡ after.items ++ md5 after.items) }
+{
+    let digests = text_digests(alloc, &[&halfway, &after])?;
+    Ok(JournalTexts {
+        halfway: with_digest(halfway, digests[0])?,
+        after: with_digest(after, digests[1])?,
+    })
+}
+
 /// The bytes of the journal of a halfway command, whose front stands, and of the one with the parts `after`. Their
 /// digests are computed side by side.
 pub fn finish_both(
@@ -270,9 +301,5 @@ pub fn finish_both(
 {
     let halfway = body(front, &Some(*halfway))?;
     let after = body(front_of(alloc, after)?, &after.halfway)?;
-    let digests = text_digests(alloc, &[&halfway, &after])?;
-    Ok(JournalTexts {
-        halfway: with_digest(halfway, digests[0])?,
-        after: with_digest(after, digests[1])?,
-    })
+    with_digests(alloc, halfway, after)
 }
