@@ -455,14 +455,14 @@ pub fn opens_as_is(alloc: Global, folder: &mut Folder, bytes: &[u8]) -> Result<b
     let Journal {
         cursor,
         mut entries,
-        halfway,
+        halfway: command,
         ..
     } = match decode(alloc, bytes) {
         Ok(journal) => journal,
         Err(DecodeFault::JournalInvalid) => return Ok(false),
         Err(DecodeFault::Memory) => return Err(AllocError),
     };
-    if halfway.is_some() {
+    if command.is_some() {
         return Ok(false);
     }
     settle(folder, &mut entries, cursor)

@@ -1,7 +1,22 @@
-use Rattle.std.proofs.Common.{◌∙◌}
-use Rattle.par2_spec.specs.Changes.{takes_all}
+use Rattle.std.proofs.Common.{List, sym, subst, ◌∙◌}
+use Rattle.par2_spec.specs.Changes.{Change, takes_all}
+use Rattle.par2_spec.specs.Folders.{Folder}
+use Rattle.par2_spec.specs.Sessions.{KeptSession}
+use Rattle.par2_journal.specs.Ahead.{AreAlong, next_changes}
 use Rattle.par2_journal.proofs.SessionJournals.{ahead_taken}
 use Rattle.par2_journal.proofs.session.Session.digests_before.Goals as goal
 
 pub and_digest-requires : goal.and_digest-requires
 and_digest-requires c = (λ i. takes_all (c.folder.ensures.folder i) (c.next_changes-changes.ensures i)) ∙ ahead_taken c.in-Some.next c.args.self.now c.folder.ensures.walks
+
+pub invariant_of-self-2 : goal.invariant_of-self-2
+invariant_of-self-2 c =
+    let prints = c.in_ok-fingerprints.fingerprints in
+    let next = c.in-Some.next in
+    let along =
+    subst (λ (p : Folder × List Change). AreAlong prints p.0 p.1) (λ i. ((c.folder.ensures.folder i).files, c.next_changes-changes.ensures i)) c.in_ok-fingerprints.ensures.fingerprints in
+    record {
+      within = c.self.invariant.within;
+      walks = c.self.invariant.walks;
+      ahead = subst (λ (s : KeptSession). AreAlong prints s.folder.files (next_changes next s)) (sym c.self.view_is) along;
+    }
