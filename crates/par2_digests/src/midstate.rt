@@ -122,7 +122,8 @@ fn tasks_of<'a>(
     endings: &'a [[Part<'a>; 2]; LANES],
 ) -> [Task<'a>; LANES]
     ensures count { length result ≡ 8 }
-    ensures begun { (k : ℕ) (no_task : Task) (none : List Part) → k < 8 → k < length messages.now
+    ensures begun { (k : ℕ) (no_task : Task) (none : List Part)
+        → k < 8 → k < length messages.now
         → ((get_or result k no_task).hash ≡ None)
         × (bytes_left (get_or result k no_task).feed
         ≡ rest.now ++ (message_at messages.now k ++ message_of (get_or endings.now k none))) }

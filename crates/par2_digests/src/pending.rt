@@ -96,7 +96,8 @@ fn task<'a>(pendings: &'a [Pending<'a>], k: usize) -> Task<'a>
 // What is to do in each lane.
 fn tasks_of<'a>(pendings: &'a [Pending<'a>]) -> [Task<'a>; LANES]
     ensures count { length result ≡ 8 }
-    ensures begun { (k : ℕ) (no_task : Task) (none : Pending) → k < 8 → k < length pendings.now
+    ensures begun { (k : ℕ) (no_task : Task) (none : Pending)
+        → k < 8 → k < length pendings.now
         → IsBegun (get_or pendings.now k none) (get_or result k no_task) }
 {
     [
