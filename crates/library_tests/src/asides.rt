@@ -1,32 +1,41 @@
 //! The names under which files are put aside, and a set's par files.
 
-use crate::calls::name;
+use crate::calls::{are_named, name};
 use crate::set_packets::{Files, Part, folder_for, set_in};
 use par2_asides::{asides, par_files};
 use par2_folder::{Folder, Name};
 use par2_spec::Fault;
-use std::alloc::{AllocError, Global};
 use std::process::Abort;
-use std::test::Fail;
 
-// The names as one text.
-fn text_of(alloc: Global, names: &[Name]) -> Result<String, AllocError> {
-    let mut text = String::new(alloc);
-    for name in names {
-        text.push_str(name.as_str())?;
-        text.push_str(" ")?;
+// The names of these texts, each so often repeated.
+fn names_of(rt: &(impl Abort + AllocGlobal), texts: &[(&str, usize)]) -> Vec<Name> {
+    let mut names = Vec::new(rt.alloc());
+    for (text, times) in texts {
+        names.push(repeated(rt, text, *times)).expect(rt, "memory");
     }
-    Ok(text)
+    names
 }
 
-// The asides of these names, as one text, in a folder whose base is `m.par2`.
-fn asides_of<R: Abort + AllocGlobal>(
-    rt: &R,
+fn repeated(rt: &(impl Abort + AllocGlobal), text: &str, times: usize) -> Name {
+    name(rt, &text.repeat(rt.alloc(), times).expect(rt, "memory"))
+}
+
+// The asides of these names in a folder whose base is `m.par2`.
+fn asides_of(
+    rt: &(impl Abort + AllocGlobal),
     folder: &Folder,
     names: &[Name],
-) -> Result<String, Fault> {
-    let found = asides(rt.alloc(), folder, &set_in(rt, folder), names)?;
-    text_of(rt.alloc(), &found).map_err(|_| Fault::Memory)
+) -> Result<Vec<Name>, Fault> {
+    asides(rt.alloc(), folder, &set_in(rt, folder), names)
+}
+
+// Whether the asides are as told.
+fn are_asides(found: &Result<Vec<Name>, Fault>, wanted: Result<&[&str], Fault>) -> bool {
+    match (found, wanted) {
+        (Ok(names), Ok(texts)) => are_named(names, texts),
+        (Err(fault), Err(told)) => *fault == told,
+        _ => false,
+    }
 }
 
 // A base with the whole set, and files beside it.
@@ -36,28 +45,40 @@ const NUMBERED: Files = &[
     ("g.2", &[Part::Noise(b"two")]),
 ];
 
-#[test]
-fn the_least_free_numbers(rt: HostRuntime) -> Result<(), Fail> {
-    let folder = folder_for(&rt, "f.2", NUMBERED)?;
-    let found = asides_of(&rt, &folder, &[name(&rt, "f"), name(&rt, "g")]);
-    assert!(rt; found.is_ok_and(|text| text.as_str() == "f.3 g.1 "));
-    Ok(())
-}
-
 const WHOLE: Files = &[("m.par2", &[Part::Main, Part::Description, Part::Checksums])];
 
-// Why a name of so many bytes has no aside beside the set of `f`, or None where it has one.
-fn fault_at<R: Abort + AllocGlobal>(rt: &R, bytes: usize) -> Result<Option<Fault>, AllocError> {
-    let folder = folder_for(rt, "f", WHOLE)?;
-    let text = "n".repeat(rt.alloc(), bytes)?;
-    Ok(asides_of(rt, &folder, &[name(rt, &text)]).err())
+// A target, files, texts that are repeated in the names, and the asides or why there are none.
+type Row = (
+    &'static str,
+    Files,
+    &'static [(&'static str, usize)],
+    Result<&'static [&'static str], Fault>,
+);
+
+const ASIDES: &[Row] = &[
+    // The least free numbers.
+    ("f.2", NUMBERED, &[("f", 1), ("g", 1)], Ok(&["f.3", "g.1"])),
+    // An aside of 255 bytes, and one of 256.
+    ("f", WHOLE, &[("n", 253)], Ok(&[LONGEST])),
+    ("f", WHOLE, &[("n", 254)], Err(Fault::NameTooLong)),
+];
+
+const LONGEST: &str = "\
+    nnnnnnnnnnnnnnnnnnnnnnnnnnnnnnnnnnnnnnnnnnnnnnnnnnnnnnnnnnnnnnnnnnnnnnnnnnnnnnnnnnnnnnnnnnnnnn\
+    nnnnnnnnnnnnnnnnnnnnnnnnnnnnnnnnnnnnnnnnnnnnnnnnnnnnnnnnnnnnnnnnnnnnnnnnnnnnnnnnnnnnnnnnnnnnnn\
+    nnnnnnnnnnnnnnnnnnnnnnnnnnnnnnnnnnnnnnnnnnnnnnnnnnnnnnnnnnnnnnnnn.1";
+
+fn is_put_aside(rt: &(impl Abort + AllocGlobal), row: &Row) -> bool {
+    let (target, files, texts, wanted) = *row;
+    let folder = folder_for(rt, target, files);
+    are_asides(&asides_of(rt, &folder, &names_of(rt, texts)), wanted)
 }
 
 #[test]
-fn an_aside_of_256_bytes(rt: HostRuntime) -> Result<(), Fail> {
-    let faults = (fault_at(&rt, 253)?, fault_at(&rt, 254)?);
-    assert!(rt; faults == (None, Some(Fault::NameTooLong)));
-    Ok(())
+fn names_aside(rt: HostRuntime) {
+    for (k, row) in ASIDES.iter().enumerate() {
+        assert!(rt; is_put_aside(&rt, row), "row {k}");
+    }
 }
 
 const PAR_FILES: Files = &[
@@ -75,17 +96,13 @@ const PAR_FILES: Files = &[
     ("target.par2", &[Part::Recovery(0, b"aaaa")]),
 ];
 
-// The set's par files, as one text.
-fn par_files_in<R: Abort + AllocGlobal>(rt: &R, folder: &Folder) -> Result<String, AllocError> {
-    text_of(
-        rt.alloc(),
-        &par_files(rt.alloc(), folder, &set_in(rt, folder))?,
-    )
+// The set's par files.
+fn par_files_in(rt: &(impl Abort + AllocGlobal), folder: &Folder) -> Vec<Name> {
+    par_files(rt.alloc(), folder, &set_in(rt, folder)).expect(rt, "memory")
 }
 
 #[test]
-fn files_with_packets_of_the_set_alone(rt: HostRuntime) -> Result<(), Fail> {
-    let folder = folder_for(&rt, "target.par2", PAR_FILES)?;
-    assert!(rt; par_files_in(&rt, &folder)?.as_str() == "m.par2 m.vol0+1.PAR2 ");
-    Ok(())
+fn files_with_packets_of_the_set_alone(rt: HostRuntime) {
+    let folder = folder_for(&rt, "target.par2", PAR_FILES);
+    assert!(rt; are_named(&par_files_in(&rt, &folder), &["m.par2", "m.vol0+1.PAR2"]));
 }

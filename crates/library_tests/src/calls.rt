@@ -2,10 +2,10 @@
 //! type alone.
 
 use par2_folder::{Folder, FolderStore, Name, ReadFault, StoreFault, read_folder};
-use std::alloc::{AllocError, Global};
+use std::alloc::Global;
 use std::process::Abort;
 
-pub fn name(rt: &impl Abort, text: &str) -> Name {
+pub fn name(rt: &(impl Abort + AllocGlobal), text: &str) -> Name {
     Name::new(text).expect(rt, "a name")
 }
 
@@ -13,26 +13,41 @@ pub fn bytes_in<'a>(folder: &'a Folder, name: &Name) -> Option<&'a [u8]> {
     folder.get(name)
 }
 
-pub fn fingerprint(alloc: Global, folder: &Folder) -> Result<[u8; 16], AllocError> {
-    folder.fingerprint(alloc)
+pub fn fingerprint(rt: &(impl Abort + AllocGlobal), folder: &Folder) -> [u8; 16] {
+    folder.fingerprint(rt.alloc()).expect(rt, "memory")
 }
 
-fn names_in(alloc: Global, folder: &Folder) -> Result<Vec<Name>, AllocError> {
-    folder.names(alloc)
+fn names_in(rt: &(impl Abort + AllocGlobal), folder: &Folder) -> Vec<Name> {
+    folder.names(rt.alloc()).expect(rt, "memory")
 }
 
-/// The names of a folder, one after the other.
-pub fn listed(alloc: Global, folder: &Folder) -> Result<String, AllocError> {
-    let mut text = String::new(alloc);
-    for name in &names_in(alloc, folder)? {
-        text.push_str(name.as_str())?;
-        text.push(' ')?;
+/// Whether these are the names, in this order.
+pub fn are_named(names: &[Name], wanted: &[&str]) -> bool {
+    for (name, text) in names.iter().zip(wanted.iter()) {
+        if name.as_str() != *text {
+            return false;
+        }
     }
-    Ok(text)
+    names.len() == wanted.len()
 }
 
-pub fn folder_of<S: FolderStore>(alloc: Global, store: &mut S) -> Result<Folder, ReadFault> {
-    read_folder(alloc, store)
+/// Whether the folder has these names and no others.
+pub fn lists(rt: &(impl Abort + AllocGlobal), folder: &Folder, wanted: &[&str]) -> bool {
+    are_named(&names_in(rt, folder), wanted)
+}
+
+/// Whether these are the texts, in this order.
+pub fn are_texts(texts: &[Vec<u8>], wanted: &[&[u8]]) -> bool {
+    for (text, other) in texts.iter().zip(wanted.iter()) {
+        if text.as_slice() != *other {
+            return false;
+        }
+    }
+    texts.len() == wanted.len()
+}
+
+pub fn folder_of<S: FolderStore>(rt: &(impl Abort + AllocGlobal), store: &mut S) -> Folder {
+    read_folder(rt.alloc(), store).expect(rt, "a folder")
 }
 
 pub fn names_of<S: FolderStore>(alloc: Global, store: &mut S) -> Result<Vec<Name>, ReadFault> {

@@ -1,5 +1,7 @@
 //! Digests side by side, and by the hasher of one message.
 
+ghost use Rattle.std.specs.Prelude.{◌≤◌};
+
 use md5::{Digest, Md5};
 use par2_digests::{LANES, window_digests};
 
@@ -49,6 +51,26 @@ fn empty_windows(rt: HostRuntime) {
     assert!(rt; are_spelled(&digests, &[NOTHING; LANES]));
 }
 
+const STARTS: &[usize; LANES] = &[0, 1, 1, 500, 501, 64, 900, 1000];
+
+fn window(bytes: &[u8], start: usize, len: usize) -> &[u8] {
+    let rest = &bytes[start.min(bytes.len())..];
+    &rest[..len.min(rest.len())]
+}
+
+// Whether the windows of so many bytes have the digests of the hasher.
+fn are_by_the_hasher(bytes: &[u8; 2048], len: usize) -> bool
+    requires { len ≤ 1000 }
+{
+    let digests = window_digests(bytes, STARTS, len);
+    for (digest, start) in digests.iter().zip(STARTS.iter()) {
+        if *digest != Md5::digest(window(bytes, *start, len)) {
+            return false;
+        }
+    }
+    true
+}
+
 // About the edges of a block and of the padding.
 #[test]
 fn as_the_hasher_of_one_message(rt: HostRuntime) {
@@ -56,11 +78,7 @@ fn as_the_hasher_of_one_message(rt: HostRuntime) {
     for i in 0..bytes.len() {
         bytes[i] = ((i * i / 7 + i) % 256) as u8;
     }
-    let starts = [0, 1, 1, 500, 501, 64, 900, 1000];
     for len in [0, 1, 55, 56, 57, 63, 64, 65, 119, 120, 128, 1000] {
-        let digests = window_digests(&bytes, &starts, len);
-        for k in 0..LANES {
-            assert!(rt; digests[k] == Md5::digest(&bytes[starts[k]..starts[k] + len]));
-        }
+        assert!(rt; are_by_the_hasher(&bytes, len), "{len} bytes");
     }
 }

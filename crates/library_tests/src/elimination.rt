@@ -1,129 +1,172 @@
 //! Systems of equations that are solved as soon as their equations determine the texts.
 
+ghost use Rattle.std.specs.Prelude.{◌≡◌, ◌*◌, ◌%◌, length, IfErr};
+
+use crate::calls::are_texts;
+use crate::field::field;
 use par2_gf16::Gf;
 use par2_matrix::{Offer, System, bytes_of_row, element, put_element};
-use std::alloc::{AllocError, Global};
-use std::test::Fail;
+use std::process::Abort;
 
-// What became of each equation and the rank behind it, and the unknown texts, one behind the other.
-type Solved = (Vec<(Offer, usize)>, Vec<u8>);
+#[test]
+fn rank_of_no_equations(rt: HostRuntime) {
+    assert!(rt; no_equations(&rt, 2, 2).rank() == 0);
+}
 
-// Offers the equations in turn until the system is solved. None where it isn't, or where an equation doesn't fit it.
-fn solved(
-    alloc: Global,
-    columns: usize,
-    bytes: usize,
-    equations: &[(&[u16], &[u8])],
-) -> Result<Option<Solved>, AllocError> {
-    let gf = Gf::new(alloc)?;
-    if bytes % 2 != 0 {
-        return Ok(None);
-    }
-    let mut system = System::new(alloc, columns, bytes)?;
-    let mut offers = Vec::new(alloc);
-    for (row, right) in equations {
-        if row.len() != columns || right.len() != bytes {
-            return Ok(None);
-        }
-        let offer = system.offer(alloc, &gf, row, right.to_vec(alloc)?)?;
-        offers.push((offer, system.rank()))?;
-        system = match system.into_solution() {
-            Ok(texts) => return Ok(Some((offers, texts.as_slice().concat(alloc)?))),
-            Err(system) => system,
-        };
-    }
-    Ok(None)
+fn row_of(rt: &(impl Abort + AllocGlobal), elements: &[u16]) -> Vec<u8>
+    ensures { length result.items ≡ 2 * length elements.now }
+{
+    bytes_of_row(rt.alloc(), elements).expect(rt, "memory")
 }
 
 #[test]
-fn rank_of_no_equations(rt: HostRuntime) -> Result<(), Fail> {
-    assert!(rt; System::new(rt.alloc(), 2, 2)?.rank() == 0);
-    Ok(())
-}
-
-#[test]
-fn elements_of_a_row(rt: HostRuntime) -> Result<(), Fail> {
-    let mut row = bytes_of_row(rt.alloc(), &[0x0201, 0xff00, 7])?;
+fn elements_of_a_row(rt: HostRuntime) {
+    let mut row = row_of(&rt, &[0x0201, 0xff00, 7]);
     assert!(rt; row.as_slice() == [1, 2, 0, 0xff, 7, 0].as_slice());
     put_element(row.as_mut_slice(), 1, 0x1234);
     assert!(rt;
-        element(&row, 1) == 0x1234 && row.as_slice() == [1, 2, 0x34, 0x12, 7, 0].as_slice()
+        row.as_slice() == [1, 2, 0x34, 0x12, 7, 0].as_slice() && element(&row, 1) == 0x1234
     );
-    Ok(())
 }
 
-// A number of columns and of bytes, equations, and what becomes of them and the texts, or None where they leave one open.
+// What the unknown texts are multiplied by and what that gives, what becomes of the equation, and the rank behind it.
+type Equation = (&'static [u16], &'static [u8], Offer, usize);
+
+// A number of columns and of bytes, equations, and the texts, or None where the equations leave one open.
 type Row = (
     usize,
     usize,
-    &'static [(&'static [u16], &'static [u8])],
-    Option<(&'static [(Offer, usize)], &'static [u8])>,
+    &'static [Equation],
+    Option<&'static [&'static [u8]]>,
 );
 
 const SYSTEMS: &[Row] = &[
-    (2, 2, &[(&[1, 1], &[3, 0]), (&[1, 1], &[3, 0])], None),
     (
         2,
         2,
         &[
-            (&[1, 1], &[3, 0]),
-            (&[1, 1], &[3, 0]),
-            (&[2, 16], &[0x22, 0]),
+            (&[1, 1], &[3, 0], Offer::Kept, 1),
+            (&[1, 1], &[3, 0], Offer::Dependent, 1),
         ],
-        Some((
-            &[(Offer::Kept, 1), (Offer::Dependent, 1), (Offer::Kept, 2)],
-            &[1, 0, 2, 0],
-        )),
+        None,
+    ),
+    (
+        2,
+        2,
+        &[
+            (&[1, 1], &[3, 0], Offer::Kept, 1),
+            (&[1, 1], &[3, 0], Offer::Dependent, 1),
+            (&[2, 16], &[0x22, 0], Offer::Kept, 2),
+        ],
+        Some(&[&[1, 0], &[2, 0]]),
     ),
     // The first equation has its pivot in the second column, the next in the third.
     (
         3,
         4,
         &[
-            (&[0, 2, 0], &[4, 0, 0, 0]),
-            (&[0, 0, 1], &[5, 0, 7, 9]),
-            (&[1, 1, 1], &[6, 0, 0, 1]),
+            (&[0, 2, 0], &[4, 0, 0, 0], Offer::Kept, 1),
+            (&[0, 0, 1], &[5, 0, 7, 9], Offer::Kept, 2),
+            (&[1, 1, 1], &[6, 0, 0, 1], Offer::Kept, 3),
         ],
-        Some((
-            &[(Offer::Kept, 1), (Offer::Kept, 2), (Offer::Kept, 3)],
-            &[1, 0, 7, 8, 2, 0, 0, 0, 5, 0, 7, 9],
-        )),
+        Some(&[&[1, 0, 7, 8], &[2, 0, 0, 0], &[5, 0, 7, 9]]),
     ),
     // No columns.
-    (
-        0,
-        2,
-        &[(&[], &[7, 0])],
-        Some((&[(Offer::Dependent, 0)], &[])),
-    ),
+    (0, 2, &[(&[], &[7, 0], Offer::Dependent, 0)], Some(&[])),
     // No bytes.
     (
         2,
         0,
-        &[(&[0, 0], &[]), (&[2, 4], &[]), (&[0, 3], &[])],
-        Some((
-            &[(Offer::Dependent, 0), (Offer::Kept, 1), (Offer::Kept, 2)],
-            &[],
-        )),
+        &[
+            (&[0, 0], &[], Offer::Dependent, 0),
+            (&[2, 4], &[], Offer::Kept, 1),
+            (&[0, 3], &[], Offer::Kept, 2),
+        ],
+        Some(&[&[], &[]]),
     ),
 ];
 
-// Whether the equations are solved as the row says.
-fn is_as_told(alloc: Global, row: &Row) -> Result<bool, AllocError> {
+fn no_equations(rt: &(impl Abort + AllocGlobal), columns: usize, bytes: usize) -> System
+    requires { bytes % 2 ≡ 0 }
+    ensures columns { result.columns ≡ columns }
+    ensures bytes { result.bytes ≡ bytes }
+{
+    System::new(rt.alloc(), columns, bytes).expect(rt, "memory")
+}
+
+fn offered(
+    rt: &(impl Abort + AllocGlobal),
+    gf: &Gf,
+    system: &mut System,
+    row: &[u16],
+    right: &[u8],
+) -> Offer
+    requires row { length row.now ≡ system.old.columns }
+    requires right { length right.now ≡ system.old.bytes }
+    ensures columns { system.new.columns ≡ system.old.columns }
+    ensures bytes { system.new.bytes ≡ system.old.bytes }
+{
+    let right = right.to_vec(rt.alloc()).expect(rt, "memory");
+    system
+        .offer(rt.alloc(), gf, row, right)
+        .expect(rt, "memory")
+}
+
+fn solution(system: System) -> Result<Vec<Vec<u8>>, System>
+    ensures { IfErr result (λ same. same ≡ system) }
+{
+    system.into_solution()
+}
+
+// Whether the equation is taken as told.
+fn is_taken(
+    rt: &(impl Abort + AllocGlobal),
+    gf: &Gf,
+    system: &mut System,
+    equation: &Equation,
+) -> bool
+    requires row { length (equation.now.0).now ≡ system.old.columns }
+    requires right { length (equation.now.1).now ≡ system.old.bytes }
+    ensures columns { system.new.columns ≡ system.old.columns }
+    ensures bytes { system.new.bytes ≡ system.old.bytes }
+{
+    let (row, right, offer, rank) = *equation;
+    offered(rt, gf, system, row, right) == offer && system.rank() == rank
+}
+
+// Whether the equations are solved as the row says, as soon as they are.
+fn is_as_told(rt: &(impl Abort + AllocGlobal), gf: &Gf, row: &Row) -> bool {
     let (columns, bytes, equations, wanted) = *row;
-    let found = solved(alloc, columns, bytes, equations)?;
-    Ok(match (&found, wanted) {
-        (Some((offers, texts)), Some((told, right))) => {
-            offers.as_slice() == told && texts.as_slice() == right
+    if bytes % 2 != 0 {
+        return false;
+    }
+    let mut system = no_equations(rt, columns, bytes);
+    for (k, equation) in equations.iter().enumerate() {
+        if equation.0.len() != columns || equation.1.len() != bytes {
+            return false;
         }
-        (found, wanted) => found.is_none() && wanted.is_none(),
-    })
+        if !is_taken(rt, gf, &mut system, equation) {
+            return false;
+        }
+        system = match solution(system) {
+            Ok(texts) => return k + 1 == equations.len() && is_solution(&texts, wanted),
+            Err(system) => system,
+        };
+    }
+    wanted.is_none()
+}
+
+fn is_solution(texts: &[Vec<u8>], wanted: Option<&[&[u8]]>) -> bool {
+    match wanted {
+        Some(told) => are_texts(texts, told),
+        None => false,
+    }
 }
 
 #[test]
-fn systems_are_solved(rt: HostRuntime) -> Result<(), Fail> {
+fn systems_are_solved(rt: HostRuntime) {
+    let gf = field(&rt);
     for (k, row) in SYSTEMS.iter().enumerate() {
-        assert!(rt; is_as_told(rt.alloc(), row)?, "system {k}");
+        assert!(rt; is_as_told(&rt, &gf, row), "system {k}");
     }
-    Ok(())
 }

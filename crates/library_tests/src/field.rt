@@ -1,8 +1,12 @@
-ghost use Rattle.std.specs.Prelude.{◌≡◌, ◌≤◌, ◌%◌, length, IfOk};
+ghost use Rattle.std.specs.Prelude.{◌≡◌, ◌≤◌, ◌*◌, ◌%◌, length};
 
 use crate::plain_field::product;
 use par2_gf16::{Columns, Factor, Gf};
-use std::alloc::{AllocError, Global};
+use std::process::Abort;
+
+pub(super) fn field(rt: &(impl Abort + AllocGlobal)) -> Gf {
+    Gf::new(rt.alloc()).expect(rt, "memory")
+}
 
 // adds the products word by word
 fn plain_mul_add(c: u16, src: &[u8], dst: &mut [u8])
@@ -19,10 +23,10 @@ fn plain_mul_add(c: u16, src: &[u8], dst: &mut [u8])
 }
 
 // n bytes that repeat after many
-fn mixed_bytes(alloc: Global, n: usize, seed: u32) -> Result<Vec<u8>, AllocError>
-    ensures { IfOk result (λ bytes. length bytes.items ≡ n) }
+fn mixed_bytes(rt: &(impl Abort + AllocGlobal), n: usize, seed: u32) -> Vec<u8>
+    ensures { length result.items ≡ n }
 {
-    let mut bytes = vec![in alloc; 0u8; n]?;
+    let mut bytes = vec![in rt.alloc(); 0u8; n].expect(rt, "memory");
     let mut state = seed;
     for byte in bytes.iter_mut() {
         state ^= state << 13;
@@ -30,75 +34,62 @@ fn mixed_bytes(alloc: Global, n: usize, seed: u32) -> Result<Vec<u8>, AllocError
         state ^= state << 5;
         *byte = state.to_le_bytes()[3];
     }
-    Ok(bytes)
+    bytes
 }
 
-const PRODUCTS: &[(u16, u16, u16)] = &[
-    (0x8000, 2, 0x100B),
-    (2, 0xFFFF, 0xEFF5),
-    (2, 0x8805, 1),
-    (1, 0xFFFF, 0xFFFF),
-    (0, 7, 0),
-    (7, 0, 0),
+enum Operation {
+    Product(u16, u16),
+    Power(u16, u32),
+    Inverse(u16),
+    Constant(u32),
+}
+
+fn outcome(gf: &Gf, operation: &Operation) -> Option<u16> {
+    match operation {
+        Operation::Product(a, b) => Some(gf.mul(*a, *b)),
+        Operation::Power(a, e) => Some(gf.pow(*a, *e)),
+        Operation::Inverse(a) => gf.inv(*a),
+        Operation::Constant(k) => gf.constant(*k),
+    }
+}
+
+const OUTCOMES: &[(Operation, Option<u16>)] = &[
+    (Operation::Product(0x8000, 2), Some(0x100B)),
+    (Operation::Product(2, 0xFFFF), Some(0xEFF5)),
+    (Operation::Product(2, 0x8805), Some(1)),
+    (Operation::Product(1, 0xFFFF), Some(0xFFFF)),
+    (Operation::Product(0, 7), Some(0)),
+    (Operation::Product(7, 0), Some(0)),
+    (Operation::Power(2, 65535), Some(1)),
+    (Operation::Power(2, 65534), Some(0x8805)),
+    (Operation::Power(0, 0), Some(1)),
+    (Operation::Power(0, 3), Some(0)),
+    (Operation::Power(3, 1), Some(3)),
+    (Operation::Power(2, 4294967295), Some(1)),
+    (Operation::Inverse(2), Some(0x8805)),
+    (Operation::Inverse(1), Some(1)),
+    (Operation::Inverse(0), None),
+    (Operation::Constant(0), Some(2)),
+    (Operation::Constant(1), Some(4)),
+    (Operation::Constant(2), Some(16)),
+    (Operation::Constant(3), Some(128)),
+    (Operation::Constant(4), Some(256)),
+    (Operation::Constant(5), Some(2048)),
+    (Operation::Constant(6), Some(8192)),
+    (Operation::Constant(7), Some(16384)),
+    (Operation::Constant(8), Some(4107)),
+    (Operation::Constant(9), Some(32856)),
+    (Operation::Constant(10), Some(17132)),
+    (Operation::Constant(32767), Some(0x8805)),
+    (Operation::Constant(32768), None),
 ];
 
 #[test]
-fn field_products(rt: HostRuntime) -> Result<(), AllocError> {
-    let gf = Gf::new(rt.alloc())?;
-    for (a, b, product) in PRODUCTS {
-        assert!(rt; gf.mul(*a, *b) == *product, "{a} times {b}");
+fn products_powers_inverses_and_constants(rt: HostRuntime) {
+    let gf = field(&rt);
+    for (k, (operation, wanted)) in OUTCOMES.iter().enumerate() {
+        assert!(rt; outcome(&gf, operation) == *wanted, "row {k}");
     }
-    Ok(())
-}
-
-const POWERS: &[(u16, u32, u16)] = &[
-    (2, 65535, 1),
-    (2, 65534, 0x8805),
-    (0, 0, 1),
-    (0, 3, 0),
-    (3, 1, 3),
-    (2, 4294967295, 1),
-];
-
-#[test]
-fn field_powers(rt: HostRuntime) -> Result<(), AllocError> {
-    let gf = Gf::new(rt.alloc())?;
-    for (a, e, power) in POWERS {
-        assert!(rt; gf.pow(*a, *e) == *power, "{a} to the power of {e}");
-    }
-    Ok(())
-}
-
-#[test]
-fn field_inverses(rt: HostRuntime) -> Result<(), AllocError> {
-    let gf = Gf::new(rt.alloc())?;
-    assert!(rt; [gf.inv(2), gf.inv(1), gf.inv(0)] == [Some(0x8805), Some(1), None]);
-    Ok(())
-}
-
-const CONSTANTS: &[(u32, Option<u16>)] = &[
-    (0, Some(2)),
-    (1, Some(4)),
-    (2, Some(16)),
-    (3, Some(128)),
-    (4, Some(256)),
-    (5, Some(2048)),
-    (6, Some(8192)),
-    (7, Some(16384)),
-    (8, Some(4107)),
-    (9, Some(32856)),
-    (10, Some(17132)),
-    (32767, Some(0x8805)),
-    (32768, None),
-];
-
-#[test]
-fn slice_constants(rt: HostRuntime) -> Result<(), AllocError> {
-    let gf = Gf::new(rt.alloc())?;
-    for (k, constant) in CONSTANTS {
-        assert!(rt; gf.constant(*k) == *constant, "constant {k}");
-    }
-    Ok(())
 }
 
 // The word after the product of 2 and 0x8000 is added to it.
@@ -108,36 +99,89 @@ fn added(gf: &Gf, word: [u8; 2]) -> [u8; 2] {
     sum
 }
 
-#[test]
-fn products_are_added_and_taken_back(rt: HostRuntime) -> Result<(), AllocError> {
-    let gf = Gf::new(rt.alloc())?;
-    let once = added(&gf, [0, 0]);
-    assert!(rt; once == [0x0B, 0x10] && added(&gf, once) == [0, 0]);
+fn add_nothing(gf: &Gf) {
     gf.mul_add(2, &[], &mut []);
-    Ok(())
+}
+
+#[test]
+fn products_are_added_and_taken_back(rt: HostRuntime) {
+    let gf = field(&rt);
+    assert!(rt; added(&gf, [0, 0]) == [0x0B, 0x10]);
+    assert!(rt; added(&gf, [0x0B, 0x10]) == [0, 0]);
+    add_nothing(&gf);
+}
+
+fn copied(rt: &(impl Abort + AllocGlobal), bytes: &[u8]) -> Vec<u8>
+    ensures { length result.items ≡ length bytes.now }
+{
+    Vec::from_slice(rt.alloc(), bytes).expect(rt, "memory")
+}
+
+// The products added to a copy of `dst`, by steps.
+fn by_steps(rt: &(impl Abort + AllocGlobal), gf: &Gf, c: u16, src: &[u8], dst: &[u8]) -> Vec<u8>
+    requires same { length src.now ≡ length dst.now }
+    requires even { length dst.now % 2 ≡ 0 }
+{
+    let mut sum = copied(rt, dst);
+    gf.mul_add(c, src, &mut sum);
+    sum
+}
+
+fn by_factor(rt: &(impl Abort + AllocGlobal), gf: &Gf, c: u16, src: &[u8], dst: &[u8]) -> Vec<u8>
+    requires same { length src.now ≡ length dst.now }
+    requires even { length dst.now % 2 ≡ 0 }
+{
+    let mut sum = copied(rt, dst);
+    gf.mul_add_by(&Factor::new(c), src, &mut sum);
+    sum
+}
+
+fn by_columns(rt: &(impl Abort + AllocGlobal), gf: &Gf, c: u16, src: &[u8], dst: &[u8]) -> Vec<u8> {
+    let mut sum = copied(rt, dst);
+    add_columns(rt, gf, c, src, 0, sum.len() / 2, &mut sum);
+    sum
+}
+
+fn by_words(rt: &(impl Abort + AllocGlobal), c: u16, src: &[u8], dst: &[u8]) -> Vec<u8>
+    requires { length src.now ≡ length dst.now }
+{
+    let mut sum = copied(rt, dst);
+    plain_mul_add(c, src, &mut sum);
+    sum
+}
+
+// Adds the products of the text's words from one to another to `dst`.
+fn add_columns(
+    rt: &(impl Abort + AllocGlobal),
+    gf: &Gf,
+    c: u16,
+    text: &[u8],
+    from: usize,
+    to: usize,
+    dst: &mut [u8],
+)
+    requires order { from ≤ to }
+    requires room { 2 * to ≤ length dst.old }
+{
+    let columns = Columns::new(rt.alloc(), text, from, to).expect(rt, "memory");
+    gf.mul_add_columns(&Factor::new(c), &columns, dst);
 }
 
 // Whether a copy of `dst` becomes by the tables, by the factor and by columns what it becomes word by word.
 fn is_as_word_by_word(
-    alloc: Global,
+    rt: &(impl Abort + AllocGlobal),
     gf: &Gf,
     c: u16,
     src: &[u8],
     dst: &[u8],
-) -> Result<bool, AllocError>
+) -> bool
     requires same { length src.now ≡ length dst.now }
     requires even { length dst.now % 2 ≡ 0 }
 {
-    let mut by_steps = Vec::from_slice(alloc, dst)?;
-    gf.mul_add(c, src, &mut by_steps);
-    let mut by_factor = Vec::from_slice(alloc, dst)?;
-    gf.mul_add_by(&Factor::new(c), src, &mut by_factor);
-    let mut by_columns = Vec::from_slice(alloc, dst)?;
-    let columns = Columns::new(alloc, src, 0, dst.len() / 2)?;
-    gf.mul_add_columns(&Factor::new(c), &columns, &mut by_columns);
-    let mut wanted = Vec::from_slice(alloc, dst)?;
-    plain_mul_add(c, src, &mut wanted);
-    Ok(by_steps == wanted && by_factor == wanted && by_columns == wanted)
+    let wanted = by_words(rt, c, src, dst);
+    by_steps(rt, gf, c, src, dst) == wanted
+        && by_factor(rt, gf, c, src, dst) == wanted
+        && by_columns(rt, gf, c, src, dst) == wanted
 }
 
 // The last four are random.
@@ -146,50 +190,41 @@ const FACTORS: &[u16] = &[
 ];
 
 // The first factor by which so many words become something else, if there is one.
-fn first_other(alloc: Global, gf: &Gf, words: usize) -> Result<Option<u16>, AllocError>
+fn first_other(rt: &(impl Abort + AllocGlobal), gf: &Gf, words: usize) -> Option<u16>
     requires { words ≤ 65 }
 {
-    let src = mixed_bytes(alloc, 2 * words, 1)?;
-    let old = mixed_bytes(alloc, 2 * words, 2)?;
+    let src = mixed_bytes(rt, 2 * words, 1);
+    let old = mixed_bytes(rt, 2 * words, 2);
     for c in FACTORS {
-        if !is_as_word_by_word(alloc, gf, *c, &src, &old)? {
-            return Ok(Some(*c));
+        if !is_as_word_by_word(rt, gf, *c, &src, &old) {
+            return Some(*c);
         }
     }
-    Ok(None)
+    None
 }
 
 #[test]
-fn every_length_as_word_by_word(rt: HostRuntime) -> Result<(), AllocError> {
-    let gf = Gf::new(rt.alloc())?;
+fn every_length_as_word_by_word(rt: HostRuntime) {
+    let gf = field(&rt);
     for words in 0..=65usize {
-        assert_eq!(rt; first_other(rt.alloc(), &gf, words)?, None, "{words} words");
+        assert!(rt; first_other(&rt, &gf, words).is_none(), "{words} words");
     }
-    Ok(())
 }
 
 // Four words of zeros after some words of a text that ends within the second were added to them.
-fn words_added(alloc: Global, gf: &Gf, from: usize, to: usize) -> Result<[u8; 8], AllocError>
+fn words_added(rt: &(impl Abort + AllocGlobal), gf: &Gf, from: usize, to: usize) -> [u8; 8]
     requires order { from ≤ to }
     requires room { to ≤ 4 }
 {
-    let columns = Columns::new(alloc, &[1, 2, 3], from, to)?;
     let mut words = [0; 8];
-    gf.mul_add_columns(&Factor::new(1), &columns, &mut words);
-    Ok(words)
+    add_columns(rt, gf, 1, &[1, 2, 3], from, to, &mut words);
+    words
 }
 
 #[test]
-fn zeros_follow_a_text_that_ends(rt: HostRuntime) -> Result<(), AllocError> {
-    let gf = Gf::new(rt.alloc())?;
-    assert_eq!(rt;
-        words_added(rt.alloc(), &gf, 0, 4)?,
-        [1, 2, 3, 0, 0, 0, 0, 0]
-    );
-    assert_eq!(rt;
-        words_added(rt.alloc(), &gf, 1, 2)?,
-        [0, 0, 3, 0, 0, 0, 0, 0]
-    );
-    assert_eq!(rt; words_added(rt.alloc(), &gf, 3, 4)?, [0; 8]);
-    Ok(())
+fn zeros_follow_a_text_that_ends(rt: HostRuntime) {
+    let gf = field(&rt);
+    assert!(rt; words_added(&rt, &gf, 0, 4) == [1, 2, 3, 0, 0, 0, 0, 0]);
+    assert!(rt; words_added(&rt, &gf, 1, 2) == [0, 0, 3, 0, 0, 0, 0, 0]);
+    assert!(rt; words_added(&rt, &gf, 3, 4) == [0; 8]);
 }

@@ -1,8 +1,7 @@
 use crate::pairs::pairs_of;
 use par2_search::{Target, matched};
 use par2_slices::Pair;
-use std::alloc::{AllocError, Global};
-use std::test::Fail;
+use std::process::Abort;
 
 // The target whose bytes these are.
 fn target<'a>(bytes: &[u8], pairs: &'a [Pair]) -> Target<'a> {
@@ -14,15 +13,16 @@ fn target<'a>(bytes: &[u8], pairs: &'a [Pair]) -> Target<'a> {
 
 // Whether two targets have these matches, their slices being of four bytes.
 fn is_matched(
-    alloc: Global,
+    rt: &(impl Abort + AllocGlobal),
     bytes: &[&[u8]; 2],
     texts: &[&[u8]],
     numbers: &[Option<usize>],
-) -> Result<bool, AllocError> {
-    let first = pairs_of(alloc, bytes[0], 4)?;
-    let second = pairs_of(alloc, bytes[1], 4)?;
+) -> bool {
+    let first = pairs_of(rt, bytes[0], 4);
+    let second = pairs_of(rt, bytes[1], 4);
     let targets = [target(bytes[0], &first), target(bytes[1], &second)];
-    Ok(matched(alloc, texts, 4, &targets)?.as_slice() == numbers)
+    let found = matched(rt.alloc(), texts, 4, &targets).expect(rt, "memory");
+    found.as_slice() == numbers
 }
 
 // The bytes of two targets, texts, and which text each target has.
@@ -51,9 +51,8 @@ const ROWS: &[Row] = &[
 ];
 
 #[test]
-fn texts_of_two_targets(rt: HostRuntime) -> Result<(), Fail> {
+fn texts_of_two_targets(rt: HostRuntime) {
     for (k, (bytes, texts, numbers)) in ROWS.iter().enumerate() {
-        assert!(rt; is_matched(rt.alloc(), bytes, texts, numbers)?, "row {k}");
+        assert!(rt; is_matched(&rt, bytes, texts, numbers), "row {k}");
     }
-    Ok(())
 }

@@ -2,8 +2,7 @@
 
 use md5::{Digest, Md5};
 use par2_digests::{Message, Midstate, Part, Pending, absorb_each};
-use std::alloc::{AllocError, Global};
-use std::test::Fail;
+use std::process::Abort;
 
 // About the edges of a block and of the padding.
 const SIZES: [usize; 12] = [0, 1, 55, 56, 57, 63, 64, 65, 119, 120, 128, 129];
@@ -23,13 +22,19 @@ fn piece(text: &[u8], at: usize, turn: usize) -> &[u8] {
 }
 
 // Message k: a length, bytes and other bytes, or none, of many sizes.
-fn message(alloc: Global, text: &[u8], turn: usize, k: usize) -> Result<Message, AllocError> {
-    let parts = vec![in alloc;
+fn message<'a>(
+    rt: &(impl Abort + AllocGlobal),
+    text: &'a [u8],
+    turn: usize,
+    k: usize,
+) -> Message<'a> {
+    let parts = vec![in rt.alloc();
         Part::Length(k as u64),
         Part::Bytes(piece(text, k, turn.wrapping_add(k.wrapping_mul(5)))),
         Part::Bytes(piece(text, 300, turn.wrapping_mul(k))),
-    ]?;
-    Ok(Message { parts })
+    ]
+    .expect(rt, "memory");
+    Message { parts }
 }
 
 // The digest of message k between other bytes.
@@ -53,59 +58,69 @@ fn digest_of_message(text: &[u8], turn: usize, k: usize) -> [u8; 16] {
     digest_by_the_hasher(piece(text, 500, turn), text, turn, k, b"")
 }
 
-fn messages(
-    alloc: Global,
-    text: &[u8],
+fn messages<'a>(
+    rt: &(impl Abort + AllocGlobal),
+    text: &'a [u8],
     turn: usize,
     count: usize,
-) -> Result<Vec<Message>, AllocError> {
-    let mut messages = Vec::new(alloc);
+) -> Vec<Message<'a>> {
+    let mut messages = Vec::new(rt.alloc());
     for k in 0..count {
-        messages.push(message(alloc, text, turn, k)?)?;
+        messages
+            .push(message(rt, text, turn, k))
+            .expect(rt, "memory");
     }
-    Ok(messages)
+    messages
 }
 
-#[test]
-fn one_to_eight_messages(rt: HostRuntime) -> Result<(), Fail> {
-    let text = text();
-    for turn in 0..12 {
-        let mut state = Midstate::new();
-        state.absorb(&[Part::Bytes(piece(&text, 500, turn))]);
-        for count in 1..9usize {
-            let messages = messages(rt.alloc(), &text, turn, count)?;
-            assert!(rt; messages.len() <= 8);
-            let digests = state.digests(messages.as_slice());
-            for k in 0..count {
-                assert!(rt; digests[k] == digest_of_message(&text, turn, k));
-            }
+// Whether so many messages behind one piece have the digests of the hasher.
+fn are_digested(rt: &(impl Abort + AllocGlobal), text: &[u8], turn: usize, count: usize) -> bool {
+    let messages = messages(rt, text, turn, count);
+    let mut state = Midstate::new();
+    state.absorb(&[Part::Bytes(piece(text, 500, turn))]);
+    if messages.len() > 8 {
+        return false;
+    }
+    are_of_messages(&state.digests(messages.as_slice()), text, turn, count)
+}
+
+fn are_of_messages(digests: &[[u8; 16]; 8], text: &[u8], turn: usize, count: usize) -> bool {
+    for (k, digest) in digests.iter().enumerate() {
+        if k < count && *digest != digest_of_message(text, turn, k) {
+            return false;
         }
     }
-    Ok(())
+    true
 }
 
 // A state behind a piece of its own, and the parts of message k.
-fn pending(alloc: Global, text: &[u8], turn: usize, k: usize) -> Result<Pending, AllocError> {
+fn pending<'a>(
+    rt: &(impl Abort + AllocGlobal),
+    text: &'a [u8],
+    turn: usize,
+    k: usize,
+) -> Pending<'a> {
     let mut state = Midstate::new();
     state.absorb(&[Part::Bytes(piece(text, 500, turn.wrapping_add(k)))]);
-    let message = message(alloc, text, turn, k)?;
-    Ok(Pending {
+    Pending {
         state,
-        parts: message.parts,
-    })
+        parts: message(rt, text, turn, k).parts,
+    }
 }
 
-fn pendings(
-    alloc: Global,
-    text: &[u8],
+fn pendings<'a>(
+    rt: &(impl Abort + AllocGlobal),
+    text: &'a [u8],
     turn: usize,
     count: usize,
-) -> Result<Vec<Pending>, AllocError> {
-    let mut pendings = Vec::new(alloc);
+) -> Vec<Pending<'a>> {
+    let mut pendings = Vec::new(rt.alloc());
     for k in 0..count {
-        pendings.push(pending(alloc, text, turn, k)?)?;
+        pendings
+            .push(pending(rt, text, turn, k))
+            .expect(rt, "memory");
     }
-    Ok(pendings)
+    pendings
 }
 
 fn digest_behind(text: &[u8], turn: usize, k: usize) -> [u8; 16] {
@@ -113,20 +128,33 @@ fn digest_behind(text: &[u8], turn: usize, k: usize) -> [u8; 16] {
     digest_by_the_hasher(before, text, turn, k, piece(text, 7, turn))
 }
 
+// Whether so many states, and a piece behind each, have the digests of the hasher.
+fn are_absorbed(rt: &(impl Abort + AllocGlobal), text: &[u8], turn: usize, count: usize) -> bool {
+    let pendings = pendings(rt, text, turn, count);
+    if pendings.len() > 8 {
+        return false;
+    }
+    for (k, state) in absorb_each(pendings.as_slice()).iter().enumerate() {
+        if k < count && digest_then(state, piece(text, 7, turn)) != digest_behind(text, turn, k) {
+            return false;
+        }
+    }
+    true
+}
+
+fn digest_then(state: &Midstate, bytes: &[u8]) -> [u8; 16] {
+    let mut state = *state;
+    state.absorb(&[Part::Bytes(bytes)]);
+    state.digest()
+}
+
 #[test]
-fn one_to_eight_states(rt: HostRuntime) -> Result<(), Fail> {
+fn one_to_eight_messages_and_states(rt: HostRuntime) {
     let text = text();
     for turn in 0..12 {
         for count in 1..9usize {
-            let pendings = pendings(rt.alloc(), &text, turn, count)?;
-            assert!(rt; pendings.len() <= 8);
-            let states = absorb_each(pendings.as_slice());
-            for k in 0..count {
-                let mut state = states[k];
-                state.absorb(&[Part::Bytes(piece(&text, 7, turn))]);
-                assert!(rt; state.digest() == digest_behind(&text, turn, k));
-            }
+            assert!(rt; are_digested(&rt, &text, turn, count), "{turn} {count}");
+            assert!(rt; are_absorbed(&rt, &text, turn, count), "{turn} {count}");
         }
     }
-    Ok(())
 }

@@ -1,13 +1,13 @@
 //! The expected texts were made by another program, from the format alone.
 
-use hex::FromHexError;
+ghost use Rattle.std.specs.Prelude.{◌+◌, ◌≤◌, length};
+
+use crate::set_packets::{add_checksums, add_description, add_main, id_of};
 use par2_packets::{
-    DescView, DuplicateId, FileRecord, Kind, Packet, Packets, append_creator, append_desc,
-    append_ifsc, append_main, append_recoveries, file_id, main_id, read_desc, read_ifsc, read_main,
-    read_recovery, sort_ids,
+    DescView, DuplicateId, FileRecord, Kind, Packet, Packets, append_creator, append_recoveries,
+    file_id, read_desc, read_ifsc, read_main, read_recovery, sort_ids,
 };
-use std::alloc::{AllocError, Global};
-use std::test::Fail;
+use std::process::Abort;
 
 // The index of a set of one file `a`, which holds `abcdefgh`, with slices of 4 bytes: 92, 124, 120 and 84 bytes.
 const INDEX: &str = "\
@@ -71,74 +71,32 @@ const FOX_VOLUME: &str = "\
     f68e674d3ae8a011b258a65e5880a8cdb4c26e63b5d37bc050415220322e300043726561746f72004372656174656420\
     62792070617232636d646c696e652076657273696f6e20302e382e312e000000";
 
-// The kinds of the packets of a volume with one recovery slice.
-const KINDS: [Kind; 5] = [
-    Kind::Main,
-    Kind::FileDesc,
-    Kind::Ifsc,
-    Kind::Creator,
-    Kind::Recovery,
-];
-
-const KINDS_OF_INDEX: [Kind; 4] = [Kind::Main, Kind::FileDesc, Kind::Ifsc, Kind::Creator];
-
-const KINDS_WITHOUT_CREATOR: [Kind; 4] = [Kind::Main, Kind::FileDesc, Kind::Ifsc, Kind::Recovery];
-
-fn index(alloc: Global) -> Result<Vec<u8>, FromHexError> {
-    hex::decode(alloc, INDEX)
+// The bytes of these texts, one behind the other.
+fn decoded(rt: &(impl Abort + AllocGlobal), texts: &[&str]) -> Vec<u8> {
+    let whole = texts.concat(rt.alloc()).expect(rt, "memory");
+    hex::decode(rt.alloc(), &whole).expect(rt, "hexadecimal digits")
 }
 
-// The recovery slice of exponent 0, 1 or 2.
-fn recovery(alloc: Global, exponent: u32) -> Result<Vec<u8>, FromHexError> {
-    match exponent {
-        0 => hex::decode(alloc, RECOVERY_0),
-        1 => hex::decode(alloc, RECOVERY_1),
-        _ => hex::decode(alloc, RECOVERY_2),
+fn kinds_of(rt: &(impl Abort + AllocGlobal), text: &[u8]) -> Vec<Kind> {
+    let mut kinds = Vec::new(rt.alloc());
+    for packet in Packets::new(text) {
+        kinds.push(packet.kind).expect(rt, "memory");
     }
+    kinds
 }
 
-fn fox_index(alloc: Global) -> Result<Vec<u8>, FromHexError> {
-    hex::decode(alloc, FOX_INDEX)
-}
-
-fn fox_volume(alloc: Global) -> Result<Vec<u8>, FromHexError> {
-    hex::decode(alloc, FOX_VOLUME)
-}
-
-// The index, and behind it the recovery slices of these exponents.
-fn volume_of(alloc: Global, exponents: &[u32]) -> Result<Vec<u8>, FromHexError> {
-    let mut text = index(alloc)?;
-    for exponent in exponents {
-        text.extend_from_slice(&recovery(alloc, *exponent)?)?;
-    }
-    Ok(text)
-}
-
-// The volume of 492 bytes.
-fn volume(alloc: Global) -> Result<Vec<u8>, FromHexError> {
-    volume_of(alloc, &[0])
-}
-
-fn kinds_of(alloc: Global, text: &[u8]) -> Result<Vec<Kind>, AllocError> {
-    Packets::new(text).map(|packet| packet.kind).collect(alloc)
-}
-
-fn exponents_of(alloc: Global, text: &[u8]) -> Result<Vec<u32>, AllocError> {
-    let mut exponents = Vec::new(alloc);
+fn exponents_of(rt: &(impl Abort + AllocGlobal), text: &[u8]) -> Vec<u32> {
+    let mut exponents = Vec::new(rt.alloc());
     for packet in Packets::new(text) {
         if let Some(recovery) = read_recovery(&packet) {
-            exponents.push(recovery.exponent())?;
+            exponents.push(recovery.exponent()).expect(rt, "memory");
         }
     }
-    Ok(exponents)
+    exponents
 }
 
-fn has_kinds(alloc: Global, text: &[u8], kinds: &[Kind]) -> Result<bool, AllocError> {
-    Ok(kinds_of(alloc, text)?.as_slice() == kinds)
-}
-
-fn has_exponents(alloc: Global, text: &[u8], exponents: &[u32]) -> Result<bool, AllocError> {
-    Ok(exponents_of(alloc, text)?.as_slice() == exponents)
+fn has_exponents(rt: &(impl Abort + AllocGlobal), text: &[u8], exponents: &[u32]) -> bool {
+    exponents_of(rt, text).as_slice() == exponents
 }
 
 fn packet(kind: Kind, body: &[u8]) -> Packet<'_> {
@@ -150,120 +108,206 @@ fn packet(kind: Kind, body: &[u8]) -> Packet<'_> {
 }
 
 // The head of a packet that claims this length, with a false digest.
-fn false_head(alloc: Global, claim: u64) -> Result<Vec<u8>, AllocError> {
-    let mut head = Vec::from_slice(alloc, b"PAR2\0PKT")?;
-    head.extend_from_slice(&claim.to_le_bytes())?;
-    head.resize(64, 7)?;
-    Ok(head)
+fn false_head(rt: &(impl Abort + AllocGlobal), claim: u64) -> Vec<u8> {
+    [b"PAR2\0PKT".as_slice(), &claim.to_le_bytes(), &[7; 48]]
+        .concat(rt.alloc())
+        .expect(rt, "memory")
 }
 
 // A record with this identifier alone.
-fn record(alloc: Global, id: [u8; 16]) -> FileRecord {
+fn record(rt: &(impl Abort + AllocGlobal), id: &[u8; 16]) -> FileRecord {
     FileRecord {
-        id,
+        id: *id,
         digest: [0; 16],
         digest_16k: [0; 16],
         size: 0,
-        name: String::new(alloc),
-        pairs: Vec::new(alloc),
+        name: String::new(rt.alloc()),
+        pairs: Vec::new(rt.alloc()),
     }
 }
+
+const DIGEST_OF_A: &[u8; 16] = b"\xe8\xdc\x40\x81\xb1\x34\x34\xb4\x51\x89\xa7\x20\xb7\x7b\x68\x18";
+
+const PAIRS_OF_A: &[([u8; 16], u32)] = &[
+    (
+        *b"\xe2\xfc\x71\x4c\x47\x27\xee\x93\x95\xf3\x24\xcd\x2e\x7f\x33\x1f",
+        0xed82cd11,
+    ),
+    (
+        *b"\x1f\x76\x90\xeb\xdd\x9b\x4c\xaf\x8f\xab\x49\xca\x17\x57\xbf\x27",
+        0x08337bb5,
+    ),
+];
 
 // The record of the file `a`.
-fn record_of_a(alloc: Global) -> Result<FileRecord, AllocError> {
-    let whole = *b"\xe8\xdc\x40\x81\xb1\x34\x34\xb4\x51\x89\xa7\x20\xb7\x7b\x68\x18";
-    let first = *b"\xe2\xfc\x71\x4c\x47\x27\xee\x93\x95\xf3\x24\xcd\x2e\x7f\x33\x1f";
-    let second = *b"\x1f\x76\x90\xeb\xdd\x9b\x4c\xaf\x8f\xab\x49\xca\x17\x57\xbf\x27";
-    Ok(FileRecord {
-        id: file_id(&whole, 8, "a"),
-        digest: whole,
-        digest_16k: whole,
+fn record_of_a(rt: &(impl Abort + AllocGlobal)) -> FileRecord {
+    FileRecord {
+        id: file_id(DIGEST_OF_A, 8, "a"),
+        digest: *DIGEST_OF_A,
+        digest_16k: *DIGEST_OF_A,
         size: 8,
-        name: String::from_str(alloc, "a")?,
-        pairs: Vec::from_slice(alloc, &[(first, 0xed82cd11), (second, 0x08337bb5)])?,
-    })
+        name: String::from_str(rt.alloc(), "a").expect(rt, "memory"),
+        pairs: Vec::from_slice(rt.alloc(), PAIRS_OF_A).expect(rt, "memory"),
+    }
 }
 
-#[test]
-fn packets_of_a_volume(rt: HostRuntime) -> Result<(), Fail> {
-    let text = volume(rt.alloc())?;
-    assert!(rt; text.len() == 492 && has_kinds(rt.alloc(), &text, &KINDS)?);
-    Ok(())
-}
+// Texts, the bytes that are left of them, one of which one bit is flipped, and the kinds of the packets there.
+type Kinds = (
+    &'static [&'static str],
+    usize,
+    Option<usize>,
+    &'static [Kind],
+);
 
-#[test]
-fn packets_of_a_volume_cut_short(rt: HostRuntime) -> Result<(), Fail> {
-    let mut text = volume(rt.alloc())?;
-    text.pop();
-    assert!(rt; has_kinds(rt.alloc(), &text, &KINDS_OF_INDEX)?);
-    Ok(())
-}
-
-#[test]
-fn packets_of_a_volume_with_one_bit_flipped(rt: HostRuntime) -> Result<(), Fail> {
-    let mut text = volume(rt.alloc())?;
+const KINDS: &[Kinds] = &[
+    // A volume with one recovery slice, and one cut short.
+    (
+        &[INDEX, RECOVERY_0],
+        492,
+        None,
+        &[
+            Kind::Main,
+            Kind::FileDesc,
+            Kind::Ifsc,
+            Kind::Creator,
+            Kind::Recovery,
+        ],
+    ),
+    (
+        &[INDEX, RECOVERY_0],
+        491,
+        None,
+        &[Kind::Main, Kind::FileDesc, Kind::Ifsc, Kind::Creator],
+    ),
     // The first byte of the Creator's body.
-    if let Some(byte) = text.get_mut(400) {
+    (
+        &[INDEX, RECOVERY_0],
+        492,
+        Some(400),
+        &[Kind::Main, Kind::FileDesc, Kind::Ifsc, Kind::Recovery],
+    ),
+    (
+        &[FOX_INDEX],
+        464,
+        None,
+        &[Kind::Main, Kind::FileDesc, Kind::Ifsc, Kind::Creator],
+    ),
+    (
+        &[FOX_VOLUME],
+        992,
+        None,
+        &[
+            Kind::Recovery,
+            Kind::Main,
+            Kind::FileDesc,
+            Kind::Ifsc,
+            Kind::Recovery,
+            Kind::Main,
+            Kind::FileDesc,
+            Kind::Ifsc,
+            Kind::Creator,
+        ],
+    ),
+];
+
+// The bytes of a row.
+fn altered(rt: &(impl Abort + AllocGlobal), row: &Kinds) -> Vec<u8> {
+    let mut text = decoded(rt, row.0);
+    text.truncate(row.1);
+    if let Some(at) = row.2
+        && let Some(byte) = text.get_mut(at)
+    {
         *byte ^= 1;
     }
-    assert!(rt; has_kinds(rt.alloc(), &text, &KINDS_WITHOUT_CREATOR)?);
-    Ok(())
+    text
 }
 
-// The index of a set of these files, with slices of 4 bytes, or None where they are too many.
-fn written_index(alloc: Global, files: &[FileRecord]) -> Result<Option<Vec<u8>>, AllocError> {
-    if files.len() > 32768 {
-        return Ok(None);
-    }
-    let id = main_id(4, files);
-    let mut text = Vec::new(alloc);
-    append_main(alloc, &mut text, 4, files)?;
-    for file in files {
-        append_desc(alloc, &mut text, &id, file)?;
-        append_ifsc(alloc, &mut text, &id, file)?;
-    }
-    append_creator(alloc, &mut text, &id)?;
-    Ok(Some(text))
+fn has_kinds(rt: &(impl Abort + AllocGlobal), row: &Kinds) -> bool {
+    let text = altered(rt, row);
+    text.len() == row.1 && kinds_of(rt, &text).as_slice() == row.3
 }
 
 #[test]
-fn index_is_written(rt: HostRuntime) -> Result<(), Fail> {
-    let files = [record_of_a(rt.alloc())?];
-    let Some(text) = written_index(rt.alloc(), &files)? else {
-        panic!(rt; "no index");
-    };
-    assert!(rt; text == index(rt.alloc())?);
-    assert!(rt; text.len() == 420);
-    Ok(())
+fn kinds_of_packets(rt: HostRuntime) {
+    for (k, row) in KINDS.iter().enumerate() {
+        assert!(rt; has_kinds(&rt, row), "row {k}");
+    }
 }
 
-// Behind the index the recovery slice of exponent 0.
-fn first_volume(alloc: Global, index: Vec<u8>, id: &[u8; 16]) -> Result<Vec<u8>, AllocError> {
-    let mut text = index;
-    let slices = vec![in alloc; Vec::from_slice(alloc, b"\x04\x04\x04\x0c")?]?;
-    append_recoveries(alloc, &mut text, id, 0, &slices)?;
-    Ok(text)
+fn add_creator(rt: &(impl Abort + AllocGlobal), out: &mut Vec<u8>, id: &[u8; 16]) {
+    append_creator(rt.alloc(), out, id).expect(rt, "memory");
 }
 
-// Behind the index those of exponents 1 and 2.
-fn second_volume(alloc: Global, index: Vec<u8>, id: &[u8; 16]) -> Result<Vec<u8>, AllocError> {
-    let mut text = index;
-    let first = Vec::from_slice(alloc, b"\x5d\x4d\x51\x79")?;
-    let second = Vec::from_slice(alloc, b"\xe5\x9f\xcd\x67")?;
-    let slices = vec![in alloc; first, second]?;
-    append_recoveries(alloc, &mut text, id, 1, &slices)?;
-    Ok(text)
+// The index of a set of this file, with slices of 4 bytes.
+fn written_index(rt: &(impl Abort + AllocGlobal), file: &FileRecord) -> Vec<u8> {
+    let id = id_of(4, file);
+    let mut text = Vec::new(rt.alloc());
+    add_main(rt, &mut text, 4, file);
+    add_description(rt, &mut text, &id, file);
+    add_checksums(rt, &mut text, &id, file);
+    add_creator(rt, &mut text, &id);
+    text
 }
+
+fn add_recoveries(
+    rt: &(impl Abort + AllocGlobal),
+    out: &mut Vec<u8>,
+    id: &[u8; 16],
+    first: u32,
+    slices: &[Vec<u8>],
+)
+    requires { first + length slices.now ≤ 65536 }
+{
+    append_recoveries(rt.alloc(), out, id, first, slices).expect(rt, "memory");
+}
+
+// These texts, each as a list of its own.
+fn lists_of(rt: &(impl Abort + AllocGlobal), texts: &[&[u8]]) -> Vec<Vec<u8>> {
+    let mut lists = Vec::new(rt.alloc());
+    for text in texts {
+        lists
+            .push(text.to_vec(rt.alloc()).expect(rt, "memory"))
+            .expect(rt, "memory");
+    }
+    lists
+}
+
+// Behind the index of a set of this file the recovery slices from an exponent on.
+fn written_volume(
+    rt: &(impl Abort + AllocGlobal),
+    file: &FileRecord,
+    first: u32,
+    slices: &[&[u8]],
+) -> Vec<u8> {
+    let mut text = written_index(rt, file);
+    let lists = lists_of(rt, slices);
+    assert!(rt; first < 65536 && lists.len() <= 65536 - first as usize);
+    add_recoveries(rt, &mut text, &id_of(4, file), first, &lists);
+    text
+}
+
+// An exponent, recovery slices from it on, the volume with these, and its length.
+const VOLUMES: &[(u32, &[&[u8]], &[&str], usize)] = &[
+    (0, &[], &[INDEX], 420),
+    (0, &[b"\x04\x04\x04\x0c"], &[INDEX, RECOVERY_0], 492),
+    (
+        1,
+        &[b"\x5d\x4d\x51\x79", b"\xe5\x9f\xcd\x67"],
+        &[INDEX, RECOVERY_1, RECOVERY_2],
+        564,
+    ),
+];
 
 #[test]
-fn volumes_are_written(rt: HostRuntime) -> Result<(), Fail> {
-    let alloc = rt.alloc();
-    let id = main_id(4, &[record_of_a(alloc)?]);
-    let first = first_volume(alloc, index(alloc)?, &id)?;
-    assert!(rt; first == volume_of(alloc, &[0])? && first.len() == 492);
-    let second = second_volume(alloc, index(alloc)?, &id)?;
-    assert!(rt; second == volume_of(alloc, &[1, 2])? && second.len() == 564);
-    Ok(())
+fn volumes_are_written(rt: HostRuntime) {
+    let file = record_of_a(&rt);
+    for (first, slices, texts, len) in VOLUMES {
+        let volume = written_volume(&rt, &file, *first, slices);
+        assert!(rt;
+            volume.len() == *len && volume == decoded(&rt, texts),
+            "from {first}"
+        );
+    }
 }
 
 // Whether a packet, if it is the Main, says that the set has this file alone.
@@ -313,47 +357,60 @@ fn agrees(packet: &Packet<'_>, file: &FileRecord) -> bool {
         && recovery_agrees(packet)
 }
 
-#[test]
-fn bodies_of_a_volume(rt: HostRuntime) -> Result<(), Fail> {
-    let text = volume(rt.alloc())?;
-    let file = record_of_a(rt.alloc())?;
-    for packet in Packets::new(&text) {
-        assert!(rt; agrees(&packet, &file));
+fn all_agree(text: &[u8], file: &FileRecord) -> bool {
+    for packet in Packets::new(text) {
+        if !agrees(&packet, file) {
+            return false;
+        }
     }
-    Ok(())
+    true
+}
+
+#[test]
+fn bodies_of_a_volume(rt: HostRuntime) {
+    assert!(rt; all_agree(&decoded(&rt, &[INDEX, RECOVERY_0]), &record_of_a(&rt)));
 }
 
 // The recovery slices of exponents 1 and 0, between heads of no packet that claim this length.
-fn slices_between_heads(alloc: Global, claim: u64) -> Result<Vec<u8>, FromHexError> {
-    let head = false_head(alloc, claim)?;
-    let mut text = Vec::from_slice(alloc, b"PAR2\0PKPAR2\0PKT")?;
-    for exponent in [1, 0] {
-        text.extend_from_slice(&head)?;
-        text.extend_from_slice(&recovery(alloc, exponent)?)?;
-    }
-    text.extend_from_slice(&head)?;
-    Ok(text)
+fn slices_between_heads(rt: &(impl Abort + AllocGlobal), claim: u64) -> Vec<u8> {
+    let head = false_head(rt, claim);
+    [
+        b"PAR2\0PKPAR2\0PKT".as_slice(),
+        &head,
+        &decoded(rt, &[RECOVERY_1]),
+        &head,
+        &decoded(rt, &[RECOVERY_0]),
+        &head,
+    ]
+    .concat(rt.alloc())
+    .expect(rt, "memory")
 }
 
 #[test]
-fn packets_between_other_bytes(rt: HostRuntime) -> Result<(), Fail> {
+fn packets_between_other_bytes(rt: HostRuntime) {
     for claim in [68, 144, 1_000_000, u64::MAX - 3] {
-        let text = slices_between_heads(rt.alloc(), claim)?;
-        assert!(rt; has_exponents(rt.alloc(), &text, &[1, 0])?, "at {claim}");
+        assert!(rt;
+            has_exponents(&rt, &slices_between_heads(&rt, claim), &[1, 0]),
+            "at {claim}"
+        );
     }
-    Ok(())
+}
+
+// The recovery slice of exponent 2, and a head behind it.
+fn head_at_the_end(rt: &(impl Abort + AllocGlobal)) -> Vec<u8> {
+    [decoded(rt, &[RECOVERY_2]).as_slice(), &false_head(rt, 64)]
+        .concat(rt.alloc())
+        .expect(rt, "memory")
 }
 
 #[test]
-fn heads_at_the_end(rt: HostRuntime) -> Result<(), Fail> {
-    let mut text = recovery(rt.alloc(), 2)?;
-    text.extend_from_slice(&false_head(rt.alloc(), 64)?)?;
+fn heads_at_the_end(rt: HostRuntime) {
+    let mut text = head_at_the_end(&rt);
     // The last head is cut at each place.
     for _ in 0..64 {
-        assert!(rt; has_exponents(rt.alloc(), &text, &[2])?);
+        assert!(rt; has_exponents(&rt, &text, &[2]));
         text.pop();
     }
-    Ok(())
 }
 
 // How many files a Main of this body lists, or None where it is none.
@@ -377,16 +434,16 @@ fn main_without_room_for_its_claim(rt: HostRuntime) {
     }
 }
 
-fn read_by(alloc: Global, len: usize) -> Result<[bool; 4], AllocError> {
-    let mut zeros = Vec::new(alloc);
-    zeros.resize(len, 0)?;
-    Ok([
-        read_main(&packet(Kind::Main, &zeros)).is_some(),
-        read_desc(&packet(Kind::FileDesc, &zeros)).is_some(),
-        read_ifsc(&packet(Kind::Ifsc, &zeros)).is_some(),
-        read_recovery(&packet(Kind::Recovery, &zeros)).is_some(),
-    ])
+fn read_by(body: &[u8]) -> [bool; 4] {
+    [
+        read_main(&packet(Kind::Main, body)).is_some(),
+        read_desc(&packet(Kind::FileDesc, body)).is_some(),
+        read_ifsc(&packet(Kind::Ifsc, body)).is_some(),
+        read_recovery(&packet(Kind::Recovery, body)).is_some(),
+    ]
 }
+
+const ZEROS: &[u8; 76] = &[0; 76];
 
 // Which of the four readers take a body of zeros, by its length.
 const READERS: &[(usize, [bool; 4])] = &[
@@ -404,11 +461,13 @@ const READERS: &[(usize, [bool; 4])] = &[
 ];
 
 #[test]
-fn bodies_of_each_length(rt: HostRuntime) -> Result<(), Fail> {
+fn bodies_of_each_length(rt: HostRuntime) {
     for (len, read) in READERS {
-        assert!(rt; read_by(rt.alloc(), *len)? == *read, "at {len}");
+        assert!(rt;
+            ZEROS.get(..*len).is_some_and(|body| read_by(body) == *read),
+            "at {len}"
+        );
     }
-    Ok(())
 }
 
 // Whether one of the four readers takes the packet.
@@ -425,40 +484,43 @@ fn packets_of_other_kinds(rt: HostRuntime) {
     assert!(rt; !is_read(&packet(kind, b"\x04\0\0\0\0\0\0\0\0\0\0\0")));
 }
 
-// What the sorting of records with these identifiers answers, and their identifiers behind it.
-fn sorted(
-    alloc: Global,
-    ids: &[[u8; 16]],
-) -> Result<(Result<(), DuplicateId>, Vec<[u8; 16]>), AllocError> {
-    let mut files = Vec::new(alloc);
+// Records with these identifiers.
+fn records(rt: &(impl Abort + AllocGlobal), ids: &[[u8; 16]]) -> Vec<FileRecord> {
+    let mut files = Vec::new(rt.alloc());
     for id in ids {
-        files.push(record(alloc, *id))?;
+        files.push(record(rt, id)).expect(rt, "memory");
     }
-    let answer = sort_ids(&mut files);
-    Ok((answer, files.iter().map(|file| file.id).collect(alloc)?))
+    files
 }
 
-const HIGH: [u8; 16] = *b"\0\0\0\0\0\0\0\0\0\0\0\0\0\0\0\x01";
+fn sorted(files: &mut [FileRecord]) -> Result<(), DuplicateId> {
+    sort_ids(files)
+}
 
-const LOW: [u8; 16] = *b"\xff\0\0\0\0\0\0\0\0\0\0\0\0\0\0\0";
+const HIGH: &[u8; 16] = b"\0\0\0\0\0\0\0\0\0\0\0\0\0\0\0\x01";
 
-#[test]
-fn identifiers_rise_as_little_endian_numbers(rt: HostRuntime) -> Result<(), Fail> {
-    let (answer, ids) = sorted(rt.alloc(), &[HIGH, LOW])?;
-    assert!(rt; answer == Ok(()) && ids.as_slice() == [LOW, HIGH].as_slice());
-    Ok(())
+const LOW: &[u8; 16] = b"\xff\0\0\0\0\0\0\0\0\0\0\0\0\0\0\0";
+
+fn have_ids(files: &[FileRecord], ids: &[&[u8; 16]]) -> bool {
+    for (file, id) in files.iter().zip(ids.iter()) {
+        if file.id != **id {
+            return false;
+        }
+    }
+    files.len() == ids.len()
 }
 
 #[test]
-fn no_records_are_sorted(rt: HostRuntime) {
-    assert!(rt; sort_ids(&mut []) == Ok(()));
+fn identifiers_rise_as_little_endian_numbers(rt: HostRuntime) {
+    let mut files = records(&rt, &[*HIGH, *LOW]);
+    assert!(rt; sorted(&mut files) == Ok(()) && have_ids(&files, &[LOW, HIGH]));
 }
 
 #[test]
-fn two_records_with_one_identifier(rt: HostRuntime) -> Result<(), Fail> {
-    let (answer, ids) = sorted(rt.alloc(), &[[9; 16], [1; 16], [9; 16]])?;
-    assert!(rt; answer == Err(DuplicateId) && ids.len() == 3);
-    Ok(())
+fn none_and_two_records_with_one_identifier(rt: HostRuntime) {
+    assert!(rt; sorted(&mut []) == Ok(()));
+    let mut files = records(&rt, &[[9; 16], [1; 16], [9; 16]]);
+    assert!(rt; sorted(&mut files) == Err(DuplicateId) && files.len() == 3);
 }
 
 // Whether a packet says what the index of par2cmdline must say.
@@ -478,17 +540,11 @@ fn is_fox(desc: &DescView<'_>) -> bool {
 }
 
 #[test]
-fn index_of_par2cmdline(rt: HostRuntime) -> Result<(), Fail> {
-    let text = fox_index(rt.alloc())?;
-    assert!(rt; has_kinds(rt.alloc(), &text, &KINDS_OF_INDEX)?);
-    assert!(rt; Packets::new(&text).all(|packet| is_of_fox(&packet)));
-    Ok(())
+fn index_of_par2cmdline(rt: HostRuntime) {
+    assert!(rt; Packets::new(&decoded(&rt, &[FOX_INDEX])).all(|packet| is_of_fox(&packet)));
 }
 
 #[test]
-fn volume_of_par2cmdline(rt: HostRuntime) -> Result<(), Fail> {
-    let text = fox_volume(rt.alloc())?;
-    assert!(rt; kinds_of(rt.alloc(), &text)?.len() == 9);
-    assert!(rt; has_exponents(rt.alloc(), &text, &[0, 1])?);
-    Ok(())
+fn volume_of_par2cmdline(rt: HostRuntime) {
+    assert!(rt; has_exponents(&rt, &decoded(&rt, &[FOX_VOLUME]), &[0, 1]));
 }

@@ -3,7 +3,7 @@
 ghost use Rattle.std.specs.Prelude.{◌≡◌, ◌<◌};
 
 use crate::plain_field::{power, product};
-use std::alloc::{AllocError, Global};
+use std::process::Abort;
 
 /// What an equation multiplies each of four slices by, and the two words of its right side.
 pub(super) type Equation = [u16; 6];
@@ -45,17 +45,17 @@ fn clear(equations: &mut [Equation], pivot: &Equation, column: usize)
 
 /// As many equations as there are independent ones. Where there are four, equation k says slice k.
 pub(super) fn eliminated(
-    alloc: Global,
+    rt: &(impl Abort + AllocGlobal),
     equations: Vec<Equation>,
-) -> Result<Vec<Equation>, AllocError> {
+) -> Vec<Equation> {
     let mut rest = equations;
-    let mut reduced = Vec::new(alloc);
+    let mut reduced = Vec::new(rt.alloc());
     for column in 0..4 {
         if let Some(pivot) = take_pivot(&mut rest, column) {
             clear(rest.as_mut_slice(), &pivot, column);
             clear(reduced.as_mut_slice(), &pivot, column);
-            reduced.push(pivot)?;
+            reduced.push(pivot).expect(rt, "memory");
         }
     }
-    Ok(reduced)
+    reduced
 }

@@ -1,23 +1,17 @@
 //! What a set says of a file.
 
+ghost use Rattle.std.specs.Prelude.{◌≤◌};
+
 use md5::{Digest, Md5};
 use par2_packets::{FileRecord, Pair};
 use par2_recovery::file_record_by_md5;
-use std::alloc::{AllocError, Global};
-use std::test::Fail;
+use std::process::Abort;
 
-// The record of a file, for slices of at least one byte.
-fn record_of(
-    alloc: Global,
-    name: &str,
-    bytes: &[u8],
-    s: u64,
-) -> Result<Option<FileRecord>, AllocError> {
-    if s == 0 {
-        return Ok(None);
-    }
-    let digest = Md5::digest(bytes);
-    Ok(Some(file_record_by_md5(alloc, name, bytes, digest, s)?))
+// The record of a file.
+fn record_of(rt: &(impl Abort + AllocGlobal), name: &str, bytes: &[u8], s: u64) -> FileRecord
+    requires { 1 ≤ s }
+{
+    file_record_by_md5(rt.alloc(), name, bytes, Md5::digest(bytes), s).expect(rt, "memory")
 }
 
 // a digest as its hexadecimal digits spell it
@@ -56,21 +50,20 @@ fn are_pairs(pairs: &[Pair]) -> bool {
 }
 
 #[test]
-fn record_of_a_padded_file(rt: HostRuntime) -> Result<(), Fail> {
-    let record = record_of(rt.alloc(), "a", b"abcde", 4)?;
-    assert!(rt; matches!(&record, Some(it) if is_padded(it) && are_pairs(&it.pairs)));
-    Ok(())
+fn record_of_a_padded_file(rt: HostRuntime) {
+    let record = record_of(&rt, "a", b"abcde", 4);
+    assert!(rt; is_padded(&record) && are_pairs(&record.pairs));
 }
 
 // So many bytes, each 7 more than the one before.
-fn rising_bytes(alloc: Global, len: usize) -> Result<Vec<u8>, AllocError> {
-    let mut bytes = vec![in alloc; 0u8; len]?;
+fn rising_bytes(rt: &(impl Abort + AllocGlobal), len: usize) -> Vec<u8> {
+    let mut bytes = vec![in rt.alloc(); 0u8; len].expect(rt, "memory");
     let mut next = 0u8;
     for byte in bytes.iter_mut() {
         *byte = next;
         next = next.wrapping_add(7);
     }
-    Ok(bytes)
+    bytes
 }
 
 // Whether the record is that of 20000 rising bytes, with slices of 16000 bytes.
@@ -81,9 +74,6 @@ fn is_long(record: &FileRecord) -> bool {
 }
 
 #[test]
-fn record_of_a_long_file(rt: HostRuntime) -> Result<(), Fail> {
-    let bytes = rising_bytes(rt.alloc(), 20000)?;
-    let record = record_of(rt.alloc(), "long", &bytes, 16000)?;
-    assert!(rt; matches!(&record, Some(it) if is_long(it)));
-    Ok(())
+fn record_of_a_long_file(rt: HostRuntime) {
+    assert!(rt; is_long(&record_of(&rt, "long", &rising_bytes(&rt, 20000), 16000)));
 }

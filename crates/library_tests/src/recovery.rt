@@ -1,5 +1,7 @@
 //! Worked examples of recovery slices and of rebuilding.
 
+use crate::calls::are_texts;
+use crate::field::field;
 use par2_folder::Folder;
 use par2_gf16::Gf;
 use par2_packets::{DuplicateId, FileRecord};
@@ -7,30 +9,49 @@ use par2_recovery::{RebuildFault, SetRecord, Survivors, rank, recovery_slices_ov
 use recovery_calls::{
     folder_of, input_slices_of, lost_rebuilt, recovery_slice_of, recovery_slices_of, set_of,
 };
-use std::alloc::{AllocError, Global};
-use std::test::Fail;
+use std::process::Abort;
+
+fn folder_with(rt: &(impl Abort + AllocGlobal), files: &[(&str, &[u8])]) -> Folder {
+    folder_of(rt.alloc(), files).expect(rt, "memory")
+}
+
+// What a set of slices of `s` bytes says of these files, or that two have one name.
+fn read_set(
+    rt: &(impl Abort + AllocGlobal),
+    folder: &Folder,
+    names: &[&str],
+    s: u64,
+) -> Result<SetRecord, DuplicateId> {
+    let set = set_of(rt.alloc(), folder, names, s).expect(rt, "memory");
+    set.expect(rt, "names and a size")
+}
+
+fn set_with(rt: &(impl Abort + AllocGlobal), folder: &Folder, names: &[&str], s: u64) -> SetRecord {
+    read_set(rt, folder, names, s).expect(rt, "a record")
+}
+
+// The recovery slices of so many exponents.
+fn slices_from(
+    rt: &(impl Abort + AllocGlobal),
+    set: &SetRecord,
+    folder: &Folder,
+    first: u32,
+    count: u32,
+) -> Vec<Vec<u8>> {
+    let slices = recovery_slices_of(rt.alloc(), &field(rt), set, folder, first, count);
+    slices.expect(rt, "memory").expect(rt, "recovery slices")
+}
 
 // The recovery slices of one file, which is called `a`.
 pub(super) fn recovery_of_a(
-    alloc: Global,
+    rt: &(impl Abort + AllocGlobal),
     bytes: &[u8],
     s: u64,
     first: u32,
     count: u32,
-) -> Result<Option<Vec<Vec<u8>>>, AllocError> {
-    let folder = folder_of(alloc, &[("a", bytes)])?;
-    match set_of(alloc, &folder, &["a"], s)? {
-        Some(Ok(set)) => recovery_slices_of(alloc, &Gf::new(alloc)?, &set, &folder, first, count),
-        _ => Ok(None),
-    }
-}
-
-fn are(texts: &[Vec<u8>], wanted: &[&[u8]]) -> bool {
-    texts.len() == wanted.len()
-        && texts
-            .iter()
-            .zip(wanted.iter())
-            .all(|(text, other)| text.as_slice() == *other)
+) -> Vec<Vec<u8>> {
+    let folder = folder_with(rt, &[("a", bytes)]);
+    slices_from(rt, &set_with(rt, &folder, &["a"], s), &folder, first, count)
 }
 
 // The bytes of a file, the size of a slice, and the recovery slices from a number on, so many.
@@ -69,20 +90,16 @@ const RECOVERED: &[Recovered] = &[
 ];
 
 // Whether the file has these recovery slices.
-fn is_recovered_as(alloc: Global, row: &Recovered) -> Result<bool, AllocError> {
+fn is_recovered_as(rt: &(impl Abort + AllocGlobal), row: &Recovered) -> bool {
     let (bytes, s, (first, count), wanted) = *row;
-    Ok(match &recovery_of_a(alloc, bytes, s, first, count)? {
-        Some(texts) => are(texts, wanted),
-        None => false,
-    })
+    are_texts(&recovery_of_a(rt, bytes, s, first, count), wanted)
 }
 
 #[test]
-fn recovery_slices_of_a_file(rt: HostRuntime) -> Result<(), Fail> {
+fn recovery_slices_of_a_file(rt: HostRuntime) {
     for (k, row) in RECOVERED.iter().enumerate() {
-        assert!(rt; is_recovered_as(rt.alloc(), row)?, "row {k}");
+        assert!(rt; is_recovered_as(&rt, row), "row {k}");
     }
-    Ok(())
 }
 
 // Slices of four bytes of which some are lost, recovery slices, and the lost ones, or how many are lost and how many
@@ -133,154 +150,139 @@ const REBUILT: &[Rebuilt] = &[
 
 // Whether the answer is what the row says.
 fn is_as_told(
-    answer: &Option<Result<Vec<Vec<u8>>, RebuildFault>>,
+    answer: &Result<Vec<Vec<u8>>, RebuildFault>,
     wanted: Result<&[&[u8]], (usize, usize)>,
 ) -> bool {
     match (answer, wanted) {
-        (Some(Ok(texts)), Ok(told)) => are(texts, told),
-        (Some(Err(fault)), Err((missing, rank))) => {
+        (Ok(texts), Ok(told)) => are_texts(texts, told),
+        (Err(fault), Err((missing, rank))) => {
             *fault == RebuildFault::NotRepairable { missing, rank }
         }
         _ => false,
     }
 }
 
-fn is_rebuilt_as(alloc: Global, row: &Rebuilt) -> Result<bool, AllocError> {
-    let survivors = Survivors {
+fn survivors_of<'a>(
+    rt: &(impl Abort + AllocGlobal),
+    known: &[Option<&'a [u8]>],
+    recovery: &[(u32, &'a [u8])],
+) -> Survivors<'a> {
+    Survivors {
         slice_size: 4,
-        known: Vec::from_slice(alloc, row.0)?,
-        recovery: Vec::from_slice(alloc, row.1)?,
-    };
-    Ok(is_as_told(&lost_rebuilt(alloc, &survivors), row.2))
+        known: Vec::from_slice(rt.alloc(), known).expect(rt, "memory"),
+        recovery: Vec::from_slice(rt.alloc(), recovery).expect(rt, "memory"),
+    }
+}
+
+fn is_rebuilt_as(rt: &(impl Abort + AllocGlobal), row: &Rebuilt) -> bool {
+    let answer = lost_rebuilt(rt.alloc(), &survivors_of(rt, row.0, row.1));
+    is_as_told(&answer.expect(rt, "fitting survivors"), row.2)
 }
 
 #[test]
-fn lost_slices_come_back(rt: HostRuntime) -> Result<(), Fail> {
+fn lost_slices_come_back(rt: HostRuntime) {
     for (k, row) in REBUILT.iter().enumerate() {
-        assert!(rt; is_rebuilt_as(rt.alloc(), row)?, "row {k}");
+        assert!(rt; is_rebuilt_as(&rt, row), "row {k}");
     }
-    Ok(())
 }
 
 // For the reasons that stand above.
 #[test]
-fn exponents_that_are_kept(rt: HostRuntime) -> Result<(), Fail> {
-    let gf = Gf::new(rt.alloc())?;
-    assert!(rt; rank(rt.alloc(), &gf, &[0, 2], &[0, 21845])? == 1);
-    assert!(rt; rank(rt.alloc(), &gf, &[0, 2], &[0, 21845, 21846])? == 2);
-    assert!(rt; rank(rt.alloc(), &gf, &[0, 1], &[0, 65535])? == 1);
-    assert!(rt; rank(rt.alloc(), &gf, &[], &[0, 1])? == 0);
-    Ok(())
+fn exponents_that_are_kept(rt: HostRuntime) {
+    let gf = field(&rt);
+    assert!(rt; rank(rt.alloc(), &gf, &[0, 2], &[0, 21845]).expect(&rt, "memory") == 1);
+    assert!(rt; rank(rt.alloc(), &gf, &[0, 2], &[0, 21845, 21846]).expect(&rt, "memory") == 2);
+    assert!(rt; rank(rt.alloc(), &gf, &[0, 1], &[0, 65535]).expect(&rt, "memory") == 1);
+    assert!(rt; rank(rt.alloc(), &gf, &[], &[0, 1]).expect(&rt, "memory") == 0);
 }
 
 // The files `a` and `b`.
-fn two_files(alloc: Global) -> Result<Folder, AllocError> {
-    folder_of(alloc, &[("a", b"abcde"), ("b", b"fgh")])
+fn two_files(rt: &(impl Abort + AllocGlobal)) -> Folder {
+    folder_with(rt, &[("a", b"abcde"), ("b", b"fgh")])
 }
 
 // Whether the files of the set have these slices.
 fn has_slices(
-    alloc: Global,
+    rt: &(impl Abort + AllocGlobal),
     set: &SetRecord,
     folder: &Folder,
     wanted: &[&[u8]],
-) -> Result<bool, AllocError> {
-    Ok(match &input_slices_of(alloc, set, folder)? {
-        Some(slices) => slices.as_slice() == wanted,
-        None => false,
-    })
-}
-
-#[test]
-fn slices_of_two_files(rt: HostRuntime) -> Result<(), Fail> {
-    let folder = two_files(rt.alloc())?;
-    let Some(Ok(set)) = set_of(rt.alloc(), &folder, &["b", "a"], 4)? else {
-        panic!(rt; "no record");
-    };
-    assert!(rt; has_slices(rt.alloc(), &set, &folder, &[b"fgh", b"abcd", b"e"])?);
-    Ok(())
-}
-
-#[test]
-fn recovery_slice_over_texts(rt: HostRuntime) -> Result<(), Fail> {
-    let gf = Gf::new(rt.alloc())?;
-    let sums = recovery_slices_over(rt.alloc(), &gf, &[b"abcd", b"e"], 4, 0, 1)?;
-    assert!(rt; are(&sums, &[b"\x04\x62\x63\x64"]));
-    Ok(())
+) -> bool {
+    let slices = input_slices_of(rt.alloc(), set, folder).expect(rt, "memory");
+    slices.expect(rt, "slices").as_slice() == wanted
 }
 
 fn is_file(file: &FileRecord, name: &str, id: u128) -> bool {
     file.name.as_str() == name && u128::from_be_bytes(file.id) == id
 }
 
-#[test]
-fn record_of_two_files(rt: HostRuntime) -> Result<(), Fail> {
-    let folder = two_files(rt.alloc())?;
-    let Some(Ok(set)) = set_of(rt.alloc(), &folder, &["b", "a"], 4)? else {
-        panic!(rt; "no record");
-    };
-    assert!(rt; set.slice_size == 4);
-    let [first, second] = set.files.as_slice() else {
-        panic!(rt; "not two files");
-    };
-    assert!(rt; is_file(first, "b", 0x93f8_166a_2c32_16c6_5033_b529_d5d0_065a));
-    assert!(rt; is_file(second, "a", 0x0536_3d63_a48f_2a62_9008_5369_f9b6_5ce9));
-    Ok(())
+// Whether it is the record of the two files.
+fn is_of_two(set: &SetRecord) -> bool {
+    match set.files.as_slice() {
+        [first, second] => {
+            is_file(first, "b", 0x93f8_166a_2c32_16c6_5033_b529_d5d0_065a)
+                && is_file(second, "a", 0x0536_3d63_a48f_2a62_9008_5369_f9b6_5ce9)
+        }
+        _ => false,
+    }
 }
 
 #[test]
-fn one_name_twice(rt: HostRuntime) -> Result<(), Fail> {
-    let folder = two_files(rt.alloc())?;
-    let Some(Err(fault)) = set_of(rt.alloc(), &folder, &["a", "b", "a"], 4)? else {
-        panic!(rt; "a record");
-    };
-    assert!(rt; fault == DuplicateId);
-    Ok(())
+fn record_and_slices_of_two_files(rt: HostRuntime) {
+    let folder = two_files(&rt);
+    let set = set_with(&rt, &folder, &["b", "a"], 4);
+    assert!(rt; set.slice_size == 4 && is_of_two(&set));
+    assert!(rt; has_slices(&rt, &set, &folder, &[b"fgh", b"abcd", b"e"]));
 }
 
-// The first exponent from 5 on whose slice, of six bytes, is another where it is made alone.
-fn first_other(
-    alloc: Global,
+fn slices_over(rt: &(impl Abort + AllocGlobal), texts: &[&[u8]; 2]) -> Vec<Vec<u8>> {
+    recovery_slices_over(rt.alloc(), &field(rt), texts, 4, 0, 1).expect(rt, "memory")
+}
+
+#[test]
+fn recovery_slice_over_texts(rt: HostRuntime) {
+    assert!(rt; are_texts(&slices_over(&rt, &[b"abcd", b"e"]), &[b"\x04\x62\x63\x64"]));
+}
+
+#[test]
+fn one_name_twice(rt: HostRuntime) {
+    let answer = read_set(&rt, &two_files(&rt), &["a", "b", "a"], 4);
+    assert!(rt; matches!(answer, Err(DuplicateId)));
+}
+
+// The recovery slice of an exponent, made alone.
+fn slice_alone(
+    rt: &(impl Abort + AllocGlobal),
+    gf: &Gf,
+    set: &SetRecord,
+    folder: &Folder,
+    e: u32,
+) -> Vec<u8> {
+    let slice = recovery_slice_of(rt.alloc(), gf, set, folder, e).expect(rt, "memory");
+    slice.expect(rt, "a recovery slice")
+}
+
+// Whether the slices, of six bytes, from exponent 5 on are the same where they are made alone.
+fn are_as_alone(
+    rt: &(impl Abort + AllocGlobal),
     set: &SetRecord,
     folder: &Folder,
     texts: &[Vec<u8>],
-) -> Result<Option<u32>, AllocError> {
-    let gf = Gf::new(alloc)?;
+) -> bool {
+    let gf = field(rt);
     let mut e = 5u32;
     for text in texts {
-        let alone = recovery_slice_of(alloc, &gf, set, folder, e)?;
-        if text.len() != 6 || alone.as_ref() != Some(text) {
-            return Ok(Some(e));
+        if text.len() != 6 || slice_alone(rt, &gf, set, folder, e) != *text {
+            return false;
         }
         e = e.wrapping_add(1);
     }
-    Ok(None)
-}
-
-// The recovery slices of four exponents, from 5 on.
-fn four_slices(
-    alloc: Global,
-    set: &SetRecord,
-    folder: &Folder,
-) -> Result<Option<Vec<Vec<u8>>>, AllocError> {
-    recovery_slices_of(alloc, &Gf::new(alloc)?, set, folder, 5, 4)
-}
-
-// Whether they are made alone as they are made together.
-fn are_as_alone(alloc: Global, set: &SetRecord, folder: &Folder) -> Result<bool, AllocError> {
-    let Some(texts) = four_slices(alloc, set, folder)? else {
-        return Ok(false);
-    };
-    Ok(texts.len() == 4 && first_other(alloc, set, folder, &texts)?.is_none())
+    texts.len() == 4
 }
 
 #[test]
-fn one_by_one(rt: HostRuntime) -> Result<(), Fail> {
-    let files: [(&str, &[u8]); 3] = [("a", b"abcdefghijk"), ("b", b"lm"), ("c", b"")];
-    let folder = folder_of(rt.alloc(), &files)?;
-    let Some(Ok(set)) = set_of(rt.alloc(), &folder, &["a", "b", "c"], 6)? else {
-        panic!(rt; "no record");
-    };
-    assert!(rt; are_as_alone(rt.alloc(), &set, &folder)?);
-    Ok(())
+fn one_by_one(rt: HostRuntime) {
+    let folder = folder_with(&rt, &[("a", b"abcdefghijk"), ("b", b"lm"), ("c", b"")]);
+    let set = set_with(&rt, &folder, &["a", "b", "c"], 6);
+    assert!(rt; are_as_alone(&rt, &set, &folder, &slices_from(&rt, &set, &folder, 5, 4)));
 }

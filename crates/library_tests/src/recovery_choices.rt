@@ -3,14 +3,16 @@
 
 ghost use Rattle.std.specs.Prelude.{◌≡◌, ◌<◌, ◌≤◌};
 
+use crate::field::field;
 use crate::plain_elimination::{Equation, eliminated};
 use crate::plain_field::{power, product};
 use crate::recovery::recovery_of_a;
+use crate::set_packets::add;
 use par2_gf16::Gf;
 use par2_recovery::{RebuildFault, Survivors};
 use recovery_calls::rebuilt;
-use std::alloc::{AllocError, Global};
-use std::test::Fail;
+use std::process::Abort;
+use std::slice::from_ref;
 
 const SLICES: [[u8; 4]; 4] = [
     *b"abcd",
@@ -23,7 +25,7 @@ const SLICES: [[u8; 4]; 4] = [
 const CONSTANTS: [u16; 4] = [2, 4, 16, 128];
 
 // Some of them depend on others, since a constant's power of 65,535 is 1, and 65,535 has the divisors 3, 5, 17 and 257.
-const EXPONENTS: [u32; 31] = [
+const EXPONENTS: &[u32] = &[
     0, 1, 2, 3, 4, 5, 6, 7, 8, 9, 10, 11, 12, 13, 14, 15, 16, 17, 18, 19, 20, 255, 3855, 13107,
     21844, 21845, 21846, 43690, 65280, 65534, 65535,
 ];
@@ -109,149 +111,201 @@ fn is_lost(lost: u8, k: usize) -> bool
 
 // What the plain elimination makes of the known slices and these recovery slices: all slices, or how many equations
 // are independent.
-fn plain_answer(
-    alloc: Global,
-    lost: u8,
-    chosen: &[Recovered],
-) -> Result<Vec<Equation>, AllocError> {
-    let mut equations = Vec::new(alloc);
+fn plain_answer(rt: &(impl Abort + AllocGlobal), lost: u8, chosen: &[Recovered]) -> Vec<Equation> {
+    let mut equations = Vec::new(rt.alloc());
     for k in 0..4 {
         if !is_lost(lost, k) {
-            equations.push(known_equation(k))?;
+            equations.push(known_equation(k)).expect(rt, "memory");
         }
     }
     for one in chosen {
-        equations.push(equation(one.factors, &one.text))?;
+        equations
+            .push(equation(one.factors, &one.text))
+            .expect(rt, "memory");
     }
-    eliminated(alloc, equations)
+    eliminated(rt, equations)
 }
 
 // The lost slices by the plain answer, one behind the other.
-fn plain_texts(alloc: Global, lost: u8, solved: &[Equation]) -> Result<Vec<u8>, AllocError> {
-    let mut texts = Vec::new(alloc);
+fn plain_texts(rt: &(impl Abort + AllocGlobal), lost: u8, solved: &[Equation]) -> Vec<u8> {
+    let mut texts = Vec::new(rt.alloc());
     for (k, equation) in solved.iter().enumerate() {
         if k < 4 && is_lost(lost, k) {
-            texts.extend_from_slice(&bytes([equation[4], equation[5]]))?;
+            add(rt, &mut texts, &bytes([equation[4], equation[5]]));
         }
     }
-    Ok(texts)
+    texts
+}
+
+// The slices that aren't lost.
+fn known_slices(rt: &(impl Abort + AllocGlobal), lost: u8) -> Vec<Option<&'static [u8]>> {
+    let mut known = Vec::new(rt.alloc());
+    for (k, slice) in SLICES.iter().enumerate() {
+        let is_known = k >= 4 || !is_lost(lost, k);
+        known
+            .push(is_known.then_some(slice.as_slice()))
+            .expect(rt, "memory");
+    }
+    known
+}
+
+fn recovery_of<'a>(
+    rt: &(impl Abort + AllocGlobal),
+    chosen: &'a [Recovered],
+) -> Vec<(u32, &'a [u8])> {
+    let mut recovery = Vec::new(rt.alloc());
+    for one in chosen {
+        recovery
+            .push((one.exponent, one.text.as_slice()))
+            .expect(rt, "memory");
+    }
+    recovery
 }
 
 fn our_answer(
-    alloc: Global,
+    rt: &(impl Abort + AllocGlobal),
     gf: &Gf,
     lost: u8,
     chosen: &[Recovered],
-) -> Result<Option<Result<Vec<Vec<u8>>, RebuildFault>>, AllocError> {
-    let mut known = Vec::new(alloc);
-    for k in 0..4 {
-        known.push(if is_lost(lost, k) {
-            None
-        } else {
-            Some(SLICES[k].as_slice())
-        })?;
-    }
-    let mut recovery = Vec::new(alloc);
-    for one in chosen {
-        recovery.push((one.exponent, one.text.as_slice()))?;
-    }
+) -> Result<Vec<Vec<u8>>, RebuildFault> {
     let survivors = Survivors {
         slice_size: 4,
-        known,
-        recovery,
+        known: known_slices(rt, lost),
+        recovery: recovery_of(rt, chosen),
     };
-    Ok(rebuilt(alloc, gf, &survivors))
+    rebuilt(rt.alloc(), gf, &survivors).expect(rt, "fitting survivors")
 }
 
-// Whether both answer the same, and whether it is the lost slices.
+// Whether the texts, one behind the other, are those of the plain answer.
+fn are_plain(
+    rt: &(impl Abort + AllocGlobal),
+    texts: &[Vec<u8>],
+    lost: u8,
+    plain: &[Equation],
+) -> bool {
+    let ours = texts.concat(rt.alloc()).expect(rt, "memory");
+    plain.len() == 4 && ours == plain_texts(rt, lost, plain)
+}
+
+// Whether the fault tells how many slices are lost, and how many equations are independent of the known slices.
+fn is_told(fault: &RebuildFault, lost: u8, independent: usize) -> bool {
+    let lost = lost.count_ones() as usize;
+    match fault {
+        RebuildFault::NotRepairable { missing, rank } => {
+            *missing == lost
+                && *rank < lost
+                && independent == 4usize.saturating_sub(lost).saturating_add(*rank)
+        }
+        _ => false,
+    }
+}
+
+// Whether it is the lost slices, or None where the plain answer is another.
 fn compared(
-    alloc: Global,
+    rt: &(impl Abort + AllocGlobal),
     gf: &Gf,
     lost: u8,
     chosen: &[Recovered],
-) -> Result<(bool, bool), AllocError> {
-    let missing = lost.count_ones() as usize;
-    let known = 4usize.saturating_sub(missing);
-    let plain = plain_answer(alloc, lost, chosen)?;
-    match our_answer(alloc, gf, lost, chosen)? {
-        Some(Ok(texts)) => {
-            let ours = texts.as_slice().concat(alloc)?;
-            let same = plain.len() == 4 && ours == plain_texts(alloc, lost, &plain)?;
-            Ok((same, true))
-        }
-        Some(Err(RebuildFault::NotRepairable { missing: m, rank })) => {
-            let same = m == missing && rank < m && plain.len() == known.saturating_add(rank);
-            Ok((same, false))
-        }
-        _ => Ok((false, false)),
+) -> Option<bool> {
+    let plain = plain_answer(rt, lost, chosen);
+    match our_answer(rt, gf, lost, chosen) {
+        Ok(texts) => are_plain(rt, &texts, lost, &plain).then_some(true),
+        Err(fault) => is_told(&fault, lost, plain.len()).then_some(false),
     }
+}
+
+// The choices with one more than these, for each of less than three.
+fn with_one(
+    rt: &(impl Abort + AllocGlobal),
+    choices: &[Vec<Recovered>],
+    one: &Recovered,
+) -> Vec<Vec<Recovered>> {
+    let mut with_it = Vec::new(rt.alloc());
+    for choice in choices {
+        if choice.len() < 3 {
+            with_it.push(more(rt, choice, one)).expect(rt, "memory");
+        }
+    }
+    with_it
+}
+
+fn more(rt: &(impl Abort + AllocGlobal), choice: &[Recovered], one: &Recovered) -> Vec<Recovered> {
+    [choice, from_ref(one)]
+        .concat(rt.alloc())
+        .expect(rt, "memory")
 }
 
 // All choices of at most three of them.
-fn choices(alloc: Global, all: &[Recovered]) -> Result<Vec<Vec<Recovered>>, AllocError> {
-    let mut choices = Vec::new(alloc);
-    choices.push(Vec::new(alloc))?;
+fn choices(rt: &(impl Abort + AllocGlobal), all: &[Recovered]) -> Vec<Vec<Recovered>> {
+    let mut choices = vec![in rt.alloc(); Vec::new(rt.alloc())].expect(rt, "memory");
     for one in all {
-        let mut with_it = Vec::new(alloc);
-        for choice in choices.iter().filter(|choice| choice.len() < 3) {
-            let mut more = Vec::from_slice(alloc, choice.as_slice())?;
-            more.push(*one)?;
-            with_it.push(more)?;
-        }
-        choices.append(&mut with_it)?;
+        choices
+            .append(&mut with_one(rt, &choices, one))
+            .expect(rt, "memory");
     }
-    Ok(choices)
+    choices
+}
+
+// All that are recovered.
+fn all_recovered(rt: &(impl Abort + AllocGlobal)) -> Vec<Recovered> {
+    let mut all = Vec::new(rt.alloc());
+    for exponent in EXPONENTS {
+        all.push(recovered_by(*exponent)).expect(rt, "memory");
+    }
+    all
+}
+
+// How many choices there are of lost slices that come back by the chosen ones.
+fn repairable_by(rt: &(impl Abort + AllocGlobal), gf: &Gf, chosen: &[Recovered]) -> u32 {
+    let mut repairable = 0u32;
+    for lost in 1..15u8 {
+        if compared(rt, gf, lost, chosen).expect(rt, "the plain answer") {
+            repairable = repairable.wrapping_add(1);
+        }
+    }
+    repairable
 }
 
 #[test]
-fn as_a_plain_elimination(rt: HostRuntime) -> Result<(), Fail> {
-    let alloc = rt.alloc();
-    let gf = Gf::new(alloc)?;
-    let mut all = Vec::new(alloc);
-    for exponent in EXPONENTS {
-        all.push(recovered_by(exponent))?;
-    }
+fn as_a_plain_elimination(rt: HostRuntime) {
+    let gf = field(&rt);
+    let choices = choices(&rt, &all_recovered(&rt));
     let mut repairable = 0u32;
-    let mut others = 0u32;
-    for chosen in &choices(alloc, &all)? {
-        for lost in 1..15u8 {
-            let (same, is_repairable) = compared(alloc, &gf, lost, chosen)?;
-            assert!(rt; same, "lost {lost:04b}");
-            if is_repairable {
-                repairable = repairable.wrapping_add(1);
-            } else {
-                others = others.wrapping_add(1);
-            }
-        }
+    for chosen in &choices {
+        repairable = repairable.wrapping_add(repairable_by(&rt, &gf, chosen));
     }
-    // Another program counted these.
-    assert_eq!(rt; repairable, 67345);
-    assert_eq!(rt; others, 2543);
-    Ok(())
+    // Another program counted these, and 2543 others: 14 for each choice.
+    assert!(rt; repairable == 67345 && choices.len() == (67345 + 2543) / 14);
 }
 
 // Three slices of some more words than are taken at a time, the last one with half a word at its end.
-#[test]
-fn many_words(rt: HostRuntime) -> Result<(), Fail> {
-    let alloc = rt.alloc();
-    let mut bytes = Vec::new(alloc);
-    for i in 0..3 * SIZE - 5 {
-        bytes.push((i % 251) as u8)?;
+fn many_bytes(rt: &(impl Abort + AllocGlobal)) -> Vec<u8> {
+    let mut bytes = vec![in rt.alloc(); 0u8; 3 * SIZE - 5].expect(rt, "memory");
+    for (i, byte) in bytes.iter_mut().enumerate() {
+        *byte = (i % 251) as u8;
     }
-    let Some(texts) = recovery_of_a(alloc, &bytes, SIZE as u64, 1, 2)? else {
-        panic!(rt; "no recovery slices");
-    };
-    let [first, second] = texts.as_slice() else {
-        panic!(rt; "not two recovery slices");
-    };
-    assert_eq!(rt; first.len(), SIZE);
-    assert_eq!(rt; second.len(), SIZE);
+    bytes
+}
+
+// Whether these are the recovery slices of exponents 1 and 2.
+fn are_many(texts: &[Vec<u8>], bytes: &[u8]) -> bool {
+    match texts {
+        [first, second] => are_plain_words(first, second, bytes),
+        _ => false,
+    }
+}
+
+fn are_plain_words(first: &[u8], second: &[u8], bytes: &[u8]) -> bool {
     for w in 0..4099usize {
-        let (one, other) = plain_words(&bytes, w);
-        assert!(rt;
-            word_at(first, w) == one && word_at(second, w) == other,
-            "word {w}"
-        );
+        if (word_at(first, w), word_at(second, w)) != plain_words(bytes, w) {
+            return false;
+        }
     }
-    Ok(())
+    first.len() == SIZE && second.len() == SIZE
+}
+
+#[test]
+fn many_words(rt: HostRuntime) {
+    let bytes = many_bytes(&rt);
+    assert!(rt; are_many(&recovery_of_a(&rt, &bytes, SIZE as u64, 1, 2), &bytes));
 }

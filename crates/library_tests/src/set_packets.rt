@@ -6,8 +6,11 @@ use par2_folder::{Bytes, Change, Folder};
 use par2_packets::{FileRecord, Pair, append_desc, append_ifsc, append_main, main_id};
 use par2_sets::{ParSet, set_of};
 use par2_spec::Fault;
-use std::alloc::{AllocError, Global};
 use std::process::Abort;
+use std::slice::from_ref;
+
+// The body of a Main of no file, of slice size 4.
+const FALSE_MAIN: &[u8; 12] = b"\x04\0\0\0\0\0\0\0\0\0\0\0";
 
 pub const MAIN: &[u8; 16] = b"PAR 2.0\0Main\0\0\0\0";
 
@@ -30,61 +33,74 @@ pub fn pair(k: u8) -> Pair {
 }
 
 /// A file of this File ID, name and size, with the checksums of two slices.
-pub fn record(alloc: Global, id: u8, name: &str, size: u64) -> Result<FileRecord, AllocError> {
-    Ok(FileRecord {
+pub fn record(rt: &(impl Abort + AllocGlobal), id: u8, name: &str, size: u64) -> FileRecord {
+    FileRecord {
         id: [id; 16],
         digest: [8; 16],
         digest_16k: [9; 16],
         size,
-        name: String::from_str(alloc, name)?,
-        pairs: Vec::from_array(alloc, [pair(1), pair(2)])?,
-    })
+        name: String::from_str(rt.alloc(), name).expect(rt, "memory"),
+        pairs: Vec::from_array(rt.alloc(), [pair(1), pair(2)]).expect(rt, "memory"),
+    }
 }
 
-// The Main of these files.
-fn main_of(alloc: Global, s: u64, files: &[FileRecord; 1]) -> Result<Vec<u8>, AllocError> {
-    let mut text = Vec::new(alloc);
-    append_main(alloc, &mut text, s, files)?;
-    Ok(text)
+/// Puts the Main of one file behind the bytes.
+pub fn add_main(rt: &(impl Abort + AllocGlobal), out: &mut Vec<u8>, s: u64, file: &FileRecord) {
+    append_main(rt.alloc(), out, s, from_ref(file)).expect(rt, "memory");
 }
 
-fn description_of(alloc: Global, id: &[u8; 16], file: &FileRecord) -> Result<Vec<u8>, AllocError> {
-    let mut text = Vec::new(alloc);
-    append_desc(alloc, &mut text, id, file)?;
-    Ok(text)
+pub fn add_description(
+    rt: &(impl Abort + AllocGlobal),
+    out: &mut Vec<u8>,
+    id: &[u8; 16],
+    file: &FileRecord,
+) {
+    append_desc(rt.alloc(), out, id, file).expect(rt, "memory");
 }
 
-fn checksums_of(alloc: Global, id: &[u8; 16], file: &FileRecord) -> Result<Vec<u8>, AllocError> {
-    let mut text = Vec::new(alloc);
-    append_ifsc(alloc, &mut text, id, file)?;
-    Ok(text)
+pub fn add_checksums(
+    rt: &(impl Abort + AllocGlobal),
+    out: &mut Vec<u8>,
+    id: &[u8; 16],
+    file: &FileRecord,
+) {
+    append_ifsc(rt.alloc(), out, id, file).expect(rt, "memory");
+}
+
+/// The identifier of a set of slice size `s` and one file.
+pub fn id_of(s: u64, file: &FileRecord) -> [u8; 16] {
+    main_id(s, from_ref(file))
 }
 
 /// The packets of a set of slice size `s` and one file.
-pub fn parts_of(alloc: Global, s: u64, file: FileRecord) -> Result<Parts, AllocError> {
-    let files = [file];
-    let id = main_id(s, &files);
-    Ok(Parts {
-        id,
-        main: main_of(alloc, s, &files)?,
-        description: description_of(alloc, &id, &files[0])?,
-        checksums: checksums_of(alloc, &id, &files[0])?,
-    })
+pub fn parts_of(rt: &(impl Abort + AllocGlobal), s: u64, file: &FileRecord) -> Parts {
+    let mut set = Parts {
+        id: id_of(s, file),
+        main: Vec::new(rt.alloc()),
+        description: Vec::new(rt.alloc()),
+        checksums: Vec::new(rt.alloc()),
+    };
+    add_main(rt, &mut set.main, s, file);
+    add_description(rt, &mut set.description, &set.id, file);
+    add_checksums(rt, &mut set.checksums, &set.id, file);
+    set
 }
 
-/// The packets of a set of slice size 4 and a file of this name and of 8 bytes.
-pub fn parts_for(alloc: Global, name: &str) -> Result<Parts, AllocError> {
-    parts_of(alloc, 4, record(alloc, 7, name, 8)?)
+/// The packets of a set of slice size 4 and a file of this name and of so many bytes.
+pub fn parts_for(rt: &(impl Abort + AllocGlobal), name: &str, size: u64) -> Parts {
+    parts_of(rt, 4, &record(rt, 7, name, size))
 }
 
 /// A packet of this type and body, by the format alone.
 pub fn packet(
-    alloc: Global,
+    rt: &(impl Abort + AllocGlobal),
     id: &[u8; 16],
     kind: &[u8; 16],
     body: &[u8],
-) -> Result<Vec<u8>, AllocError> {
-    let digested = [id.as_slice(), kind, body].concat(alloc)?;
+) -> Vec<u8> {
+    let digested = [id.as_slice(), kind, body]
+        .concat(rt.alloc())
+        .expect(rt, "memory");
     let length = (body.len() as u64).saturating_add(64);
     [
         b"PAR2\0PKT".as_slice(),
@@ -92,18 +108,19 @@ pub fn packet(
         &Md5::digest(&digested),
         &digested,
     ]
-    .concat(alloc)
+    .concat(rt.alloc())
+    .expect(rt, "memory")
 }
 
 // The recovery slice of an exponent.
-fn recovery(alloc: Global, id: &[u8; 16], e: u32, bytes: &[u8]) -> Result<Vec<u8>, AllocError> {
-    let mut body = Vec::from_slice(alloc, &e.to_le_bytes())?;
-    body.extend_from_slice(bytes)?;
-    packet(alloc, id, RECOVERY, &body)
+fn recovery(rt: &(impl Abort + AllocGlobal), id: &[u8; 16], e: u32, bytes: &[u8]) -> Vec<u8> {
+    let body = [e.to_le_bytes().as_slice(), bytes]
+        .concat(rt.alloc())
+        .expect(rt, "memory");
+    packet(rt, id, RECOVERY, &body)
 }
 
 /// A part of a file: a packet of a set, or other bytes.
-#[derive(Clone, Copy)]
 pub enum Part {
     Main,
     Description,
@@ -122,87 +139,77 @@ pub enum Part {
 /// Files by their names and parts.
 pub type Files = &'static [(&'static str, &'static [Part])];
 
-fn false_description(alloc: Global, id: &[u8; 16]) -> Result<Vec<u8>, AllocError> {
-    let mut body = Vec::from_slice(alloc, &[7; 48])?;
-    body.extend_from_slice(b"\x08\0\0\0\0\0\0\0\xff\xff\0\0")?;
-    packet(alloc, id, DESCRIPTION, &body)
-}
+// A description of the file of 8 bytes whose name is `\xff\xff`.
+const FALSE_DESCRIPTION: &[u8; 60] = b"\
+    \x07\x07\x07\x07\x07\x07\x07\x07\x07\x07\x07\x07\x07\x07\x07\x07\
+    \x07\x07\x07\x07\x07\x07\x07\x07\x07\x07\x07\x07\x07\x07\x07\x07\
+    \x07\x07\x07\x07\x07\x07\x07\x07\x07\x07\x07\x07\x07\x07\x07\x07\
+    \x08\0\0\0\0\0\0\0\xff\xff\0\0";
 
-fn bytes_of(alloc: Global, set: &Parts, part: Part) -> Result<Vec<u8>, AllocError> {
+// Puts the bytes of a part behind the others.
+fn add_part(rt: &(impl Abort + AllocGlobal), out: &mut Vec<u8>, set: &Parts, part: &Part) {
     match part {
-        Part::Main => set.main.clone(),
-        Part::Description => set.description.clone(),
-        Part::Checksums => set.checksums.clone(),
-        Part::FalseMain => packet(alloc, &set.id, MAIN, b"\x04\0\0\0\0\0\0\0\0\0\0\0"),
-        Part::FalseDescription => false_description(alloc, &set.id),
-        Part::Recovery(e, bytes) => recovery(alloc, &set.id, e, bytes),
-        Part::Stranger(e, bytes) => recovery(alloc, &[1; 16], e, bytes),
-        Part::Noise(bytes) => Vec::from_slice(alloc, bytes),
+        Part::Main => add(rt, out, &set.main),
+        Part::Description => add(rt, out, &set.description),
+        Part::Checksums => add(rt, out, &set.checksums),
+        Part::FalseMain => add(rt, out, &packet(rt, &set.id, MAIN, FALSE_MAIN)),
+        Part::FalseDescription => add(
+            rt,
+            out,
+            &packet(rt, &set.id, DESCRIPTION, FALSE_DESCRIPTION),
+        ),
+        Part::Recovery(e, bytes) => add(rt, out, &recovery(rt, &set.id, *e, bytes)),
+        Part::Stranger(e, bytes) => add(rt, out, &recovery(rt, &[1; 16], *e, bytes)),
+        Part::Noise(bytes) => add(rt, out, bytes),
     }
 }
 
+/// Puts more bytes behind the others.
+pub fn add(rt: &(impl Abort + AllocGlobal), out: &mut Vec<u8>, bytes: &[u8]) {
+    out.extend_from_slice(bytes).expect(rt, "memory");
+}
+
 /// Puts a file into the folder.
-pub fn put<R: Abort + AllocGlobal>(
-    rt: &R,
-    folder: &mut Folder,
-    text: &str,
-    bytes: Vec<u8>,
-) -> Result<(), AllocError> {
-    folder.reserve(1)?;
+pub fn put(rt: &(impl Abort + AllocGlobal), folder: &mut Folder, text: &str, bytes: Vec<u8>) {
+    folder.reserve(1).expect(rt, "memory");
     let answer = folder.apply(&mut Change::Write(name(rt, text), Bytes::from(bytes)));
     assert!(rt; answer.is_ok());
-    Ok(())
 }
 
 /// Puts a file of these parts into the folder.
-pub fn put_parts<R: Abort + AllocGlobal>(
-    rt: &R,
+pub fn put_parts(
+    rt: &(impl Abort + AllocGlobal),
     folder: &mut Folder,
     set: &Parts,
     text: &str,
     parts: &[Part],
-) -> Result<(), AllocError> {
+) {
     let mut bytes = Vec::new(rt.alloc());
     for part in parts {
-        bytes.extend_from_slice(&bytes_of(rt.alloc(), set, *part)?)?;
+        add_part(rt, &mut bytes, set, part);
     }
-    put(rt, folder, text, bytes)
+    put(rt, folder, text, bytes);
 }
 
-/// A folder with these files.
-pub fn folder_of<R: Abort + AllocGlobal>(
-    rt: &R,
-    set: &Parts,
-    files: Files,
-) -> Result<Folder, AllocError> {
+/// A folder with these files, whose packets are of the set of a file of this name and of 8 bytes.
+pub fn folder_for(rt: &(impl Abort + AllocGlobal), target: &str, files: Files) -> Folder {
+    let set = parts_for(rt, target, 8);
     let mut folder = Folder::new(rt.alloc());
     for (text, parts) in files {
-        put_parts(rt, &mut folder, set, text, parts)?;
+        put_parts(rt, &mut folder, &set, text, parts);
     }
-    Ok(folder)
-}
-
-/// A folder with these files, whose packets are of the set of a file of this name.
-pub fn folder_for<R: Abort + AllocGlobal>(
-    rt: &R,
-    target: &str,
-    files: Files,
-) -> Result<Folder, AllocError> {
-    folder_of(rt, &parts_for(rt.alloc(), target)?, files)
+    folder
 }
 
 /// The set of the base `m.par2`, or why there is none.
-pub fn read_set<'a, R: Abort + AllocGlobal>(
-    rt: &R,
+pub fn read_set<'a>(
+    rt: &(impl Abort + AllocGlobal),
     folder: &'a Folder,
 ) -> Result<ParSet<'a>, Fault> {
     set_of(rt.alloc(), folder, &name(rt, "m.par2"))
 }
 
 /// The set of the base `m.par2`.
-pub fn set_in<'a, R: Abort + AllocGlobal>(rt: &R, folder: &'a Folder) -> ParSet<'a> {
-    match read_set(rt, folder) {
-        Ok(set) => set,
-        Err(_) => panic!(rt; "the set does not read"),
-    }
+pub fn set_in<'a>(rt: &(impl Abort + AllocGlobal), folder: &'a Folder) -> ParSet<'a> {
+    read_set(rt, folder).expect(rt, "a set")
 }

@@ -1,66 +1,54 @@
 //! What is read of a folder whose base is `m.par2`.
 
 use crate::set_packets::{
-    DESCRIPTION, Files, MAIN, Part, Parts, folder_for, packet, pair, parts_for, parts_of, put,
+    DESCRIPTION, Files, MAIN, Part, Parts, add, folder_for, packet, pair, parts_for, parts_of, put,
     put_parts, read_set, record, set_in,
 };
 use md5::{Digest, Md5};
 use par2_folder::Folder;
 use par2_sets::{ParSet, Target};
 use par2_spec::Fault;
-use std::alloc::{AllocError, Global};
 use std::process::Abort;
-use std::test::Fail;
 
 // Why the set of the base is refused, or None where it reads.
-fn fault_of<R: Abort + AllocGlobal>(rt: &R, folder: &Folder) -> Option<Fault> {
+fn fault_of(rt: &(impl Abort + AllocGlobal), folder: &Folder) -> Option<Fault> {
     read_set(rt, folder).err()
 }
 
 // Why the set of a base made of these parts is refused.
-fn fault_in<R: Abort + AllocGlobal>(
-    rt: &R,
-    set: &Parts,
-    base: &[Part],
-) -> Result<Option<Fault>, AllocError> {
+fn fault_in(rt: &(impl Abort + AllocGlobal), set: &Parts, base: &[Part]) -> Option<Fault> {
     let mut folder = Folder::new(rt.alloc());
-    put_parts(rt, &mut folder, set, "m.par2", base)?;
-    Ok(fault_of(rt, &folder))
-}
-
-// The recovery slices as text.
-fn recovery_text(alloc: Global, set: &ParSet) -> Result<String, AllocError> {
-    let mut text = String::new(alloc);
-    for (exponent, bytes) in set.recovery() {
-        let slice = String::from_utf8_lossy(alloc, bytes)?;
-        text.push_str(&format!(in alloc; "{exponent}={slice} ")?)?;
-    }
-    Ok(text)
+    put_parts(rt, &mut folder, set, "m.par2", base);
+    fault_of(rt, &folder)
 }
 
 // Whether the target is the file `f` of 8 bytes.
 fn is_f(target: &Target) -> bool {
-    let is_named = target.name().as_str() == "f";
     let is_sized = target.size() == 8 && target.digest() == [8; 16];
-    is_named && is_sized && target.pairs() == [pair(1), pair(2)].as_slice()
+    is_sized && target.pairs() == [pair(1), pair(2)].as_slice()
 }
 
-// Whether the set has the file `f` alone.
-fn is_of_f(read: &ParSet) -> bool {
+// Whether the set has one file, of this name.
+fn is_of(read: &ParSet, name: &str) -> bool {
     match read.targets() {
-        [target] => is_f(target),
+        [target] => target.name().as_str() == name,
         _ => false,
     }
 }
 
-// Whether the set has the identifier of that of `f`, and slices of 4 bytes.
-fn is_headed(alloc: Global, read: &ParSet) -> Result<bool, AllocError> {
-    Ok(read.id() == parts_for(alloc, "f")?.id && read.slice_size() == 4)
+// Whether each file of the set is `f` but for its name.
+fn is_of_f(read: &ParSet) -> bool {
+    read.targets().iter().all(is_f)
 }
 
-// The recovery slices of the set in a folder.
-fn recovery_in<R: Abort + AllocGlobal>(rt: &R, folder: &Folder) -> Result<String, AllocError> {
-    recovery_text(rt.alloc(), &set_in(rt, folder))
+// Whether the set has the identifier of that of `f`, and slices of 4 bytes.
+fn is_headed(rt: &(impl Abort + AllocGlobal), read: &ParSet) -> bool {
+    read.id() == parts_for(rt, "f", 8).id && read.slice_size() == 4
+}
+
+// Whether these are the recovery slices of the set in a folder.
+fn recovers(rt: &(impl Abort + AllocGlobal), folder: &Folder, wanted: &[(u32, &[u8])]) -> bool {
+    set_in(rt, folder).recovery() == wanted
 }
 
 const TWO_FILES: Files = &[
@@ -76,18 +64,10 @@ const TWO_FILES: Files = &[
 ];
 
 #[test]
-fn a_set_in_two_files(rt: HostRuntime) -> Result<(), Fail> {
-    let folder = folder_for(&rt, "f", TWO_FILES)?;
+fn a_set_in_two_files(rt: HostRuntime) {
+    let folder = folder_for(&rt, "f", TWO_FILES);
     let read = set_in(&rt, &folder);
-    assert!(rt; is_of_f(&read) && is_headed(rt.alloc(), &read)?);
-    Ok(())
-}
-
-#[test]
-fn recovery_slices_in_two_files(rt: HostRuntime) -> Result<(), Fail> {
-    let folder = folder_for(&rt, "f", TWO_FILES)?;
-    assert!(rt; recovery_in(&rt, &folder)?.as_str() == "0=aaaa 3=dddd ");
-    Ok(())
+    assert!(rt; is_of(&read, "f") && is_of_f(&read) && is_headed(&rt, &read));
 }
 
 #[test]
@@ -121,12 +101,11 @@ const BASES: &[(&[Part], Option<Fault>)] = &[
 ];
 
 #[test]
-fn parts_that_are_absent_or_false(rt: HostRuntime) -> Result<(), Fail> {
-    let set = parts_for(rt.alloc(), "f")?;
+fn parts_that_are_absent_or_false(rt: HostRuntime) {
+    let set = parts_for(&rt, "f", 8);
     for (k, (base, fault)) in BASES.iter().enumerate() {
-        assert!(rt; fault_in(&rt, &set, base)? == *fault, "base {k}");
+        assert!(rt; fault_in(&rt, &set, base) == *fault, "base {k}");
     }
-    Ok(())
 }
 
 const WHOLE: &[Part] = &[Part::Main, Part::Description, Part::Checksums];
@@ -145,94 +124,78 @@ const PROFILES: &[(Profile, Option<Fault>)] = &[
     ((4, "f", 0, &[Part::Main, Part::Description]), None),
 ];
 
-fn fault_beyond<R: Abort + AllocGlobal>(
-    rt: &R,
-    profile: Profile,
-) -> Result<Option<Fault>, AllocError> {
-    let (s, name, length, base) = profile;
-    let set = parts_of(rt.alloc(), s, record(rt.alloc(), 7, name, length)?)?;
-    fault_in(rt, &set, base)
+fn fault_beyond(rt: &(impl Abort + AllocGlobal), profile: &Profile) -> Option<Fault> {
+    let (s, name, length, base) = *profile;
+    fault_in(rt, &parts_of(rt, s, &record(rt, 7, name, length)), base)
 }
 
 #[test]
-fn files_beyond_the_profile(rt: HostRuntime) -> Result<(), Fail> {
-    for (profile, fault) in PROFILES {
-        let length = profile.2;
-        assert!(rt; fault_beyond(&rt, *profile)? == *fault, "at {length}");
+fn files_beyond_the_profile(rt: HostRuntime) {
+    for (k, (profile, fault)) in PROFILES.iter().enumerate() {
+        assert!(rt; fault_beyond(&rt, profile) == *fault, "row {k}");
     }
-    Ok(())
 }
 
-// A description of no more than a File ID and a name.
-fn described(alloc: Global, id: &[u8; 16], file: &[u8; 16]) -> Result<Vec<u8>, AllocError> {
-    let body = [file.as_slice(), &[0; 40], b"name"].concat(alloc)?;
-    packet(alloc, id, DESCRIPTION, &body)
-}
+// A Main of two files.
+const TWICE: &[u8; 44] = b"\x04\0\0\0\0\0\0\0\x02\0\0\0sixteen bytes id sixteen bytes i";
+
+// Descriptions of no more than a File ID and a name, which is one for both.
+const NAMED: &[&[u8; 60]] = &[
+    b"sixteen bytes id\
+        \0\0\0\0\0\0\0\0\0\0\0\0\0\0\0\0\0\0\0\0\0\0\0\0\0\0\0\0\0\0\0\0\0\0\0\0\0\0\0\0name",
+    b" sixteen bytes i\
+        \0\0\0\0\0\0\0\0\0\0\0\0\0\0\0\0\0\0\0\0\0\0\0\0\0\0\0\0\0\0\0\0\0\0\0\0\0\0\0\0name",
+];
 
 // A base of a Main of two files, and the descriptions that give both one name.
-fn twice_named(alloc: Global) -> Result<Vec<u8>, AllocError> {
-    let body = b"\x04\0\0\0\0\0\0\0\x02\0\0\0sixteen bytes id sixteen bytes i";
-    let id = Md5::digest(body);
-    let mut base = packet(alloc, &id, MAIN, body)?;
-    for file in [b"sixteen bytes id", b" sixteen bytes i"] {
-        base.extend_from_slice(&described(alloc, &id, file)?)?;
+fn twice_named(rt: &(impl Abort + AllocGlobal)) -> Vec<u8> {
+    let id = Md5::digest(TWICE);
+    let mut base = packet(rt, &id, MAIN, TWICE);
+    for body in NAMED {
+        add(
+            rt,
+            &mut base,
+            &packet(rt, &id, DESCRIPTION, body.as_slice()),
+        );
     }
-    Ok(base)
-}
-
-fn folder_twice_named<R: Abort + AllocGlobal>(rt: &R) -> Result<Folder, AllocError> {
-    let mut folder = Folder::new(rt.alloc());
-    put(rt, &mut folder, "m.par2", twice_named(rt.alloc())?)?;
-    Ok(folder)
+    base
 }
 
 #[test]
-fn one_name_twice(rt: HostRuntime) -> Result<(), Fail> {
-    let folder = folder_twice_named(&rt)?;
+fn one_name_twice(rt: HostRuntime) {
+    let mut folder = Folder::new(rt.alloc());
+    put(&rt, &mut folder, "m.par2", twice_named(&rt));
     assert!(rt; fault_of(&rt, &folder) == Some(Fault::BadSet));
-    Ok(())
 }
 
-// Puts the Main and a description of the set of `f` of 8 bytes into the folder.
-fn put_first<R: Abort + AllocGlobal>(rt: &R, folder: &mut Folder) -> Result<[u8; 16], AllocError> {
-    let first = parts_for(rt.alloc(), "f")?;
-    put_parts(
-        rt,
-        folder,
-        &first,
-        "m.par2",
-        &[Part::Main, Part::Description],
-    )?;
-    Ok(first.id)
-}
-
-// Puts a description and the checksums of the set of `g` of 7 bytes into the folder.
-fn put_last<R: Abort + AllocGlobal>(rt: &R, folder: &mut Folder) -> Result<[u8; 16], AllocError> {
-    let last = parts_of(rt.alloc(), 4, record(rt.alloc(), 7, "g", 7)?)?;
-    put_parts(
-        rt,
-        folder,
-        &last,
-        "a.par2",
-        &[Part::Description, Part::Checksums],
-    )?;
-    Ok(last.id)
-}
-
-// Whether the set has one file, of this name.
-fn is_of(read: &ParSet, name: &str) -> bool {
-    match read.targets() {
-        [target] => target.name().as_str() == name,
-        _ => false,
-    }
+// Puts a file with a part of the set of a file of this name and size into the folder.
+fn put_some(
+    rt: &(impl Abort + AllocGlobal),
+    folder: &mut Folder,
+    target: (&str, u64),
+    parts: (&str, &[Part]),
+) -> [u8; 16] {
+    let set = parts_for(rt, target.0, target.1);
+    put_parts(rt, folder, &set, parts.0, parts.1);
+    set.id
 }
 
 #[test]
-fn first_description_wins(rt: HostRuntime) -> Result<(), Fail> {
+fn first_description_wins(rt: HostRuntime) {
     let mut folder = Folder::new(rt.alloc());
-    assert!(rt; put_first(&rt, &mut folder)? == put_last(&rt, &mut folder)?);
-    assert!(rt; is_of(&set_in(&rt, &folder), "f"));
-    Ok(())
+    let first = put_some(
+        &rt,
+        &mut folder,
+        ("f", 8),
+        ("m.par2", &[Part::Main, Part::Description]),
+    );
+    let last = put_some(
+        &rt,
+        &mut folder,
+        ("g", 7),
+        ("a.par2", &[Part::Description, Part::Checksums]),
+    );
+    assert!(rt; first == last && is_of(&set_in(&rt, &folder), "f"));
 }
 
 const SLICES: Files = &[
@@ -253,9 +216,15 @@ const SLICES: Files = &[
     ("a.par2", &[Part::Recovery(1, b"aaaa")]),
 ];
 
+// Files, and the recovery slices that count.
+const RECOVERIES: &[(Files, &[(u32, &[u8])])] = &[
+    (TWO_FILES, &[(0, b"aaaa"), (3, b"dddd")]),
+    (SLICES, &[(1, b"aaaa"), (65535, b"eeee")]),
+];
+
 #[test]
-fn recovery_slices_that_count(rt: HostRuntime) -> Result<(), Fail> {
-    let folder = folder_for(&rt, "f", SLICES)?;
-    assert!(rt; recovery_in(&rt, &folder)?.as_str() == "1=aaaa 65535=eeee ");
-    Ok(())
+fn recovery_slices_that_count(rt: HostRuntime) {
+    for (files, wanted) in RECOVERIES {
+        assert!(rt; recovers(&rt, &folder_for(&rt, "f", files), wanted));
+    }
 }

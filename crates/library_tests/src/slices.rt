@@ -2,10 +2,10 @@ ghost use Rattle.std.specs.Prelude.{◌≤◌, length};
 
 use crate::pairs::pairs_of;
 use par2_slices::{
-    Pair, Rolling, Wanted, crc32, find_among, padded_crc32, padded_md5, pair_of, slice_bytes,
+    Pair, Rolling, Spot, Wanted, crc32, find_among, padded_crc32, padded_md5, pair_of, slice_bytes,
     slice_count, slice_into,
 };
-use std::alloc::{AllocError, Global};
+use std::process::Abort;
 
 const DIGEST: [u8; 16] = [
     0xe2, 0xfc, 0x71, 0x4c, 0x47, 0x27, 0xee, 0x93, 0x95, 0xf3, 0x24, 0xcd, 0x2e, 0x7f, 0x33, 0x1f,
@@ -18,13 +18,21 @@ fn checksums(rt: HostRuntime) {
     assert!(rt; padded_md5(b"abcd", 4) == DIGEST);
 }
 
+// The checksum of the first slice, of `s` bytes, and that behind one slide from `out` to `next`.
+fn rolled(rt: &(impl Abort + AllocGlobal), s: u64, bytes: &[u8], out: u8, next: u8) -> (u32, u32)
+    requires size { 1 ≤ s }
+    requires room { length bytes.now ≤ s }
+{
+    let mut rolling = Rolling::new(rt.alloc(), s).expect(rt, "memory");
+    rolling.start(bytes);
+    let first = rolling.value();
+    rolling.slide(out, next);
+    (first, rolling.value())
+}
+
 #[test]
 fn rolling_checksums(rt: HostRuntime) {
-    let mut rolling = Rolling::new(rt.alloc(), 4).expect(&rt, "memory");
-    rolling.start(b"abcd");
-    let first = rolling.value();
-    rolling.slide(b'a', b'e');
-    assert!(rt; first == 0xed82_cd11 && rolling.value() == crc32(b"bcde"));
+    assert!(rt; rolled(&rt, 4, b"abcd", b'a', b'e') == (0xed82_cd11, crc32(b"bcde")));
 }
 
 #[test]
@@ -52,46 +60,59 @@ fn checksums_with_padding(rt: HostRuntime) {
 
 #[test]
 fn rolling_over_padding(rt: HostRuntime) {
-    let mut rolling = Rolling::new(rt.alloc(), 1 << 30).expect(&rt, "memory");
-    rolling.start(b"ab");
-    let whole = rolling.value();
-    rolling.slide(b'a', 0);
-    let next = rolling.value();
+    let (whole, next) = rolled(&rt, 1 << 30, b"ab", b'a', 0);
     assert!(rt; next == padded_crc32(b"b", 1 << 30) && next != whole);
 }
 
-// The offsets that `find_among` answers for one text, for slices of at least one byte.
-fn found(
-    alloc: Global,
+// Where `find_among` finds the pairs in one text.
+fn spots_of(
+    rt: &(impl Abort + AllocGlobal),
     bytes: &[u8],
     s: u64,
     pairs: &[Pair],
-) -> Result<Vec<Option<usize>>, AllocError> {
-    if s == 0 {
-        return Ok(Vec::new(alloc));
-    }
-    let spots = find_among(alloc, &[bytes], s, &Wanted::new(alloc, pairs)?)?;
-    let mut offsets = Vec::with_capacity(alloc, spots.len())?;
-    for spot in &spots {
-        offsets.push(spot.map(|spot| spot.offset))?;
-    }
-    Ok(offsets)
+) -> Vec<Option<Spot>>
+    requires { 1 ≤ s }
+{
+    let wanted = Wanted::new(rt.alloc(), pairs).expect(rt, "memory");
+    find_among(rt.alloc(), &[bytes], s, &wanted).expect(rt, "memory")
 }
 
-// The offsets of the pairs of these slices, of which those that are too long are left out.
-fn offsets(
-    alloc: Global,
+// Whether `find_among` finds the pairs at these offsets of one text, for slices of at least one byte.
+fn are_found(
+    rt: &(impl Abort + AllocGlobal),
     bytes: &[u8],
     s: u64,
-    slices: &[&[u8]],
-) -> Result<Vec<Option<usize>>, AllocError> {
-    let mut pairs = Vec::new(alloc);
-    for slice in slices {
-        if slice.len() as u64 <= s {
-            pairs.push(pair_of(slice, s))?;
+    pairs: &[Pair],
+    offsets: &[Option<usize>],
+) -> bool {
+    if s == 0 {
+        return false;
+    }
+    let spots = spots_of(rt, bytes, s, pairs);
+    for (spot, offset) in spots.iter().zip(offsets.iter()) {
+        if !is_at(spot, *offset) {
+            return false;
         }
     }
-    found(alloc, bytes, s, &pairs)
+    spots.len() == offsets.len()
+}
+
+fn is_at(spot: &Option<Spot>, offset: Option<usize>) -> bool {
+    match spot {
+        Some(spot) => offset == Some(spot.offset),
+        None => offset.is_none(),
+    }
+}
+
+// The pairs of these slices, of which those that are too long are left out.
+fn pairs_with(rt: &(impl Abort + AllocGlobal), s: u64, slices: &[&[u8]]) -> Vec<Pair> {
+    let mut pairs = Vec::new(rt.alloc());
+    for slice in slices {
+        if slice.len() as u64 <= s {
+            pairs.push(pair_of(slice, s)).expect(rt, "memory");
+        }
+    }
+    pairs
 }
 
 // A text, the size of a slice, slices and where each is found.
@@ -124,11 +145,15 @@ const OFFSETS: &[Row] = &[
     ),
 ];
 
+fn is_as_told(rt: &(impl Abort + AllocGlobal), row: &Row) -> bool {
+    let (text, s, slices, offsets) = *row;
+    are_found(rt, text, s, &pairs_with(rt, s, slices), offsets)
+}
+
 #[test]
 fn offsets_of_slices(rt: HostRuntime) {
-    for (text, s, slices, wanted) in OFFSETS {
-        let found = offsets(rt.alloc(), text, *s, slices).expect(&rt, "memory");
-        assert!(rt; found.as_slice() == *wanted);
+    for (k, row) in OFFSETS.iter().enumerate() {
+        assert!(rt; is_as_told(&rt, row), "row {k}");
     }
 }
 
@@ -137,8 +162,7 @@ fn offsets_of_slices(rt: HostRuntime) {
 fn same_crc_with_another_md5(rt: HostRuntime) {
     let (md5, crc) = pair_of(b"bcde", 4);
     let pairs = [([7; 16], crc), (md5, crc), (md5, crc ^ 1)];
-    let found = found(rt.alloc(), b"abcdebcde", 4, &pairs).expect(&rt, "memory");
-    assert!(rt; found.as_slice() == [None, Some(1), None].as_slice());
+    assert!(rt; are_found(&rt, b"abcdebcde", 4, &pairs, &[None, Some(1), None]));
 }
 
 // The bytes of a window.
@@ -167,21 +191,33 @@ fn plain_offset(bytes: &[u8], s: u64, pair: &Pair) -> Option<usize>
     None
 }
 
-// Whether the search gives each pair what the plain search gives it.
-fn is_as_plain(alloc: Global, text: &[u8], s: u64, pairs: &[Pair]) -> Result<bool, AllocError>
+// The offsets by the plain search.
+fn plain_offsets(
+    rt: &(impl Abort + AllocGlobal),
+    text: &[u8],
+    s: u64,
+    pairs: &[Pair],
+) -> Vec<Option<usize>>
     requires { 1 ≤ s }
 {
-    let found = found(alloc, text, s, pairs)?;
-    for (k, pair) in pairs.iter().enumerate() {
-        if found.get(k).copied() != Some(plain_offset(text, s, pair)) {
-            return Ok(false);
-        }
+    let mut offsets = Vec::new(rt.alloc());
+    for pair in pairs {
+        offsets
+            .push(plain_offset(text, s, pair))
+            .expect(rt, "memory");
     }
-    Ok(found.len() == pairs.len())
+    offsets
+}
+
+// Whether the search gives each pair what the plain search gives it.
+fn is_as_plain(rt: &(impl Abort + AllocGlobal), text: &[u8], s: u64, pairs: &[Pair]) -> bool
+    requires { 1 ≤ s }
+{
+    are_found(rt, text, s, pairs, &plain_offsets(rt, text, s, pairs))
 }
 
 // The last ones have more windows than are compared side by side.
-const TEXTS: [&[u8]; 9] = [
+const TEXTS: &[&[u8]] = &[
     b"",
     b"a",
     b"\0\0\0\0\0",
@@ -193,39 +229,57 @@ const TEXTS: [&[u8]; 9] = [
     b"abcdefghiabcdefghiabcdefghi",
 ];
 
+// Whether the slices of each text are found in this one as by the plain search.
+fn is_searched(rt: &(impl Abort + AllocGlobal), text: &[u8], s: u64) -> bool
+    requires { 1 ≤ s }
+{
+    for other in TEXTS {
+        if !is_as_plain(rt, text, s, &pairs_of(rt, other, s)) {
+            return false;
+        }
+    }
+    true
+}
+
 #[test]
 fn same_as_a_plain_search(rt: HostRuntime) {
     for text in TEXTS {
-        for other in TEXTS {
-            for s in 1..10u64 {
-                let pairs = pairs_of(rt.alloc(), other, s).expect(&rt, "memory");
-                assert!(rt; is_as_plain(rt.alloc(), text, s, &pairs).expect(&rt, "memory"));
-            }
+        for s in 1..10u64 {
+            assert!(rt; is_searched(&rt, text, s));
         }
     }
 }
 
 // The pairs of every `step`th window, and before each, with `strangers`, one that has its CRC-32 and is nowhere.
 fn window_pairs(
-    alloc: Global,
+    rt: &(impl Abort + AllocGlobal),
     text: &[u8],
     s: u64,
     step: usize,
     strangers: bool,
-) -> Result<Vec<Pair>, AllocError>
+) -> Vec<Pair>
     requires { 1 ≤ step }
 {
-    let mut pairs = Vec::new(alloc);
+    let mut pairs = Vec::new(rt.alloc());
     for offset in 0..text.len() {
         if offset % step == 0 {
             let (md5, crc) = pair_of(window_at(text, s, offset), s);
             if strangers {
-                pairs.push(([7; 16], crc))?;
+                pairs.push(([7; 16], crc)).expect(rt, "memory");
             }
-            pairs.push((md5, crc))?;
+            pairs.push((md5, crc)).expect(rt, "memory");
         }
     }
-    Ok(pairs)
+    pairs
+}
+
+// Whether the windows are found as by the plain search, with strangers and without.
+fn are_searched(rt: &(impl Abort + AllocGlobal), text: &[u8], s: u64, step: usize) -> bool
+    requires size { 1 ≤ s }
+    requires step { 1 ≤ step }
+{
+    is_as_plain(rt, text, s, &window_pairs(rt, text, s, step, false))
+        && is_as_plain(rt, text, s, &window_pairs(rt, text, s, step, true))
 }
 
 // The windows overlap, and are wanted by more pairs than are compared side by side, down to the end of the file.
@@ -234,12 +288,7 @@ fn windows_that_follow_each_other(rt: HostRuntime) {
     for text in TEXTS {
         for s in 1..10u64 {
             for step in 1..4usize {
-                for strangers in [false, true] {
-                    let pairs = window_pairs(rt.alloc(), text, s, step, strangers).expect(
-                        &rt, "memory",
-                    );
-                    assert!(rt; is_as_plain(rt.alloc(), text, s, &pairs).expect(&rt, "memory"));
-                }
+                assert!(rt; are_searched(&rt, text, s, step));
             }
         }
     }

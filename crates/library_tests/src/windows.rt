@@ -1,17 +1,21 @@
 use crate::pairs::pairs_of;
 use par2_search::found_windows;
-use std::alloc::{AllocError, Global};
-use std::test::Fail;
+use par2_slices::Pair;
+use std::process::Abort;
 
-// Whether the slices of a text, of four bytes each, are found as these windows.
-fn is_found_as(
-    alloc: Global,
-    bytes: &[u8],
-    texts: &[&[u8]],
-    windows: &[Option<&[u8]>],
-) -> Result<bool, AllocError> {
-    let found = found_windows(alloc, texts, 4, &pairs_of(alloc, bytes, 4)?)?;
-    Ok(found.as_slice() == windows)
+// The windows in which the slices of these pairs, of four bytes each, are found.
+fn found_in<'a>(
+    rt: &(impl Abort + AllocGlobal),
+    texts: &[&'a [u8]],
+    pairs: &[Pair],
+) -> Vec<Option<&'a [u8]>> {
+    found_windows(rt.alloc(), texts, 4, pairs).expect(rt, "memory")
+}
+
+// Whether the slices of the bytes are found as the row says.
+fn is_found(rt: &(impl Abort + AllocGlobal), row: &Row) -> bool {
+    let (bytes, texts, windows) = *row;
+    found_in(rt, texts, &pairs_of(rt, bytes, 4)).as_slice() == windows
 }
 
 // Bytes, texts, and the window in which each slice of the bytes is found.
@@ -53,9 +57,8 @@ const ROWS: &[Row] = &[
 ];
 
 #[test]
-fn windows_of_slices(rt: HostRuntime) -> Result<(), Fail> {
-    for (k, (bytes, texts, windows)) in ROWS.iter().enumerate() {
-        assert!(rt; is_found_as(rt.alloc(), bytes, texts, windows)?, "row {k}");
+fn windows_of_slices(rt: HostRuntime) {
+    for (k, row) in ROWS.iter().enumerate() {
+        assert!(rt; is_found(&rt, row), "row {k}");
     }
-    Ok(())
 }

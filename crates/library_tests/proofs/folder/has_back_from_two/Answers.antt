@@ -3,10 +3,10 @@ use Rattle.par2_spec.specs.Changes.{takes_all, state_after, change_refusal, inve
 use Rattle.par2_spec.proofs.FolderLaws.{takes_both, inverse_taken, state_back}
 use Rattle.par2_folder.specs.Views.{change_of}
 use Rattle.library_tests.proofs.ChangesBack.{back_taken}
-use Rattle.library_tests.proofs.folder.fingerprints_back_from_two.Goals as goal
+use Rattle.library_tests.proofs.folder.has_back_from_two.Goals as goal
 
-pub fingerprints_along-requires : goal.fingerprints_along-requires
-fingerprints_along-requires c =
+pub has_along-requires : goal.has_along-requires
+has_along-requires g c =
     let start = c.args.folder in
     let one = state_after start (change_of c.args.first) in
     let two = state_after one (change_of c.args.second) in
