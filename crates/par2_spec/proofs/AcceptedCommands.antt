@@ -2,7 +2,7 @@
 use Rattle.std.proofs.Common.{◌≡◌, ℕ, ◌+◌, List, [], ◌∷◌, ◌++◌, refl, sym, ap, ◌∙◌, cond, true, false, Bool, not, ◌&&◌}
 use Rattle.std.specs.Prelude.{Option, Some, None, Result, Ok, Err, position, is_some, if◌then◌else◌}
 use Rattle.std.specs.List.{list_all, position_from}
-use Rattle.std.proofs.lemmas.Bool.{and_parts, and_from}
+use Rattle.std.proofs.lemmas.Bool.{and_parts, and_from, false≢true}
 use Rattle.std.proofs.lemmas.Iterator.Adapters.{position_from-zero}
 use Rattle.par2_spec.specs.declared.Fault.{Fault}
 use Rattle.par2_spec.specs.declared.Fault.TheVariants.{NoSuchFile}
@@ -14,7 +14,6 @@ use Rattle.par2_spec.specs.Repairs.{after_repair, after_repair_and_purge, after_
 use Rattle.par2_spec.specs.Commands.{Command, Create, Verify, Repair, Purge}
 use Rattle.par2_spec.specs.Refusals.{set_in, by_set, after}
 use Rattle.par2_spec.specs.Plans.{changes_of, repair_changes, repair_removals, purge_changes, AreFewFor, LeadsToAfter}
-use Rattle.par2_spec.proofs.NamesLaws.{false_true}
 use Rattle.par2_spec.proofs.CommandLaws.{create_leads, removals_lead}
 use Rattle.par2_spec.proofs.CreateLaws.{create_applies}
 use Rattle.par2_spec.proofs.ReadLaws.{fits_of, came_out}
@@ -23,7 +22,7 @@ use Rattle.par2_spec.proofs.RepairLaws.{fits_all, repair_applies, repair_leads, 
 abbrev pub missing : Folder → List (List ℕ) → Option ℕ
 missing folder names = position (λ word. not (has folder word)) names
 
-there_from : (folder : Folder) (n : ℕ) (names : List (List ℕ)) → position_from (λ word. not (has folder word)) n names ≡ None → list_all (has folder) names ≡ true
+pub there_from : (folder : Folder) (n : ℕ) (names : List (List ℕ)) → position_from (λ word. not (has folder word)) n names ≡ None → list_all (has folder) names ≡ true
 there_from folder n [] h = refl
 there_from folder n (name ∷ names) h = step (has folder name) refl h (there_from folder (n + 1) names)
   where
@@ -31,10 +30,10 @@ there_from folder n (name ∷ names) h = step (has folder name) refl h (there_fr
     rest = position_from (λ word. not (has folder word)) (n + 1) names
 
     step : (b : Bool) → has folder name ≡ b → cond (not b) (Some n) rest ≡ None → (rest ≡ None → list_all (has folder) names ≡ true) → (has folder name && list_all (has folder) names) ≡ true
-    step false e k later = absurd (false_true (sym (ap is_some k)))
+    step false e k later = absurd (false≢true (sym (ap is_some k)))
     step true e k later = and_from _ _ e (later k)
 
-all_there : (folder : Folder) (names : List (List ℕ)) → missing folder names ≡ None → list_all (has folder) names ≡ true
+pub all_there : (folder : Folder) (names : List (List ℕ)) → missing folder names ≡ None → list_all (has folder) names ≡ true
 all_there folder names h = there_from folder 0 names (sym (position_from-zero (λ word. not (has folder word)) names) ∙ h)
 
 pub in_full : (folder : Folder) (base : List ℕ) (extras : List (List ℕ)) → missing folder (base ∷ extras) ≡ None → set_in folder base extras ≡ set_of folder base
@@ -46,7 +45,7 @@ unfolding set_in
 in_part folder base extras k e = rw e refl
 
 no_fault : (set : ParSet) (fault : Fault) → ◌≡◌ {A = Result ParSet Fault} (Err fault) (Ok set) → ⊥
-no_fault set fault e = false_true (ap came_out e)
+no_fault set fault e = false≢true (ap came_out e)
 
 -- what a set that is read in a folder with these names tells
 pub set_in_reads : (folder : Folder) (base : List ℕ) (extras : List (List ℕ)) (set : ParSet) → set_in folder base extras ≡ Ok set → (set_of folder base ≡ Ok set) × (list_all (has folder) (base ∷ extras) ≡ true)

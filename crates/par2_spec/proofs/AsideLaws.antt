@@ -5,7 +5,7 @@ use Rattle.std.specs.List.{range_with_len, list_all}
 use Rattle.std.specs.Str.{bytes_eq}
 use Rattle.std.proofs.Math.Seq.{drop-append_seam}
 use Rattle.std.proofs.lemmas.List.{append_assoc}
-use Rattle.std.proofs.lemmas.Bool.{and_parts, and_from, or_cases, or_from, cases_Bool, ne_eqb, not_from_false, cases_eq}
+use Rattle.std.proofs.lemmas.Bool.{and_parts, and_from, or_cases, or_from, cases_Bool, ne_eqb, not_from_false, cases_eq, false≢true, not-true, not-false}
 use Rattle.std.proofs.lemmas.Cmp.{nat_list_eq_equiv}
 use Rattle.std.proofs.lemmas.Fmt.{decimal_by_steps, decimal_injective}
 use Rattle.std.proofs.lemmas.List.Folds.{list_all-append}
@@ -15,7 +15,7 @@ use Rattle.par2_spec.specs.Names.{is_among, numbered, IsLeastFree}
 use Rattle.par2_spec.specs.Folders.{Folder}
 use Rattle.par2_spec.specs.Sets.{ParSet}
 use Rattle.par2_spec.specs.Repairs.{aside, taken_for, AreFew}
-use Rattle.par2_spec.proofs.NamesLaws.{false_from_not, true_from_not, same_name, false_true, other_name, AreDistinct, std_from_distinct}
+use Rattle.par2_spec.proofs.NamesLaws.{same_name, other_name, AreDistinct, std_from_distinct}
 
 -- ---- a numbered name tells its name
 
@@ -44,7 +44,7 @@ no_dot : (text : List ℕ) → is_dotless text ≡ true → before_last_dot text
 no_dot [] h = refl
 no_dot (b ∷ text) h =
     let r = and_parts (not (b == 46)) (is_dotless text) h in
-    ap (cut_here (b == 46) b) (no_dot text r.1) ∙ ap (λ t. cut_here t b None) (false_from_not (b == 46) r.0)
+    ap (cut_here (b == 46) b) (no_dot text r.1) ∙ ap (λ t. cut_here t b None) (not-true (b == 46) r.0)
 
 one_dot : (name text : List ℕ) → is_dotless text ≡ true → before_last_dot (name ++ 46 ∷ text) ≡ Some name
 one_dot [] text h = ap (cut_here true 46) (no_dot text h)
@@ -73,7 +73,7 @@ pub record IsFirst (test : List ℕ → Bool) (g : ℕ → List ℕ) (a k n : �
   pub none_before : (m : ℕ) → a ≤ m → m < n → test (g m) ≡ false
 
 first_found : (test : List ℕ → Bool) (g : ℕ → List ℕ) (a k : ℕ) → is_some (find test (map g (range_with_len a k))) ≡ true → (n : ℕ) × IsFirst test g a k n × (find test (map g (range_with_len a k)) ≡ Some (g n))
-first_found test g a zero h = absurd (false_true h)
+first_found test g a zero h = absurd (false≢true h)
 first_found test g a (suc k) h = step (test (g a)) refl h (first_found test g (a + 1) k)
   where
     rest : Option (List ℕ)
@@ -106,7 +106,7 @@ first_found test g a (suc k) h = step (test (g a)) refl h (first_found test g (a
 -- ---- there is room
 
 none_passes : (test : List ℕ → Bool) (xs : List (List ℕ)) → is_some (find test xs) ≡ false → (q : List ℕ) → is_among xs q ≡ true → test q ≡ false
-none_passes test [] h q i = absurd (false_true i)
+none_passes test [] h q i = absurd (false≢true i)
 none_passes test (x ∷ xs) h q i =
     let both = split (test x) (find test xs) h in
     elim (or_cases (bytes_eq q x) (is_among xs q) i) as (λ _. test q ≡ false) [
@@ -115,7 +115,7 @@ none_passes test (x ∷ xs) h q i =
     ]
   where
     split : (b : Bool) (rest : Option (List ℕ)) → is_some (cond b (Some x) rest) ≡ false → (b ≡ false) × (is_some rest ≡ false)
-    split true rest j = absurd (false_true (sym j))
+    split true rest j = absurd (false≢true (sym j))
     split false rest j = (refl, j)
 
 not_later : (name : List ℕ) (m a k : ℕ) → m < a → a + k ≤ 2 ^ 64 → is_among (map (numbered name) (range_with_len a k)) (numbered name m) ≡ false
@@ -133,7 +133,7 @@ numbered_once name a (suc k) h = (not_later name a (a + 1) k (omega arith) (omeg
 one_is_free : (name : List ℕ) (taken : List (List ℕ)) → length taken + 1 < 2 ^ 64 → is_some (find (λ other. not (is_among taken other)) (map (numbered name) (range_with_len 1 (length taken + 1)))) ≡ true
 one_is_free name taken few = elim (cases_Bool (is_some (find free numbers))) as (λ _. is_some (find free numbers) ≡ true) [
   | inl h ↦ h
-  | inr h ↦ absurd (too_many (length-le_from_is_member nat_list_eq_equiv numbers taken (std_from_distinct numbers (numbered_once name 1 (length taken + 1) (omega (arith, few)))) (λ q i. true_from_not (is_among taken q) (none_passes free numbers h q i))))
+  | inr h ↦ absurd (too_many (length-le_from_is_member nat_list_eq_equiv numbers taken (std_from_distinct numbers (numbered_once name 1 (length taken + 1) (omega (arith, few)))) (λ q i. not-false (is_among taken q) (none_passes free numbers h q i))))
 ]
   where
     free : List ℕ → Bool
@@ -158,7 +158,7 @@ aside_is folder set name few =
 pub aside_out : (folder : Folder) (set : ParSet) (name : List ℕ) → AreFew folder set → is_among (taken_for folder set) (aside folder set name) ≡ false
 aside_out folder set name few =
     let r = aside_is folder set name few in
-    subst (λ x. is_among (taken_for folder set) x ≡ false) (sym r.2) (false_from_not (is_among (taken_for folder set) (numbered name r.0)) r.1.passes)
+    subst (λ x. is_among (taken_for folder set) x ≡ false) (sym r.2) (not-true (is_among (taken_for folder set) (numbered name r.0)) r.1.passes)
 
 pub aside_one : (folder : Folder) (set : ParSet) (a b : List ℕ) → AreFew folder set → aside folder set a ≡ aside folder set b → a ≡ b
 aside_one folder set a b few e =
@@ -176,5 +176,5 @@ aside_least folder set name few =
       positive = r.1.from;
       spelled = r.2;
       free = aside_out folder set name few;
-      least = λ m low high. true_from_not (is_among (taken_for folder set) (numbered name m)) (r.1.none_before m low high);
+      least = λ m low high. not-false (is_among (taken_for folder set) (numbered name m)) (r.1.none_before m low high);
     }

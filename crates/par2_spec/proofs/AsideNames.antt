@@ -1,9 +1,9 @@
 -- A numbered name is a name, where it has at most 255 bytes.
 use Rattle.std.proofs.Common.{◌≡◌, ℕ, suc, ◌+◌, ◌%◌, ◌^◌, ◌<◌, ◌≤◌, List, [], ◌∷◌, ◌++◌, length, refl, sym, ap, ◌∙◌, subst, true, false, not, eqb, arith, length-append}
-use Rattle.std.specs.Prelude.{codes, decimal, nat_le, nat_eq, ◌==◌}
+use Rattle.std.specs.Prelude.{codes, decimal, nat_eq, ◌==◌}
 use Rattle.std.specs.List.{list_any, starts_with}
-use Rattle.std.specs.Str.{bytes_eq, is_utf8, IsUtf8}
-use Rattle.std.proofs.lemmas.Bool.{and_parts, and_from, or_from, false_from_ne_true, not_from_false, ne_eqb, le-leb, leb-true}
+use Rattle.std.specs.Str.{bytes_eq, IsUtf8}
+use Rattle.std.proofs.lemmas.Bool.{and_parts, and_from, or_from, false_from_ne_true, not_from_false, ne_eqb, le-leb, leb-true, not-true}
 use Rattle.std.proofs.lemmas.Fmt.{decimal_by_steps, decimal_nonempty, IsAscii-decimal}
 use Rattle.std.proofs.lemmas.List.Folds.{list_any-append}
 use Rattle.std.proofs.lemmas.Str.{IsUtf8-append, IsUtf8-from_ascii, IsUtf8-from_is_utf8, is_utf8-from_IsUtf8}
@@ -12,8 +12,9 @@ use Rattle.par2_spec.specs.Names.{is_name, numbered}
 use Rattle.par2_spec.specs.Folders.{Folder}
 use Rattle.par2_spec.specs.Sets.{ParSet}
 use Rattle.par2_spec.specs.Repairs.{aside, AreFew, taken_for}
-use Rattle.par2_spec.proofs.NamesLaws.{clash, other_name, false_from_not}
+use Rattle.par2_spec.proofs.NamesLaws.{clash, other_name}
 use Rattle.par2_spec.proofs.AsideLaws.{is_dotless, numbered_is, aside_is}
+use Rattle.par2_spec.proofs.NameTests.{tests_of, name_of}
 
 -- a byte below the digits is none of them
 no_low_digit : (low d : ℕ) → low < 48 → list_any (λ b. b == low) ((48 + d) ∷ []) ≡ false
@@ -33,7 +34,7 @@ no_low_numbered low name n h other small out =
 pub front_of_name : (front name rest : List ℕ) → is_dotless front ≡ true → starts_with nat_eq (name ++ 46 ∷ rest) front ≡ true → starts_with nat_eq name front ≡ true
 front_of_name [] name rest h k = refl
 front_of_name (b ∷ front) [] rest h k =
-    absurd (clash (and_parts (eqb b 46) _ k).0 (false_from_not (b == 46) (and_parts (not (b == 46)) _ h).0))
+    absurd (clash (and_parts (eqb b 46) _ k).0 (not-true (b == 46) (and_parts (not (b == 46)) _ h).0))
 front_of_name (b ∷ front) (c ∷ name) rest h k =
     let r = and_parts (eqb b c) (starts_with nat_eq (name ++ 46 ∷ rest) front) k in
     and_from _ _ r.0 (front_of_name front name rest (and_parts (not (b == 46)) _ h).1 r.1)
@@ -48,34 +49,6 @@ front_of_numbered front (c ∷ name) rest h l k =
 pub longer : (name other : List ℕ) → length other < length name → bytes_eq name other ≡ false
 longer name other h = other_name name other (λ e. let same : length name ≡ length other = ap length e in absurd (omega (arith, same, h)))
 
--- the tests of a name, one by one
-record Tests (name : List ℕ) : Type 0 where
-  some : nat_le 1 (length name) ≡ true
-  short : nat_le (length name) 255 ≡ true
-  text : is_utf8 name ≡ true
-  no_slash : not (list_any (λ b. b == 0x2F) name) ≡ true
-  no_zero : not (list_any (λ b. b == 0) name) ≡ true
-  no_dot : not (bytes_eq name (codes ".")) ≡ true
-  no_dots : not (bytes_eq name (codes "..")) ≡ true
-  no_undo : not (starts_with nat_eq name (codes ".par2undo")) ≡ true
-
-tests_of : (name : List ℕ) → is_name name ≡ true → Tests name
-unfolding is_name
-tests_of name h =
-    let a = and_parts _ (not (starts_with nat_eq name (codes ".par2undo"))) h in
-    let b = and_parts _ (not (bytes_eq name (codes ".."))) a.0 in
-    let c = and_parts _ (not (bytes_eq name (codes "."))) b.0 in
-    let d = and_parts _ (not (list_any (λ x. x == 0) name)) c.0 in
-    let e = and_parts _ (not (list_any (λ x. x == 0x2F) name)) d.0 in
-    let f = and_parts _ (is_utf8 name) e.0 in
-    let g = and_parts (nat_le 1 (length name)) (nat_le (length name) 255) f.0 in
-    record { some = g.0; short = g.1; text = f.1; no_slash = e.1; no_zero = d.1; no_dot = c.1; no_dots = b.1; no_undo = a.1 }
-
-name_of : (name : List ℕ) → Tests name → is_name name ≡ true
-unfolding is_name
-name_of name t =
-    and_from _ _ (and_from _ _ (and_from _ _ (and_from _ _ (and_from _ _ (and_from _ _ (and_from _ _ t.some t.short) t.text) t.no_slash) t.no_zero) t.no_dot) t.no_dots) t.no_undo
-
 pub numbered_is_name : (name : List ℕ) (n : ℕ) → n < 2 ^ 64 → is_name name ≡ true → length (numbered name n) ≤ 255 → is_name (numbered name n) ≡ true
 numbered_is_name name n small h short =
     let t = tests_of name h in
@@ -87,13 +60,13 @@ numbered_is_name name n small h short =
       short = le-leb (length (numbered name n)) 255 short;
       text = is_utf8-from_IsUtf8 (numbered name n) (subst IsUtf8 (sym (numbered_is name n))
           (IsUtf8-append name (46 ∷ decimal n) (IsUtf8-from_is_utf8 name t.text) (IsUtf8-from_ascii (46 ∷ decimal n) (IsAscii-cons 46 (decimal n) (omega arith) (IsAscii-decimal n small)))));
-      no_slash = not_from_false _ (no_low_numbered 0x2F name n (omega arith) (λ e. absurd (omega (arith, e))) small (false_from_not _ t.no_slash));
-      no_zero = not_from_false _ (no_low_numbered 0 name n (omega arith) (λ e. absurd (omega (arith, e))) small (false_from_not _ t.no_zero));
+      no_slash = not_from_false _ (no_low_numbered 0x2F name n (omega arith) (λ e. absurd (omega (arith, e))) small (not-true _ t.no_slash));
+      no_zero = not_from_false _ (no_low_numbered 0 name n (omega arith) (λ e. absurd (omega (arith, e))) small (not-true _ t.no_zero));
       no_dot = not_from_false _ (longer (numbered name n) (codes ".") (omega (arith, some, digits, long)));
       no_dots = not_from_false _ (longer (numbered name n) (codes "..") (omega (arith, some, digits, long)));
       no_undo = not_from_false _ (false_from_ne_true _ (λ k.
           clash (front_of_numbered (codes "par2undo") name (decimal n) refl (omega (arith, some)) (subst (λ x. starts_with nat_eq x (codes ".par2undo") ≡ true) (numbered_is name n) k))
-          (false_from_not _ t.no_undo)));
+          (not-true _ t.no_undo)));
     })
 
 pub aside_is_name : (folder : Folder) (set : ParSet) (name : List ℕ) → AreFew folder set → is_name name ≡ true → length (aside folder set name) ≤ 255 → is_name (aside folder set name) ≡ true
@@ -101,6 +74,3 @@ aside_is_name folder set name few h short =
     let r = aside_is folder set name few in
     let low : r.0 < 1 + (length (taken_for folder set) + 1) = r.1.below in
     subst (λ x. is_name x ≡ true) (sym r.2) (numbered_is_name name r.0 (omega (arith, low, few)) h (subst (λ x. length x ≤ 255) r.2 short))
-
-pub name_is_short : (name : List ℕ) → is_name name ≡ true → nat_le (length name) 255 ≡ true
-name_is_short name h = (tests_of name h).short

@@ -9,6 +9,7 @@ use Rattle.std.proofs.lemmas.List.{length_push}
 use Rattle.std.proofs.lemmas.Nat.Bits.{bit_at_lowest, bit_at_xor}
 use Rattle.par2_spec.specs.Checksums.{crc_step, crc_steps, crc_byte, crc32}
 use Rattle.par2_spec.proofs.FieldBits.{xor_middle}
+use Rattle.par2_spec.proofs.SumLaws.{xor_off}
 
 lowest_of_xor : (a b : ℕ) → bit_xor a b % 2 ≡ (a % 2 + b % 2) % 2
 lowest_of_xor a b =
@@ -113,16 +114,12 @@ fold-zeros (suc n) c =
     ∙ fold-zeros n (crc_steps 8 c)
     ∙ more_steps n c
 
--- what is in both sides goes away
-cancelled : (x y : ℕ) → bit_xor (bit_xor x y) y ≡ x
-cancelled x y = xor_assoc x y y ∙ ap (bit_xor x) (xor_self y) ∙ xor_zero_r x
-
 pub crc32-zeros : (bytes : List ℕ) (n : ℕ) → crc32 (bytes ++ replicate n 0) ≡ bit_xor (crc_steps (8 * n) (bit_xor (crc32 bytes) 0xFFFFFFFF)) 0xFFFFFFFF
 unfolding crc32
 crc32-zeros bytes n =
     ap (λ c. bit_xor c 0xFFFFFFFF)
     (fold-append bytes (replicate n 0) 0xFFFFFFFF ∙ fold-zeros n (fold crc_byte 0xFFFFFFFF bytes)
-    ∙ ap (crc_steps (8 * n)) (sym (cancelled (fold crc_byte 0xFFFFFFFF bytes) 0xFFFFFFFF)))
+    ∙ ap (crc_steps (8 * n)) (sym (xor_off (fold crc_byte 0xFFFFFFFF bytes) 0xFFFFFFFF)))
 
 turned : (p q r s : ℕ) → bit_xor (bit_xor (bit_xor p q) r) s ≡ bit_xor p (bit_xor r (bit_xor q s))
 turned p q r s =
@@ -141,11 +138,11 @@ crc32-slide out next rest =
     let both : bit_xor after behind ≡ crc_byte whole next = (
     ap (λ k. bit_xor after (crc_steps (8 * k) (bit_xor first ones))) (sym (length_push rest next ∙ (let e : length rest + 1 ≡ suc (length rest) = omega arith in e)))
     ∙ sym (fold-xor (rest ++ next ∷ []) ones (bit_xor first ones))
-    ∙ ap (λ c. fold crc_byte c (rest ++ next ∷ [])) (xor_comm ones (bit_xor first ones) ∙ cancelled first ones)
+    ∙ ap (λ c. fold crc_byte c (rest ++ next ∷ [])) (xor_comm ones (bit_xor first ones) ∙ xor_off first ones)
     ∙ fold-append rest (next ∷ []) first
     ) in
     let here : crc_byte whole next ≡ bit_xor (crc_byte (bit_xor whole ones) next) (crc_steps 8 ones) = (
-    ap (λ c. crc_byte c next) (sym (cancelled whole ones)) ∙ crc_byte-xor (bit_xor whole ones) ones next
+    ap (λ c. crc_byte c next) (sym (xor_off whole ones)) ∙ crc_byte-xor (bit_xor whole ones) ones next
     ) in
-    ap (λ c. bit_xor c ones) (sym (cancelled after behind) ∙ ap (λ c. bit_xor c behind) (both ∙ here))
+    ap (λ c. bit_xor c ones) (sym (xor_off after behind) ∙ ap (λ c. bit_xor c behind) (both ∙ here))
     ∙ turned (crc_byte (bit_xor whole ones) next) (crc_steps 8 ones) behind ones

@@ -11,7 +11,7 @@ use Rattle.std.proofs.lemmas.Simd.{map-map}
 use Rattle.std.proofs.lemmas.Bool.{and_from, not_from_false, or_from, or_left, or_right}
 use Rattle.par2_spec.specs.Names.{is_among}
 use Rattle.par2_spec.specs.Folders.{Folder, File, has}
-use Rattle.par2_spec.specs.Changes.{Write, Replace, effect, is_applicable, are_applicable}
+use Rattle.par2_spec.specs.Changes.{Write, Replace, is_applicable, are_applicable}
 use Rattle.par2_spec.specs.Volumes.{volumes, volume_name, volumes_before, volume_numbers, volume_size, five_digits, stem, record_of, in_id_order, index_packets}
 use Rattle.par2_spec.specs.Packets.{packet}
 use Rattle.par2_spec.specs.Commands.{CreateArgs, outputs_of}

@@ -5,7 +5,7 @@ use Rattle.std.specs.Int.Bits.{xor_assoc, xor_self, xor_zero_r}
 use Rattle.std.specs.List.{range_with_len, list_any, AllByRecursion, AllZip, Contains}
 use Rattle.std.specs.Option.{ForSome}
 use Rattle.std.proofs.lemmas.Nat.{xor_lt, xor_comm}
-use Rattle.std.proofs.lemmas.Bool.{cases_eq, or_cases, eqb-true}
+use Rattle.std.proofs.lemmas.Bool.{cases_eq, or_cases, eqb-true, false≢true}
 use Rattle.std.proofs.lemmas.List.{length-map}
 use Rattle.std.proofs.Math.Seq.{drop-cons}
 use Rattle.par2_spec.specs.Field.{mul, coefficient}
@@ -15,11 +15,13 @@ use Rattle.par2_spec.specs.Rank.{kept, IsVector, IsRepairable, Kills, AreBytes, 
 use Rattle.par2_spec.specs.Search.{lost}
 use Rattle.par2_spec.proofs.FieldProducts.{product_linear_right, product-lt, product_comm, product-one, product_assoc}
 use Rattle.par2_spec.proofs.FieldOrder.{product-zero, has_inverse}
-use Rattle.par2_spec.proofs.NamesLaws.{clash, false_true}
+use Rattle.par2_spec.proofs.NamesLaws.{clash}
 use Rattle.par2_spec.proofs.RankLaws.{kept-iff, counts, counts-iff}
 use Rattle.par2_spec.proofs.OthersLaws.{another_agrees}
 use Rattle.par2_spec.proofs.WordLaws.{byte_at, word-lt, spelled, length-spelled, bytes-spelled, word_of}
 use Rattle.par2_spec.proofs.UniqueLaws.{sums, AreElements, dot-sums, dot-lt, coefficients_are, sums-elements, lost_from, whole_row, words_are, same_words, contains_later, AreTexts}
+use Rattle.par2_spec.proofs.ListsLaws.{all-map, all_unmap}
+use Rattle.par2_spec.proofs.FoundLaws.{all-filter}
 
 -- ---- a vector times an element
 
@@ -171,7 +173,7 @@ all-filled P text h j (None ∷ ks) k = (h j, all-filled P text h (j + 1) ks k.1
 known-filled : (text : ℕ → List ℕ) (j : ℕ) (ks : List (Option (List ℕ))) → AllZip (λ slice found. ForSome slice (λ y. found ≡ y)) ks (filled text j ks)
 known-filled text j [] = tt
 known-filled text j (Some y ∷ ks) = ((λ found e. ap (λ o. unwrap_or o y) e), known-filled text j ks)
-known-filled text j (None ∷ ks) = ((λ found e. absurd (false_true (ap is_some e))), known-filled text (j + 1) ks)
+known-filled text j (None ∷ ks) = ((λ found e. absurd (false≢true (ap is_some e))), known-filled text (j + 1) ks)
 
 -- what the known slices give to a word of a recovery slice
 abbrev of_known : ℕ → ℕ → List (Option (List ℕ)) → ℕ → ℕ
@@ -216,7 +218,7 @@ of_known-lt e i (Some y ∷ ks) p h =
 of_known-lt e i (None ∷ ks) p h = of_known-lt e (i + 1) ks p h.1
 
 contained : (xs : List ℕ) (q : ℕ) → list_any (λ x. x == q) xs ≡ true → Contains xs q
-contained [] q h = absurd (false_true h)
+contained [] q h = absurd (false≢true h)
 contained (x ∷ xs) q h = elim (or_cases (x == q) (list_any (λ y. y == q) xs) h) as (λ _. Contains (x ∷ xs) q) [
   | inl here ↦ (0, omega arith, eqb-true x q here)
   | inr there ↦ contains_later x xs q (contained xs q there)
@@ -306,12 +308,7 @@ agreeing_exist s m known rs text survive = (
 
 -- what all exponents kill, the kept ones kill
 kills_kept : (P : ℕ → Type 0) (p : ℕ × List ℕ → Bool) (rs : List (ℕ × List ℕ)) → AllByRecursion P (map (λ r. r.0) rs) → AllByRecursion P (map (λ r. r.0) (filter p rs))
-kills_kept P p [] h = tt
-kills_kept P p (r ∷ rs) h = step (p r) (filter p rs) (kills_kept P p rs h.1)
-  where
-    step : (b : Bool) (qs : List (ℕ × List ℕ)) → AllByRecursion P (map (λ q. q.0) qs) → AllByRecursion P (map (λ q. q.0) (cond b (r ∷ qs) qs))
-    step true qs k = (h.0, k)
-    step false qs k = k
+kills_kept P p rs h = all-map (λ r. P r.0) P (λ r. r.0) (λ r k. k) (filter p rs) (all-filter (λ r. P r.0) p rs (all_unmap P (λ r. r.0) rs h))
 
 pub two_agree : (s m : ℕ) (known : List (Option (List ℕ))) (rs : List (ℕ × List ℕ)) (text : ℕ → List ℕ) → AreSurvivors s m known rs text → 2 ≤ s → (IsRepairable (lost known) (map (λ r. r.0) rs) → ⊥)
     → TwoAgree s known (kept_slices (lost known) (map (λ r. r.0) rs) rs)

@@ -1,11 +1,12 @@
 -- A repair leaves each of the files that a set was made from.
 use Rattle.std.proofs.Common.{◌≡◌, ℕ, zero, suc, ◌+◌, ◌*◌, ◌%◌, ◌^◌, ◌<◌, ◌≤◌, List, [], ◌∷◌, ◌++◌, length, map, refl, sym, ap, ◌∙◌, subst, cond, true, false, Bool, not, ◌&&◌, arith, inl, inr}
-use Rattle.std.specs.Prelude.{filter, find, zip, ◌==◌, ◌⊎◌, Option, Some, None, is_some, unwrap_or, option_to_list, nat_le}
+use Rattle.std.specs.Prelude.{filter, find, zip, ◌==◌, Option, Some, None, option_to_list, nat_le}
 use Rattle.std.specs.List.{range_with_len, list_all, AllByRecursion}
 use Rattle.std.specs.Option.{ForSome}
 use Rattle.std.specs.FinMap as map_of
 use Rattle.std.specs.Str.{bytes_eq}
-use Rattle.std.proofs.lemmas.Bool.{and_parts, and_from, or_from, or_cases, or_left, or_right, eqb-true, false_from_ne_true}
+use Rattle.std.proofs.lemmas.Bool.{and_parts, and_from, or_from, or_cases, or_left, or_right, eqb-true, false_from_ne_true, false≢true, not-false, cases_eq, not-true}
+use Rattle.std.proofs.Math.Bool.{not-not}
 use Rattle.md5.specs.Md5.{md5}
 use Rattle.par2_spec.specs.Checksums.{pair_of}
 use Rattle.par2_spec.specs.Slices.{slice_count, slice_at, slices}
@@ -17,7 +18,8 @@ use Rattle.par2_spec.specs.Volumes.{record_of, all_slices}
 use Rattle.par2_spec.specs.Sets.{ParSet, Target, target_of_file, MadeFrom, is_slice_size}
 use Rattle.par2_spec.specs.Search.{is_intact, is_needing, needing, intact_names, matches, known, lost, survivors, NoCollision}
 use Rattle.par2_spec.specs.Repairs.{aside, put_aside, names_without_match, files_of_slices, rebuilt_targets, after_repair, after_repair_and_purge, par_files, is_par_file, FitsRepair, HoldsRepaired}
-use Rattle.par2_spec.proofs.NamesLaws.{true_from_not, same_name, itself, clash, false_true, among-filter, among-append, apart_by_test, image_of}
+use Rattle.par2_spec.specs.Commands.{files_of}
+use Rattle.par2_spec.proofs.NamesLaws.{same_name, itself, clash, among-filter, among-append, apart_by_test, image_of}
 use Rattle.par2_spec.proofs.FoundLaws.{slice_begins, all-filter, all_by_test}
 use Rattle.par2_spec.proofs.RankLaws.{all_weaker}
 use Rattle.par2_spec.proofs.MovesLaws.{get_without}
@@ -25,24 +27,20 @@ use Rattle.par2_spec.proofs.SearchLaws.{pairs_with, found_passes}
 use Rattle.par2_spec.proofs.ReadLaws.{sound_of, size_positive}
 use Rattle.par2_spec.proofs.RepairLaws.{Fits, fits_all, match_free, aside_no_target, repaired_holds}
 use Rattle.par2_spec.proofs.RestoredLaws.{IsTold, same_slices, true_slices_rebuilt, true_files}
+use Rattle.par2_spec.proofs.TestLaws.{some_if}
+use Rattle.par2_spec.proofs.ListsLaws.{all-parts, all-both, all_unmap, filter-map}
 
 -- ---- bytes that are intact for a file are the file's
 
 at_range : {A : Type 0} (P : A → Type 0) (f : ℕ → A) (a n o : ℕ) → AllByRecursion P (map f (range_with_len a n)) → a ≤ o → o < a + n → P (f o)
 at_range P f a zero o h low high = absurd (omega (arith, low, high))
-at_range P f a (suc n) o h low high = elim (cases_le a o low) as (λ _. P (f o)) [
+at_range P f a (suc n) o h low high = elim (cases_eq a o) as (λ _. P (f o)) [
   | inl same ↦ subst (λ x. P (f x)) same h.0
-  | inr more ↦ at_range P f (a + 1) n o h.1 (omega (arith, more)) (omega (arith, high))
+  | inr other ↦ at_range P f (a + 1) n o h.1 (omega (arith, low, other)) (omega (arith, high))
 ]
-  where
-    cases_le : (b y : ℕ) → b ≤ y → (b ≡ y) ⊎ (b < y)
-    cases_le zero zero l = inl refl
-    cases_le zero (suc y) l = inr (omega arith)
-    cases_le (suc b) zero l = absurd (omega (arith, l))
-    cases_le (suc b) (suc y) l = elim (cases_le b y (omega (arith, l))) as (λ _. (suc b ≡ suc y) ⊎ (suc b < suc y)) [ inl e ↦ inl (ap suc e) | inr s ↦ inr (omega (arith, s)) ]
 
 pub at_name : (P : List ℕ → Type 0) (names : List (List ℕ)) (q : List ℕ) → AllByRecursion P names → is_among names q ≡ true → P q
-at_name P [] q h i = absurd (false_true i)
+at_name P [] q h i = absurd (false≢true i)
 at_name P (x ∷ names) q h i = elim (or_cases (bytes_eq q x) (is_among names q) i) as (λ _. P q) [
   | inl here ↦ subst P (sym (same_name q x here)) h.0
   | inr there ↦ at_name P names q h.1 there
@@ -82,14 +80,10 @@ exact_file folder s searched file positive told name i h =
     below : (j n : ℕ) → j < 0 + n → j < n
     below j n l = omega (arith, l)
 
-all_parts : {A : Type 0} (P : A → Type 0) (xs ys : List A) → AllByRecursion P (xs ++ ys) → AllByRecursion P xs × AllByRecursion P ys
-all_parts P [] ys h = (tt, h)
-all_parts P (x ∷ xs) ys h = let r = all_parts P xs ys h.1 in ((h.0, r.0), r.1)
-
 exact_files : (folder : Folder) (s : ℕ) (searched : List (List ℕ)) (files : List File) → 0 < s → NoCollision folder searched s (all_slices s files) → AllByRecursion (IsExact folder s searched) files
 exact_files folder s searched [] positive told = tt
 exact_files folder s searched (file ∷ files) positive told =
-    let r = all_parts (IsTold folder searched s) (slices s file.1) (all_slices s files) told in
+    let r = all-parts (IsTold folder searched s) (slices s file.1) (all_slices s files) told in
     (exact_file folder s searched file positive r.0, exact_files folder s searched files positive r.1)
 
 -- ---- file by file
@@ -159,31 +153,12 @@ chosen_names {A = A} name p (x ∷ xs) = (
     step true ys q h = or_right (bytes_eq q (name x)) (is_among (map name ys) q) h
     step false ys q h = h
 
-all_both : {A : Type 0} (P Q : A → Type 0) (xs : List A) → AllByRecursion P xs → AllByRecursion Q xs → AllByRecursion (λ x. P x × Q x) xs
-all_both P Q [] h k = tt
-all_both P Q (x ∷ xs) h k = ((h.0, k.0), all_both P Q xs h.1 k.1)
-
-pub all_unmap : {A B : Type 0} (P : B → Type 0) (g : A → B) (xs : List A) → AllByRecursion P (map g xs) → AllByRecursion (λ x. P (g x)) xs
-all_unmap P g [] h = tt
-all_unmap P g (x ∷ xs) h = (h.0, all_unmap P g xs h.1)
-
-pub filter-map : {A B : Type 0} (p : B → Bool) (g : A → B) (xs : List A) → filter p (map g xs) ≡ map g (filter (λ x. p (g x)) xs)
-filter-map p g [] = refl
-filter-map {A = A} p g (x ∷ xs) = step (p (g x)) (filter (λ y. p (g y)) xs) (filter-map p g xs)
-  where
-    step : (b : Bool) (ys : List A) → filter p (map g xs) ≡ map g ys → cond b (g x ∷ filter p (map g xs)) (filter p (map g xs)) ≡ map g (cond b (x ∷ ys) ys)
-    step true ys e = ap (λ zs. g x ∷ zs) e
-    step false ys e = e
+-- the names of files are those by which they were taken
+pub names_of_files : (folder : Folder) (names : List (List ℕ)) → map (λ file. file.0) (files_of folder names) ≡ names
+names_of_files folder [] = refl
+names_of_files folder (name ∷ names) = ap (λ ns. name ∷ ns) (names_of_files folder names)
 
 -- ---- after a repair
-
-is_there : (o : Option (List ℕ)) → is_some o ≡ true → o ≡ Some (unwrap_or o [])
-is_there None h = absurd (false_true h)
-is_there (Some x) h = refl
-
-twice : (b : Bool) → b ≡ not (not b)
-twice true = refl
-twice false = refl
 
 module _ (folder : Folder) (base : List ℕ) (files : List File) (s : ℕ) (searched : List (List ℕ)) (m : MadeFrom folder base files s) (fits : FitsRepair folder m.set searched) where
   abbrev set : ParSet
@@ -214,18 +189,14 @@ module _ (folder : Folder) (base : List ℕ) (files : List File) (s : ℕ) (sear
   named : AllByRecursion (λ file. IsNamed (target_of_file s file)) files
   named =
       all_unmap IsNamed (target_of_file s) files (subst (AllByRecursion IsNamed) m.targets
-      (all_both (λ t. is_among targets t.name ≡ true) (λ t. not (is_needing folder m.set t) ≡ true → is_among (intact_names folder m.set) t.name ≡ true) m.set.targets (all_names (λ t. t.name) m.set.targets) (chosen_names (λ t. t.name) (λ t. not (is_needing folder m.set t)) m.set.targets)))
+      (all-both (λ t. is_among targets t.name ≡ true) (λ t. not (is_needing folder m.set t) ≡ true → is_among (intact_names folder m.set) t.name ≡ true) IsNamed (λ t own intact. (own, intact)) m.set.targets (all_names (λ t. t.name) m.set.targets) (chosen_names (λ t. t.name) (λ t. not (is_needing folder m.set t)) m.set.targets)))
 
   untouched : (q : List ℕ) → is_among targets q ≡ true → is_among (intact_names folder m.set) q ≡ true → map_of.get after q ≡ map_of.get folder q
   untouched q own intact =
       holds.others q
-      (apart_by_test (λ t. t.name) (λ t. not (is_needing folder m.set t)) (is_needing folder m.set) (λ t. twice (is_needing folder m.set t)) m.set.targets all.once q intact)
-      (false_from_ne_true _ (λ i. clash intact (false_of (match_free folder m.set searched all q i).1)))
+      (apart_by_test (λ t. t.name) (λ t. not (is_needing folder m.set t)) (is_needing folder m.set) (λ t. sym (not-not (is_needing folder m.set t))) m.set.targets all.once q intact)
+      (false_from_ne_true _ (λ i. clash intact (not-true _ (match_free folder m.set searched all q i).1)))
       (false_from_ne_true _ (λ i. let r = image_of (aside folder m.set) (put_aside folder m.set) q i in clash own (subst (λ x. is_among targets x ≡ false) (sym r.2) (aside_no_target folder m.set searched all r.0))))
-    where
-      false_of : {b : Bool} → not b ≡ true → b ≡ false
-      false_of {b = true} e = absurd (false_true e)
-      false_of {b = false} e = refl
 
   intact_hold : ((q : List ℕ) → is_among targets q ≡ true → has folder q ≡ true → is_among searched q ≡ true) → (fs : List File) → AllByRecursion (λ file. IsNamed (target_of_file s file)) fs → AllByRecursion (IsExact folder s searched) fs
       → AllByRecursion (λ file. IsWanted file ≡ false → Holds after file) fs
@@ -233,9 +204,9 @@ module _ (folder : Folder) (base : List ℕ) (files : List File) (s : ℕ) (sear
   intact_hold present [] n x = tt
   intact_hold present (file ∷ fs) n x = (
     λ e.
-        let r = and_parts (has folder file.0) (is_intact m.set.slice_size (target_of_file s file) (bytes_of folder file.0)) (true_from_not (has folder file.0 && is_intact m.set.slice_size (target_of_file s file) (bytes_of folder file.0)) e) in
+        let r = and_parts (has folder file.0) (is_intact m.set.slice_size (target_of_file s file) (bytes_of folder file.0)) (not-false (has folder file.0 && is_intact m.set.slice_size (target_of_file s file) (bytes_of folder file.0)) e) in
         let same = x.0 file.0 (present file.0 n.0.0 r.0) (sym (ap (λ k. is_intact k (target_of_file s file) (bytes_of folder file.0)) m.slice_size) ∙ r.1) in
-        untouched file.0 n.0.0 (n.0.1 (ap not e)) ∙ is_there (map_of.get folder file.0) r.0 ∙ ap Some same,
+        untouched file.0 n.0.0 (n.0.1 (ap not e)) ∙ some_if [] (map_of.get folder file.0) r.0 ∙ ap Some same,
     intact_hold present fs n.1 x.1,
   )
 

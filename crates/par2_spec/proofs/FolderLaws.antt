@@ -9,28 +9,12 @@ use Rattle.std.specs.declared.cmp.Ordering.TheVariants.{Less, Equal, Greater}
 use Rattle.std.specs.Cmp.{eq_by_cmp_equiv}
 use Rattle.std.specs.Cmp.Lexicographic.{slice_cmp, nat_list_cmp_total}
 use Rattle.std.proofs.lemmas.Bool.Decides.{nat_tests}
+use Rattle.std.proofs.lemmas.Bool.{and_parts, and_from}
 use Rattle.par2_spec.specs.Folders.{Folder, has, bytes_of}
 use Rattle.par2_spec.specs.Changes.{Change, Write, Replace, Rename, Remove, effect, inverse, is_applicable, effects, way_back, are_applicable, FolderState, fault_unless, change_refusal, vacant_after, state_after, takes_all, state_after_all, places_taken}
 use Rattle.par2_spec.specs.declared.ChangeFault.{ChangeFault}
 use Rattle.par2_spec.specs.declared.ChangeFault.TheVariants.{NameTaken, NoRoom, NoSuchName}
-
--- ---- tests
-
-pub both_first : (a b : Bool) → IsTrue (a && b) → IsTrue a
-both_first true b h = refl
-both_first false b h = h
-
-pub both_second : (a b : Bool) → IsTrue (a && b) → IsTrue b
-both_second true b h = h
-both_second false b h = cc
-
-pub both_true : (a b : Bool) → IsTrue a → IsTrue b → IsTrue (a && b)
-both_true true b p q = q
-both_true false b p q = p
-
-is_off : (b : Bool) → IsTrue (not b) → b ≡ false
-is_off true h = cc
-is_off false h = refl
+use Rattle.par2_spec.proofs.TestLaws.{none_from}
 
 -- ---- what a changed folder has under a name
 
@@ -109,7 +93,7 @@ pub undo_change : (f : Folder) (c : Change) → IsTrue (is_applicable f c) → e
 unfolding effect inverse is_applicable
 undo_change f (Write n b) h = undo_Write f n b h
 undo_change f (Replace n b) h = undo_Replace f n b h
-undo_change f (Rename a b) h = unfold effect in undo_Rename f a b (both_first _ _ h) (both_second _ _ h)
+undo_change f (Rename a b) h = unfold effect in undo_Rename f a b (and_parts _ _ h).0 (and_parts _ _ h).1
 undo_change f (Remove n) h = undo_Remove f n h
 
 -- a name that is there and one that is not are two
@@ -128,7 +112,7 @@ pub undo_is_applicable : (f : Folder) (c : Change) → IsTrue (is_applicable f c
 unfolding effect inverse is_applicable
 undo_is_applicable f (Write n b) h = ap is_some (here f n b)
 undo_is_applicable f (Replace n b) h = ap is_some (here f n b)
-undo_is_applicable f (Rename a b) h = both_true _ _ (ap is_some (here _ b _)) (ap (λ o. not (is_some o)) (left_behind f a b (both_first _ _ h) (both_second _ _ h)))
+undo_is_applicable f (Rename a b) h = and_from _ _ (ap is_some (here _ b _)) (ap (λ o. not (is_some o)) (left_behind f a b (and_parts _ _ h).0 (and_parts _ _ h).1))
 undo_is_applicable f (Remove n) h = ap (λ o. not (is_some o)) (nowhere f n)
 
 pub inverse_twice : (f : Folder) (c : Change) → inverse (effect f c) (inverse f c) ≡ c
@@ -148,7 +132,7 @@ effects-append f (c ∷ cs) ds = effects-append (effect f c) cs ds
 pub are_applicable-append : (f : Folder) (cs ds : List Change) → IsTrue (are_applicable f cs) → IsTrue (are_applicable (effects f cs) ds) → IsTrue (are_applicable f (cs ++ ds))
 unfolding effects are_applicable
 are_applicable-append f [] ds h k = k
-are_applicable-append f (c ∷ cs) ds h k = both_true _ _ (both_first _ _ h) (are_applicable-append (effect f c) cs ds (both_second _ _ h) k)
+are_applicable-append f (c ∷ cs) ds h k = and_from _ _ (and_parts _ _ h).0 (are_applicable-append (effect f c) cs ds (and_parts _ _ h).1 k)
 
 pub way_back-append : (f : Folder) (cs ds : List Change) → way_back f (cs ++ ds) ≡ way_back (effects f cs) ds ++ way_back f cs
 unfolding effects way_back
@@ -160,26 +144,26 @@ unfolding effects way_back are_applicable
 undo_changes f [] h = refl
 undo_changes f (c ∷ cs) h =
     effects-append _ (way_back (effect f c) cs) (inverse f c ∷ [])
-    ∙ ap (λ g. effect g (inverse f c)) (undo_changes (effect f c) cs (both_second _ _ h)) ∙ undo_change f c (both_first _ _ h)
+    ∙ ap (λ g. effect g (inverse f c)) (undo_changes (effect f c) cs (and_parts _ _ h).1) ∙ undo_change f c (and_parts _ _ h).0
 
 one_applicable : (f : Folder) (c : Change) → IsTrue (is_applicable f c) → IsTrue (are_applicable f (c ∷ []))
 unfolding are_applicable
-one_applicable f c h = both_true _ _ h refl
+one_applicable f c h = and_from _ _ h refl
 
 pub undo_are_applicable : (f : Folder) (cs : List Change) → IsTrue (are_applicable f cs) → IsTrue (are_applicable (effects f cs) (way_back f cs))
 unfolding effects way_back are_applicable
 undo_are_applicable f [] h = refl
 undo_are_applicable f (c ∷ cs) h =
-    let rest = both_second (is_applicable f c) (are_applicable (effect f c) cs) h in
+    let rest = (and_parts (is_applicable f c) (are_applicable (effect f c) cs) h).1 in
     let end = effects (effect f c) cs in
     are_applicable-append end (way_back (effect f c) cs) (inverse f c ∷ []) (undo_are_applicable (effect f c) cs rest)
-    (subst (λ g. IsTrue (are_applicable g (inverse f c ∷ []))) (sym (undo_changes (effect f c) cs rest)) (one_applicable (effect f c) (inverse f c) (undo_is_applicable f c (both_first _ _ h))))
+    (subst (λ g. IsTrue (are_applicable g (inverse f c ∷ []))) (sym (undo_changes (effect f c) cs rest)) (one_applicable (effect f c) (inverse f c) (undo_is_applicable f c (and_parts _ _ h).0)))
 
 pub way_back_twice : (f : Folder) (cs : List Change) → IsTrue (are_applicable f cs) → way_back (effects f cs) (way_back f cs) ≡ cs
 unfolding effects way_back are_applicable
 way_back_twice f [] h = refl
 way_back_twice f (c ∷ cs) h =
-    let rest = both_second (is_applicable f c) (are_applicable (effect f c) cs) h in
+    let rest = (and_parts (is_applicable f c) (are_applicable (effect f c) cs) h).1 in
     let home = way_back (effect f c) cs in
     let end = effects (effect f c) cs in
     way_back-append end home (inverse f c ∷ [])
@@ -243,7 +227,7 @@ taken_is_applicable s (Write n b) h = (not_refused _ _ _ h).0
 taken_is_applicable s (Replace n b) h = (not_refused _ _ _ h).0
 taken_is_applicable s (Rename a b) h =
     let from = not_refused (has s.files a) NoSuchName _ h in
-    both_true _ _ from.0 (not_refused (not (has s.files b)) NameTaken None from.1).0
+    and_from _ _ from.0 (not_refused (not (has s.files b)) NameTaken None from.1).0
 taken_is_applicable s (Remove n) h = (not_refused _ _ _ h).0
 
 has_room : (n : ℕ) → 0 < n → nat_lt 0 n ≡ true
@@ -256,7 +240,7 @@ pub taken_with_room : (s : FolderState) (c : Change) → IsTrue (is_applicable s
 unfolding change_refusal is_applicable
 taken_with_room s (Write n b) h room = rw (h, has_room s.vacant room)
 taken_with_room s (Replace n b) h room = rw h
-taken_with_room s (Rename a b) h room = rw (both_first (has s.files a) _ h, both_second (has s.files a) _ h)
+taken_with_room s (Rename a b) h room = rw ((and_parts (has s.files a) _ h).0, (and_parts (has s.files a) _ h).1)
 taken_with_room s (Remove n) h room = rw h
 
 -- the inverse of a change that was taken is taken
@@ -283,23 +267,19 @@ vacant_back s (Remove n) h = omega arith
 pub state_back : (s : FolderState) (c : Change) → change_refusal s c ≡ None → state_after (state_after s c) (inverse s.files c) ≡ s
 state_back s c h = λ i. record { files = undo_change s.files c (taken_is_applicable s c h) i; vacant = vacant_back s c h i }
 
-none_of : (o : Option ChangeFault) → IsTrue (is_none o) → o ≡ None
-none_of None h = refl
-none_of (Some x) h = cc
-
 pub takes_first : (s : FolderState) (c : Change) (cs : List Change) → IsTrue (takes_all s (c ∷ cs)) → change_refusal s c ≡ None
 unfolding takes_all
-takes_first s c cs h = none_of _ (both_first _ _ h)
+takes_first s c cs h = none_from _ (and_parts _ _ h).0
 
 pub takes_rest : (s : FolderState) (c : Change) (cs : List Change) → IsTrue (takes_all s (c ∷ cs)) → IsTrue (takes_all (state_after s c) cs)
 unfolding takes_all
-takes_rest s c cs h = both_second _ _ h
+takes_rest s c cs h = (and_parts _ _ h).1
 
 pub takes_both : (s : FolderState) (c : Change) (cs : List Change) → change_refusal s c ≡ None → IsTrue (takes_all (state_after s c) cs) → IsTrue (takes_all s (c ∷ cs))
 unfolding takes_all
-takes_both s c cs h k = both_true _ _ (ap is_none h) k
+takes_both s c cs h k = and_from _ _ (ap is_none h) k
 
-takes_none : (s : FolderState) → IsTrue (takes_all s [])
+pub takes_none : (s : FolderState) → IsTrue (takes_all s [])
 unfolding takes_all
 takes_none s = refl
 
@@ -321,7 +301,7 @@ state_files s (c ∷ cs) = state_files (state_after s c) cs
 pub taken_are_applicable : (s : FolderState) (cs : List Change) → IsTrue (takes_all s cs) → IsTrue (are_applicable s.files cs)
 unfolding are_applicable
 taken_are_applicable s [] h = refl
-taken_are_applicable s (c ∷ cs) h = both_true _ _ (taken_is_applicable s c (takes_first s c cs h)) (taken_are_applicable (state_after s c) cs (takes_rest s c cs h))
+taken_are_applicable s (c ∷ cs) h = and_from _ _ (taken_is_applicable s c (takes_first s c cs h)) (taken_are_applicable (state_after s c) cs (takes_rest s c cs h))
 
 pub state_all_back : (s : FolderState) (cs : List Change) → IsTrue (takes_all s cs) → state_after_all (state_after_all s cs) (way_back s.files cs) ≡ s
 unfolding state_after_all way_back
@@ -372,11 +352,11 @@ pub takes_applicable : (s : FolderState) (cs : List Change) → IsTrue (are_appl
 unfolding are_applicable change_refusal is_applicable
 takes_applicable s [] h room = takes_none s
 takes_applicable s (Write n b ∷ cs) h room =
-    takes_both s (Write n b) cs (rw (both_first (not (has s.files n)) _ h, has_room s.vacant (omega arith))) (takes_applicable (state_after s (Write n b)) cs (both_second _ _ h) (omega arith))
+    takes_both s (Write n b) cs (rw ((and_parts (not (has s.files n)) _ h).0, has_room s.vacant (omega arith))) (takes_applicable (state_after s (Write n b)) cs (and_parts _ _ h).1 (omega arith))
 takes_applicable s (Replace n b ∷ cs) h room =
-    takes_both s (Replace n b) cs (rw (both_first (has s.files n) _ h)) (takes_applicable (state_after s (Replace n b)) cs (both_second _ _ h) room)
+    takes_both s (Replace n b) cs (rw (and_parts (has s.files n) _ h).0) (takes_applicable (state_after s (Replace n b)) cs (and_parts _ _ h).1 room)
 takes_applicable s (Rename a b ∷ cs) h room =
-    let one = both_first (has s.files a && not (has s.files b)) _ h in
-    takes_both s (Rename a b) cs (rw (both_first (has s.files a) _ one, both_second (has s.files a) _ one)) (takes_applicable (state_after s (Rename a b)) cs (both_second _ _ h) room)
+    let one = (and_parts (has s.files a && not (has s.files b)) _ h).0 in
+    takes_both s (Rename a b) cs (rw ((and_parts (has s.files a) _ one).0, (and_parts (has s.files a) _ one).1)) (takes_applicable (state_after s (Rename a b)) cs (and_parts _ _ h).1 room)
 takes_applicable s (Remove n ∷ cs) h room =
-    takes_both s (Remove n) cs (rw (both_first (has s.files n) _ h)) (takes_applicable (state_after s (Remove n)) cs (both_second _ _ h) (omega arith))
+    takes_both s (Remove n) cs (rw (and_parts (has s.files n) _ h).0) (takes_applicable (state_after s (Remove n)) cs (and_parts _ _ h).1 (omega arith))

@@ -1,11 +1,11 @@
 -- The slices of intact and of matched targets are found.
-use Rattle.std.proofs.Common.{◌≡◌, ℕ, zero, suc, ◌+◌, ◌*◌, ◌<◌, ◌≤◌, List, [], ◌∷◌, ◌++◌, length, map, inl, inr, refl, sym, ap, ◌∙◌, subst, T, cond, true, false, Bool, not, ◌&&◌, ◌||◌, arith}
+use Rattle.std.proofs.Common.{◌≡◌, ℕ, zero, suc, ◌+◌, ◌*◌, ◌<◌, ◌≤◌, List, [], ◌∷◌, ◌++◌, length, map, inl, inr, refl, sym, ap, ◌∙◌, subst, cond, true, false, Bool, not, ◌&&◌, ◌||◌, arith}
 use Rattle.std.specs.Prelude.{filter, flat_map, find, zip, Option, Some, None, is_some, is_none, option_to_list, ◌==◌}
 use Rattle.std.specs.Int.{div_ceil}
 use Rattle.std.specs.List.{list_any, list_all, range_with_len, enumerate_from, AllByRecursion}
 use Rattle.std.specs.Str.{bytes_eq}
 use Rattle.std.proofs.lemmas.List.{map-append}
-use Rattle.std.proofs.lemmas.Bool.{and_parts, or_cases, or_left, or_right, eqb-true}
+use Rattle.std.proofs.lemmas.Bool.{and_parts, or_cases, or_left, or_right, eqb-true, false≢true, not-false}
 use Rattle.std.proofs.lemmas.Grind.{div_ceil_times}
 use Rattle.std.proofs.Math.Nat.{mul-le-mul_right, add-mul}
 use Rattle.par2_spec.specs.Checksums.{Pair}
@@ -17,9 +17,10 @@ use Rattle.par2_spec.specs.Sets.{ParSet, Target}
 use Rattle.par2_spec.specs.Search.{is_intact, is_needing, needing, intact_names, matches, known, lost}
 use Rattle.par2_spec.specs.Repairs.{names_without_match, slices_by_target, lost_of_unmatched}
 use Rattle.par2_spec.specs.Reports.{IsFound}
-use Rattle.par2_spec.proofs.NamesLaws.{true_from_not, same_name, itself, clash, false_true, among-filter}
-use Rattle.par2_spec.proofs.ListsLaws.{any-map, any-flat_map, in_range_some}
+use Rattle.par2_spec.proofs.NamesLaws.{same_name, itself, clash, among-filter}
+use Rattle.par2_spec.proofs.ListsLaws.{any-map, any-flat_map, in_range_some, map-cond}
 use Rattle.par2_spec.proofs.SearchLaws.{found_passes, pairs_with}
+use Rattle.par2_spec.proofs.TestLaws.{is_true, by_true}
 
 is_some-find : {A : Type 0} (test : A → Bool) (xs : List A) → is_some (find test xs) ≡ list_any test xs
 is_some-find test [] = refl
@@ -28,13 +29,6 @@ is_some-find {A = A} test (x ∷ xs) = step (test x) (find test xs) (list_any te
     step : (b : Bool) (o : Option A) (r : Bool) → is_some o ≡ r → is_some (cond b (Some x) o) ≡ (b || r)
     step true o r e = refl
     step false o r e = e
-
-is_true : {b : Bool} → T b → b ≡ true
-is_true {b = true} t = refl
-is_true {b = false} t = absurd t
-
-by_true : {b : Bool} → b ≡ true → T b
-by_true e = subst T (sym e) tt
 
 -- the slice of number j begins within the text
 pub slice_begins : (n s j : ℕ) → 0 < s → j < div_ceil n s → j * s < n
@@ -139,7 +133,7 @@ pub intact_found : (folder : Folder) (set : ParSet) (names : List (List ℕ)) (t
     → AllByRecursion (λ t. is_needing folder set t ≡ false → IsFound folder set.slice_size names t) ts
 intact_found folder set names [] positive sized searched = tt
 intact_found folder set names (t ∷ ts) positive sized searched = (
-  λ e. let r = and_parts (has folder t.name) _ (true_from_not (has folder t.name && is_intact set.slice_size t (bytes_of folder t.name)) e) in
+  λ e. let r = and_parts (has folder t.name) _ (not-false (has folder t.name && is_intact set.slice_size t (bytes_of folder t.name)) e) in
       windowed_found folder set.slice_size names t.name t.pairs (searched t.name (or_left _ _ (itself t.name)) r.0)
       (intact_windowed set.slice_size t (bytes_of folder t.name) positive sized.0 r.1),
   intact_found folder set names ts positive sized.1 (λ q h. searched q (or_right _ _ h)),
@@ -197,7 +191,7 @@ found_by_target is_lost f (t ∷ ts) =
 
 lost_alike : (n : ℕ) (zs : List (Bool × Option (List ℕ))) → Told zs → map (λ z. z.0) (filter (λ z. is_none z.1) (enumerate_from n (map (λ z. z.1) zs))) ≡ map (λ z. z.0) (filter (λ z. z.1.0 && is_none z.1.1) (enumerate_from n zs))
 lost_alike n [] h = refl
-lost_alike n ((b, o) ∷ zs) h = step b o h.0 ∙ ap (λ rest. cond (b && is_none o) (n ∷ rest) rest) (lost_alike (n + 1) zs h.1) ∙ sym (out (b && is_none o))
+lost_alike n ((b, o) ∷ zs) h = step b o h.0 ∙ ap (λ rest. cond (b && is_none o) (n ∷ rest) rest) (lost_alike (n + 1) zs h.1) ∙ sym (map-cond (λ z. z.0) (b && is_none o) (n, (b, o)) told)
   where
     rest : List (ℕ × Option (List ℕ))
     rest = filter (λ z. is_none z.1) (enumerate_from (n + 1) (map (λ z. z.1) zs))
@@ -208,12 +202,8 @@ lost_alike n ((b, o) ∷ zs) h = step b o h.0 ∙ ap (λ rest. cond (b && is_non
     step : (c : Bool) (p : Option (List ℕ)) → (c ≡ false → is_some p ≡ true) → map (λ z. z.0) (cond (is_none p) ((n, p) ∷ rest) rest) ≡ cond (c && is_none p) (n ∷ map (λ z. z.0) rest) (map (λ z. z.0) rest)
     step true None k = refl
     step true (Some x) k = refl
-    step false None k = absurd (false_true (k refl))
+    step false None k = absurd (false≢true (k refl))
     step false (Some x) k = refl
-
-    out : (c : Bool) → map (λ z. z.0) (cond c ((n, (b, o)) ∷ told) told) ≡ cond c (n ∷ map (λ z. z.0) told) (map (λ z. z.0) told)
-    out true = refl
-    out false = refl
 
 -- the lost slices are those of the needing targets without a match that are not found
 pub lost_is : (folder : Folder) (set : ParSet) (names : List (List ℕ)) → 0 < set.slice_size → AreSized set.slice_size set.targets

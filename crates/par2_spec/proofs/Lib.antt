@@ -8,7 +8,9 @@ pub mod FieldRows
 pub mod SumLaws
 pub mod FolderLaws
 pub mod CommandLaws
+pub mod TestLaws
 pub mod NamesLaws
+pub mod NameTests
 pub mod TreeLaws
 pub mod MovesLaws
 pub mod CreateLaws

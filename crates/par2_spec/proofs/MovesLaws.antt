@@ -11,13 +11,14 @@ use Rattle.std.specs.Cmp.Lexicographic.{slice_cmp, nat_list_cmp_total}
 use Rattle.std.specs.Str.{bytes_eq}
 use Rattle.std.specs.List.{list_any, AllByRecursion}
 use Rattle.std.proofs.lemmas.Map.Text.{is_eq-slice_cmp}
-use Rattle.std.proofs.lemmas.Bool.{or_left, or_right, or_from, false_from_ne_true, and_from, not_from_false}
+use Rattle.std.proofs.lemmas.Bool.{or_left, or_right, or_from, false_from_ne_true, and_from, not_from_false, false≢true, or_parts}
 use Rattle.par2_spec.specs.Names.{is_among}
 use Rattle.par2_spec.specs.Changes.{Change, Write, Rename, Remove, effect, effects, is_applicable, are_applicable}
 use Rattle.par2_spec.specs.Folders.{Folder, has, bytes_of, names, File, laid_over, without}
 use Rattle.par2_spec.proofs.FolderLaws.{same_folder}
 use Rattle.par2_spec.proofs.CommandLaws.{gone_first, none_gone}
-use Rattle.par2_spec.proofs.NamesLaws.{among-append, same_name, itself, clash, other_name, AreDistinct, not_first, false_true}
+use Rattle.par2_spec.proofs.NamesLaws.{among-append, same_name, itself, clash, other_name, AreDistinct, not_first}
+use Rattle.par2_spec.proofs.TestLaws.{T-parts, none_if}
 
 -- ---- what a changed folder has under a name
 
@@ -47,19 +48,15 @@ has_put f n b q = ap is_some (get_put f n b q) ∙ split (bytes_eq q n) (map_of.
     split true g = refl
     split false g = refl
 
+some_unless : (t : Bool) (g : Option (List ℕ)) → is_some (cond t None g) ≡ (not t && is_some g)
+some_unless true g = refl
+some_unless false g = refl
+
 pub has_gone : (f : Folder) (n q : List ℕ) → has (map_of.remove f n) q ≡ (not (bytes_eq q n) && has f q)
-has_gone f n q = ap is_some (get_gone f n q) ∙ split (bytes_eq q n) (map_of.get f q)
-  where
-    split : (t : Bool) (g : Option (List ℕ)) → is_some (cond t None g) ≡ (not t && is_some g)
-    split true g = refl
-    split false g = refl
+has_gone f n q = ap is_some (get_gone f n q) ∙ some_unless (bytes_eq q n) (map_of.get f q)
 
 pub has_without : (gone : List (List ℕ)) (f : Folder) (q : List ℕ) → has (without gone f) q ≡ (not (is_among gone q) && has f q)
-has_without gone f q = ap is_some (get_without gone f q) ∙ split (is_among gone q) (map_of.get f q)
-  where
-    split : (t : Bool) (g : Option (List ℕ)) → is_some (cond t None g) ≡ (not t && is_some g)
-    split true g = refl
-    split false g = refl
+has_without gone f q = ap is_some (get_without gone f q) ∙ some_unless (is_among gone q) (map_of.get f q)
 
 pub has_renamed : (f : Folder) (a b q : List ℕ) → has (effect f (Rename a b)) q ≡ (bytes_eq q b || (not (bytes_eq q a) && has f q))
 unfolding effect
@@ -75,12 +72,8 @@ has_by_names f q = contains_key-keys f q ∙ each (names f)
 -- the names of a folder, each once
 sorted_once : (es : List (List ℕ × List ℕ)) → T (is_sorted (slice_cmp nat_cmp) es) → AreDistinct (map (λ e. e.0) es)
 sorted_once [] h = tt
-sorted_once (e ∷ es) h = (out es (both_parts _ _ h).0, sorted_once es (both_parts _ _ h).1)
+sorted_once (e ∷ es) h = (out es (T-parts _ _ h).0, sorted_once es (T-parts _ _ h).1)
   where
-    both_parts : (a b : Bool) → T (a && b) → T a × T b
-    both_parts true b k = (tt, k)
-    both_parts false b k = absurd k
-
     less : (o : Ordering) → T (is_lt o) → is_eq o ≡ false
     less Less k = refl
     less Equal k = absurd k
@@ -88,17 +81,13 @@ sorted_once (e ∷ es) h = (out es (both_parts _ _ h).0, sorted_once es (both_pa
 
     out : (others : List (List ℕ × List ℕ)) → T (below_all (slice_cmp nat_cmp) e.0 others) → is_among (map (λ other. other.0) others) e.0 ≡ false
     out [] k = refl
-    out (other ∷ others) k = or_from _ _ (sym (is_eq-slice_cmp e.0 other.0) ∙ less (slice_cmp nat_cmp e.0 other.0) (both_parts _ _ k).0) (out others (both_parts _ _ k).1)
+    out (other ∷ others) k = or_from _ _ (sym (is_eq-slice_cmp e.0 other.0) ∙ less (slice_cmp nat_cmp e.0 other.0) (T-parts _ _ k).0) (out others (T-parts _ _ k).1)
 
 pub names_once : (f : Folder) → AreDistinct (names f)
 names_once f = sorted_once (map_of.entries f) (entries_sorted f)
 
 pub no_file : (f : Folder) (q : List ℕ) → has f q ≡ false → map_of.get f q ≡ None
-no_file f q = none (map_of.get f q)
-  where
-    none : (o : Option (List ℕ)) → is_some o ≡ false → o ≡ None
-    none None h = refl
-    none (Some x) h = absurd (false_true (sym h))
+no_file f q h = none_if (map_of.get f q) h
 
 -- ---- files laid over a folder
 
@@ -106,16 +95,8 @@ pub get_laid : (files : List File) (f : Folder) (q : List ℕ) → is_among (map
 unfolding laid_over
 get_laid [] f q h = refl
 get_laid (file ∷ files) f q h =
-    get_laid files (map_of.insert f file.0 file.1) q (second (bytes_eq q file.0) _ h) ∙ get_put f file.0 file.1 q
-    ∙ ap (λ t. cond t (Some file.1) (map_of.get f q)) (first (bytes_eq q file.0) _ h)
-  where
-    first : (a b : Bool) → (a || b) ≡ false → a ≡ false
-    first true b k = k
-    first false b k = refl
-
-    second : (a b : Bool) → (a || b) ≡ false → b ≡ false
-    second true b k = absurd (false_true (sym k))
-    second false b k = k
+    get_laid files (map_of.insert f file.0 file.1) q (or_parts (bytes_eq q file.0) _ h).1 ∙ get_put f file.0 file.1 q
+    ∙ ap (λ t. cond t (Some file.1) (map_of.get f q)) (or_parts (bytes_eq q file.0) _ h).0
 
 -- files of different names stand under their names, in a folder that holds under these what was laid over
 pub all_laid : (files : List File) (f g : Folder) → AreDistinct (map (λ file. file.0) files) → ((q : List ℕ) → is_among (map (λ file. file.0) files) q ≡ true → map_of.get g q ≡ map_of.get (laid_over files f) q) → AllByRecursion (λ file. map_of.get g file.0 ≡ Some file.1) files
@@ -153,11 +134,11 @@ without_put gone f n b = step (is_among gone n) refl
 
     hidden : (t g : Bool) (y x : Option (List ℕ)) → (t ≡ true → g ≡ true) → cond g None (cond t y x) ≡ cond g None x
     hidden true true y x h = refl
-    hidden true false y x h = absurd (false_true (h refl))
+    hidden true false y x h = absurd (false≢true (h refl))
     hidden false g y x h = refl
 
     over : (t g : Bool) (y x : Option (List ℕ)) → (t ≡ true → g ≡ false) → cond g None (cond t y x) ≡ cond t y (cond g None x)
-    over true true y x h = absurd (false_true (sym (h refl)))
+    over true true y x h = absurd (false≢true (sym (h refl)))
     over true false y x h = refl
     over false g y x h = refl
 
@@ -238,7 +219,7 @@ rest_moves f m moves c = record {
   where
     stays : (b a t : Bool) → a ≡ false → t ≡ true → (b || (not a && t)) ≡ true
     stays true a t h k = refl
-    stays false true t h k = absurd (false_true (sym h))
+    stays false true t h k = absurd (false≢true (sym h))
     stays false false t h k = k
 
     out : (b a t : Bool) → b ≡ false → t ≡ false → (b || (not a && t)) ≡ false
@@ -280,8 +261,8 @@ renames_lead f (m ∷ moves) c =
     other q h = other_name q m.1 (λ e. clash (subst (λ x. is_among (sources moves) x ≡ true) e h) (goal_no_source f m moves c))
 
     past : (b a : Bool) (y g : Option (List ℕ)) → b ≡ false → a ≡ false → cond b y (cond a None g) ≡ g
-    past true a y g h k = absurd (false_true (sym h))
-    past false true y g h k = absurd (false_true (sym k))
+    past true a y g h k = absurd (false≢true (sym h))
+    past false true y g h k = absurd (false≢true (sym k))
     past false false y g h k = refl
 
     base : (g : Folder) → g ≡ effect f (Rename m.0 m.1) → without (sources moves) g ≡ map_of.insert (without (sources (m ∷ moves)) f) m.1 (bytes_of f m.0)

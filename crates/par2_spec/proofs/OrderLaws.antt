@@ -12,8 +12,9 @@ use Rattle.par2_spec.specs.Folders.{Folder, File, bytes_of}
 use Rattle.par2_spec.specs.Volumes.{FileRecord, record_of, id_number, insert_by_id, in_id_order}
 use Rattle.par2_spec.specs.Commands.{files_of}
 use Rattle.par2_spec.proofs.NamesLaws.{clash}
-use Rattle.par2_spec.proofs.ListsLaws.{all-map}
+use Rattle.par2_spec.proofs.ListsLaws.{all-map, all-both}
 use Rattle.par2_spec.proofs.RankLaws.{all_weaker}
+use Rattle.par2_spec.proofs.TestLaws.{same_tests}
 
 -- ---- what rises
 
@@ -40,16 +41,12 @@ rises-increasing n (x ∷ y ∷ xs) h =
         let next : suc k + 1 ≡ suc (k + 1) = omega arith in
         subst (λ m. slice_index (map n (y ∷ xs)) k < slice_index (map n (x ∷ y ∷ xs)) m) next (h (suc k) (omega (arith, l)))
 
-all_both : {A : Type 0} (P Q R : A → Type 0) → ((x : A) → P x → Q x → R x) → (xs : List A) → AllByRecursion P xs → AllByRecursion Q xs → AllByRecursion R xs
-all_both P Q R f [] h k = tt
-all_both P Q R f (x ∷ xs) h k = (f x h.0 k.0, all_both P Q R f xs h.1 k.1)
-
 -- what holds of all but the least ones of one list holds of those of the other
 all_but_least : {A : Type 0} (n : A → ℕ) (x y : A) (xs ys : List A) → n x ≡ n y → AllByRecursion (λ z. n y < n z) ys → ((P : A → Type 0) → AllByRecursion P (x ∷ xs) → AllByRecursion P (y ∷ ys))
     → (P : A → Type 0) → AllByRecursion P xs → AllByRecursion P ys
 all_but_least {A = A} n x y xs ys same above forth P h =
     let Q : A → Type 0 = (λ z. (n z ≡ n x → ⊥) → P z) in
-    all_both (λ z. n y < n z) Q P (λ z l q. q (λ e. absurd (omega (arith, l, e, same)))) ys above
+    all-both (λ z. n y < n z) Q P (λ z l q. q (λ e. absurd (omega (arith, l, e, same)))) ys above
     (forth Q ((λ apart. absurd (apart refl)), all_weaker P Q (λ z p apart. p) xs h)).1
 
 -- two lists that rise and have the same members are one
@@ -77,7 +74,7 @@ climbs-map n g (x ∷ xs) h = (all-map (λ y. n (g x) ≤ n (g y)) (λ z. n (g x
 
 rises-climbs : {A : Type 0} (n : A → ℕ) (xs : List A) → Climbs n xs → AreApart n xs → Rises n xs
 rises-climbs n [] h k = tt
-rises-climbs n (x ∷ xs) h k = (all_both (λ y. n x ≤ n y) (λ y. n y ≡ n x → ⊥) (λ y. n x < n y) (λ y l apart. let other : n y ≢ n x = apart in omega (arith, l, other)) xs h.0 k.0, rises-climbs n xs h.1 k.1)
+rises-climbs n (x ∷ xs) h k = (all-both (λ y. n x ≤ n y) (λ y. n y ≡ n x → ⊥) (λ y. n x < n y) (λ y l apart. let other : n y ≢ n x = apart in omega (arith, l, other)) xs h.0 k.0, rises-climbs n xs h.1 k.1)
 
 no_fall : {A : Type 0} (n : A → ℕ) (xs : List A) → Climbs n xs → IsNonDecreasingBy n xs
 no_fall n [] h i j d le within = absurd (omega (arith, within))
@@ -134,12 +131,7 @@ abbrev has_one_number : FileRecord → FileRecord → Bool
 has_one_number a b = eqb (number_in a) (number_in b)
 
 turned : (a b : FileRecord) → has_one_number a b ≡ has_one_number b a
-turned a b = same (eqb (number_in a) (number_in b)) (eqb (number_in b) (number_in a)) (λ e. eq-eqb _ _ (sym (eqb-true _ _ e))) (λ e. eq-eqb _ _ (sym (eqb-true _ _ e)))
-  where
-    same : (x y : Bool) → (x ≡ true → y ≡ true) → (y ≡ true → x ≡ true) → x ≡ y
-    same true y f g = sym (f refl)
-    same false true f g = g refl
-    same false false f g = refl
+turned a b = same_tests (eqb (number_in a) (number_in b)) (eqb (number_in b) (number_in a)) (λ e. eq-eqb _ _ (sym (eqb-true _ _ e))) (λ e. eq-eqb _ _ (sym (eqb-true _ _ e)))
 
 distinct-rises : (records : List FileRecord) → Rises number_in records → IsDistinct has_one_number records
 unfolding IsDistinct

@@ -8,11 +8,11 @@ use Rattle.std.specs.Option.{ForSome}
 use Rattle.std.proofs.lemmas.Nat.{xor_lt}
 use Rattle.std.proofs.lemmas.List.{length-map}
 use Rattle.std.proofs.lemmas.Slice.Zip.{AllZip-long}
+use Rattle.std.proofs.lemmas.Bool.{false≢true}
 use Rattle.par2_spec.specs.Slices.{word}
 use Rattle.par2_spec.specs.Recovery.{dot, coefficients, combination, recovery}
 use Rattle.par2_spec.specs.Rank.{IsVector, Kills, IsRepairable, Agrees, AnotherAgrees}
 use Rattle.par2_spec.specs.Search.{lost}
-use Rattle.par2_spec.proofs.NamesLaws.{false_true}
 use Rattle.par2_spec.proofs.RankLaws.{killed_vector}
 use Rattle.par2_spec.proofs.WordLaws.{word_behind}
 use Rattle.par2_spec.proofs.UniqueLaws.{sums, AreElements, AreTexts, IsZeroAtKnown, at_lost, lost_from, dot-at_lost, dot-sums, whole_row}
@@ -147,8 +147,8 @@ known-all_marked : (ks : List (Option (List ℕ))) (v : List ℕ) (texts : List 
 known-all_marked [] v [] small h = tt
 known-all_marked [] v (text ∷ texts) small h = absurd h
 known-all_marked (k ∷ ks) v [] small h = absurd h
-known-all_marked (None ∷ ks) [] (text ∷ texts) small h = ((λ found e. absurd (false_true (ap is_some e))), known-all_marked ks [] texts small.1 h.1)
-known-all_marked (None ∷ ks) (x ∷ v) (text ∷ texts) small h = ((λ found e. absurd (false_true (ap is_some e))), known-all_marked ks v texts small.1 h.1)
+known-all_marked (None ∷ ks) [] (text ∷ texts) small h = ((λ found e. absurd (false≢true (ap is_some e))), known-all_marked ks [] texts small.1 h.1)
+known-all_marked (None ∷ ks) (x ∷ v) (text ∷ texts) small h = ((λ found e. absurd (false≢true (ap is_some e))), known-all_marked ks v texts small.1 h.1)
 known-all_marked (Some y ∷ ks) v (text ∷ texts) small h = ((λ found e. marked-zero text small.0 ∙ h.0 found e), known-all_marked ks v texts small.1 h.1)
 
 -- ---- recovery slices

@@ -5,7 +5,7 @@ use Rattle.std.specs.List.{list_all, list_any, AllByRecursion, AllZip, Contains}
 use Rattle.std.specs.Option.{ForSome}
 use Rattle.std.specs.FinMap as map_of
 use Rattle.std.specs.Str.{bytes_eq}
-use Rattle.std.proofs.lemmas.Bool.{and_parts, and_from, eqb-true, eq-eqb, ltb-true, lt-ltb, not_from_false, false_from_ne_true}
+use Rattle.std.proofs.lemmas.Bool.{and_parts, and_from, eqb-true, eq-eqb, ltb-true, lt-ltb, not_from_false, false_from_ne_true, false≢true, true_from_ne_false}
 use Rattle.std.proofs.lemmas.Slice.Zip.{AllZip-long}
 use Rattle.std.proofs.lemmas.Map.Views.{Contains-from_any, list_any-from_Contains}
 use Rattle.std.proofs.lemmas.Cmp.{nat_eq_equiv}
@@ -15,15 +15,9 @@ use Rattle.par2_spec.specs.Rank.{kills, is_zero, is_independent, is_solvable, is
 use Rattle.par2_spec.specs.Sets.{ParSet}
 use Rattle.par2_spec.specs.Search.{lost, survivors}
 use Rattle.par2_spec.specs.Repairs.{rebuilt}
-use Rattle.par2_spec.proofs.ListsLaws.{AreOf, IsBelow, IsComplete, some_list, all_below_are, all_below_complete, all_lists_are, all_lists_complete, find_one, filter-none}
-use Rattle.par2_spec.proofs.NamesLaws.{same_name, itself, clash, false_true}
-
-is_true : {b : Bool} → T b → b ≡ true
-is_true {b = true} t = refl
-is_true {b = false} t = absurd t
-
-by_true : {b : Bool} → b ≡ true → T b
-by_true e = subst T (sym e) tt
+use Rattle.par2_spec.proofs.ListsLaws.{AreOf, IsBelow, IsComplete, some_list, all_below_are, all_below_complete, all_lists_are, all_lists_complete, find_one, filter-none, all-both}
+use Rattle.par2_spec.proofs.NamesLaws.{same_name, itself, clash, kept as kept_one}
+use Rattle.par2_spec.proofs.TestLaws.{is_true, by_true}
 
 -- ---- tests of lists
 
@@ -59,12 +53,8 @@ killed_all lost v (e ∷ es) h = and_from _ _ (ap (λ n. n == 0) h.0) (killed_al
 
 -- ---- repairable
 
-stable : (b : Bool) → (b ≡ false → ⊥) → b ≡ true
-stable true h = refl
-stable false h = absurd (h refl)
-
 false_from_not_any : (b : Bool) → not b ≡ true → T b → ⊥
-false_from_not_any true h t = false_true h
+false_from_not_any true h t = false≢true h
 false_from_not_any false h t = t
 
 not_from_none : (b : Bool) → (T b → ⊥) → not b ≡ true
@@ -77,12 +67,12 @@ repairable-iff lost survivors =
     let rows = map (coefficients lost) survivors in
     let test = (λ (v : List ℕ). not (is_zero v) && list_all (kills v) rows) in
     let law = some_list (2 ^ 16) (length lost) test in (
-      λ h v is k. zero_from_test v (stable (is_zero v) (λ z.
+      λ h v is k. zero_from_test v (true_from_ne_false (is_zero v) (λ z.
           false_from_not_any (list_any test (all_lists (all_below (2 ^ 16)) (length lost))) h (law.1 (v, is, by_true (and_from _ _ (not_from_false _ z) (killed_all lost v survivors k)))))),
       λ h. not_from_none (list_any test (all_lists (all_below (2 ^ 16)) (length lost))) (λ some.
           let found = law.0 some in
           let r = and_parts (not (is_zero found.0)) (list_all (kills found.0) rows) (is_true found.2) in
-          false_true (sym (ap not (test_from_zero found.0 (h found.0 found.1 (all_killed lost found.0 survivors r.1)))) ∙ r.0)),
+          false≢true (sym (ap not (test_from_zero found.0 (h found.0 found.1 (all_killed lost found.0 survivors r.1)))) ∙ r.0)),
     )
 
 some_from : (b : Bool) → (not b ≡ true → ⊥) → T b
@@ -98,7 +88,7 @@ killed_vector lost survivors unrepairable =
     let test = (λ (v : List ℕ). not (is_zero v) && list_all (kills v) rows) in
     let found = (some_list (2 ^ 16) (length lost) test).0 (some_from (list_any test (all_lists (all_below (2 ^ 16)) (length lost))) (λ h. unrepairable ((repairable-iff lost survivors).0 h))) in
     let r = and_parts (not (is_zero found.0)) (list_all (kills found.0) rows) (is_true found.2) in
-    (found.0, found.1, all_killed lost found.0 survivors r.1, λ z. false_true (sym (ap not (test_from_zero found.0 z)) ∙ r.0))
+    (found.0, found.1, all_killed lost found.0 survivors r.1, λ z. false≢true (sym (ap not (test_from_zero found.0 z)) ∙ r.0))
 
 -- ---- kept exponents
 
@@ -130,7 +120,7 @@ independent-iff lost survivors e =
             found.0,
             found.1,
             all_smaller (λ x. Kills lost x found.0) e survivors (all_killed lost found.0 (smaller e survivors) r.0),
-            λ k. false_true (sym (ap (λ n. not (n == 0)) k) ∙ r.1),
+            λ k. false≢true (sym (ap (λ n. not (n == 0)) k) ∙ r.1),
           ),
       λ k. is_true (law.1 (
         k.0,
@@ -155,15 +145,6 @@ counts-filter p (x ∷ xs) q =
     chosen : (b : Bool) (y : ℕ) (ys : List ℕ) → list_any (nat_eq q) (cond b (y ∷ ys) ys) ≡ cond b (nat_eq q y || list_any (nat_eq q) ys) (list_any (nat_eq q) ys)
     chosen true y ys = refl
     chosen false y ys = refl
-
-    kept_one : (e px pq r : Bool) → (e ≡ true → px ≡ pq) → cond px (e || (r && pq)) (r && pq) ≡ ((e || r) && pq)
-    kept_one true true true r h = refl
-    kept_one true true false r h = absurd (false_true (sym (h refl)))
-    kept_one true false true r h = absurd (false_true (h refl))
-    kept_one true false false true h = refl
-    kept_one true false false false h = refl
-    kept_one false true pq r h = refl
-    kept_one false false pq r h = refl
 
 pub counts-iff : (xs : List ℕ) (q : ℕ) → (counts xs q ≡ true) ↔ Contains xs q
 unfolding counts
@@ -199,7 +180,7 @@ none_kept survivors = filter-none _ survivors (λ e. nothing_told (map (coeffici
 -- ---- lists that agree
 
 known_one : (o : Option (List ℕ)) (text : List ℕ) → is_as_known (o, text) ≡ true → ForSome o (λ found. text ≡ found)
-known_one None text h = λ x e. absurd (false_true (ap is_some e))
+known_one None text h = λ x e. absurd (false≢true (ap is_some e))
 known_one (Some y) text h = λ x e. sym (same_name y text h) ∙ ap (λ o. unwrap_or o y) e
 
 one_known : (o : Option (List ℕ)) (text : List ℕ) → ForSome o (λ found. text ≡ found) → is_as_known (o, text) ≡ true
@@ -247,8 +228,7 @@ abbrev IsText : ℕ → List ℕ → Type 0
 IsText s text = AreOf (IsBelow 256) s text
 
 texts_from : (s : ℕ) (slices : List (List ℕ)) → AllByRecursion (λ text. length text ≡ s) slices → AllByRecursion (λ text. AllByRecursion (λ b. b < 256) text) slices → AllByRecursion (IsText s) slices
-texts_from s [] h k = tt
-texts_from s (x ∷ xs) h k = ((h.0, k.0), texts_from s xs h.1 k.1)
+texts_from s slices h k = all-both (λ text. length text ≡ s) (λ text. AllByRecursion (λ b. b < 256) text) (IsText s) (λ x long bytes. (long, bytes)) slices h k
 
 sizes_from : (s : ℕ) (slices : List (List ℕ)) → AllByRecursion (IsText s) slices → AllByRecursion (λ text. length text ≡ s) slices
 sizes_from s slices h = all_weaker (IsText s) (λ text. length text ≡ s) (λ x t. t.0) slices h

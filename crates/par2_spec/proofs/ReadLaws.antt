@@ -11,10 +11,10 @@ use Rattle.std.specs.declared.cmp.Ordering.{Ordering}
 use Rattle.std.specs.declared.cmp.Ordering.TheVariants.{Less, Equal, Greater}
 use Rattle.std.proofs.Math.Nat.{zero-div, zero-mod}
 use Rattle.std.specs.Str.{bytes_eq}
-use Rattle.std.proofs.lemmas.List.{length-map}
+use Rattle.std.proofs.lemmas.List.{length-map, nil_from_length}
 use Rattle.std.proofs.lemmas.List.Sums.{sum_by-cons}
 use Rattle.std.proofs.lemmas.List.Folds.{list_all-map}
-use Rattle.std.proofs.lemmas.Bool.{and_parts, and_from, or_cases, or_left, or_right, false_from_ne_true, eqb-true, leb-true, ltb-true}
+use Rattle.std.proofs.lemmas.Bool.{and_parts, and_from, or_cases, or_left, or_right, false_from_ne_true, eqb-true, leb-true, ltb-true, false≢true}
 use Rattle.par2_spec.specs.declared.Fault.{Fault}
 use Rattle.par2_spec.specs.declared.Fault.TheVariants.{NoPackets, NoMain, NoDescription, NoChecksums, BadSet}
 use Rattle.par2_spec.specs.Checksums.{Pair}
@@ -25,7 +25,7 @@ use Rattle.par2_spec.specs.Folders.{Folder, has, bytes_of}
 use Rattle.par2_spec.specs.Sets.{ParSet, Target, ◌>>=◌, unless, all_some, is_slice_size, packets_with, main_of, description_of, pairs_of, target_of, are_in_profile, recovery_of, read_set, other_par_names, set_of, IsSound}
 use Rattle.par2_spec.specs.Search.{candidates, known, lost}
 use Rattle.par2_spec.specs.Repairs.{AreFew, FitsRepair, lost_of_unmatched}
-use Rattle.par2_spec.proofs.NamesLaws.{same_name, itself, clash, false_true, among-filter, among-append, AreDistinct, std_from_distinct}
+use Rattle.par2_spec.proofs.NamesLaws.{same_name, itself, clash, among-filter, among-append, AreDistinct, std_from_distinct}
 use Rattle.par2_spec.proofs.FoundLaws.{AreSized, lost_is}
 
 -- ---- each name once
@@ -38,7 +38,7 @@ among-distinct (x ∷ xs) q =
   where
     step : (b c r : Bool) → (c ≡ true → b ≡ true) → (b || (r && not c)) ≡ (b || r)
     step true c r k = refl
-    step false true r k = absurd (false_true (k refl))
+    step false true r k = absurd (false≢true (k refl))
     step false false true k = refl
     step false false false k = refl
 
@@ -52,7 +52,7 @@ length-filter-le p (x ∷ xs) = step (p x) (filter p xs) (length-filter-le p xs)
 
 -- a filter that keeps the length keeps all
 filter_full : (p : List ℕ → Bool) (xs : List (List ℕ)) → length (filter p xs) ≡ length xs → (q : List ℕ) → is_among xs q ≡ true → p q ≡ true
-filter_full p [] e q h = absurd (false_true h)
+filter_full p [] e q h = absurd (false≢true h)
 filter_full p (x ∷ xs) e q h =
     let r = step (p x) (filter p xs) (length-filter-le p xs) e in
     elim (or_cases (bytes_eq q x) (is_among xs q) h) as (λ _. p q ≡ true) [
@@ -92,26 +92,26 @@ value_or d (Err e) = d
 
 pub took : {A B : Type 0} (r : Result A Fault) (f : A → Result B Fault) (b : B) → (r >>= f) ≡ Ok b → (a : A) × (r ≡ Ok a) × (f a ≡ Ok b)
 took (Ok a) f b h = (a, refl, h)
-took (Err e) f b h = absurd (false_true (ap came_out h))
+took (Err e) f b h = absurd (false≢true (ap came_out h))
 
 pub was_some : {A : Type 0} (o : Option A) (e : Fault) (a : A) → ok_or o e ≡ Ok a → o ≡ Some a
-was_some None e a h = absurd (false_true (ap came_out h))
+was_some None e a h = absurd (false≢true (ap came_out h))
 was_some (Some x) e a h = ap (λ r. Some (value_or x r)) h
 
 passed : (b : Bool) (e : Fault) (c : Bool) → unless b e ≡ Ok c → b ≡ true
 passed true e c h = refl
-passed false e c h = absurd (false_true (ap came_out h))
+passed false e c h = absurd (false≢true (ap came_out h))
 
 pub mapped : {A B : Type 0} (f : A → B) (o : Option A) (b : B) → option_map f o ≡ Some b → (a : A) × (o ≡ Some a) × (f a ≡ b)
-mapped f None b h = absurd (false_true (ap is_some h))
+mapped f None b h = absurd (false≢true (ap is_some h))
 mapped f (Some a) b h = (a, refl, ap (λ p. unwrap_or p (f a)) h)
 
 chained : {A B : Type 0} (f : A → Option B) (o : Option A) (b : B) → option_and_then f o ≡ Some b → (a : A) × (o ≡ Some a) × (f a ≡ Some b)
-chained f None b h = absurd (false_true (ap is_some h))
+chained f None b h = absurd (false≢true (ap is_some h))
 chained f (Some a) b h = (a, refl, h)
 
 find_passes : {A : Type 0} (p : A → Bool) (xs : List A) (a : A) → find p xs ≡ Some a → p a ≡ true
-find_passes p [] a h = absurd (false_true (ap is_some h))
+find_passes p [] a h = absurd (false≢true (ap is_some h))
 find_passes {A = A} p (x ∷ xs) a h = step (p x) refl h (find_passes p xs a)
   where
     step : (b : Bool) → p x ≡ b → cond b (Some x) (find p xs) ≡ Some a → (find p xs ≡ Some a → p a ≡ true) → p a ≡ true
@@ -125,7 +125,7 @@ all_the_pairs packets id n pairs h =
     let e : length found.0.pairs ≡ n = eqb-true _ _ (and_parts (bytes_eq found.0.id id) _ right).1 in
     subst (λ ps. length ps ≡ n) found.2 e
 
-no_slices : (s : ℕ) → slice_count s 0 ≡ 0
+pub no_slices : (s : ℕ) → slice_count s 0 ≡ 0
 no_slices s = ap (λ q. q + min 1 (0 % s)) (zero-div s) ∙ ap (λ r. 0 + min 1 r) (zero-mod s)
 
 pairs_fit : (packets : List Packet) (id : List ℕ) (s n : ℕ) (pairs : List Pair) → (if n == 0 then Some [] else pairs_of packets id (slice_count s n)) ≡ Some pairs → length pairs ≡ slice_count s n
@@ -185,12 +185,8 @@ put_recovery s k v (r ∷ rs) small long h = step (nat_cmp k r.0) (put_recovery 
     step Equal later = ((h.0.0, long), h.1)
     step Greater later = (h.0, later)
 
-none_of_length : {A : Type 0} (xs : List A) → length xs ≡ 0 → xs ≡ []
-none_of_length [] e = refl
-none_of_length (x ∷ xs) e = absurd (omega (arith, e))
-
 pub entries-empty : {K : Type 0} (R : K → K → Ordering) (X : Type 0) → map_of.entries (map_of.empty {X = X} {R = R}) ≡ []
-entries-empty R X = none_of_length (map_of.entries (map_of.empty {X = X} {R = R})) (sym (len-entries map_of.empty) ∙ len-empty R X)
+entries-empty R X = nil_from_length (map_of.entries (map_of.empty {X = X} {R = R})) (sym (len-entries map_of.empty) ∙ len-empty R X)
 
 entries_are : (s : ℕ) (rs : List (ℕ × List ℕ)) → AreRecovery s rs → AreRecovery s (map_of.entries (map_of.from_entries {R = nat_cmp} rs))
 entries_are s [] h = subst (AreRecovery s) (sym (entries-empty nat_cmp (List ℕ))) tt
@@ -270,7 +266,7 @@ all_of folder [] h = refl
 all_of folder (x ∷ searched) h = and_from _ _ (h x (or_left _ _ (itself x))) (all_of folder searched (λ q i. h q (or_right _ _ i)))
 
 pub each_there : (folder : Folder) (extras : List (List ℕ)) → list_all (has folder) extras ≡ true → (q : List ℕ) → is_among extras q ≡ true → has folder q ≡ true
-each_there folder [] h q i = absurd (false_true i)
+each_there folder [] h q i = absurd (false≢true i)
 each_there folder (x ∷ extras) h q i =
     let r = and_parts (has folder x) (list_all (has folder) extras) h in
     elim (or_cases (bytes_eq q x) (is_among extras q) i) as (λ _. has folder q ≡ true) [

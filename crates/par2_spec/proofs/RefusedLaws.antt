@@ -3,7 +3,7 @@ use Rattle.std.proofs.Common.{◌≡◌, ℕ, ◌+◌, ◌%◌, ◌^◌, ◌≤�
 use Rattle.std.specs.Prelude.{Option, Some, None, Result, Ok, nat_le, ◌==◌}
 use Rattle.std.specs.List.{AllByRecursion}
 use Rattle.std.specs.FinMap as map_of
-use Rattle.std.proofs.lemmas.Bool.{and_parts, leb-true}
+use Rattle.std.proofs.lemmas.Bool.{and_parts, leb-true, false≢true}
 use Rattle.par2_spec.specs.declared.Fault.{Fault}
 use Rattle.par2_spec.specs.declared.Fault.TheVariants.{NoSuchFile, NameTooLong, NotRepairable, RepairFailed}
 use Rattle.par2_spec.specs.Faults.{first_fault, fault_where, then_fault}
@@ -14,7 +14,6 @@ use Rattle.par2_spec.specs.Sets.{ParSet, set_of, is_slice_size, MadeFrom}
 use Rattle.par2_spec.specs.Search.{candidates, known, lost, survivors, NoCollision}
 use Rattle.par2_spec.specs.Commands.{Repair}
 use Rattle.par2_spec.specs.Refusals.{repair_refusal, refusal}
-use Rattle.par2_spec.proofs.NamesLaws.{false_true}
 use Rattle.par2_spec.proofs.ReadLaws.{sound_of}
 use Rattle.par2_spec.proofs.RankLaws.{repairable-iff}
 use Rattle.par2_spec.proofs.OthersLaws.{another_agrees}
@@ -48,8 +47,8 @@ first_cause false false true l n m r e = absurd (is_other RepairFailed m r (fail
 first_cause false false false l n m r e = absurd (no_fault m r e)
 
 not_both : (b : Bool) → not b ≡ true → b ≡ true → ⊥
-not_both true n t = false_true n
-not_both false n t = false_true t
+not_both true n t = false≢true n
+not_both false n t = false≢true t
 
 unrepairable : (folder : Folder) (set : ParSet) (searched : List (List ℕ)) (m r : ℕ) → repair_refusal folder set searched ≡ Some (NotRepairable m r) → IsRepairable (lost (known folder set searched)) (survivors set) → ⊥
 unfolding repair_refusal
@@ -70,7 +69,7 @@ refused_by_set folder base extras purge set m r reads e = step (missing folder (
     step None there = sym (ap ask (in_full folder base extras there ∙ reads)) ∙ e
     step (Some k) there = absurd (is_other (NoSuchFile (0 + k)) m r (no_such_file (0 + k) m r) (sym (ap ask (in_part folder base extras k there)) ∙ e))
 
-size_two : (s : ℕ) → is_slice_size s ≡ true → 2 ≤ s
+pub size_two : (s : ℕ) → is_slice_size s ≡ true → 2 ≤ s
 size_two s h =
     let four : 4 ≤ s = leb-true 4 s (and_parts (s % 4 == 0) (nat_le 4 s) (and_parts (s % 4 == 0 && nat_le 4 s) (nat_le s (2 ^ 30)) h).0).1 in
     omega (arith, four)

@@ -8,7 +8,8 @@ use Rattle.std.specs.Str.{bytes_eq}
 use Rattle.std.proofs.lemmas.List.{map-append}
 use Rattle.std.proofs.lemmas.Simd.{map-map}
 use Rattle.par2_spec.proofs.FolderLaws.{effects-append, are_applicable-append}
-use Rattle.std.proofs.lemmas.Bool.{and_parts, and_right, or_parts, or_cases, or_left, or_right, or_from, and_from, false_from_ne_true, cases_Bool, not_from_false}
+use Rattle.std.proofs.lemmas.Bool.{and_parts, and_right, or_parts, or_cases, or_left, or_right, or_from, and_from, false_from_ne_true, cases_Bool, not_from_false, false≢true, not-true}
+use Rattle.std.proofs.Math.Bool.{and-false}
 use Rattle.par2_spec.specs.Names.{is_among, is_par_name}
 use Rattle.par2_spec.specs.Folders.{Folder, has, bytes_of, names, File, laid_over, without}
 use Rattle.par2_spec.specs.Changes.{Write, Rename, Remove, effects, are_applicable}
@@ -18,17 +19,13 @@ use Rattle.par2_spec.specs.Search.{matches, known, needing, is_needing, intact_n
 use Rattle.par2_spec.specs.Repairs.{aside, put_aside, files_of_slices, cut_into, rebuilt, rebuilt_targets, matched_files, names_without_match, aside_files, after_repair, is_par_file, par_files, after_repair_and_purge, FitsRepair, HoldsRepaired}
 use Rattle.par2_spec.specs.Plans.{now_at, repair_changes, repair_removals, purge_changes}
 use Rattle.par2_spec.proofs.CommandLaws.{removals_lead}
-use Rattle.par2_spec.proofs.NamesLaws.{false_from_not, same_name, itself, clash, false_true, AreDistinct, among-filter, among-append, among_some, apart_by_test, distinct-map, distinct-filter, distinct_some, image_of, image_in, distinct-append, distinct_from_std}
+use Rattle.par2_spec.proofs.NamesLaws.{same_name, itself, clash, AreDistinct, among-filter, among-append, among_some, apart_by_test, distinct-map, distinct-filter, distinct_some, image_of, image_in, distinct-append, distinct_from_std}
 use Rattle.par2_spec.proofs.MovesLaws.{Move, CanMove, renames, sources, goals, arrived, renames_apply, renames_lead, writes_apply, writes_lead, get_put, get_laid, get_without, has_laid, has_without, has_by_names, laid_over-append, without-laid_over, without_without, same_without, removals_apply, names_once, all_laid}
 use Rattle.par2_spec.proofs.AsideLaws.{aside_out, aside_one}
 use Rattle.par2_spec.proofs.ReadLaws.{each_there}
 use Rattle.par2_spec.proofs.SearchLaws.{names_of_pairs, taken_was_free, taken_once}
-
--- two tests that imply each other
-pub same_tests : (a b : Bool) → (a ≡ true → b ≡ true) → (b ≡ true → a ≡ true) → a ≡ b
-same_tests true b h k = sym (h refl)
-same_tests false true h k = k refl
-same_tests false false h k = refl
+use Rattle.par2_spec.proofs.TestLaws.{same_tests, none_if, some_if}
+use Rattle.par2_spec.proofs.ListsLaws.{filter-map, map-cond}
 
 map_itself : (xs : List (List ℕ)) → map (λ x. x) xs ≡ xs
 map_itself [] = refl
@@ -81,7 +78,7 @@ put_under g f ns = map (λ n. (g n, bytes_of f n)) ns
 -- under the new name of a file stand its bytes
 get_under : (g : List ℕ → List ℕ) (f base : Folder) (ns : List (List ℕ)) → ((a b : List ℕ) → g a ≡ g b → a ≡ b) → (x : List ℕ) → is_among ns x ≡ true → map_of.get (laid_over (put_under g f ns) base) (g x) ≡ Some (bytes_of f x)
 unfolding laid_over
-get_under g f base [] one x h = absurd (false_true h)
+get_under g f base [] one x h = absurd (false≢true h)
 get_under g f base (n ∷ ns) one x h =
     step (is_among ns x) refl (bytes_eq x n) refl h (get_under g f (map_of.insert base (g n) (bytes_of f n)) ns one x)
   where
@@ -99,22 +96,13 @@ get_under g f base (n ∷ ns) one x h =
         get_laid (put_under g f ns) later (g x) (others i) ∙ get_put base (g n) (bytes_of f n) (g x)
         ∙ ap (λ y. cond (bytes_eq (g x) (g y)) (Some (bytes_of f y)) (map_of.get base (g x))) (sym (same_name x n j))
         ∙ ap (λ t. cond t (Some (bytes_of f x)) (map_of.get base (g x))) (itself (g x))
-    step false i false j k rest = absurd (false_true k)
+    step false i false j k rest = absurd (false≢true k)
 
 -- ---- the targets that are written
 
 names_of_contents : (f : Target × List (List ℕ) → List ℕ) (ts : List Target) (slices : List (List ℕ)) → map (λ (c : Target × List ℕ). c.0.name) (map (λ (z : Target × List (List ℕ)). (z.0, f z)) (zip ts (cut_into (map (λ t. length t.pairs) ts) slices))) ≡ map (λ t. t.name) ts
 names_of_contents f [] slices = refl
 names_of_contents f (t ∷ ts) slices = ap (λ ns. t.name ∷ ns) (names_of_contents f ts (drop (length t.pairs) slices))
-
--- what passes by its name
-passing : {A : Type 0} (name : A → List ℕ) (p : List ℕ → Bool) (xs : List A) → map name (filter (λ x. p (name x)) xs) ≡ filter p (map name xs)
-passing name p [] = refl
-passing {A = A} name p (x ∷ xs) = step (p (name x)) (filter (λ y. p (name y)) xs) ∙ ap (λ ns. cond (p (name x)) (name x ∷ ns) ns) (passing name p xs)
-  where
-    step : (b : Bool) (ys : List A) → map name (cond b (x ∷ ys) ys) ≡ cond b (name x ∷ map name ys) (map name ys)
-    step true ys = refl
-    step false ys = refl
 
 -- ---- the law
 
@@ -262,11 +250,7 @@ module _ (folder : Folder) (set : ParSet) (given : List (List ℕ)) (fits : Fits
 
       step : (b : Bool) → has folder q ≡ b → (not (is_among moved q) && has folder q) ≡ false
       step true k = ap (λ b. not b && has folder q) (wanted_moved q h k)
-      step false k = ap (λ b. not (is_among moved q) && b) k ∙ none (not (is_among moved q))
-        where
-          none : (b : Bool) → (b && false) ≡ false
-          none true = refl
-          none false = refl
+      step false k = ap (λ b. not (is_among moved q) && b) k ∙ and-false (not (is_among moved q))
 
       gone : (not (is_among moved q) && has folder q) ≡ false
       gone = step (has folder q) refl
@@ -274,16 +258,12 @@ module _ (folder : Folder) (set : ParSet) (given : List (List ℕ)) (fits : Fits
   -- a match has its bytes where it stands now
   cleared_match : (q : List ℕ) → is_among taken_names q ≡ true → map_of.get cleared (now q) ≡ map_of.get folder q
   cleared_match q h = elim (cases_Bool (is_among moved q)) as (λ _. map_of.get cleared (now q) ≡ map_of.get folder q) [
-    | inl k ↦ ap (map_of.get cleared) (now_moved q k) ∙ get_under off folder (without moved folder) moved fits.aside_one q k ∙ held (map_of.get folder q) (match_there q h)
+    | inl k ↦ ap (map_of.get cleared) (now_moved q k) ∙ get_under off folder (without moved folder) moved fits.aside_one q k ∙ sym (some_if [] (map_of.get folder q) (match_there q h))
     | inr k ↦ ap (map_of.get cleared) (now_other q k)
         ∙ get_laid (put_under off folder moved) (without moved folder) q (ap (λ ns. is_among ns q) (map-map (λ file. file.0) (λ n. (off n, bytes_of folder n)) moved) ∙ no_aside)
         ∙ get_without moved folder q ∙ ap (λ b. cond b None (map_of.get folder q)) k
   ]
     where
-      held : (o : Option (List ℕ)) → is_some o ≡ true → Some (unwrap_or o []) ≡ o
-      held None i = absurd (false_true i)
-      held (Some x) i = refl
-
       no_aside : is_among (map off moved) q ≡ false
       no_aside = false_from_ne_true _ (λ i. let r = image_of off moved q i in clash (match_there q h) (subst (λ x. has folder x ≡ false) (sym r.2) (aside_free r.0)))
 
@@ -332,11 +312,7 @@ module _ (folder : Folder) (set : ParSet) (given : List (List ℕ)) (fits : Fits
       ap (λ b. cond (not b) ((off n, bytes_of folder n) ∷ filter (λ file. not (is_among (map now taken_names) file.0)) (put_under off folder ns)) (filter (λ file. not (is_among (map now taken_names) file.0)) (put_under off folder ns)))
       (aside_taken n (k n (or_left _ _ (itself n))))
       ∙ ap (λ fs. cond (not (is_among taken_names n)) ((off n, bytes_of folder n) ∷ fs) fs) (asides_left ns (λ m i. k m (or_right _ _ i)))
-      ∙ step (not (is_among taken_names n)) (filter (λ m. not (is_among taken_names m)) ns)
-    where
-      step : (b : Bool) (ms : List (List ℕ)) → cond b ((off n, bytes_of folder n) ∷ put_under off folder ms) (put_under off folder ms) ≡ put_under off folder (cond b (n ∷ ms) ms)
-      step true ms = refl
-      step false ms = refl
+      ∙ sym (map-cond (λ m. (off m, bytes_of folder m)) (not (is_among taken_names n)) n (filter (λ m. not (is_among taken_names m)) ns))
 
   -- what is gone from the folder before
   gone_alike : (q : List ℕ) → has folder q ≡ true → is_among (map now taken_names ++ moved) q ≡ is_among (map (λ m. m.0.name) (matches folder set given) ++ taken_names) q
@@ -403,7 +379,7 @@ module _ (folder : Folder) (set : ParSet) (given : List (List ℕ)) (fits : Fits
   unfolding rebuilt_targets
   written_names =
       map-map (λ file. file.0) (λ c. (c.0.name, c.1)) (rebuilt_targets folder set given)
-      ∙ passing (λ c. c.0.name) (is_among unwon) (files_of_slices set (rebuilt set (known folder set given)))
+      ∙ sym (filter-map (is_among unwon) (λ c. c.0.name) (files_of_slices set (rebuilt set (known folder set given))))
       ∙ ap (filter (is_among unwon)) (names_of_contents (λ z. take z.0.size (concat z.1)) set.targets (rebuilt set (known folder set given)))
 
   unwon_apart : (q : List ℕ) → is_among unwon q ≡ true → is_among won q ≡ false
@@ -498,8 +474,8 @@ module _ (folder : Folder) (set : ParSet) (given : List (List ℕ)) (fits : Fits
   after_other q h = after_has q ∙ past _ _ _ no_written no_won
     where
       past : (a b c : Bool) → a ≡ false → b ≡ false → (a || (b || c)) ≡ c
-      past true b c i j = absurd (false_true (sym i))
-      past false true c i j = absurd (false_true (sym j))
+      past true b c i j = absurd (false≢true (sym i))
+      past false true c i j = absurd (false≢true (sym j))
       past false false c i j = refl
 
       no_written : is_among (filter (is_among unwon) targets) q ≡ false
@@ -528,7 +504,7 @@ module _ (folder : Folder) (set : ParSet) (given : List (List ℕ)) (fits : Fits
       not_left i =
           let r = image_of off left (off q) i in
           let mine = subst (λ x. is_among left x ≡ true) (sym (fits.aside_one q r.0 r.2)) r.1 in
-          clash h (false_from_not (is_among taken_names q) (and_parts (is_among moved q) (not (is_among taken_names q)) (sym (left_is q) ∙ mine)).1)
+          clash h (not-true (is_among taken_names q) (and_parts (is_among moved q) (not (is_among taken_names q)) (sym (left_is q) ∙ mine)).1)
 
   par_left_par : (q : List ℕ) → is_among par_left q ≡ true → is_among (par_files folder set) q ≡ true
   par_left_par q h = (and_parts _ _ (sym (par_left_is q) ∙ h)).0
@@ -539,7 +515,7 @@ module _ (folder : Folder) (set : ParSet) (given : List (List ℕ)) (fits : Fits
       let passes = (and_parts _ _ (sym (among-filter (is_par_file folder set) (names folder) q) ∙ h)).1 in
       let some = (and_parts (is_par_name q && not (is_among targets q) && list_any (λ p. bytes_eq p.set_id set.id) packets) _ passes).0 in
       let no_target = (and_parts (is_par_name q && not (is_among targets q)) _ some).0 in
-      false_from_not (is_among targets q) (and_parts (is_par_name q) _ no_target).1
+      not-true (is_among targets q) (and_parts (is_par_name q) _ no_target).1
 
   par_there : (q : List ℕ) → is_among (par_files folder set) q ≡ true → has folder q ≡ true
   par_there q h = has_by_names folder q ∙ (and_parts _ _ (sym (among-filter (is_par_file folder set) (names folder) q) ∙ h)).0
@@ -572,7 +548,7 @@ module _ (folder : Folder) (set : ParSet) (given : List (List ℕ)) (fits : Fits
           only : (a b c : Bool) → c ≡ false → (a || (b && c)) ≡ true → a ≡ true
           only true b c i j = refl
           only false true c i j = absurd (clash j i)
-          only false false c i j = absurd (false_true j)
+          only false false c i j = absurd (false≢true j)
 
       was_par : is_among (par_files folder set) q ≡ true → is_among taken_names q ≡ false
       was_par i = false_from_ne_true (is_among taken_names q) (λ j. clash k (par_taken q i j))
@@ -593,7 +569,7 @@ module _ (folder : Folder) (set : ParSet) (given : List (List ℕ)) (fits : Fits
     where
       stays : is_among (par_files folder set) q ≡ true → not (is_among taken_names q) ≡ true → is_among gone_names q ≡ false
       stays i j = among-append (map (λ m. m.0.name) (matches folder set given)) taken_names q
-          ∙ or_from _ _ (ap (λ ns. is_among ns q) heads ∙ false_from_ne_true _ (λ m. clash (wanted_is_target q m) (par_no_target q i))) (false_from_not (is_among taken_names q) j)
+          ∙ or_from _ _ (ap (λ ns. is_among ns q) heads ∙ false_from_ne_true _ (λ m. clash (wanted_is_target q m) (par_no_target q i))) (not-true (is_among taken_names q) j)
 
   removed_once : AreDistinct (map off left ++ par_left)
   removed_once = distinct-append (map off left) par_left
@@ -638,11 +614,7 @@ module _ (folder : Folder) (set : ParSet) (given : List (List ℕ)) (fits : Fits
       ap (λ f. map_of.get f q) after_is
       ∙ get_laid (written folder set given fits) (settled folder set given fits) q
       (ap (λ ns. is_among ns q) (written_names folder set given fits) ∙ among-filter (is_among (unwon folder set given fits)) (targets folder set given fits) q
-      ∙ ap (λ b. is_among (targets folder set given fits) q && b) h ∙ none (is_among (targets folder set given fits) q))
-    where
-      none : (b : Bool) → (b && false) ≡ false
-      none true = refl
-      none false = refl
+      ∙ ap (λ b. is_among (targets folder set given fits) q && b) h ∙ and-false (is_among (targets folder set given fits) q))
 
   unwon_wanted : (q : List ℕ) → is_among (unwon folder set given fits) q ≡ true → is_among (wanted folder set given fits) q ≡ true
   unwon_wanted q h = subst (λ ns. is_among ns q ≡ true) (heads folder set given fits) (among_some (λ m. m.0.name) (λ m. is_none m.1) (matches folder set given) q h)
@@ -656,16 +628,12 @@ module _ (folder : Folder) (set : ParSet) (given : List (List ℕ)) (fits : Fits
 
   matched_hold : (f after : Folder) (ms : Pairs) → AllByRecursion (λ file. map_of.get after file.0 ≡ Some file.1) (matched_files f ms) → AllByRecursion (λ m. ForSome m.1 (λ name. map_of.get after m.0.name ≡ Some (bytes_of f name))) ms
   matched_hold f after [] h = tt
-  matched_hold f after ((t, None) ∷ ms) h = (λ x e. absurd (false_true (ap is_some e)), matched_hold f after ms h)
+  matched_hold f after ((t, None) ∷ ms) h = (λ x e. absurd (false≢true (ap is_some e)), matched_hold f after ms h)
   matched_hold f after ((t, Some x) ∷ ms) h = (λ y e. subst (λ z. map_of.get after t.name ≡ Some (bytes_of f z)) (ap (λ o. unwrap_or o x) e) h.0, matched_hold f after ms h.1)
 
   written_hold : (after : Folder) (cs : List (Target × List ℕ)) → AllByRecursion (λ (file : File). map_of.get after file.0 ≡ Some file.1) (map (λ c. (c.0.name, c.1)) cs) → AllByRecursion (λ c. map_of.get after c.0.name ≡ Some c.1) cs
   written_hold after [] h = tt
   written_hold after (c ∷ cs) h = (h.0, written_hold after cs h.1)
-
-  none_there : (o : Option (List ℕ)) → is_some o ≡ false → o ≡ None
-  none_there None h = refl
-  none_there (Some bytes) h = absurd (false_true (sym h))
 
   pub repaired_holds : HoldsRepaired folder set given (after_repair folder set given)
   repaired_holds = record {
@@ -680,7 +648,7 @@ module _ (folder : Folder) (set : ParSet) (given : List (List ℕ)) (fits : Fits
     asides = λ name h k.
         unwanted (aside folder set name) (false_from_ne_true _ (λ i. clash (wanted_is_target folder set given fits (aside folder set name) i) (aside_no_target folder set given fits name)))
         ∙ get_under (aside folder set) folder base (left folder set given fits) fits.aside_one name (left_is folder set given fits name ∙ and_from _ _ h (not_from_false _ k));
-    taken_asides = λ name h k. none_there (map_of.get (after_repair folder set given) (aside folder set name)) (vacant_aside folder set given fits name k);
+    taken_asides = λ name h k. none_if (map_of.get (after_repair folder set given) (aside folder set name)) (vacant_aside folder set given fits name k);
     moved_away = λ name h k.
         unwanted name k ∙ unaside name (present_no_aside folder set given fits (left folder set given fits) name (match_there folder set given fits name h))
         ∙ get_without (gone_names folder set given fits) folder name

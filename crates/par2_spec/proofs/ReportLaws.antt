@@ -5,7 +5,7 @@ use Rattle.std.specs.List.{AllByRecursion}
 use Rattle.std.specs.Str.{bytes_eq}
 use Rattle.std.proofs.lemmas.List.{map-append, length-map}
 use Rattle.std.proofs.lemmas.Simd.{map-map}
-use Rattle.std.proofs.lemmas.Bool.{and_parts, or_parts}
+use Rattle.std.proofs.lemmas.Bool.{and_parts, or_parts, false≢true}
 use Rattle.std.proofs.Math.Seq.{drop-append_seam, take-append_seam}
 use Rattle.par2_spec.specs.Checksums.{Pair}
 use Rattle.par2_spec.specs.Windows.{found}
@@ -17,7 +17,7 @@ use Rattle.par2_spec.specs.Search.{is_intact, is_needing, needing, intact_names,
 use Rattle.par2_spec.specs.Repairs.{cut_into}
 use Rattle.par2_spec.specs.Refusals.{set_in}
 use Rattle.par2_spec.specs.Reports.{State, Complete, Report, needing_state, state_of, report_of_target, report_of, report_in, found_of, states_by, IsByTarget, StatesFollow, IsFound, IntactAreFound, MatchedAreFound, HasIntactFile, IsFoundWhole}
-use Rattle.par2_spec.proofs.NamesLaws.{itself, false_true, AreDistinct, distinct_from_std, among-filter}
+use Rattle.par2_spec.proofs.NamesLaws.{itself, AreDistinct, distinct_from_std, among-filter}
 use Rattle.par2_spec.proofs.AcceptedCommands.{set_in_reads}
 use Rattle.par2_spec.proofs.SearchLaws.{pairs_with, found_passes}
 use Rattle.par2_spec.proofs.FoundLaws.{AreSized, intact_found, windowed_found, intact_windowed, all-filter}
@@ -127,7 +127,7 @@ matches_found folder s names free (t ∷ ts) positive sized within =
     )
   where
     head : (o : Option (List ℕ)) → ((x : List ℕ) → o ≡ Some x → (is_among free x ≡ true) × (is_intact s t (bytes_of folder x) ≡ true)) → is_some o ≡ true → IsFound folder s names t
-    head None k i = absurd (false_true i)
+    head None k i = absurd (false≢true i)
     head (Some x) k i = let r = k x refl in windowed_found folder s names x t.pairs (within x r.0) (intact_windowed s t (bytes_of folder x) positive sized.0 r.1)
 
 pub matched_are_found : (folder : Folder) (base : List ℕ) (set : ParSet) (extras : List (List ℕ)) → set_of folder base ≡ Ok set → MatchedAreFound folder set (candidates folder set extras)
@@ -204,4 +204,4 @@ found_whole_in folder base extras report h = step (set_in folder base extras) re
     step : (r : Result ParSet Fault) → set_in folder base extras ≡ r → (r >>= (λ set. Ok (report_of folder set (candidates folder set extras)))) ≡ Ok report → AllByRecursion IsFoundWhole report.targets
     step (Ok set) e k =
         subst (λ (r : Report). AllByRecursion IsFoundWhole r.targets) (ap value k) (whole_of_set folder base set extras (set_in_reads folder base extras set e).0)
-    step (Err fault) e k = absurd (false_true (ap came_out k))
+    step (Err fault) e k = absurd (false≢true (ap came_out k))

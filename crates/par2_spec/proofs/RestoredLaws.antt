@@ -1,6 +1,6 @@
 -- The slices of a file give the file back, and those of the files that a set was made from are rebuilt.
 use Rattle.std.proofs.Common.{◌≡◌, ℕ, zero, suc, ◌+◌, ◌-◌, ◌*◌, ◌%◌, ◌<◌, ◌≤◌, List, [], ◌∷◌, ◌++◌, length, map, take, drop, refl, sym, ap, ◌∙◌, subst, cond, true, false, Bool, arith, inl, inr, length-append, length-drop}
-use Rattle.std.specs.Prelude.{flat_map, filter, find, zip, replicate, min, ◌==◌, ◌⊎◌, Option, Some, is_some, unwrap_or}
+use Rattle.std.specs.Prelude.{flat_map, filter, find, zip, replicate, min, ◌==◌, Option, Some, is_some, unwrap_or}
 use Rattle.std.specs.List.{range_with_len, list_any, concat, AllByRecursion, AllZip}
 use Rattle.std.specs.Option.{ForSome}
 use Rattle.std.specs.FinMap as map_of
@@ -8,6 +8,7 @@ use Rattle.std.proofs.Math.Nat.{add-mul}
 use Rattle.std.proofs.Math.Seq.{drop-append_seam, take-append_seam, take-append-add}
 use Rattle.std.proofs.lemmas.Grind.{div_ceil_times}
 use Rattle.std.proofs.lemmas.List.{length-take, length-take-le, length-replicate, length-map, take_all, drop_all, take-append-drop, drop-drop, map-append, append_assoc, append-nil}
+use Rattle.std.proofs.lemmas.Bool.{false≢true, cases_lt}
 use Rattle.par2_spec.specs.Checksums.{pair_of}
 use Rattle.par2_spec.specs.Slices.{slice_count, slice_at, slices}
 use Rattle.par2_spec.specs.Windows.{windows, is_match, found}
@@ -18,10 +19,9 @@ use Rattle.par2_spec.specs.Volumes.{record_of, all_slices}
 use Rattle.par2_spec.specs.Sets.{Target, target_of_file, MadeFrom, all_pairs}
 use Rattle.par2_spec.specs.Search.{known, lost, survivors, NoCollision}
 use Rattle.par2_spec.specs.Repairs.{rebuilt, cut_into, files_of_slices}
-use Rattle.par2_spec.proofs.NamesLaws.{false_true}
 use Rattle.par2_spec.proofs.ListsLaws.{all-append}
 use Rattle.par2_spec.proofs.FoundLaws.{all-filter}
-use Rattle.par2_spec.proofs.RankLaws.{rebuilt_is_only}
+use Rattle.par2_spec.proofs.RankLaws.{rebuilt_is_only, all_weaker}
 use Rattle.par2_spec.proofs.UniqueLaws.{agreeing_is_rebuilt}
 
 -- ---- a slice
@@ -37,17 +37,17 @@ length-slice_at s text j =
 abbrev pub AreBytes : List ℕ → Type 0
 AreBytes bytes = AllByRecursion (λ b. b < 256) bytes
 
-bytes-take : (n : ℕ) (xs : List ℕ) → AreBytes xs → AreBytes (take n xs)
+pub bytes-take : (n : ℕ) (xs : List ℕ) → AreBytes xs → AreBytes (take n xs)
 bytes-take zero xs h = tt
 bytes-take (suc n) [] h = tt
 bytes-take (suc n) (x ∷ xs) h = (h.0, bytes-take n xs h.1)
 
-bytes-drop : (n : ℕ) (xs : List ℕ) → AreBytes xs → AreBytes (drop n xs)
+pub bytes-drop : (n : ℕ) (xs : List ℕ) → AreBytes xs → AreBytes (drop n xs)
 bytes-drop zero xs h = h
 bytes-drop (suc n) [] h = tt
 bytes-drop (suc n) (x ∷ xs) h = bytes-drop n xs h.1
 
-bytes-zeros : (n : ℕ) → AreBytes (replicate n 0)
+pub bytes-zeros : (n : ℕ) → AreBytes (replicate n 0)
 bytes-zeros zero = tt
 bytes-zeros (suc n) = (omega arith, bytes-zeros n)
 
@@ -71,23 +71,18 @@ rest_joined s text (suc n) j le =
     let later = concat (map (slice_at s text) (range_with_len (j + 1) n)) in
     let next : (j + 1) * s ≡ j * s + 1 * s = add-mul j 1 s in
     let here = rest_joined s text n (j + 1) (let e : j + suc n ≡ j + 1 + n = omega arith in subst (λ k. length text ≤ k * s) e le) in
-    elim (cases_le s m) as (λ _. take m (slice_at s text j ++ later) ≡ rest) [
-      | inl full ↦
+    elim (cases_lt m s) as (λ _. take m (slice_at s text j ++ later) ≡ rest) [
+      | inr full ↦
           let part : length (take s rest) ≡ s = length-take-le s rest (omega (arith, full, long)) in
           let whole : slice_at s text j ≡ take s rest = ap (λ k. take s rest ++ replicate k 0) (let e : s - length (take s rest) ≡ 0 = omega (arith, part) in e) ∙ append-nil (take s rest) in
           let cut : m ≡ length (take s rest) + (length text - (j + 1) * s) = omega (arith, part, full, next) in
           ap (λ x. take m (x ++ later)) whole ∙ ap (λ k. take k (take s rest ++ later)) cut ∙ take-append-add (take s rest) later (length text - (j + 1) * s)
           ∙ ap (λ x. take s rest ++ x) (here ∙ ap (λ k. drop k text) (next ∙ (let e : j * s + 1 * s ≡ j * s + s = omega arith in e)) ∙ sym (drop-drop s (j * s) text)) ∙ take-append-drop s rest
-      | inr short ↦
+      | inl short ↦
           let whole : take s rest ≡ rest = take_all s rest (omega (arith, short, long)) in
           ap (λ x. take m ((x ++ replicate (s - length x) 0) ++ later)) whole ∙ ap (take m) (append_assoc rest (replicate (s - length rest) 0) later)
           ∙ ap (λ k. take k (rest ++ (replicate (s - length rest) 0 ++ later))) (sym long) ∙ take-append_seam rest (replicate (s - length rest) 0 ++ later)
     ]
-  where
-    cases_le : (a b : ℕ) → (a ≤ b) ⊎ (b < a)
-    cases_le zero b = inl (omega arith)
-    cases_le (suc a) zero = inr (omega arith)
-    cases_le (suc a) (suc b) = elim (cases_le a b) as (λ _. (suc a ≤ suc b) ⊎ (suc b < suc a)) [ inl l ↦ inl (omega (arith, l)) | inr l ↦ inr (omega (arith, l)) ]
 
 zero_plus : (n : ℕ) → n ≡ 0 + n
 zero_plus n = omega arith
@@ -164,7 +159,7 @@ abbrev pub IsTold : Folder → List (List ℕ) → ℕ → List ℕ → Type 0
 IsTold folder searched s slice = AllByRecursion (λ name. AllByRecursion (λ w. is_match (pair_of slice) w ≡ true → w ≡ slice) (windows s (bytes_of folder name))) searched
 
 found_here : (p : List ℕ → Bool) (P : List ℕ → Type 0) (ws : List (List ℕ)) → AllByRecursion (λ w. p w ≡ true → P w) ws → (w : List ℕ) → find p ws ≡ Some w → P w
-found_here p P [] h w e = absurd (false_true (ap is_some e))
+found_here p P [] h w e = absurd (false≢true (ap is_some e))
 found_here p P (x ∷ ws) h w e = step (p x) refl e (found_here p P ws h.1 w)
   where
     step : (b : Bool) → p x ≡ b → cond b (Some x) (find p ws) ≡ Some w → (find p ws ≡ Some w → P w) → P w
@@ -194,8 +189,7 @@ bytes_of_files s [] h = tt
 bytes_of_files s (file ∷ files) h = all-append AreBytes (slices s file.1) (all_slices s files) (of_range AreBytes (slice_at s file.1) (λ j. bytes-slice_at s file.1 j h.0) 0 (slice_count s (length file.1))) (bytes_of_files s files h.1)
 
 turned : (s : ℕ) (xs : List (List ℕ)) (rs : List (ℕ × List ℕ)) → AllByRecursion (λ r. r.1 ≡ recovery s xs r.0) rs → AllByRecursion (λ r. recovery s xs r.0 ≡ r.1) rs
-turned s xs [] h = tt
-turned s xs (r ∷ rs) h = (sym h.0, turned s xs rs h.1)
+turned s xs rs h = all_weaker (λ r. r.1 ≡ recovery s xs r.0) (λ r. recovery s xs r.0 ≡ r.1) (λ r e. sym e) rs h
 
 -- the slices of the files that a set was made from agree with all that is found
 pub true_slices_agree : (folder : Folder) (base : List ℕ) (files : List File) (s : ℕ) (searched : List (List ℕ)) (m : MadeFrom folder base files s) → NoCollision folder searched s (all_slices s files) → AllByRecursion (λ file. AreBytes file.1) files

@@ -3,12 +3,13 @@ use Rattle.std.proofs.Common.{◌≡◌, ◌&&◌, ℕ, List, [], ◌∷◌, map
 use Rattle.std.specs.Prelude.{filter, filter_map, find, zip, Option, Some, None, option_to_list, unwrap_or, is_some}
 use Rattle.std.specs.List.{cons_option}
 use Rattle.std.specs.Str.{bytes_eq}
-use Rattle.std.proofs.lemmas.Bool.{and_parts, or_cases, or_left, or_right, false_from_ne_true}
+use Rattle.std.proofs.lemmas.Bool.{and_parts, or_cases, or_left, or_right, false_from_ne_true, false≢true}
+use Rattle.std.proofs.Math.Bool.{and-true, and-false, and_assoc}
 use Rattle.par2_spec.specs.Names.{is_among}
 use Rattle.par2_spec.specs.Folders.{Folder, bytes_of}
 use Rattle.par2_spec.specs.Sets.{ParSet, Target}
 use Rattle.par2_spec.specs.Search.{is_intact, matched, matches, needing, intact_names, AreFirstMatches}
-use Rattle.par2_spec.proofs.NamesLaws.{same_name, itself, clash, false_true, AreDistinct, among-filter, among-append}
+use Rattle.par2_spec.proofs.NamesLaws.{same_name, itself, clash, AreDistinct, among-filter, among-append}
 
 -- the targets with their matches, and the matches alone
 abbrev pub pairs_with : Folder → ℕ → List (List ℕ) → List Target → List (Target × Option (List ℕ))
@@ -27,7 +28,7 @@ names_of_pairs folder s free (t ∷ ts) =
 
 -- what is found is one of the names, and passes
 pub found_passes : (p : List ℕ → Bool) (names : List (List ℕ)) (q : List ℕ) → find p names ≡ Some q → (is_among names q ≡ true) × (p q ≡ true)
-found_passes p [] q h = absurd (false_true (ap is_some h))
+found_passes p [] q h = absurd (false≢true (ap is_some h))
 found_passes p (x ∷ names) q h = step (p x) refl h (found_passes p names q)
   where
     same : Some x ≡ Some q → x ≡ q
@@ -39,7 +40,7 @@ found_passes p (x ∷ names) q h = step (p x) refl h (found_passes p names q)
 
 -- what is taken was free
 pub taken_was_free : (folder : Folder) (s : ℕ) (free : List (List ℕ)) (ts : List Target) (q : List ℕ) → is_among (taken_by folder s free ts) q ≡ true → is_among free q ≡ true
-taken_was_free folder s free [] q h = absurd (false_true h)
+taken_was_free folder s free [] q h = absurd (false≢true h)
 taken_was_free folder s free (t ∷ ts) q h =
     let p = (λ (name : List ℕ). is_intact s t (bytes_of folder name)) in
     step (find p free) (λ x e. (found_passes p free x e).0) (taken_by folder s (without_found (find p free) free) ts) (λ i. (and_parts _ _ (sym (among-filter (λ name. not (is_among (option_to_list (find p free)) name)) free q) ∙ taken_was_free folder s (without_found (find p free) free) ts q i)).0) h
@@ -74,17 +75,9 @@ find-filter : (p r : List ℕ → Bool) (xs : List (List ℕ)) → find p (filte
 find-filter p r [] = refl
 find-filter p r (x ∷ xs) = step (r x) (filter r xs) ∙ ap (cond (p x && r x) (Some x)) (find-filter p r xs)
   where
-    all_of : (c : Bool) → (c && true) ≡ c
-    all_of true = refl
-    all_of false = refl
-
-    none_of : (c : Bool) → (c && false) ≡ false
-    none_of true = refl
-    none_of false = refl
-
     step : (b : Bool) (ys : List (List ℕ)) → find p (cond b (x ∷ ys) ys) ≡ cond (p x && b) (Some x) (find p ys)
-    step true ys = ap (λ c. cond c (Some x) (find p ys)) (sym (all_of (p x)))
-    step false ys = ap (λ c. cond c (Some x) (find p ys)) (sym (none_of (p x)))
+    step true ys = ap (λ c. cond c (Some x) (find p ys)) (sym (and-true (p x)))
+    step false ys = ap (λ c. cond c (Some x) (find p ys)) (sym (and-false (p x)))
 
 find_alike : (p r : List ℕ → Bool) (xs : List (List ℕ)) → ((x : List ℕ) → p x ≡ r x) → find p xs ≡ find r xs
 find_alike p r [] h = refl
@@ -122,26 +115,18 @@ first_matches folder s searched intact before (t ∷ ts) =
     let p = (λ (name : List ℕ). is_intact s t (bytes_of folder name)) in
     let found = find p (free_after searched intact before) in (
       find-filter p (λ name. not (is_among intact name) && not (is_among before name)) searched
-          ∙ find_alike _ _ searched (λ x. three (p x) (not (is_among intact x)) (not (is_among before x))),
+          ∙ find_alike _ _ searched (λ x. sym (and_assoc (p x) (not (is_among intact x)) (not (is_among before x)))),
       subst (λ free. AreFirstMatches folder s searched intact (before ++ option_to_list found) (pairs_with folder s free ts)) (sym (one_more searched intact before (option_to_list found)))
           (first_matches folder s searched intact (before ++ option_to_list found) ts),
     )
-  where
-    three : (a b c : Bool) → (a && (b && c)) ≡ ((a && b) && c)
-    three true b c = refl
-    three false b c = refl
 
 -- the matches of a set are those of the rule, in target order
 pub matches_follow : (folder : Folder) (set : ParSet) (searched : List (List ℕ)) → AreFirstMatches folder set.slice_size searched (intact_names folder set) [] (matches folder set searched)
 unfolding matches
 matches_follow folder set searched =
     subst (λ free. AreFirstMatches folder set.slice_size searched (intact_names folder set) [] (pairs_with folder set.slice_size free (needing folder set)))
-    (filter_alike _ _ searched (λ x. always (not (is_among (intact_names folder set) x))))
+    (filter_alike _ _ searched (λ x. and-true (not (is_among (intact_names folder set) x))))
     (first_matches folder set.slice_size searched (intact_names folder set) [] (needing folder set))
-  where
-    always : (b : Bool) → (b && true) ≡ b
-    always true = refl
-    always false = refl
 
 targets_of_pairs : (folder : Folder) (s : ℕ) (free : List (List ℕ)) (ts : List Target) → map (λ m. m.0) (pairs_with folder s free ts) ≡ ts
 targets_of_pairs folder s free [] = refl

@@ -2,7 +2,7 @@
 use Rattle.std.proofs.Common.{◌≡◌, ℕ, zero, suc, ◌+◌, ◌-◌, ◌≤◌, List, [], ◌∷◌, refl, sym, ap, ◌∙◌, subst, true, false, Bool, arith}
 use Rattle.std.specs.Prelude.{Option, Some, None, Result, Ok, Err, drop, replicate, length, sum_by}
 use Rattle.std.specs.List.{AllByRecursion}
-use Rattle.std.proofs.lemmas.Bool.{and_parts, and_from}
+use Rattle.std.proofs.lemmas.Bool.{and_parts, and_from, false≢true}
 use Rattle.std.proofs.lemmas.List.Sums.{sum_by-cons}
 use Rattle.par2_spec.specs.declared.Fault.{Fault}
 use Rattle.par2_spec.specs.Folders.{Folder}
@@ -14,7 +14,6 @@ use Rattle.par2_spec.specs.History.{History, Refusal, Refused, NothingToUndo, No
 use Rattle.par2_spec.specs.Sessions.{Session, folders_along, history_of, first_entry, changes_unless, changes_asked, others, session_with, session_unless, session_after, KeptSession, session_of_kept, walks, CanWalk, OnlyGrew, kept_done, kept_undone, kept_redone}
 use Rattle.par2_spec.specs.Opening.{leads, is_valid}
 use Rattle.par2_spec.proofs.FolderLaws.{undo_changes, undo_are_applicable, state_files, taken_are_applicable, state_all_back, way_back_taken, changes_back, with_room, more_room_all, takes_applicable}
-use Rattle.par2_spec.proofs.NamesLaws.{false_true}
 
 -- ---- what came out
 
@@ -40,7 +39,7 @@ same_err x y e = ap (err_or_else x) e
 
 pub ok_no_err : {A E : Type 0} (x : A) (y : E) → ◌≡◌ {A = Result A E} (Ok x) (Err y) → ⊥
 unfolding is_ok
-ok_no_err x y e = false_true (sym (ap is_ok e))
+ok_no_err x y e = false≢true (sym (ap is_ok e))
 
 -- ---- an entry and its way back
 

@@ -6,7 +6,7 @@ use Rattle.std.specs.Str.{bytes_eq}
 use Rattle.std.proofs.Math.Seq.{drop-append_seam, take-append_seam}
 use Rattle.std.proofs.lemmas.List.{reverse-reverse, reverse-append, length-reverse, get_or-reverse, get_or-map, take-append-drop, length-map, length-take-le, append-nil, take-map, take-take, get_or-take, drop-drop}
 use Rattle.std.proofs.lemmas.Grind.{reverse_onto}
-use Rattle.std.proofs.lemmas.Bool.{and_parts, and_from}
+use Rattle.std.proofs.lemmas.Bool.{and_parts, and_from, false≢true}
 use Rattle.std.proofs.lemmas.Iterator.Adapters.{position_from-zero}
 use Rattle.par2_spec.specs.declared.JournalFault.{JournalFault}
 use Rattle.par2_spec.specs.declared.JournalFault.TheVariants.{JournalInvalid, FolderChanged}
@@ -18,7 +18,7 @@ use Rattle.par2_spec.specs.Sessions.{Session}
 use Rattle.par2_spec.specs.Journals.{Journal, HalfwayPart, IsHalfwayPart, IsJournal, Spells}
 use Rattle.par2_spec.specs.Opening.{settled_journal, halfway_journal, leads, session_of, is_valid, leads_through, Opened, Settled, Halfway, taken_back, opened_if_found, opened_by_part, opened, TellsApart, session_of_opened, OpensAs, Opens, kept_in}
 use Rattle.par2_spec.proofs.FolderLaws.{undo_changes, undo_change, undo_is_applicable, effects-append, way_back-append}
-use Rattle.par2_spec.proofs.NamesLaws.{itself, same_name, false_true}
+use Rattle.par2_spec.proofs.NamesLaws.{itself, same_name}
 
 -- ---- places in a list
 
@@ -41,7 +41,7 @@ least_place q all n lt here =
 
 -- what stands at the place that was found
 at_place : (q : List ℕ) (i : ℕ) (all : List (List ℕ)) (k : ℕ) → position_from (bytes_eq q) i all ≡ Some k → (n : ℕ) × (k ≡ i + n) × (n < length all) × (get_or all n q ≡ q)
-at_place q i [] k h = absurd (false_true (ap is_some h))
+at_place q i [] k h = absurd (false≢true (ap is_some h))
 at_place q i (x ∷ all) k h = step (bytes_eq q x) refl h (at_place q (i + 1) all k)
   where
     step : (b : Bool) → bytes_eq q x ≡ b → cond b (Some i) (position_from (bytes_eq q) (i + 1) all) ≡ Some k
@@ -272,7 +272,7 @@ session_or other (Err fault) = other
 
 settled_is : (answer : Result Opened JournalFault) (s : Session) (back : List Change) → back_of answer ≡ None → answer ≡ Ok (Halfway s back) → ⊥
 unfolding back_of
-settled_is answer s back e h = false_true (ap is_some (sym e ∙ ap back_of h))
+settled_is answer s back e h = false≢true (ap is_some (sym e ∙ ap back_of h))
 
 -- the parts of an opening that takes back
 record TakesBack (folder : Folder) (journal : Journal) (s : Session) (back : List Change) : Type 0 where
@@ -345,14 +345,14 @@ through_drop : (folder : Folder) (cs : List Change) (ps : List (List ℕ)) (a : 
 unfolding leads_through effects
 through_drop folder cs ps zero h = h
 through_drop folder [] ps (suc a) h = refl
-through_drop folder (c ∷ cs) [] (suc a) h = absurd (false_true h)
+through_drop folder (c ∷ cs) [] (suc a) h = absurd (false≢true h)
 through_drop folder (c ∷ cs) (p ∷ ps) (suc a) h = through_drop (effect folder c) cs ps a (and_parts (is_applicable folder c && bytes_eq (fingerprint (effect folder c)) p) (leads_through (effect folder c) cs ps) h).1
 
 -- the fingerprints that changes lead through
 through_at : (folder : Folder) (cs : List Change) (ps : List (List ℕ)) (m : ℕ) (d : List ℕ) → leads_through folder cs ps ≡ true → m < length cs → get_or ps m d ≡ fingerprint (effects folder (take (suc m) cs))
 unfolding leads_through effects
 through_at folder [] ps m d h lt = absurd (omega (arith, lt))
-through_at folder (c ∷ cs) [] m d h lt = absurd (false_true h)
+through_at folder (c ∷ cs) [] m d h lt = absurd (false≢true h)
 through_at folder (c ∷ cs) (p ∷ ps) zero d h lt =
     sym (same_name (fingerprint (effect folder c)) p (and_parts (is_applicable folder c) (bytes_eq (fingerprint (effect folder c)) p) (and_parts (is_applicable folder c && bytes_eq (fingerprint (effect folder c)) p) (leads_through (effect folder c) cs ps) h).0).1)
 through_at folder (c ∷ cs) (p ∷ ps) (suc m) d h lt =
@@ -361,7 +361,7 @@ through_at folder (c ∷ cs) (p ∷ ps) (suc m) d h lt =
 pub through_applies : (folder : Folder) (cs : List Change) (ps : List (List ℕ)) → leads_through folder cs ps ≡ true → are_applicable folder cs ≡ true
 unfolding leads_through are_applicable
 through_applies folder [] ps h = refl
-through_applies folder (c ∷ cs) [] h = absurd (false_true h)
+through_applies folder (c ∷ cs) [] h = absurd (false≢true h)
 through_applies folder (c ∷ cs) (p ∷ ps) h =
     let r = and_parts (is_applicable folder c && bytes_eq (fingerprint (effect folder c)) p) (leads_through (effect folder c) cs ps) h in
     and_from _ _ (and_parts (is_applicable folder c) (bytes_eq (fingerprint (effect folder c)) p) r.0).0 (through_applies (effect folder c) cs ps r.1)

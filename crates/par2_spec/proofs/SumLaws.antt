@@ -2,7 +2,7 @@
 use Rattle.std.proofs.Common.{ℕ, zero, suc, ◌<◌, ◌≤◌, ◌≡◌, ◌≢◌, inl, inr, refl, sym, ap, ap₂, ◌∙◌, arith, List, [], ◌∷◌, length, get_or, bit_xor}
 use Rattle.std.proofs.lemmas.Bool.{cases_eq}
 use Rattle.std.proofs.lemmas.Nat.{xor_comm, xor_lt}
-use Rattle.std.specs.Int.Bits.{xor_assoc, xor_zero_r}
+use Rattle.std.specs.Int.Bits.{xor_assoc, xor_zero_r, xor_self, xor_zero_l}
 use Rattle.par2_spec.specs.Field.{mul}
 use Rattle.par2_spec.specs.Slices.{word}
 use Rattle.par2_spec.specs.Recovery.{dot}
@@ -10,6 +10,13 @@ use Rattle.par2_spec.specs.Sums.{field_sum, row_sum, AreElements}
 use Rattle.par2_spec.proofs.FieldBits.{xor_middle}
 use Rattle.par2_spec.proofs.FieldProducts.{product_linear_left, product_linear_right, product_assoc, product_comm, product-one, product-lt}
 use Rattle.par2_spec.proofs.FieldOrder.{product-zero, zero-product}
+
+-- an exclusive or, taken off again
+pub xor_off : (a b : ℕ) → bit_xor (bit_xor a b) b ≡ a
+xor_off a b = xor_assoc a b b ∙ ap (bit_xor a) (xor_self b) ∙ xor_zero_r a
+
+pub xor_same : (a b : ℕ) → bit_xor a b ≡ 0 → a ≡ b
+xor_same a b e = sym (xor_off a b) ∙ ap (λ x. bit_xor x b) e ∙ xor_zero_l b
 
 pub field_sum_same : (n : ℕ) (f g : ℕ → ℕ) → ((i : ℕ) → i < n → f i ≡ g i) → field_sum n f ≡ field_sum n g
 unfolding field_sum

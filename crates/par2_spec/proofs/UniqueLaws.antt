@@ -2,7 +2,7 @@
 use Rattle.std.proofs.Common.{◌≡◌, ℕ, zero, suc, ◌+◌, ◌/◌, ◌%◌, ◌^◌, ◌<◌, ◌≤◌, List, [], ◌∷◌, length, map, take, drop, get_or, refl, sym, ap, ◌∙◌, subst, cond, true, false, Bool, arith, inl, inr}
 use Rattle.std.specs.Prelude.{bit_xor, flat_map, filter, slice_index, ◌==◌, Option, Some, None, is_none}
 use Rattle.std.specs.Int.{w16, to_le_bytes, from_le_bytes}
-use Rattle.std.specs.Int.Bits.{xor_assoc, xor_self, xor_zero_r}
+use Rattle.std.specs.Int.Bits.{xor_self}
 use Rattle.std.specs.List.{range_with_len, enumerate_from, list_any, AllByRecursion, AllZip, Contains}
 use Rattle.std.specs.Option.{ForSome}
 use Rattle.std.specs.FinMap as map_of
@@ -23,6 +23,8 @@ use Rattle.par2_spec.proofs.FieldConstants.{constant-lt}
 use Rattle.par2_spec.proofs.NamesLaws.{clash}
 use Rattle.par2_spec.proofs.RankLaws.{kept-iff}
 use Rattle.par2_spec.proofs.WordLaws.{byte_at, word-lt, same_texts}
+use Rattle.par2_spec.proofs.SumLaws.{xor_same}
+use Rattle.par2_spec.proofs.ListsLaws.{all-both}
 
 -- ---- sums of lists
 
@@ -51,9 +53,6 @@ unfolding dot
 dot-lt [] v h k = omega arith
 dot-lt (c ∷ row) [] h k = omega arith
 dot-lt (c ∷ row) (x ∷ v) h k = xor_lt 16 (mul c x) (dot row v) (product-lt c x h.0 k.0) (dot-lt row v h.1 k.1)
-
-same_sum : (x y : ℕ) → bit_xor x y ≡ 0 → x ≡ y
-same_sum x y e = sym (xor_zero_r x) ∙ ap (bit_xor x) (sym (xor_self y)) ∙ sym (xor_assoc x y y) ∙ ap (λ t. bit_xor t y) e
 
 pub coefficients_are : (e : ℕ) (is : List ℕ) → AreElements (coefficients is e)
 unfolding coefficient
@@ -155,7 +154,7 @@ no_difference : (u v : List ℕ) → length u ≡ length v → AllByRecursion (�
 no_difference [] [] e h = refl
 no_difference [] (y ∷ v) e h = absurd (omega (arith, e))
 no_difference (x ∷ u) [] e h = absurd (omega (arith, e))
-no_difference (x ∷ u) (y ∷ v) e h = ap (λ z. z ∷ u) (same_sum x y h.0) ∙ ap (λ w. y ∷ w) (no_difference u v (omega (arith, e)) h.1)
+no_difference (x ∷ u) (y ∷ v) e h = ap (λ z. z ∷ u) (xor_same x y h.0) ∙ ap (λ w. y ∷ w) (no_difference u v (omega (arith, e)) h.1)
 
 pub sums-elements : (u v : List ℕ) → AreElements u → AreElements v → AreElements (sums u v)
 sums-elements [] v h k = tt
@@ -219,8 +218,7 @@ of_kept P is rs h e c =
     at_key P (λ x. list_any (λ y. y == x) (kept is (map (λ r. r.0) rs))) rs e h (any_here (kept is (map (λ r. r.0) rs)) e c.0 c.1 c.2) there.0 there.1 there.2
 
 both_recovered : (s : ℕ) (a b : List (List ℕ)) (rs : List (ℕ × List ℕ)) → AllByRecursion (λ r. recovery s a r.0 ≡ r.1) rs → AllByRecursion (λ r. recovery s b r.0 ≡ r.1) rs → AllByRecursion (λ r. recovery s a r.0 ≡ recovery s b r.0) rs
-both_recovered s a b [] h k = tt
-both_recovered s a b (r ∷ rs) h k = (h.0 ∙ sym k.0, both_recovered s a b rs h.1 k.1)
+both_recovered s a b rs h k = all-both (λ r. recovery s a r.0 ≡ r.1) (λ r. recovery s b r.0 ≡ r.1) (λ r. recovery s a r.0 ≡ recovery s b r.0) (λ r p q. p ∙ sym q) rs h k
 
 -- ---- one list alone agrees
 

@@ -1,29 +1,15 @@
 -- Texts that are written one after the other.
-use Rattle.std.proofs.Common.{◌≡◌, ◌∙◌, ◌++◌, map, ◌+◌, ◌-◌, ◌<◌, ℕ, suc, List, [], ◌∷◌, refl, take, drop, length, ap, sym, subst, append-nil, append_assoc, length-drop, length-append, Option, Some, None, Result, Ok, Err, arith}
-use Rattle.std.specs.Io.KnownBytes.{Appends, Keeps}
+use Rattle.std.proofs.Common.{◌≡◌, ◌∙◌, ◌++◌, map, ◌+◌, ◌-◌, ◌<◌, ℕ, suc, List, [], ◌∷◌, refl, take, drop, length, ap, sym, subst, append-nil, append_assoc, length-drop, length-append, Option, Result, Ok, Err, arith}
+use Rattle.std.specs.Io.KnownBytes.{Appends}
 use Rattle.std.proofs.Math.Seq.{take-append_seam, take-append-add}
 use Rattle.std.proofs.lemmas.List.{take-append-drop, take-append-le, take_all, take_more}
 use Rattle.std.proofs.lemmas.Grind.{flat_map-append}
 use Rattle.std.proofs.lemmas.List.Folds.{flat_map-map}
 use Rattle.std.proofs.Math.Seq.{drop-cons}
 use Rattle.std.proofs.Math.ListN.{get_or}
+use Rattle.std.proofs.KnownBytes.{Appends-trans, Appends-nil}
 use Rattle.std.specs.List.{flat_map}
 use Rattle.par2_spec.specs.Writing.{Writer, TookAll, TookPart, Wrote}
-
-pub appends_both : (a b c : Option (List ℕ)) (xs ys : List ℕ) → Appends a b xs → Appends b c ys → Appends a c (xs ++ ys)
-appends_both None b c xs ys p q = tt
-appends_both (Some x) None c xs ys p q = absurd p
-appends_both (Some x) (Some y) None xs ys p q = absurd q
-appends_both (Some x) (Some y) (Some z) xs ys p q = q ∙ ap (λ w. w ++ ys) p ∙ append_assoc x xs ys
-
-appends_nothing : (a : Option (List ℕ)) → Appends a a []
-appends_nothing None = tt
-appends_nothing (Some x) = sym (append-nil x)
-
-pub appends_kept : (a b : Option (List ℕ)) → Keeps a b → Appends a b []
-appends_kept None b k = tt
-appends_kept (Some x) None k = absurd k
-appends_kept (Some x) (Some y) k = k ∙ sym (append-nil x)
 
 -- nothing more was taken
 pub part : (a b c : Option (List ℕ)) (sent rest text : List ℕ) → text ≡ sent ++ rest → 0 < length rest → Appends a b sent → Appends b c []
@@ -31,7 +17,7 @@ pub part : (a b c : Option (List ℕ)) (sent rest text : List ℕ) → text ≡ 
 part a b c sent rest text is more p q =
     let seam : sent ++ [] ≡ take (length sent) text = append-nil sent ∙ sym (take-append_seam sent rest) ∙ ap (take (length sent)) (sym is) in
     let size : length text ≡ length sent + length rest = ap length is ∙ length-append sent rest in
-    (length sent, omega (arith, size, more), subst (Appends a c) seam (appends_both a b c sent [] p q))
+    (length sent, omega (arith, size, more), subst (Appends a c) seam (Appends-trans a b c sent [] p q))
 
 -- none of the bytes were taken
 pub none_taken : (a b : Option (List ℕ)) (bytes : List ℕ) (n : ℕ) → n ≡ 0 → Appends a b (take n bytes) → Appends a b []
@@ -44,17 +30,17 @@ step a b c sent rest text n is p q =
     let all : take (length rest - n) (drop n rest) ≡ drop n rest = take_all (length rest - n) (drop n rest) (omega (arith, length-drop n rest)) in
     let parts : text ≡ (sent ++ take n rest) ++ drop n rest =
     is ∙ ap (λ r. sent ++ r) (sym (take-append-drop n rest)) ∙ sym (append_assoc sent (take n rest) (drop n rest)) in
-    (sent ++ take n rest, parts ∙ ap (λ r. (sent ++ take n rest) ++ r) (sym all), appends_both a b c sent (take n rest) p q)
+    (sent ++ take n rest, parts ∙ ap (λ r. (sent ++ take n rest) ++ r) (sym all), Appends-trans a b c sent (take n rest) p q)
 
 -- of whatever is seen as a writer
 module _ {P : Type 0} (seen : P → Writer) where
   -- nothing was written
   pub wrote_nothing : (a : P) → TookAll (seen a) (seen a) []
-  wrote_nothing a = (appends_nothing (seen a).taken, refl)
+  wrote_nothing a = (Appends-nil (seen a).taken, refl)
 
   pub took_both : (a b c : P) (xs ys : List ℕ) → TookAll (seen a) (seen b) xs → TookAll (seen b) (seen c) ys → TookAll (seen a) (seen c) (xs ++ ys)
   took_both a b c xs ys p q = (
-    appends_both (seen a).taken (seen b).taken (seen c).taken xs ys p.0 q.0,
+    Appends-trans (seen a).taken (seen b).taken (seen c).taken xs ys p.0 q.0,
     q.1 ∙ p.1,
   )
 
@@ -65,7 +51,7 @@ module _ {P : Type 0} (seen : P → Writer) where
       length xs + q.0.0,
       omega (arith, q.0.1, length-append xs ys),
       subst (Appends (seen a).taken (seen c).taken) (sym (take-append-add xs ys q.0.0))
-          (appends_both (seen a).taken (seen b).taken (seen c).taken xs (take q.0.0 ys) p.0 q.0.2),
+          (Appends-trans (seen a).taken (seen b).taken (seen c).taken xs (take q.0.0 ys) p.0 q.0.2),
     ),
     omega (arith, p.1, q.1),
   )

@@ -1,9 +1,10 @@
 -- The packets of a set, as they are written, are read as they are.
-use Rattle.std.proofs.Common.{◌≡◌, ℕ, zero, suc, ◌-◌, ◌+◌, ◌*◌, ◌/◌, ◌%◌, ◌^◌, ◌<◌, List, [], ◌∷◌, ◌++◌, length, map, replicate, refl, ap, ◌∙◌, arith}
+use Rattle.std.proofs.Common.{◌≡◌, ℕ, suc, ◌-◌, ◌+◌, ◌*◌, ◌/◌, ◌%◌, ◌^◌, ◌<◌, List, [], ◌∷◌, ◌++◌, length, map, replicate, refl, ap, ◌∙◌, arith}
 use Rattle.std.specs.Prelude.{flat_map}
 use Rattle.std.specs.Int.{w16, w32, w64, to_le_bytes}
 use Rattle.std.specs.List.{AllByRecursion, range_with_len}
 use Rattle.std.proofs.lemmas.List.{length-append, length-replicate}
+use Rattle.std.proofs.lemmas.List.FromFn.{length-range_with_len}
 use Rattle.md5.proofs.StandardFacts.{length-md5}
 use Rattle.par2_spec.specs.declared.Kind.{Kind}
 use Rattle.par2_spec.specs.declared.Kind.TheVariants.{Main, FileDesc, Ifsc, Recovery, Creator}
@@ -121,16 +122,12 @@ words_length f (p ∷ places) =
     let more : 2 + 2 * length places ≡ 2 * suc (length places) = omega arith in
     length-append (to_le_bytes w16 (f p)) (flat_map (λ q. to_le_bytes w16 (f q)) places) ∙ ap (λ (n : ℕ). 2 + n) (words_length f places) ∙ more
 
-range_length : (a n : ℕ) → length (range_with_len a n) ≡ n
-range_length a zero = refl
-range_length a (suc n) = ap suc (range_length (a + 1) n)
-
 -- a recovery slice is as long as the slices
 pub recovery_length : (s : ℕ) (texts : List (List ℕ)) (e : ℕ) → s % 2 ≡ 0 → length (recovery s texts e) ≡ s
 unfolding recovery combination
 recovery_length s texts e even =
     let size : length (recovery s texts e) ≡ 2 * length (range_with_len 0 (s / 2)) = words_length (λ p. dot (coefficients (range_with_len 0 (length texts)) e) (map (word p) texts)) (range_with_len 0 (s / 2)) in
-    omega (arith, size, range_length 0 (s / 2), even)
+    omega (arith, size, length-range_with_len 0 (s / 2), even)
 
 pub recovery_made : (s : ℕ) (id : List ℕ) (texts : List (List ℕ)) (e n : ℕ) → length id ≡ 16 → s % 4 ≡ 0 → s < 2 ^ 60 → AllByRecursion IsPacket (recovery_packets s id texts e n)
 recovery_made s id texts e n sixteen even few =

@@ -1,0 +1,42 @@
+-- The tests of a name, one by one.
+use Rattle.std.proofs.Common.{◌≡◌, ℕ, List, length, true, false, not}
+use Rattle.std.specs.Prelude.{codes, nat_le, nat_eq, ◌==◌}
+use Rattle.std.specs.List.{list_any, starts_with}
+use Rattle.std.specs.Str.{bytes_eq, is_utf8, IsUtf8}
+use Rattle.std.proofs.lemmas.Bool.{and_parts, and_from, false_from_ne_true}
+use Rattle.std.proofs.lemmas.Str.{IsUtf8-from_is_utf8}
+use Rattle.par2_spec.specs.Names.{is_name}
+
+pub record Tests (name : List ℕ) : Type 0 where
+  pub some : nat_le 1 (length name) ≡ true
+  pub short : nat_le (length name) 255 ≡ true
+  pub text : is_utf8 name ≡ true
+  pub no_slash : not (list_any (λ b. b == 0x2F) name) ≡ true
+  pub no_zero : not (list_any (λ b. b == 0) name) ≡ true
+  pub no_dot : not (bytes_eq name (codes ".")) ≡ true
+  pub no_dots : not (bytes_eq name (codes "..")) ≡ true
+  pub no_undo : not (starts_with nat_eq name (codes ".par2undo")) ≡ true
+
+pub tests_of : (name : List ℕ) → is_name name ≡ true → Tests name
+unfolding is_name
+tests_of name h =
+    let a = and_parts _ (not (starts_with nat_eq name (codes ".par2undo"))) h in
+    let b = and_parts _ (not (bytes_eq name (codes ".."))) a.0 in
+    let c = and_parts _ (not (bytes_eq name (codes "."))) b.0 in
+    let d = and_parts _ (not (list_any (λ x. x == 0) name)) c.0 in
+    let e = and_parts _ (not (list_any (λ x. x == 0x2F) name)) d.0 in
+    let f = and_parts _ (is_utf8 name) e.0 in
+    let g = and_parts (nat_le 1 (length name)) (nat_le (length name) 255) f.0 in
+    record { some = g.0; short = g.1; text = f.1; no_slash = e.1; no_zero = d.1; no_dot = c.1; no_dots = b.1; no_undo = a.1 }
+
+pub name_of : (name : List ℕ) → Tests name → is_name name ≡ true
+unfolding is_name
+name_of name t =
+    and_from _ _ (and_from _ _ (and_from _ _ (and_from _ _ (and_from _ _ (and_from _ _ (and_from _ _ t.some t.short) t.text) t.no_slash) t.no_zero) t.no_dot) t.no_dots) t.no_undo
+
+pub name_is_short : (name : List ℕ) → is_name name ≡ true → nat_le (length name) 255 ≡ true
+name_is_short name h = (tests_of name h).short
+
+-- what is no text is no name
+pub no_text : (bytes : List ℕ) → (IsUtf8 bytes → ⊥) → is_name bytes ≡ false
+no_text bytes not_text = false_from_ne_true (is_name bytes) (λ h. not_text (IsUtf8-from_is_utf8 bytes (tests_of bytes h).text))
