@@ -1,8 +1,8 @@
 -- The changes of a command lead to its folder.
-use Rattle.std.proofs.Common.{◌≡◌, ℕ, ◌+◌, List, [], ◌∷◌, ◌++◌, refl, sym, ap, ◌∙◌, cond, true, false, Bool, not, ◌&&◌}
-use Rattle.std.specs.Prelude.{Option, Some, None, Result, Ok, Err, position, is_some, if◌then◌else◌}
+use Rattle.std.proofs.Common.{◌≡◌, ℕ, ◌+◌, List, [], ◌∷◌, ◌++◌, refl, sym, ap, ◌∙◌, true, false, Bool, not}
+use Rattle.std.specs.Prelude.{Option, Some, None, Result, Ok, Err, position, if◌then◌else◌}
 use Rattle.std.specs.List.{list_all, position_from}
-use Rattle.std.proofs.lemmas.Bool.{and_parts, and_from, false≢true}
+use Rattle.std.proofs.lemmas.Bool.{and_parts, false≢true, not-false}
 use Rattle.std.proofs.lemmas.Iterator.Adapters.{position_from-zero}
 use Rattle.par2_spec.specs.declared.Fault.{Fault}
 use Rattle.par2_spec.specs.declared.Fault.TheVariants.{NoSuchFile}
@@ -18,20 +18,15 @@ use Rattle.par2_spec.proofs.CommandLaws.{create_leads, removals_lead}
 use Rattle.par2_spec.proofs.CreateLaws.{create_applies}
 use Rattle.par2_spec.proofs.ReadLaws.{fits_of, came_out}
 use Rattle.par2_spec.proofs.RepairLaws.{fits_all, repair_applies, repair_leads, repair_and_purge_applies, repair_and_purge_leads, purge_applies}
+use Rattle.par2_spec.proofs.TestLaws.{no_place}
+use Rattle.par2_spec.proofs.RankLaws.{test_from_all, all_weaker}
 
 abbrev pub missing : Folder → List (List ℕ) → Option ℕ
 missing folder names = position (λ word. not (has folder word)) names
 
 pub there_from : (folder : Folder) (n : ℕ) (names : List (List ℕ)) → position_from (λ word. not (has folder word)) n names ≡ None → list_all (has folder) names ≡ true
-there_from folder n [] h = refl
-there_from folder n (name ∷ names) h = step (has folder name) refl h (there_from folder (n + 1) names)
-  where
-    rest : Option ℕ
-    rest = position_from (λ word. not (has folder word)) (n + 1) names
-
-    step : (b : Bool) → has folder name ≡ b → cond (not b) (Some n) rest ≡ None → (rest ≡ None → list_all (has folder) names ≡ true) → (has folder name && list_all (has folder) names) ≡ true
-    step false e k later = absurd (false≢true (sym (ap is_some k)))
-    step true e k later = and_from _ _ e (later k)
+there_from folder n names h =
+    test_from_all (has folder) names (all_weaker (λ word. not (has folder word) ≡ false) (λ word. has folder word ≡ true) (λ word k. not-false (has folder word) k) names (no_place (λ word. not (has folder word)) n names h))
 
 pub all_there : (folder : Folder) (names : List (List ℕ)) → missing folder names ≡ None → list_all (has folder) names ≡ true
 all_there folder names h = there_from folder 0 names (sym (position_from-zero (λ word. not (has folder word)) names) ∙ h)

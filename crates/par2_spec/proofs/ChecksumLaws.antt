@@ -3,7 +3,7 @@ use Rattle.std.proofs.Common.{◌≡◌, ℕ, zero, suc, ◌+◌, ◌*◌, ◌^�
 use Rattle.std.specs.Prelude.{bit_xor, fold, replicate}
 use Rattle.std.specs.Int.{bit_at}
 use Rattle.std.specs.Int.Bits.{xor_assoc, xor_self, xor_zero_r}
-use Rattle.std.proofs.Math.Nat.{pow-suc, mul_assoc}
+use Rattle.std.proofs.Math.Nat.{pow-suc, mul_assoc, zero-mul}
 use Rattle.std.proofs.lemmas.Nat.{xor_comm, xor_shr, xor_block, pow_pos, shr_split, mod_below}
 use Rattle.std.proofs.lemmas.List.{length_push}
 use Rattle.std.proofs.lemmas.Nat.Bits.{bit_at_lowest, bit_at_xor}
@@ -16,14 +16,11 @@ lowest_of_xor a b =
     sym (bit_at_lowest (bit_xor a b)) ∙ bit_at_xor a b 0
     ∙ ap (λ t. (t + bit_at b 0) % 2) (bit_at_lowest a) ∙ ap (λ t. (a % 2 + t) % 2) (bit_at_lowest b)
 
-zero_times : (x : ℕ) → 0 * x ≡ 0
-zero_times x = omega arith
-
 either_bit : (x y m : ℕ) → x < 2 → y < 2 → (x + y) % 2 * m ≡ bit_xor (x * m) (y * m)
-either_bit zero zero m p q = zero_times m ∙ sym (ap (λ t. bit_xor t (0 * m)) (zero_times m) ∙ zero_times m)
-either_bit zero (suc zero) m p q = sym (ap (λ t. bit_xor t (1 * m)) (zero_times m))
-either_bit (suc zero) zero m p q = sym (ap (bit_xor (1 * m)) (zero_times m) ∙ xor_comm (1 * m) 0)
-either_bit (suc zero) (suc zero) m p q = zero_times m ∙ sym (xor_self (1 * m))
+either_bit zero zero m p q = zero-mul m ∙ sym (ap (λ t. bit_xor t (0 * m)) (zero-mul m) ∙ zero-mul m)
+either_bit zero (suc zero) m p q = sym (ap (λ t. bit_xor t (1 * m)) (zero-mul m))
+either_bit (suc zero) zero m p q = sym (ap (bit_xor (1 * m)) (zero-mul m) ∙ xor_comm (1 * m) 0)
+either_bit (suc zero) (suc zero) m p q = zero-mul m ∙ sym (xor_self (1 * m))
 either_bit (suc (suc x)) y m p q = absurd (omega (arith, p))
 either_bit x (suc (suc y)) m p q = absurd (omega (arith, q))
 

@@ -1,5 +1,5 @@
 -- Slices that agree with the known ones and with the recovery slices of the kept exponents always exist.
-use Rattle.std.proofs.Common.{cond, ◌≡◌, ℕ, zero, suc, ◌+◌, ◌*◌, ◌/◌, ◌^◌, ◌<◌, ◌≤◌, List, [], ◌∷◌, length, map, drop, get_or, refl, sym, ap, ap₂, ◌∙◌, subst, true, false, Bool, inl, inr, arith}
+use Rattle.std.proofs.Common.{◌≡◌, ℕ, zero, suc, ◌+◌, ◌*◌, ◌/◌, ◌^◌, ◌<◌, ◌≤◌, List, [], ◌∷◌, length, map, drop, get_or, refl, sym, ap, ap₂, ◌∙◌, subst, true, false, Bool, inl, inr, arith}
 use Rattle.std.specs.Prelude.{bit_xor, filter, ◌==◌, replicate, slice_index, Option, Some, None, is_some, unwrap_or}
 use Rattle.std.specs.Int.Bits.{xor_assoc, xor_self, xor_zero_r}
 use Rattle.std.specs.List.{range_with_len, list_any, AllByRecursion, AllZip, Contains}
@@ -19,8 +19,8 @@ use Rattle.par2_spec.proofs.NamesLaws.{clash}
 use Rattle.par2_spec.proofs.RankLaws.{kept-iff, counts, counts-iff}
 use Rattle.par2_spec.proofs.OthersLaws.{another_agrees}
 use Rattle.par2_spec.proofs.WordLaws.{byte_at, word-lt, spelled, length-spelled, bytes-spelled, word_of}
-use Rattle.par2_spec.proofs.UniqueLaws.{sums, AreElements, dot-sums, dot-lt, coefficients_are, sums-elements, lost_from, whole_row, words_are, same_words, contains_later, AreTexts}
-use Rattle.par2_spec.proofs.ListsLaws.{all-map, all_unmap}
+use Rattle.par2_spec.proofs.UniqueLaws.{sums, AreElements, dot-sums, dot-lt, coefficients_are, sums-elements, lost_from, whole_row, words_are, same_words, AreTexts}
+use Rattle.par2_spec.proofs.ListsLaws.{all-map, all_unmap, all-passing, contained_later}
 use Rattle.par2_spec.proofs.FoundLaws.{all-filter}
 
 -- ---- a vector times an element
@@ -221,17 +221,8 @@ contained : (xs : List ℕ) (q : ℕ) → list_any (λ x. x == q) xs ≡ true �
 contained [] q h = absurd (false≢true h)
 contained (x ∷ xs) q h = elim (or_cases (x == q) (list_any (λ y. y == q) xs) h) as (λ _. Contains (x ∷ xs) q) [
   | inl here ↦ (0, omega arith, eqb-true x q here)
-  | inr there ↦ contains_later x xs q (contained xs q there)
+  | inr there ↦ contained_later x xs q (contained xs q there)
 ]
-
--- what follows for those that pass a test
-all_passing : {A : Type 0} (P Q : A → Type 0) (p : A → Bool) → ((x : A) → P x → p x ≡ true → Q x) → (xs : List A) → AllByRecursion P xs → AllByRecursion Q (filter p xs)
-all_passing P Q p h [] k = tt
-all_passing {A = A} P Q p h (x ∷ xs) k = step (p x) refl (filter p xs) (all_passing P Q p h xs k.1)
-  where
-    step : (b : Bool) → p x ≡ b → (ys : List A) → AllByRecursion Q ys → AllByRecursion Q (cond b (x ∷ ys) ys)
-    step true e ys l = (h x k.0 e, l)
-    step false e ys l = l
 
 -- a recovery slice is spelled by its words
 as_spelled : (s : ℕ) (texts : List (List ℕ)) (e : ℕ) → recovery s texts e ≡ spelled (λ p. dot (whole_row (length texts) e) (map (word p) texts)) 0 (s / 2)
@@ -246,7 +237,7 @@ agreeing_exist s m known rs text survive = (
     sizes = sizes;
     bytes = bytes;
     as_known = known-filled made 0 known;
-    as_recovered = all_passing _ (λ r. recovery s slices r.0 ≡ r.1) _ (λ r h is_kept. recovers r h.0 h.1 h.2 (contained (kept (lost known) es) r.0 is_kept)) rs survive.each;
+    as_recovered = all-passing _ (λ r. recovery s slices r.0 ≡ r.1) _ (λ r h is_kept. recovers r h.0 h.1 h.2 (contained (kept (lost known) es) r.0 is_kept)) rs survive.each;
   },
 )
   where

@@ -1,6 +1,6 @@
 -- A repair leaves each of the files that a set was made from.
-use Rattle.std.proofs.Common.{◌≡◌, ℕ, zero, suc, ◌+◌, ◌*◌, ◌%◌, ◌^◌, ◌<◌, ◌≤◌, List, [], ◌∷◌, ◌++◌, length, map, refl, sym, ap, ◌∙◌, subst, cond, true, false, Bool, not, ◌&&◌, arith, inl, inr}
-use Rattle.std.specs.Prelude.{filter, find, zip, ◌==◌, Option, Some, None, option_to_list, nat_le}
+use Rattle.std.proofs.Common.{◌≡◌, ℕ, zero, suc, ◌+◌, ◌*◌, ◌%◌, ◌<◌, ◌≤◌, List, [], ◌∷◌, ◌++◌, length, map, refl, sym, ap, ◌∙◌, subst, cond, true, false, Bool, not, ◌&&◌, arith, inl, inr}
+use Rattle.std.specs.Prelude.{filter, find, zip, ◌==◌, Option, Some, None, option_to_list}
 use Rattle.std.specs.List.{range_with_len, list_all, AllByRecursion}
 use Rattle.std.specs.Option.{ForSome}
 use Rattle.std.specs.FinMap as map_of
@@ -24,7 +24,7 @@ use Rattle.par2_spec.proofs.FoundLaws.{slice_begins, all-filter, all_by_test}
 use Rattle.par2_spec.proofs.RankLaws.{all_weaker}
 use Rattle.par2_spec.proofs.MovesLaws.{get_without}
 use Rattle.par2_spec.proofs.SearchLaws.{pairs_with, found_passes}
-use Rattle.par2_spec.proofs.ReadLaws.{sound_of, size_positive}
+use Rattle.par2_spec.proofs.ReadLaws.{sound_of, size_positive, size_parts}
 use Rattle.par2_spec.proofs.RepairLaws.{Fits, fits_all, match_free, aside_no_target, repaired_holds}
 use Rattle.par2_spec.proofs.RestoredLaws.{IsTold, same_slices, true_slices_rebuilt, true_files}
 use Rattle.par2_spec.proofs.TestLaws.{some_if}
@@ -278,9 +278,7 @@ module _ (folder : Folder) (base : List ℕ) (files : List File) (s : ℕ) (sear
 -- ---- of a command
 
 pub size_even : (s : ℕ) → is_slice_size s ≡ true → s % 2 ≡ 0
-size_even s h =
-    let fours : s % 4 ≡ 0 = eqb-true (s % 4) 0 (and_parts (s % 4 == 0) (nat_le 4 s) (and_parts (s % 4 == 0 && nat_le 4 s) (nat_le s (2 ^ 30)) h).0).0 in
-    omega (arith, fours)
+size_even s h = let fours : s % 4 ≡ 0 = (size_parts s h).0 in omega (arith, fours)
 
 -- what a set that was made from files gives for its slice size
 pub made_size : (folder : Folder) (base : List ℕ) (files : List File) (s : ℕ) (m : MadeFrom folder base files s) → (0 < s) × (s % 2 ≡ 0)

@@ -18,7 +18,7 @@ use Rattle.par2_spec.specs.Search.{is_intact, is_needing, needing, intact_names,
 use Rattle.par2_spec.specs.Repairs.{names_without_match, slices_by_target, lost_of_unmatched}
 use Rattle.par2_spec.specs.Reports.{IsFound}
 use Rattle.par2_spec.proofs.NamesLaws.{same_name, itself, clash, among-filter}
-use Rattle.par2_spec.proofs.ListsLaws.{any-map, any-flat_map, in_range_some, map-cond}
+use Rattle.par2_spec.proofs.ListsLaws.{any-map, any-flat_map, in_range_some, map-cond, all-passing}
 use Rattle.par2_spec.proofs.SearchLaws.{found_passes, pairs_with}
 use Rattle.par2_spec.proofs.TestLaws.{is_true, by_true}
 
@@ -108,12 +108,7 @@ needing_found folder s names free (t ∷ ts) is_lost positive sized within lost_
     tail (Some x) ms q h = h
 
 pub all-filter : {A : Type 0} (P : A → Type 0) (p : A → Bool) (xs : List A) → AllByRecursion P xs → AllByRecursion P (filter p xs)
-all-filter P p [] h = tt
-all-filter {A = A} P p (x ∷ xs) h = step (p x) (filter p xs) (all-filter P p xs h.1)
-  where
-    step : (b : Bool) (ys : List A) → AllByRecursion P ys → AllByRecursion P (cond b (x ∷ ys) ys)
-    step true ys k = (h.0, k)
-    step false ys k = k
+all-filter P p xs h = all-passing P P p (λ x k e. k) xs h
 
 -- what holds of those that pass a test and of those that do not holds of all
 pub all_by_test : {A : Type 0} (P : A → Type 0) (p : A → Bool) (xs : List A) → AllByRecursion (λ x. p x ≡ false → P x) xs → AllByRecursion P (filter p xs) → AllByRecursion P xs

@@ -1,11 +1,11 @@
 -- The tests over all vectors and all texts say what the words say.
-use Rattle.std.proofs.Common.{◌≡◌, ℕ, ◌^◌, ◌<◌, List, [], ◌∷◌, length, map, refl, sym, ap, ◌∙◌, subst, T, true, false, Bool, ◌&&◌, ◌||◌, not, cond, arith}
+use Rattle.std.proofs.Common.{◌≡◌, ℕ, ◌^◌, ◌<◌, List, [], ◌∷◌, length, map, refl, sym, ap, ◌∙◌, subst, true, false, Bool, ◌&&◌, ◌||◌, not, cond, arith}
 use Rattle.std.specs.Prelude.{◌↔◌, ◌==◌, nat_lt, filter, find, zip, Option, Some, None, is_some, unwrap_or, IsTrue, nat_eq}
 use Rattle.std.specs.List.{list_all, list_any, AllByRecursion, AllZip, Contains}
 use Rattle.std.specs.Option.{ForSome}
 use Rattle.std.specs.FinMap as map_of
 use Rattle.std.specs.Str.{bytes_eq}
-use Rattle.std.proofs.lemmas.Bool.{and_parts, and_from, eqb-true, eq-eqb, ltb-true, lt-ltb, not_from_false, false_from_ne_true, false≢true, true_from_ne_false}
+use Rattle.std.proofs.lemmas.Bool.{and_parts, and_from, eqb-true, eq-eqb, ltb-true, lt-ltb, not_from_false, false_from_ne_true, false≢true, true_from_ne_false, both_ways, not-true}
 use Rattle.std.proofs.lemmas.Slice.Zip.{AllZip-long}
 use Rattle.std.proofs.lemmas.Map.Views.{Contains-from_any, list_any-from_Contains}
 use Rattle.std.proofs.lemmas.Cmp.{nat_eq_equiv}
@@ -53,14 +53,6 @@ killed_all lost v (e ∷ es) h = and_from _ _ (ap (λ n. n == 0) h.0) (killed_al
 
 -- ---- repairable
 
-false_from_not_any : (b : Bool) → not b ≡ true → T b → ⊥
-false_from_not_any true h t = false≢true h
-false_from_not_any false h t = t
-
-not_from_none : (b : Bool) → (T b → ⊥) → not b ≡ true
-not_from_none true h = absurd (h tt)
-not_from_none false h = refl
-
 pub repairable-iff : (lost survivors : List ℕ) → IsTrue (is_repairable lost survivors) ↔ IsRepairable lost survivors
 unfolding is_solvable
 repairable-iff lost survivors =
@@ -68,16 +60,12 @@ repairable-iff lost survivors =
     let test = (λ (v : List ℕ). not (is_zero v) && list_all (kills v) rows) in
     let law = some_list (2 ^ 16) (length lost) test in (
       λ h v is k. zero_from_test v (true_from_ne_false (is_zero v) (λ z.
-          false_from_not_any (list_any test (all_lists (all_below (2 ^ 16)) (length lost))) h (law.1 (v, is, by_true (and_from _ _ (not_from_false _ z) (killed_all lost v survivors k)))))),
-      λ h. not_from_none (list_any test (all_lists (all_below (2 ^ 16)) (length lost))) (λ some.
-          let found = law.0 some in
+          both_ways _ (not-true (list_any test (all_lists (all_below (2 ^ 16)) (length lost))) h) (is_true (law.1 (v, is, by_true (and_from _ _ (not_from_false _ z) (killed_all lost v survivors k))))))),
+      λ h. not_from_false _ (false_from_ne_true (list_any test (all_lists (all_below (2 ^ 16)) (length lost))) (λ some.
+          let found = law.0 (by_true some) in
           let r = and_parts (not (is_zero found.0)) (list_all (kills found.0) rows) (is_true found.2) in
-          false≢true (sym (ap not (test_from_zero found.0 (h found.0 found.1 (all_killed lost found.0 survivors r.1)))) ∙ r.0)),
+          false≢true (sym (ap not (test_from_zero found.0 (h found.0 found.1 (all_killed lost found.0 survivors r.1)))) ∙ r.0))),
     )
-
-some_from : (b : Bool) → (not b ≡ true → ⊥) → T b
-some_from true h = tt
-some_from false h = absurd (h refl)
 
 -- where the lost slices are not determined, a vector that is not zero is killed by all
 pub killed_vector : (lost survivors : List ℕ) → (IsRepairable lost survivors → ⊥)
@@ -86,7 +74,7 @@ unfolding is_solvable
 killed_vector lost survivors unrepairable =
     let rows = map (coefficients lost) survivors in
     let test = (λ (v : List ℕ). not (is_zero v) && list_all (kills v) rows) in
-    let found = (some_list (2 ^ 16) (length lost) test).0 (some_from (list_any test (all_lists (all_below (2 ^ 16)) (length lost))) (λ h. unrepairable ((repairable-iff lost survivors).0 h))) in
+    let found = (some_list (2 ^ 16) (length lost) test).0 (by_true (true_from_ne_false (list_any test (all_lists (all_below (2 ^ 16)) (length lost))) (λ none. unrepairable ((repairable-iff lost survivors).0 (not_from_false _ none))))) in
     let r = and_parts (not (is_zero found.0)) (list_all (kills found.0) rows) (is_true found.2) in
     (found.0, found.1, all_killed lost found.0 survivors r.1, λ z. false≢true (sym (ap not (test_from_zero found.0 z)) ∙ r.0))
 

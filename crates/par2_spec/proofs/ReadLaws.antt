@@ -1,9 +1,9 @@
 -- What holds of a set that reads, and of the names that are searched.
-use Rattle.std.proofs.Common.{◌≡◌, ℕ, suc, ◌≤◌, List, [], ◌∷◌, ◌++◌, length, map, inl, inr, refl, sym, ap, ◌∙◌, subst, cond, true, false, Bool, not, ◌&&◌, ◌||◌, arith, length-append, ◌<◌, ◌+◌}
+use Rattle.std.proofs.Common.{◌≡◌, ℕ, suc, ◌≤◌, List, [], ◌∷◌, ◌++◌, length, map, inl, inr, refl, sym, ap, ◌∙◌, subst, cond, true, false, Bool, not, ◌&&◌, ◌||◌, arith, length-append, ◌<◌, ◌+◌, ◌^◌}
 use Rattle.std.specs.Prelude.{min, nat_lt, filter, filter_map, flat_map, find, slice_get, sum_by, nat_le, Option, Some, None, is_some, unwrap_or, option_map, option_and_then, Result, Ok, Err, ok_or, ◌==◌, ◌%◌, if◌then◌else◌}
-use Rattle.std.specs.List.{list_all, AllByRecursion}
+use Rattle.std.specs.List.{list_all, AllByRecursion, Contains}
 use Rattle.std.specs.FinMap as map_of
-use Rattle.std.specs.FinMap.{entries-insert, len-entries, len-empty}
+use Rattle.std.specs.FinMap.{entries-insert, len-entries, len-empty, nat_cmp-IsAntisymmetric}
 use Rattle.std.specs.Cmp.{nat_cmp_total}
 use Rattle.std.specs.FinMap.Entries.{put, by_order}
 use Rattle.std.specs.Ordering.{nat_cmp}
@@ -14,6 +14,7 @@ use Rattle.std.specs.Str.{bytes_eq}
 use Rattle.std.proofs.lemmas.List.{length-map, nil_from_length}
 use Rattle.std.proofs.lemmas.List.Sums.{sum_by-cons}
 use Rattle.std.proofs.lemmas.List.Folds.{list_all-map}
+use Rattle.std.proofs.lemmas.List.Elements.{recursion_from_All, All-contains_itself}
 use Rattle.std.proofs.lemmas.Bool.{and_parts, and_from, or_cases, or_left, or_right, false_from_ne_true, eqb-true, leb-true, ltb-true, false≢true}
 use Rattle.par2_spec.specs.declared.Fault.{Fault}
 use Rattle.par2_spec.specs.declared.Fault.TheVariants.{NoPackets, NoMain, NoDescription, NoChecksums, BadSet}
@@ -27,6 +28,7 @@ use Rattle.par2_spec.specs.Search.{candidates, known, lost}
 use Rattle.par2_spec.specs.Repairs.{AreFew, FitsRepair, lost_of_unmatched}
 use Rattle.par2_spec.proofs.NamesLaws.{same_name, itself, clash, among-filter, among-append, AreDistinct, std_from_distinct}
 use Rattle.par2_spec.proofs.FoundLaws.{AreSized, lost_is}
+use Rattle.par2_spec.proofs.ListsLaws.{found_one}
 
 -- ---- each name once
 
@@ -86,7 +88,7 @@ abbrev pub came_out : {A : Type 0} → Result A Fault → Bool
 came_out (Ok a) = true
 came_out (Err e) = false
 
-abbrev value_or : {A : Type 0} → A → Result A Fault → A
+abbrev pub value_or : {A : Type 0} → A → Result A Fault → A
 value_or d (Ok a) = a
 value_or d (Err e) = d
 
@@ -111,12 +113,7 @@ chained f None b h = absurd (false≢true (ap is_some h))
 chained f (Some a) b h = (a, refl, h)
 
 find_passes : {A : Type 0} (p : A → Bool) (xs : List A) (a : A) → find p xs ≡ Some a → p a ≡ true
-find_passes p [] a h = absurd (false≢true (ap is_some h))
-find_passes {A = A} p (x ∷ xs) a h = step (p x) refl h (find_passes p xs a)
-  where
-    step : (b : Bool) → p x ≡ b → cond b (Some x) (find p xs) ≡ Some a → (find p xs ≡ Some a → p a ≡ true) → p a ≡ true
-    step true e k later = subst (λ y. p y ≡ true) (ap (λ o. unwrap_or o x) k) e
-    step false e k later = later k
+find_passes p xs a h = (found_one (Contains xs) p xs (recursion_from_All (Contains xs) xs (All-contains_itself xs)) a h).1
 
 all_the_pairs : (packets : List Packet) (id : List ℕ) (n : ℕ) (pairs : List Pair) → pairs_of packets id n ≡ Some pairs → length pairs ≡ n
 all_the_pairs packets id n pairs h =
@@ -135,7 +132,7 @@ pairs_fit packets id s n pairs h = step (n == 0) refl h
     step true e k = subst (λ ps. length ps ≡ slice_count s n) (ap (λ o. unwrap_or o []) k) (sym (ap (slice_count s) (eqb-true n 0 e) ∙ no_slices s))
     step false e k = all_the_pairs packets id (slice_count s n) pairs k
 
-abbrev target_with : DescBody → List Pair → Target
+abbrev pub target_with : DescBody → List Pair → Target
 target_with d pairs = record { name = d.name; size = d.size; digest = d.digest; pairs = pairs }
 
 abbrev IsTargetOf : ℕ → DescBody → Target → Type 0
@@ -176,22 +173,23 @@ sized_from_counted s (t ∷ ts) h = (subst (λ n. length t.pairs ≤ n) h.0 (ome
 abbrev AreRecovery : ℕ → List (ℕ × List ℕ) → Type 0
 AreRecovery s rs = AllByRecursion (λ r. (r.0 < 65536) × (length r.1 ≡ s)) rs
 
-put_recovery : (s k : ℕ) (v : List ℕ) (rs : List (ℕ × List ℕ)) → k < 65536 → length v ≡ s → AreRecovery s rs → AreRecovery s (put nat_cmp k v rs)
-put_recovery s k v [] small long h = ((small, long), tt)
-put_recovery s k v (r ∷ rs) small long h = step (nat_cmp k r.0) (put_recovery s k v rs small long h.1)
+put_entry : (P : ℕ × List ℕ → Type 0) (k : ℕ) (v : List ℕ) (rs : List (ℕ × List ℕ)) → P (k, v) → AllByRecursion P rs → AllByRecursion P (put nat_cmp k v rs)
+put_entry P k v [] is h = (is, tt)
+put_entry P k v (r ∷ rs) is h = step (nat_cmp k r.0) refl (put_entry P k v rs is h.1)
   where
-    step : (o : Ordering) → AreRecovery s (put nat_cmp k v rs) → AreRecovery s (by_order o ((k, v) ∷ r ∷ rs) ((r.0, v) ∷ rs) (r ∷ put nat_cmp k v rs))
-    step Less later = ((small, long), h)
-    step Equal later = ((h.0.0, long), h.1)
-    step Greater later = (h.0, later)
+    step : (o : Ordering) → nat_cmp k r.0 ≡ o → AllByRecursion P (put nat_cmp k v rs) → AllByRecursion P (by_order o ((k, v) ∷ r ∷ rs) ((r.0, v) ∷ rs) (r ∷ put nat_cmp k v rs))
+    step Less e later = (is, h)
+    step Equal e later = (subst (λ n. P (n, v)) (nat_cmp-IsAntisymmetric k r.0 e) is, h.1)
+    step Greater e later = (h.0, later)
 
 pub entries-empty : {K : Type 0} (R : K → K → Ordering) (X : Type 0) → map_of.entries (map_of.empty {X = X} {R = R}) ≡ []
 entries-empty R X = nil_from_length (map_of.entries (map_of.empty {X = X} {R = R})) (sym (len-entries map_of.empty) ∙ len-empty R X)
 
-entries_are : (s : ℕ) (rs : List (ℕ × List ℕ)) → AreRecovery s rs → AreRecovery s (map_of.entries (map_of.from_entries {R = nat_cmp} rs))
-entries_are s [] h = subst (AreRecovery s) (sym (entries-empty nat_cmp (List ℕ))) tt
-entries_are s (r ∷ rs) h =
-    subst (AreRecovery s) (sym (entries-insert nat_cmp_total (map_of.from_entries rs) r.0 r.1)) (put_recovery s r.0 r.1 (map_of.entries (map_of.from_entries rs)) h.0.0 h.0.1 (entries_are s rs h.1))
+-- what holds of each entry that a map is made from holds of each that it has
+pub all-entries : (P : ℕ × List ℕ → Type 0) (rs : List (ℕ × List ℕ)) → AllByRecursion P rs → AllByRecursion P (map_of.entries (map_of.from_entries {R = nat_cmp} rs))
+all-entries P [] h = subst (AllByRecursion P) (sym (entries-empty nat_cmp (List ℕ))) tt
+all-entries P (r ∷ rs) h =
+    subst (AllByRecursion P) (sym (entries-insert nat_cmp_total (map_of.from_entries rs) r.0 r.1)) (put_entry P r.0 r.1 (map_of.entries (map_of.from_entries rs)) h.0 (all-entries P rs h.1))
 
 chosen_are : (s : ℕ) (rs : List RecoveryBody) → AreRecovery s (map (λ r. (r.exponent, r.bytes)) (filter (λ r. nat_lt r.exponent 65536 && length r.bytes == s) rs))
 chosen_are s [] = tt
@@ -202,25 +200,28 @@ chosen_are s (r ∷ rs) = step (nat_lt r.exponent 65536 && length r.bytes == s) 
     step false e qs h = h
 
 recovery_is : (packets : List Packet) (s : ℕ) → AreRecovery s (map_of.entries (recovery_of packets s))
-recovery_is packets s = entries_are s _ (chosen_are s (filter_map (λ p. read_recovery p.kind p.body) packets))
+recovery_is packets s = all-entries (λ r. (r.0 < 65536) × (length r.1 ≡ s)) _ (chosen_are s (filter_map (λ p. read_recovery p.kind p.body) packets))
 
 -- the steps of the reading, the last one first
-abbrev finished : List ℕ → List Packet → ℕ → List Target → Result ParSet Fault
-finished id packets s targets = Ok (record { id = id; slice_size = s; targets = targets; recovery = recovery_of packets s })
+abbrev pub set_with : List ℕ → List Packet → ℕ → List Target → ParSet
+set_with id packets s targets = record { id = id; slice_size = s; targets = targets; recovery = recovery_of packets s }
 
-abbrev by_checksums : List ℕ → List Packet → ℕ → List DescBody → Bool → Result ParSet Fault
+abbrev pub finished : List ℕ → List Packet → ℕ → List Target → Result ParSet Fault
+finished id packets s targets = Ok (set_with id packets s targets)
+
+abbrev pub by_checksums : List ℕ → List Packet → ℕ → List DescBody → Bool → Result ParSet Fault
 by_checksums id packets s described in_profile = ok_or (all_some (map (target_of packets s) described)) NoChecksums >>= finished id packets s
 
-abbrev by_profile : List ℕ → List Packet → ℕ → List DescBody → Result ParSet Fault
+abbrev pub by_profile : List ℕ → List Packet → ℕ → List DescBody → Result ParSet Fault
 by_profile id packets s described = unless (are_in_profile s described) BadSet >>= by_checksums id packets s described
 
-abbrev by_descriptions : List ℕ → List Packet → MainBody → Bool → Result ParSet Fault
+abbrev pub by_descriptions : List ℕ → List Packet → MainBody → Bool → Result ParSet Fault
 by_descriptions id packets main right_size = ok_or (all_some (map (description_of packets) main.ids)) NoDescription >>= by_profile id packets main.slice_size
 
-abbrev by_size : List ℕ → List Packet → MainBody → Result ParSet Fault
+abbrev pub by_size : List ℕ → List Packet → MainBody → Result ParSet Fault
 by_size id packets main = unless (is_slice_size main.slice_size) BadSet >>= by_descriptions id packets main
 
-abbrev by_main : List ℕ → List (List ℕ) → Packet → Result ParSet Fault
+abbrev pub by_main : List ℕ → List (List ℕ) → Packet → Result ParSet Fault
 by_main base others first =
     let packets = packets_with first.set_id (flat_map accepted (base ∷ others)) in
     ok_or (main_of first.set_id packets) NoMain >>= by_size first.set_id packets
@@ -253,11 +254,15 @@ sound_set base others set h =
       recovery = recovery_is packets s;
     })
 
--- a slice size is positive
+-- a slice size is a multiple of 4, not zero and not large
+pub size_parts : (s : ℕ) → is_slice_size s ≡ true → (s % 4 ≡ 0) × (4 ≤ s) × (s ≤ 2 ^ 30)
+size_parts s h =
+    let two = and_parts (s % 4 == 0 && nat_le 4 s) (nat_le s (2 ^ 30)) h in
+    let front = and_parts (s % 4 == 0) (nat_le 4 s) two.0 in
+    (eqb-true (s % 4) 0 front.0, leb-true 4 s front.1, leb-true s (2 ^ 30) two.1)
+
 pub size_positive : (s : ℕ) → is_slice_size s ≡ true → 0 < s
-size_positive s h =
-    let least : 4 ≤ s = leb-true 4 s (and_parts (s % 4 == 0) _ (and_parts (s % 4 == 0 && nat_le 4 s) _ h).0).1 in
-    omega (arith, least)
+size_positive s h = let least : 4 ≤ s = (size_parts s h).1 in omega (arith, least)
 
 -- ---- the names that are searched
 

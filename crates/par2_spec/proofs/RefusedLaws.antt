@@ -1,9 +1,9 @@
 -- Where a repair is refused as not repairable, other slices agree too.
-use Rattle.std.proofs.Common.{◌≡◌, ℕ, ◌+◌, ◌%◌, ◌^◌, ◌≤◌, List, [], ◌∷◌, refl, sym, ap, ◌∙◌, subst, true, false, Bool, not, ◌&&◌, arith}
-use Rattle.std.specs.Prelude.{Option, Some, None, Result, Ok, nat_le, ◌==◌}
+use Rattle.std.proofs.Common.{◌≡◌, ℕ, ◌+◌, ◌≤◌, List, [], ◌∷◌, refl, sym, ap, ◌∙◌, subst, true, false, Bool, not, arith}
+use Rattle.std.specs.Prelude.{Option, Some, None, Result, Ok}
 use Rattle.std.specs.List.{AllByRecursion}
 use Rattle.std.specs.FinMap as map_of
-use Rattle.std.proofs.lemmas.Bool.{and_parts, leb-true, false≢true}
+use Rattle.std.proofs.lemmas.Bool.{both_ways, not-true}
 use Rattle.par2_spec.specs.declared.Fault.{Fault}
 use Rattle.par2_spec.specs.declared.Fault.TheVariants.{NoSuchFile, NameTooLong, NotRepairable, RepairFailed}
 use Rattle.par2_spec.specs.Faults.{first_fault, fault_where, then_fault}
@@ -14,7 +14,7 @@ use Rattle.par2_spec.specs.Sets.{ParSet, set_of, is_slice_size, MadeFrom}
 use Rattle.par2_spec.specs.Search.{candidates, known, lost, survivors, NoCollision}
 use Rattle.par2_spec.specs.Commands.{Repair}
 use Rattle.par2_spec.specs.Refusals.{repair_refusal, refusal}
-use Rattle.par2_spec.proofs.ReadLaws.{sound_of}
+use Rattle.par2_spec.proofs.ReadLaws.{sound_of, size_parts}
 use Rattle.par2_spec.proofs.RankLaws.{repairable-iff}
 use Rattle.par2_spec.proofs.OthersLaws.{another_agrees}
 use Rattle.par2_spec.proofs.RestoredLaws.{AreBytes, true_slices_agree}
@@ -40,20 +40,16 @@ no_fault : (m r : ℕ) → ◌≡◌ {A = Option Fault} None (Some (NotRepairabl
 no_fault m r e = cc
 
 -- the first cause alone is answered by this fault
-first_cause : (b c d : Bool) (l n m r : ℕ) → first_fault (fault_where b (NotRepairable l n) ∷ fault_where c NameTooLong ∷ fault_where d RepairFailed ∷ []) ≡ Some (NotRepairable m r) → b ≡ true
+pub first_cause : (b c d : Bool) (l n m r : ℕ) → first_fault (fault_where b (NotRepairable l n) ∷ fault_where c NameTooLong ∷ fault_where d RepairFailed ∷ []) ≡ Some (NotRepairable m r) → b ≡ true
 first_cause true c d l n m r e = refl
 first_cause false true d l n m r e = absurd (is_other NameTooLong m r (too_long m r) e)
 first_cause false false true l n m r e = absurd (is_other RepairFailed m r (failed m r) e)
 first_cause false false false l n m r e = absurd (no_fault m r e)
 
-not_both : (b : Bool) → not b ≡ true → b ≡ true → ⊥
-not_both true n t = false≢true n
-not_both false n t = false≢true t
-
 unrepairable : (folder : Folder) (set : ParSet) (searched : List (List ℕ)) (m r : ℕ) → repair_refusal folder set searched ≡ Some (NotRepairable m r) → IsRepairable (lost (known folder set searched)) (survivors set) → ⊥
 unfolding repair_refusal
 unrepairable folder set searched m r e repairable =
-    not_both (is_repairable (lost (known folder set searched)) (survivors set)) (first_cause (not (is_repairable (lost (known folder set searched)) (survivors set))) _ _ _ _ m r e)
+    both_ways (is_repairable (lost (known folder set searched)) (survivors set)) (not-true _ (first_cause (not (is_repairable (lost (known folder set searched)) (survivors set))) _ _ _ _ m r e))
     ((repairable-iff (lost (known folder set searched)) (survivors set)).1 repairable)
 
 -- the refusal of a repair over a set that is read is the set's, or a file's that is not there
@@ -70,9 +66,7 @@ refused_by_set folder base extras purge set m r reads e = step (missing folder (
     step (Some k) there = absurd (is_other (NoSuchFile (0 + k)) m r (no_such_file (0 + k) m r) (sym (ap ask (in_part folder base extras k there)) ∙ e))
 
 pub size_two : (s : ℕ) → is_slice_size s ≡ true → 2 ≤ s
-size_two s h =
-    let four : 4 ≤ s = leb-true 4 s (and_parts (s % 4 == 0) (nat_le 4 s) (and_parts (s % 4 == 0 && nat_le 4 s) (nat_le s (2 ^ 30)) h).0).1 in
-    omega (arith, four)
+size_two s h = let least : 4 ≤ s = (size_parts s h).1 in omega (arith, least)
 
 -- other slices than those of the files agree with all that is found
 pub another_choice : (folder : Folder) (base : List ℕ) (extras : List (List ℕ)) (purge : Bool) (files : List File) (s m r : ℕ) (made : MadeFrom folder base files s) → NoCollision folder (candidates folder made.set extras) s (all_slices s files)

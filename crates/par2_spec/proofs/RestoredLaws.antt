@@ -1,17 +1,17 @@
 -- The slices of a file give the file back, and those of the files that a set was made from are rebuilt.
-use Rattle.std.proofs.Common.{◌≡◌, ℕ, zero, suc, ◌+◌, ◌-◌, ◌*◌, ◌%◌, ◌<◌, ◌≤◌, List, [], ◌∷◌, ◌++◌, length, map, take, drop, refl, sym, ap, ◌∙◌, subst, cond, true, false, Bool, arith, inl, inr, length-append, length-drop}
-use Rattle.std.specs.Prelude.{flat_map, filter, find, zip, replicate, min, ◌==◌, Option, Some, is_some, unwrap_or}
+use Rattle.std.proofs.Common.{◌≡◌, ℕ, zero, suc, ◌+◌, ◌-◌, ◌*◌, ◌%◌, ◌<◌, ◌≤◌, List, [], ◌∷◌, ◌++◌, length, map, take, drop, refl, sym, ap, ◌∙◌, subst, true, Bool, arith, inl, inr, length-append, length-drop}
+use Rattle.std.specs.Prelude.{flat_map, filter, find, zip, replicate, min, ◌==◌, Option, Some}
 use Rattle.std.specs.List.{range_with_len, list_any, concat, AllByRecursion, AllZip}
 use Rattle.std.specs.Option.{ForSome}
 use Rattle.std.specs.FinMap as map_of
-use Rattle.std.proofs.Math.Nat.{add-mul}
+use Rattle.std.proofs.Math.Nat.{add-mul, zero-mul}
 use Rattle.std.proofs.Math.Seq.{drop-append_seam, take-append_seam, take-append-add}
 use Rattle.std.proofs.lemmas.Grind.{div_ceil_times}
 use Rattle.std.proofs.lemmas.List.{length-take, length-take-le, length-replicate, length-map, take_all, drop_all, take-append-drop, drop-drop, map-append, append_assoc, append-nil}
-use Rattle.std.proofs.lemmas.Bool.{false≢true, cases_lt}
+use Rattle.std.proofs.lemmas.Bool.{cases_lt}
 use Rattle.par2_spec.specs.Checksums.{pair_of}
 use Rattle.par2_spec.specs.Slices.{slice_count, slice_at, slices}
-use Rattle.par2_spec.specs.Windows.{windows, is_match, found}
+use Rattle.par2_spec.specs.Windows.{windows, is_match, found, window}
 use Rattle.par2_spec.specs.Recovery.{recovery}
 use Rattle.par2_spec.specs.Rank.{Agrees, kept_slices, IsRepairable, kept}
 use Rattle.par2_spec.specs.Folders.{Folder, File, bytes_of}
@@ -19,44 +19,42 @@ use Rattle.par2_spec.specs.Volumes.{record_of, all_slices}
 use Rattle.par2_spec.specs.Sets.{Target, target_of_file, MadeFrom, all_pairs}
 use Rattle.par2_spec.specs.Search.{known, lost, survivors, NoCollision}
 use Rattle.par2_spec.specs.Repairs.{rebuilt, cut_into, files_of_slices}
-use Rattle.par2_spec.proofs.ListsLaws.{all-append}
+use Rattle.par2_spec.proofs.ListsLaws.{all-append, all-take, all-drop, all-each, all-flat_map-map, found_one}
 use Rattle.par2_spec.proofs.FoundLaws.{all-filter}
 use Rattle.par2_spec.proofs.RankLaws.{rebuilt_is_only, all_weaker}
 use Rattle.par2_spec.proofs.UniqueLaws.{agreeing_is_rebuilt}
 
 -- ---- a slice
 
-pub length-slice_at : (s : ℕ) (text : List ℕ) (j : ℕ) → length (slice_at s text j) ≡ s
-length-slice_at s text j =
-    let part = take s (drop (j * s) text) in
-    let size : length part ≡ min s (length (drop (j * s) text)) = length-take s (drop (j * s) text) in
+pub length-window : (s : ℕ) (text : List ℕ) (o : ℕ) → length (window s text o) ≡ s
+length-window s text o =
+    let part = take s (drop o text) in
+    let size : length part ≡ min s (length (drop o text)) = length-take s (drop o text) in
     let zeros : List ℕ = replicate (s - length part) 0 in
     let fill : length zeros ≡ s - length part = length-replicate (s - length part) 0 in
     length-append part zeros ∙ (let e : length part + length zeros ≡ s = omega (arith, size, fill) in e)
+
+pub length-slice_at : (s : ℕ) (text : List ℕ) (j : ℕ) → length (slice_at s text j) ≡ s
+length-slice_at s text j = length-window s text (j * s)
 
 abbrev pub AreBytes : List ℕ → Type 0
 AreBytes bytes = AllByRecursion (λ b. b < 256) bytes
 
 pub bytes-take : (n : ℕ) (xs : List ℕ) → AreBytes xs → AreBytes (take n xs)
-bytes-take zero xs h = tt
-bytes-take (suc n) [] h = tt
-bytes-take (suc n) (x ∷ xs) h = (h.0, bytes-take n xs h.1)
+bytes-take n xs h = all-take (λ b. b < 256) n xs h
 
 pub bytes-drop : (n : ℕ) (xs : List ℕ) → AreBytes xs → AreBytes (drop n xs)
-bytes-drop zero xs h = h
-bytes-drop (suc n) [] h = tt
-bytes-drop (suc n) (x ∷ xs) h = bytes-drop n xs h.1
+bytes-drop n xs h = all-drop (λ b. b < 256) n xs h
 
 pub bytes-zeros : (n : ℕ) → AreBytes (replicate n 0)
 bytes-zeros zero = tt
 bytes-zeros (suc n) = (omega arith, bytes-zeros n)
 
-pub bytes-slice_at : (s : ℕ) (text : List ℕ) (j : ℕ) → AreBytes text → AreBytes (slice_at s text j)
-bytes-slice_at s text j h = all-append (λ b. b < 256) (take s (drop (j * s) text)) (replicate (s - length (take s (drop (j * s) text))) 0) (bytes-take s (drop (j * s) text) (bytes-drop (j * s) text h)) (bytes-zeros _)
+pub bytes-window : (s : ℕ) (text : List ℕ) (o : ℕ) → AreBytes text → AreBytes (window s text o)
+bytes-window s text o h = all-append (λ b. b < 256) (take s (drop o text)) (replicate (s - length (take s (drop o text))) 0) (bytes-take s (drop o text) (bytes-drop o text h)) (bytes-zeros _)
 
-of_range : {A : Type 0} (P : A → Type 0) (f : ℕ → A) → ((j : ℕ) → P (f j)) → (a n : ℕ) → AllByRecursion P (map f (range_with_len a n))
-of_range P f h a zero = tt
-of_range P f h a (suc n) = (h a, of_range P f h (a + 1) n)
+pub bytes-slice_at : (s : ℕ) (text : List ℕ) (j : ℕ) → AreBytes text → AreBytes (slice_at s text j)
+bytes-slice_at s text j h = bytes-window s text (j * s) h
 
 -- ---- the slices of a text, joined, begin with the text
 
@@ -87,18 +85,15 @@ rest_joined s text (suc n) j le =
 zero_plus : (n : ℕ) → n ≡ 0 + n
 zero_plus n = omega arith
 
-no_times : (s : ℕ) → 0 * s ≡ 0
-no_times s = omega arith
-
 less_none : (n m : ℕ) → m ≡ 0 → n ≡ n - m
 less_none n m e = omega (arith, e)
 
 pub slices_joined : (s : ℕ) (text : List ℕ) → 0 < s → take (length text) (concat (slices s text)) ≡ text
 slices_joined s text positive =
     let enough : length text ≤ (slice_count s (length text)) * s = (div_ceil_times (length text) s positive).0 in
-    ap (λ n. take n (concat (slices s text))) (less_none (length text) (0 * s) (no_times s))
+    ap (λ n. take n (concat (slices s text))) (less_none (length text) (0 * s) (zero-mul s))
     ∙ rest_joined s text (slice_count s (length text)) 0 (subst (λ n. length text ≤ n * s) (zero_plus (slice_count s (length text))) enough)
-    ∙ ap (λ n. drop n text) (no_times s)
+    ∙ ap (λ n. drop n text) (zero-mul s)
 
 -- texts of one length with the same slices are the same
 pub same_slices : (s : ℕ) (a b : List ℕ) → 0 < s → length a ≡ length b → slices s a ≡ slices s b → a ≡ b
@@ -159,22 +154,13 @@ abbrev pub IsTold : Folder → List (List ℕ) → ℕ → List ℕ → Type 0
 IsTold folder searched s slice = AllByRecursion (λ name. AllByRecursion (λ w. is_match (pair_of slice) w ≡ true → w ≡ slice) (windows s (bytes_of folder name))) searched
 
 found_here : (p : List ℕ → Bool) (P : List ℕ → Type 0) (ws : List (List ℕ)) → AllByRecursion (λ w. p w ≡ true → P w) ws → (w : List ℕ) → find p ws ≡ Some w → P w
-found_here p P [] h w e = absurd (false≢true (ap is_some e))
-found_here p P (x ∷ ws) h w e = step (p x) refl e (found_here p P ws h.1 w)
-  where
-    step : (b : Bool) → p x ≡ b → cond b (Some x) (find p ws) ≡ Some w → (find p ws ≡ Some w → P w) → P w
-    step true i k later = subst P (ap (λ o. unwrap_or o x) k) (h.0 i)
-    step false i k later = later k
-
-windows_of : (folder : Folder) (s : ℕ) (P : List ℕ → Type 0) (searched : List (List ℕ)) → AllByRecursion (λ name. AllByRecursion P (windows s (bytes_of folder name))) searched → AllByRecursion P (flat_map (windows s) (map (bytes_of folder) searched))
-windows_of folder s P [] h = tt
-windows_of folder s P (name ∷ searched) h = all-append P (windows s (bytes_of folder name)) (flat_map (windows s) (map (bytes_of folder) searched)) h.0 (windows_of folder s P searched h.1)
+found_here p P ws h w e = let r = found_one (λ v. p v ≡ true → P v) p ws h w e in r.0 r.1
 
 known_true : (folder : Folder) (searched : List (List ℕ)) (s : ℕ) (xs : List (List ℕ)) → AllByRecursion (IsTold folder searched s) xs
     → AllZip (λ slice text. ForSome slice (λ found. text ≡ found)) (map (found s (map (bytes_of folder) searched)) (map pair_of xs)) xs
 known_true folder searched s [] h = tt
 known_true folder searched s (x ∷ xs) h = (
-  λ w e. sym (found_here (is_match (pair_of x)) (λ v. v ≡ x) (flat_map (windows s) (map (bytes_of folder) searched)) (windows_of folder s (λ v. is_match (pair_of x) v ≡ true → v ≡ x) searched h.0) w e),
+  λ w e. sym (found_here (is_match (pair_of x)) (λ v. v ≡ x) (flat_map (windows s) (map (bytes_of folder) searched)) (all-flat_map-map (λ v. is_match (pair_of x) v ≡ true → v ≡ x) (windows s) (bytes_of folder) searched h.0) w e),
   known_true folder searched s xs h.1,
 )
 
@@ -182,11 +168,11 @@ known_true folder searched s (x ∷ xs) h = (
 
 sizes_of_files : (s : ℕ) (files : List File) → AllByRecursion (λ text. length text ≡ s) (all_slices s files)
 sizes_of_files s [] = tt
-sizes_of_files s (file ∷ files) = all-append (λ text. length text ≡ s) (slices s file.1) (all_slices s files) (of_range (λ text. length text ≡ s) (slice_at s file.1) (length-slice_at s file.1) 0 (slice_count s (length file.1))) (sizes_of_files s files)
+sizes_of_files s (file ∷ files) = all-append (λ text. length text ≡ s) (slices s file.1) (all_slices s files) (all-each (λ text. length text ≡ s) (slice_at s file.1) (length-slice_at s file.1) (range_with_len 0 (slice_count s (length file.1)))) (sizes_of_files s files)
 
 bytes_of_files : (s : ℕ) (files : List File) → AllByRecursion (λ file. AreBytes file.1) files → AllByRecursion AreBytes (all_slices s files)
 bytes_of_files s [] h = tt
-bytes_of_files s (file ∷ files) h = all-append AreBytes (slices s file.1) (all_slices s files) (of_range AreBytes (slice_at s file.1) (λ j. bytes-slice_at s file.1 j h.0) 0 (slice_count s (length file.1))) (bytes_of_files s files h.1)
+bytes_of_files s (file ∷ files) h = all-append AreBytes (slices s file.1) (all_slices s files) (all-each AreBytes (slice_at s file.1) (λ j. bytes-slice_at s file.1 j h.0) (range_with_len 0 (slice_count s (length file.1)))) (bytes_of_files s files h.1)
 
 turned : (s : ℕ) (xs : List (List ℕ)) (rs : List (ℕ × List ℕ)) → AllByRecursion (λ r. r.1 ≡ recovery s xs r.0) rs → AllByRecursion (λ r. recovery s xs r.0 ≡ r.1) rs
 turned s xs rs h = all_weaker (λ r. r.1 ≡ recovery s xs r.0) (λ r. recovery s xs r.0 ≡ r.1) (λ r e. sym e) rs h

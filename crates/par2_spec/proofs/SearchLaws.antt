@@ -1,9 +1,10 @@
 -- What the matches of a set are.
 use Rattle.std.proofs.Common.{◌≡◌, ◌&&◌, ℕ, List, [], ◌∷◌, map, inl, inr, refl, sym, ap, ◌∙◌, subst, cond, true, false, Bool, not, ◌||◌, ◌++◌}
-use Rattle.std.specs.Prelude.{filter, filter_map, find, zip, Option, Some, None, option_to_list, unwrap_or, is_some}
+use Rattle.std.specs.Prelude.{filter, filter_map, find, zip, Option, Some, None, option_to_list, is_some}
 use Rattle.std.specs.List.{cons_option}
 use Rattle.std.specs.Str.{bytes_eq}
 use Rattle.std.proofs.lemmas.Bool.{and_parts, or_cases, or_left, or_right, false_from_ne_true, false≢true}
+use Rattle.std.proofs.lemmas.Option.{same_Some}
 use Rattle.std.proofs.Math.Bool.{and-true, and-false, and_assoc}
 use Rattle.par2_spec.specs.Names.{is_among}
 use Rattle.par2_spec.specs.Folders.{Folder, bytes_of}
@@ -31,11 +32,8 @@ pub found_passes : (p : List ℕ → Bool) (names : List (List ℕ)) (q : List �
 found_passes p [] q h = absurd (false≢true (ap is_some h))
 found_passes p (x ∷ names) q h = step (p x) refl h (found_passes p names q)
   where
-    same : Some x ≡ Some q → x ≡ q
-    same e = ap (λ o. unwrap_or o x) e
-
     step : (b : Bool) → p x ≡ b → cond b (Some x) (find p names) ≡ Some q → (find p names ≡ Some q → (is_among names q ≡ true) × (p q ≡ true)) → (is_among (x ∷ names) q ≡ true) × (p q ≡ true)
-    step true i e k = (or_left _ _ (subst (λ y. bytes_eq q y ≡ true) (sym (same e)) (itself q)), subst (λ y. p y ≡ true) (same e) i)
+    step true i e k = (or_left _ _ (subst (λ y. bytes_eq q y ≡ true) (sym (same_Some x q e)) (itself q)), subst (λ y. p y ≡ true) (same_Some x q e) i)
     step false i e k = let r = k e in (or_right (bytes_eq q x) (is_among names q) r.0, r.1)
 
 -- what is taken was free

@@ -1,9 +1,12 @@
 -- What holds of tests, of results and of options.
-use Rattle.std.proofs.Common.{◌≡◌, refl, sym, ap, ◌∙◌, subst, T, true, false, Bool, ◌&&◌}
-use Rattle.std.specs.Prelude.{Option, Some, None, is_some, is_none, unwrap_or, Result, Err}
+use Rattle.std.proofs.Common.{◌≡◌, refl, sym, ap, ◌∙◌, subst, T, true, false, Bool, ◌&&◌, ℕ, ◌+◌, List, [], ◌∷◌, cond}
+use Rattle.std.specs.Prelude.{Option, Some, None, is_some, is_none, unwrap_or, Result, Err, position, option_map}
 use Rattle.std.specs.Option.{option_or}
+use Rattle.std.specs.List.{AllByRecursion, position_from}
 use Rattle.std.proofs.lemmas.Bool.{false≢true}
-use Rattle.par2_spec.specs.Faults.{fault_where}
+use Rattle.std.proofs.lemmas.Option.{none-some}
+use Rattle.std.proofs.lemmas.Iterator.Adapters.{position_from-zero}
+use Rattle.par2_spec.specs.Faults.{fault_where, first_fault, fault_at}
 
 -- ---- tests
 
@@ -53,5 +56,27 @@ pub err_again : {A E : Type 0} (P : Result A E → Type 0) (r : Result A E) (fau
 err_again P r fault p h = subst P (sym (p.1 ∙ ap Err p.2)) h
 
 pub where_none : {A : Type 0} (b : Bool) (fault : A) → fault_where b fault ≡ None → b ≡ false
-where_none true fault h = absurd (false≢true (sym (ap is_some h)))
+where_none true fault h = absurd (none-some fault (sym h))
 where_none false fault h = refl
+
+-- where no fault is the first, there is none
+pub all_none : {A : Type 0} (os : List (Option A)) → first_fault os ≡ None → AllByRecursion (λ o. o ≡ None) os
+all_none [] h = tt
+all_none (None ∷ os) h = (refl, all_none os h)
+all_none (Some fault ∷ os) h = absurd (none-some fault (sym h))
+
+-- where no place is found, nothing passes
+pub no_place : {A : Type 0} (test : A → Bool) (n : ℕ) (xs : List A) → position_from test n xs ≡ None → AllByRecursion (λ x. test x ≡ false) xs
+no_place test n [] h = tt
+no_place {A = A} test n (x ∷ xs) h = step (test x) refl h (no_place test (n + 1) xs)
+  where
+    step : (b : Bool) → test x ≡ b → cond b (Some n) (position_from test (n + 1) xs) ≡ None → (position_from test (n + 1) xs ≡ None → AllByRecursion (λ y. test y ≡ false) xs) → AllByRecursion (λ y. test y ≡ false) (x ∷ xs)
+    step true e k later = absurd (none-some n (sym k))
+    step false e k later = (e, later k)
+
+pub at_none : {A F : Type 0} (n : ℕ) (fault : ℕ → F) (test : A → Bool) (xs : List A) → fault_at n fault test xs ≡ None → AllByRecursion (λ x. test x ≡ false) xs
+at_none n fault test xs h = no_place test 0 xs (sym (position_from-zero test xs) ∙ unmapped (position test xs) h)
+  where
+    unmapped : (o : Option ℕ) → option_map (λ k. fault (n + k)) o ≡ None → o ≡ None
+    unmapped None k = refl
+    unmapped (Some m) k = absurd (none-some (fault (n + m)) (sym k))

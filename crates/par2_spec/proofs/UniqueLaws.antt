@@ -24,7 +24,7 @@ use Rattle.par2_spec.proofs.NamesLaws.{clash}
 use Rattle.par2_spec.proofs.RankLaws.{kept-iff}
 use Rattle.par2_spec.proofs.WordLaws.{byte_at, word-lt, same_texts}
 use Rattle.par2_spec.proofs.SumLaws.{xor_same}
-use Rattle.par2_spec.proofs.ListsLaws.{all-both}
+use Rattle.par2_spec.proofs.ListsLaws.{all-both, contained_first, contained_later}
 
 -- ---- sums of lists
 
@@ -175,12 +175,9 @@ zero_at_known (Some z ∷ ks) (x ∷ a) (y ∷ b) p h k =
 
 -- ---- what all kept exponents kill, all survivors kill
 
-pub contains_later : (x : ℕ) (xs : List ℕ) (q : ℕ) → Contains xs q → Contains (x ∷ xs) q
-contains_later x xs q c = (suc c.0, (let l : c.0 < length xs = c.1 in omega (arith, l)), c.2)
-
 all_from_contains : (P : ℕ → Type 0) (xs : List ℕ) → ((q : ℕ) → Contains xs q → P q) → AllByRecursion P xs
 all_from_contains P [] h = tt
-all_from_contains P (x ∷ xs) h = (h x (0, omega arith, refl), all_from_contains P xs (λ q c. h q (contains_later x xs q c)))
+all_from_contains P (x ∷ xs) h = (h x (contained_first x xs), all_from_contains P xs (λ q c. h q (contained_later x xs q c)))
 
 killed_by_bound : (is es : List ℕ) (v : List ℕ) → IsVector (length is) v → ((e : ℕ) → Contains (kept is es) e → Kills is e v) → (m e : ℕ) → e < m → Contains es e → Kills is e v
 killed_by_bound is es v vector kills zero e lt c = absurd (omega (arith, lt))

@@ -14,6 +14,7 @@ use Rattle.par2_spec.specs.Recovery.{recovery, combination, dot, coefficients}
 use Rattle.par2_spec.specs.Slices.{word}
 use Rattle.par2_spec.proofs.WrittenPackets.{packets_then}
 use Rattle.par2_spec.proofs.WrittenBodies.{length_items, pair_lengths}
+use Rattle.par2_spec.proofs.ListsLaws.{all-each, all-map, all-append}
 
 -- ---- the known kinds are written as themselves
 
@@ -87,17 +88,8 @@ recovery_packet id e bytes sixteen even few =
 
 -- ---- the packets of files
 
-each_made : {A : Type 0} (f : A → Packet) (xs : List A) → ((x : A) → IsPacket (f x)) → AllByRecursion IsPacket (map f xs)
-each_made f [] h = tt
-each_made f (x ∷ xs) h = (h x, each_made f xs h)
-
 of_each_file : (f : FileRecord → Packet) (files : List FileRecord) → ((file : FileRecord) → IsFileRecord file → IsPacket (f file)) → AllByRecursion IsFileRecord files → AllByRecursion IsPacket (map f files)
-of_each_file f [] h each = tt
-of_each_file f (file ∷ files) h each = (h file each.0, of_each_file f files h each.1)
-
-both : (ps qs : List Packet) → AllByRecursion IsPacket ps → AllByRecursion IsPacket qs → AllByRecursion IsPacket (ps ++ qs)
-both [] qs p q = q
-both (x ∷ ps) qs p q = (p.0, both ps qs p.1 q)
+of_each_file f files h each = all-map IsFileRecord IsPacket f h files each
 
 pub index_made : (s : ℕ) (files : List FileRecord) → length files < 2 ^ 32 → AllByRecursion IsFileRecord files → AllByRecursion IsPacket (index_packets s files)
 unfolding index_packets
@@ -108,9 +100,9 @@ index_made s files few each =
     let ifscs : AllByRecursion IsPacket (map (λ file. packet_of id Ifsc (ifsc_bytes file)) files) = of_each_file _ files (λ file is. ifsc_packet id file sixteen is) each in
     let front : AllByRecursion IsPacket (packet_of id Main (main_bytes s files) ∷ map (λ file. packet_of id FileDesc (desc_bytes file)) files) = (main_packet s files few each, descs) in
     let end : AllByRecursion IsPacket (packet_of id Creator creator_bytes ∷ []) = (creator_packet id sixteen, tt) in
-    both (packet_of id Main (main_bytes s files) ∷ map (λ file. packet_of id FileDesc (desc_bytes file)) files ++ map (λ file. packet_of id Ifsc (ifsc_bytes file)) files)
+    all-append IsPacket (packet_of id Main (main_bytes s files) ∷ map (λ file. packet_of id FileDesc (desc_bytes file)) files ++ map (λ file. packet_of id Ifsc (ifsc_bytes file)) files)
     (packet_of id Creator creator_bytes ∷ [])
-    (both (packet_of id Main (main_bytes s files) ∷ map (λ file. packet_of id FileDesc (desc_bytes file)) files) (map (λ file. packet_of id Ifsc (ifsc_bytes file)) files) front ifscs) end
+    (all-append IsPacket (packet_of id Main (main_bytes s files) ∷ map (λ file. packet_of id FileDesc (desc_bytes file)) files) (map (λ file. packet_of id Ifsc (ifsc_bytes file)) files) front ifscs) end
 
 pub index_reads : (s : ℕ) (files : List FileRecord) (text : List ℕ) → length files < 2 ^ 32 → AllByRecursion IsFileRecord files
     → accepted (flat_map packet (index_packets s files) ++ text) ≡ index_packets s files ++ accepted text
@@ -131,10 +123,10 @@ recovery_length s texts e even =
 
 pub recovery_made : (s : ℕ) (id : List ℕ) (texts : List (List ℕ)) (e n : ℕ) → length id ≡ 16 → s % 4 ≡ 0 → s < 2 ^ 60 → AllByRecursion IsPacket (recovery_packets s id texts e n)
 recovery_made s id texts e n sixteen even few =
-    each_made (λ k. packet_of id Recovery (recovery_bytes k (recovery s texts k))) (range_with_len e n)
+    all-each IsPacket (λ k. packet_of id Recovery (recovery_bytes k (recovery s texts k)))
     (λ k.
     let size : length (recovery s texts k) ≡ s = recovery_length s texts k (omega (arith, even)) in
-    recovery_packet id k (recovery s texts k) sixteen (omega (arith, size, even)) (omega (arith, size, few)))
+    recovery_packet id k (recovery s texts k) sixteen (omega (arith, size, even)) (omega (arith, size, few))) (range_with_len e n)
 
 pub recovery_slices_read : (s : ℕ) (id : List ℕ) (texts : List (List ℕ)) (e n : ℕ) (text : List ℕ) → length id ≡ 16 → s % 4 ≡ 0 → s < 2 ^ 60
     → accepted (flat_map packet (recovery_packets s id texts e n) ++ text) ≡ recovery_packets s id texts e n ++ accepted text
