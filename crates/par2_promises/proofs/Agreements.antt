@@ -1,21 +1,15 @@
 -- Slices that agree with what survives are as many as the pairs of the set.
-use Rattle.std.proofs.Common.{◌≡◌, ℕ, suc, List, [], ◌∷◌, length, map, refl, ap, ◌∙◌}
-use Rattle.std.specs.List.{AllZip}
+use Rattle.std.proofs.Common.{◌≡◌, ℕ, List, length, map, ◌∙◌}
 use Rattle.std.proofs.lemmas.List.{length-map}
+use Rattle.std.proofs.lemmas.Slice.Zip.{AllZip-long}
 use Rattle.par2_spec.specs.Windows.{found}
 use Rattle.par2_spec.specs.Rank.{Agrees}
 use Rattle.par2_spec.specs.Folders.{Folder, bytes_of}
 use Rattle.par2_spec.specs.Sets.{ParSet, all_pairs}
 use Rattle.par2_spec.specs.Search.{known}
 
-as_many : {A B : Type 0} (R : A → B → Type 0) (xs : List A) (ys : List B) → AllZip R xs ys → length ys ≡ length xs
-as_many R [] [] h = refl
-as_many R [] (y ∷ ys) h = absurd h
-as_many R (x ∷ xs) [] h = absurd h
-as_many R (x ∷ xs) (y ∷ ys) h = ap suc (as_many R xs ys h.1)
-
 pub as_many_as_pairs : (folder : Folder) (set : ParSet) (searched : List (List ℕ)) (recovered : List (ℕ × List ℕ)) (slices : List (List ℕ))
     → Agrees set.slice_size (known folder set searched) recovered slices → length slices ≡ length (all_pairs set)
 unfolding known
 as_many_as_pairs folder set searched recovered slices agrees =
-    as_many _ (known folder set searched) slices agrees.as_known ∙ length-map (all_pairs set) (found set.slice_size (map (bytes_of folder) searched))
+    AllZip-long _ (known folder set searched) slices agrees.as_known ∙ length-map (all_pairs set) (found set.slice_size (map (bytes_of folder) searched))

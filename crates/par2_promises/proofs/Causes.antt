@@ -3,7 +3,7 @@ use Rattle.std.proofs.Common.{◌≡◌, ℕ, List, [], ◌∷◌, refl, true, f
 use Rattle.std.specs.Prelude.{Option, Some, None}
 use Rattle.std.specs.List.{list_all, AllByRecursion}
 use Rattle.std.specs.Str.{bytes_eq}
-use Rattle.std.proofs.lemmas.Bool.{and_parts}
+use Rattle.std.proofs.lemmas.Bool.{and_parts, not-true}
 use Rattle.std.proofs.lemmas.Slice.Eq.{bytes_eq-Decides}
 use Rattle.md5.specs.Md5.{md5}
 use Rattle.par2_spec.specs.declared.Fault.{Fault}
@@ -15,6 +15,7 @@ use Rattle.par2_spec.specs.Sets.{ParSet, Target}
 use Rattle.par2_spec.specs.Search.{known, lost, survivors}
 use Rattle.par2_spec.specs.Repairs.{rebuilt_targets}
 use Rattle.par2_spec.specs.Refusals.{repair_refusal}
+use Rattle.par2_spec.proofs.RefusedLaws.{first_cause}
 
 -- the answer by whether the set is repairable, a name is too long, and the digests are right
 abbrev answer : (repairable long right : Bool) (missing rank : ℕ) → Option Fault
@@ -38,10 +39,7 @@ by_failed true true right m r e = cc
 by_failed false long right m r e = cc
 
 by_unrepairable : (repairable long right : Bool) (m r missing rank : ℕ) → answer repairable long right m r ≡ Some (NotRepairable missing rank) → repairable ≡ false
-by_unrepairable false long right m r missing rank e = refl
-by_unrepairable true false true m r missing rank e = cc
-by_unrepairable true false false m r missing rank e = cc
-by_unrepairable true true right m r missing rank e = cc
+by_unrepairable repairable long right m r missing rank e = not-true repairable (first_cause (not repairable) long (not right) m r missing rank e)
 
 -- a file that is written has its digest
 abbrev pub has_digest : Target × List ℕ → Bool

@@ -1,9 +1,7 @@
 pub mod Present
 pub mod Causes
-pub mod Lists
 pub mod Texts
 pub mod ReadSets
 pub mod RecoveryBytes
-pub mod SliceSizes
 pub mod Survivals
 pub mod Agreements

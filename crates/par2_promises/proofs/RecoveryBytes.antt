@@ -1,12 +1,12 @@
 -- The recovery slices of a set that reads are bytes of its folder's files.
-use Rattle.std.proofs.Common.{◌≡◌, ℕ, zero, suc, ◌-◌, ◌<◌, List, [], ◌∷◌, length, map, drop, refl, sym, ap, ◌∙◌, subst, T, cond, true, false, Bool, ◌&&◌, arith}
+use Rattle.std.proofs.Common.{◌≡◌, ℕ, zero, suc, ◌-◌, ◌<◌, List, [], ◌∷◌, length, map, drop, refl, sym, ap, ◌∙◌, subst, T, cond, true, false, Bool, ◌&&◌}
 use Rattle.std.specs.Prelude.{flat_map, nat_le, nat_lt, ◌==◌, Some, None, Ok, unwrap_or, if◌then◌else◌}
 use Rattle.std.specs.List.{AllByRecursion}
 use Rattle.std.specs.Option.{ForSome}
 use Rattle.std.specs.Str.{bytes_eq}
 use Rattle.std.specs.FinMap as map_of
-use Rattle.std.specs.FinMap.{find, put, is_sorted, get-entries, entries-insert, entries_sorted, len-entries, len-empty}
-use Rattle.std.specs.FinMap.Entries.{by_order, below_all}
+use Rattle.std.specs.FinMap.{find, is_sorted, get-entries, entries_sorted}
+use Rattle.std.specs.FinMap.Entries.{below_all}
 use Rattle.std.specs.Ordering.{nat_cmp, eq_by_cmp, is_lt, is_eq, ordering_reverse}
 use Rattle.std.specs.declared.cmp.Ordering.{Ordering}
 use Rattle.std.specs.declared.cmp.Ordering.TheVariants.{Less, Equal, Greater}
@@ -18,10 +18,13 @@ use Rattle.par2_spec.specs.Rank.{AreBytes}
 use Rattle.par2_spec.specs.Folders.{Folder, bytes_of}
 use Rattle.par2_spec.specs.Sets.{ParSet, packets_with, recovery_of, set_of, other_par_names}
 use Rattle.par2_promises.specs.Premises.{HoldsBytes}
-use Rattle.par2_promises.proofs.Lists.{all-take, all-drop, all-filter_map, all-image, all-map, all-flat_map}
 use Rattle.par2_promises.proofs.Texts.{bytes_of_file}
 use Rattle.par2_promises.proofs.ReadSets.{set_of_answers}
 use Rattle.par2_spec.proofs.FoundLaws.{all-filter}
+use Rattle.par2_spec.proofs.ListsLaws.{all-take, all-drop, all-each, all-filter_map, all-flat_map, all-map}
+use Rattle.par2_spec.proofs.TestLaws.{T-parts}
+use Rattle.par2_spec.proofs.ReadLaws.{all-entries}
+use Rattle.par2_spec.proofs.RankLaws.{all_weaker}
 
 -- ---- packets
 
@@ -65,38 +68,13 @@ said_has p bytes = by_kind p.kind
 abbrev IsOfBytes : ℕ × List ℕ → Type 0
 IsOfBytes e = AreBytes e.1
 
-put_has : (k : ℕ) (v : List ℕ) (es : List (ℕ × List ℕ)) → AreBytes v → AllByRecursion IsOfBytes es → AllByRecursion IsOfBytes (put nat_cmp k v es)
-put_has k v [] bytes h = (bytes, tt)
-put_has k v (e ∷ es) bytes h = step (nat_cmp k e.0) (put_has k v es bytes h.1)
-  where
-    step : (o : Ordering) → AllByRecursion IsOfBytes (put nat_cmp k v es) → AllByRecursion IsOfBytes (by_order o ((k, v) ∷ e ∷ es) ((e.0, v) ∷ es) (e ∷ put nat_cmp k v es))
-    step Less later = (bytes, h)
-    step Equal later = (bytes, h.1)
-    step Greater later = (h.0, later)
-
-none_of_length : {A : Type 0} (xs : List A) → length xs ≡ 0 → xs ≡ []
-none_of_length [] e = refl
-none_of_length (x ∷ xs) e = absurd (omega (arith, e))
-
-map_has : (es : List (ℕ × List ℕ)) → AllByRecursion IsOfBytes es → AllByRecursion IsOfBytes (map_of.entries (map_of.from_entries {R = nat_cmp} es))
-map_has [] h =
-    let empty = none_of_length (map_of.entries (map_of.empty {X = List ℕ} {R = nat_cmp})) (sym (len-entries map_of.empty) ∙ len-empty nat_cmp (List ℕ)) in
-    subst (AllByRecursion IsOfBytes) (sym empty) tt
-map_has (e ∷ es) h =
-    let before = map_of.from_entries {R = nat_cmp} es in
-    subst (AllByRecursion IsOfBytes) (sym (entries-insert nat_cmp_total before e.0 e.1)) (put_has e.0 e.1 (map_of.entries before) h.0 (map_has es h.1))
-
 recovery_has : (packets : List Packet) (s : ℕ) → AllByRecursion HasBytes packets → AllByRecursion IsOfBytes (map_of.entries (recovery_of packets s))
 recovery_has packets s h =
     let said = all-filter_map HasBytes (λ (r : RecoveryBody). AreBytes r.bytes) (λ p. read_recovery p.kind p.body) said_has packets h in
     let chosen = all-filter (λ (r : RecoveryBody). AreBytes r.bytes) (λ r. nat_lt r.exponent 65536 && length r.bytes == s) _ said in
-    map_has _ (all-image (λ (r : RecoveryBody). AreBytes r.bytes) IsOfBytes (λ r. (r.exponent, r.bytes)) (λ r k. k) _ chosen)
+    all-entries IsOfBytes _ (all-map (λ (r : RecoveryBody). AreBytes r.bytes) IsOfBytes (λ r. (r.exponent, r.bytes)) (λ r k. k) _ chosen)
 
 -- each entry is what the map has at its key
-both : (a b : Bool) → T (a && b) → T a × T b
-both true b h = (tt, h)
-both false b h = absurd h
-
 other_key : (k n : ℕ) → T (is_lt (nat_cmp k n)) → eq_by_cmp nat_cmp n k ≡ false
 other_key k n less = ap is_eq (nat_cmp_total.antisymm n k) ∙ step (nat_cmp k n) less
   where
@@ -108,23 +86,21 @@ other_key k n less = ap is_eq (nat_cmp_total.antisymm n k) ∙ step (nat_cmp k n
 behind_first : (k : ℕ) (v : List ℕ) (ds es : List (ℕ × List ℕ)) → T (below_all nat_cmp k ds) → AllByRecursion (λ d. find nat_cmp d.0 es ≡ Some d.1) ds → AllByRecursion (λ d. find nat_cmp d.0 ((k, v) ∷ es) ≡ Some d.1) ds
 behind_first k v [] es less h = tt
 behind_first k v (d ∷ ds) es less h =
-    let first = both (is_lt (nat_cmp k d.0)) (below_all nat_cmp k ds) less in
+    let first = T-parts (is_lt (nat_cmp k d.0)) (below_all nat_cmp k ds) less in
     (ap (λ b. cond b (Some v) (find nat_cmp d.0 es)) (other_key k d.0 first.0) ∙ h.0, behind_first k v ds es first.1 h.1)
 
 own_values : (es : List (ℕ × List ℕ)) → T (is_sorted nat_cmp es) → AllByRecursion (λ e. find nat_cmp e.0 es ≡ Some e.1) es
 own_values [] sorted = tt
 own_values (e ∷ es) sorted =
-    let rest = both (below_all nat_cmp e.0 es) (is_sorted nat_cmp es) sorted in (
+    let rest = T-parts (below_all nat_cmp e.0 es) (is_sorted nat_cmp es) sorted in (
       ap (λ o. cond (is_eq o) (Some e.1) (find nat_cmp e.0 es)) (tied_itself nat_cmp_total e.0),
       behind_first e.0 e.1 es es rest.0 (own_values es rest.1),
     )
 
 pub each_has_its_own : (set : ParSet) → AllByRecursion (λ r. map_of.get set.recovery r.0 ≡ Some r.1) (map_of.entries set.recovery)
-each_has_its_own set = by_get (map_of.entries set.recovery) (own_values (map_of.entries set.recovery) (entries_sorted set.recovery))
-  where
-    by_get : (es : List (ℕ × List ℕ)) → AllByRecursion (λ e. find nat_cmp e.0 (map_of.entries set.recovery) ≡ Some e.1) es → AllByRecursion (λ e. map_of.get set.recovery e.0 ≡ Some e.1) es
-    by_get [] h = tt
-    by_get (e ∷ es) h = (get-entries set.recovery e.0 ∙ h.0, by_get es h.1)
+each_has_its_own set =
+    all_weaker (λ e. find nat_cmp e.0 (map_of.entries set.recovery) ≡ Some e.1) (λ e. map_of.get set.recovery e.0 ≡ Some e.1) (λ e is. get-entries set.recovery e.0 ∙ is)
+    (map_of.entries set.recovery) (own_values (map_of.entries set.recovery) (entries_sorted set.recovery))
 
 -- the recovery slices of a set that is read in a folder whose files hold bytes
 pub recovery_of_bytes : (folder : Folder) (base : List ℕ) (set : ParSet) → HoldsBytes folder → set_of folder base ≡ Ok set → AllByRecursion (λ e. AreBytes e.1) (map_of.entries set.recovery)
@@ -132,7 +108,7 @@ recovery_of_bytes folder base set held reads =
     let names = base ∷ other_par_names folder base in
     let texts = map (bytes_of folder) names in
     let read = set_of_answers folder base (Ok set) reads in
-    let in_texts = all-map (λ text. AllByRecursion HasBytes (accepted text)) (bytes_of folder) (λ name. packets_have 0 (bytes_of folder name) (bytes_of_file folder name held)) names in
-    let in_packets = all-flat_map HasBytes accepted texts in_texts in
+    let in_texts = all-each (λ text. AllByRecursion HasBytes (accepted text)) (bytes_of folder) (λ name. packets_have 0 (bytes_of folder name) (bytes_of_file folder name held)) names in
+    let in_packets = all-flat_map (λ text. AllByRecursion HasBytes (accepted text)) HasBytes accepted (λ text all. all) texts in_texts in
     let kept = all-filter HasBytes (λ p. bytes_eq p.set_id read.0) (flat_map accepted texts) in_packets in
     subst (λ recovery. AllByRecursion IsOfBytes (map_of.entries recovery)) (sym read.1) (recovery_has (packets_with read.0 (flat_map accepted texts)) set.slice_size kept)

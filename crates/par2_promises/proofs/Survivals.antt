@@ -1,5 +1,5 @@
 -- What survives of a sound set in a folder whose files hold bytes is texts of bytes of the slice size.
-use Rattle.std.proofs.Common.{◌≡◌, ℕ, ◌<◌, List, [], ◌∷◌, length, sym, ap, subst}
+use Rattle.std.proofs.Common.{◌≡◌, ℕ, ◌<◌, List, [], length, sym, ap, subst}
 use Rattle.std.specs.Prelude.{Option, Some, Ok, unwrap_or}
 use Rattle.std.specs.List.{AllByRecursion}
 use Rattle.std.specs.Option.{ForSome}
@@ -12,26 +12,27 @@ use Rattle.par2_spec.specs.Sets.{ParSet, set_of, IsSound}
 use Rattle.par2_spec.specs.Search.{known}
 use Rattle.par2_promises.specs.Premises.{HoldsBytes}
 use Rattle.par2_promises.specs.Slices.{recovery_slice}
-use Rattle.par2_promises.proofs.SliceSizes.{size_even}
-use Rattle.par2_promises.proofs.Texts.{IsText, bytes_at_key, known_are}
+use Rattle.par2_promises.proofs.Texts.{IsText, known_are}
 use Rattle.par2_promises.proofs.RecoveryBytes.{each_has_its_own, recovery_of_bytes}
+use Rattle.par2_spec.proofs.ListsLaws.{found_at_key, all-both}
+use Rattle.par2_spec.proofs.FilesLaws.{size_even}
+use Rattle.par2_spec.proofs.RankLaws.{all_weaker}
 
 sizes_of : (s : ℕ) (ks : List (Option (List ℕ))) → AllByRecursion (λ slice. ForSome slice (IsText s)) ks → AllByRecursion (λ slice. ForSome slice (λ found. length found ≡ s)) ks
-sizes_of s [] h = tt
-sizes_of s (k ∷ ks) h = (λ found is. (h.0 found is).0, sizes_of s ks h.1)
+sizes_of s ks h = all_weaker (λ slice. ForSome slice (IsText s)) (λ slice. ForSome slice (λ found. length found ≡ s)) (λ slice text found is. (text found is).0) ks h
 
 bytes_of_each : (s : ℕ) (ks : List (Option (List ℕ))) → AllByRecursion (λ slice. ForSome slice (IsText s)) ks → AllByRecursion (λ slice. ForSome slice AreBytes) ks
-bytes_of_each s [] h = tt
-bytes_of_each s (k ∷ ks) h = (λ found is. (h.0 found is).1, bytes_of_each s ks h.1)
+bytes_of_each s ks h = all_weaker (λ slice. ForSome slice (IsText s)) (λ slice. ForSome slice AreBytes) (λ slice text found is. (text found is).1) ks h
 
 module _ (set : ParSet) where
   slice_of_bytes : AllByRecursion (λ e. AreBytes e.1) (map_of.entries set.recovery) → (e : ℕ) → AreBytes (recovery_slice set e)
-  slice_of_bytes h e = subst (λ o. AreBytes (unwrap_or o [])) (sym (get-entries set.recovery e)) (bytes_at_key nat_cmp e (map_of.entries set.recovery) h)
+  slice_of_bytes h e = subst (λ o. AreBytes (unwrap_or o [])) (sym (get-entries set.recovery e)) (found_at_key AreBytes nat_cmp e [] (map_of.entries set.recovery) h tt)
 
   each_slice : (rs : List (ℕ × List ℕ)) → AllByRecursion (λ r. (r.0 < 65536) × (length r.1 ≡ set.slice_size)) rs → AllByRecursion (λ r. map_of.get set.recovery r.0 ≡ Some r.1) rs
       → AllByRecursion (λ r. (r.0 < 65536) × (length r.1 ≡ set.slice_size) × (recovery_slice set r.0 ≡ r.1)) rs
-  each_slice [] sizes own = tt
-  each_slice (r ∷ rs) sizes own = ((sizes.0.0, sizes.0.1, ap (λ o. unwrap_or o []) own.0), each_slice rs sizes.1 own.1)
+  each_slice rs sizes own =
+      all-both (λ r. (r.0 < 65536) × (length r.1 ≡ set.slice_size)) (λ r. map_of.get set.recovery r.0 ≡ Some r.1) (λ r. (r.0 < 65536) × (length r.1 ≡ set.slice_size) × (recovery_slice set r.0 ≡ r.1))
+      (λ r size is. (size.0, size.1, ap (λ o. unwrap_or o []) is)) rs sizes own
 
 pub survivors_are : (folder : Folder) (base : List ℕ) (set : ParSet) (searched : List (List ℕ)) → IsSound set → HoldsBytes folder → set_of folder base ≡ Ok set
     → AreSurvivors set.slice_size 65536 (known folder set searched) (map_of.entries set.recovery) (recovery_slice set)

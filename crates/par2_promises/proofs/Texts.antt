@@ -1,14 +1,12 @@
 -- In a folder whose files hold bytes, what is found of slices is texts of bytes.
-use Rattle.std.proofs.Common.{◌≡◌, ℕ, zero, suc, ◌+◌, ◌-◌, ◌<◌, List, [], ◌∷◌, length, map, take, drop, sym, ◌∙◌, subst, cond, true, false, Bool, arith}
-use Rattle.std.specs.Prelude.{flat_map, replicate, min, Option, Some, unwrap_or}
-use Rattle.std.specs.List.{AllByRecursion}
+use Rattle.std.proofs.Common.{◌≡◌, ℕ, ◌-◌, List, [], length, map, sym, subst}
+use Rattle.std.specs.Prelude.{flat_map, unwrap_or}
+use Rattle.std.specs.List.{AllByRecursion, range_with_len}
 use Rattle.std.specs.Option.{ForSome}
 use Rattle.std.specs.FinMap as map_of
 use Rattle.std.specs.FinMap.{get-entries}
-use Rattle.std.specs.Ordering.{nat_cmp, eq_by_cmp}
+use Rattle.std.specs.Ordering.{nat_cmp}
 use Rattle.std.specs.Cmp.Lexicographic.{slice_cmp}
-use Rattle.std.specs.declared.cmp.Ordering.{Ordering}
-use Rattle.std.proofs.lemmas.List.{length-append, length-take, length-replicate}
 use Rattle.par2_spec.specs.Checksums.{Pair}
 use Rattle.par2_spec.specs.Windows.{window, windows, is_match, found}
 use Rattle.par2_spec.specs.Rank.{AreBytes}
@@ -16,53 +14,33 @@ use Rattle.par2_spec.specs.Folders.{Folder, bytes_of}
 use Rattle.par2_spec.specs.Sets.{ParSet, all_pairs}
 use Rattle.par2_spec.specs.Search.{known}
 use Rattle.par2_promises.specs.Premises.{HoldsBytes}
-use Rattle.par2_promises.proofs.Lists.{all-take, all-drop, all-range, all-map, all-flat_map, some-find}
-use Rattle.par2_spec.proofs.ListsLaws.{all-append}
+use Rattle.par2_spec.proofs.ListsLaws.{all-each, found_one, found_at_key, all-flat_map}
+use Rattle.par2_spec.proofs.RestoredLaws.{length-window, bytes-window}
 
 -- s bytes
 abbrev pub IsText : ℕ → List ℕ → Type 0
 IsText s text = (length text ≡ s) × AreBytes text
 
--- the text that a map of texts of bytes has at a key, or none
-pub bytes_at_key : {K : Type 0} (order : K → K → Ordering) (q : K) (es : List (K × List ℕ)) → AllByRecursion (λ e. AreBytes e.1) es → AreBytes (unwrap_or (map_of.find order q es) [])
-bytes_at_key order q [] h = tt
-bytes_at_key order q (e ∷ es) h = step (eq_by_cmp order q e.0) (map_of.find order q es) (bytes_at_key order q es h.1)
-  where
-    step : (b : Bool) (later : Option (List ℕ)) → AreBytes (unwrap_or later []) → AreBytes (unwrap_or (cond b (Some e.1) later) [])
-    step true later k = h.0
-    step false later k = k
-
 pub bytes_of_file : (folder : Folder) (name : List ℕ) → HoldsBytes folder → AreBytes (bytes_of folder name)
-bytes_of_file folder name h = subst (λ o. AreBytes (unwrap_or o [])) (sym (get-entries folder name)) (bytes_at_key (slice_cmp nat_cmp) name (map_of.entries folder) h)
+bytes_of_file folder name h = subst (λ o. AreBytes (unwrap_or o [])) (sym (get-entries folder name)) (found_at_key AreBytes (slice_cmp nat_cmp) name [] (map_of.entries folder) h tt)
 
 -- ---- windows
 
-zeros_are : (n : ℕ) → AreBytes (replicate n 0)
-zeros_are zero = tt
-zeros_are (suc n) = (omega arith, zeros_are n)
-
 window_is : (s : ℕ) (text : List ℕ) → AreBytes text → (o : ℕ) → IsText s (window s text o)
-window_is s text bytes o =
-    let part = take s (drop o text) in
-    let size : length part ≡ min s (length (drop o text)) = length-take s (drop o text) in
-    let zeros : List ℕ = replicate (s - length part) 0 in
-    let fill : length zeros ≡ s - length part = length-replicate (s - length part) 0 in (
-      length-append part zeros ∙ (let e : length part + length zeros ≡ s = omega (arith, size, fill) in e),
-      all-append (λ b. b < 256) part zeros (all-take (λ b. b < 256) s (drop o text) (all-drop (λ b. b < 256) o text bytes)) (zeros_are (s - length part)),
-    )
+window_is s text bytes o = (length-window s text o, bytes-window s text o bytes)
 
 windows_are : (s : ℕ) (text : List ℕ) → AreBytes text → AllByRecursion (IsText s) (windows s text)
-windows_are s text bytes = all-range (IsText s) (window s text) (window_is s text bytes) 0 (length text)
+windows_are s text bytes = all-each (IsText s) (window s text) (window_is s text bytes) (range_with_len 0 (length text))
 
 found_is : (folder : Folder) (searched : List (List ℕ)) (s : ℕ) → HoldsBytes folder → (pair : Pair) → ForSome (found s (map (bytes_of folder) searched) pair) (IsText s)
 found_is folder searched s held pair =
     let texts = map (bytes_of folder) searched in
-    let each = all-map (λ text. AllByRecursion (IsText s) (windows s text)) (bytes_of folder) (λ name. windows_are s (bytes_of folder name) (bytes_of_file folder name held)) searched in
-    some-find (IsText s) (is_match pair) (flat_map (windows s) texts) (all-flat_map (IsText s) (windows s) texts each)
+    let each = all-each (λ text. AllByRecursion (IsText s) (windows s text)) (bytes_of folder) (λ name. windows_are s (bytes_of folder name) (bytes_of_file folder name held)) searched in
+    λ slice is. (found_one (IsText s) (is_match pair) (flat_map (windows s) texts) (all-flat_map (λ text. AllByRecursion (IsText s) (windows s text)) (IsText s) (windows s) (λ text all. all) texts each) slice is).0
 
 -- each known slice is a text of the slice size
 pub known_are : (folder : Folder) (set : ParSet) (searched : List (List ℕ)) → HoldsBytes folder → AllByRecursion (λ slice. ForSome slice (IsText set.slice_size)) (known folder set searched)
 unfolding known
 known_are folder set searched held =
     let s = set.slice_size in
-    all-map (λ slice. ForSome slice (IsText s)) (found s (map (bytes_of folder) searched)) (found_is folder searched s held) (all_pairs set)
+    all-each (λ slice. ForSome slice (IsText s)) (found s (map (bytes_of folder) searched)) (found_is folder searched s held) (all_pairs set)

@@ -2,8 +2,8 @@ use Rattle.std.proofs.Common.{◌∙◌, sym}
 use Rattle.std.specs.FinMap as map_of
 use Rattle.par2_spec.specs.Search.{candidates, known}
 use Rattle.par2_promises.specs.Slices.{recovery_slice}
-use Rattle.par2_promises.proofs.SliceSizes.{size_two}
 use Rattle.par2_promises.proofs.choices.refused_repair_leaves_two_lists.Goals as goal
+use Rattle.par2_spec.proofs.RefusedLaws.{size_two}
 
 pub returns : goal.returns
 returns c folder base extras purge set missing rank held read refused =
