@@ -6,6 +6,7 @@ use Rattle.std.specs.Str.{bytes_eq, str_to_ascii_lowercase}
 use Rattle.std.specs.FinMap as map_of
 use Rattle.std.proofs.lemmas.Bool.{false≢true, and_parts, or_from}
 use Rattle.std.proofs.lemmas.List.Elements.{recursion_from_All, filter_passes}
+use Rattle.std.proofs.lemmas.Option.{same_Some}
 use Rattle.std.proofs.Math.Seq.{drop-append_seam}
 use Rattle.par2_spec.specs.Names.{is_name, is_par_name, is_among, par2_ending}
 use Rattle.par2_spec.specs.Folders.{Folder, File, has, bytes_of, names, laid_over}
@@ -16,12 +17,12 @@ use Rattle.par2_spec.specs.Commands.{CreateArgs, Create, files_of, outputs_of}
 use Rattle.par2_spec.specs.Refusals.{refusal, after}
 use Rattle.par2_origins.specs.Volumes.{IsVolume, IsVolumeOrOther, IsOfOthers, set_id_of, HoldsVolumes}
 use Rattle.par2_origins.specs.Creates.{FitsCreate, IsDamage, output_names}
-use Rattle.par2_origins.proofs.FilePackets.{same_some}
-use Rattle.par2_origins.proofs.Present.{contained_first, contained_later}
 use Rattle.par2_origins.proofs.CreateInputs.{passes}
 use Rattle.par2_spec.proofs.RankLaws.{all_weaker}
 use Rattle.par2_spec.proofs.MovesLaws.{get_put}
 use Rattle.par2_spec.proofs.FilesLaws.{at_name}
+use Rattle.par2_spec.proofs.ListsLaws.{contained_first, contained_later}
+use Rattle.par2_spec.proofs.TestLaws.{some_if}
 
 -- ---- what stands under a name
 
@@ -42,15 +43,8 @@ laid_cases (file ∷ files) folder q bytes h =
   where
     step : (b : Bool) → bytes_eq q file.0 ≡ b → is_among (map (λ f. f.0) files) q ≡ false → cond b (Some file.1) (map_of.get folder q) ≡ Some bytes
         → Contains (bytes_in (file ∷ files)) bytes ⊎ ((is_among (map (λ f. f.0) (file ∷ files)) q ≡ false) × (map_of.get folder q ≡ Some bytes))
-    step true e out k = inl (subst (Contains (bytes_in (file ∷ files))) (same_some file.1 bytes k) (contained_first file.1 (bytes_in files)))
+    step true e out k = inl (subst (Contains (bytes_in (file ∷ files))) (same_Some file.1 bytes k) (contained_first file.1 (bytes_in files)))
     step false e out k = inr (or_from (bytes_eq q file.0) (is_among (map (λ f. f.0) files) q) e out, k)
-
-pub some_bytes : (folder : Folder) (name : List ℕ) → has folder name ≡ true → map_of.get folder name ≡ Some (bytes_of folder name)
-some_bytes folder name h = step (map_of.get folder name) h
-  where
-    step : (o : Option (List ℕ)) → is_some o ≡ true → o ≡ Some (unwrap_or o [])
-    step None k = absurd (false≢true k)
-    step (Some bytes) k = refl
 
 -- ---- the names of what a create writes
 
@@ -81,7 +75,7 @@ module _ (before damaged : Folder) (a : CreateArgs) (base : List ℕ) (accepted 
   -- a par file that is there
   is_there : (name : List ℕ) → is_par_name name ≡ true → has damaged name ≡ true → map_of.get (laid_over (outputs_of before a) before) name ≡ Some (bytes_of damaged name)
   unfolding after
-  is_there name par there = sym (damage.pars name par there) ∙ some_bytes damaged name there
+  is_there name par there = sym (damage.pars name par there) ∙ some_if [] (map_of.get damaged name) there
 
   is_volume_or_other : (name : List ℕ) → is_par_name name ≡ true → has damaged name ≡ true → IsVolumeOrOther a.slice_size inputs (bytes_of damaged name)
   is_volume_or_other name par there =

@@ -1,10 +1,10 @@
 -- What the packets of files say.
-use Rattle.std.proofs.Common.{◌≡◌, ℕ, ◌<◌, ◌^◌, false, List, [], ◌∷◌, ◌++◌, length, map, Option, Some, None, refl, sym, ap, ◌∙◌, subst, unwrap_or, arith}
-use Rattle.std.specs.Prelude.{IsTrue, is_some, ◌==◌}
+use Rattle.std.proofs.Common.{◌≡◌, ℕ, ◌<◌, ◌^◌, false, List, [], ◌∷◌, ◌++◌, length, map, Some, refl, sym, ap, ◌∙◌, subst, arith}
+use Rattle.std.specs.Prelude.{IsTrue, ◌==◌}
 use Rattle.std.specs.List.{AllByRecursion, Contains, list_any}
 use Rattle.std.proofs.lemmas.List.{length-map}
 use Rattle.std.proofs.lemmas.List.Elements.{All-contains, All-from_recursion, recursion_from_All, All-contains_itself}
-use Rattle.std.proofs.lemmas.Bool.{false≢true}
+use Rattle.std.proofs.lemmas.Option.{same_Some, none-some}
 use Rattle.md5.proofs.StandardFacts.{length-md5}
 use Rattle.par2_spec.specs.declared.Kind.{Kind}
 use Rattle.par2_spec.specs.declared.Kind.TheVariants.{Main, FileDesc, Ifsc, Recovery, Creator, Other}
@@ -69,12 +69,6 @@ packet_says s files p h = by_kind p.kind (λ r. let is = h r in of_contained (λ
 
 -- ---- what it is read as
 
-pub same_some : {A : Type 0} (x y : A) → ◌≡◌ {A = Option A} (Some x) (Some y) → x ≡ y
-same_some x y e = ap (λ o. unwrap_or o x) e
-
-pub no_some : {A : Type 0} (x : A) → ◌≡◌ {A = Option A} None (Some x) → ⊥
-no_some x e = false≢true (ap is_some e)
-
 unfoldable pub main_of_files : ℕ → List File → MainBody
 main_of_files s files = record { slice_size = s; ids = map (λ file. file.id) (map (record_of s) files) }
 
@@ -123,12 +117,12 @@ ifsc_written laws s file d = laws.ifsc (record_of s file) (length-md5 _) (pairs_
 pub main_said : AreRead → (s : ℕ) (files : List File) → AreDescribed s files → (kind : Kind) (body : List ℕ) → Says s files kind body
     → (m : MainBody) → read_main kind body ≡ Some m → m ≡ main_of_files s files
 unfolding read_main
-main_said laws s files d Main body says m h = sym (same_some (main_of_files s files) m (sym (ap (read_main Main) says ∙ main_written laws s files d) ∙ h))
-main_said laws s files d FileDesc body says m h = absurd (no_some m h)
-main_said laws s files d Ifsc body says m h = absurd (no_some m h)
-main_said laws s files d Recovery body says m h = absurd (no_some m h)
-main_said laws s files d Creator body says m h = absurd (no_some m h)
-main_said laws s files d (Other bytes) body says m h = absurd (no_some m h)
+main_said laws s files d Main body says m h = sym (same_Some (main_of_files s files) m (sym (ap (read_main Main) says ∙ main_written laws s files d) ∙ h))
+main_said laws s files d FileDesc body says m h = absurd (none-some m h)
+main_said laws s files d Ifsc body says m h = absurd (none-some m h)
+main_said laws s files d Recovery body says m h = absurd (none-some m h)
+main_said laws s files d Creator body says m h = absurd (none-some m h)
+main_said laws s files d (Other bytes) body says m h = absurd (none-some m h)
 
 -- it is said of one of the files
 abbrev pub IsOfOne : {B : Type 0} → (File → B) → List File → B → Type 0
@@ -140,12 +134,12 @@ unfolding read_desc
 desc_said laws s files d FileDesc body says x h =
     let file = says.0 in
     let told = of_contained IsDescribed files file (each_described s files d) says.1 in
-    (file, says.1, sym (same_some (desc_of_file s file) x (sym (ap (read_desc FileDesc) says.2 ∙ desc_written laws s file told) ∙ h)))
-desc_said laws s files d Main body says x h = absurd (no_some x h)
-desc_said laws s files d Ifsc body says x h = absurd (no_some x h)
-desc_said laws s files d Recovery body says x h = absurd (no_some x h)
-desc_said laws s files d Creator body says x h = absurd (no_some x h)
-desc_said laws s files d (Other bytes) body says x h = absurd (no_some x h)
+    (file, says.1, sym (same_Some (desc_of_file s file) x (sym (ap (read_desc FileDesc) says.2 ∙ desc_written laws s file told) ∙ h)))
+desc_said laws s files d Main body says x h = absurd (none-some x h)
+desc_said laws s files d Ifsc body says x h = absurd (none-some x h)
+desc_said laws s files d Recovery body says x h = absurd (none-some x h)
+desc_said laws s files d Creator body says x h = absurd (none-some x h)
+desc_said laws s files d (Other bytes) body says x h = absurd (none-some x h)
 
 pub ifsc_said : AreRead → (s : ℕ) (files : List File) → AreDescribed s files → (kind : Kind) (body : List ℕ) → Says s files kind body
     → (x : IfscBody) → read_ifsc kind body ≡ Some x → IsOfOne (ifsc_of_file s) files x
@@ -153,12 +147,12 @@ unfolding read_ifsc
 ifsc_said laws s files d Ifsc body says x h =
     let file = says.0 in
     let told = of_contained IsDescribed files file (each_described s files d) says.1 in
-    (file, says.1, sym (same_some (ifsc_of_file s file) x (sym (ap (read_ifsc Ifsc) says.2 ∙ ifsc_written laws s file told) ∙ h)))
-ifsc_said laws s files d Main body says x h = absurd (no_some x h)
-ifsc_said laws s files d FileDesc body says x h = absurd (no_some x h)
-ifsc_said laws s files d Recovery body says x h = absurd (no_some x h)
-ifsc_said laws s files d Creator body says x h = absurd (no_some x h)
-ifsc_said laws s files d (Other bytes) body says x h = absurd (no_some x h)
+    (file, says.1, sym (same_Some (ifsc_of_file s file) x (sym (ap (read_ifsc Ifsc) says.2 ∙ ifsc_written laws s file told) ∙ h)))
+ifsc_said laws s files d Main body says x h = absurd (none-some x h)
+ifsc_said laws s files d FileDesc body says x h = absurd (none-some x h)
+ifsc_said laws s files d Recovery body says x h = absurd (none-some x h)
+ifsc_said laws s files d Creator body says x h = absurd (none-some x h)
+ifsc_said laws s files d (Other bytes) body says x h = absurd (none-some x h)
 
 -- the recovery slice is the true one
 abbrev pub IsTrueSlice : ℕ → List File → RecoveryBody → Type 0
@@ -172,9 +166,9 @@ recovery_said laws s files Recovery body says r h =
     let bytes = recovery s (all_slices s files) e in
     let small : e < 2 ^ 32 = omega (arith, says.1) in
     let written : RecoveryBody = record { exponent = e; bytes = bytes } in
-    subst (IsTrueSlice s files) (same_some written r (sym (ap (read_recovery Recovery) says.2 ∙ laws.recovery e bytes small) ∙ h)) refl
-recovery_said laws s files Main body says r h = absurd (no_some r h)
-recovery_said laws s files FileDesc body says r h = absurd (no_some r h)
-recovery_said laws s files Ifsc body says r h = absurd (no_some r h)
-recovery_said laws s files Creator body says r h = absurd (no_some r h)
-recovery_said laws s files (Other bytes) body says r h = absurd (no_some r h)
+    subst (IsTrueSlice s files) (same_Some written r (sym (ap (read_recovery Recovery) says.2 ∙ laws.recovery e bytes small) ∙ h)) refl
+recovery_said laws s files Main body says r h = absurd (none-some r h)
+recovery_said laws s files FileDesc body says r h = absurd (none-some r h)
+recovery_said laws s files Ifsc body says r h = absurd (none-some r h)
+recovery_said laws s files Creator body says r h = absurd (none-some r h)
+recovery_said laws s files (Other bytes) body says r h = absurd (none-some r h)

@@ -1,12 +1,13 @@
 -- Files that a create takes: in another order, and as what a set says of them.
-use Rattle.std.proofs.Common.{◌≡◌, ℕ, zero, suc, ◌+◌, ◌%◌, ◌^◌, ◌<◌, ◌≤◌, Bool, true, false, not, ◌&&◌, List, [], ◌∷◌, length, map, refl, sym, ap, ◌∙◌, subst, arith}
-use Rattle.std.specs.Prelude.{IsTrue, IsPermutation, sum_by, nat_le, nat_eq, ◌==◌, codes}
-use Rattle.std.specs.List.{AllByRecursion, list_any, starts_with, range_with_len}
-use Rattle.std.specs.Str.{bytes_eq, is_utf8}
-use Rattle.std.proofs.lemmas.Bool.{not-true, and_parts, leb-true, eqb-true}
+use Rattle.std.proofs.Common.{◌≡◌, ℕ, ◌^◌, ◌<◌, ◌≤◌, true, false, List, [], ◌∷◌, length, map, sym, ◌∙◌, subst, arith}
+use Rattle.std.specs.Prelude.{IsTrue, IsPermutation, sum_by, ◌==◌}
+use Rattle.std.specs.List.{AllByRecursion, list_any, range_with_len}
+use Rattle.std.specs.Str.{bytes_eq}
+use Rattle.std.proofs.lemmas.Bool.{not-true, leb-true}
 use Rattle.std.proofs.lemmas.List.{length-map}
 use Rattle.std.proofs.lemmas.List.Sums.{sum_by-cons}
 use Rattle.std.proofs.lemmas.List.Sorted.{IsPermutation-map, sum_by-IsPermutation, length_permutation}
+use Rattle.std.proofs.lemmas.List.FromFn.{length-range_with_len}
 use Rattle.std.proofs.lemmas.Map.Keys.{IsDistinct-IsPermutation}
 use Rattle.md5.proofs.StandardFacts.{length-md5}
 use Rattle.par2_spec.specs.Checksums.{pair_of}
@@ -15,27 +16,17 @@ use Rattle.par2_spec.specs.Names.{is_name}
 use Rattle.par2_spec.specs.Rank.{AreBytes}
 use Rattle.par2_spec.specs.Folders.{File}
 use Rattle.par2_spec.specs.Volumes.{IsFileRecord, record_of, id_of}
-use Rattle.par2_spec.specs.Sets.{is_slice_size}
 use Rattle.par2_origins.specs.Packets.{AreDescribed}
 use Rattle.par2_origins.specs.Volumes.{AreInputs}
 use Rattle.par2_origins.proofs.Bytes.{pairs_are}
-use Rattle.par2_origins.proofs.Reading.{same_bytes, itself}
 use Rattle.par2_spec.proofs.ListsLaws.{all-map}
 use Rattle.par2_spec.proofs.RankLaws.{all_weaker}
 use Rattle.par2_spec.proofs.OrderLaws.{moved-all}
+use Rattle.par2_spec.proofs.NamesLaws.{same_either_way}
+use Rattle.par2_spec.proofs.ReadLaws.{size_parts}
+use Rattle.par2_spec.proofs.NameTests.{tests_of}
 
 -- ---- in another order
-
-pub either_way : (a b : List ℕ) → bytes_eq a b ≡ bytes_eq b a
-either_way a b = same (bytes_eq a b) (bytes_eq b a) (turned a b) (turned b a)
-  where
-    turned : (x y : List ℕ) → bytes_eq x y ≡ true → bytes_eq y x ≡ true
-    turned x y h = subst (λ z. bytes_eq z x ≡ true) (same_bytes x y h) (itself x)
-
-    same : (p q : Bool) → (p ≡ true → q ≡ true) → (q ≡ true → p ≡ true) → p ≡ q
-    same true q f g = sym (f refl)
-    same false true f g = g refl
-    same false false f g = refl
 
 pub moved : (s : ℕ) (files others : List File) → IsPermutation files others → AreInputs s files → AreInputs s others
 moved s files others m is = record {
@@ -44,30 +35,18 @@ moved s files others m is = record {
   sizes = moved-all (λ file. length file.1 < 2 ^ 64) files others m is.sizes;
   bytes = moved-all (λ file. AreBytes file.1) files others m is.bytes;
   names = moved-all (λ file. IsTrue (is_name file.0)) files others m is.names;
-  names_once = IsDistinct-IsPermutation bytes_eq either_way (map (λ file. file.0) files) (map (λ file. file.0) others) (IsPermutation-map (λ file. file.0) files others m) is.names_once;
-  ids_once = IsDistinct-IsPermutation bytes_eq either_way (map id_of files) (map id_of others) (IsPermutation-map id_of files others m) is.ids_once;
+  names_once = IsDistinct-IsPermutation bytes_eq same_either_way (map (λ file. file.0) files) (map (λ file. file.0) others) (IsPermutation-map (λ file. file.0) files others m) is.names_once;
+  ids_once = IsDistinct-IsPermutation bytes_eq same_either_way (map id_of files) (map id_of others) (IsPermutation-map id_of files others m) is.ids_once;
   slices = subst (λ n. n ≤ 32768) (sym (sum_by-IsPermutation (λ file. slice_count s (length file.1)) files others m)) is.slices;
 }
 
 -- ---- what a set says of them
 
--- a multiple of 4 that is not large
-pub size_parts : (s : ℕ) → is_slice_size s ≡ true → (s % 4 ≡ 0) × (s ≤ 2 ^ 30)
-size_parts s h =
-    let two = and_parts (s % 4 == 0 && nat_le 4 s) (nat_le s (2 ^ 30)) h in
-    (eqb-true (s % 4) 0 (and_parts (s % 4 == 0) (nat_le 4 s) two.0).0, leb-true s (2 ^ 30) two.1)
-
 -- a name is short and has no zero byte
 name_parts : (name : List ℕ) → is_name name ≡ true → (length name ≤ 255) × (list_any (λ b. b == 0) name ≡ false)
-unfolding is_name
 name_parts name h =
-    let a = and_parts _ (not (starts_with nat_eq name (codes ".par2undo"))) h in
-    let b = and_parts _ (not (bytes_eq name (codes ".."))) a.0 in
-    let c = and_parts _ (not (bytes_eq name (codes "."))) b.0 in
-    let d = and_parts _ (not (list_any (λ x. x == 0) name)) c.0 in
-    let e = and_parts _ (not (list_any (λ x. x == 0x2F) name)) d.0 in
-    let f = and_parts (nat_le 1 (length name) && nat_le (length name) 255) (is_utf8 name) e.0 in
-    (leb-true (length name) 255 (and_parts (nat_le 1 (length name)) (nat_le (length name) 255) f.0).1, not-true (list_any (λ x. x == 0) name) d.1)
+    let t = tests_of name h in
+    (leb-true (length name) 255 t.short, not-true (list_any (λ b. b == 0) name) t.no_zero)
 
 -- each part of a sum is at most the sum
 each_below : {A : Type 0} (f : A → ℕ) (xs : List A) (n : ℕ) → sum_by f xs ≤ n → AllByRecursion (λ x. f x ≤ n) xs
@@ -89,13 +68,9 @@ each_input s (file ∷ files) a b c d = (record { size = a.0; bytes = b.0; name 
 inputs_are : (s : ℕ) (files : List File) → AreInputs s files → AllByRecursion (IsInput s) files
 inputs_are s files is = each_input s files is.sizes is.bytes is.names (each_below (λ file. slice_count s (length file.1)) files 32768 is.slices)
 
-range_length : (a n : ℕ) → length (range_with_len a n) ≡ n
-range_length a zero = refl
-range_length a (suc n) = ap suc (range_length (a + 1) n)
-
 -- as many pairs as slices
 pub pairs_count : (s : ℕ) (text : List ℕ) → length (map pair_of (slices s text)) ≡ slice_count s (length text)
-pairs_count s text = length-map (slices s text) pair_of ∙ length-map (range_with_len 0 (slice_count s (length text))) (slice_at s text) ∙ range_length 0 (slice_count s (length text))
+pairs_count s text = length-map (slices s text) pair_of ∙ length-map (range_with_len 0 (slice_count s (length text))) (slice_at s text) ∙ length-range_with_len 0 (slice_count s (length text))
 
 record_fits : (s : ℕ) (file : File) → IsInput s file → IsFileRecord (record_of s file)
 unfolding record_of
@@ -118,7 +93,7 @@ records_fit s files is = all-map (IsInput s) IsFileRecord (record_of s) (record_
 
 pub described : (s : ℕ) (files : List File) → AreInputs s files → AreDescribed s files
 described s files is =
-    let small = (size_parts s is.slice_size).1 in
+    let small = (size_parts s is.slice_size).2 in
     record {
       slice_size = omega (arith, small);
       few = is.few;

@@ -6,6 +6,8 @@ use Rattle.std.specs.Str.{bytes_eq}
 use Rattle.std.proofs.lemmas.Bool.{false≢true, and_from, eq-eqb}
 use Rattle.std.proofs.lemmas.List.{length-map}
 use Rattle.std.proofs.lemmas.List.Elements.{Contains-append_left, Contains-append_right}
+use Rattle.std.proofs.lemmas.Option.{same_Some}
+use Rattle.std.proofs.lemmas.Simd.{map-map}
 use Rattle.md5.specs.Md5.{md5}
 use Rattle.par2_spec.specs.declared.Kind.{Kind}
 use Rattle.par2_spec.specs.declared.Kind.TheVariants.{Main, FileDesc, Ifsc, Creator}
@@ -17,11 +19,14 @@ use Rattle.par2_spec.specs.Volumes.{FileRecord, record_of, id_of, index_packets,
 use Rattle.par2_spec.specs.Sets.{packets_with, main_of, description_of, pairs_of, target_of, target_of_file, all_some}
 use Rattle.par2_origins.specs.Packets.{AreDescribed}
 use Rattle.par2_origins.proofs.Laws.{AreRead}
-use Rattle.par2_origins.proofs.FilePackets.{of_contained, all_contained, same_some, IsDescribed, each_described, main_of_files, desc_of_file, ifsc_of_file, main_written, desc_written, ifsc_written}
-use Rattle.par2_origins.proofs.Reading.{AllSay, itself, contained_cases, map-map, by_ids, target_with, description_is, pairs_are_its, target_is}
+use Rattle.par2_origins.proofs.FilePackets.{of_contained, all_contained, IsDescribed, each_described, main_of_files, desc_of_file, ifsc_of_file, main_written, desc_written, ifsc_written}
+use Rattle.par2_origins.proofs.Reading.{AllSay, contained_cases, by_ids, description_is, pairs_are_its, target_is}
 use Rattle.par2_origins.proofs.Inputs.{pairs_count}
 use Rattle.par2_origins.proofs.VolumePackets.{index_of}
 use Rattle.par2_spec.proofs.RankLaws.{all_weaker}
+use Rattle.par2_spec.proofs.NamesLaws.{itself}
+use Rattle.par2_spec.proofs.ListsLaws.{contained_first, contained_later}
+use Rattle.par2_spec.proofs.ReadLaws.{target_with}
 
 -- ---- one of a list
 
@@ -32,12 +37,6 @@ index_map g (y ∷ xs) (suc k) x = index_map g xs k x
 
 contained_map : {A B : Type 0} (g : A → B) (xs : List A) (x : A) → Contains xs x → Contains (map g xs) (g x)
 contained_map g xs x i = (i.0, subst (λ n. i.0 < n) (sym (length-map xs g)) i.1, index_map g xs i.0 x ∙ ap g i.2)
-
-pub contained_later : {A : Type 0} (y : A) (xs : List A) (x : A) → Contains xs x → Contains (y ∷ xs) x
-contained_later y xs x i = (suc i.0, omega (arith, i.1), i.2)
-
-pub contained_first : {A : Type 0} (x : A) (xs : List A) → Contains (x ∷ xs) x
-contained_first x xs = (0, omega arith, refl)
 
 contained_filter : {A : Type 0} (test : A → Bool) (xs : List A) (x : A) → Contains xs x → test x ≡ true → Contains (filter test xs) x
 contained_filter test [] x i t = absurd (omega (arith, i.1))
@@ -67,7 +66,7 @@ read_from {B = B} read P (x ∷ xs) h = step (read x) refl h (read_from read P x
     step : (o : Option B) → read x ≡ o → AllByRecursion P (cons_option o (filter_map read xs)) → (AllByRecursion P (filter_map read xs) → AllByRecursion (λ z. (y : B) → read z ≡ Some y → P y) xs)
         → AllByRecursion (λ z. (y : B) → read z ≡ Some y → P y) (x ∷ xs)
     step None e k later = ((λ y f. absurd (false≢true (ap is_some (sym e ∙ f)))), later k)
-    step (Some z) e k later = ((λ y f. subst P (same_some z y (sym e ∙ f)) k.0), later k.1)
+    step (Some z) e k later = ((λ y f. subst P (same_Some z y (sym e ∙ f)) k.0), later k.1)
 
 some_found : {A B : Type 0} (read : A → Option B) (test : B → Bool) (xs : List A) (x : A) (y : B) → Contains xs x → read x ≡ Some y → test y ≡ true → (z : B) × (find test (filter_map read xs) ≡ Some z)
 some_found {B = B} read test xs x y i e t = step (find test (filter_map read xs)) refl

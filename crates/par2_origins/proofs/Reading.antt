@@ -1,18 +1,12 @@
 -- What a set is read as, where its packets are those of certain files.
-use Rattle.std.proofs.Common.{◌≡◌, ℕ, zero, suc, ◌+◌, ◌%◌, ◌<◌, min, arith, Bool, true, false, cond, List, [], ◌∷◌, length, map, Option, Some, None, refl, sym, ap, ◌∙◌, subst, inl, inr, ◌⊎◌, ◌&&◌}
-use Rattle.std.specs.Prelude.{◌==◌, nat_lt, filter_map, flat_map, find, slice_get, option_map, option_and_then, if◌then◌else◌}
-use Rattle.std.specs.List.{AllByRecursion, Contains, IsDistinct, cons_option, range_with_len, slice_index_or}
+use Rattle.std.proofs.Common.{◌≡◌, ℕ, zero, suc, ◌<◌, arith, Bool, true, false, List, [], ◌∷◌, length, map, Option, Some, None, refl, sym, ap, ◌∙◌, subst, inl, inr, ◌⊎◌, ◌&&◌}
+use Rattle.std.specs.Prelude.{◌==◌, nat_lt, filter_map, find, slice_get, option_map, option_and_then, if◌then◌else◌}
+use Rattle.std.specs.List.{AllByRecursion, Contains, IsDistinct, range_with_len, slice_index_or}
 use Rattle.std.specs.Str.{bytes_eq}
 use Rattle.std.specs.FinMap as map_of
-use Rattle.std.specs.FinMap.{entries-insert, len-entries, len-empty, nat_cmp-IsAntisymmetric}
-use Rattle.std.specs.FinMap.Entries.{put, by_order}
-use Rattle.std.specs.Cmp.{nat_cmp_total}
-use Rattle.std.specs.Ordering.{nat_cmp}
-use Rattle.std.specs.declared.cmp.Ordering.{Ordering}
-use Rattle.std.specs.declared.cmp.Ordering.TheVariants.{Less, Equal, Greater}
-use Rattle.std.proofs.lemmas.Slice.Eq.{bytes_eq-Decides}
 use Rattle.std.proofs.lemmas.Bool.{false≢true, and_parts, eqb-true}
-use Rattle.std.proofs.Math.Nat.{zero-div, zero-mod}
+use Rattle.std.proofs.lemmas.Option.{same_Some, none-some}
+use Rattle.std.proofs.lemmas.Simd.{map-map}
 use Rattle.md5.specs.Md5.{md5}
 use Rattle.par2_spec.specs.Checksums.{Pair, pair_of}
 use Rattle.par2_spec.specs.Slices.{slice_count, slice_at, slices}
@@ -23,56 +17,29 @@ use Rattle.par2_spec.specs.Volumes.{record_of, id_of, all_slices}
 use Rattle.par2_spec.specs.Sets.{Target, all_some, main_of, description_of, pairs_of, target_of, recovery_of, target_of_file}
 use Rattle.par2_origins.specs.Packets.{AreDescribed}
 use Rattle.par2_origins.proofs.Laws.{AreRead}
-use Rattle.par2_origins.proofs.FilePackets.{of_contained, all_contained, Says, same_some, no_some, main_of_files, desc_of_file, ifsc_of_file, main_said, desc_said, ifsc_said, recovery_said, IsOfOne, IsTrueSlice}
-use Rattle.par2_spec.proofs.ListsLaws.{all-append, all-map}
+use Rattle.par2_origins.proofs.FilePackets.{of_contained, all_contained, Says, main_of_files, desc_of_file, ifsc_of_file, main_said, desc_said, ifsc_said, recovery_said, IsOfOne, IsTrueSlice}
+use Rattle.par2_spec.proofs.ListsLaws.{all-map, all-filter_map, found_one, all_unmap}
 use Rattle.par2_spec.proofs.RankLaws.{all_weaker}
 use Rattle.par2_spec.proofs.FoundLaws.{all-filter}
-use Rattle.par2_spec.proofs.FilesLaws.{all_unmap}
-use Rattle.par2_spec.proofs.ReadLaws.{mapped}
+use Rattle.par2_spec.proofs.ReadLaws.{mapped, target_with, no_slices, all-entries}
+use Rattle.par2_spec.proofs.NamesLaws.{same_name, itself}
 
 -- ---- lists
 
-pub same_bytes : (a b : List ℕ) → bytes_eq a b ≡ true → a ≡ b
-same_bytes a b h = (bytes_eq-Decides a b).0 h
-
-pub itself : (a : List ℕ) → bytes_eq a a ≡ true
-itself a = (bytes_eq-Decides a a).1 refl
-
-all-filter_map : {A B : Type 0} (P : A → Type 0) (Q : B → Type 0) (g : A → Option B) → ((x : A) → P x → (y : B) → g x ≡ Some y → Q y) → (xs : List A) → AllByRecursion P xs → AllByRecursion Q (filter_map g xs)
-all-filter_map P Q g f [] h = tt
-all-filter_map {B = B} P Q g f (x ∷ xs) h = step (g x) refl (filter_map g xs) (all-filter_map P Q g f xs h.1)
-  where
-    step : (o : Option B) → g x ≡ o → (ys : List B) → AllByRecursion Q ys → AllByRecursion Q (cons_option o ys)
-    step None e ys k = k
-    step (Some y) e ys k = (f x h.0 y e, k)
-
-all_flat : {A B : Type 0} (P : B → Type 0) (g : A → List B) (xs : List A) → AllByRecursion (λ x. AllByRecursion P (g x)) xs → AllByRecursion P (flat_map g xs)
-all_flat P g [] h = tt
-all_flat P g (x ∷ xs) h = all-append P (g x) (flat_map g xs) h.0 (all_flat P g xs h.1)
-
--- what is found is one of them and passes
-found_one : {A : Type 0} (P : A → Type 0) (test : A → Bool) (xs : List A) → AllByRecursion P xs → (x : A) → find test xs ≡ Some x → P x × (test x ≡ true)
-found_one P test [] h x e = absurd (no_some x e)
-found_one {A = A} P test (y ∷ xs) h x e = step (test y) refl e (found_one P test xs h.1 x)
-  where
-    step : (b : Bool) → test y ≡ b → cond b (Some y) (find test xs) ≡ Some x → (find test xs ≡ Some x → P x × (test x ≡ true)) → P x × (test x ≡ true)
-    step true t k later = subst (λ z. P z × (test z ≡ true)) (same_some y x k) (h.0, t)
-    step false t k later = later k
-
 first_one : {A : Type 0} (P : A → Type 0) (xs : List A) → AllByRecursion P xs → (x : A) → slice_get xs 0 ≡ Some x → P x
-first_one P [] h x e = absurd (no_some x e)
-first_one P (y ∷ xs) h x e = subst P (same_some y x e) h.0
+first_one P [] h x e = absurd (none-some x e)
+first_one P (y ∷ xs) h x e = subst P (same_Some y x e) h.0
 
 -- items that are there are what each can only be
 all_there : {A B : Type 0} (g : A → Option B) (f : A → B) (xs : List A) → AllByRecursion (λ x. (y : B) → g x ≡ Some y → y ≡ f x) xs → (ys : List B) → all_some (map g xs) ≡ Some ys → ys ≡ map f xs
-all_there g f [] h ys e = sym (same_some [] ys e)
+all_there g f [] h ys e = sym (same_Some [] ys e)
 all_there {A = A} {B = B} g f (x ∷ xs) h ys e = step (g x) refl (all_some (map g xs)) (λ zs b. all_there g f xs h.1 zs b) e
   where
     step : (o : Option B) → g x ≡ o → (os : Option (List B)) → ((zs : List B) → os ≡ Some zs → zs ≡ map f xs) → option_and_then (λ y. option_map (λ zs. y ∷ zs) os) o ≡ Some ys → ys ≡ map f (x ∷ xs)
-    step None a os b k = absurd (no_some ys k)
-    step (Some y) a None b k = absurd (no_some ys k)
+    step None a os b k = absurd (none-some ys k)
+    step (Some y) a None b k = absurd (none-some ys k)
     step (Some y) a (Some zs) b k =
-        sym (same_some (y ∷ zs) ys k) ∙ ap (λ w. w ∷ zs) (h.0 y a) ∙ ap (λ ws. f x ∷ ws) (b zs refl)
+        sym (same_Some (y ∷ zs) ys k) ∙ ap (λ w. w ∷ zs) (h.0 y a) ∙ ap (λ ws. f x ∷ ws) (b zs refl)
 
 -- ---- one file for each File ID
 
@@ -104,16 +71,6 @@ one_by_id (x ∷ files) d a b i j e = elim (contained_cases x files a i) as (λ 
 
 -- ---- steps of the reading
 
-pub map-map : {A B C : Type 0} (f : B → C) (g : A → B) (xs : List A) → map f (map g xs) ≡ map (λ x. f (g x)) xs
-map-map f g [] = refl
-map-map f g (x ∷ xs) = ap (λ ys. f (g x) ∷ ys) (map-map f g xs)
-
-abbrev pub target_with : DescBody → List Pair → Target
-target_with x pairs = record { name = x.name; size = x.size; digest = x.digest; pairs = pairs }
-
-no_slices : (s : ℕ) → slice_count s 0 ≡ 0
-no_slices s = ap (λ q. q + min 1 (0 % s)) (zero-div s) ∙ ap (λ r. 0 + min 1 r) (zero-mod s)
-
 -- a file without bytes has no slices
 no_pairs : (s : ℕ) (text : List ℕ) → length text ≡ 0 → map pair_of (slices s text) ≡ []
 no_pairs s text e = ap (λ n. map pair_of (map (slice_at s text) (range_with_len 0 n))) (ap (slice_count s) e ∙ no_slices s)
@@ -123,32 +80,6 @@ pub by_ids : {B : Type 0} (look : List ℕ → B) (s : ℕ) (files : List File) 
 unfolding main_of_files record_of
 by_ids look s [] = refl
 by_ids look s (file ∷ files) = ap (λ os. look (id_of file) ∷ os) (by_ids look s files)
-
--- ---- a map of entries
-
-none_of_length : {A : Type 0} (xs : List A) → length xs ≡ 0 → xs ≡ []
-none_of_length [] e = refl
-none_of_length (x ∷ xs) e = absurd (omega (arith, e))
-
-no_entries : map_of.entries (map_of.empty {X = List ℕ} {R = nat_cmp}) ≡ []
-no_entries = none_of_length _ (sym (len-entries map_of.empty) ∙ len-empty nat_cmp (List ℕ))
-
--- each text is that of its number
-abbrev pub AreTexts : (ℕ → List ℕ) → List (ℕ × List ℕ) → Type 0
-AreTexts text rs = AllByRecursion (λ r. r.1 ≡ text r.0) rs
-
-put_text : (text : ℕ → List ℕ) (k : ℕ) (v : List ℕ) (rs : List (ℕ × List ℕ)) → v ≡ text k → AreTexts text rs → AreTexts text (put nat_cmp k v rs)
-put_text text k v [] e h = (e, tt)
-put_text text k v (r ∷ rs) e h = step (nat_cmp k r.0) refl (put_text text k v rs e h.1)
-  where
-    step : (o : Ordering) → nat_cmp k r.0 ≡ o → AreTexts text (put nat_cmp k v rs) → AreTexts text (by_order o ((k, v) ∷ r ∷ rs) ((r.0, v) ∷ rs) (r ∷ put nat_cmp k v rs))
-    step Less is later = (e, h)
-    step Equal is later = (e ∙ ap text (nat_cmp-IsAntisymmetric k r.0 is), h.1)
-    step Greater is later = (h.0, later)
-
-true_entries : (text : ℕ → List ℕ) (rs : List (ℕ × List ℕ)) → AreTexts text rs → AreTexts text (map_of.entries (map_of.from_entries {R = nat_cmp} rs))
-true_entries text [] h = subst (AreTexts text) (sym no_entries) tt
-true_entries text (r ∷ rs) h = subst (AreTexts text) (sym (entries-insert nat_cmp_total (map_of.from_entries rs) r.0 r.1)) (put_text text r.0 r.1 (map_of.entries (map_of.from_entries rs)) h.0 (true_entries text rs h.1))
 
 -- ---- packets that say what the files do
 
@@ -171,7 +102,7 @@ module _ (laws : AreRead) (s : ℕ) (files : List File) (d : AreDescribed s file
         where
           step : (b : Bool) → (if b then read_main p.kind p.body else None) ≡ Some x → x ≡ main_of_files s files
           step true k = main_said laws s files d p.kind p.body says x k
-          step false k = absurd (no_some x k)
+          step false k = absurd (none-some x k)
 
   -- the description of a file, where there is one
   pub description_is : (file : File) → Contains files file → (x : DescBody) → description_of packets (id_of file) ≡ Some x → x ≡ desc_of_file s file
@@ -179,7 +110,7 @@ module _ (laws : AreRead) (s : ℕ) (files : List File) (d : AreDescribed s file
   description_is file i x e =
       let found = found_one (IsOfOne (desc_of_file s) files) (λ c. bytes_eq c.id (id_of file)) (filter_map (λ p. read_desc p.kind p.body) packets)
       (all-filter_map (λ p. Says s files p.kind p.body) (IsOfOne (desc_of_file s) files) (λ p. read_desc p.kind p.body) (λ p says. desc_said laws s files d p.kind p.body says) packets say) x e in
-      let named : id_of found.0.0 ≡ id_of file = ap (λ c. c.id) (sym found.0.2) ∙ same_bytes x.id (id_of file) found.1 in
+      let named : id_of found.0.0 ≡ id_of file = ap (λ c. c.id) (sym found.0.2) ∙ same_name x.id (id_of file) found.1 in
       found.0.2 ∙ ap (desc_of_file s) (one_by_id files d.ids_once found.0.0 file found.0.1 i named)
 
   -- its checksums, where they are there
@@ -189,7 +120,7 @@ module _ (laws : AreRead) (s : ℕ) (files : List File) (d : AreDescribed s file
       let got = mapped (λ (c : IfscBody). c.pairs) (find (λ c. bytes_eq c.id (id_of file) && length c.pairs == n) (filter_map (λ p. read_ifsc p.kind p.body) packets)) ps e in
       let found = found_one (IsOfOne (ifsc_of_file s) files) (λ c. bytes_eq c.id (id_of file) && length c.pairs == n) (filter_map (λ p. read_ifsc p.kind p.body) packets)
       (all-filter_map (λ p. Says s files p.kind p.body) (IsOfOne (ifsc_of_file s) files) (λ p. read_ifsc p.kind p.body) (λ p says. ifsc_said laws s files d p.kind p.body says) packets say) got.0 got.1 in
-      let named : id_of found.0.0 ≡ id_of file = ap (λ c. c.id) (sym found.0.2) ∙ same_bytes got.0.id (id_of file) (and_parts (bytes_eq got.0.id (id_of file)) (length got.0.pairs == n) found.1).0 in
+      let named : id_of found.0.0 ≡ id_of file = ap (λ c. c.id) (sym found.0.2) ∙ same_name got.0.id (id_of file) (and_parts (bytes_eq got.0.id (id_of file)) (length got.0.pairs == n) found.1).0 in
       sym got.2 ∙ ap (λ c. c.pairs) (found.0.2 ∙ ap (ifsc_of_file s) (one_by_id files d.ids_once found.0.0 file found.0.1 i named))
 
   -- the target of a file
@@ -201,7 +132,7 @@ module _ (laws : AreRead) (s : ℕ) (files : List File) (d : AreDescribed s file
       sym got.2 ∙ ap (target_with (desc_of_file s file)) (its (n == 0) refl got.0 got.1)
     where
       its : (b : Bool) → (length file.1 == 0) ≡ b → (ps : List Pair) → (if b then Some [] else pairs_of packets (id_of file) (slice_count s (length file.1))) ≡ Some ps → ps ≡ (record_of s file).pairs
-      its true z ps k = sym (same_some [] ps k) ∙ sym (no_pairs s file.1 (eqb-true (length file.1) 0 z))
+      its true z ps k = sym (same_Some [] ps k) ∙ sym (no_pairs s file.1 (eqb-true (length file.1) 0 z))
       its false z ps k = pairs_are_its file i (slice_count s (length file.1)) ps k
 
   -- what is read of all files
@@ -218,7 +149,7 @@ module _ (laws : AreRead) (s : ℕ) (files : List File) (d : AreDescribed s file
   -- each recovery slice is the true one
   pub recovery_is : AllByRecursion (λ r. r.1 ≡ recovery s (all_slices s files) r.0) (map_of.entries (recovery_of packets s))
   recovery_is =
-      true_entries (λ e. recovery s (all_slices s files) e) _
+      all-entries (λ r. r.1 ≡ recovery s (all_slices s files) r.0) _
       (all-map (IsTrueSlice s files) (λ r. r.1 ≡ recovery s (all_slices s files) r.0) (λ r. (r.exponent, r.bytes)) (λ r h. h) _
       (all-filter (IsTrueSlice s files) (λ r. nat_lt r.exponent 65536 && length r.bytes == s) (filter_map (λ p. read_recovery p.kind p.body) packets)
       (all-filter_map (λ p. Says s files p.kind p.body) (IsTrueSlice s files) (λ p. read_recovery p.kind p.body) (λ p says. recovery_said laws s files p.kind p.body says) packets say)))

@@ -1,18 +1,20 @@
 -- What an accepted repair gives back.
 use Rattle.std.proofs.Common.{◌≡◌, ℕ, ◌+◌, ◌^◌, ◌<◌, Bool, true, false, not, List, [], ◌∷◌, ◌++◌, length, map, Option, Some, None, Ok, refl, sym, ap, ◌∙◌, subst, length-append, inl, inr, ◌⊎◌}
-use Rattle.std.specs.Prelude.{IsPermutation, is_some, nat_lt, filter, position, if◌then◌else◌}
+use Rattle.std.specs.Prelude.{IsPermutation, is_some, nat_lt, filter, if◌then◌else◌}
 use Rattle.std.specs.List.{AllByRecursion, list_all, list_any}
 use Rattle.std.specs.Str.{bytes_eq}
 use Rattle.std.specs.FinMap as map_of
-use Rattle.std.proofs.lemmas.Bool.{false≢true, not-false, and_from}
+use Rattle.std.proofs.lemmas.Bool.{false≢true, not-false, and_parts}
 use Rattle.std.proofs.lemmas.List.{length-map}
 use Rattle.std.proofs.lemmas.List.Sorted.{IsPermutation-sym, IsPermutation-map, length_permutation}
+use Rattle.std.proofs.lemmas.Option.{same_Some}
+use Rattle.std.proofs.lemmas.Simd.{map-map}
 use Rattle.par2_spec.specs.declared.Fault.{Fault}
 use Rattle.par2_spec.specs.declared.Fault.TheVariants.{NoSuchFile, NotRepairable, NameTooLong, RepairFailed}
 use Rattle.md5.specs.Md5.{md5}
 use Rattle.par2_spec.specs.Checksums.{pair_of}
 use Rattle.par2_spec.specs.Windows.{Matches, windows}
-use Rattle.par2_spec.specs.Faults.{first_fault, then_fault, fault_at, fault_where}
+use Rattle.par2_spec.specs.Faults.{first_fault, then_fault, fault_where}
 use Rattle.par2_spec.specs.Slices.{slices}
 use Rattle.par2_spec.specs.Rank.{AreBytes, is_repairable, rank, IsRepairable}
 use Rattle.par2_spec.specs.Names.{distinct}
@@ -25,24 +27,16 @@ use Rattle.par2_spec.specs.Commands.{CreateArgs, Repair, files_of}
 use Rattle.par2_spec.specs.Refusals.{refusal, after, set_in, by_set, repair_refusal}
 use Rattle.par2_origins.specs.Creates.{FollowsCreate, may_refuse, HaveAChoice}
 use Rattle.par2_origins.proofs.Laws.{AreRepaired, OthersAgree}
-use Rattle.par2_origins.proofs.FilePackets.{same_some}
-use Rattle.par2_origins.proofs.CreateInputs.{all_none, where_none, at_none, passes, names_of_files}
-use Rattle.par2_origins.proofs.Damage.{some_bytes}
-use Rattle.par2_spec.proofs.ListsLaws.{all-append}
+use Rattle.par2_origins.proofs.CreateInputs.{passes}
+use Rattle.par2_spec.proofs.ListsLaws.{all-append, all-parts, all-flat_map}
 use Rattle.par2_spec.proofs.RankLaws.{all_weaker}
 use Rattle.par2_spec.proofs.FoundLaws.{all-filter}
-use Rattle.par2_spec.proofs.AcceptedCommands.{in_full, in_part}
+use Rattle.par2_spec.proofs.AcceptedCommands.{in_full, in_part, missing, all_there}
 use Rattle.par2_spec.proofs.OrderLaws.{moved-all}
+use Rattle.par2_spec.proofs.TestLaws.{where_none, all_none, some_if}
+use Rattle.par2_spec.proofs.FilesLaws.{names_of_files}
 
 -- ---- an accepted repair
-
--- the place of the first name that is not there
-abbrev missing : Folder → List (List ℕ) → Option ℕ
-missing folder words = position (λ word. not (has folder word)) words
-
-all_there : (folder : Folder) (words : List (List ℕ)) → AllByRecursion (λ word. not (has folder word) ≡ false) words → list_all (has folder) words ≡ true
-all_there folder [] h = refl
-all_there folder (word ∷ words) h = and_from (has folder word) (list_all (has folder) words) (not-false (has folder word) h.0) (all_there folder words h.1)
 
 -- a repair over a set that reads: a further file isn't there, or the set's refusal is the answer
 record IsAsked (folder : Folder) (base : List ℕ) (extras : List (List ℕ)) (set : ParSet) (answer : Option Fault) : Type 0 where
@@ -61,10 +55,9 @@ is_asked folder base extras purge set answer h reads = step (missing folder (bas
     step : (o : Option ℕ) → missing folder (base ∷ extras) ≡ o → IsAsked folder base extras set answer ⊎ ((k : ℕ) × (answer ≡ Some (NoSuchFile k)))
     step None e =
         let is : set_in folder base extras ≡ Ok set = in_full folder base extras e ∙ reads in
-        let none : fault_at 0 NoSuchFile (λ word. not (has folder word)) (base ∷ extras) ≡ None = rw e refl in
         inl (record {
           reads = is;
-          there = all_there folder extras (at_none 0 NoSuchFile (λ word. not (has folder word)) (base ∷ extras) none).1;
+          there = (and_parts (has folder base) (list_all (has folder) extras) (all_there folder (base ∷ extras) e)).1;
           passes = ap (λ r. then_fault r asks) (sym is) ∙ h;
         })
     step (Some k) e = inr (0 + k, sym h ∙ ap (λ r. then_fault r asks) (in_part folder base extras k e))
@@ -95,8 +88,8 @@ repairable laws folder set searched h =
 -- the first cause that holds is one of few
 first_cause : (b c d : Bool) (count known : ℕ) (fault : Fault) → (b ≡ false → d ≡ false)
     → first_fault (fault_where b (NotRepairable count known) ∷ fault_where c NameTooLong ∷ fault_where d RepairFailed ∷ []) ≡ Some fault → may_refuse fault ≡ true
-first_cause true c d m r fault none h = subst (λ f. may_refuse f ≡ true) (same_some (NotRepairable m r) fault h) refl
-first_cause false true d m r fault none h = subst (λ f. may_refuse f ≡ true) (same_some NameTooLong fault h) refl
+first_cause true c d m r fault none h = subst (λ f. may_refuse f ≡ true) (same_Some (NotRepairable m r) fault h) refl
+first_cause false true d m r fault none h = subst (λ f. may_refuse f ≡ true) (same_Some NameTooLong fault h) refl
 first_cause false false true m r fault none h = absurd (false≢true (sym (none refl)))
 first_cause false false false m r fault none h = absurd (false≢true (ap is_some h))
 
@@ -116,23 +109,17 @@ all_distinct : (P : List ℕ → Type 0) (xs : List (List ℕ)) → AllByRecursi
 all_distinct P [] h = tt
 all_distinct P (x ∷ xs) h = (h.0, all-filter P (λ other. not (bytes_eq x other)) (distinct xs) (all_distinct P xs h.1))
 
-front_of : {A : Type 0} (P : A → Type 0) (xs ys : List A) → AllByRecursion P (xs ++ ys) → AllByRecursion P xs × AllByRecursion P ys
-front_of P [] ys h = (tt, h)
-front_of P (x ∷ xs) ys h = let r = front_of P xs ys h.1 in ((h.0, r.0), r.1)
-
 target_names_are : (s : ℕ) (files : List File) → map (λ t. t.name) (map (target_of_file s) files) ≡ map (λ file. file.0) files
 unfolding record_of
-target_names_are s [] = refl
-target_names_are s (file ∷ files) = ap (λ ns. file.0 ∷ ns) (target_names_are s files)
+target_names_are s files = map-map (λ t. t.name) (target_of_file s) files
 
 -- what holds of each slice of the files
 to_files : (P : List ℕ → Type 0) (s : ℕ) (files : List File) → AllByRecursion P (all_slices s files) → AllByRecursion (λ file. AllByRecursion P (slices s file.1)) files
 to_files P s [] h = tt
-to_files P s (file ∷ files) h = let r = front_of P (slices s file.1) (all_slices s files) h in (r.0, to_files P s files r.1)
+to_files P s (file ∷ files) h = let r = all-parts P (slices s file.1) (all_slices s files) h in (r.0, to_files P s files r.1)
 
 from_files : (P : List ℕ → Type 0) (s : ℕ) (files : List File) → AllByRecursion (λ file. AllByRecursion P (slices s file.1)) files → AllByRecursion P (all_slices s files)
-from_files P s [] h = tt
-from_files P s (file ∷ files) h = all-append P (slices s file.1) (all_slices s files) h.0 (from_files P s files h.1)
+from_files P s files h = all-flat_map (λ file. AllByRecursion P (slices s file.1)) P (λ file. slices s file.1) (λ file k. k) files h
 
 -- ---- the files as they were
 
@@ -162,7 +149,7 @@ module _ (order : (files : List File) → IsPermutation files (in_id_order files
 
     among_searched : (P : List ℕ → Type 0) → AllByRecursion P (a.inputs ++ extras) → AllByRecursion P searched
     among_searched P h =
-        let r = front_of P a.inputs extras h in
+        let r = all-parts P a.inputs extras h in
         let mine : AllByRecursion P (target_names m.set) =
         subst (AllByRecursion P) (sym names_are)
         (moved-all P (map (λ file. file.0) inputs) (map (λ file. file.0) ordered) (IsPermutation-map (λ file. file.0) inputs ordered (order inputs)) (subst (AllByRecursion P) (sym (names_of_files before a.inputs)) r.0)) in
@@ -202,7 +189,7 @@ module _ (order : (files : List File) → IsPermutation files (in_id_order files
   as_before : (folder : Folder) (words : List (List ℕ)) → AllByRecursion (λ word. not (has before word) ≡ false) words → AllByRecursion (λ file. map_of.get folder file.0 ≡ Some file.1) (files_of before words)
       → AllByRecursion (λ name. map_of.get folder name ≡ map_of.get before name) words
   as_before folder [] there h = tt
-  as_before folder (name ∷ words) there h = (h.0 ∙ sym (some_bytes before name (not-false (has before name) there.0)), as_before folder words there.1 h.1)
+  as_before folder (name ∷ words) there h = (h.0 ∙ sym (some_if [] (map_of.get before name) (not-false (has before name) there.0)), as_before folder words there.1 h.1)
 
   pub gives_back : AreRepaired → MadeFrom damaged base ordered s → (purge : Bool) → refusal damaged (Repair base extras purge) ≡ None
       → AllByRecursion (λ name. map_of.get (after damaged (Repair base extras purge)) name ≡ map_of.get before name) a.inputs
@@ -217,7 +204,7 @@ module _ (order : (files : List File) → IsPermutation files (in_id_order files
   few_causes laws m purge fault refused =
       elim (is_asked damaged base extras purge m.set (Some fault) refused m.reads) as (λ _. may_refuse fault ≡ true) [
         | inl is ↦ refused_for laws damaged m.set (searched m) fault (λ repairs. laws.digests damaged base extras ordered s m is.there (few m) (told m) (bytes m) repairs) is.passes
-        | inr missed ↦ subst (λ f. may_refuse f ≡ true) (sym (same_some fault (NoSuchFile missed.0) missed.1)) refl
+        | inr missed ↦ subst (λ f. may_refuse f ≡ true) (sym (same_Some fault (NoSuchFile missed.0) missed.1)) refl
       ]
 
   pub have_a_choice : OthersAgree → MadeFrom damaged base ordered s → (purge : Bool) (missing rank : ℕ) → refusal damaged (Repair base extras purge) ≡ Some (NotRepairable missing rank) → HaveAChoice before damaged a base extras

@@ -1,52 +1,23 @@
 -- A set whose packets are those of certain files was made from them.
-use Rattle.std.proofs.Common.{◌≡◌, ℕ, Bool, true, false, cond, List, [], ◌∷◌, map, Result, Ok, Err, refl, sym, ap, ◌∙◌, subst}
+use Rattle.std.proofs.Common.{◌≡◌, ℕ, true, List, ◌∷◌, map, Ok, sym, ap, ◌∙◌, subst}
 use Rattle.std.specs.Prelude.{flat_map, slice_get, ok_or}
 use Rattle.std.specs.List.{AllByRecursion}
 use Rattle.std.specs.Str.{bytes_eq}
 use Rattle.std.specs.FinMap as map_of
-use Rattle.par2_spec.specs.declared.Fault.{Fault}
 use Rattle.par2_spec.specs.declared.Fault.TheVariants.{NoPackets, NoMain, NoDescription, NoChecksums, BadSet}
 use Rattle.par2_spec.specs.Recovery.{recovery}
 use Rattle.par2_spec.specs.Folders.{Folder, File, bytes_of}
-use Rattle.par2_spec.specs.Packets.{Packet, MainBody, DescBody, accepted}
+use Rattle.par2_spec.specs.Packets.{Packet, accepted}
 use Rattle.par2_spec.specs.Volumes.{all_slices}
-use Rattle.par2_spec.specs.Sets.{ParSet, Target, MadeFrom, ◌>>=◌, unless, all_some, is_slice_size, packets_with, main_of, description_of, target_of, are_in_profile, recovery_of, read_set, other_par_names, set_of, target_of_file}
+use Rattle.par2_spec.specs.Sets.{ParSet, MadeFrom, unless, all_some, is_slice_size, packets_with, main_of, description_of, target_of, are_in_profile, recovery_of, read_set, other_par_names, set_of, target_of_file}
 use Rattle.par2_origins.specs.Packets.{AreDescribed, is_read, IsOf, AreOf, AreAllOf}
 use Rattle.par2_origins.proofs.Laws.{AreRead}
 use Rattle.par2_origins.proofs.FilePackets.{Says, packet_says, main_of_files, desc_of_file}
-use Rattle.par2_origins.proofs.Reading.{AllSay, same_bytes, main_is, descriptions_are, targets_are, recovery_is}
-use Rattle.par2_spec.proofs.ListsLaws.{all-append}
+use Rattle.par2_origins.proofs.Reading.{AllSay, main_is, descriptions_are, targets_are, recovery_is}
+use Rattle.par2_spec.proofs.ListsLaws.{all-passing, all-flat_map-map}
 use Rattle.par2_spec.proofs.RankLaws.{all_weaker}
-use Rattle.par2_spec.proofs.ReadLaws.{took, was_some}
-
--- ---- the steps of the reading, the last one first
-
-abbrev pub value_or : {A : Type 0} → A → Result A Fault → A
-value_or d (Ok a) = a
-value_or d (Err e) = d
-
-abbrev pub set_with : List ℕ → List Packet → ℕ → List Target → ParSet
-set_with id packets s targets = record { id = id; slice_size = s; targets = targets; recovery = recovery_of packets s }
-
-abbrev pub finished : List ℕ → List Packet → ℕ → List Target → Result ParSet Fault
-finished id packets s targets = Ok (set_with id packets s targets)
-
-abbrev pub by_checksums : List ℕ → List Packet → ℕ → List DescBody → Bool → Result ParSet Fault
-by_checksums id packets s described in_profile = ok_or (all_some (map (target_of packets s) described)) NoChecksums >>= finished id packets s
-
-abbrev pub by_profile : List ℕ → List Packet → ℕ → List DescBody → Result ParSet Fault
-by_profile id packets s described = unless (are_in_profile s described) BadSet >>= by_checksums id packets s described
-
-abbrev pub by_descriptions : List ℕ → List Packet → MainBody → Bool → Result ParSet Fault
-by_descriptions id packets main right_size = ok_or (all_some (map (description_of packets) main.ids)) NoDescription >>= by_profile id packets main.slice_size
-
-abbrev pub by_size : List ℕ → List Packet → MainBody → Result ParSet Fault
-by_size id packets main = unless (is_slice_size main.slice_size) BadSet >>= by_descriptions id packets main
-
-abbrev pub by_main : List ℕ → List (List ℕ) → Packet → Result ParSet Fault
-by_main base others first =
-    let packets = packets_with first.set_id (flat_map accepted (base ∷ others)) in
-    ok_or (main_of first.set_id packets) NoMain >>= by_size first.set_id packets
+use Rattle.par2_spec.proofs.ReadLaws.{took, was_some, value_or, set_with, finished, by_checksums, by_profile, by_descriptions, by_size, by_main}
+use Rattle.par2_spec.proofs.NamesLaws.{same_name}
 
 -- what is left to say of a set that was made from these files
 abbrev IsTold : ℕ → List File → ParSet → Type 0
@@ -68,18 +39,19 @@ told base others set laws s files d say h =
     let described = took (ok_or (all_some (map (description_of packets) main.0.ids)) NoDescription) (by_profile id packets n) set size.2 in
     let profile = took (unless (are_in_profile n described.0) BadSet) (by_checksums id packets n described.0) set described.2 in
     let targets = took (ok_or (all_some (map (target_of packets n) described.0)) NoChecksums) (finished id packets n) set profile.2 in
-    let made : set_with id packets n targets.0 ≡ set = ap (value_or set) targets.2 in
-    let all : AllSay s files packets = subst (λ x. AllSay s files (packets_with x (flat_map accepted (base ∷ others)))) (ap (λ p. p.id) (sym made)) say in
+    let given : ParSet = set_with id packets n targets.0 in
+    let made : given ≡ set = ap (value_or set) {x = finished id packets n targets.0} targets.2 in
+    let all : AllSay s files packets = subst (λ x. AllSay s files (packets_with x (flat_map accepted (base ∷ others)))) {y = id} (ap (λ p. p.id) {y = given} (sym {a = given} made)) say in
     let same_main : main.0 ≡ main_of_files s files = main_is laws s files d packets all id main.0 (was_some (main_of id packets) NoMain main.0 main.1) in
     let same_size : n ≡ s = ap (λ m. m.slice_size) same_main in
     let same_ds : described.0 ≡ map (desc_of_file s) files =
     descriptions_are laws s files d packets all described.0
-    (ap (λ m. all_some (map (description_of packets) m.ids)) (sym same_main) ∙ was_some (all_some (map (description_of packets) main.0.ids)) NoDescription described.0 described.1) in
+    (ap (λ m. all_some (map (description_of packets) m.ids)) {y = main.0} (sym same_main) ∙ was_some (all_some (map (description_of packets) main.0.ids)) NoDescription described.0 described.1) in
     let same_ts : targets.0 ≡ map (target_of_file s) files =
     targets_are laws s files d packets all targets.0
     (sym (ap (λ k. all_some (map (target_of packets k) described.0)) same_size ∙ ap (λ ds. all_some (map (target_of packets s) ds)) same_ds)
     ∙ was_some (all_some (map (target_of packets n) described.0)) NoChecksums targets.0 targets.1) in
-    subst (IsTold s files) made (
+    subst (IsTold s files) {x = given} made (
       same_size,
       same_ts,
       subst (λ k. AllByRecursion (λ r. r.1 ≡ recovery s (all_slices s files) r.0) (map_of.entries (recovery_of packets k))) (sym same_size) (recovery_is laws s files d packets all),
@@ -92,23 +64,13 @@ abbrev pub SaysIfOurs : List ℕ → ℕ → List File → Packet → Type 0
 SaysIfOurs id s files p = p.set_id ≡ id → Says s files p.kind p.body
 
 kept : (id : List ℕ) (s : ℕ) (files : List File) (ps : List Packet) → AllByRecursion (SaysIfOurs id s files) ps → AllSay s files (packets_with id ps)
-kept id s files [] h = tt
-kept id s files (p ∷ ps) h = step (bytes_eq p.set_id id) refl (packets_with id ps) (kept id s files ps h.1)
-  where
-    step : (b : Bool) → bytes_eq p.set_id id ≡ b → (rest : List Packet) → AllSay s files rest → AllSay s files (cond b (p ∷ rest) rest)
-    step true e rest k = (h.0 (same_bytes p.set_id id e), k)
-    step false e rest k = k
-
-of_texts : (P : Packet → Type 0) (folder : Folder) (names : List (List ℕ)) → AllByRecursion (λ name. AllByRecursion P (accepted (bytes_of folder name))) names
-    → AllByRecursion P (flat_map accepted (map (bytes_of folder) names))
-of_texts P folder [] h = tt
-of_texts P folder (name ∷ names) h = all-append P (accepted (bytes_of folder name)) (flat_map accepted (map (bytes_of folder) names)) h.0 (of_texts P folder names h.1)
+kept id s files ps h = all-passing (SaysIfOurs id s files) (λ p. Says s files p.kind p.body) (λ p. bytes_eq p.set_id id) (λ p says e. says (same_name p.set_id id e)) ps h
 
 -- where each packet of the identifier says what the files do in each text, they do together
 pub folder_says : (folder : Folder) (base id : List ℕ) (s : ℕ) (files : List File)
     → AllByRecursion (λ name. AllByRecursion (SaysIfOurs id s files) (accepted (bytes_of folder name))) (base ∷ other_par_names folder base)
     → AllSay s files (packets_with id (flat_map accepted (bytes_of folder base ∷ map (bytes_of folder) (other_par_names folder base))))
-folder_says folder base id s files h = kept id s files _ (of_texts (SaysIfOurs id s files) folder (base ∷ other_par_names folder base) h)
+folder_says folder base id s files h = kept id s files _ (all-flat_map-map (SaysIfOurs id s files) accepted (bytes_of folder) (base ∷ other_par_names folder base) h)
 
 pub made_if_said : AreRead → (folder : Folder) (base : List ℕ) (set : ParSet) (s : ℕ) (files : List File) → set_of folder base ≡ Ok set → AreDescribed s files
     → AllByRecursion (λ name. AllByRecursion (SaysIfOurs set.id s files) (accepted (bytes_of folder name))) (base ∷ other_par_names folder base) → MadeFrom folder base files s

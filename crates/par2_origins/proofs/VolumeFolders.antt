@@ -1,11 +1,12 @@
 -- A folder of volumes holds the set that was made from their files.
-use Rattle.std.proofs.Common.{◌≡◌, ℕ, ◌+◌, ◌≤◌, true, false, not, List, [], ◌∷◌, ◌++◌, length, map, Some, Ok, refl, sym, ap, ◌∙◌, subst, inl, inr, ◌⊎◌, append_assoc}
-use Rattle.std.specs.Prelude.{flat_map, filter, slice_get, ok_or, sum_by}
-use Rattle.std.specs.List.{AllByRecursion, IsDistinct}
+use Rattle.std.proofs.Common.{◌≡◌, ℕ, ◌+◌, ◌≤◌, true, false, List, [], ◌∷◌, ◌++◌, length, map, Some, Ok, refl, sym, ap, ◌∙◌, subst, inl, inr, ◌⊎◌, append_assoc}
+use Rattle.std.specs.Prelude.{flat_map, slice_get, ok_or, sum_by}
+use Rattle.std.specs.List.{AllByRecursion}
 use Rattle.std.specs.Str.{bytes_eq}
 use Rattle.std.proofs.lemmas.Bool.{false≢true, and_from, eq-eqb, le-leb}
 use Rattle.std.proofs.lemmas.List.{length-map}
 use Rattle.std.proofs.lemmas.List.Sums.{sum_by-cons}
+use Rattle.std.proofs.lemmas.Simd.{map-map}
 use Rattle.par2_spec.specs.declared.Fault.TheVariants.{NoPackets, NoMain, NoDescription, NoChecksums, BadSet}
 use Rattle.par2_spec.specs.declared.Kind.TheVariants.{Main}
 use Rattle.par2_spec.specs.Slices.{slice_count}
@@ -17,34 +18,25 @@ use Rattle.par2_spec.specs.Sets.{ParSet, MadeFrom, ◌>>=◌, unless, all_some, 
 use Rattle.par2_origins.specs.Volumes.{AreInputs, IsVolume, set_id_of, IsOfOthers, HoldsVolumes}
 use Rattle.par2_origins.proofs.Laws.{AreRead, AreKept}
 use Rattle.par2_origins.proofs.FilePackets.{main_of_files, desc_of_file}
-use Rattle.par2_origins.proofs.Reading.{AllSay, itself}
-use Rattle.par2_origins.proofs.SetsOfFiles.{finished, by_checksums, by_profile, by_descriptions, by_size, by_main, set_with, SaysIfOurs, folder_says, made_if_said}
+use Rattle.par2_origins.proofs.Reading.{AllSay}
+use Rattle.par2_origins.proofs.SetsOfFiles.{SaysIfOurs, folder_says, made_if_said}
 use Rattle.par2_origins.proofs.Inputs.{moved, described}
 use Rattle.par2_origins.proofs.VolumePackets.{index_of, slices_of, IsReadAs, volumes_read, IsOurs, volume_ours}
 use Rattle.par2_origins.proofs.Present.{main_there, descriptions_found, targets_found}
 use Rattle.par2_spec.proofs.RankLaws.{all_weaker, test_from_all}
+use Rattle.par2_spec.proofs.NamesLaws.{itself, distinct_same, distinct_from_std}
+use Rattle.par2_spec.proofs.ListsLaws.{all-map}
+use Rattle.par2_spec.proofs.ReadLaws.{set_with, finished, by_checksums, by_profile, by_descriptions, by_size, by_main}
 
 -- ---- what is described is in the profile
 
-others_stay : (x : List ℕ) (xs : List (List ℕ)) → AllByRecursion (λ y. bytes_eq x y ≡ false) xs → filter (λ y. not (bytes_eq x y)) xs ≡ xs
-others_stay x [] h = refl
-others_stay x (y ∷ xs) h = rw h.0 (ap (λ ys. y ∷ ys) (others_stay x xs h.1))
-
--- of names each once none is left out
-all_distinct : (xs : List (List ℕ)) → IsDistinct bytes_eq xs → distinct xs ≡ xs
-unfolding IsDistinct
-all_distinct [] h = refl
-all_distinct (x ∷ xs) h = ap (λ ys. x ∷ filter (λ y. not (bytes_eq x y)) ys) (all_distinct xs h.1) ∙ ap (λ ys. x ∷ ys) (others_stay x xs h.0)
-
 names_described : (s : ℕ) (files : List File) → map (λ x. x.name) (map (desc_of_file s) files) ≡ map (λ file. file.0) files
 unfolding desc_of_file record_of
-names_described s [] = refl
-names_described s (file ∷ files) = ap (λ ns. file.0 ∷ ns) (names_described s files)
+names_described s files = map-map (λ x. x.name) (desc_of_file s) files
 
 are_names : (s : ℕ) (files : List File) → AllByRecursion (λ file. is_name file.0 ≡ true) files → AllByRecursion (λ (x : DescBody). is_name x.name ≡ true) (map (desc_of_file s) files)
 unfolding desc_of_file record_of
-are_names s [] h = tt
-are_names s (file ∷ files) h = (h.0, are_names s files h.1)
+are_names s files h = all-map (λ file. is_name file.0 ≡ true) (λ (x : DescBody). is_name x.name ≡ true) (desc_of_file s) (λ file k. k) files h
 
 count_described : (s : ℕ) (files : List File) → sum_by (λ (x : DescBody). slice_count s x.size) (map (desc_of_file s) files) ≡ sum_by (λ file. slice_count s (length file.1)) files
 unfolding desc_of_file record_of
@@ -58,7 +50,7 @@ in_profile : (s : ℕ) (files : List File) → AreInputs s files → are_in_prof
 in_profile s files is =
     let ds = map (desc_of_file s) files in
     let once : length (distinct (map (λ x. x.name) ds)) ≡ length ds =
-    ap (λ ns. length (distinct ns)) (names_described s files) ∙ ap length (all_distinct (map (λ file. file.0) files) is.names_once)
+    ap (λ ns. length (distinct ns)) (names_described s files) ∙ ap length (distinct_same (map (λ file. file.0) files) (distinct_from_std (map (λ file. file.0) files) is.names_once))
     ∙ length-map files (λ file. file.0) ∙ sym (length-map files (desc_of_file s)) in
     and_from _ _
     (and_from _ _ (le-leb (sum_by (λ (x : DescBody). slice_count s x.size) ds) 32768 (subst (λ n. n ≤ 32768) (sym (count_described s files)) is.slices))

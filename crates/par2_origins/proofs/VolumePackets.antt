@@ -15,8 +15,9 @@ use Rattle.par2_spec.specs.Refusals.{are_counts}
 use Rattle.par2_origins.specs.Volumes.{AreInputs, IsVolume}
 use Rattle.par2_origins.proofs.Laws.{AreKept}
 use Rattle.par2_origins.proofs.FilePackets.{Says, of_contained, all_contained}
-use Rattle.par2_origins.proofs.Inputs.{size_parts, records_fit}
+use Rattle.par2_origins.proofs.Inputs.{records_fit}
 use Rattle.par2_spec.proofs.ListsLaws.{all-append}
+use Rattle.par2_spec.proofs.ReadLaws.{size_parts}
 
 -- the index packets of files in this order
 abbrev pub index_of : ℕ → List File → List Packet
@@ -51,7 +52,7 @@ module _ (laws : AreKept) (s : ℕ) (files : List File) (is : AreInputs s files)
   slices_read e n =
       let size = size_parts s is.slice_size in
       ap accepted (sym (append-nil (flat_map packet (slices_of s files e n))))
-      ∙ laws.slices s (main_id s (map (record_of s) files)) (all_slices s files) e n [] (length-md5 (main_bytes s (map (record_of s) files))) size.0 (omega (arith, size.1))
+      ∙ laws.slices s (main_id s (map (record_of s) files)) (all_slices s files) e n [] (length-md5 (main_bytes s (map (record_of s) files))) size.0 (omega (arith, size.2))
       ∙ ap (λ ps. slices_of s files e n ++ ps) empty_read ∙ append-nil (slices_of s files e n)
 
   both_read : (e n : ℕ) → accepted (flat_map packet (index_of s files ++ slices_of s files e n)) ≡ index_of s files ++ slices_of s files e n
