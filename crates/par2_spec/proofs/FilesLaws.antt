@@ -19,13 +19,13 @@ use Rattle.par2_spec.specs.Sets.{ParSet, Target, target_of_file, MadeFrom, is_sl
 use Rattle.par2_spec.specs.Search.{is_intact, is_needing, needing, intact_names, matches, known, lost, survivors, NoCollision}
 use Rattle.par2_spec.specs.Repairs.{aside, put_aside, names_without_match, files_of_slices, rebuilt_targets, after_repair, after_repair_and_purge, par_files, is_par_file, FitsRepair, HoldsRepaired}
 use Rattle.par2_spec.specs.Commands.{files_of}
-use Rattle.par2_spec.proofs.NamesLaws.{same_name, itself, clash, among-filter, among-append, apart_by_test, image_of}
+use Rattle.par2_spec.proofs.NamesLaws.{same_name, itself, clash, among-filter, among-append, apart_by_test}
 use Rattle.par2_spec.proofs.FoundLaws.{slice_begins, all-filter, all_by_test}
 use Rattle.par2_spec.proofs.RankLaws.{all_weaker}
 use Rattle.par2_spec.proofs.MovesLaws.{get_without}
 use Rattle.par2_spec.proofs.SearchLaws.{pairs_with, found_passes}
 use Rattle.par2_spec.proofs.ReadLaws.{sound_of, size_positive, size_parts}
-use Rattle.par2_spec.proofs.RepairLaws.{Fits, fits_all, match_free, aside_no_target, repaired_holds}
+use Rattle.par2_spec.proofs.RepairLaws.{Fits, fits_all, match_free, repaired_holds, target_no_aside}
 use Rattle.par2_spec.proofs.RestoredLaws.{IsTold, same_slices, true_slices_rebuilt, true_files}
 use Rattle.par2_spec.proofs.TestLaws.{some_if}
 use Rattle.par2_spec.proofs.ListsLaws.{all-parts, all-both, all_unmap, filter-map}
@@ -196,7 +196,7 @@ module _ (folder : Folder) (base : List ℕ) (files : List File) (s : ℕ) (sear
       holds.others q
       (apart_by_test (λ t. t.name) (λ t. not (is_needing folder m.set t)) (is_needing folder m.set) (λ t. sym (not-not (is_needing folder m.set t))) m.set.targets all.once q intact)
       (false_from_ne_true _ (λ i. clash intact (not-true _ (match_free folder m.set searched all q i).1)))
-      (false_from_ne_true _ (λ i. let r = image_of (aside folder m.set) (put_aside folder m.set) q i in clash own (subst (λ x. is_among targets x ≡ false) (sym r.2) (aside_no_target folder m.set searched all r.0))))
+      (target_no_aside folder m.set searched all (put_aside folder m.set) q own)
 
   intact_hold : ((q : List ℕ) → is_among targets q ≡ true → has folder q ≡ true → is_among searched q ≡ true) → (fs : List File) → AllByRecursion (λ file. IsNamed (target_of_file s file)) fs → AllByRecursion (IsExact folder s searched) fs
       → AllByRecursion (λ file. IsWanted file ≡ false → Holds after file) fs
@@ -259,13 +259,10 @@ module _ (folder : Folder) (base : List ℕ) (files : List File) (s : ℕ) (sear
       let none = (and_parts _ _ (and_parts _ _ (and_parts _ _ is_par).0).0).1 in
       clash none (ap not own)
 
-  no_aside : (q : List ℕ) → is_among targets q ≡ true → is_among (map (aside folder m.set) (put_aside folder m.set)) q ≡ true → ⊥
-  no_aside q own i = let r = image_of (aside folder m.set) (put_aside folder m.set) q i in clash own (subst (λ x. is_among targets x ≡ false) (sym r.2) (aside_no_target folder m.set searched all r.0))
-
   stays : (q : List ℕ) → is_among targets q ≡ true → is_among gone q ≡ false
   stays q own =
       among-append (map (aside folder m.set) (put_aside folder m.set)) (par_files folder m.set) q
-      ∙ or_from _ _ (false_from_ne_true _ (no_aside q own)) (false_from_ne_true _ (no_par_file q own))
+      ∙ or_from _ _ (target_no_aside folder m.set searched all (put_aside folder m.set) q own) (false_from_ne_true _ (no_par_file q own))
 
   all_stay : (fs : List File) → AllByRecursion (λ file. IsNamed (target_of_file s file)) fs → AllByRecursion (Holds after) fs → AllByRecursion (Holds (after_repair_and_purge folder m.set searched)) fs
   unfolding record_of

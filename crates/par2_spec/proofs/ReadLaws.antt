@@ -88,7 +88,7 @@ abbrev pub came_out : {A : Type 0} → Result A Fault → Bool
 came_out (Ok a) = true
 came_out (Err e) = false
 
-abbrev pub value_or : {A : Type 0} → A → Result A Fault → A
+abbrev value_or : {A : Type 0} → A → Result A Fault → A
 value_or d (Ok a) = a
 value_or d (Err e) = d
 
@@ -226,10 +226,22 @@ by_main base others first =
     let packets = packets_with first.set_id (flat_map accepted (base ∷ others)) in
     ok_or (main_of first.set_id packets) NoMain >>= by_size first.set_id packets
 
--- a set that reads is sound
-pub sound_set : (base : List ℕ) (others : List (List ℕ)) (set : ParSet) → read_set base others ≡ Ok set → IsSound set
+-- what was found on the way to a set that is read from these texts
+pub record IsReadBy (base : List ℕ) (others : List (List ℕ)) (set : ParSet) : Type 0 where
+  pub id : List ℕ
+  pub main : MainBody
+  pub described : List DescBody
+  pub targets : List Target
+  pub main_there : main_of id (packets_with id (flat_map accepted (base ∷ others))) ≡ Some main
+  pub size : is_slice_size main.slice_size ≡ true
+  pub described_there : all_some (map (description_of (packets_with id (flat_map accepted (base ∷ others)))) main.ids) ≡ Some described
+  pub profile : are_in_profile main.slice_size described ≡ true
+  pub targets_there : all_some (map (target_of (packets_with id (flat_map accepted (base ∷ others))) main.slice_size) described) ≡ Some targets
+  pub made : set_with id (packets_with id (flat_map accepted (base ∷ others))) main.slice_size targets ≡ set
+
+pub read_by : (base : List ℕ) (others : List (List ℕ)) (set : ParSet) → read_set base others ≡ Ok set → IsReadBy base others set
 unfolding read_set
-sound_set base others set h =
+read_by base others set h =
     let first = took (ok_or (slice_get (accepted base) 0) NoPackets) (by_main base others) set h in
     let id = first.0.set_id in
     let packets = packets_with id (flat_map accepted (base ∷ others)) in
@@ -239,18 +251,37 @@ sound_set base others set h =
     let described = took (ok_or (all_some (map (description_of packets) main.0.ids)) NoDescription) (by_profile id packets s) set size.2 in
     let profile = took (unless (are_in_profile s described.0) BadSet) (by_checksums id packets s described.0) set described.2 in
     let targets = took (ok_or (all_some (map (target_of packets s) described.0)) NoChecksums) (finished id packets s) set profile.2 in
-    let are = targets_are packets s described.0 targets.0 (was_some (all_some (map (target_of packets s) described.0)) NoChecksums targets.0 targets.1) in
-    let fits = and_parts _ (length (distinct (map (λ d. d.name) described.0)) == length described.0) (passed (are_in_profile s described.0) BadSet profile.0 profile.1) in
-    let parts = and_parts (nat_le (sum_by (λ d. slice_count s d.size) described.0) 32768) (list_all (λ d. is_name d.name) described.0) fits.0 in
-    let once : length (distinct (map (λ d. d.name) described.0)) ≡ length described.0 =
-    eqb-true _ _ fits.1 in
-    subst IsSound (ap (value_or set) targets.2)
-    (record {
-      are_names = ap (list_all is_name) are.0 ∙ list_all-map is_name (λ d. d.name) described.0 ∙ parts.1;
-      names_once = std_from_distinct _ (subst AreDistinct (sym are.0) (distinct_by_length (map (λ d. d.name) described.0) (once ∙ sym (length-map described.0 (λ d. d.name)))));
+    record {
+      id = id;
+      main = main.0;
+      described = described.0;
+      targets = targets.0;
+      main_there = was_some (main_of id packets) NoMain main.0 main.1;
       size = passed (is_slice_size s) BadSet size.0 size.1;
+      described_there = was_some (all_some (map (description_of packets) main.0.ids)) NoDescription described.0 described.1;
+      profile = passed (are_in_profile s described.0) BadSet profile.0 profile.1;
+      targets_there = was_some (all_some (map (target_of packets s) described.0)) NoChecksums targets.0 targets.1;
+      made = ap (value_or set) {x = finished id packets s targets.0} targets.2;
+    }
+
+-- a set that reads is sound
+pub sound_set : (base : List ℕ) (others : List (List ℕ)) (set : ParSet) → read_set base others ≡ Ok set → IsSound set
+sound_set base others set h =
+    let r = read_by base others set h in
+    let packets = packets_with r.id (flat_map accepted (base ∷ others)) in
+    let s = r.main.slice_size in
+    let ds = r.described in
+    let are = targets_are packets s ds r.targets r.targets_there in
+    let fits = and_parts _ (length (distinct (map (λ d. d.name) ds)) == length ds) r.profile in
+    let parts = and_parts (nat_le (sum_by (λ d. slice_count s d.size) ds) 32768) (list_all (λ d. is_name d.name) ds) fits.0 in
+    let once : length (distinct (map (λ d. d.name) ds)) ≡ length ds = eqb-true _ _ fits.1 in
+    subst IsSound r.made
+    (record {
+      are_names = ap (list_all is_name) are.0 ∙ list_all-map is_name (λ d. d.name) ds ∙ parts.1;
+      names_once = std_from_distinct _ (subst AreDistinct (sym are.0) (distinct_by_length (map (λ d. d.name) ds) (once ∙ sym (length-map ds (λ d. d.name)))));
+      size = r.size;
       pairs = are.1;
-      slices = subst (λ n. n ≤ 32768) (sym are.2) (leb-true (sum_by (λ d. slice_count s d.size) described.0) 32768 parts.0);
+      slices = subst (λ n. n ≤ 32768) (sym are.2) (leb-true (sum_by (λ d. slice_count s d.size) ds) 32768 parts.0);
       recovery = recovery_is packets s;
     })
 

@@ -143,6 +143,12 @@ module _ (folder : Folder) (set : ParSet) (given : List (List ℕ)) (fits : Fits
   pub aside_no_target : (n : List ℕ) → is_among targets (off n) ≡ false
   aside_no_target n = (or_parts _ _ (sym (among-append (names folder) targets (off n)) ∙ fits.aside_out n)).1
 
+  present_no_aside : (ns : List (List ℕ)) (q : List ℕ) → has folder q ≡ true → is_among (map off ns) q ≡ false
+  present_no_aside ns q h = false_from_ne_true _ (λ i. let r = image_of off ns q i in clash h (subst (λ x. has folder x ≡ false) (sym r.2) (aside_free r.0)))
+
+  pub target_no_aside : (ns : List (List ℕ)) (q : List ℕ) → is_among targets q ≡ true → is_among (map off ns) q ≡ false
+  target_no_aside ns q h = false_from_ne_true _ (λ i. let r = image_of off ns q i in clash h (subst (λ x. is_among targets x ≡ false) (sym r.2) (aside_no_target r.0)))
+
   -- the heads of the matches are the needing targets
   heads : map (λ m. m.0.name) (matches folder set given) ≡ wanted
   unfolding matches
@@ -243,11 +249,8 @@ module _ (folder : Folder) (set : ParSet) (given : List (List ℕ)) (fits : Fits
 
   -- no target that is needed stands there
   cleared_wanted : (q : List ℕ) → is_among wanted q ≡ true → has cleared q ≡ false
-  cleared_wanted q h = cleared_has q ∙ or_from _ _ no_aside gone
+  cleared_wanted q h = cleared_has q ∙ or_from _ _ (target_no_aside moved q (wanted_is_target q h)) gone
     where
-      no_aside : is_among (map off moved) q ≡ false
-      no_aside = false_from_ne_true _ (λ i. let r = image_of off moved q i in clash (wanted_is_target q h) (subst (λ x. is_among targets x ≡ false) (sym r.2) (aside_no_target r.0)))
-
       step : (b : Bool) → has folder q ≡ b → (not (is_among moved q) && has folder q) ≡ false
       step true k = ap (λ b. not b && has folder q) (wanted_moved q h k)
       step false k = ap (λ b. not (is_among moved q) && b) k ∙ and-false (not (is_among moved q))
@@ -260,12 +263,9 @@ module _ (folder : Folder) (set : ParSet) (given : List (List ℕ)) (fits : Fits
   cleared_match q h = elim (cases_Bool (is_among moved q)) as (λ _. map_of.get cleared (now q) ≡ map_of.get folder q) [
     | inl k ↦ ap (map_of.get cleared) (now_moved q k) ∙ get_under off folder (without moved folder) moved fits.aside_one q k ∙ sym (some_if [] (map_of.get folder q) (match_there q h))
     | inr k ↦ ap (map_of.get cleared) (now_other q k)
-        ∙ get_laid (put_under off folder moved) (without moved folder) q (ap (λ ns. is_among ns q) (map-map (λ file. file.0) (λ n. (off n, bytes_of folder n)) moved) ∙ no_aside)
+        ∙ get_laid (put_under off folder moved) (without moved folder) q (ap (λ ns. is_among ns q) (map-map (λ file. file.0) (λ n. (off n, bytes_of folder n)) moved) ∙ present_no_aside moved q (match_there q h))
         ∙ get_without moved folder q ∙ ap (λ b. cond b None (map_of.get folder q)) k
   ]
-    where
-      no_aside : is_among (map off moved) q ≡ false
-      no_aside = false_from_ne_true _ (λ i. let r = image_of off moved q i in clash (match_there q h) (subst (λ x. has folder x ≡ false) (sym r.2) (aside_free r.0)))
 
   -- ---- second: the matched targets take their matches
 
@@ -519,9 +519,6 @@ module _ (folder : Folder) (set : ParSet) (given : List (List ℕ)) (fits : Fits
 
   par_there : (q : List ℕ) → is_among (par_files folder set) q ≡ true → has folder q ≡ true
   par_there q h = has_by_names folder q ∙ (and_parts _ _ (sym (among-filter (is_par_file folder set) (names folder) q) ∙ h)).0
-
-  present_no_aside : (ns : List (List ℕ)) (q : List ℕ) → has folder q ≡ true → is_among (map off ns) q ≡ false
-  present_no_aside ns q h = false_from_ne_true _ (λ i. let r = image_of off ns q i in clash h (subst (λ x. has folder x ≡ false) (sym r.2) (aside_free r.0)))
 
   -- a par file that was taken as a match is there no more
   par_taken : (q : List ℕ) → is_among (par_files folder set) q ≡ true → is_among taken_names q ≡ true → has (after_repair folder set given) q ≡ false
