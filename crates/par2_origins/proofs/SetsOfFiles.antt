@@ -1,22 +1,21 @@
 -- A set whose packets are those of certain files was made from them.
 use Rattle.std.proofs.Common.{◌≡◌, ℕ, true, List, ◌∷◌, map, Ok, sym, ap, ◌∙◌, subst}
-use Rattle.std.specs.Prelude.{flat_map, slice_get, ok_or}
+use Rattle.std.specs.Prelude.{flat_map}
 use Rattle.std.specs.List.{AllByRecursion}
 use Rattle.std.specs.Str.{bytes_eq}
 use Rattle.std.specs.FinMap as map_of
-use Rattle.par2_spec.specs.declared.Fault.TheVariants.{NoPackets, NoMain, NoDescription, NoChecksums, BadSet}
 use Rattle.par2_spec.specs.Recovery.{recovery}
 use Rattle.par2_spec.specs.Folders.{Folder, File, bytes_of}
 use Rattle.par2_spec.specs.Packets.{Packet, accepted}
 use Rattle.par2_spec.specs.Volumes.{all_slices}
-use Rattle.par2_spec.specs.Sets.{ParSet, MadeFrom, unless, all_some, is_slice_size, packets_with, main_of, description_of, target_of, are_in_profile, recovery_of, read_set, other_par_names, set_of, target_of_file}
+use Rattle.par2_spec.specs.Sets.{ParSet, MadeFrom, all_some, packets_with, description_of, target_of, recovery_of, read_set, other_par_names, set_of, target_of_file}
 use Rattle.par2_origins.specs.Packets.{AreDescribed, is_read, IsOf, AreOf, AreAllOf}
 use Rattle.par2_origins.proofs.Laws.{AreRead}
 use Rattle.par2_origins.proofs.FilePackets.{Says, packet_says, main_of_files, desc_of_file}
 use Rattle.par2_origins.proofs.Reading.{AllSay, main_is, descriptions_are, targets_are, recovery_is}
 use Rattle.par2_spec.proofs.ListsLaws.{all-passing, all-flat_map-map}
 use Rattle.par2_spec.proofs.RankLaws.{all_weaker}
-use Rattle.par2_spec.proofs.ReadLaws.{took, was_some, value_or, set_with, finished, by_checksums, by_profile, by_descriptions, by_size, by_main}
+use Rattle.par2_spec.proofs.ReadLaws.{read_by}
 use Rattle.par2_spec.proofs.NamesLaws.{same_name}
 
 -- what is left to say of a set that was made from these files
@@ -28,33 +27,24 @@ IsTold s files set =
 -- a set of this identifier that reads, where all packets of the identifier say what the files do
 told : (base : List ℕ) (others : List (List ℕ)) (set : ParSet) (laws : AreRead) (s : ℕ) (files : List File) (d : AreDescribed s files)
     → AllSay s files (packets_with set.id (flat_map accepted (base ∷ others))) → read_set base others ≡ Ok set → IsTold s files set
-unfolding read_set main_of_files
+unfolding main_of_files
 told base others set laws s files d say h =
-    let first = took (ok_or (slice_get (accepted base) 0) NoPackets) (by_main base others) set h in
-    let id = first.0.set_id in
+    let r = read_by base others set h in
+    let id = r.id in
     let packets = packets_with id (flat_map accepted (base ∷ others)) in
-    let main = took (ok_or (main_of id packets) NoMain) (by_size id packets) set first.2 in
-    let n = main.0.slice_size in
-    let size = took (unless (is_slice_size n) BadSet) (by_descriptions id packets main.0) set main.2 in
-    let described = took (ok_or (all_some (map (description_of packets) main.0.ids)) NoDescription) (by_profile id packets n) set size.2 in
-    let profile = took (unless (are_in_profile n described.0) BadSet) (by_checksums id packets n described.0) set described.2 in
-    let targets = took (ok_or (all_some (map (target_of packets n) described.0)) NoChecksums) (finished id packets n) set profile.2 in
-    let given : ParSet = set_with id packets n targets.0 in
-    let made : given ≡ set = ap (value_or set) {x = finished id packets n targets.0} targets.2 in
-    let all : AllSay s files packets = subst (λ x. AllSay s files (packets_with x (flat_map accepted (base ∷ others)))) {y = id} (ap (λ p. p.id) {y = given} (sym {a = given} made)) say in
-    let same_main : main.0 ≡ main_of_files s files = main_is laws s files d packets all id main.0 (was_some (main_of id packets) NoMain main.0 main.1) in
+    let n = r.main.slice_size in
+    let all : AllSay s files packets = subst (λ x. AllSay s files (packets_with x (flat_map accepted (base ∷ others)))) (ap (λ p. p.id) (sym r.made)) say in
+    let same_main : r.main ≡ main_of_files s files = main_is laws s files d packets all id r.main r.main_there in
     let same_size : n ≡ s = ap (λ m. m.slice_size) same_main in
-    let same_ds : described.0 ≡ map (desc_of_file s) files =
-    descriptions_are laws s files d packets all described.0
-    (ap (λ m. all_some (map (description_of packets) m.ids)) {y = main.0} (sym same_main) ∙ was_some (all_some (map (description_of packets) main.0.ids)) NoDescription described.0 described.1) in
-    let same_ts : targets.0 ≡ map (target_of_file s) files =
-    targets_are laws s files d packets all targets.0
-    (sym (ap (λ k. all_some (map (target_of packets k) described.0)) same_size ∙ ap (λ ds. all_some (map (target_of packets s) ds)) same_ds)
-    ∙ was_some (all_some (map (target_of packets n) described.0)) NoChecksums targets.0 targets.1) in
-    subst (IsTold s files) {x = given} made (
+    let same_ds : r.described ≡ map (desc_of_file s) files =
+    descriptions_are laws s files d packets all r.described (ap (λ m. all_some (map (description_of packets) m.ids)) (sym same_main) ∙ r.described_there) in
+    let same_ts : r.targets ≡ map (target_of_file s) files =
+    targets_are laws s files d packets all r.targets
+    (sym (ap (λ k. all_some (map (target_of packets k) r.described)) same_size ∙ ap (λ ds. all_some (map (target_of packets s) ds)) same_ds) ∙ r.targets_there) in
+    subst (IsTold s files) r.made (
       same_size,
       same_ts,
-      subst (λ k. AllByRecursion (λ r. r.1 ≡ recovery s (all_slices s files) r.0) (map_of.entries (recovery_of packets k))) (sym same_size) (recovery_is laws s files d packets all),
+      subst (λ k. AllByRecursion (λ e. e.1 ≡ recovery s (all_slices s files) e.0) (map_of.entries (recovery_of packets k))) (sym same_size) (recovery_is laws s files d packets all),
     )
 
 -- ---- the packets of a folder
