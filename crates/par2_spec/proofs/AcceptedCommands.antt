@@ -1,8 +1,8 @@
 -- The changes of a command lead to its folder.
-use Rattle.std.proofs.Common.{◌≡◌, ℕ, ◌+◌, List, [], ◌∷◌, ◌++◌, refl, sym, ap, ◌∙◌, true, false, Bool, not}
+use Rattle.std.proofs.Common.{◌≡◌, ℕ, ◌+◌, List, [], ◌∷◌, ◌++◌, refl, sym, ◌∙◌, true, false, Bool, not}
 use Rattle.std.specs.Prelude.{Option, Some, None, Result, Ok, Err, position, if◌then◌else◌}
-use Rattle.std.specs.List.{list_all, position_from}
-use Rattle.std.proofs.lemmas.Bool.{and_parts, false≢true, not-false}
+use Rattle.std.specs.List.{list_all}
+use Rattle.std.proofs.lemmas.Bool.{and_parts, not-false}
 use Rattle.std.proofs.lemmas.Iterator.Adapters.{position_from-zero}
 use Rattle.par2_spec.specs.declared.Fault.{Fault}
 use Rattle.par2_spec.specs.declared.Fault.TheVariants.{NoSuchFile}
@@ -16,20 +16,21 @@ use Rattle.par2_spec.specs.Refusals.{set_in, by_set, after}
 use Rattle.par2_spec.specs.Plans.{changes_of, repair_changes, repair_removals, purge_changes, AreFewFor, LeadsToAfter}
 use Rattle.par2_spec.proofs.CommandLaws.{create_leads, removals_lead}
 use Rattle.par2_spec.proofs.CreateLaws.{create_applies}
-use Rattle.par2_spec.proofs.ReadLaws.{fits_of, came_out}
+use Rattle.par2_spec.proofs.ReadLaws.{fits_of}
 use Rattle.par2_spec.proofs.RepairLaws.{fits_all, repair_applies, repair_leads, repair_and_purge_applies, repair_and_purge_leads, purge_applies}
 use Rattle.par2_spec.proofs.TestLaws.{no_place}
 use Rattle.par2_spec.proofs.RankLaws.{test_from_all, all_weaker}
+use Rattle.par2_spec.proofs.SessionLaws.{ok_no_err}
 
 abbrev pub missing : Folder → List (List ℕ) → Option ℕ
 missing folder names = position (λ word. not (has folder word)) names
 
-pub there_from : (folder : Folder) (n : ℕ) (names : List (List ℕ)) → position_from (λ word. not (has folder word)) n names ≡ None → list_all (has folder) names ≡ true
-there_from folder n names h =
-    test_from_all (has folder) names (all_weaker (λ word. not (has folder word) ≡ false) (λ word. has folder word ≡ true) (λ word k. not-false (has folder word) k) names (no_place (λ word. not (has folder word)) n names h))
-
 pub all_there : (folder : Folder) (names : List (List ℕ)) → missing folder names ≡ None → list_all (has folder) names ≡ true
-all_there folder names h = there_from folder 0 names (sym (position_from-zero (λ word. not (has folder word)) names) ∙ h)
+all_there folder names h =
+    let test : List ℕ → Bool = (λ word. not (has folder word)) in
+    test_from_all (has folder) names
+    (all_weaker (λ word. test word ≡ false) (λ word. has folder word ≡ true) (λ word k. not-false (has folder word) k) names
+    (no_place test 0 names (sym (position_from-zero test names) ∙ h)))
 
 pub in_full : (folder : Folder) (base : List ℕ) (extras : List (List ℕ)) → missing folder (base ∷ extras) ≡ None → set_in folder base extras ≡ set_of folder base
 unfolding set_in
@@ -39,16 +40,13 @@ pub in_part : (folder : Folder) (base : List ℕ) (extras : List (List ℕ)) (k 
 unfolding set_in
 in_part folder base extras k e = rw e refl
 
-no_fault : (set : ParSet) (fault : Fault) → ◌≡◌ {A = Result ParSet Fault} (Err fault) (Ok set) → ⊥
-no_fault set fault e = false≢true (ap came_out e)
-
 -- what a set that is read in a folder with these names tells
 pub set_in_reads : (folder : Folder) (base : List ℕ) (extras : List (List ℕ)) (set : ParSet) → set_in folder base extras ≡ Ok set → (set_of folder base ≡ Ok set) × (list_all (has folder) (base ∷ extras) ≡ true)
 set_in_reads folder base extras set h = step (missing folder (base ∷ extras)) refl
   where
     step : (o : Option ℕ) → missing folder (base ∷ extras) ≡ o → (set_of folder base ≡ Ok set) × (list_all (has folder) (base ∷ extras) ≡ true)
     step None e = (sym (in_full folder base extras e) ∙ h, all_there folder (base ∷ extras) e)
-    step (Some k) e = absurd (no_fault set (NoSuchFile (0 + k)) (sym (in_part folder base extras k e) ∙ h))
+    step (Some k) e = absurd (ok_no_err set (NoSuchFile (0 + k)) (sym h ∙ in_part folder base extras k e))
 
 -- ---- what leads
 

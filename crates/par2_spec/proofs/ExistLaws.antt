@@ -1,5 +1,5 @@
 -- Slices that agree with the known ones and with the recovery slices of the kept exponents always exist.
-use Rattle.std.proofs.Common.{◌≡◌, ℕ, zero, suc, ◌+◌, ◌*◌, ◌/◌, ◌^◌, ◌<◌, ◌≤◌, List, [], ◌∷◌, length, map, drop, get_or, refl, sym, ap, ap₂, ◌∙◌, subst, true, false, Bool, inl, inr, arith}
+use Rattle.std.proofs.Common.{◌≡◌, ℕ, zero, suc, ◌+◌, ◌*◌, ◌/◌, ◌^◌, ◌<◌, ◌≤◌, List, [], ◌∷◌, length, map, drop, refl, sym, ap, ap₂, ◌∙◌, subst, true, false, Bool, inl, inr, arith}
 use Rattle.std.specs.Prelude.{bit_xor, filter, ◌==◌, replicate, slice_index, Option, Some, None, is_some, unwrap_or}
 use Rattle.std.specs.Int.Bits.{xor_assoc, xor_self, xor_zero_r}
 use Rattle.std.specs.List.{range_with_len, list_any, AllByRecursion, AllZip, Contains}
@@ -20,7 +20,7 @@ use Rattle.par2_spec.proofs.RankLaws.{kept-iff, counts, counts-iff}
 use Rattle.par2_spec.proofs.OthersLaws.{another_agrees}
 use Rattle.par2_spec.proofs.WordLaws.{byte_at, word-lt, spelled, length-spelled, bytes-spelled, word_of}
 use Rattle.par2_spec.proofs.UniqueLaws.{sums, AreElements, dot-sums, dot-lt, coefficients_are, sums-elements, lost_from, whole_row, words_are, same_words, AreTexts}
-use Rattle.par2_spec.proofs.ListsLaws.{all-map, all_unmap, all-passing, contained_later}
+use Rattle.par2_spec.proofs.ListsLaws.{all-map, all_unmap, all-passing, contained_later, of_contained}
 use Rattle.par2_spec.proofs.FoundLaws.{all-filter}
 
 -- ---- a vector times an element
@@ -54,11 +54,6 @@ length-sums (x ∷ u) (y ∷ v) e = ap suc (length-sums u v (omega (arith, e)))
 zeros_are : (n : ℕ) → IsVector n (replicate n 0)
 zeros_are zero = (refl, tt)
 zeros_are (suc n) = let rest = zeros_are n in (ap suc rest.0, (omega arith, rest.1))
-
-all_at : (P : ℕ → Type 0) (xs : List ℕ) → AllByRecursion P xs → (q k : ℕ) → k < length xs → get_or xs k q ≡ q → P q
-all_at P [] h q k lt e = absurd (omega (arith, lt))
-all_at P (x ∷ xs) h q zero lt e = subst P e h.0
-all_at P (x ∷ xs) h q (suc k) lt e = all_at P xs h.1 q k (omega (arith, lt)) e
 
 -- x and a multiple of v, by which the row gives this number
 record Moved (row x v : List ℕ) (goal : ℕ) : Type 0 where
@@ -145,7 +140,7 @@ solved is es goal small (suc m) = step (counts (kept is es) m) refl (solved is e
             | inr other ↦
                 let low : e < m = omega (arith, lt, other) in
                 let there = ((kept-iff is es e).0 c).0 in
-                let killed : dot (coefficients is e) v ≡ 0 = all_at (λ k. k < m → Kills is k v) es told.1.2 e there.0 there.1 there.2 low in
+                let killed : dot (coefficients is e) v ≡ 0 = of_contained (λ k. k < m → Kills is k v) es e told.1.2 there low in
                 ap (dot (coefficients is e)) new.is ∙ dot-sums (coefficients is e) (scaled new.factor v) before.vector long
                 ∙ ap (λ t. bit_xor t (dot (coefficients is e) before.vector)) (dot-scaled new.factor (coefficients is e) v new.small (coefficients_are e is) v_is.1 ∙ ap (mul new.factor) killed ∙ product-zero new.factor)
                 ∙ before.gives e low c

@@ -18,7 +18,7 @@ use Rattle.par2_spec.specs.Folders.{Folder, has, bytes_of, names, File, laid_ove
 use Rattle.par2_spec.proofs.FolderLaws.{same_folder}
 use Rattle.par2_spec.proofs.CommandLaws.{gone_first, none_gone}
 use Rattle.par2_spec.proofs.NamesLaws.{among-append, same_name, itself, clash, other_name, AreDistinct, not_first}
-use Rattle.par2_spec.proofs.TestLaws.{T-parts, none_if}
+use Rattle.par2_spec.proofs.TestLaws.{T-parts, none_if, cond-not}
 
 -- ---- what a changed folder has under a name
 
@@ -31,11 +31,7 @@ get_gone f n q = get-remove nat_list_cmp_total f n q ∙ ap (λ t. cond t None (
 pub get_without : (gone : List (List ℕ)) (f : Folder) (q : List ℕ) → map_of.get (without gone f) q ≡ cond (is_among gone q) None (map_of.get f q)
 get_without gone f q =
     get-retain_keys f (λ x. not (is_among gone x)) q (λ x e. ap (λ y. not (is_among gone y)) (sym (slice_cmp-IsAntisymmetric nat_cmp-IsAntisymmetric q x e)))
-    ∙ turned (is_among gone q) (map_of.get f q)
-  where
-    turned : (b : Bool) (g : Option (List ℕ)) → cond (not b) g None ≡ cond b None g
-    turned true g = refl
-    turned false g = refl
+    ∙ cond-not (is_among gone q) (map_of.get f q) None
 
 pub get_renamed : (f : Folder) (a b q : List ℕ) → map_of.get (effect f (Rename a b)) q ≡ cond (bytes_eq q b) (Some (bytes_of f a)) (cond (bytes_eq q a) None (map_of.get f q))
 unfolding effect

@@ -44,7 +44,7 @@ among-distinct (x ∷ xs) q =
     step false false true k = refl
     step false false false k = refl
 
-pub length-filter-le : (p : List ℕ → Bool) (xs : List (List ℕ)) → length (filter p xs) ≤ length xs
+length-filter-le : (p : List ℕ → Bool) (xs : List (List ℕ)) → length (filter p xs) ≤ length xs
 length-filter-le p [] = omega arith
 length-filter-le p (x ∷ xs) = step (p x) (filter p xs) (length-filter-le p xs)
   where
@@ -66,7 +66,7 @@ filter_full p (x ∷ xs) e q h =
     step true ys h k = (refl, omega (arith, k))
     step false ys h k = absurd (omega (arith, h, k))
 
-pub length-distinct-le : (xs : List (List ℕ)) → length (distinct xs) ≤ length xs
+length-distinct-le : (xs : List (List ℕ)) → length (distinct xs) ≤ length xs
 length-distinct-le [] = omega arith
 length-distinct-le (x ∷ xs) = omega (arith, length-filter-le (λ other. not (bytes_eq x other)) (distinct xs), length-distinct-le xs)
 
@@ -92,7 +92,7 @@ abbrev value_or : {A : Type 0} → A → Result A Fault → A
 value_or d (Ok a) = a
 value_or d (Err e) = d
 
-pub took : {A B : Type 0} (r : Result A Fault) (f : A → Result B Fault) (b : B) → (r >>= f) ≡ Ok b → (a : A) × (r ≡ Ok a) × (f a ≡ Ok b)
+took : {A B : Type 0} (r : Result A Fault) (f : A → Result B Fault) (b : B) → (r >>= f) ≡ Ok b → (a : A) × (r ≡ Ok a) × (f a ≡ Ok b)
 took (Ok a) f b h = (a, refl, h)
 took (Err e) f b h = absurd (false≢true (ap came_out h))
 

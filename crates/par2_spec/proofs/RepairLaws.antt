@@ -140,7 +140,7 @@ module _ (folder : Folder) (set : ParSet) (given : List (List ℕ)) (fits : Fits
   aside_free : (n : List ℕ) → has folder (off n) ≡ false
   aside_free n = has_by_names folder (off n) ∙ (or_parts _ _ (sym (among-append (names folder) targets (off n)) ∙ fits.aside_out n)).0
 
-  pub aside_no_target : (n : List ℕ) → is_among targets (off n) ≡ false
+  aside_no_target : (n : List ℕ) → is_among targets (off n) ≡ false
   aside_no_target n = (or_parts _ _ (sym (among-append (names folder) targets (off n)) ∙ fits.aside_out n)).1
 
   present_no_aside : (ns : List (List ℕ)) (q : List ℕ) → has folder q ≡ true → is_among (map off ns) q ≡ false

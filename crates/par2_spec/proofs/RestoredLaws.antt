@@ -101,10 +101,6 @@ same_slices s a b positive long e = sym (slices_joined s a positive) ∙ ap (λ 
 
 -- ---- what a set of files says
 
-name-target : (s : ℕ) (file : File) → (target_of_file s file).name ≡ file.0
-unfolding record_of
-name-target s file = refl
-
 pairs-target : (s : ℕ) (file : File) → (target_of_file s file).pairs ≡ map pair_of (slices s file.1)
 unfolding record_of
 pairs-target s file = refl

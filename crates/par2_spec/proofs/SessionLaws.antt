@@ -1,9 +1,10 @@
 -- A session is a history, and a kept session keeps its room.
-use Rattle.std.proofs.Common.{◌≡◌, ℕ, zero, suc, ◌+◌, ◌-◌, ◌≤◌, List, [], ◌∷◌, refl, sym, ap, ◌∙◌, subst, true, false, Bool, arith}
-use Rattle.std.specs.Prelude.{Option, Some, None, Result, Ok, Err, drop, replicate, length, sum_by}
+use Rattle.std.proofs.Common.{◌≡◌, ℕ, zero, suc, ◌+◌, ◌-◌, ◌≤◌, List, [], ◌∷◌, refl, sym, ap, ◌∙◌, subst, true, arith}
+use Rattle.std.specs.Prelude.{Option, Some, None, Result, Ok, Err, drop, replicate, length, sum_by, is_ok}
 use Rattle.std.specs.List.{AllByRecursion}
 use Rattle.std.proofs.lemmas.Bool.{and_parts, and_from, false≢true}
 use Rattle.std.proofs.lemmas.List.Sums.{sum_by-cons}
+use Rattle.std.proofs.Math.Seq.{drop-nil}
 use Rattle.par2_spec.specs.declared.Fault.{Fault}
 use Rattle.par2_spec.specs.Folders.{Folder}
 use Rattle.par2_spec.specs.Changes.{Change, Write, Replace, Rename, Remove, state_after, effects, are_applicable, way_back, FolderState, takes_all, state_after_all, places_taken}
@@ -16,10 +17,6 @@ use Rattle.par2_spec.specs.Opening.{leads, is_valid}
 use Rattle.par2_spec.proofs.FolderLaws.{undo_changes, undo_are_applicable, state_files, taken_are_applicable, state_all_back, way_back_taken, changes_back, with_room, more_room_all, takes_applicable}
 
 -- ---- what came out
-
-is_ok : {A E : Type 0} → Result A E → Bool
-is_ok (Ok a) = true
-is_ok (Err e) = false
 
 ok_or_else : {A E : Type 0} → A → Result A E → A
 ok_or_else a (Ok x) = x
@@ -38,7 +35,6 @@ unfolding err_or_else
 same_err x y e = ap (err_or_else x) e
 
 pub ok_no_err : {A E : Type 0} (x : A) (y : E) → ◌≡◌ {A = Result A E} (Ok x) (Err y) → ⊥
-unfolding is_ok
 ok_no_err x y e = false≢true (sym (ap is_ok e))
 
 -- ---- an entry and its way back
@@ -175,9 +171,8 @@ run_leaves start end actions n (Accepted {next = next} {action = action} {action
     drop_one_more m (folders end) next.now (folders start) (run_leaves next end rest m run is.1 ∙ ap (λ fs. next.now ∷ fs) (changed_older start next action is.0 e))
 run_leaves start end actions n (Passed {actions = rest} may run) is = run_leaves start end rest n run is.1
 
-none_dropped : {A : Type 0} (n : ℕ) (y : A) (ys : List A) → drop n [] ≡ y ∷ ys → ⊥
-none_dropped zero y ys e = let k : 0 ≡ suc (length ys) = ap length e in omega (arith, k)
-none_dropped (suc n) y ys e = let k : 0 ≡ suc (length ys) = ap length e in omega (arith, k)
+pub none_dropped : {A : Type 0} (n : ℕ) (y : A) (ys : List A) → drop n [] ≡ y ∷ ys → ⊥
+none_dropped n y ys e = let k : 0 ≡ suc (length ys) = ap length (sym (drop-nil n) ∙ e) in omega (arith, k)
 
 abbrev Undone : ℕ → History → Folder → List Folder → Type 0
 Undone n h folder older = (back : History) × Run h (replicate n Undo) n back × (folders back ≡ folder ∷ older)

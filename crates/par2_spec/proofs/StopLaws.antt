@@ -19,6 +19,7 @@ use Rattle.par2_spec.specs.Journals.{Journal, HalfwayPart, IsHalfwayPart, IsJour
 use Rattle.par2_spec.specs.Opening.{settled_journal, halfway_journal, leads, session_of, is_valid, leads_through, Opened, Settled, Halfway, taken_back, opened_if_found, opened_by_part, opened, TellsApart, session_of_opened, OpensAs, Opens, kept_in}
 use Rattle.par2_spec.proofs.FolderLaws.{undo_changes, undo_change, undo_is_applicable, effects-append, way_back-append}
 use Rattle.par2_spec.proofs.NamesLaws.{itself, same_name}
+use Rattle.par2_spec.proofs.ListsLaws.{all_get}
 
 -- ---- places in a list
 
@@ -54,11 +55,6 @@ at_place q i (x ∷ all) k h = step (bytes_eq q x) refl h (at_place q (i + 1) al
         let l : r.0 < length all = r.2 in
         (suc r.0, omega (arith, z), omega (arith, l), r.3)
 
-all_at : {A : Type 0} (P : A → Type 0) (xs : List A) (n : ℕ) (d : A) → AllByRecursion P xs → n < length xs → P (get_or xs n d)
-all_at P [] n d h lt = absurd (omega (arith, lt))
-all_at P (x ∷ xs) zero d h lt = h.0
-all_at P (x ∷ xs) (suc n) d h lt = all_at P xs n d h.1 (omega (arith, lt))
-
 -- ---- the folders that changes pass through
 
 abbrev passed : Folder → List Change → List Folder
@@ -83,9 +79,9 @@ one_folder folder cs a b apart le_a le_b e =
     let first = passed_at folder cs a folder le_a in
     let second = passed_at folder cs b folder le_b in
     sym first
-    ∙ all_at (λ g. fingerprint (get_or (passed folder cs) a folder) ≡ fingerprint g → get_or (passed folder cs) a folder ≡ g) (passed folder cs) b folder
-    (all_at (λ f. AllByRecursion (λ g. fingerprint f ≡ fingerprint g → f ≡ g) (passed folder cs)) (passed folder cs) a folder apart (omega (arith, size, le_a)))
-    (omega (arith, size, le_b)) (ap fingerprint first ∙ e ∙ sym (ap fingerprint second))
+    ∙ all_get (λ g. fingerprint (get_or (passed folder cs) a folder) ≡ fingerprint g → get_or (passed folder cs) a folder ≡ g) (passed folder cs) b folder (omega (arith, size, le_b))
+    (all_get (λ f. AllByRecursion (λ g. fingerprint f ≡ fingerprint g → f ≡ g) (passed folder cs)) (passed folder cs) a folder (omega (arith, size, le_a)) apart)
+    (ap fingerprint first ∙ e ∙ sym (ap fingerprint second))
     ∙ second
 
 -- ---- the way back of some of the changes

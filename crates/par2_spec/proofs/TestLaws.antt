@@ -1,5 +1,5 @@
 -- What holds of tests, of results and of options.
-use Rattle.std.proofs.Common.{◌≡◌, refl, sym, ap, ◌∙◌, subst, T, true, false, Bool, ◌&&◌, ℕ, ◌+◌, List, [], ◌∷◌, cond}
+use Rattle.std.proofs.Common.{◌≡◌, refl, sym, ap, ◌∙◌, subst, T, true, false, Bool, ◌&&◌, ℕ, ◌+◌, List, [], ◌∷◌, cond, not}
 use Rattle.std.specs.Prelude.{Option, Some, None, is_some, is_none, unwrap_or, Result, Err, position, option_map}
 use Rattle.std.specs.Option.{option_or}
 use Rattle.std.specs.List.{AllByRecursion, position_from}
@@ -23,13 +23,13 @@ is_true {b = false} t = absurd t
 pub by_true : {b : Bool} → b ≡ true → T b
 by_true e = subst T (sym e) tt
 
-pub T-both : (a b : Bool) → T a → T b → T (a && b)
-T-both true b h k = k
-T-both false b h k = h
-
 pub T-parts : (a b : Bool) → T (a && b) → T a × T b
 T-parts true b h = (tt, h)
 T-parts false b h = absurd h
+
+pub cond-not : {A : Type 0} (b : Bool) (x y : A) → cond (not b) x y ≡ cond b y x
+cond-not true x y = refl
+cond-not false x y = refl
 
 -- ---- options
 

@@ -1,9 +1,9 @@
 -- Bodies that were written say what was given.
-use Rattle.std.proofs.Common.{◌≡◌, ℕ, suc, ◌-◌, ◌+◌, ◌*◌, ◌/◌, ◌%◌, ◌^◌, ◌<◌, Bool, true, leb, eqb, ◌&&◌, cond, List, [], ◌∷◌, ◌++◌, length, take, drop, map, Option, Some, None, refl, sym, ap, ◌∙◌, append_assoc, arith}
+use Rattle.std.proofs.Common.{◌≡◌, ℕ, suc, ◌-◌, ◌+◌, ◌*◌, ◌/◌, ◌%◌, ◌^◌, ◌<◌, true, leb, eqb, ◌&&◌, List, [], ◌∷◌, ◌++◌, length, take, drop, map, Option, Some, None, refl, sym, ap, ◌∙◌, append_assoc, arith}
 use Rattle.std.specs.Prelude.{flat_map}
 use Rattle.std.specs.Int.{w32, w64, to_le_bytes, from_le_bytes}
 use Rattle.std.specs.List.{AllByRecursion, range_with_len}
-use Rattle.std.proofs.lemmas.Bool.{le-leb, eq-eqb, and_from}
+use Rattle.std.proofs.lemmas.Bool.{le-leb, eq-eqb, and_from, cond-true}
 use Rattle.std.proofs.lemmas.List.{take_at, drop_at, length-append, append-nil}
 use Rattle.std.proofs.lemmas.Nat.{from_le_bytes-to_le_bytes_4, from_le_bytes-to_le_bytes_8}
 use Rattle.par2_spec.specs.declared.Kind.TheVariants.{Main, Ifsc, Recovery}
@@ -40,9 +40,6 @@ items_there text head item body front (x ∷ xs) a h at is =
     let others = items_there text head item body (front ++ text x) xs (a + 1) h.1 next (is ∙ sym (append_assoc front (text x) (flat_map text xs))) in
     ap (λ (t : List ℕ). t ∷ map (λ k. bytes_at (head + item * k) item body) (range_with_len (a + 1) (length xs))) here ∙ ap (λ (ts : List (List ℕ)). text x ∷ ts) others
 
-pub if_true : {A : Type 0} (b : Bool) (x y : A) → b ≡ true → cond b x y ≡ x
-if_true b x y h = rw h refl
-
 -- ---- Main
 
 abbrev main_of : ℕ → List (List ℕ) → Option MainBody
@@ -64,7 +61,7 @@ main_reads s files low few ids =
     let t1 : leb 12 (length body) ≡ true = le-leb 12 (length body) (omega (arith, size)) in
     let t2 : eqb ((length body - 12) % 16) 0 ≡ true = eq-eqb ((length body - 12) % 16) 0 (omega (arith, size)) in
     let t3 : leb (u32_at 8 body) ((length body - 12) / 16) ≡ true = le-leb (u32_at 8 body) ((length body - 12) / 16) (omega (arith, size, count)) in
-    if_true (leb 12 (length body) && eqb ((length body - 12) % 16) 0 && leb (u32_at 8 body) ((length body - 12) / 16)) (main_of (u64_at 0 body) (items_at 12 16 (u32_at 8 body) body)) None
+    cond-true (leb 12 (length body) && eqb ((length body - 12) % 16) 0 && leb (u32_at 8 body) ((length body - 12) / 16)) (main_of (u64_at 0 body) (items_at 12 16 (u32_at 8 body) body)) None
     (and_from (leb 12 (length body) && eqb ((length body - 12) % 16) 0) (leb (u32_at 8 body) ((length body - 12) / 16)) (and_from (leb 12 (length body)) (eqb ((length body - 12) % 16) 0) t1 t2) t3)
     ∙ ap (λ (k : ℕ). main_of k (items_at 12 16 (u32_at 8 body) body)) slice
     ∙ ap (λ (k : ℕ). main_of s (items_at 12 16 k body)) count
@@ -81,7 +78,7 @@ recovery_reads e bytes lt =
     let body : List ℕ = recovery_bytes e bytes in
     let size : length body ≡ 4 + length bytes = length-append (to_le_bytes w32 e) bytes in
     let t : leb 4 (length body) ≡ true = le-leb 4 (length body) (omega (arith, size)) in
-    if_true (leb 4 (length body)) (recovery_of (u32_at 0 body) (drop 4 body)) None t
+    cond-true (leb 4 (length body)) (recovery_of (u32_at 0 body) (drop 4 body)) None t
     ∙ ap (λ (k : ℕ). recovery_of k (drop 4 body)) (u32_there [] bytes 0 e refl lt)
     ∙ ap (recovery_of e) (drop_at (to_le_bytes w32 e) bytes 4 refl)
 
@@ -125,7 +122,7 @@ ifsc_reads file long each =
     let there : items_at 16 20 n body ≡ map pair_bytes file.pairs = items_there pair_bytes 16 20 body file.id file.pairs 0 lens long refl in
     let t1 : leb 16 (length body) ≡ true = le-leb 16 (length body) (omega (arith, size)) in
     let t2 : eqb ((length body - 16) % 20) 0 ≡ true = eq-eqb ((length body - 16) % 20) 0 (omega (arith, size)) in
-    if_true (leb 16 (length body) && eqb ((length body - 16) % 20) 0) (ifsc_of (bytes_at 0 16 body) (map pair_in (items_at 16 20 ((length body - 16) / 20) body))) None
+    cond-true (leb 16 (length body) && eqb ((length body - 16) % 20) 0) (ifsc_of (bytes_at 0 16 body) (map pair_in (items_at 16 20 ((length body - 16) / 20) body))) None
     (and_from (leb 16 (length body)) (eqb ((length body - 16) % 20) 0) t1 t2)
     ∙ ap (λ (t : List ℕ). ifsc_of t (map pair_in (items_at 16 20 ((length body - 16) / 20) body))) (take_at file.id rest 16 long)
     ∙ ap (λ (k : ℕ). ifsc_of file.id (map pair_in (items_at 16 20 k body))) count

@@ -2,14 +2,14 @@
 use Rattle.std.proofs.Common.{◌≡◌, ℕ, zero, suc, ◌-◌, ◌+◌, ◌%◌, ◌^◌, ◌<◌, Bool, true, false, leb, eqb, cond, List, [], ◌∷◌, ◌++◌, length, drop, reverse, replicate, Option, Some, None, refl, sym, ap, ◌∙◌, append_assoc, arith}
 use Rattle.std.specs.Int.{w64, to_le_bytes}
 use Rattle.std.specs.List.{list_any, prefix_len, suffix_len}
-use Rattle.std.proofs.lemmas.Bool.{le-leb, or_parts, or_from, eq-eqb}
+use Rattle.std.proofs.lemmas.Bool.{le-leb, or_parts, or_from, eq-eqb, cond-true}
 use Rattle.std.proofs.lemmas.List.{take_at, drop_at, length-append, length-replicate, reverse-append, replicate_more}
 use Rattle.std.proofs.lemmas.List.Folds.{list_any-append, prefix_len-append, prefix_len-replicate}
 use Rattle.par2_spec.specs.declared.Kind.TheVariants.{FileDesc}
 use Rattle.par2_spec.specs.Packets.{bytes_at, u64_at, without_end_zeros, DescBody, read_desc}
 use Rattle.par2_spec.specs.Volumes.{FileRecord, desc_bytes, padded_4}
 use Rattle.par2_spec.proofs.WrittenPackets.{part_at, len3}
-use Rattle.par2_spec.proofs.WrittenBodies.{u64_there, if_true}
+use Rattle.par2_spec.proofs.WrittenBodies.{u64_there}
 
 -- ---- zeros at the end
 
@@ -92,7 +92,7 @@ desc_reads file i d s low none =
     let e5 : without_end_zeros (drop 56 body) ≡ file.name =
     ap without_end_zeros (ap (drop 56) (at_56 file.id file.digest file.digest_16k n name) ∙ drop_at (file.id ++ (file.digest ++ (file.digest_16k ++ n))) name 56 size56)
     ∙ stripped-padded file.name ((4 - length file.name % 4) % 4) none in
-    if_true (leb 56 (length body)) (desc_of (bytes_at 0 16 body) (bytes_at 16 16 body) (bytes_at 32 16 body) (u64_at 48 body) (without_end_zeros (drop 56 body))) None t
+    cond-true (leb 56 (length body)) (desc_of (bytes_at 0 16 body) (bytes_at 16 16 body) (bytes_at 32 16 body) (u64_at 48 body) (without_end_zeros (drop 56 body))) None t
     ∙ ap (λ (x : List ℕ). desc_of x (bytes_at 16 16 body) (bytes_at 32 16 body) (u64_at 48 body) (without_end_zeros (drop 56 body))) e1
     ∙ ap (λ (x : List ℕ). desc_of file.id x (bytes_at 32 16 body) (u64_at 48 body) (without_end_zeros (drop 56 body))) e2
     ∙ ap (λ (x : List ℕ). desc_of file.id file.digest x (u64_at 48 body) (without_end_zeros (drop 56 body))) e3
