@@ -3,7 +3,7 @@ use Rattle.std.proofs.Common.{◌≡◌, ℕ, ◌<◌, ◌^◌, false, List, [],
 use Rattle.std.specs.Prelude.{IsTrue, ◌==◌}
 use Rattle.std.specs.List.{AllByRecursion, Contains, list_any}
 use Rattle.std.proofs.lemmas.List.{length-map}
-use Rattle.std.proofs.lemmas.List.Elements.{All-contains, All-from_recursion, recursion_from_All, All-contains_itself}
+use Rattle.std.proofs.lemmas.List.Elements.{recursion_from_All, All-contains_itself}
 use Rattle.std.proofs.lemmas.Option.{same_Some, none-some}
 use Rattle.md5.proofs.StandardFacts.{length-md5}
 use Rattle.par2_spec.specs.declared.Kind.{Kind}
@@ -16,12 +16,9 @@ use Rattle.par2_spec.specs.Volumes.{FileRecord, record_of, all_slices, main_byte
 use Rattle.par2_origins.specs.Packets.{AreDescribed, is_read, IsOf}
 use Rattle.par2_origins.proofs.Laws.{AreRead}
 use Rattle.par2_origins.proofs.Bytes.{pairs_are}
-use Rattle.par2_spec.proofs.ListsLaws.{all-append}
+use Rattle.par2_spec.proofs.ListsLaws.{all-append, of_contained}
 
 -- ---- what holds of each
-
-pub of_contained : {A : Type 0} (P : A → Type 0) (xs : List A) (x : A) → AllByRecursion P xs → Contains xs x → P x
-of_contained P xs x h i = All-contains P xs x (All-from_recursion P xs h) i
 
 pub all_contained : {A : Type 0} (xs : List A) → AllByRecursion (Contains xs) xs
 all_contained xs = recursion_from_All (Contains xs) xs (All-contains_itself xs)

@@ -19,13 +19,13 @@ use Rattle.par2_spec.specs.Volumes.{FileRecord, record_of, id_of, index_packets,
 use Rattle.par2_spec.specs.Sets.{packets_with, main_of, description_of, pairs_of, target_of, target_of_file, all_some}
 use Rattle.par2_origins.specs.Packets.{AreDescribed}
 use Rattle.par2_origins.proofs.Laws.{AreRead}
-use Rattle.par2_origins.proofs.FilePackets.{of_contained, all_contained, IsDescribed, each_described, main_of_files, desc_of_file, ifsc_of_file, main_written, desc_written, ifsc_written}
+use Rattle.par2_origins.proofs.FilePackets.{all_contained, IsDescribed, each_described, main_of_files, desc_of_file, ifsc_of_file, main_written, desc_written, ifsc_written}
 use Rattle.par2_origins.proofs.Reading.{AllSay, contained_cases, by_ids, description_is, pairs_are_its, target_is}
 use Rattle.par2_origins.proofs.Inputs.{pairs_count}
 use Rattle.par2_origins.proofs.VolumePackets.{index_of}
 use Rattle.par2_spec.proofs.RankLaws.{all_weaker}
 use Rattle.par2_spec.proofs.NamesLaws.{itself}
-use Rattle.par2_spec.proofs.ListsLaws.{contained_first, contained_later}
+use Rattle.par2_spec.proofs.ListsLaws.{contained_first, contained_later, of_contained}
 use Rattle.par2_spec.proofs.ReadLaws.{target_with}
 
 -- ---- one of a list

@@ -17,8 +17,8 @@ use Rattle.par2_spec.specs.Volumes.{record_of, id_of, all_slices}
 use Rattle.par2_spec.specs.Sets.{Target, all_some, main_of, description_of, pairs_of, target_of, recovery_of, target_of_file}
 use Rattle.par2_origins.specs.Packets.{AreDescribed}
 use Rattle.par2_origins.proofs.Laws.{AreRead}
-use Rattle.par2_origins.proofs.FilePackets.{of_contained, all_contained, Says, main_of_files, desc_of_file, ifsc_of_file, main_said, desc_said, ifsc_said, recovery_said, IsOfOne, IsTrueSlice}
-use Rattle.par2_spec.proofs.ListsLaws.{all-map, all-filter_map, found_one, all_unmap}
+use Rattle.par2_origins.proofs.FilePackets.{all_contained, Says, main_of_files, desc_of_file, ifsc_of_file, main_said, desc_said, ifsc_said, recovery_said, IsOfOne, IsTrueSlice}
+use Rattle.par2_spec.proofs.ListsLaws.{all-map, all-filter_map, found_one, all_unmap, of_contained}
 use Rattle.par2_spec.proofs.RankLaws.{all_weaker}
 use Rattle.par2_spec.proofs.FoundLaws.{all-filter}
 use Rattle.par2_spec.proofs.ReadLaws.{mapped, target_with, no_slices, all-entries}

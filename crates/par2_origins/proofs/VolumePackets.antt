@@ -14,9 +14,9 @@ use Rattle.par2_spec.specs.Volumes.{FileRecord, record_of, all_slices, in_id_ord
 use Rattle.par2_spec.specs.Refusals.{are_counts}
 use Rattle.par2_origins.specs.Volumes.{AreInputs, IsVolume}
 use Rattle.par2_origins.proofs.Laws.{AreKept}
-use Rattle.par2_origins.proofs.FilePackets.{Says, of_contained, all_contained}
+use Rattle.par2_origins.proofs.FilePackets.{Says, all_contained}
 use Rattle.par2_origins.proofs.Inputs.{records_fit}
-use Rattle.par2_spec.proofs.ListsLaws.{all-append}
+use Rattle.par2_spec.proofs.ListsLaws.{all-append, of_contained}
 use Rattle.par2_spec.proofs.ReadLaws.{size_parts}
 
 -- the index packets of files in this order
