@@ -1,6 +1,6 @@
 -- What a session's answer to a repair says of its folder.
 use Rattle.std.proofs.Common.{◌≡◌, ◌∙◌, ℕ, List, ◌∷◌, map, Bool, Result, Ok, Err, refl, sym, ap, subst}
-use Rattle.std.specs.Prelude.{Option, Some, None, IsTrue, OnOk, IfOk, IfErr}
+use Rattle.std.specs.Prelude.{Option, Some, None, IsTrue, OnOk, IfOk}
 use Rattle.par2_spec.specs.Commands.{Command, Repair, Action, Do}
 use Rattle.par2_spec.specs.Folders.{Folder}
 use Rattle.par2_spec.specs.History.{History, folders, history_after, in_front, unless_refused}
@@ -68,12 +68,3 @@ module _ (s t : Session) (base : List ℕ) (extras : List (List ℕ)) (purge : B
   unfolding history_after history_of
   stands_in_front (Ok a) law valid step leads = put_in_front (history_of s) (history_of t) (refusal s.folder command) (law s t (Do command) valid leads step)
   stands_in_front (Err e) law valid step leads = tt
-
--- what follows from an answer follows where that answer comes
-pub on_ok : {A E P Q : Type 0} (r : Result A E) → OnOk r P → (P → Q) → OnOk r Q
-on_ok (Ok a) h next = next h
-on_ok (Err e) h next = tt
-
-pub if_err : {A E : Type 0} {P Q : E → Type 0} (r : Result A E) → IfErr r P → ((e : E) → P e → Q e) → IfErr r Q
-if_err (Ok a) h next = tt
-if_err (Err e) h next = next e h

@@ -1,7 +1,6 @@
 -- Undos, one after the other, lead through the older folders.
-use Rattle.std.proofs.Common.{◌≡◌, ◌≢◌, ◌∙◌, ℕ, suc, ◌+◌, ◌-◌, ◌<◌, List, [], ◌∷◌, ◌++◌, drop, length, replicate, Result, Ok, Err, refl, sym, ap, subst, add-one, arith}
+use Rattle.std.proofs.Common.{◌≡◌, ◌≢◌, ◌∙◌, ℕ, suc, ◌+◌, ◌-◌, ◌<◌, List, [], ◌∷◌, ◌++◌, drop, replicate, Result, Ok, Err, refl, sym, ap, subst, add-one, arith}
 use Rattle.std.specs.Prelude.{◌↔◌, IsErr, IsTrue, OnOk}
-use Rattle.std.proofs.Math.Seq.{drop-nil}
 use Rattle.std.proofs.lemmas.Bool.{false≢true}
 use Rattle.std.proofs.lemmas.List.{replicate_more}
 use Rattle.par2_spec.specs.Changes.{Change}
@@ -13,6 +12,7 @@ use Rattle.par2_spec.specs.Plans.{LeadsToAfterAsked}
 use Rattle.par2_spec.specs.Sessions.{KeptSession, Session, folders_along, history_of, session_after, changes_asked, session_of_kept, session_with, kept_undone}
 use Rattle.par2_journal.specs.Ready.{next_of}
 use Rattle.par2_headline.proofs.RepairAnswers.{GoesAlong}
+use Rattle.par2_spec.proofs.SessionLaws.{none_dropped}
 
 -- the laws that a session goes where its history goes, and a kept session where the session goes
 pub record AreLaws : Type 0 where
@@ -44,11 +44,6 @@ one_more : (h mid end : History) (n : ℕ) → Run h (replicate n Undo) n mid �
 one_more h mid end n run step =
     subst (λ actions. Run h actions (n + 1) end) (replicate_more n Undo)
     (subst (λ k. Run h (replicate n Undo ++ Undo ∷ []) k end) (sym (add-one n)) (run_on Undo run step))
-
--- no folder is left beyond the oldest
-none_beyond : (m : ℕ) (folder : Folder) (older : List Folder) → drop m [] ≡ folder ∷ older → ⊥
-none_beyond m folder older e =
-    let none : length {A = Folder} [] ≡ suc (length older) = ap length (sym (drop-nil m) ∙ e) in omega (arith, none)
 
 -- an accepted undo leaves one folder fewer
 one_fewer : (m : ℕ) (now : Folder) (older newer fs : List Folder) (next : History) → after_undo now older newer ≡ Ok next → drop (suc m) (now ∷ older) ≡ fs → drop m (folders next) ≡ fs
@@ -84,4 +79,4 @@ module _ (laws : AreLaws) (start end : History) (old new : KeptSession) (n i : �
   unfolding left history_of folders_along
   next_is_accepted (Ok done) refused after_undo = goes_on (λ none. false≢true (refused.1 none)) after_undo
   next_is_accepted (Err fault) refused after_undo =
-      absurd (none_beyond left start.now start.older (ap (λ undos. drop left (folders_along old.folder.files undos)) (sym (refused.0 refl)) ∙ ahead))
+      absurd (none_dropped left start.now start.older (ap (λ undos. drop left (folders_along old.folder.files undos)) (sym (refused.0 refl)) ∙ ahead))
