@@ -77,17 +77,6 @@ pub tail_before : (tails tail : List ℕ) (at j before n : ℕ) → at ≤ lengt
 tail_before tails tail at j before n room low =
     same_parts (put_mid at j tails tail) tails at before n low (take-put_mid_below at j tails tail at (omega arith) room)
 
-pub tails_len : (tails tail : List ℕ) (at j : ℕ) → at + 128 ≤ length tails → length tail ≡ 128 → j ≡ 128 → length (put_mid at j tails tail) ≡ length tails
-tails_len tails tail at j room size j_is =
-    omega (
-      arith,
-      length-append (take at tails) (tail ++ drop j (drop at tails)),
-      length-append tail (drop j (drop at tails)),
-      length-take-le at tails (omega arith),
-      length-drop j (drop at tails),
-      length-drop at tails,
-    )
-
 -- ---- a padded message p
 
 -- its whole blocks stand in the text

@@ -1,11 +1,12 @@
 -- A message on its way to its digest.
-use Rattle.std.proofs.Common.{◌≡◌, ℕ, ◌+◌, ◌-◌, ◌*◌, ◌/◌, ◌%◌, ◌≤◌, ◌<◌, List, [], ◌∷◌, Option, Some, None, length, take, drop, ◌++◌, refl, ap, ap₂, sym, subst, ◌∙◌, arith, get_or, length-append, length-drop}
+use Rattle.std.proofs.Common.{◌≡◌, ℕ, ◌+◌, ◌-◌, ◌*◌, ◌/◌, ◌%◌, ◌≤◌, ◌<◌, List, [], ◌∷◌, Option, Some, None, length, take, drop, ◌++◌, refl, ap, ap₂, sym, subst, ◌∙◌, arith, get_or, length-drop}
 use Rattle.std.proofs.lemmas.List.{drop_at, drop-drop, get_or-map, length-take-le, take-append-le, take_all}
 use Rattle.md5.specs.Md5.{hash_after}
 use Rattle.par2_digests.specs.Feeds.{hash_behind, bytes_left}
 use Rattle.par2_digests.specs.Tasks.{HasBlocks, HaveBlocks, LeadsTo, LeadsWith, work, work_of, works}
 use Rattle.par2_digests.specs.declared.tasks.Task.{Task}
 use Rattle.par2_digests.proofs.FeedLaws.{blocks_alike, blocks_first, end_goes_on, goes_on}
+use Rattle.par2_digests.proofs.LaneLaws.{each_lane}
 use borrow.Rule.Slice.PartMut.{put_mid}
 
 drop_none : (bytes : List ℕ) → bytes ≡ drop 0 bytes
@@ -99,19 +100,21 @@ blocks_at blocks some at j room size =
     ∙ take-append-le j some (drop j (drop at blocks)) (omega arith)
     ∙ take_all j some (omega arith)
 
-pub blocks_len : (blocks some : List ℕ) (at j : ℕ) → at + j ≤ length blocks → length some ≡ j → length (put_mid at j blocks some) ≡ length blocks
-blocks_len blocks some at j room size =
-    omega (
-      arith,
-      length-append (take at blocks) (some ++ drop j (drop at blocks)),
-      length-append some (drop j (drop at blocks)),
-      length-take-le at blocks (omega arith),
-      length-drop j (drop at blocks),
-      length-drop at blocks,
-    )
-
 pub shrink_same : (at : Task → Task) (new old : Task) → ((d : Task) → at d ≡ old) → (d : Task) → work new ≤ work (at d) - 1 → work new ≤ work old - 1
 shrink_same at new old same d held = subst (λ (t : Task). work new ≤ work t - 1) (same d) held
+
+-- no hash value is there yet, and a task of n that begin leaves these bytes
+abbrev pub Begins : ℕ → (ℕ → List ℕ) → ℕ → Task → Type 0
+Begins n bytes k task = (task.hash ≡ None) × (k < n → bytes_left task.feed ≡ bytes k)
+
+-- each of eight tasks begins
+pub eight_begin : (n : ℕ) (bytes : ℕ → List ℕ) (tasks : List Task) (none : Task)
+    → Begins n bytes 0 (get_or tasks 0 none) → Begins n bytes 1 (get_or tasks 1 none) → Begins n bytes 2 (get_or tasks 2 none) → Begins n bytes 3 (get_or tasks 3 none)
+    → Begins n bytes 4 (get_or tasks 4 none) → Begins n bytes 5 (get_or tasks 5 none) → Begins n bytes 6 (get_or tasks 6 none) → Begins n bytes 7 (get_or tasks 7 none)
+    → (k : ℕ) → k < 8 → k < n → ((get_or tasks k none).hash ≡ None) × (bytes_left (get_or tasks k none).feed ≡ bytes k)
+eight_begin n bytes tasks none b0 b1 b2 b3 b4 b5 b6 b7 k low within =
+    let begins = each_lane (λ i. Begins n bytes i (get_or tasks i none)) b0 b1 b2 b3 b4 b5 b6 b7 k low in
+    (begins.0, begins.1 within)
 
 -- ---- the beginning of a task: q blocks of m are taken in, and the rest of m and x are left
 

@@ -2,7 +2,8 @@ use Rattle.std.proofs.Common.{◌≡◌, ◌+◌, ◌-◌, ◌*◌, ◌++◌, �
 use Rattle.std.proofs.lemmas.List.{length-take-le}
 use Rattle.md5.specs.Md5.{padding}
 use Rattle.par2_digests.specs.Tails.{tail_len}
-use Rattle.par2_digests.proofs.TailLaws.{tail_at, tail_before, tail_fits, tails_len}
+use borrow.Rule.Slice.PartMut.{same_len_mid}
+use Rattle.par2_digests.proofs.TailLaws.{tail_at, tail_before, tail_fits}
 use Rattle.par2_digests.proofs.padding.tails_of_windows.Goals as goal
 
 pub loop-k-preserved : goal.loop-k-preserved
@@ -17,7 +18,7 @@ loop-k-preserved c =
     let size : length tail ≡ 128 =
     c.copy_from_slice.ensures.len ∙ length-take-le (at + 128 - at) (drop at tails) (omega (arith, length-drop at tails)) ∙ lent in
     record {
-      count = tails_len tails tail at _ room size lent ∙ c.loop-k.invariant.count;
+      count = same_len_mid at _ tails tail c.copy_from_slice.ensures.len ∙ c.loop-k.invariant.count;
       done =
           below_more _ _
           (λ j h.

@@ -3,11 +3,11 @@ use Rattle.std.proofs.lemmas.Bool.{cases_lt}
 use Rattle.std.proofs.lemmas.List.{get_or_default, length-drop, length-take-le}
 use Rattle.md5.specs.Md5.{digest_bytes}
 use Rattle.par2_digests.specs.declared.pending.Pending.{Pending}
-use borrow.Rule.Slice.PartMut.{put_mid}
+use borrow.Rule.Slice.PartMut.{put_mid, same_len_mid}
 use Rattle.par2_digests.proofs.LaneLaws.{each_lane}
 use Rattle.par2_digests.proofs.PendingLaws.{hash_in_text}
 use Rattle.par2_digests.proofs.TailLaws.{tail_before}
-use Rattle.par2_digests.proofs.TaskLaws.{blocks_at, blocks_len}
+use Rattle.par2_digests.proofs.TaskLaws.{blocks_at}
 use Rattle.par2_digests.proofs.pending.state_of.Goals as goal
 
 pub loop-k-preserved : goal.loop-k-preserved
@@ -22,7 +22,7 @@ loop-k-preserved g c =
     let room : start + len ≤ length bytes = omega (arith, held.size, c.loop-k-test.true, c.requires.few) in
     let size : length hash ≡ len = c.copy_from_slice.ensures.len ∙ length-take-le len (drop start bytes) (omega (arith, room, length-drop start bytes)) in
     record {
-      size = blocks_len bytes hash start len room size ∙ held.size;
+      size = same_len_mid start len bytes hash c.copy_from_slice.ensures.len ∙ held.size;
       done = λ j none low.
           elim (cases_lt j k) [
             | inl below ↦ tail_before bytes hash start len (16 * j) 16 (omega arith) (omega arith) ∙ held.done j none below

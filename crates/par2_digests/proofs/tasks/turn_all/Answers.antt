@@ -5,9 +5,9 @@ use Rattle.std.proofs.Math.ListN.{set}
 use Rattle.par2_digests.specs.Lanes.{lane}
 use Rattle.par2_digests.specs.Tasks.{work}
 use Rattle.par2_digests.specs.declared.tasks.Task.{Task}
-use borrow.Rule.Slice.PartMut.{put_mid}
+use borrow.Rule.Slice.PartMut.{put_mid, same_len_mid}
 use Rattle.par2_digests.proofs.TailLaws.{tail_before}
-use Rattle.par2_digests.proofs.TaskLaws.{blocks_at, blocks_len, has_blocks_same, leads_alike, leads_same, shrink_same, works_at}
+use Rattle.par2_digests.proofs.TaskLaws.{blocks_at, has_blocks_same, leads_alike, leads_same, shrink_same, works_at}
 use Rattle.par2_digests.proofs.tasks.turn_all.Goals as goal
 
 pub loop-k-preserved : goal.loop-k-preserved
@@ -30,7 +30,7 @@ loop-k-preserved g c =
     let here : (none : Task) → get_or tasks k none ≡ get_or c.args.tasks.now k none = λ none. held.kept k none (omega arith) in
     record {
       tasks = length-set tasks k new ∙ held.tasks;
-      blocks = blocks_len blocks block start j-len room size ∙ held.blocks;
+      blocks = same_len_mid start j-len blocks block (size ∙ sym part) ∙ held.blocks;
       leads = λ j none last rest h leads.
           elim (cases_lt j k) [
             | inl below ↦
