@@ -5,6 +5,7 @@ use Rattle.std.proofs.Math.Nat.{mod-eq_of_lt}
 use Rattle.std.proofs.lemmas.Nat.{shr-shr}
 use Rattle.std.proofs.lemmas.Nat.Bits.{and_pow}
 use Rattle.std.proofs.lemmas.Bool.{eqb-true, eqb-false}
+use Rattle.std.proofs.lemmas.List.{map-id}
 use Rattle.std.proofs.lemmas.Simd.{zip2_of_maps, map-map}
 use Rattle.std.specs.Int.{bit_at}
 use Rattle.std.specs.Int.RustNames.{bit_xor}
@@ -71,13 +72,9 @@ pub lanes_start : (c : ℕ) (v sum : List ℕ) → c < 65536 → sum ≡ map (λ
 unfolding pow
 lanes_start c v sum hc e = record {
   added = e ∙ map_all (λ _. 0) (λ x. mul c (x % 2 ^ 0)) (λ x. sym (ap (mul c) (let z : x % 1 ≡ 0 = omega arith in z) ∙ product-zero c)) v;
-  left = sym (map_all (λ x. x / 2 ^ 0) (λ x. x) (λ x. let o : x / 1 ≡ x = omega arith in o) v ∙ map_id v);
+  left = sym (map_all (λ x. x / 2 ^ 0) (λ x. x) (λ x. let o : x / 1 ≡ x = omega arith in o) v ∙ map-id v);
   copy = sym (product-one c hc);
 }
-  where
-    map_id : (xs : List ℕ) → map (λ x. x) xs ≡ xs
-    map_id [] = refl
-    map_id (x ∷ xs) = ap (λ ys. x ∷ ys) (map_id xs)
 
 pub lanes_turn : (c : ℕ) (v sum rest sum' rest' : List ℕ) (k k' j : ℕ) → c < 65536 → j < 16 → LanesSoFar c v sum rest k j
     → sum' ≡ zip2 (λ s x. bit_xor s (x % 2 * k)) sum rest → rest' ≡ map (λ x. x / 2) rest → k' ≡ mul 2 k → LanesSoFar c v sum' rest' k' (j + 1)

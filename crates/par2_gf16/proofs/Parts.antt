@@ -1,11 +1,11 @@
 -- Words that are added one part after another, and where a source ends.
-use Rattle.std.proofs.Common.{ℕ, ◌+◌, ◌*◌, ◌<◌, ◌≤◌, ◌≡◌, inl, inr, refl, sym, ap, ap₂, ◌∙◌, arith, List, length, bit_xor}
+use Rattle.std.proofs.Common.{ℕ, ◌+◌, ◌*◌, ◌<◌, ◌≤◌, ◌≡◌, inl, inr, refl, sym, ap, ◌∙◌, arith, List, length, bit_xor}
 use Rattle.std.proofs.lemmas.Bool.{cases_lt}
-use Rattle.std.proofs.lemmas.List.{get_or_past}
 use Rattle.std.specs.Int.Bits.{xor_zero_r}
 use Rattle.par2_spec.specs.Field.{mul}
 use Rattle.par2_spec.specs.Slices.{word}
 use Rattle.par2_spec.proofs.FieldOrder.{product-zero}
+use Rattle.par2_spec.proofs.WordLaws.{word_past}
 use Rattle.par2_gf16.specs.Steps.{AddsWithin}
 
 -- one part after another
@@ -27,13 +27,10 @@ adds_after c src old mid new a b d ab bd first second = record {
 pub nothing_past : (c : ℕ) (src old : List ℕ) (from to : ℕ) → ((i : ℕ) → from ≤ i → i < to → length src ≤ 2 * i) → AddsWithin c src old old from to
 nothing_past c src old from to h = record {
   same_length = refl;
-  inside = λ i low high fits. sym (ap (λ x. bit_xor (word i old) x) (ap (mul c) (none i (h i low high)) ∙ product-zero c) ∙ xor_zero_r (word i old));
+  inside = λ i low high fits. sym (ap (λ x. bit_xor (word i old) x) (ap (mul c) (word_past src i (h i low high)) ∙ product-zero c) ∙ xor_zero_r (word i old));
   below = λ i low. refl;
   above = λ i low. refl;
 }
-  where
-    none : (i : ℕ) → length src ≤ 2 * i → word i src ≡ 0
-    none i past = ap₂ (λ x y. x + 256 * y) (get_or_past src (2 * i) 0 past) (get_or_past src (2 * i + 1) 0 (omega arith))
 
 -- so the words up to its end are all
 pub up_to_end : (c : ℕ) (src old new : List ℕ) (from end to : ℕ) → from ≤ end → end ≤ to → ((i : ℕ) → end ≤ i → i < to → length src ≤ 2 * i)

@@ -7,6 +7,7 @@ use Rattle.par2_spec.specs.Field.{mul, pow, constant, constant_powers, is_spared
 use Rattle.par2_gf16.specs.Tables.{PowersBelow, LogsBelow, AreTables, FirstRound, SecondRound, constants_below}
 use Rattle.par2_spec.proofs.FieldOrder.{power-lt, power-add, power-65535, power-injective, logarithm, one_inverse, zero-product}
 use Rattle.par2_spec.proofs.FieldProducts.{product-one}
+use Rattle.par2_spec.proofs.ListsLaws.{range-append}
 use Rattle.par2_spec.proofs.FieldSteps.{power-mul, one-power}
 use Rattle.par2_spec.proofs.FieldConstants.{length-constant_powers}
 use Rattle.par2_gf16.specs.Products.{IsInverse}
@@ -38,13 +39,9 @@ logs_more logs n x hn so_far e = record {
   ];
 }
 
-range_more : (a n : ℕ) → range_with_len a (n + 1) ≡ range_with_len a n ++ (a + n) ∷ []
-range_more a zero = ap (λ x. x ∷ []) (let e : a ≡ a + 0 = omega arith in e)
-range_more a (suc n) = ap (range_with_len a) (let e : suc n + 1 ≡ suc (n + 1) = omega arith in e) ∙ ap (λ xs. a ∷ xs) (range_more (a + 1) n ∙ ap (λ x. range_with_len (a + 1) n ++ x ∷ []) (let e : a + 1 + n ≡ a + suc n = omega arith in e))
-
 spared_more : (n : ℕ) → filter is_spared (range_with_len 0 (n + 1)) ≡ filter is_spared (range_with_len 0 n) ++ filter is_spared (n ∷ [])
 spared_more n =
-    ap (filter is_spared) (range_more 0 n ∙ ap (λ x. range_with_len 0 n ++ x ∷ []) (let e : 0 + n ≡ n = omega arith in e))
+    ap (filter is_spared) (range-append 0 n 1 ∙ ap (λ x. range_with_len 0 n ++ x ∷ []) (let e : 0 + n ≡ n = omega arith in e))
     ∙ filter-append is_spared (range_with_len 0 n) (n ∷ [])
 
 constants_more : (n : ℕ) → constants_below (n + 1) ≡ constants_below n ++ map (pow 2) (filter is_spared (n ∷ []))
