@@ -1,5 +1,6 @@
 -- What the contracts promise, of reduced systems.
 use Rattle.std.proofs.Common.{ℕ, zero, suc, ◌+◌, ◌*◌, ◌<◌, ◌≡◌, ◌↔◌, refl, sym, ap, ap₂, ◌∙◌, subst, arith, List, [], ◌∷◌, length, get_or, map, true, false}
+use Rattle.std.proofs.Math.Nat.{suc-ne-zero}
 use Rattle.std.proofs.lemmas.Bool.{false≢true}
 use Rattle.std.proofs.lemmas.List.{ext_get_or}
 use Rattle.std.proofs.lemmas.List.FromFn.{get_or-map-range_with_len, length-map-range_with_len}
@@ -13,7 +14,7 @@ use Rattle.par2_matrix.specs.Echelon.{Echelon, echelon, Vanishes, IsReduced, equ
 use Rattle.par2_spec.specs.Sums.{row_sum, AreElements, list_at}
 use Rattle.par2_spec.proofs.WordLaws.{bytes_at, word-lt, combination_words, same_texts}
 use Rattle.par2_spec.proofs.SumLaws.{field_sum_same, row_sum-lt}
-use Rattle.par2_matrix.proofs.ReducedSystems.{ToldApart, all_present, unit_row, full_rank, free_vector, one≢zero}
+use Rattle.par2_matrix.proofs.ReducedSystems.{ToldApart, all_present, unit_row, full_rank, free_vector}
 use Rattle.par2_matrix.proofs.Placing.{Cut}
 use Rattle.par2_matrix.proofs.Views.{elements_of, dot_spelled, rank_view, kills_view, solves_view, words_at, words_are_elements, words_by_elements}
 use Rattle.par2_spec.proofs.ListsLaws.{all_at, all_from}
@@ -126,7 +127,7 @@ undetermined e r below =
       is_vector = listed_vector e.columns free.vector free.are_elements;
       killed = killed_listed e r free.vector free.are_elements free.killed;
       not_zero = λ zeros.
-          one≢zero (sym free.one ∙ sym (listed_at e.columns free.vector free.place free.within) ∙ all_at (λ x. x ≡ 0) 0 refl (listed e.columns free.vector) zeros free.place);
+          suc-ne-zero 0 (sym free.one ∙ sym (listed_at e.columns free.vector free.place free.within) ∙ all_at (λ x. x ≡ 0) 0 refl (listed e.columns free.vector) zeros free.place);
     }
 
 pub not_full : (e : Echelon) → IsReduced e → e.rank < e.columns → (false ≡ true) ↔ (rank (system_of e) ≡ e.columns)

@@ -1,6 +1,7 @@
 -- What a reduced system kills and what solves it.
 use Rattle.std.proofs.Common.{ℕ, zero, suc, ◌+◌, ◌<◌, ◌≤◌, ◌≡◌, ◌≢◌, ◌⊎◌, ◌↔◌, inl, inr, refl, sym, ap, ap₂, ◌∙◌, subst, arith, List, length, bit_xor, cond, eqb}
 use Rattle.std.proofs.lemmas.Bool.{cases_eq, cases_lt, eq-eqb, ne_eqb, cond-true, cond-false}
+use Rattle.std.proofs.Math.Nat.{suc-ne-zero}
 use Rattle.std.specs.Int.Bits.{xor_self}
 use Rattle.par2_spec.specs.Field.{mul}
 use Rattle.par2_spec.specs.Slices.{word}
@@ -120,9 +121,6 @@ unit_row s r full f v p h =
     let all = all_present s.rows s.columns (sym r.rank ∙ full) in
     row_sum_unit s.columns p (list_at s.rows p) f h v (r.pivot p (all p h)) (λ i l n. r.cleared p i (λ e. n (sym e)) (all i l))
 
-pub one≢zero : ◌≡◌ {A = ℕ} 1 0 → ⊥
-one≢zero e = omega arith
-
 -- a vector that the equations send to 0, with 1 at a place
 pub record FreeVector (s : Echelon) : Type 0 where
   pub vector : ℕ → ℕ
@@ -151,7 +149,7 @@ full_rank s r = (
   λ only. elim (cases_lt s.rank s.columns) [
     | inl below ↦
         let free = free_vector s r below in
-        absurd (one≢zero (sym free.one ∙ only free.vector free.are_elements free.killed free.place free.within))
+        absurd (suc-ne-zero 0 (sym free.one ∙ only free.vector free.are_elements free.killed free.place free.within))
     | inr above ↦ omega (arith, present_at_most s.rows s.columns, r.rank)
   ],
 )

@@ -11,7 +11,7 @@ use Rattle.par2_spec.proofs.FieldOrder.{product-zero}
 use Rattle.par2_matrix.specs.Echelon.{Echelon, IsReduced, echelon, ReducedBelow, Scaled, IsMultiple}
 use Rattle.par2_spec.specs.Sums.{row_sum, AreElements, list_at}
 use Rattle.par2_spec.proofs.SumLaws.{row_sum_added}
-use Rattle.par2_matrix.proofs.ReducedSystems.{one≢zero}
+use Rattle.std.proofs.Math.Nat.{suc-ne-zero}
 
 pub reduce_skip : (s : Echelon) (r0 d0 row right : List ℕ) (p : ℕ) → ReducedBelow s r0 d0 row right p
     → (0 < length (list_at s.rows p) → word p row ≡ 0) → ReducedBelow s r0 d0 row right (p + 1)
@@ -90,7 +90,7 @@ pub multiple_of : (row1 right1 row right : List ℕ) (x c : ℕ) → IsInverse x
 multiple_of row1 right1 row right x c inverse hc row_scaled right_scaled n size = record {
   factor = c;
   positive = elim (cases_eq c 0) [
-    | inl z ↦ absurd (one≢zero (sym inverse.is_one ∙ ap (mul x) z ∙ product-zero x))
+    | inl z ↦ absurd (suc-ne-zero 0 (sym inverse.is_one ∙ ap (mul x) z ∙ product-zero x))
     | inr n ↦ omega arith
   ];
   is_element = hc;

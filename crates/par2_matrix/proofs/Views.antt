@@ -69,21 +69,21 @@ length-equations ((b ∷ r) ∷ R) (d ∷ D) e =
     ap suc (length-equations R D (omega arith))
     ∙ sym (count_front (b ∷ r) R (length R) ∙ ap (λ c. cond c 0 1 + count_present R (length R)) (ne_eqb (suc (length r)) 0 (λ z. omega arith)) ∙ (let h : 1 + count_present R (length R) ≡ suc (count_present R (length R)) = omega arith in h))
 
+counts : (e : Echelon) → IsReduced e → length e.rows ≡ length e.rights
+counts e r = r.row_count ∙ sym r.right_count
+
 pub rank_view : (e : Echelon) → IsReduced e → length (equations e.rows e.rights) ≡ e.rank
-rank_view e r = length-equations e.rows e.rights (r.row_count ∙ sym r.right_count) ∙ ap (count_present e.rows) r.row_count ∙ sym r.rank
+rank_view e r = length-equations e.rows e.rights (counts e r) ∙ ap (count_present e.rows) r.row_count ∙ sym r.rank
 
 pub kills_view : (e : Echelon) → IsReduced e → (v : List ℕ) → IsVector e.columns v → IsKilled (system_of e) v ↔ Vanishes e (λ i. get_or v i 0)
 kills_view e r v is = (
   (λ killed p hp. elim (cases_lt 0 (length (list_at e.rows p))) [
-    | inl there ↦ sym (dot_words e.columns (list_at e.rows p) v (r.row_size p there)) ∙ equation_at (λ row right. dot row v ≡ 0) e.rows e.rights counts killed p there
+    | inl there ↦ sym (dot_words e.columns (list_at e.rows p) v (r.row_size p there)) ∙ equation_at (λ row right. dot row v ≡ 0) e.rows e.rights (counts e r) killed p there
     | inr none ↦ row_sum_empty e.columns (list_at e.rows p) (λ i. get_or v i 0) (λ i h. word_empty (list_at e.rows p) i (omega arith))
   ]),
-  (λ vanishes. all_equations (λ row right. dot row v ≡ 0) e.rows e.rights counts
+  (λ vanishes. all_equations (λ row right. dot row v ≡ 0) e.rows e.rights (counts e r)
       (λ p hp there. dot_words e.columns (list_at e.rows p) v (r.row_size p there) ∙ vanishes p (omega (arith, r.row_count)))),
 )
-  where
-    counts : length e.rows ≡ length e.rights
-    counts = r.row_count ∙ sym r.right_count
 
 -- ---- combinations by their words
 
@@ -119,19 +119,16 @@ solves_view e r texts are = (
   (λ solved w hw p hp. elim (cases_lt 0 (length (list_at e.rows p))) [
     | inl there ↦
         sym (words_by_bytes (system_of e) texts are (list_at e.rows p) (r.row_size p there) w)
-        ∙ (at p there).0 (equation_at (λ row right. combination e.bytes row texts ≡ right) e.rows e.rights counts solved p there) w hw
+        ∙ (at p there).0 (equation_at (λ row right. combination e.bytes row texts ≡ right) e.rows e.rights (counts e r) solved p there) w hw
     | inr none ↦
         let gone : length (list_at e.rows p) ≡ 0 = omega arith in
         row_sum_empty e.columns (list_at e.rows p) (words_at texts w) (λ i h. word_empty (list_at e.rows p) i gone)
         ∙ sym (word_empty (list_at e.rights p) w (r.absent p gone))
   ]),
-  (λ meets. all_equations (λ row right. combination e.bytes row texts ≡ right) e.rows e.rights counts
+  (λ meets. all_equations (λ row right. combination e.bytes row texts ≡ right) e.rows e.rights (counts e r)
       (λ p hp there. (at p there).1 (λ w hw. words_by_bytes (system_of e) texts are (list_at e.rows p) (r.row_size p there) w ∙ meets w hw p (omega (arith, r.row_count))))),
 )
   where
-    counts : length e.rows ≡ length e.rights
-    counts = r.row_count ∙ sym r.right_count
-
     at : (p : ℕ) → 0 < length (list_at e.rows p) → (combination e.bytes (words (list_at e.rows p)) texts ≡ list_at e.rights p)
         ↔ ((w : ℕ) → 2 * w + 1 < e.bytes → dot (words (list_at e.rows p)) (map (word w) texts) ≡ word w (list_at e.rights p))
     at p there = combination_words e.bytes (words (list_at e.rows p)) texts (list_at e.rights p) r.even
