@@ -1,5 +1,5 @@
 -- Bytes taken in by eights.
-use Rattle.std.proofs.Common.{◌≡◌, ℕ, zero, suc, ◌+◌, ◌*◌, ◌^◌, ◌<◌, ◌%◌, ◌/◌, List, [], ◌∷◌, ◌++◌, length, take, drop, get_or, refl, sym, ap, ◌∙◌, arith}
+use Rattle.std.proofs.Common.{◌≡◌, ℕ, zero, suc, ◌+◌, ◌*◌, ◌^◌, ◌<◌, ◌%◌, ◌/◌, List, [], ◌∷◌, ◌++◌, length, take, drop, get_or, sym, ap, ◌∙◌, arith}
 use Rattle.std.specs.Prelude.{bit_xor, fold}
 use Rattle.std.specs.List.{concat}
 use Rattle.std.specs.Simd.{first_chunks}
@@ -12,14 +12,11 @@ use Rattle.std.proofs.lemmas.List.Folds.{concat-append}
 use Rattle.par2_spec.specs.Checksums.{crc_byte, crc_steps}
 use Rattle.par2_spec.proofs.ChecksumLaws.{crc_steps-split, crc_byte-steps, fold-append, joined}
 use Rattle.par2_slices.specs.Steps.{steps}
+use Rattle.par2_slices.proofs.Sliding.{none_less}
 
 split : (m x : ℕ) → steps (8 + m) x ≡ bit_xor (steps (8 + m) (x % 256)) (steps m (x / 256))
 unfolding steps
 split m x = crc_steps-split m 8 x
-
-no_steps : (x : ℕ) → steps 0 x ≡ x
-unfolding steps
-no_steps x = refl
 
 -- a byte goes to a table of its own
 next : (m k sum w : ℕ) → bit_xor sum (steps (8 + m) (w / 2 ^ k)) ≡ bit_xor (bit_xor sum (steps (8 + m) (w / 2 ^ k % 256))) (steps m (w / 2 ^ (k + 8)))
@@ -61,7 +58,7 @@ by_tables_from_above w =
 pub by_two_tables : (w : ℕ) → steps 16 w ≡ bit_xor (bit_xor (steps 16 (w % 256)) (steps 8 (w / 2 ^ 8 % 256))) (w / 2 ^ 16)
 by_two_tables w =
     let a : ℕ = steps 16 (w % 256) in
-    split 8 w ∙ next 0 8 a w ∙ ap (bit_xor (bit_xor a (steps 8 (w / 2 ^ 8 % 256)))) (no_steps (w / 2 ^ 16))
+    split 8 w ∙ next 0 8 a w ∙ ap (bit_xor (bit_xor a (steps 8 (w / 2 ^ 8 % 256)))) (none_less (w / 2 ^ 16))
 
 -- a number and the byte above it
 taken : (n c x byte sum : ℕ) → x < 2 ^ n → sum ≡ steps n (bit_xor c x) → crc_byte sum byte ≡ steps (n + 8) (bit_xor c (x + byte * 2 ^ n))

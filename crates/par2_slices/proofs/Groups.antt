@@ -8,7 +8,7 @@ use Rattle.std.proofs.Common.{inl, inr}
 use Rattle.std.proofs.Math.Nat.{div-div-eq-div-mul}
 use Rattle.std.proofs.lemmas.Nat.{pow-add, shr_below}
 use Rattle.std.proofs.lemmas.Nat.Bits.{bit_at-zero, bit_at_set_same, bit_at_set_other, bit_at_clear_same, bit_at_clear_other}
-use Rattle.std.proofs.Math.Nat.{pow-le-pow_right, pow-suc}
+use Rattle.std.proofs.Math.Nat.{pow-le-pow_right, pow-suc, suc-ne-zero}
 use Rattle.std.proofs.lemmas.Nat.{leading_top}
 use Rattle.std.specs.Int.Count.{count_leading_zeros, leading_of_zero}
 use Rattle.par2_slices.specs.Filters.{AreFor, Bits, Marks}
@@ -18,9 +18,6 @@ within crc shift fits low =
     let Fits : ℕ → Type 0 = λ k. crc < 2 ^ k in
     let split : 32 ≡ 32 - shift + shift = omega (arith, low) in
     shr_below crc (32 - shift) shift (subst Fits split fits)
-
-zero_is_one : ◌≡◌ {A = ℕ} 0 1 → ⊥
-zero_is_one both = omega (arith, both)
 
 abbrev zeros : ℕ → List ℕ
 zeros n = replicate n 0
@@ -37,7 +34,7 @@ pub none_marked : (bits : Bits) (n crc : ℕ) → ◌≡◌ {A = List ℕ} bits.
 none_marked bits n crc empty is =
     let group : ℕ = crc / 2 ^ bits.shift in
     let word : get_or bits.words group 0 ≡ 0 = ap (λ words. get_or words group 0) empty ∙ zeros_at n (group) in
-    zero_is_one (sym (ap (λ w. bit_at w (crc % 64)) word ∙ bit_at-zero (crc % 64)) ∙ is.bit)
+    suc-ne-zero 0 (sym is.bit ∙ ap (λ w. bit_at w (crc % 64)) word ∙ bit_at-zero (crc % 64))
 
 -- a word with a bit more
 pub marked : (shift crc : ℕ) (words : List ℕ) → crc / 2 ^ shift < length words → Marks (record { shift = shift; words = set words (crc / 2 ^ shift) (bit_or (get_or words (crc / 2 ^ shift) 0) (1 * 2 ^ (crc % 64) % 2 ^ 64)) }) crc
@@ -140,7 +137,7 @@ only_by_remove shift crc words place other is =
           ∙ is.bit
           ) in
           let cleared : bit_at new (crc % 64) ≡ 0 = bit_at_clear_same w64 word (crc % 64) (omega arith) in
-          let apart : other % 64 ≢ crc % 64 = λ low. zero_is_one (sym (ap (bit_at new) low ∙ cleared) ∙ here) in
+          let apart : other % 64 ≢ crc % 64 = λ low. suc-ne-zero 0 (sym here ∙ ap (bit_at new) low ∙ cleared) in
           record { bit = ap (λ i. bit_at (get_or words i 0) (other % 64)) same ∙ sym (bit_at_clear_other w64 word (crc % 64) (omega arith) (other % 64) (omega arith) apart) ∙ here }
           )
       | inr apart ↦ record { bit = ap (λ w. bit_at w (other % 64)) (sym (get_or-set_other words group (its) new 0 apart)) ∙ is.bit }

@@ -4,7 +4,7 @@ use Rattle.std.specs.Prelude.{◌⊎◌, ◌==◌, ◌&&◌, Option, Some, None,
 use Rattle.std.specs.List.{count_by, list_all, range_with_len}
 use Rattle.std.specs.Option.{is_none, option_or}
 use Rattle.std.specs.Str.{bytes_eq}
-use Rattle.std.proofs.lemmas.Bool.{cases_eq, cases_lt, eqb-true, eq-eqb}
+use Rattle.std.proofs.lemmas.Bool.{and_from, and_left, and_right, cases_eq, cases_lt, eq-eqb, ne_eqb}
 use Rattle.std.proofs.Math.Seq.{drop-length}
 use Rattle.std.proofs.lemmas.List.{append-nil, take_all, length-set, length-replicate, length-map, get_or-map, ext_get_or, get_or_append_left, get_or_at, length_push, drop_more, take_more}
 use Rattle.std.proofs.lemmas.List.Folds.{find-append, sum_by-zero, sum_by-replicate, list_all_at}
@@ -12,23 +12,19 @@ use Rattle.std.proofs.lemmas.List.Sums.{sum_by-set, fold-append}
 use Rattle.md5.specs.Md5.{md5}
 use Rattle.par2_spec.specs.Checksums.{Pair, crc32}
 use Rattle.par2_spec.specs.Windows.{is_match, window, first_match}
+use Rattle.par2_spec.proofs.ListsLaws.{range-append}
+use Rattle.par2_spec.proofs.TestLaws.{or_nothing}
 use Rattle.par2_slices.specs.Filters.{AreAlike, Bits, Groups, Marks}
 use Rattle.par2_slices.specs.Searches.{no_pair, IsOfPair, no_place, no_candidate, pair_at, place_at, candidate_at, answer_at, answer_below, spot_in, first_spot, first_spot_from, HoldsGroup, is_awaited, after_window, has_checksums, after_candidates, first_below, Earlier, IsWindow, IsTally, IsAt}
 use Rattle.par2_slices.specs.declared.batch.Candidate.{Candidate}
 use Rattle.par2_slices.specs.declared.batch.Spot.{Spot}
 use Rattle.par2_slices.specs.declared.wanted_pairs.Place.{Place}
 
-range_split : (a m n : ℕ) → range_with_len a (m + n) ≡ range_with_len a m ++ range_with_len (a + m) n
-range_split a zero n = ap (range_with_len a) (let e : 0 + n ≡ n = omega arith in e) ∙ ap (λ b. range_with_len b n) (let e : a ≡ a + 0 = omega arith in e)
-range_split a (suc m) n =
-    ap (range_with_len a) (let e : suc m + n ≡ suc (m + n) = omega arith in e)
-    ∙ ap {B = List ℕ} (λ t. a ∷ t) (range_split (a + 1) m n ∙ ap (λ b. range_with_len (a + 1) m ++ range_with_len b n) (let e : a + 1 + m ≡ a + suc m = omega arith in e))
-
 first_below-more : (s : ℕ) (text : List ℕ) (o : ℕ) (pair : Pair) → first_below s text (o + 1) pair ≡ option_or (first_below s text o pair) (cond (is_match pair (window s text o)) (Some o) None)
 unfolding first_below
 first_below-more s text o pair =
     let test : ℕ → Bool = λ k. is_match pair (window s text k) in
-    ap (find test) (range_split 0 o 1)
+    ap (find test) (range-append 0 o 1)
     ∙ find-append test (range_with_len 0 o) (range_with_len (0 + o) 1)
     ∙ ap (λ k. option_or (find test (range_with_len 0 o)) (cond (test k) (Some k) None)) (let e : 0 + o ≡ o = omega arith in e)
 
@@ -105,11 +101,7 @@ no_more s text earlier o pairs found left filter candidates at none = record {
 }
 
 pub no_crc : (pair : Pair) (md5 : List ℕ) (crc : ℕ) → (pair.1 ≡ crc → ⊥) → has_checksums md5 crc pair ≡ false
-no_crc pair md5 crc other =
-    elim (crc == pair.1) as (λ b. (crc == pair.1) ≡ b → (b && bytes_eq md5 pair.0) ≡ false) [
-      | true ↦ λ is. absurd (other (sym (eqb-true crc pair.1 is)))
-      | false ↦ λ is. refl
-    ] refl
+no_crc pair md5 crc other = and_left (crc == pair.1) _ (ne_eqb crc pair.1 (λ same. other (sym same)))
 
 -- the checksum of the window is of no group that is marked
 pub unmarked : (s : ℕ) (text : List ℕ) (earlier : Earlier) (o : ℕ) (pairs : List Pair) (found : List (Option Spot)) (left : ℕ) (filter : Groups) (candidates : List Candidate) (crc : ℕ) → IsAt s text earlier o pairs found left filter candidates → crc ≡ crc32 (window s text o) → (Marks filter.fine crc → ⊥) → IsAt s text earlier (o + 1) pairs found left filter candidates
@@ -219,10 +211,6 @@ unmark s text earlier o pairs found left filter after candidates crc shift group
   answers = at.answers;
   candidates = at.candidates;
 }
-
-or_nothing : {A : Type 0} (o : Option A) → o ≡ option_or o None
-or_nothing None = refl
-or_nothing (Some x) = refl
 
 -- the checksums of the first n pairs were added to a filter without groups
 pub record IsFilled (pairs : List Pair) (n : ℕ) (empty filter : Groups) : Type 0 where
@@ -441,33 +429,21 @@ tally_settled pairs md5 crc spot old new left count after filter tally size each
   coarse_only = tally.coarse_only;
 }
 
-pub open_is : (answer : Option Spot) → is_none answer ≡ true → answer ≡ None
-open_is None is = refl
-open_is (Some x) is = absurd (let both : false ≡ true = is in cc)
-
 pub is_open : (answer : Option Spot) → is_none answer ≡ false → answer ≡ None → ⊥
 is_open answer is none = let both : true ≡ false = sym (ap is_none none) ∙ is in cc
 
 pub has_is : (pair : Pair) (md5 : List ℕ) (crc : ℕ) → pair.1 ≡ crc → bytes_eq md5 pair.0 ≡ true → has_checksums md5 crc pair ≡ true
-has_is pair md5 crc same equal = ap (λ b. b && bytes_eq md5 pair.0) (eq-eqb crc pair.1 (sym same)) ∙ equal
-
-never : (b : Bool) → (b && false) ≡ false
-never true = refl
-never false = refl
+has_is pair md5 crc same equal = and_from (crc == pair.1) _ (eq-eqb crc pair.1 (sym same)) equal
 
 -- whether the pair of a place has the checksum and no answer
 pub awaited_is : (crc : ℕ) (found : List (Option Spot)) (place : Place) → place.crc ≡ crc → is_none (answer_at found place.index) ≡ true → is_awaited crc found place ≡ true
-awaited_is crc found place same none = ap (λ b. b && is_none (answer_at found place.index)) (eq-eqb place.crc crc same) ∙ none
+awaited_is crc found place same none = and_from (place.crc == crc) _ (eq-eqb place.crc crc same) none
 
 pub other_crc : (crc : ℕ) (found : List (Option Spot)) (place : Place) → (place.crc ≡ crc → ⊥) → is_awaited crc found place ≡ false
-other_crc crc found place other =
-    elim (place.crc == crc) as (λ b. (place.crc == crc) ≡ b → (b && is_none (answer_at found place.index)) ≡ false) [
-      | true ↦ λ is. absurd (other (eqb-true place.crc crc is))
-      | false ↦ λ is. refl
-    ] refl
+other_crc crc found place other = and_left (place.crc == crc) _ (ne_eqb place.crc crc other)
 
 pub not_open : (crc : ℕ) (found : List (Option Spot)) (place : Place) → is_none (answer_at found place.index) ≡ false → is_awaited crc found place ≡ false
-not_open crc found place answered = ap (λ b. (place.crc == crc) && b) answered ∙ never (place.crc == crc)
+not_open crc found place answered = and_right (place.crc == crc) _ answered
 
 pub no_md5 : (pair : Pair) (md5 : List ℕ) (crc : ℕ) → bytes_eq md5 pair.0 ≡ false → has_checksums md5 crc pair ≡ false
-no_md5 pair md5 crc differs = ap (λ b. (crc == pair.1) && b) differs ∙ never (crc == pair.1)
+no_md5 pair md5 crc differs = and_right (crc == pair.1) _ differs

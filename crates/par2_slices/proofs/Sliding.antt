@@ -37,12 +37,9 @@ pub zero_byte : (x : ℕ) → crc_byte x 0 ≡ steps 8 x
 unfolding steps
 zero_byte x = ap (crc_steps 8) (xor_zero_r x)
 
-none_more : (x : ℕ) → x ≡ steps 0 x
-unfolding steps
-none_more x = refl
-
 pub none_less : (x : ℕ) → steps 0 x ≡ x
-none_less x = sym (none_more x)
+unfolding steps
+none_less x = refl
 
 pub one_slide : (s value out next after adds : ℕ) → after ≡ crc_byte value next → adds ≡ steps 0 (leaving s out) → bit_xor after adds ≡ after_slide s value out next
 unfolding after_slide
@@ -68,7 +65,7 @@ pub two_tables : (s : ℕ) (first second : List ℕ) →
     ((byte : ℕ) → byte < 256 → get_or first byte 0 ≡ leaving s byte) →
     ((byte : ℕ) → byte < 256 → get_or second byte 0 ≡ steps 8 (get_or first byte 0)) →
     (none : List ℕ) (k byte : ℕ) → k < 2 → byte < 256 → get_or (get_or (first ∷ second ∷ []) k none) byte 0 ≡ steps (8 * k) (leaving s byte)
-two_tables s first second one two none zero byte below within = one byte within ∙ none_more (leaving s byte)
+two_tables s first second one two none zero byte below within = one byte within ∙ sym (none_less (leaving s byte))
 two_tables s first second one two none (suc zero) byte below within = two byte within ∙ ap (steps 8) (one byte within)
 two_tables s first second one two none (suc (suc k)) byte below within = absurd (omega (arith, below))
 

@@ -4,7 +4,8 @@ use Rattle.par2_spec.specs.Checksums.{Pair}
 use Rattle.par2_slices.specs.Searches.{answer_at, pair_at, place_at, has_checksums, IsPlace}
 use Rattle.par2_slices.specs.declared.batch.Spot.{Spot}
 use Rattle.par2_slices.specs.declared.wanted_pairs.Place.{Place}
-use Rattle.par2_slices.proofs.Searching.{Settled, not_settled, one_settled, open_is, is_open, has_is, no_md5, no_crc}
+use Rattle.par2_spec.proofs.TestLaws.{none_from}
+use Rattle.par2_slices.proofs.Searching.{Settled, not_settled, one_settled, is_open, has_is, no_md5, no_crc}
 use Rattle.par2_slices.proofs.search.settle.Goals as goal
 use Rattle.par2_slices.proofs.search.settle.Goals.{then-place-crc+then-is_none+then-eq, else-place-crc, else-place-crc-via-then-place-crc+then-is_none+else-eq, else-place-crc-via-then-place-crc+else-is_none, else-place-crc-via-else-place-crc}
 
@@ -33,7 +34,7 @@ loop-place-preserved c =
           let new : List (Option Spot) = set found place.index (Some spot) in
           let Found : List (Option Spot) → Type 0 = λ g. After g c.if-place-crc.count in
           let Count : ℕ → Type 0 = λ j. After new j in
-          let open_place : answer_at found place.index ≡ None = open_is (answer_at found place.index) (ap not (w.is_none.ensures ∙ ap not w.if-is_none.true)) in
+          let open_place : answer_at found place.index ≡ None = none_from (answer_at found place.index) (ap not (w.is_none.ensures ∙ ap not w.if-is_none.true)) in
           let matched : has_checksums md5 crc pair ≡ true = has_is pair md5 crc (its.crc ∙ w.if-place-crc.true) (sym w.eq.ensures ∙ w.if-eq.true) in
           subst Found (sym w.found-is) (subst Count (sym w.count-is) (one_settled pairs md5 crc spot old group n found count c.loop-place.invariant c.requires.len its.within open_place matched))
           )
