@@ -1,7 +1,7 @@
 -- Going over a text from packet to packet.
 use Rattle.std.proofs.Common.{◌≡◌, ℕ, zero, suc, ◌-◌, ◌+◌, ◌≤◌, ◌<◌, ◌%◌, Bool, true, false, leb, eqb, ◌&&◌, List, [], ◌∷◌, length, drop, refl, sym, ap, subst, ◌∙◌, arith}
 use Rattle.std.specs.Str.{bytes_eq}
-use Rattle.std.proofs.lemmas.Bool.{leb-true, and_parts}
+use Rattle.std.proofs.lemmas.Bool.{leb-true, and_parts, false_from_ne_true}
 use Rattle.std.proofs.lemmas.List.{length-take-le, length-drop, drop-drop}
 use Rattle.std.proofs.Math.Seq.{drop-length}
 use Rattle.std.proofs.lemmas.Slice.Eq.{bytes_eq-Decides}
@@ -67,8 +67,7 @@ magic_there text k h =
     OccursAt-from_part text magic k (omega (arith, long, length-drop k text)) ((bytes_eq-Decides (bytes_at 0 8 here) magic).0 parts.1)
 
 none_there : (text : List ℕ) (k : ℕ) → ¬ OccursAt text magic k → begins_with_packet (drop k text) ≡ false
-none_there text k absent =
-    elim (begins_with_packet (drop k text)) as (λ b. (b ≡ true → OccursAt text magic k) → b ≡ false) [ true ↦ λ there. absurd (absent (there refl)) | false ↦ λ there. refl ] (magic_there text k)
+none_there text k absent = false_from_ne_true (begins_with_packet (drop k text)) (λ there. absent (magic_there text k there))
 
 -- what lies before the first magic has no packets
 passed_over : (text : List ℕ) (k : ℕ) → ((j : ℕ) → 0 ≤ j → j < k → ¬ OccursAt text magic j) → accepted (drop k text) ≡ accepted text

@@ -4,13 +4,13 @@ use Rattle.std.specs.Int.{w128, from_le_bytes}
 use Rattle.std.specs.List.{AllPairs, AllAdjacentBelow, IsDistinct}
 use Rattle.std.specs.List.Sorted.{IsNonDecreasingBy, IsStrictlyIncreasing, IsPermutation}
 use Rattle.std.specs.Str.{bytes_eq}
-use Rattle.std.proofs.lemmas.Bool.Decides.{same_from_decides}
 use Rattle.std.proofs.lemmas.List.{get_or-map, get_or_default, length-map}
 use Rattle.std.proofs.lemmas.List.Kept.{AllPairs-from_increasing}
 use Rattle.std.proofs.lemmas.List.Sorted.{all_adjacent_more, IsPermutation-map, IsPermutation-sym}
 use Rattle.std.proofs.lemmas.Map.Keys.{IsDistinct-IsPermutation}
 use Rattle.std.proofs.lemmas.Map.Made.{AllPairs-from_IsDistinct, IsDistinct-from_AllPairs}
 use Rattle.std.proofs.lemmas.Slice.Eq.{bytes_eq-Decides}
+use Rattle.par2_spec.proofs.NamesLaws.{same_either_way}
 
 -- ---- sixteen bytes and their number
 
@@ -73,11 +73,6 @@ rises_more n xs i a b above within up inv at_a at_b differ =
 
 -- ---- what rises is distinct
 
-flips : (x y : List ℕ) → bytes_eq x y ≡ bytes_eq y x
-flips x y =
-    let back = bytes_eq-Decides y x in
-    same_from_decides (bytes_eq x y) (bytes_eq y x) (bytes_eq-Decides x y) (λ h. sym (back.0 h), λ e. back.1 (sym e))
-
 -- what rises by a number of a key has distinct keys
 keys_differ : {X : Type 0} (key : X → List ℕ) (m : List ℕ → ℕ) (xs : List X) → IsStrictlyIncreasing (map (λ x. m (key x)) xs) → AllPairs (λ a b. a ≢ b) (map key xs)
 keys_differ key m [] up i j d before within same = absurd (omega arith)
@@ -94,12 +89,12 @@ keys_differ key m (x ∷ xs) up i j d before within same =
 
 pub distinct_keys : {X : Type 0} (key : X → List ℕ) (m : List ℕ → ℕ) (xs ys : List X) → IsPermutation xs ys → IsStrictlyIncreasing (map (λ x. m (key x)) ys) → IsDistinct bytes_eq (map key xs)
 distinct_keys key m xs ys moved up =
-    IsDistinct-IsPermutation bytes_eq flips (map key ys) (map key xs) (IsPermutation-sym _ _ (IsPermutation-map key xs ys moved))
+    IsDistinct-IsPermutation bytes_eq same_either_way (map key ys) (map key xs) (IsPermutation-sym _ _ (IsPermutation-map key xs ys moved))
     (IsDistinct-from_AllPairs bytes_eq-Decides (map key ys) (keys_differ key m ys up))
 
 -- what was moved has distinct keys as before
 pub moved_distinct : {X : Type 0} (key : X → List ℕ) (xs ys : List X) → IsPermutation xs ys → IsDistinct bytes_eq (map key xs) → IsDistinct bytes_eq (map key ys)
-moved_distinct key xs ys moved = IsDistinct-IsPermutation bytes_eq flips (map key xs) (map key ys) (IsPermutation-map key xs ys moved)
+moved_distinct key xs ys moved = IsDistinct-IsPermutation bytes_eq same_either_way (map key xs) (map key ys) (IsPermutation-map key xs ys moved)
 
 -- two equal keys
 pub not_distinct : {X : Type 0} (key : X → List ℕ) (xs : List X) (i j : ℕ) (a b : X) → i < j → j < length xs

@@ -1,8 +1,8 @@
 -- The packets of recovery slices whose exponents count up.
-use Rattle.std.proofs.Common.{◌≡◌, ℕ, zero, suc, ◌+◌, ◌<◌, ◌≤◌, List, [], ◌∷◌, ◌++◌, length, map, get_or, take, drop, refl, inl, inr, sym, ap, ap₂, ◌∙◌, arith, append-nil, append_assoc, Vec, Global}
+use Rattle.std.proofs.Common.{◌≡◌, ℕ, suc, ◌+◌, ◌<◌, ◌≤◌, List, [], ◌∷◌, ◌++◌, length, map, get_or, take, drop, inl, inr, sym, ap, ap₂, ◌∙◌, arith, append-nil, append_assoc}
 use Rattle.std.specs.Prelude.{flat_map}
 use Rattle.std.specs.List.{enumerate_from}
-use Rattle.std.proofs.Math.Seq.{take-add}
+use Rattle.std.proofs.Math.Seq.{take-add, take-append_seam}
 use Rattle.std.proofs.lemmas.Grind.{flat_map-append}
 use Rattle.std.proofs.lemmas.Bool.{cases_lt}
 use Rattle.std.proofs.lemmas.List.{get_or_append_left, get_or_at, length-map, map-append, take_more, length-take-le}
@@ -11,7 +11,6 @@ use Rattle.par2_digests.specs.Messages.{message_at, message_of}
 use Rattle.par2_spec.specs.Packets.{packet}
 use Rattle.par2_spec.specs.Volumes.{packet_of, recovery_bytes}
 use Rattle.par2_spec.specs.declared.Kind.TheVariants.{Recovery}
-use Rattle.par2_spec.specs.Sums.{lists_of}
 use Rattle.par2_packets.specs.Recoveries.{packets_from}
 
 enumerate_append : {X : Type 0} (n : ℕ) (xs ys : List X) → enumerate_from n (xs ++ ys) ≡ enumerate_from n xs ++ enumerate_from (n + length xs) ys
@@ -61,23 +60,13 @@ packets_more text out id first slices a start n b new within so_far is same next
     is ∙ ap (λ o. o ++ some start) (so_far ∙ ap (λ m. text ++ flat_map packet (packets_from id first (take m slices))) same)
     ∙ append_assoc text before (some start) ∙ ap (λ o. text ++ o) (sym added)
 
--- a slice by its place
-pub list_at_place : (slices : List (Vec ℕ Global)) (k : ℕ) (slice : Vec ℕ Global) → k < length slices → slice ≡ get_or slices k slice → get_or (lists_of slices) k [] ≡ slice.items
-list_at_place [] k slice low is = absurd (omega (arith, low))
-list_at_place (first ∷ slices) zero slice low is = ap (λ (v : Vec ℕ Global). v.items) (sym is)
-list_at_place (first ∷ slices) (suc k) slice low is = list_at_place slices k slice (omega (arith, low)) is
-
 -- a text behind two parts of a message
 pub behind_two : (s type kind text body : List ℕ) → type ≡ kind → text ≡ body → ([] ++ (s ++ (type ++ []))) ++ text ≡ s ++ kind ++ body
 behind_two s type kind text body is same = ap₂ (λ (a b : List ℕ). s ++ a ++ b) (append-nil type ∙ is) same
 
 -- what is in front stays there
-front : (text more : List ℕ) → take (length text) (text ++ more) ≡ text
-front [] more = refl
-front (b ∷ text) more = ap (λ (t : List ℕ). b ∷ t) (front text more)
-
 pub front_kept : (text out more : List ℕ) → out ≡ text ++ more → take (length text) out ≡ text
-front_kept text out more is = ap (take (length text)) is ∙ front text more
+front_kept text out more is = ap (take (length text)) is ∙ take-append_seam text more
 
 -- a message more behind others
 pub message_more : (bodies new : List Message) (body : Message) (k : ℕ) (said : ℕ → List ℕ) → length bodies ≡ k → new ≡ bodies ++ body ∷ []

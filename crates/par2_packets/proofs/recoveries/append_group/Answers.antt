@@ -5,7 +5,8 @@ use Rattle.par2_spec.specs.Packets.{digest_input, packet}
 use Rattle.par2_spec.specs.Volumes.{packet_of}
 use Rattle.par2_spec.specs.declared.Kind.TheVariants.{Recovery}
 use Rattle.par2_spec.specs.Sums.{lists_of}
-use Rattle.par2_packets.proofs.RecoveryPackets.{front_kept, list_at_place, packet_more}
+use Rattle.par2_spec.proofs.WordLaws.{read_at}
+use Rattle.par2_packets.proofs.RecoveryPackets.{front_kept, packet_more}
 use Rattle.par2_packets.proofs.recoveries.append_group.Goals as goal
 
 pub loop-k-preserved : goal.loop-k-preserved
@@ -14,7 +15,7 @@ loop-k-preserved c =
     let id = c.args.set_id.now in
     let k = c.loop-k.k in
     let low = c.loop-k-test.true in
-    let item : c.deref.result.now ≡ get_or slices k [] = c.deref.ensures.value ∙ sym (list_at_place c.args.slices.now k _ low c.index-slices-k.is) in
+    let item : c.deref.result.now ≡ get_or slices k [] = c.deref.ensures.value ∙ (read_at c.args.slices.now k _ low c.index-slices-k.is) in
     packet_more c.args.out.now.items c.loop-k.out.items id c.args.first slices k c.append_digested.new.out.items (subst (λ n. k < n) (sym (length-map c.args.slices.now _)) low) c.loop-k.invariant
     (c.in_ok-append_digested.ensures.ok
     ∙ ap₂ (λ (exponent slice : List ℕ). c.loop-k.out.items ++ packet (packet_of id Recovery (exponent ++ slice))) (c.exponent_bytes-exponents.ensures k (omega (arith, low, c.requires.few))) item)
@@ -23,7 +24,7 @@ pub append_digested-requires-clause-digest : goal.append_digested-requires-claus
 append_digested-requires-clause-digest c =
     let k = c.loop-k.k in
     let low = c.loop-k-test.true in
-    let item : c.deref.result.now ≡ get_or (lists_of c.args.slices.now) k [] = c.deref.ensures.value ∙ sym (list_at_place c.args.slices.now k _ low c.index-slices-k.is) in
+    let item : c.deref.result.now ≡ get_or (lists_of c.args.slices.now) k [] = c.deref.ensures.value ∙ (read_at c.args.slices.now k _ low c.index-slices-k.is) in
     c.in_ok-digests.ensures k low
     ∙ ap (λ (slice : List ℕ). md5 (digest_input (packet_of c.args.set_id.now Recovery (get_or c.exponent_bytes-exponents.result k [] ++ slice)))) (sym item)
 

@@ -1,7 +1,8 @@
-use Rattle.std.proofs.Common.{◌≡◌, ◌∙◌, ◌++◌, [], List, ℕ, length, get_or, sym, ap, arith}
+use Rattle.std.proofs.Common.{◌≡◌, ◌∙◌, ◌++◌, [], List, ℕ, length, get_or, ap, arith}
 use Rattle.std.proofs.lemmas.List.{length_push}
 use Rattle.par2_spec.specs.Sums.{lists_of}
-use Rattle.par2_packets.proofs.RecoveryPackets.{list_at_place, message_more}
+use Rattle.par2_spec.proofs.WordLaws.{read_at}
+use Rattle.par2_packets.proofs.RecoveryPackets.{message_more}
 use Rattle.par2_packets.proofs.recoveries.bodies.Goals as goal
 
 pub loop-k-preserved : goal.loop-k-preserved
@@ -9,7 +10,7 @@ loop-k-preserved c =
     let exponents = c.args.exponents.now in
     let slices = lists_of c.args.slices.now in
     let k = c.loop-k.k in
-    let item : c.deref.result.now ≡ get_or slices k [] = c.deref.ensures.value ∙ sym (list_at_place c.args.slices.now k _ c.loop-k-test.true c.index-slices-k.is) in
+    let item : c.deref.result.now ≡ get_or slices k [] = c.deref.ensures.value ∙ (read_at c.args.slices.now k _ c.loop-k-test.true c.index-slices-k.is) in
     record {
       count = omega (arith, ap length c.in_ok-push.ensures.items, length_push c.loop-k.bodies.items c.in_ok-body.field-0, c.loop-k.invariant.count);
       each = message_more c.loop-k.bodies.items c.push.new.self.items c.in_ok-body.field-0 k (λ j. get_or exponents j [] ++ get_or slices j []) c.loop-k.invariant.count c.in_ok-push.ensures.items c.loop-k.invariant.each
