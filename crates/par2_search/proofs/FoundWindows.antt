@@ -14,13 +14,13 @@ use Rattle.par2_slices.specs.Searches.{first_spot, first_spot_from, no_pair, pai
 use Rattle.par2_search.specs.Matching.{text_at}
 use Rattle.par2_search.specs.Texts.{IsWithin, texts_of, window_in}
 
+pub out_of : {X Y : Type 0} (f : X → Y) (b : Bool) (x : X) (o : Option X) → cond b (Some (f x)) (option_map f o) ≡ option_map f (cond b (Some x) o)
+out_of f true x o = refl
+out_of f false x o = refl
+
 find-map : {X Y : Type 0} (p : Y → Bool) (f : X → Y) (xs : List X) → find p (map f xs) ≡ option_map f (find (λ x. p (f x)) xs)
 find-map p f [] = refl
-find-map {X = X} p f (x ∷ xs) = ap (cond (p (f x)) (Some (f x))) (find-map p f xs) ∙ out (p (f x)) (find (λ y. p (f y)) xs)
-  where
-    out : (b : Bool) (o : Option X) → cond b (Some (f x)) (option_map f o) ≡ option_map f (cond b (Some x) o)
-    out true o = refl
-    out false o = refl
+find-map p f (x ∷ xs) = ap (cond (p (f x)) (Some (f x))) (find-map p f xs) ∙ out_of f (p (f x)) x (find (λ y. p (f y)) xs)
 
 -- what one text gives
 found_one : (s : ℕ) (text : List ℕ) (pair : Pair) → found s (text ∷ []) pair ≡ option_map (window s text) (first_match s text pair)
@@ -69,25 +69,20 @@ module _ (all : List (List ℕ)) (s : ℕ) (pair : Pair) where
   within_from n [] rest = tt
   within_from n (text ∷ texts) rest = step (first_match s text pair) (first_within s text pair _ refl) (within_from (n + 1) texts (head_of_rest all n text texts [] rest).2)
     where
-      head : (n < length all) × (get_or all n [] ≡ text) × (drop (n + 1) all ≡ texts)
-      head = head_of_rest all n text texts [] rest
-
       step : (o : Option ℕ) → IfSome o (λ k. k < length text) → IfSome (first_spot_from (n + 1) s texts pair) (IsWithin all) → IfSome (option_or (option_map (spot_in n) o) (first_spot_from (n + 1) s texts pair)) (IsWithin all)
       step None h later = later
-      step (Some k) h later = record { text = head.0; offset = subst (λ t. k < length t) (sym head.1) h }
+      step (Some k) h later = let head = head_of_rest all n text texts [] rest in record { text = head.0; offset = subst (λ t. k < length t) (sym head.1) h }
 
   -- and its window is the first that matches
   found_from : (n : ℕ) (texts : List (List ℕ)) → drop n all ≡ texts → option_map (window_in s all) (first_spot_from n s texts pair) ≡ found s texts pair
   found_from n [] rest = refl
   found_from n (text ∷ texts) rest =
+      let head = head_of_rest all n text texts [] rest in
       step (first_match s text pair) (first_spot_from (n + 1) s texts pair)
       ∙ ap₂ (λ t o. option_or (option_map (window s t) (first_match s text pair)) o) head.1 (found_from (n + 1) texts head.2)
       ∙ ap (λ o. option_or o (found s texts pair)) (sym (found_one s text pair))
       ∙ sym (found-append s (text ∷ []) texts pair)
     where
-      head : (n < length all) × (get_or all n [] ≡ text) × (drop (n + 1) all ≡ texts)
-      head = head_of_rest all n text texts [] rest
-
       step : (o : Option ℕ) (later : Option Spot) → option_map (window_in s all) (option_or (option_map (spot_in n) o) later) ≡ option_or (option_map (window s (text_at all n)) o) (option_map (window_in s all) later)
       step None later = refl
       step (Some k) later = refl

@@ -3,10 +3,11 @@ use Rattle.std.proofs.Common.{◌≡◌, ℕ, zero, suc, ◌+◌, ◌<◌, Bool,
 use Rattle.std.specs.Prelude.{Option, Some, None, IfSome, filter, find, ◌==◌, option_map, option_to_list}
 use Rattle.std.specs.List.{range_with_len, All, IsDistinct}
 use Rattle.std.specs.Str.{bytes_eq}
+use Rattle.std.proofs.Math.Bool.{or-false}
 use Rattle.std.proofs.lemmas.Bool.{cases_lt, eq-eqb, eqb-true, false≢true}
 use Rattle.std.proofs.lemmas.Bool.Decides.{same_from_decides}
 use Rattle.std.proofs.lemmas.List.{append_assoc, drop_more, ext_get_or, get_or-map, length-map}
-use Rattle.std.proofs.lemmas.List.Elements.{All-filter}
+use Rattle.std.proofs.lemmas.List.Elements.{All-filter, All-tail}
 use Rattle.std.proofs.lemmas.List.FromFn.{get_or-map-range_with_len, get_or-range_with_len, length-map-range_with_len, length-range_with_len}
 use Rattle.std.proofs.lemmas.Map.Keys.{apart_from_distinct}
 use Rattle.std.proofs.lemmas.Slice.Eq.{bytes_eq-Decides}
@@ -14,8 +15,10 @@ use Rattle.par2_spec.specs.Folders.{Folder, bytes_of}
 use Rattle.par2_spec.specs.Names.{is_among}
 use Rattle.par2_spec.specs.Search.{is_intact, matched}
 use Rattle.par2_spec.specs.Sets as sets
+use Rattle.par2_spec.proofs.ListsLaws.{map-cond}
 use Rattle.par2_search.specs.declared.matching.Target.{Target}
 use Rattle.par2_search.specs.Matching.{Describe, Describes, NumbersAreNames, first_intact, matched_from, matched_numbers, text_at, without}
+use Rattle.par2_search.proofs.FoundWindows.{out_of}
 
 -- the first of the texts from place n on
 first_from : (s : ℕ) (texts : List (List ℕ)) (t : sets.Target) (free : List ℕ) (n : ℕ) → n < length free → first_intact s texts t (drop n free)
@@ -91,17 +94,6 @@ same_number names i j distinct inside within =
       ]
     ]
 
-tail_below : (n i : ℕ) (free : List ℕ) → AreBelow n (i ∷ free) → AreBelow n free
-tail_below n i free h k d within = h (suc k) d (omega (arith, within))
-
-out_of : {X Y : Type 0} (f : X → Y) (b : Bool) (x : X) (o : Option X) → cond b (Some (f x)) (option_map f o) ≡ option_map f (cond b (Some x) o)
-out_of f true x o = refl
-out_of f false x o = refl
-
-kept_or_not : {X Y : Type 0} (f : X → Y) (b : Bool) (x : X) (xs : List X) → cond b (f x ∷ map f xs) (map f xs) ≡ map f (cond b (x ∷ xs) xs)
-kept_or_not f true x xs = refl
-kept_or_not f false x xs = refl
-
 -- the first name is that of the first number
 first_name : (folder : Folder) (s : ℕ) (names : List (List ℕ)) (t : sets.Target) (free : List ℕ) → AreBelow (length names) free
     → find (λ name. is_intact s t (bytes_of folder name)) (map (text_at names) free) ≡ option_map (text_at names) (first_intact s (map (bytes_of folder) names) t free)
@@ -110,13 +102,13 @@ first_name folder s names t (i ∷ free) below =
     let texts : List (List ℕ) = map (bytes_of folder) names in
     let name : List ℕ = text_at names i in
     let inside : i < length names = below 0 0 (omega arith) in
-    ap (λ o. cond (is_intact s t (bytes_of folder name)) (Some name) o) (first_name folder s names t free (tail_below (length names) i free below))
+    ap (λ o. cond (is_intact s t (bytes_of folder name)) (Some name) o) (first_name folder s names t free (All-tail (λ j. j < length names) i free below))
     ∙ ap (λ b. cond b (Some name) (option_map (text_at names) (first_intact s texts t free))) (ap (is_intact s t) (sym (get_or-map (bytes_of folder) names i [] [] inside)))
     ∙ out_of (text_at names) (is_intact s t (text_at texts i)) i (first_intact s texts t free)
 
 first_below : (s n : ℕ) (texts : List (List ℕ)) (t : sets.Target) (free : List ℕ) → AreBelow n free → IfSome (first_intact s texts t free) (λ i. i < n)
 first_below s n texts t [] below = tt
-first_below s n texts t (i ∷ free) below = step (is_intact s t (text_at texts i)) (first_below s n texts t free (tail_below n i free below))
+first_below s n texts t (i ∷ free) below = step (is_intact s t (text_at texts i)) (first_below s n texts t free (All-tail (λ j. j < n) i free below))
   where
     step : (b : Bool) → IfSome (first_intact s texts t free) (λ j. j < n) → IfSome (cond b (Some i) (first_intact s texts t free)) (λ j. j < n)
     step true h = below 0 0 (omega arith)
@@ -126,20 +118,16 @@ first_below s n texts t (i ∷ free) below = step (is_intact s t (text_at texts 
 names_left : (names : List (List ℕ)) (free : List ℕ) (taken : Option ℕ) → IsDistinct bytes_eq names → AreBelow (length names) free → IfSome taken (λ i. i < length names)
     → filter (λ name. not (is_among (option_to_list (option_map (text_at names) taken)) name)) (map (text_at names) free) ≡ map (text_at names) (without taken free)
 names_left names [] None distinct below low = refl
-names_left names (i ∷ free) None distinct below low = ap (λ rest. text_at names i ∷ rest) (names_left names free None distinct (tail_below (length names) i free below) low)
+names_left names (i ∷ free) None distinct below low = ap (λ rest. text_at names i ∷ rest) (names_left names free None distinct (All-tail (λ j. j < length names) i free below) low)
 names_left names [] (Some taken) distinct below low = refl
 names_left names (i ∷ free) (Some taken) distinct below low =
     let name : List ℕ = text_at names i in
     let rest : List ℕ = without (Some taken) free in
     let other : Bool = not (bytes_eq name (text_at names taken) || false) in
-    let same : other ≡ not (i == taken) = ap not (or_false (bytes_eq name (text_at names taken)) ∙ same_number names i taken distinct (below 0 0 (omega arith)) low) in
-    ap (λ left. cond other (name ∷ left) left) (names_left names free (Some taken) distinct (tail_below (length names) i free below) low)
+    let same : other ≡ not (i == taken) = ap not (or-false (bytes_eq name (text_at names taken)) ∙ same_number names i taken distinct (below 0 0 (omega arith)) low) in
+    ap (λ left. cond other (name ∷ left) left) (names_left names free (Some taken) distinct (All-tail (λ j. j < length names) i free below) low)
     ∙ ap (λ b. cond b (name ∷ map (text_at names) rest) (map (text_at names) rest)) same
-    ∙ kept_or_not (text_at names) (not (i == taken)) i rest
-  where
-    or_false : (b : Bool) → (b || false) ≡ b
-    or_false true = refl
-    or_false false = refl
+    ∙ sym (map-cond (text_at names) (not (i == taken)) i rest)
 
 left_below : (n : ℕ) (free : List ℕ) (taken : Option ℕ) → AreBelow n free → AreBelow n (without taken free)
 left_below n free None below = below
