@@ -7,6 +7,7 @@ use Rattle.std.specs.declared.cmp.Ordering.{Ordering}
 use Rattle.std.specs.declared.cmp.Ordering.TheVariants.{Less, Equal, Greater}
 use Rattle.std.specs.Ordering.{nat_cmp, is_lt, is_eq, eq_by_cmp}
 use Rattle.std.specs.Cmp.{nat_cmp_total, eq_by_cmp_equiv}
+use Rattle.std.proofs.Math.Facts.{yes_and}
 use Rattle.std.proofs.lemmas.Bool.{false≢true}
 use Rattle.std.specs.List.{cons_option, AllByRecursion}
 use Rattle.std.specs.List.Sorted.{IsStrictlySortedBy, IsStrictlyIncreasing}
@@ -75,11 +76,7 @@ below k (e ∷ es) h = subst (λ o. T (is_lt o && below_all nat_cmp k (map entry
 pub sorted : (es : List (ℕ × Bor (List ℕ))) → IsStrictlySortedBy nat_cmp (keys_of es) → T (is_sorted nat_cmp (map entry_of es))
 unfolding IsStrictlySortedBy
 sorted [] h = tt
-sorted (e ∷ es) h = both _ _ (below e.0 es h.0) (sorted es h.1)
-  where
-    both : (a b : Bool) → T a → T b → T (a && b)
-    both true b p q = q
-    both false b p q = p
+sorted (e ∷ es) h = yes_and _ _ (below e.0 es h.0) (sorted es h.1)
 
 -- a map that finds at each exponent what the packets have first
 pub first_slices : (packets : List Packet) (s : ℕ) (es : List (ℕ × Bor (List ℕ))) → IsStrictlySortedBy nat_cmp (keys_of es)
@@ -106,10 +103,6 @@ made_of es m e = same_entries_map _ _ (entries-from_sorted nat_cmp (recovered_of
 -- entries in order have exponents that rise
 pub rising : (es : List (ℕ × Bor (List ℕ))) → IsStrictlySortedBy nat_cmp (keys_of es) → IsStrictlyIncreasing (exponents_of es)
 rising es up = subst IsStrictlyIncreasing (sym (keys_are es)) (IsStrictlyIncreasing-from_sorted (keys_of es) up)
-
-pub sizes_of : (s : ℕ) (rs : List (ℕ × List ℕ)) → AllByRecursion (λ r. (r.0 < 65536) × (length r.1 ≡ s)) rs → AllByRecursion (λ r. length r.1 ≡ s) rs
-sizes_of s [] h = tt
-sizes_of s (r ∷ rs) h = (h.0.1, sizes_of s rs h.1)
 
 -- ---- one more packet
 

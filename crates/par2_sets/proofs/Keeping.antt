@@ -16,6 +16,7 @@ use Rattle.std.proofs.lemmas.List.Elements.{filter_map-append}
 use Rattle.std.proofs.lemmas.List.Folds.{find-append}
 use Rattle.std.proofs.lemmas.Map.Text.{is_eq-slice_cmp}
 use Rattle.par2_spec.proofs.NamesLaws.{same_either_way}
+use Rattle.par2_spec.proofs.TestLaws.{or_nothing}
 use Rattle.par2_sets.specs.Firsts.{KeepsFirst, id_cmp, count_cmp}
 
 -- ---- one more value
@@ -53,10 +54,6 @@ module _ {K X : Type 0} {R : K → K → Ordering} (total : IsTotalOrder R) wher
       step (Some x) false h = refl
 
 -- ---- the values that are read from a list
-
-pub or_nothing : {X : Type 0} (o : Option X) → o ≡ option_or o None
-or_nothing None = refl
-or_nothing (Some x) = refl
 
 module _ {A B X : Type 0} (read : B → Option X) (view : A → B) (xs : List A) (i : ℕ) (d : A) where
   -- one that is read

@@ -5,10 +5,6 @@ use Rattle.std.proofs.lemmas.List.{map_more}
 use Rattle.std.proofs.lemmas.Option.{slice_get_within, get_or_from_slice_get}
 use Rattle.par2_spec.specs.Sets.{all_some}
 
-pub option_map-same : {A : Type 0} (o : Option A) → option_map (λ x. x) o ≡ o
-option_map-same None = refl
-option_map-same (Some x) = refl
-
 all_some-push : {A : Type 0} (items : List (Option A)) (last : Option A)
     → all_some (items ++ last ∷ []) ≡ option_and_then (λ xs. option_map (λ x. xs ++ x ∷ []) last) (all_some items)
 all_some-push [] None = refl

@@ -1,18 +1,15 @@
 -- When names stand in a list once each.
-use Rattle.std.proofs.Common.{◌≡◌, ℕ, suc, ◌==◌, Bool, true, false, not, ◌||◌, cond, List, [], ◌∷◌, length, map, refl, ap, ap₂, ◌∙◌, eq-eqb, codes}
-use Rattle.std.specs.Prelude.{filter, nat_eq}
+use Rattle.std.proofs.Common.{◌≡◌, ℕ, suc, ◌==◌, Bool, true, false, ◌||◌, cond, List, [], ◌∷◌, length, map, refl, ap, ap₂, ◌∙◌, eq-eqb}
 use Rattle.std.specs.Bool.{Decides}
 use Rattle.std.specs.List.{IsDistinct}
 use Rattle.std.specs.Set.{distinct_count, unique_keys, is_member}
-use Rattle.std.specs.Str.{bytes_eq, is_utf8, IsUtf8}
-use Rattle.std.specs.List.{list_any, starts_with}
+use Rattle.std.specs.Str.{bytes_eq}
 use Rattle.std.specs.Cmp.Lexicographic.{nat_list_eq_equiv}
-use Rattle.std.proofs.lemmas.Bool.{eqb-true, or_parts, and_parts, false_from_ne_true}
-use Rattle.std.proofs.lemmas.Str.{IsUtf8-from_is_utf8}
+use Rattle.std.proofs.lemmas.Bool.{eqb-true}
 use Rattle.std.proofs.lemmas.Bool.Decides.{same_from_decides}
 use Rattle.std.proofs.lemmas.Map.Made.{IsDistinct-from_count, distinct_count-from_IsDistinct}
-use Rattle.par2_spec.specs.Names.{distinct, is_among, is_name}
-use Rattle.par2_spec.proofs.NamesLaws.{AreDistinct, distinct_from_std, std_from_distinct}
+use Rattle.par2_spec.specs.Names.{distinct}
+use Rattle.par2_spec.proofs.NamesLaws.{distinct_from_std, distinct_same, std_from_distinct}
 use Rattle.par2_spec.proofs.ReadLaws.{distinct_by_length}
 
 -- ---- keys that are compared by their names
@@ -34,16 +31,6 @@ module _ {K : Type 0} (same : K → K → Bool) (name : K → List ℕ) (by_name
 
 -- ---- names each once
 
-kept_all : (x : List ℕ) (xs : List (List ℕ)) → is_among xs x ≡ false → filter (λ other. not (bytes_eq x other)) xs ≡ xs
-kept_all x [] h = refl
-kept_all x (y ∷ xs) h =
-    let r = or_parts (bytes_eq x y) (is_among xs x) h in
-    ap₂ (λ b ys. cond (not b) (y ∷ ys) ys) r.0 (kept_all x xs r.1)
-
-distinct_same : (xs : List (List ℕ)) → AreDistinct xs → distinct xs ≡ xs
-distinct_same [] d = refl
-distinct_same (x ∷ xs) d = ap (λ ys. x ∷ filter (λ other. not (bytes_eq x other)) ys) (distinct_same xs d.1) ∙ ap (λ ys. x ∷ ys) (kept_all x xs d.0)
-
 by_count : (xs : List (List ℕ)) → Decides (distinct_count bytes_eq xs == length xs) (IsDistinct bytes_eq xs)
 by_count xs = (
   λ h. IsDistinct-from_count nat_list_eq_equiv xs (eqb-true _ _ h),
@@ -59,19 +46,3 @@ by_distinct xs = (
 -- as many keys as names is no name twice
 pub counted : (xs : List (List ℕ)) → (distinct_count bytes_eq xs == length xs) ≡ (length (distinct xs) == length xs)
 counted xs = same_from_decides _ _ (by_count xs) (by_distinct xs)
-
--- ---- names and texts
-
-is_text : (name : List ℕ) → is_name name ≡ true → is_utf8 name ≡ true
-unfolding is_name
-is_text name h =
-    let a = and_parts _ (not (starts_with nat_eq name (codes ".par2undo"))) h in
-    let b = and_parts _ (not (bytes_eq name (codes ".."))) a.0 in
-    let c = and_parts _ (not (bytes_eq name (codes "."))) b.0 in
-    let d = and_parts _ (not (list_any (λ x. x == 0) name)) c.0 in
-    let e = and_parts _ (not (list_any (λ x. x == 0x2F) name)) d.0 in
-    (and_parts _ (is_utf8 name) e.0).1
-
--- what is no text is no name
-pub no_text : (bytes : List ℕ) → (IsUtf8 bytes → ⊥) → is_name bytes ≡ false
-no_text bytes not_text = false_from_ne_true (is_name bytes) (λ h. not_text (IsUtf8-from_is_utf8 bytes (is_text bytes h)))

@@ -1,22 +1,19 @@
 -- Faults that are passed on.
 use Rattle.std.proofs.Common.{◌≡◌, ◌⊎◌, ◌<◌, ℕ, List, length, get_or, map, refl, sym, ap, ◌∙◌, subst, None, Some, Option, Ok, Err, Result}
-use Rattle.std.specs.Prelude.{ok_or, is_ok, IfErr}
+use Rattle.std.specs.Prelude.{ok_or, is_ok, IsErrAnd}
 use Rattle.std.proofs.lemmas.Bool.{false≢true}
+use Rattle.std.proofs.lemmas.Result.{err_from_is_err_and}
 use Rattle.par2_spec.specs.declared.Fault.{Fault}
 use Rattle.par2_spec.specs.declared.Fault.TheVariants.{Memory}
 use Rattle.par2_spec.specs.Sets.{all_some}
+use Rattle.par2_spec.proofs.TestLaws.{err_again}
 use Rattle.par2_sets.specs.Steps.{Gives}
 use Rattle.par2_sets.proofs.Lists.{all_some_none}
 
 -- what a `?` answers, where a step has ended in a fault
 pub passed_on : {X Y : Type 0} (view : X → Y) (r : Result X Fault) (whole : Result Y Fault) (fault : Fault)
-    → (y : Fault) × (r ≡ Err y) × (y ≡ fault) → (fault ≡ Memory) ⊎ (whole ≡ Err fault) → Gives view r whole
-passed_on view r whole fault p h = subst (λ x. Gives view x whole) (sym (p.1 ∙ ap Err p.2)) h
-
--- the same of a refusal alone
-pub refused_by : {X Y : Type 0} (r : Result X Fault) (whole : Result Y Fault) (fault : Fault)
-    → (y : Fault) × (r ≡ Err y) × (y ≡ fault) → (fault ≡ Memory) ⊎ (whole ≡ Err fault) → IfErr r (λ y. (y ≡ Memory) ⊎ (whole ≡ Err y))
-refused_by r whole fault p h = subst (λ x. IfErr x (λ y. (y ≡ Memory) ⊎ (whole ≡ Err y))) (sym (p.1 ∙ ap Err p.2)) h
+    → IsErrAnd r (λ y. y ≡ fault) → (fault ≡ Memory) ⊎ (whole ≡ Err fault) → Gives view r whole
+passed_on view r whole fault is h = err_again (λ x. Gives view x whole) r fault (err_from_is_err_and r is) h
 
 abbrev err_or : {A : Type 0} → Fault → Result A Fault → Fault
 err_or d (Ok x) = d

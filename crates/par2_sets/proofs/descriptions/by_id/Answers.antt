@@ -8,7 +8,8 @@ use Rattle.par2_packets.specs.Views.{packet_of}
 use Rattle.par2_packets.specs.declared.scan.Packet as scan
 use Rattle.par2_sets.specs.Firsts.{id_cmp}
 use Rattle.par2_sets.proofs.KeptPackets.{desc_in, has_id}
-use Rattle.par2_sets.proofs.Keeping.{reads, passes, first_read, item_kept, or_nothing, same_id}
+use Rattle.par2_spec.proofs.TestLaws.{or_nothing}
+use Rattle.par2_sets.proofs.Keeping.{reads, passes, first_read, item_kept, same_id}
 use Rattle.par2_spec.proofs.ListsLaws.{filter_map-map}
 use Rattle.par2_sets.proofs.descriptions.by_id.Goals as goal
 use Rattle.par2_sets.proofs.descriptions.by_id.Goals.{in-Some+in_ok-keep_first, in_default}

@@ -1,6 +1,5 @@
 use Rattle.std.proofs.Common.{◌≡◌, ◌∙◌, ◌++◌, ◌∷◌, [], inr, sym, ap, rules, Some, Err, arith}
 use Rattle.std.specs.Prelude.{ok_or}
-use Rattle.std.proofs.lemmas.Result.{err_from_is_err_and}
 use Rattle.par2_spec.specs.Sets.{description_of}
 use Rattle.par2_spec.specs.declared.Fault.TheVariants.{NoDescription}
 use Rattle.par2_sets.proofs.Lists.{item_at, all_some_more}
@@ -13,7 +12,7 @@ returns-in_err-description c packets holds =
     let found = description_of packets in
     let at = item_at ids c.loop-k.k _ c.id.ensures in
     let missing : ok_or (found c.id.result) NoDescription ≡ Err c.in_err-description.field-0.0 = ap (λ o. ok_or o NoDescription) (sym (c.description_of.ensures packets holds)) ∙ sym c.ok_or.ensures.value ∙ c.in_err-description.was in
-    passed_on _ _ _ _ (err_from_is_err_and c.from_residual.result c.from_residual.ensures.1) (inr (one_missing found ids c.loop-k.k c.id.result NoDescription _ at.0 at.1 missing))
+    passed_on _ _ _ _ c.from_residual.ensures.1 (inr (one_missing found ids c.loop-k.k c.id.result NoDescription _ at.0 at.1 missing))
 
 pub loop-k-preserved : goal.loop-k-preserved
 loop-k-preserved c packets holds =

@@ -1,6 +1,6 @@
 use Rattle.std.proofs.Common.{sym, subst}
 use Rattle.std.specs.Str.{IsUtf8}
-use Rattle.par2_sets.proofs.Names.{no_text}
+use Rattle.par2_spec.proofs.NameTests.{no_text}
 use Rattle.par2_sets.proofs.profile.name_of.Goals as goal
 
 pub returns-in_default-clause-variant : goal.returns-in_default-clause-variant

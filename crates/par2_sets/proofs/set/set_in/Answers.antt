@@ -1,5 +1,4 @@
 use Rattle.std.proofs.Common.{◌≡◌, ◌∙◌, ◌⊎◌, map, inl, inr, subst, Ok, Err}
-use Rattle.std.proofs.lemmas.Result.{err_from_is_err_and}
 use Rattle.par2_spec.specs.declared.Fault.TheVariants.{Memory}
 use Rattle.par2_spec.specs.Sets.{recovery_of}
 use Rattle.std.specs.FinMap.{entries}
@@ -25,7 +24,7 @@ pub returns-in_err-main : goal.returns-in_err-main
 returns-in_err-main c =
     let packets = map packet_of c.args.packets.now in
     let fault = c.in_err-main.field-0.0 in
-    passed_on _ _ _ fault (err_from_is_err_and c.from_residual.result c.from_residual.ensures.1) (
+    passed_on _ _ _ fault c.from_residual.ensures.1 (
     elim c.in_err-main.ensures.main as (λ _. (fault ≡ Memory) ⊎ (set_in c.args.id packets ≡ Err fault)) [
       | inl memory ↦ inl memory
       | inr none ↦ inr (no_main c.args.id packets fault none)
@@ -35,7 +34,7 @@ pub returns-in_err-targets : goal.returns-in_err-targets
 returns-in_err-targets c =
     let packets = map packet_of c.args.packets.now in
     let fault = c.in_err-targets.field-0.0 in
-    passed_on _ _ _ fault (err_from_is_err_and c.from_residual-in_err-targets.result c.from_residual-in_err-targets.ensures.1) (
+    passed_on _ _ _ fault c.from_residual-in_err-targets.ensures.1 (
     elim c.in_err-targets.ensures as (λ _. (fault ≡ Memory) ⊎ (set_in c.args.id packets ≡ Err fault)) [
       | inl memory ↦ inl memory
       | inr none ↦ inr (no_targets c.args.id packets c.in_ok-main.main c.in_ok-main.ensures.main fault none)

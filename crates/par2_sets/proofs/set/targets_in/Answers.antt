@@ -1,5 +1,4 @@
 use Rattle.std.proofs.Common.{◌≡◌, ◌∙◌, ◌⊎◌, map, inl, inr, sym, ap₂, Err}
-use Rattle.std.proofs.lemmas.Result.{err_from_is_err_and}
 use Rattle.par2_spec.specs.declared.Fault.TheVariants.{Memory, BadSet}
 use Rattle.par2_spec.specs.Sets.{are_in_profile, unless}
 use Rattle.par2_packets.specs.Views.{packet_of}
@@ -12,7 +11,7 @@ pub returns-in_err-described : goal.returns-in_err-described
 returns-in_err-described c =
     let packets = map packet_of c.args.packets.now in
     let fault = c.in_err-described.field-0.0 in
-    passed_on _ _ _ fault (err_from_is_err_and c.from_residual.result c.from_residual.ensures.1) (
+    passed_on _ _ _ fault c.from_residual.ensures.1 (
     elim c.in_err-described.ensures as (λ _. (fault ≡ Memory) ⊎ (targets_in packets c.args.main.now ≡ Err fault)) [
       | inl memory ↦ inl memory
       | inr none ↦ inr (not_described packets c.args.main.now fault none)
@@ -23,7 +22,7 @@ returns-in_err-names c =
     let packets = map packet_of c.args.packets.now in
     let fault = c.in_err-names.field-0.0 in
     let in_profile = ap₂ (λ n ds. unless (are_in_profile n ds) BadSet) (sym c.slice_size-slice_size.ensures) (sym c.deref.ensures.value) in
-    passed_on _ _ _ fault (err_from_is_err_and c.from_residual-in_err-names.result c.from_residual-in_err-names.ensures.1) (
+    passed_on _ _ _ fault c.from_residual-in_err-names.ensures.1 (
     elim c.in_err-names.ensures.test as (λ _. (fault ≡ Memory) ⊎ (targets_in packets c.args.main.now ≡ Err fault)) [
       | inl memory ↦ inl memory
       | inr none ↦ inr (not_taken packets c.args.main.now c.in_ok-described.described.items c.in_ok-described.ensures fault (in_profile ∙ none))

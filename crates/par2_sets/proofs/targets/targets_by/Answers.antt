@@ -1,6 +1,5 @@
 use Rattle.std.proofs.Common.{◌≡◌, ◌∙◌, ◌⊎◌, ◌++◌, ◌∷◌, [], length, map, take, inl, inr, sym, ap, rules, Some, Err}
 use Rattle.std.proofs.lemmas.List.{length_push}
-use Rattle.std.proofs.lemmas.Result.{err_from_is_err_and}
 use Rattle.std.proofs.lemmas.Slice.Zip.{zip_turn}
 use Rattle.par2_spec.specs.declared.Fault.TheVariants.{Memory, NoChecksums}
 use Rattle.par2_spec.specs.Sets.{all_some, target_of}
@@ -16,7 +15,7 @@ returns-in_err-target c packets holds =
     let d = c.in-Some.description.now in
     let fault = c.in_err-target.field-0.0 in
     let turn = zip_turn ds c.args.names.now c.loop-description.yielded c.into_iter-description-iterator.result c.loop-description.description-iterator c.next.new.self c.next.result (cc) (cc) c.loop-description.yielded_by (c.in-Some.description, c.in-Some.name) c.in-Some.is c.next.ensures.steps in
-    passed_on _ _ _ fault (err_from_is_err_and c.from_residual.result c.from_residual.ensures.1) (
+    passed_on _ _ _ fault c.from_residual.ensures.1 (
     elim (c.in_err-target.ensures packets holds) as (λ _. (fault ≡ Memory) ⊎ (targets_or_fault packets c.args.s ds ≡ Err fault)) [
       | inl memory ↦ inl memory
       | inr missing ↦ inr (one_missing (target_of packets c.args.s) ds (length c.loop-description.yielded) d NoChecksums fault turn.0 (turn.2 d) missing)

@@ -3,8 +3,9 @@ use Rattle.std.specs.List.{AllByRecursion}
 use Rattle.std.specs.List.Sorted.{IsStrictlyIncreasing}
 use Rattle.std.specs.FinMap.{entries}
 use Rattle.par2_spec.specs.Sets.{IsSound}
+use Rattle.par2_spec.proofs.RankLaws.{all_weaker}
 use Rattle.par2_sets.specs.Slices.{exponents_of, recovered_of}
-use Rattle.par2_sets.proofs.Exponents.{kept_entries, sizes_of}
+use Rattle.par2_sets.proofs.Exponents.{kept_entries}
 use Rattle.par2_sets.proofs.set.ParSet.recovery.Goals as goal
 
 pub returns : goal.returns
@@ -16,5 +17,5 @@ returns c =
     let sound = subst IsSound c.self.view_is c.self.invariant.sound in record {
       value = same;
       rising = subst (λ rs. IsStrictlyIncreasing (exponents_of rs)) (sym items) c.self.invariant.rising;
-      sizes = sizes_of set.slice_size (recovered_of c.deref.result.now) (subst (AllByRecursion (λ r. (r.0 < 65536) × (length r.1 ≡ set.slice_size))) (sym same) sound.recovery);
+      sizes = all_weaker _ (λ r. length r.1 ≡ set.slice_size) (λ r h. h.1) (recovered_of c.deref.result.now) (subst (AllByRecursion (λ r. (r.0 < 65536) × (length r.1 ≡ set.slice_size))) (sym same) sound.recovery);
     }
