@@ -1,5 +1,5 @@
 -- The loops that add products.
-use Rattle.std.proofs.Common.{ℕ, zero, suc, ◌+◌, ◌*◌, ◌<◌, ◌≤◌, ◌≡◌, inl, inr, refl, sym, ap, ◌∙◌, subst, arith, List, [], ◌∷◌, length, get_or, bit_xor}
+use Rattle.std.proofs.Common.{ℕ, suc, ◌+◌, ◌*◌, ◌<◌, ◌≤◌, ◌≡◌, inl, inr, refl, sym, ap, ◌∙◌, subst, arith, List, length, get_or, bit_xor}
 use Rattle.std.proofs.lemmas.Bool.{cases_eq, cases_lt}
 use Rattle.std.specs.Int.Bits.{xor_assoc, xor_zero_r}
 use Rattle.par2_spec.specs.Field.{mul}
@@ -47,11 +47,6 @@ no_source factors sources old from to = record {
   above = λ r p h. refl;
   bytes = λ h. h;
 }
-
-past : (lists : List (List ℕ)) (r : ℕ) → length lists ≤ r → list_at lists r ≡ []
-past [] r h = refl
-past (x ∷ lists) zero h = absurd (omega arith)
-past (x ∷ lists) (suc r) h = past lists r (omega arith)
 
 -- one source more
 pub next_source : (factors sources old mid new : List (List ℕ)) (from to n : ℕ) → Adds factors sources old mid from to n

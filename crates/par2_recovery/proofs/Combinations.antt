@@ -5,18 +5,18 @@ use Rattle.std.specs.Borrow.{Bor}
 use Rattle.std.specs.List.{range_with_len, AllByRecursion}
 use Rattle.std.specs.Int.Bits.{xor_zero_l}
 use Rattle.std.proofs.Common.{append_assoc, zero-add, true}
-use Rattle.std.proofs.lemmas.List.{ext_get_or, length-map, map-append, get_or_append_left, get_or_at, get_or_past, take_all}
+use Rattle.std.proofs.lemmas.List.{ext_get_or, length-map, map-append, get_or_append_left, get_or_at, get_or_past, length-replicate}
 use Rattle.std.proofs.lemmas.List.FromFn.{map-range_with_len_more, get_or-map-range_with_len, length-map-range_with_len, length-range_with_len, get_or-range_with_len}
-use Rattle.par2_spec.specs.Field.{mul, coefficient, constant}
+use Rattle.par2_spec.specs.Field.{mul, coefficient}
 use Rattle.std.specs.Prelude.{take, drop}
 use Rattle.par2_spec.specs.Slices.{padded, word, slice_at}
 use Rattle.par2_spec.specs.Names.{is_name}
 use Rattle.par2_spec.specs.Recovery.{dot, coefficients, combination, recovery}
-use Rattle.par2_spec.proofs.FieldOrder.{power-lt}
+use Rattle.par2_spec.proofs.ListsLaws.{all_at, range-append}
 use Rattle.par2_spec.proofs.FieldProducts.{product-lt}
-use Rattle.par2_spec.proofs.FieldConstants.{constant-lt}
 use Rattle.par2_spec.specs.Sums.{field_sum, list_at, lists_of}
 use Rattle.par2_spec.proofs.SumLaws.{field_sum_same, field_sum-lt, dot_sum, product_at}
+use Rattle.par2_spec.proofs.UniqueLaws.{coefficients_are}
 use Rattle.par2_spec.proofs.WordLaws.{combination_words, word-lt}
 use Rattle.par2_recovery.specs.Products.{AreBytes, Adds, products}
 use Rattle.par2_recovery.specs.Views.{texts_of, AreBlank}
@@ -44,14 +44,8 @@ words_of_padded s (t ∷ lists) p (suc k) = words_of_padded s lists p k
 
 -- ---- coefficients
 
-pub coefficient-lt : (e k : ℕ) → coefficient e k < 65536
-unfolding coefficient
-coefficient-lt e k = power-lt (constant k) e (constant-lt k)
-
 pub coefficients-lt : (numbers : List ℕ) (e k : ℕ) → get_or (coefficients numbers e) k 0 < 65536
-coefficients-lt [] e k = omega arith
-coefficients-lt (n ∷ numbers) e zero = coefficient-lt e n
-coefficients-lt (n ∷ numbers) e (suc k) = coefficients-lt numbers e k
+coefficients-lt numbers e k = all_at (λ x. x < 65536) 0 (omega arith) (coefficients numbers e) (coefficients_are e numbers) k
 
 -- the sum of products by a row of coefficients, at a word of padded texts
 pub dot_padded : (s : ℕ) (row : List ℕ) (lists : List (List ℕ)) (p : ℕ) → length row ≤ length lists
@@ -89,12 +83,8 @@ blank_push s n xs v so_far is =
 pub blank_word : (s p : ℕ) → word p (replicate s 0) ≡ 0
 blank_word s p = ap₂ (λ x y. x + 256 * y) (zeros_read s (2 * p)) (zeros_read s (2 * p + 1))
 
-pub length-blank : (s : ℕ) → length {A = ℕ} (replicate s 0) ≡ s
-length-blank zero = refl
-length-blank (suc s) = ap suc (length-blank s)
-
 pub blank_room : (s n bound : ℕ) (lists : List (List ℕ)) → AreBlank s n lists → bound ≤ s → (r : ℕ) → r < n → bound ≤ length (list_at lists r)
-blank_room s n bound lists blank h r low = subst (λ xs. bound ≤ length xs) (sym (blank.each r low)) (let e = length-blank s in omega (arith, e))
+blank_room s n bound lists blank h r low = subst (λ xs. bound ≤ length xs) (sym (blank.each r low)) (let e = length-replicate {A = ℕ} s 0 in omega (arith, e))
 
 pub blank_bytes : (s n : ℕ) (lists : List (List ℕ)) → AreBlank s n lists → AreBytes lists
 blank_bytes s n lists blank r k = elim (cases_lt r n) [
@@ -123,7 +113,7 @@ are_recovery s first count factors lists old new even bytes rows blank added =
         let row = coefficients (range_with_len 0 (length lists)) (first + r) in
         let row_is : list_at factors r ≡ row = ap (λ xs. list_at xs r) rows ∙ get_or-map-range_with_len (coefficients (range_with_len 0 (length lists))) first count r (first + r) [] low refl in
         let long : length row ≡ length lists = length-map (range_with_len 0 (length lists)) (coefficient (first + r)) ∙ length-range_with_len 0 (length lists) in
-        let sized : length (list_at new r) ≡ s = added.sizes r ∙ ap length (blank.each r low) ∙ length-blank s in
+        let sized : length (list_at new r) ≡ s = added.sizes r ∙ ap length (blank.each r low) ∙ length-replicate {A = ℕ} s 0 in
         ap (λ n. combination s (coefficients (range_with_len 0 n) (first + r)) (map (padded s) lists)) size
         ∙ (combination_words s row (map (padded s) lists) (list_at new r) even
         (λ w. dot_padded-lt s row lists w (omega (arith, long)) (coefficients-lt (range_with_len 0 (length lists)) (first + r)) bytes)
@@ -131,20 +121,14 @@ are_recovery s first count factors lists old new even bytes rows blank added =
         (λ w fits.
         dot_padded s row lists w (omega (arith, long))
         ∙ ap (λ (xs : List ℕ). field_sum (length lists) (λ k. mul (get_or xs k 0) (word w (list_at lists k)))) (sym row_is)
-        ∙ sym (added.inside r w (omega (arith, blank.count)) (omega arith) (omega arith) (let e = ap length (blank.each r low) ∙ length-blank s in omega (arith, e))
+        ∙ sym (added.inside r w (omega (arith, blank.count)) (omega arith) (omega arith) (let e = ap length (blank.each r low) ∙ length-replicate {A = ℕ} s 0 in omega (arith, e))
         ∙ ap (λ x. bit_xor x (products (length lists) factors lists r w)) (ap (λ xs. word w xs) (blank.each r low) ∙ blank_word s w)
         ∙ xor_zero_l (products (length lists) factors lists r w)))
 
 -- ---- rows of factors
 
 pub range_more : (n : ℕ) → range_with_len 0 (n + 1) ≡ range_with_len 0 n ++ n ∷ []
-range_more n = more 0 n n (omega arith)
-  where
-    more : (a m j : ℕ) → a + m ≡ j → range_with_len a (m + 1) ≡ range_with_len a m ++ j ∷ []
-    more a zero j e = let same : a ≡ j = omega arith in ap (λ x. x ∷ []) same
-    more a (suc m) j e =
-        let next : suc m + 1 ≡ suc (m + 1) = omega arith in
-        ap (range_with_len a) next ∙ ap (λ xs. a ∷ xs) (more (a + 1) m j (omega arith))
+range_more n = range-append 0 n 1 ∙ ap (λ m. range_with_len 0 n ++ m ∷ []) (zero-add n)
 
 pub range-lt : (n i bound : ℕ) → n ≤ bound → 0 < bound → get_or (range_with_len 0 n) i 0 < bound
 range-lt n i bound h some = elim (cases_lt i n) [
@@ -176,9 +160,6 @@ slices_push s j bytes xs v before so_far is =
     ∙ ap₂ (λ a b. a ++ padded s b ∷ []) so_far is
     ∙ append_assoc before (map (slice_at s bytes) (range_with_len 0 j)) (slice_at s bytes j ∷ [])
     ∙ ap (λ xs. before ++ xs) (sym (map-range_with_len_more (slice_at s bytes) 0 j j (zero-add j)))
-
-pub all_of_them : (names : List (List ℕ)) (n : ℕ) → n ≡ length names → take n names ≡ names
-all_of_them names n e = take_all n names (omega (arith, e))
 
 pub name_within : (names : List (List ℕ)) (i : ℕ) → AllByRecursion (λ name. is_name name ≡ true) names → i < length names → is_name (get_or names i []) ≡ true
 name_within [] i all h = absurd (omega arith)

@@ -2,9 +2,9 @@
 use Rattle.std.proofs.Common.{inl, inr, ℕ, zero, suc, ◌+◌, ◌*◌, ◌/◌, ◌%◌, ◌<◌, ◌≤◌, ◌≡◌, refl, sym, ap, ap₂, ◌∙◌, arith, List, [], ◌∷◌, ◌++◌, length, length-append, get_or, Global, map, subst, Vec, bit_xor}
 use Rattle.std.proofs.Math.Seq.{get_or-append_seam}
 use Rattle.std.proofs.lemmas.Bool.{cases_eq, cases_lt}
-use Rattle.std.proofs.lemmas.List.{get_or_append_left, get_or-map, length-map, map-append}
+use Rattle.std.proofs.lemmas.List.{get_or_append_left, get_or-map, length-map, length-replicate, map-append}
 use Rattle.std.proofs.lemmas.Nat.{xor_comm, xor_lt}
-use Rattle.std.specs.Int.Bits.{xor_assoc, xor_self, xor_zero_l, xor_zero_r}
+use Rattle.std.specs.Int.Bits.{xor_zero_l}
 use Rattle.std.specs.List.{AllByRecursion}
 use Rattle.std.specs.Borrow.{Bor}
 use Rattle.par2_spec.specs.Field.{mul, coefficient}
@@ -15,7 +15,7 @@ use Rattle.par2_spec.proofs.FieldBits.{xor_middle}
 use Rattle.par2_spec.proofs.FieldProducts.{product_linear_right}
 use Rattle.par2_matrix.specs.Echelon.{Spells}
 use Rattle.par2_spec.specs.Sums.{field_sum, list_at, lists_of, AreElements}
-use Rattle.par2_spec.proofs.SumLaws.{field_sum_same, field_sum_xor, row_sum_unit, dot_sum, product_at}
+use Rattle.par2_spec.proofs.SumLaws.{field_sum_same, field_sum_xor, row_sum_unit, dot_sum, product_at, xor_same}
 use Rattle.par2_spec.proofs.WordLaws.{byte_at, bytes_at, combination_words, length-lists_of, same_texts, word-lt}
 use Rattle.par2_recovery.specs.Elements.{AreRows, IsUnit}
 use Rattle.par2_recovery.specs.Inverses.{recovery_at, GivesUnit, AreCoefficients, AreFactors, lack, AreCombined}
@@ -23,7 +23,7 @@ use Rattle.par2_recovery.specs.Products.{AreBytes, Adds, products}
 use Rattle.par2_recovery.specs.Survivors.{recovered_of}
 use Rattle.par2_recovery.specs.Views.{AreBlank}
 use Rattle.par2_recovery.proofs.Dots.{combined}
-use Rattle.par2_recovery.proofs.Combinations.{coefficients-lt, blank_word, blank_bytes, length-blank}
+use Rattle.par2_recovery.proofs.Combinations.{coefficients-lt, blank_word, blank_bytes}
 use Rattle.par2_recovery.proofs.Rebuilding.{AreSized}
 use Rattle.par2_spec.proofs.UniqueLaws.{coefficients_are, dot-lt, words_are}
 
@@ -41,7 +41,7 @@ length-slices recovery = length-map recovery (λ (r : ℕ × List ℕ). r.1)
 pub from_zeros : (size n words k : ℕ) (factors sources zeros sums : List (List ℕ)) → AreBlank size n zeros → 2 * words ≤ size → Adds factors sources zeros sums 0 words k
     → (r p : ℕ) → r < n → p < words → word p (list_at sums r) ≡ products k factors sources r p
 from_zeros size n words k factors sources zeros sums blank room added r p low here =
-    let fits : 2 * p + 1 < length (list_at zeros r) = (let e = ap length (blank.each r low) ∙ length-blank size in omega (arith, e)) in
+    let fits : 2 * p + 1 < length (list_at zeros r) = (let e = ap length (blank.each r low) ∙ length-replicate {A = ℕ} size 0 in omega (arith, e)) in
     added.inside r p (omega (arith, blank.count)) (omega arith) here fits
     ∙ ap (λ x. bit_xor x (products k factors sources r p)) (ap (λ xs. word p xs) (blank.each r low) ∙ blank_word size p)
     ∙ xor_zero_l (products k factors sources r p)
@@ -86,7 +86,7 @@ are_factors n numbers kept inverse texts zeros sums factors count are blank adde
     sizes : (r : ℕ) → r < n → length (list_at factors r) ≡ length numbers
     sizes r h =
         let size = (rows.each r h).size in
-        let e = added.sizes r ∙ ap length (blank.each r h) ∙ length-blank (2 * length numbers) in
+        let e = added.sizes r ∙ ap length (blank.each r h) ∙ length-replicate {A = ℕ} (2 * length numbers) 0 in
         omega (arith, size, e)
 
 -- the two sums of a word: over the known slices, and over the recovery slices
@@ -113,7 +113,7 @@ are_combined s n numbers kept inverse rows factors known slices zeros sums new e
 }
   where
     mid_size : (r : ℕ) → r < n → length (list_at sums r) ≡ s
-    mid_size r h = first.sizes r ∙ ap length (blank.each r h) ∙ length-blank s
+    mid_size r h = first.sizes r ∙ ap length (blank.each r h) ∙ length-replicate {A = ℕ} s 0
 
     size : (r : ℕ) → r < n → length (list_at new r) ≡ s
     size r h = second.sizes r ∙ mid_size r h
@@ -224,9 +224,6 @@ differences_vector w (x ∷ xs) (y ∷ ys) e hx hy =
       (xor_lt 16 (word w x) (word w y) (word-lt x w (byte_at x hx.0)) (word-lt y w (byte_at y hy.0)), rest.1),
     )
 
-same_if_none : (a b : ℕ) → bit_xor a b ≡ 0 → a ≡ b
-same_if_none a b e = sym (xor_zero_r a) ∙ ap (bit_xor a) (sym (xor_self b)) ∙ sym (xor_assoc a b b) ∙ ap (λ x. bit_xor x b) e ∙ xor_zero_l b
-
 pub same_texts_by : (s : ℕ) (xs ys : List (List ℕ)) → s % 2 ≡ 0 → length xs ≡ length ys → AreSized s xs → AreSized s ys
     → ((w : ℕ) → 2 * w + 1 < s → AllByRecursion (λ x. x ≡ 0) (differences w xs ys)) → xs ≡ ys
 unfolding differences
@@ -236,6 +233,6 @@ same_texts_by s (x ∷ xs) [] even e hx hy none = absurd (omega arith)
 same_texts_by s (x ∷ xs) (y ∷ ys) even e hx hy none =
     let first : x ≡ y =
     same_texts s x y even hx.0.0 hy.0.0 (byte_at x hx.1.0) (byte_at y hy.1.0)
-    (λ w h. same_if_none (word w x) (word w y) (none w h).0) in
+    (λ w h. xor_same (word w x) (word w y) (none w h).0) in
     let rest : xs ≡ ys = same_texts_by s xs ys even (omega arith) (hx.0.1, hx.1.1) (hy.0.1, hy.1.1) (λ w h. (none w h).1) in
     ap₂ (λ a b. a ∷ b) first rest

@@ -2,14 +2,16 @@
 use Rattle.std.proofs.Common.{ℕ, zero, suc, ◌+◌, ◌<◌, ◌≤◌, ◌≡◌, ◌≢◌, ◌↔◌, inl, inr, refl, sym, ap, ap₂, ◌∙◌, subst, arith, Bool, true, false, cond, ltb, List, [], ◌∷◌, ◌++◌, length, get_or, map, bit_xor, append-nil}
 use Rattle.std.specs.Prelude.{take, filter}
 use Rattle.std.proofs.lemmas.Bool.{cases_eq, lt-ltb, le-ltb}
-use Rattle.std.proofs.lemmas.List.{take_more, map-append, take_all}
-use Rattle.std.proofs.lemmas.List.Elements.{filter-append}
+use Rattle.std.proofs.lemmas.List.{length_push, take_more, map-append, take_all}
+use Rattle.std.proofs.lemmas.List.Elements.{filter_more}
+use Rattle.std.proofs.lemmas.List.Kept.{AllPairs-from_increasing}
 use Rattle.std.specs.List.{AllByRecursion}
 use Rattle.std.specs.List.Sorted.{IsStrictlyIncreasing}
 use Rattle.par2_spec.specs.Field.{mul}
 use Rattle.par2_spec.specs.Recovery.{dot, coefficients}
 use Rattle.par2_spec.specs.Rank.{IsVector, is_independent, smaller, kept}
 use Rattle.par2_spec.proofs.FieldOrder.{product-zero}
+use Rattle.par2_spec.proofs.ListsLaws.{all-append, all-parts}
 use Rattle.par2_matrix.specs.Systems as systems
 use Rattle.par2_matrix.specs.Systems.{Equations, CutDown, IsIndependent, OnlyZeroIsKilled}
 use Rattle.std.specs.Prelude.{Result, Ok}
@@ -19,16 +21,6 @@ use Rattle.par2_matrix.specs.declared.system.Offer.TheVariants.{Kept, Dependent}
 use Rattle.par2_recovery.proofs.RankTests.{AllKill, independent, dependent}
 
 -- ---- the exponents before one
-
-rising : (xs : List ℕ) → IsStrictlyIncreasing xs → (j k : ℕ) → j < k → k < length xs → get_or xs j 0 < get_or xs k 0
-rising xs up j zero low h = absurd (omega arith)
-rising xs up j (suc k) low h =
-    let e : k + 1 ≡ suc k = omega arith in
-    let next : get_or xs k 0 < get_or xs (suc k) 0 = subst (λ m. get_or xs k 0 < get_or xs m 0) e (up k (omega arith)) in
-    elim (cases_eq j k) [
-      | inl same ↦ subst (λ m. get_or xs m 0 < get_or xs (suc k) 0) (sym same) next
-      | inr other ↦ let before = rising xs up j k (omega arith) (omega arith) in omega (arith, before, next)
-    ]
 
 -- what passes a test are the first i
 pub filter_front : (t : ℕ → Bool) (xs : List ℕ) (i : ℕ) → ((k : ℕ) → k < i → k < length xs → t (get_or xs k 0) ≡ true) → ((k : ℕ) → i ≤ k → k < length xs → t (get_or xs k 0) ≡ false) → filter t xs ≡ take i xs
@@ -48,10 +40,10 @@ filter_front t (x ∷ xs) (suc i) inside past =
 pub smaller_are : (xs : List ℕ) → IsStrictlyIncreasing xs → (i : ℕ) → i < length xs → smaller (get_or xs i 0) xs ≡ take i xs
 smaller_are xs up i h =
     filter_front (λ x. ltb x (get_or xs i 0)) xs i
-    (λ k low l. lt-ltb _ _ (rising xs up k i low h))
+    (λ k low l. lt-ltb _ _ (AllPairs-from_increasing xs up k i 0 low h))
     (λ k high l. le-ltb _ _ (elim (cases_eq i k) [
       | inl same ↦ (let e : get_or xs i 0 ≡ get_or xs k 0 = ap (λ m. get_or xs m 0) same in omega (arith, e))
-      | inr other ↦ (let more = rising xs up i k (omega arith) l in omega (arith, more))
+      | inr other ↦ (let more = AllPairs-from_increasing xs up i k 0 (omega arith) l in omega (arith, more))
     ]))
 
 -- ---- the exponents that were offered
@@ -66,20 +58,16 @@ pub record Eliminated (lost all : List ℕ) (i : ℕ) (s : Equations) : Type 0 w
   pub kills : (v : List ℕ) → IsVector (length lost) v → systems.IsKilled s v ↔ AllKill (map (coefficients lost) (take i all)) v
   pub rank : systems.rank s ≡ length (filter (is_kept lost all) (take i all))
 
-all_killed_more : (rows : List (List ℕ)) (row v : List ℕ) → AllKill (rows ++ row ∷ []) v ↔ (AllKill rows v × (dot row v ≡ 0))
-all_killed_more [] row v = ((λ h. (tt, h.0)), (λ h. (h.1, tt)))
-all_killed_more (r ∷ rows) row v =
-    let more = all_killed_more rows row v in
-    ((λ h. ((h.0, (more.0 h.1).0), (more.0 h.1).1)), (λ h. (h.0.0, more.1 (h.0.1, h.1))))
+pub all_more : {A : Type 0} (P : A → Type 0) (xs : List A) (x : A) → AllByRecursion P (xs ++ x ∷ []) ↔ (AllByRecursion P xs × P x)
+all_more P xs x = ((λ h. let parts = all-parts P xs (x ∷ []) h in (parts.0, parts.1.0)), (λ h. all-append P xs (x ∷ []) h.0 (h.1, tt)))
 
 rows_more : (lost all : List ℕ) (i : ℕ) → i < length all
     → map (coefficients lost) (take (i + 1) all) ≡ map (coefficients lost) (take i all) ++ coefficients lost (get_or all i 0) ∷ []
 rows_more lost all i h = ap (map (coefficients lost)) (take_more all i 0 h) ∙ map-append (coefficients lost) (take i all) (get_or all i 0 ∷ [])
 
-kept_more : (p : ℕ → Bool) (all : List ℕ) (i : ℕ) (b : Bool) → i < length all → p (get_or all i 0) ≡ b
-    → filter p (take (i + 1) all) ≡ filter p (take i all) ++ cond b (get_or all i 0 ∷ []) []
-kept_more p all i b h e =
-    ap (filter p) (take_more all i 0 h) ∙ filter-append p (take i all) (get_or all i 0 ∷ []) ∙ ap (λ c. filter p (take i all) ++ cond c (get_or all i 0 ∷ []) []) e
+pub kept_more : {A : Type 0} (p : A → Bool) (xs : List A) (i : ℕ) (d : A) (b : Bool) → i < length xs → p (get_or xs i d) ≡ b
+    → filter p (take (i + 1) xs) ≡ filter p (take i xs) ++ cond b (get_or xs i d ∷ []) []
+kept_more p xs i d b h e = filter_more p xs i d h ∙ ap (λ c. filter p (take i xs) ++ cond c (get_or xs i d ∷ []) []) e
 
 pub none_offered : (lost all : List ℕ) (n b : ℕ) → n ≡ length lost → Eliminated lost all 0 (systems.no_equations n b)
 none_offered lost [] n b e = record { columns = e; kills = λ v is. ((λ h. h), (λ h. h)); rank = refl }
@@ -90,10 +78,6 @@ is_kept_at : (lost all : List ℕ) (i : ℕ) → IsStrictlyIncreasing all → i 
     → is_kept lost all (get_or all i 0) ≡ is_independent (length lost) (map (coefficients lost) (take i all)) (coefficients lost (get_or all i 0))
 is_kept_at lost all i up h =
     ap (λ before. is_independent (length lost) (map (coefficients lost) before) (coefficients lost (get_or all i 0))) (smaller_are all up i h)
-
-length-more : (xs : List ℕ) (x : ℕ) → length (xs ++ x ∷ []) ≡ length xs + 1
-length-more [] x = refl
-length-more (y ∷ xs) x = let e = length-more xs x in omega (arith, e)
 
 pub kept_is : (lost all : List ℕ) (i : ℕ) (s : Equations) → IsStrictlyIncreasing all → i < length all → Eliminated lost all i s → IsIndependent s (coefficients lost (get_or all i 0))
     → is_kept lost all (get_or all i 0) ≡ true
@@ -118,10 +102,10 @@ one_kept lost all i s new right up h so_far same cut told = record {
   kills = λ v is.
       let old = so_far.kills v is in
       let now = cut.kills v (subst (λ n. IsVector n v) (sym so_far.columns) is) in
-      let more = all_killed_more (map (coefficients lost) (take i all)) (coefficients lost (get_or all i 0)) v in
+      let more = all_more (λ row. dot row v ≡ 0) (map (coefficients lost) (take i all)) (coefficients lost (get_or all i 0)) in
       subst (λ rows. systems.IsKilled new v ↔ AllKill rows v) (sym (rows_more lost all i h))
       ((λ k. more.1 (old.0 (now.0 k).0, (now.0 k).1)), (λ k. now.1 (old.1 (more.0 k).0, (more.0 k).1)));
-  rank = cut.rank ∙ ap (λ n. n + 1) so_far.rank ∙ sym (ap length (kept_more (is_kept lost all) all i true h (kept_is lost all i s up h so_far told)) ∙ length-more (filter (is_kept lost all) (take i all)) (get_or all i 0));
+  rank = cut.rank ∙ ap (λ n. n + 1) so_far.rank ∙ sym (ap length (kept_more (is_kept lost all) all i 0 true h (kept_is lost all i s up h so_far told)) ∙ length_push (filter (is_kept lost all) (take i all)) (get_or all i 0));
 }
 
 -- an equation was not kept
@@ -131,10 +115,10 @@ none_kept lost all i s up h so_far follows = record {
   columns = so_far.columns;
   kills = λ v is.
       let old = so_far.kills v is in
-      let more = all_killed_more (map (coefficients lost) (take i all)) (coefficients lost (get_or all i 0)) v in
+      let more = all_more (λ row. dot row v ≡ 0) (map (coefficients lost) (take i all)) (coefficients lost (get_or all i 0)) in
       subst (λ rows. systems.IsKilled s v ↔ AllKill rows v) (sym (rows_more lost all i h))
       ((λ k. more.1 (old.0 k, follows v (subst (λ n. IsVector n v) (sym so_far.columns) is) k)), (λ k. old.1 (more.0 k).0));
-  rank = so_far.rank ∙ sym (ap length (kept_more (is_kept lost all) all i false h (dependent_is lost all i s up h so_far follows) ∙ append-nil (filter (is_kept lost all) (take i all))));
+  rank = so_far.rank ∙ sym (ap length (kept_more (is_kept lost all) all i 0 false h (dependent_is lost all i s up h so_far follows) ∙ append-nil (filter (is_kept lost all) (take i all))));
 }
 
 -- where only zero is killed, each row follows

@@ -3,13 +3,14 @@ use Rattle.std.proofs.Common.{ℕ, zero, suc, ◌+◌, ◌*◌, ◌%◌, ◌<◌
 use Rattle.std.specs.Prelude.{Option, Some, None, option_map, is_none, filter}
 use Rattle.std.specs.List.{range_with_len, enumerate_from, AllByRecursion, AllZip}
 use Rattle.std.specs.Option.{ForSome}
-use Rattle.std.specs.Int.Bits.{xor_assoc, xor_self, xor_zero_r}
+use Rattle.std.specs.Int.Bits.{xor_assoc}
 use Rattle.std.proofs.lemmas.Nat.{xor_comm}
 use Rattle.par2_spec.specs.Field.{mul, coefficient}
 use Rattle.par2_spec.specs.Slices.{word}
 use Rattle.par2_spec.specs.Recovery.{dot, coefficients, combination, recovery}
 use Rattle.par2_spec.specs.Rank.{IsRebuilt}
 use Rattle.par2_spec.specs.Search.{lost}
+use Rattle.par2_spec.proofs.SumLaws.{xor_off}
 use Rattle.par2_spec.proofs.UniqueLaws.{coefficients_are, dot-lt, words_are}
 use Rattle.par2_spec.proofs.WordLaws.{combination_words}
 use Rattle.par2_recovery.specs.Survivors.{with_lost_slices, lost_from, known_from, known_alone}
@@ -123,12 +124,10 @@ sized_filled s a (None ∷ known) (x ∷ texts) k t h =
 -- ---- an equation of the lost slices and the recovery slice that it comes from
 
 moved : (a b d : ℕ) → bit_xor a b ≡ d → b ≡ bit_xor d a
-moved a b d e =
-    sym (ap (λ x. bit_xor x a) (sym e) ∙ ap (λ x. bit_xor x a) (xor_comm a b) ∙ xor_assoc b a a ∙ ap (bit_xor b) (xor_self a) ∙ xor_zero_r b)
+moved a b d e = sym (xor_off b a) ∙ ap (λ x. bit_xor x a) (xor_comm b a ∙ e)
 
 moved_back : (a b d : ℕ) → b ≡ bit_xor d a → bit_xor a b ≡ d
-moved_back a b d e =
-    ap (bit_xor a) e ∙ xor_comm a (bit_xor d a) ∙ xor_assoc d a a ∙ ap (bit_xor d) (xor_self a) ∙ xor_zero_r d
+moved_back a b d e = ap (bit_xor a) e ∙ xor_comm a (bit_xor d a) ∙ xor_off d a
 
 -- a recovery slice of s bytes
 pub record IsFound (s : ℕ) (found : List ℕ) : Type 0 where

@@ -1,11 +1,13 @@
 -- The loop that offers the surviving recovery slices.
-use Rattle.std.proofs.Common.{inl, inr, replicate, length-append, ◌-◌, ℕ, zero, suc, ◌+◌, ◌*◌, ◌<◌, ◌≤◌, ◌≡◌, ◌↔◌, refl, sym, ap, ap₂, ◌∙◌, subst, arith, Bool, true, false, cond, eqb, ◌||◌, List, [], ◌∷◌, ◌++◌, length, get_or, map, append-nil}
+use Rattle.std.proofs.Common.{inl, inr, replicate, length-append, ◌-◌, ℕ, suc, ◌+◌, ◌*◌, ◌<◌, ◌≤◌, ◌≡◌, ◌↔◌, refl, sym, ap, ap₂, ◌∙◌, subst, arith, Bool, true, false, cond, eqb, ◌&&◌, ◌||◌, List, [], ◌∷◌, ◌++◌, length, get_or, map, append-nil}
 use Rattle.std.specs.Prelude.{Option, filter, take}
 use Rattle.std.specs.List.{list_any, AllByRecursion}
 use Rattle.std.specs.List.Sorted.{IsStrictlyIncreasing}
-use Rattle.std.proofs.lemmas.Bool.{ne_eqb, eq-eqb, false≢true, cases_lt}
-use Rattle.std.proofs.lemmas.List.{take_more, get_or-map, length-map, map-append, get_or_append_left, get_or_at, take_all}
-use Rattle.std.proofs.lemmas.List.Elements.{filter-append}
+use Rattle.std.proofs.lemmas.Bool.{eqb-true, eq-eqb, cases_lt}
+use Rattle.std.proofs.Math.Bool.{and-true, or-true}
+use Rattle.std.proofs.lemmas.List.{get_or-map, length-map, length-replicate, map-append, get_or_append_left, get_or_at, take_all}
+use Rattle.std.proofs.lemmas.Map.Views.{any-filter_same}
+use Rattle.std.proofs.lemmas.Simd.{map-map}
 use Rattle.par2_spec.specs.Slices.{padded}
 use Rattle.par2_spec.specs.Recovery.{dot, coefficients, combination}
 use Rattle.par2_spec.specs.Rank.{IsVector, IsRepairable, Kills, kept, kept_slices}
@@ -14,50 +16,27 @@ use Rattle.par2_matrix.specs.Systems.{Equations, CutDown, IsIndependent, IsDepen
 use Rattle.par2_recovery.specs.Survivors.{recovered_of, known_of, known_alone}
 use Rattle.par2_recovery.specs.Elements.{IsUnit}
 use Rattle.par2_recovery.specs.Inverses.{recovery_at, CutByUnit, GivesUnit, IsEliminated}
-use Rattle.par2_recovery.proofs.Ranks.{Eliminated, is_kept, kept_is, dependent_is, one_kept, none_kept, none_offered, all_offered}
+use Rattle.par2_recovery.proofs.Ranks.{Eliminated, is_kept, kept_is, dependent_is, one_kept, none_kept, none_offered, all_offered, all_more, kept_more}
 use Rattle.par2_recovery.proofs.Rebuilding.{AreSized, AreKnown, present_of_map}
 use Rattle.par2_recovery.proofs.RankTests.{AllKill}
 use Rattle.par2_recovery.specs.Products.{AreBytes}
 use Rattle.par2_recovery.specs.Views.{texts_of}
 use Rattle.std.specs.Borrow.{Bor}
+use Rattle.par2_spec.proofs.ListsLaws.{all-map, all_unmap}
 use Rattle.par2_spec.proofs.RankLaws.{all_weaker}
+use Rattle.par2_spec.proofs.RestoredLaws.{bytes-zeros}
 
 -- ---- the recovery slices of the kept exponents
 
-not_among : (p : ℕ → Bool) (all : List ℕ) (x : ℕ) → p x ≡ false → list_any (λ e. eqb e x) (filter p all) ≡ false
-not_among p [] x h = refl
-not_among p (y ∷ all) x h = go (not_among p all x h) (p y) refl
-  where
-    go : list_any (λ e. eqb e x) (filter p all) ≡ false → (b : Bool) → p y ≡ b → list_any (λ e. eqb e x) (cond b (y ∷ filter p all) (filter p all)) ≡ false
-    go rest true e = ap (λ c. c || list_any (λ e. eqb e x) (filter p all)) (ne_eqb y x (λ same. false≢true (sym h ∙ ap p (sym same) ∙ e))) ∙ rest
-    go rest false e = rest
-
-still_among : (p : ℕ → Bool) (all : List ℕ) (x : ℕ) → p x ≡ true → list_any (λ e. eqb e x) (filter p all) ≡ list_any (λ e. eqb e x) all
-still_among p [] x h = refl
-still_among p (y ∷ all) x h = go (still_among p all x h) (p y) refl
-  where
-    go : list_any (λ e. eqb e x) (filter p all) ≡ list_any (λ e. eqb e x) all → (b : Bool) → p y ≡ b
-        → list_any (λ e. eqb e x) (cond b (y ∷ filter p all) (filter p all)) ≡ (eqb y x || list_any (λ e. eqb e x) all)
-    go rest true e = ap (λ c. eqb y x || c) rest
-    go rest false e = rest ∙ ap (λ c. c || list_any (λ e. eqb e x) all) (sym (ne_eqb y x (λ same. false≢true (sym e ∙ ap p same ∙ h))))
-
 among_kept : (p : ℕ → Bool) (all : List ℕ) (x : ℕ) → list_any (λ e. eqb e x) all ≡ true → list_any (λ e. eqb e x) (filter p all) ≡ p x
-among_kept p all x here = go (p x) refl
-  where
-    go : (b : Bool) → p x ≡ b → list_any (λ e. eqb e x) (filter p all) ≡ p x
-    go true e = still_among p all x e ∙ here ∙ sym e
-    go false e = not_among p all x e ∙ sym e
-
-or_true : (b : Bool) → (b || true) ≡ true
-or_true true = refl
-or_true false = refl
+among_kept p all x here = any-filter_same (λ e. eqb e x) p (p x) (λ e same. ap p (eqb-true e x same)) all ∙ ap (λ b. p x && b) here ∙ and-true (p x)
 
 each_among : (recs : List (ℕ × List ℕ)) → AllByRecursion (λ r. list_any (λ e. eqb e r.0) (map (λ r. r.0) recs) ≡ true) recs
 each_among [] = tt
 each_among (x ∷ recs) = (
   ap (λ c. c || list_any (λ e. eqb e x.0) (map (λ r. r.0) recs)) (eq-eqb x.0 x.0 refl),
   all_weaker (λ r. list_any (λ e. eqb e r.0) (map (λ r. r.0) recs) ≡ true) (λ r. list_any (λ e. eqb e r.0) (x.0 ∷ map (λ r. r.0) recs) ≡ true)
-      (λ r h. ap (λ c. eqb x.0 r.0 || c) h ∙ or_true (eqb x.0 r.0)) recs (each_among recs),
+      (λ r h. ap (λ c. eqb x.0 r.0 || c) h ∙ or-true (eqb x.0 r.0)) recs (each_among recs),
 )
 
 same_filter : (p q : ℕ × List ℕ → Bool) (recs : List (ℕ × List ℕ)) → AllByRecursion (λ r. p r ≡ q r) recs → filter p recs ≡ filter q recs
@@ -96,17 +75,6 @@ none_stands lost recs n b e size = record {
   solves = λ texts are solved j h. absurd (omega arith);
 }
 
-all_more : {A : Type 0} (P : A → Type 0) (xs : List A) (x : A) → AllByRecursion P (xs ++ x ∷ []) ↔ (AllByRecursion P xs × P x)
-all_more P [] x = ((λ h. (tt, h.0)), (λ h. (h.1, tt)))
-all_more P (y ∷ xs) x =
-    let more = all_more P xs x in
-    ((λ h. ((h.0, (more.0 h.1).0), (more.0 h.1).1)), (λ h. (h.0.0, more.1 (h.0.1, h.1))))
-
-filter_more : (p : ℕ × List ℕ → Bool) (recs : List (ℕ × List ℕ)) (i : ℕ) (b : Bool) → i < length recs → p (get_or recs i (0, [])) ≡ b
-    → filter p (take (i + 1) recs) ≡ filter p (take i recs) ++ cond b (get_or recs i (0, []) ∷ []) []
-filter_more p recs i b h e =
-    ap (filter p) (take_more recs i (0, []) h) ∙ filter-append p (take i recs) (get_or recs i (0, []) ∷ []) ∙ ap (λ c. filter p (take i recs) ++ cond c (get_or recs i (0, []) ∷ []) []) e
-
 -- a recovery slice was kept
 pub stands_more : (lost : List ℕ) (recs kept_ones : List (ℕ × List ℕ)) (i : ℕ) (system new : Equations) → IsStrictlyIncreasing (map (λ r. r.0) recs) → i < length recs
     → Standing lost recs kept_ones i system → new.columns ≡ system.columns → new.bytes ≡ system.bytes
@@ -123,7 +91,7 @@ stands_more lost recs kept_ones i system new up h before columns new_bytes made 
     record {
       so_far = one_kept lost all i system new made.unit up low before.so_far columns cut_here told_here;
       bytes = new_bytes ∙ before.bytes;
-      are_kept = ap (λ xs. xs ++ found ∷ []) before.are_kept ∙ sym (filter_more (λ r. is_kept lost all r.0) recs i true h yes_kept);
+      are_kept = ap (λ xs. xs ++ found ∷ []) before.are_kept ∙ sym (kept_more (λ r. is_kept lost all r.0) recs i (0, []) true h yes_kept);
       count = made.cut.rank ∙ ap (λ n. n + 1) before.count ∙ sym (length-append kept_ones (found ∷ []));
       kills = λ v is killed.
           let both = (all_more (λ r. dot (coefficients lost r.0) v ≡ 0) kept_ones found).0 killed in
@@ -164,7 +132,7 @@ stands_still lost recs kept_ones i system up h before follows =
     record {
       so_far = none_kept lost all i system up low before.so_far follows_here;
       bytes = before.bytes;
-      are_kept = before.are_kept ∙ sym (filter_more (λ r. is_kept lost all r.0) recs i false h not_kept ∙ append-nil (filter (λ r. is_kept lost all r.0) (take i recs)));
+      are_kept = before.are_kept ∙ sym (kept_more (λ r. is_kept lost all r.0) recs i (0, []) false h not_kept ∙ append-nil (filter (λ r. is_kept lost all r.0) (take i recs)));
       count = before.count;
       kills = before.kills;
       solves = before.solves;
@@ -187,26 +155,16 @@ dropped_turn lost recs kept_ones i e system new up h exponent before follows sam
 
 -- ---- the end of the loop
 
-whole : {A : Type 0} (xs : List A) (n : ℕ) → n ≡ length xs → take n xs ≡ xs
-whole xs n e = take_all n xs (omega (arith, e))
-
-kill_rows : (lost_ones : List ℕ) (v : List ℕ) (all : List ℕ) → AllByRecursion (λ e. Kills lost_ones e v) all → AllKill (map (coefficients lost_ones) all) v
-kill_rows lost_ones v [] h = tt
-kill_rows lost_ones v (e ∷ all) h = (h.0, kill_rows lost_ones v all h.1)
-
-rows_kill : (lost_ones : List ℕ) (v : List ℕ) (all : List ℕ) → AllKill (map (coefficients lost_ones) all) v → AllByRecursion (λ e. Kills lost_ones e v) all
-rows_kill lost_ones v [] h = tt
-rows_kill lost_ones v (e ∷ all) h = (h.0, rows_kill lost_ones v all h.1)
-
 pub repairable_iff : (lost_ones all : List ℕ) (i : ℕ) (system : Equations) → i ≡ length all → Eliminated lost_ones all i system → OnlyZeroIsKilled system ↔ IsRepairable lost_ones all
-repairable_iff lost_ones all i system e so_far = (
-  (λ alone v is killed.
-      alone v (subst (λ n. IsVector n v) (sym so_far.columns) is)
-      ((so_far.kills v is).1 (subst (λ es. AllKill (map (coefficients lost_ones) es) v) (sym (whole all i e)) (kill_rows lost_ones v all killed)))),
-  (λ repairable v is killed.
-      let is_here = subst (λ n. IsVector n v) so_far.columns is in
-      repairable v is_here (rows_kill lost_ones v all (subst (λ es. AllKill (map (coefficients lost_ones) es) v) (whole all i e) ((so_far.kills v is_here).0 killed)))),
-)
+repairable_iff lost_ones all i system e so_far =
+    let all_of_them : take i all ≡ all = take_all i all (omega (arith, e)) in (
+      (λ alone v is killed.
+          alone v (subst (λ n. IsVector n v) (sym so_far.columns) is)
+          ((so_far.kills v is).1 (subst (λ es. AllKill (map (coefficients lost_ones) es) v) (sym all_of_them) (all-map (λ e. Kills lost_ones e v) (λ row. dot row v ≡ 0) (coefficients lost_ones) (λ e h. h) all killed)))),
+      (λ repairable v is killed.
+          let is_here = subst (λ n. IsVector n v) so_far.columns is in
+          repairable v is_here (all_unmap (λ row. dot row v ≡ 0) (coefficients lost_ones) all (subst (λ es. AllKill (map (coefficients lost_ones) es) v) all_of_them ((so_far.kills v is_here).0 killed)))),
+    )
 
 pub eliminated : (lost : List ℕ) (recs kept_ones : List (ℕ × List ℕ)) (i : ℕ) (system : Equations) → i ≡ length recs → Standing lost recs kept_ones i system → IsEliminated lost recs kept_ones system
 eliminated lost recs kept_ones i system e stands =
@@ -215,7 +173,7 @@ eliminated lost recs kept_ones i system e stands =
     record {
       columns = stands.so_far.columns;
       bytes = stands.bytes;
-      are_kept = stands.are_kept ∙ ap (filter (λ r. is_kept lost all r.0)) (whole recs i e) ∙ sym (kept_slices_are lost recs);
+      are_kept = stands.are_kept ∙ ap (filter (λ r. is_kept lost all r.0)) (take_all i recs (omega (arith, e))) ∙ sym (kept_slices_are lost recs);
       count = stands.count;
       rank = all_offered lost all i system at_end stands.so_far;
       repairable = repairable_iff lost all i system at_end stands.so_far;
@@ -226,18 +184,10 @@ eliminated lost recs kept_ones i system e stands =
 -- ---- known slices
 
 length-padded-one : (s : ℕ) (t : List ℕ) → length t ≤ s → length (padded s t) ≡ s
-length-padded-one s t h = length-append t (replicate (s - length t) 0) ∙ (let e = length-zeros (s - length t) in omega (arith, e))
-  where
-    length-zeros : (n : ℕ) → length {A = ℕ} (replicate n 0) ≡ n
-    length-zeros zero = refl
-    length-zeros (suc n) = ap suc (length-zeros n)
+length-padded-one s t h = length-append t (replicate (s - length t) 0) ∙ (let e = length-replicate {A = ℕ} (s - length t) 0 in omega (arith, e))
 
 bytes_padded : (n : ℕ) (t : List ℕ) → ((k : ℕ) → get_or t k 0 < 256) → AllByRecursion (λ b. b < 256) (t ++ replicate n 0)
-bytes_padded n [] h = zeros n
-  where
-    zeros : (m : ℕ) → AllByRecursion (λ b. b < 256) (replicate m 0)
-    zeros zero = tt
-    zeros (suc m) = (omega arith, zeros m)
+bytes_padded n [] h = bytes-zeros n
 bytes_padded n (x ∷ t) h = (h 0, bytes_padded n t (λ k. h (suc k)))
 
 known_padded : (s : ℕ) (slices : List (Bor (List ℕ))) → AllByRecursion (λ slice. length slice.now ≤ s) slices → AreBytes (texts_of slices) → AreSized s (map (λ slice. padded s slice.now) slices)
@@ -252,8 +202,4 @@ are_known s known slices sizes same bytes =
 
 pub slices_are : (s : ℕ) (known : List (Option (Bor (List ℕ)))) (slices : List (Bor (List ℕ))) → texts_of slices ≡ texts_of (known_alone known) → map (padded s) (texts_of slices) ≡ known_alone (known_of s known)
 slices_are s known slices same =
-    ap (map (padded s)) same ∙ twice (known_alone known) ∙ sym (present_of_map (λ (slice : Bor (List ℕ)). padded s slice.now) known)
-  where
-    twice : (xs : List (Bor (List ℕ))) → map (padded s) (texts_of xs) ≡ map (λ slice. padded s slice.now) xs
-    twice [] = refl
-    twice (x ∷ xs) = ap (λ ys. padded s x.now ∷ ys) (twice xs)
+    ap (map (padded s)) same ∙ map-map (padded s) (λ (slice : Bor (List ℕ)). slice.now) (known_alone known) ∙ sym (present_of_map (λ (slice : Bor (List ℕ)). padded s slice.now) known)

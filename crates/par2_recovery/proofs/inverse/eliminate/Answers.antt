@@ -1,17 +1,13 @@
-use Rattle.std.proofs.Common.{◌≡◌, ◌≢◌, ◌<◌, ◌∙◌, ◌++◌, ◌∷◌, [], ℕ, List, Vec, Global, ap, sym, subst, arith, rules, length}
+use Rattle.std.proofs.Common.{◌≡◌, ◌<◌, ◌∙◌, ◌++◌, ◌∷◌, [], ℕ, List, Vec, Global, ap, sym, subst, arith, rules, length}
 use Rattle.std.specs.Borrow.{Bor}
-use Rattle.std.specs.Prelude.{Result, Ok}
-use Rattle.std.specs.declared.alloc.AllocError.{AllocError}
-use Rattle.par2_matrix.specs.declared.system.Offer.{Offer}
+use Rattle.std.specs.Prelude.{Ok}
 use Rattle.par2_matrix.specs.declared.system.Offer.TheVariants.{Kept, Dependent}
 use Rattle.par2_recovery.specs.Survivors.{recovered_of}
 use Rattle.par2_recovery.proofs.Inverting.{length-recovered_of}
+use Rattle.par2_recovery.proofs.Ranks.{dependent_is_not_kept}
 use Rattle.par2_recovery.proofs.Standing.{Standing, kept_turn, dropped_turn, eliminated}
 use Rattle.par2_recovery.proofs.inverse.eliminate.Goals as goal
 use Rattle.par2_recovery.proofs.inverse.eliminate.Goals.{in-Kept+in_ok-push-in-Kept, in-Dependent}
-
-not_kept : (r : Result Offer AllocError) → r ≡ Ok Dependent → r ≢ Ok Kept
-not_kept r is = λ k. (cc)
 
 pub loop-i-preserved : goal.loop-i-preserved
 loop-i-preserved c =
@@ -28,7 +24,7 @@ loop-i-preserved c =
       | in-Dependent w ↦
           let is : c.offer_unit.result ≡ Ok Dependent = c.in_ok-offer_unit.was ∙ ap Ok w.in-Dependent.is in
           dropped_turn lost recs (recovered_of c.match-branch-3.kept.items) c.loop-i.i c.recovery_at-slice.result.0 c.loop-i.system c.offer_unit.new.system c.requires.exponents low c.recovery_at-slice.ensures.exponent
-          (subst (λ xs. Standing lost recs (recovered_of xs) c.loop-i.i c.loop-i.system) (sym (ap (λ (x : Vec (ℕ × Bor (List ℕ)) Global). x.items) w.kept-is)) c.loop-i.invariant) (c.offer_unit.ensures.dependent is) (c.offer_unit.ensures.unchanged (not_kept c.offer_unit.result is))
+          (subst (λ xs. Standing lost recs (recovered_of xs) c.loop-i.i c.loop-i.system) (sym (ap (λ (x : Vec (ℕ × Bor (List ℕ)) Global). x.items) w.kept-is)) c.loop-i.invariant) (c.offer_unit.ensures.dependent is) (c.offer_unit.ensures.unchanged (dependent_is_not_kept c.offer_unit.result is))
     ]
 
 pub returns : goal.returns
