@@ -2,7 +2,8 @@
 use Rattle.std.proofs.Common.{◌≡◌, ◌∙◌, ℕ, zero, suc, ◌+◌, ◌-◌, ◌≤◌, List, [], ◌∷◌, ◌++◌, length, take, refl, sym, ap, arith, min}
 use Rattle.std.specs.Prelude.{replicate}
 use Rattle.std.specs.List.{concat}
-use Rattle.std.proofs.lemmas.List.{append-nil, append_assoc, length-append, length-take, take_all, take_min}
+use Rattle.std.proofs.lemmas.List.{append-nil, append_assoc, length-append, length-replicate, length-take, take-replicate, take_all, take_min}
+use Rattle.std.proofs.lemmas.List.Folds.{concat-append}
 use Rattle.par2_spec.specs.Slices.{padded}
 
 -- the first items of two lists behind one another
@@ -15,11 +16,9 @@ take-append (suc n) (x ∷ xs) ys =
     ap (λ zs. x ∷ zs) (take-append n xs ys ∙ ap (λ k. take n xs ++ take k ys) e)
 
 take-zeros : (k n : ℕ) → take {A = ℕ} k (replicate n 0) ≡ replicate (min k n) 0
-take-zeros zero n = let e : 0 ≡ min 0 n = omega arith in ap (λ m. replicate {A = ℕ} m 0) e
-take-zeros (suc k) zero = let e : 0 ≡ min (suc k) 0 = omega arith in ap (λ m. replicate {A = ℕ} m 0) e
-take-zeros (suc k) (suc n) =
-    let e : suc (min k n) ≡ min (suc k) (suc n) = omega arith in
-    ap (λ xs. 0 ∷ xs) (take-zeros k n) ∙ ap (λ m. replicate {A = ℕ} m 0) e
+take-zeros k n =
+    sym (take_min k (replicate {A = ℕ} n 0)) ∙ ap (λ m. take (min k m) (replicate {A = ℕ} n 0)) (length-replicate {A = ℕ} n 0)
+    ∙ take-replicate {X = ℕ} (min k n) n 0 (omega arith)
 
 -- the first bytes of a file with one more slice
 pub one_more_slice : (size s : ℕ) (old text file : List ℕ) (n : ℕ) → length old ≤ size
@@ -48,9 +47,5 @@ take-again zero xs ys = refl
 take-again (suc n) [] ys = refl
 take-again (suc n) (x ∷ xs) ys = ap (λ zs. x ∷ zs) (take-again n xs ys)
 
-pub length-take-of : (n : ℕ) (xs : List ℕ) → length (take n xs) ≤ n
-length-take-of n xs = omega (arith, length-take n xs)
-
 pub concat_push : (xs : List (List ℕ)) (x : List ℕ) → concat (xs ++ x ∷ []) ≡ concat xs ++ x
-concat_push [] x = append-nil x
-concat_push (y ∷ xs) x = ap (λ zs. y ++ zs) (concat_push xs x) ∙ sym (append_assoc y (concat xs) x)
+concat_push xs x = concat-append xs (x ∷ []) ∙ ap (λ zs. concat xs ++ zs) (append-nil x)

@@ -7,8 +7,7 @@ use Rattle.std.proofs.lemmas.List.Elements.{All-head, All-tail}
 use Rattle.par2_spec.specs.Slices.{padded}
 use Rattle.par2_recovery.specs.Survivors.{known_of, known_alone, with_lost_slices}
 use Rattle.par2_search.specs.Texts.{Window, AreShort}
-use Rattle.par2_restore.specs.Texts.{windows_and_texts, slices_of, text_of}
-use Rattle.par2_restore.specs.declared.slices.Slice.{Slice}
+use Rattle.par2_restore.specs.Texts.{windows_and_texts}
 
 -- ---- what survives
 
@@ -33,7 +32,3 @@ filled_merged s [] texts h = refl
 filled_merged s (Some window ∷ windows) texts h = ap (λ slices. padded s window.now ∷ slices) (filled_merged s windows texts h.1)
 filled_merged s (None ∷ windows) [] h = ap₂ (λ slice slices. slice ∷ slices) (sym (padded_whole s [] h.0)) (filled_merged s windows [] h.1)
 filled_merged s (None ∷ windows) (text ∷ texts) h = ap₂ (λ slice slices. slice ∷ slices) (sym (padded_whole s text h.0)) (filled_merged s windows texts h.1)
-
-pub slices_of-map : (s : ℕ) (slices : List Slice) → slices_of s slices ≡ map (padded s) (map text_of slices)
-slices_of-map s [] = refl
-slices_of-map s (slice ∷ slices) = ap (λ xs. padded s (text_of slice) ∷ xs) (slices_of-map s slices)

@@ -1,7 +1,8 @@
 -- What is rebuilt by what survives is what is rebuilt of the set.
-use Rattle.std.proofs.Common.{◌≡◌, ◌↔◌, ◌⊎◌, ℕ, List, length, map, refl, sym, ap, ap₂, subst, Bool, true, false, not, inl, inr}
+use Rattle.std.proofs.Common.{◌≡◌, ◌↔◌, ◌⊎◌, ℕ, List, length, map, refl, sym, ap, ap₂, subst, true, false, not, inl, inr}
 use Rattle.std.specs.Prelude.{Option, Some, None, IsTrue}
 use Rattle.std.specs.FinMap.{entries}
+use Rattle.std.proofs.lemmas.Bool.{false_from_ne_true}
 use Rattle.par2_spec.specs.Faults.{fault_where}
 use Rattle.par2_spec.specs.Rank.{IsRebuilt, IsRepairable, is_repairable, rank, kept_slices}
 use Rattle.par2_spec.specs.Search.{lost, survivors}
@@ -29,15 +30,11 @@ enough_for set known found are enough =
 
 -- ---- why it is refused
 
-refused_where : (b : Bool) (P : Type 0) → (IsTrue b ↔ P) → (P → ⊥) → b ≡ false
-refused_where true P says h = absurd (h (says.0 refl))
-refused_where false P says h = refl
-
 true_fault : (set : ParSet) (known : List (Option (List ℕ))) → (IsTrue (is_repairable (lost known) (survivors set)) ↔ IsRepairable (lost known) (survivors set))
     → (fault : RebuildFault) → IsTrueFault (lost known) (survivors set) fault → (fault_of fault ≡ Memory) ⊎ (undetermined_fault set known ≡ Some (fault_of fault))
 true_fault set known says why.Memory h = inl refl
 true_fault set known says (why.NotRepairable missing rank) h =
-    let no : is_repairable (lost known) (survivors set) ≡ false = refused_where _ _ says h.2 in
+    let no : is_repairable (lost known) (survivors set) ≡ false = false_from_ne_true _ (λ yes. h.2 (says.0 yes)) in
     let e : undetermined_fault set known ≡ Some (fault_of (why.NotRepairable missing rank)) =
     ap₂ (λ b f. fault_where (not b) f) no (ap₂ (λ m r. fault_of (why.NotRepairable m r)) (sym h.0) (sym h.1)) in inr e
 

@@ -1,11 +1,11 @@
 -- The targets one after the other, with their bytes by the slices that are left.
-use Rattle.std.proofs.Common.{◌≡◌, ◌∙◌, ℕ, ◌+◌, List, [], ◌∷◌, ◌++◌, length, map, take, drop, refl, sym, ap, ap₂, subst, Bool, true, false, cond, ◌&&◌}
-use Rattle.std.specs.Prelude.{filter, zip, not, Some, Result, Err, IfErr}
+use Rattle.std.proofs.Common.{◌≡◌, ◌∙◌, ℕ, ◌+◌, List, [], ◌∷◌, ◌++◌, length, map, take, drop, refl, sym, ap, ap₂, Bool, true, false, cond, ◌&&◌}
+use Rattle.std.specs.Prelude.{filter, zip, not, Some}
 use Rattle.std.specs.Cmp.Lexicographic.{pointwise}
 use Rattle.std.specs.List.{concat, list_all, AllByRecursion}
 use Rattle.std.specs.Str.{bytes_eq}
 use Rattle.std.proofs.lemmas.List.{append-nil, append_assoc, drop-drop}
-use Rattle.std.proofs.lemmas.Bool.{false≢true}
+use Rattle.std.proofs.lemmas.Bool.{and_parts}
 use Rattle.std.proofs.lemmas.Slice.Eq.{bytes_eq-Decides}
 use Rattle.md5.specs.Md5.{md5}
 use Rattle.par2_spec.specs.Faults.{fault_where}
@@ -49,10 +49,6 @@ pub all_right : (cs : List (Target × List ℕ)) → pointwise bytes_eq (map (λ
 all_right [] = refl
 all_right (c ∷ cs) = ap (λ b. has_digest c && b) (all_right cs)
 
-both : (a b : Bool) → (a && b) ≡ true → (a ≡ true) × (b ≡ true)
-both true b h = (refl, h)
-both false b h = absurd (false≢true h)
-
 -- targets of the right sizes and digests, chosen by a test
 pub described : (p : Target × List ℕ → Bool) (cs : List (Target × List ℕ)) → AllByRecursion (λ c. length c.1 ≡ c.0.size) cs → list_all has_digest (filter p cs) ≡ true → AllByRecursion IsAsDescribed (filter p cs)
 described p [] sizes digests = tt
@@ -62,14 +58,10 @@ described p (c ∷ cs) sizes digests = step (p c) (described p cs sizes.1) diges
         → list_all has_digest (cond b (c ∷ filter p cs) (filter p cs)) ≡ true → AllByRecursion IsAsDescribed (cond b (c ∷ filter p cs) (filter p cs))
     step false others h = others h
     step true others h =
-        let parts = both (has_digest c) (list_all has_digest (filter p cs)) h in
+        let parts = and_parts (has_digest c) (list_all has_digest (filter p cs)) h in
         (record { length = sizes.0; digest = (bytes_eq-Decides (md5 c.1) c.0.digest).0 parts.0 }, others parts.1)
 
 -- ---- why they are refused
 
 pub first_wrong : (fault : Fault) (cs : List (Target × List ℕ)) → fault ≡ RepairFailed → list_all has_digest cs ≡ false → wrong_digest cs ≡ Some fault
 first_wrong fault cs failed wrong = ap (λ b. fault_where (not b) RepairFailed) wrong ∙ ap Some (sym failed)
-
--- the fault that is passed on is true where that of the call is
-pub refused_with : {A : Type 0} (P : Fault → Type 0) (r : Result A Fault) (fault : Fault) → (e : Fault) × (r ≡ Err e) × (e ≡ fault) → P fault → IfErr r P
-refused_with P r fault passed h = subst (λ x. IfErr x P) (sym passed.1) (subst P (sym passed.2) h)
