@@ -1,9 +1,10 @@
 -- Names that are taken, and the first number that is free.
-use Rattle.std.proofs.Common.{◌≡◌, ℕ, suc, ◌+◌, ◌-◌, ◌^◌, ◌<◌, ◌≤◌, length, List, [], ◌∷◌, map, refl, sym, ap, subst, ◌∙◌, ◌⊎◌, Bool, true, false, not, cond, ◌||◌, arith, inl, inr, IsTrue, Ok, Err, Result}
-use Rattle.std.specs.Prelude.{find, get_or, IfErr, IsOk, nat_lt, Option, Some, unwrap_or}
+use Rattle.std.proofs.Common.{◌≡◌, ℕ, suc, ◌+◌, ◌-◌, ◌^◌, ◌<◌, ◌≤◌, length, List, [], ◌∷◌, map, refl, sym, ap, ◌∙◌, ◌⊎◌, Bool, true, false, not, cond, ◌||◌, arith, inl, inr, IsTrue, Ok, Err, Result}
+use Rattle.std.specs.Prelude.{find, get_or, IfErr, IsErrAnd, IsOk, nat_lt, Option, Some, unwrap_or}
 use Rattle.std.specs.List.{AllByRecursion, list_all, list_any, range_with_len}
-use Rattle.std.proofs.lemmas.Bool.{and_from, and_parts, cases_lt, false_from_ne_true, leb-true, lt-ltb, or_from}
+use Rattle.std.proofs.lemmas.Bool.{and_from, and_parts, cases_lt, false_from_ne_true, false≢true, leb-true, lt-ltb, or_from}
 use Rattle.std.proofs.lemmas.List.Folds.{list_all-append, list_any_at}
+use Rattle.std.proofs.lemmas.Result.{err_from_is_err_and}
 use Rattle.par2_spec.specs.declared.Fault.{Fault}
 use Rattle.par2_spec.specs.declared.Fault.TheVariants.{Memory, NameTooLong}
 use Rattle.par2_spec.specs.Faults.{fault_where}
@@ -11,8 +12,10 @@ use Rattle.par2_spec.specs.Folders.{Folder, File, IsFolder, files, names}
 use Rattle.par2_spec.specs.Names.{is_among, is_name, numbered}
 use Rattle.par2_spec.specs.Repairs.{aside, taken_for}
 use Rattle.par2_spec.specs.Sets.{IsSound, target_names, ParSet}
-use Rattle.par2_spec.proofs.AsideNames.{name_is_short, numbered_is_name}
-use Rattle.par2_spec.proofs.NamesLaws.{clash, false_true, other_name}
+use Rattle.par2_spec.proofs.AsideNames.{numbered_is_name}
+use Rattle.par2_spec.proofs.NameTests.{name_is_short}
+use Rattle.par2_spec.proofs.NamesLaws.{clash, other_name}
+use Rattle.par2_spec.proofs.TestLaws.{err_again}
 use Rattle.par2_asides.specs.Asides.{long_aside}
 
 -- ---- what is taken
@@ -70,14 +73,9 @@ module _ (taken : List (List ℕ)) (name : List ℕ) (most n : ℕ) (low : n ≤
 -- ---- refusals
 
 -- what a `?` answers, where a step has ended in a fault
-pub passed_on : {X : Type 0} (r : Result X Fault) (fault : Fault) (long : Option Fault) → (y : Fault) × (r ≡ Err y) × (y ≡ fault)
+pub passed_on : {X : Type 0} (r : Result X Fault) (fault : Fault) (long : Option Fault) → IsErrAnd r (λ y. y ≡ fault)
     → (fault ≡ Memory) ⊎ (long ≡ Some fault) → IfErr r (λ f. (f ≡ Memory) ⊎ (long ≡ Some f))
-passed_on r fault long p h = subst (λ x. IfErr x (λ f. (f ≡ Memory) ⊎ (long ≡ Some f))) (sym (p.1 ∙ ap Err p.2)) h
-
--- what a `?` answers, where a step wants memory
-pub memory_told : {X : Type 0} (r : Result X Fault) (long : Option Fault) → (y : Fault) × (r ≡ Err y) × (y ≡ Memory)
-    → IfErr r (λ f. (f ≡ Memory) ⊎ (long ≡ Some f))
-memory_told r long p = subst (λ x. IfErr x (λ f. (f ≡ Memory) ⊎ (long ≡ Some f))) (sym p.1) (inl p.2)
+passed_on r fault long is h = err_again (λ x. IfErr x (λ f. (f ≡ Memory) ⊎ (long ≡ Some f))) r fault (err_from_is_err_and r is) h
 
 -- a name whose aside is too long
 pub too_long : (folder : Folder) (set : ParSet) (name : List ℕ) → 255 < length (aside folder set name) → long_aside folder set (name ∷ []) ≡ Some NameTooLong
@@ -105,5 +103,5 @@ pub long_where_err : {E : Type 0} (r : Result (List ℕ) E) (name : List ℕ) (n
 long_where_err (Ok x) name n text small named is h = tt
 long_where_err (Err e) name n text small named is h = elim (cases_lt 255 (length (numbered name n))) as (λ _. 255 < length (numbered name n)) [
   | inl long ↦ long
-  | inr short ↦ absurd (false_true (h (ap is_name is ∙ numbered_is_name name n small named short)))
+  | inr short ↦ absurd (false≢true (h (ap is_name is ∙ numbered_is_name name n small named short)))
 ]

@@ -1,5 +1,4 @@
 use Rattle.std.proofs.Common.{◌≡◌, ◌<◌, ◌≤◌, ◌∙◌, ◌⊎◌, ◌∷◌, [], Some, inl, inr, length, sym, ap, subst, true, false, arith}
-use Rattle.std.proofs.lemmas.Result.{err_from_is_err_and}
 use Rattle.par2_spec.specs.declared.Fault.{Fault}
 use Rattle.par2_spec.specs.declared.Fault.TheVariants.{Memory}
 use Rattle.par2_spec.specs.Names.{is_among, numbered}
@@ -38,4 +37,4 @@ returns-in_err-other-clause-refused c =
           let found : aside folder set name ≡ numbered name n = c.loop-n.invariant ∙ first_here taken name c.args.most n low free in
           inr (too_long folder set name (subst (λ other. 255 < length other) (sym found) long.1) ∙ ap Some (sym long.0))
     ] in
-    passed_on _ fault (long_aside folder set (name ∷ [])) (err_from_is_err_and c.from_residual.result c.from_residual.ensures.1) refused
+    passed_on _ fault (long_aside folder set (name ∷ [])) c.from_residual.ensures.1 refused

@@ -1,28 +1,26 @@
 use Rattle.std.proofs.Common.{◌≡◌, ◌∙◌, ◌⊎◌, ℕ, List, Some, None, ap, inl, inr, map, refl, subst}
 use Rattle.std.proofs.lemmas.List.{take_all}
-use Rattle.std.proofs.lemmas.Result.{err_from_is_err_and}
 use Rattle.par2_spec.specs.declared.Fault.{Fault}
 use Rattle.par2_spec.specs.declared.Fault.TheVariants.{Memory}
 use Rattle.par2_spec.specs.Repairs.{aside}
 use Rattle.par2_asides.specs.Asides.{long_aside}
-use Rattle.par2_asides.proofs.TakenNames.{memory_told, one_too_long, passed_on}
+use Rattle.par2_asides.proofs.TakenNames.{one_too_long, passed_on}
 use Rattle.par2_asides.proofs.numbering.asides.Goals as goal
 
 pub returns-in_err-targets-clause-refused : goal.returns-in_err-targets-clause-refused
 returns-in_err-targets-clause-refused c =
-    memory_told c.from_residual.result (long_aside c.args.folder.now.files c.args.set.now c.args.names.now)
-    (err_from_is_err_and c.from_residual.result c.from_residual.ensures.1)
+    passed_on c.from_residual.result Memory (long_aside c.args.folder.now.files c.args.set.now c.args.names.now) c.from_residual.ensures.1 (inl refl)
 
 pub returns-in_err-most-clause-refused : goal.returns-in_err-most-clause-refused
 returns-in_err-most-clause-refused c =
     let long = long_aside c.args.folder.now.files c.args.set.now c.args.names.now in
     let answer = c.from_residual-in_err-most in
-    passed_on answer.result c.in_err-most.field-0.0 long (err_from_is_err_and answer.result answer.ensures.1) (inl c.in_err-most.ensures.refused)
+    passed_on answer.result c.in_err-most.field-0.0 long answer.ensures.1 (inl c.in_err-most.ensures.refused)
 
 pub returns-in_err-asides-clause-refused : goal.returns-in_err-asides-clause-refused
 returns-in_err-asides-clause-refused c =
     let answer = c.from_residual-in_err-asides in
-    memory_told answer.result (long_aside c.args.folder.now.files c.args.set.now c.args.names.now) (err_from_is_err_and answer.result answer.ensures.1)
+    passed_on answer.result Memory (long_aside c.args.folder.now.files c.args.set.now c.args.names.now) answer.ensures.1 (inl refl)
 
 pub loop-name-init : goal.loop-name-init
 loop-name-init c = (c.in_ok-asides.ensures.items, refl)
@@ -39,12 +37,12 @@ returns-in_err-other-clause-refused c =
       | inl memory ↦ inl memory
       | inr long ↦ inr (one_too_long folder set names c.loop-name.name-index c.name-item.result fault c.loop-name-test.true c.name-item.is long)
     ] in
-    passed_on answer.result fault (long_aside folder set names) (err_from_is_err_and answer.result answer.ensures.1) refused
+    passed_on answer.result fault (long_aside folder set names) answer.ensures.1 refused
 
 pub returns-in_err-push-clause-refused : goal.returns-in_err-push-clause-refused
 returns-in_err-push-clause-refused c =
     let answer = c.from_residual-in_err-push in
-    memory_told answer.result (long_aside c.args.folder.now.files c.args.set.now c.args.names.now) (err_from_is_err_and answer.result answer.ensures.1)
+    passed_on answer.result Memory (long_aside c.args.folder.now.files c.args.set.now c.args.names.now) answer.ensures.1 (inl refl)
 
 pub returns-clause-short : goal.returns-clause-short
 returns-clause-short c =
