@@ -2,18 +2,13 @@
 use Rattle.std.proofs.Common.{◌≡◌, ℕ, zero, suc, ◌+◌, ◌-◌, ◌*◌, ◌/◌, ◌<◌, ◌≤◌, List, [], ◌∷◌, ◌++◌, length, take, drop, get_or, replicate, refl, sym, ap, ◌∙◌, arith}
 use Rattle.std.proofs.Common.{inl, inr}
 use Rattle.std.proofs.lemmas.Bool.{cases_lt}
-use Rattle.std.proofs.lemmas.List.{length-append, length-replicate, length-take, length-drop, get_or_append_left, get_or-append_right, get_or-take, get_or-drop, get_or-replicate, get_or_past, get_or_at, drop_more, length_push, ext_get_or}
+use Rattle.std.proofs.lemmas.List.{length-take, length-drop, get_or_append_left, get_or-append_right, get_or-take, get_or-drop, get_or-replicate, get_or_past, get_or_at, drop_more, length_push, ext_get_or}
 use Rattle.std.specs.Simd.{first_chunks}
 use Rattle.par2_spec.specs.Checksums.{crc32}
 use Rattle.par2_spec.specs.Windows.{window}
+use Rattle.par2_spec.proofs.RestoredLaws.{length-window}
 use Rattle.par2_slices.specs.Rolls.{after_slide}
 use Rattle.par2_slices.proofs.Sliding.{slid}
-
-pub window_len : (s : ℕ) (text : List ℕ) (o : ℕ) → length (window s text o) ≡ s
-window_len s text o =
-    let t : List ℕ = take s (drop o text) in
-    length-append t (replicate (s - length t) 0) ∙ ap (λ n. length t + n) (length-replicate (s - length t) 0)
-    ∙ (let e : length t + (s - length t) ≡ s = omega (arith, length-take s (drop o text)) in e)
 
 -- an element is that of the text, 0 past its end
 pub window_at : (s : ℕ) (text : List ℕ) (o k : ℕ) → k < s → get_or (window s text o) k 0 ≡ get_or text (o + k) 0
@@ -33,9 +28,9 @@ pub next_window : (s : ℕ) (text : List ℕ) (o next : ℕ) → 1 ≤ s → nex
 next_window s text o next some is =
     let w : List ℕ = window s text o in
     let rest : List ℕ = drop 1 w in
-    let rest_len : length rest + 1 ≡ s = omega (arith, length-drop 1 w, window_len s text o, some) in
+    let rest_len : length rest + 1 ≡ s = omega (arith, length-drop 1 w, length-window s text o, some) in
     ext_get_or 0 (rest ++ next ∷ []) (window s text (o + 1))
-    (length_push rest next ∙ rest_len ∙ sym (window_len s text (o + 1)))
+    (length_push rest next ∙ rest_len ∙ sym (length-window s text (o + 1)))
     (λ k inside.
     let below : k < s = omega (arith, inside, length_push rest next, rest_len) in
     elim (cases_lt k (length rest)) [
@@ -50,11 +45,11 @@ next_window s text o next some is =
 pub first_byte : (s : ℕ) (text : List ℕ) (o out : ℕ) → 1 ≤ s → out ≡ get_or text o 0 → window s text o ≡ out ∷ drop 1 (window s text o)
 first_byte s text o out some is =
     let w : List ℕ = window s text o in
-    drop_more w 0 0 (omega (arith, window_len s text o, some))
+    drop_more w 0 0 (omega (arith, length-window s text o, some))
     ∙ ap {B = List ℕ} (λ b. b ∷ drop 1 w) (window_at s text o 0 some ∙ ap (λ i. get_or text i 0) (let e : o + 0 ≡ o = omega arith in e) ∙ sym is)
 
 pub rest_len : (s : ℕ) (text : List ℕ) (o : ℕ) → 1 ≤ s → length (drop 1 (window s text o)) + 1 ≡ s
-rest_len s text o some = omega (arith, length-drop 1 (window s text o), window_len s text o, some)
+rest_len s text o some = omega (arith, length-drop 1 (window s text o), length-window s text o, some)
 
 -- a slide leads to the next window
 pub slid_window : (s : ℕ) (text : List ℕ) (o value out next : ℕ) → 1 ≤ s → value ≡ crc32 (window s text o) → out ≡ get_or text o 0 → next ≡ get_or text (s + o) 0 → after_slide s value out next ≡ crc32 (window s text (o + 1))

@@ -6,7 +6,7 @@ use Rattle.std.proofs.lemmas.List.{get_or_default, get_or-take, get_or-drop, len
 use Rattle.std.proofs.lemmas.List.Elements.{All-get_or, All-from_get_or}
 use Rattle.std.proofs.lemmas.List.FromFn.{get_or-map-range_with_len, length-map-range_with_len}
 use Rattle.std.proofs.lemmas.List.Sorted.{All-permutation, Contains-permutation}
-use Rattle.std.proofs.Math.Nat.{div-mul-le_self}
+use Rattle.std.proofs.Math.Nat.{div-mul-le_self, lt_of_not-le, ne_of_lt}
 use Rattle.std.proofs.lemmas.Nat.{le-div, pow_pos}
 use Rattle.par2_spec.specs.Checksums.{Pair}
 use Rattle.par2_slices.specs.Searches.{no_place, pair_at, place_at, IsPlace, IsIndex, HoldsGroup}
@@ -47,12 +47,6 @@ group_rises shift a b h = le-div (a / 2 ^ shift) b (2 ^ shift) (pow_pos shift) (
 not_below : (k start : ℕ) → (k < start → ⊥) → start ≤ k
 not_below k start h = omega (arith, h)
 
-not_above : (k count : ℕ) → (count ≤ k → ⊥) → k < count
-not_above k count h = omega (arith, h)
-
-absurd_equal : (x y : ℕ) → x ≡ y → x < y → ⊥
-absurd_equal x y e h = omega (arith, e, h)
-
 between : (low x high : ℕ) → low ≤ x → x ≤ high → high ≡ low → x ≡ low
 between low x high p q e = omega (arith, p, q, e)
 
@@ -84,8 +78,8 @@ group_of pairs places rest shift crc start count index is bound below above memb
           let its : place.crc / 2 ^ shift ≡ crc / 2 ^ shift = (
           ap (λ c. c / 2 ^ shift) (sym ((index.each k found.1).crc) ∙ ap (λ j. (pair_at pairs j).1) found.2) ∙ same
           ) in
-          let from : start ≤ k = not_below k start (λ early. absurd_equal (place.crc / 2 ^ shift) (crc / 2 ^ shift) its (below k early)) in
-          let until : k - start < count = not_above (k - start) count (λ late.
+          let from : start ≤ k = not_below k start (λ early. ne_of_lt (below k early) its) in
+          let until : k - start < count = lt_of_not-le {n = count} {m = k - start} (λ late.
           let inside : count < length rest = omega (arith, late, found.1, from, size) in
           let last : Place = place_at places (start + count) in
           let least : crc / 2 ^ shift ≤ last.crc / 2 ^ shift = above (start + count) (omega arith) (omega (arith, inside, size)) in

@@ -4,7 +4,9 @@ use Rattle.par2_spec.specs.Slices.{padded}
 use Rattle.par2_slices.specs.declared.batch.Candidate.{Candidate}
 use Rattle.par2_slices.specs.Searches.{spot_in, IsAt, IsWindow}
 use Rattle.par2_slices.proofs.Searching.{compared, emptied, pushed}
+use Rattle.par2_slices.proofs.search.Search.put.Given.{Over}
 use Rattle.par2_slices.proofs.search.Search.put.Goals as goal
+use Rattle.par2_slices.proofs.search.Search.put.Goals.{After-push}
 
 pub returns-then-window-s-clause-at : goal.returns-then-window-s-clause-at
 returns-then-window-s-clause-at g c =
@@ -18,24 +20,9 @@ returns-then-window-s-clause-at g c =
     (compared s text g.earlier o c.args.wanted.now c.args.self.now.found.items c.answer.new.self.found.items c.args.self.now.left c.answer.new.self.left c.args.self.now.filter c.answer.new.self.filter c.args.self.now.batch.items c.args.candidate.spot c.padded_md5.result c.args.candidate.crc
     c.requires.0 (c.requires.1.1.1.1.1 short) (ap (λ t. spot_in t o) c.requires.1.1.0) (c.padded_md5.ensures ∙ ap (λ bytes. md5 (padded s bytes)) c.window_bytes-window.ensures) c.requires.1.1.1.0 c.answer.ensures.tally c.answer.ensures.each)
 
-pub returns-then-self-clause-at : goal.returns-then-self-clause-at
-returns-then-self-clause-at g c =
-    let s : ℕ = c.args.s in
-    let text : List ℕ = c.args.bytes.now in
-    let o : ℕ = c.args.candidate.spot.offset in
-    let At : List Candidate → Type 0 = λ batch. IsAt s text g.earlier (o + 1) c.args.wanted.now c.args.self.now.found.items c.args.self.now.left c.args.self.now.filter batch in
-    let size : length c.window_bytes-window.result.now ≡ length (take s (drop o text)) = ap length c.window_bytes-window.ensures in
-    let its : IsWindow s text c.args.candidate = record {
-      within = omega (arith, c.if-window-s.false, size, length-take s (drop o text), length-drop o text, c.requires.1.0);
-      crc = c.requires.1.1.1.0;
-    }
-    in
-    emptied s text g.earlier (o + 1) c.args.wanted.now c.args.self.now.found.items c.settle_batch.new.self.found.items c.args.self.now.left c.settle_batch.new.self.left c.args.self.now.filter c.settle_batch.new.self.filter c.push.new.self.items c.settle_batch.new.self.batch.items
-    (subst At (sym c.push.ensures.items) (pushed s text g.earlier c.args.wanted.now c.args.self.now.found.items c.args.self.now.left c.args.self.now.filter c.args.self.now.batch.items c.args.candidate c.requires.0 c.requires.1.1.0 its))
-    c.settle_batch.ensures.tally c.settle_batch.ensures.batch c.settle_batch.ensures.each
-
-pub returns-else-self-clause-at : goal.returns-else-self-clause-at
-returns-else-self-clause-at g c =
+-- the candidate is behind the others of the batch
+pushed_at : (g : Over) (c : After-push g) → IsAt c.args.s c.args.bytes.now g.earlier (c.args.candidate.spot.offset + 1) c.args.wanted.now c.args.self.now.found.items c.args.self.now.left c.args.self.now.filter c.push.new.self.items
+pushed_at g c =
     let s : ℕ = c.args.s in
     let text : List ℕ = c.args.bytes.now in
     let o : ℕ = c.args.candidate.spot.offset in
@@ -47,3 +34,12 @@ returns-else-self-clause-at g c =
     }
     in
     subst At (sym c.push.ensures.items) (pushed s text g.earlier c.args.wanted.now c.args.self.now.found.items c.args.self.now.left c.args.self.now.filter c.args.self.now.batch.items c.args.candidate c.requires.0 c.requires.1.1.0 its)
+
+pub returns-then-self-clause-at : goal.returns-then-self-clause-at
+returns-then-self-clause-at g c =
+    emptied c.args.s c.args.bytes.now g.earlier (c.args.candidate.spot.offset + 1) c.args.wanted.now c.args.self.now.found.items c.settle_batch.new.self.found.items c.args.self.now.left c.settle_batch.new.self.left c.args.self.now.filter c.settle_batch.new.self.filter c.push.new.self.items c.settle_batch.new.self.batch.items
+    (pushed_at g (goal.at.returns-then-self-clause-at g c).After-push)
+    c.settle_batch.ensures.tally c.settle_batch.ensures.batch c.settle_batch.ensures.each
+
+pub returns-else-self-clause-at : goal.returns-else-self-clause-at
+returns-else-self-clause-at g c = pushed_at g (goal.at.returns-else-self-clause-at g c).After-push
