@@ -22,7 +22,7 @@ use Rattle.par2_recovery.proofs.RankTests.{AllKill}
 use Rattle.par2_recovery.specs.Products.{AreBytes}
 use Rattle.par2_recovery.specs.Views.{texts_of}
 use Rattle.std.specs.Borrow.{Bor}
-use Rattle.par2_spec.proofs.ListsLaws.{all-map, all_unmap}
+use Rattle.par2_spec.proofs.ListsLaws.{all-append, all_from, all-map, all_unmap}
 use Rattle.par2_spec.proofs.RankLaws.{all_weaker}
 use Rattle.par2_spec.proofs.RestoredLaws.{bytes-zeros}
 
@@ -187,8 +187,7 @@ length-padded-one : (s : ℕ) (t : List ℕ) → length t ≤ s → length (padd
 length-padded-one s t h = length-append t (replicate (s - length t) 0) ∙ (let e = length-replicate {A = ℕ} (s - length t) 0 in omega (arith, e))
 
 bytes_padded : (n : ℕ) (t : List ℕ) → ((k : ℕ) → get_or t k 0 < 256) → AllByRecursion (λ b. b < 256) (t ++ replicate n 0)
-bytes_padded n [] h = bytes-zeros n
-bytes_padded n (x ∷ t) h = (h 0, bytes_padded n t (λ k. h (suc k)))
+bytes_padded n t h = all-append (λ b. b < 256) t (replicate n 0) (all_from (λ b. b < 256) 0 t (λ k low. h k)) (bytes-zeros n)
 
 known_padded : (s : ℕ) (slices : List (Bor (List ℕ))) → AllByRecursion (λ slice. length slice.now ≤ s) slices → AreBytes (texts_of slices) → AreSized s (map (λ slice. padded s slice.now) slices)
 known_padded s [] sizes bytes = (tt, tt)
