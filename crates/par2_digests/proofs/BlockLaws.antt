@@ -1,7 +1,7 @@
 -- The blocks of a message and their words.
 use Rattle.std.proofs.Common.{◌≡◌, ℕ, suc, ◌+◌, ◌*◌, ◌<◌, ◌≤◌, List, [], ◌∷◌, ◌++◌, take, drop, get_or, ap, ap₂, refl, sym, ◌∙◌, arith}
 use Rattle.std.proofs.lemmas.List.{get_or-take, get_or-drop, drop-take, take-take, drop-drop}
-use Rattle.md5.specs.Md5.{block_words, compress, hash_after, word_at}
+use Rattle.md5.specs.Md5.{add_state, block_words, compress, hash_after, rounds, word_at}
 use Rattle.par2_digests.specs.Lanes.{four_words_at}
 
 -- ---- words
@@ -62,6 +62,11 @@ same_parts x y m i n h same =
     sym (drop-take i n x)
     ∙ ap (drop i) (sym (take-take (i + n) m x h) ∙ ap (take (i + n)) same ∙ take-take (i + n) m y h)
     ∙ drop-take i n y
+
+-- the state behind a block, of an equal state and the words of the block
+pub after_words : (new old hash words block next : List ℕ) → new ≡ add_state old (rounds old words 64) → old ≡ hash → words ≡ block_words block 16 → compress hash block ≡ next → new ≡ next
+unfolding compress
+after_words new old hash words block next made same read is = made ∙ ap₂ (λ h ws. add_state h (rounds h ws 64)) same read ∙ is
 
 -- a block more of a message, which stands `offset` bytes behind a start in a text
 pub one_block_more : (p text : List ℕ) (n count block start : ℕ) → block < count

@@ -1,8 +1,8 @@
-use Rattle.std.proofs.Common.{◌≡◌, ◌+◌, ap, ap₂, arith, drop, refl, slice_index, ◌∙◌}
-use Rattle.md5.specs.Md5.{add_state, compress, hash_after, rounds}
+use Rattle.std.proofs.Common.{◌≡◌, ◌+◌, ◌*◌, ℕ, ap, arith, drop, refl, slice_index, take, ◌∙◌}
+use Rattle.md5.specs.Md5.{hash_after}
 use Rattle.par2_digests.specs.Feeds.{hash_behind}
 use Rattle.par2_digests.specs.Lanes.{lane}
-use Rattle.par2_digests.proofs.BlockLaws.{one_block_more}
+use Rattle.par2_digests.proofs.BlockLaws.{after_words, one_block_more}
 use Rattle.par2_digests.proofs.FeedLaws.{hash_one_more}
 use Rattle.par2_digests.proofs.blocks.absorbed.Goals as goal
 
@@ -14,19 +14,17 @@ loop-block-init g c = record {
 }
 
 pub loop-block-preserved : goal.loop-block-preserved
-unfolding compress
 loop-block-preserved g c =
     let held = c.loop-block.invariant in
     let block = c.loop-block.block in
+    let part = λ (k : ℕ). take 64 (drop (slice_index c.args.starts.now k + 64 * block) c.args.bytes.now) in
     record {
       message = λ k n p low held-state same.
-          c.compressed-after.ensures k low
-          ∙ ap₂ (λ h words. add_state h (rounds h words 64)) (held.message k n p low held-state same) (c.read_words.ensures k low)
-          ∙ one_block_more p c.args.bytes.now n c.args.count block (slice_index c.args.starts.now k) c.loop-block-test.true same;
+          after_words _ _ _ _ (part k) _ (c.compressed-after.ensures k low) (held.message k n p low held-state same) (c.read_words.ensures k low)
+          (one_block_more p c.args.bytes.now n c.args.count block (slice_index c.args.starts.now k) c.loop-block-test.true same);
       behind = λ k low.
-          c.compressed-after.ensures k low
-          ∙ ap₂ (λ h words. add_state h (rounds h words 64)) (held.behind k low) (c.read_words.ensures k low)
-          ∙ hash_one_more (lane g.V.Lanes.at k c.args.state) c.args.bytes.now (slice_index c.args.starts.now k) block;
+          after_words _ _ _ _ (part k) _ (c.compressed-after.ensures k low) (held.behind k low) (c.read_words.ensures k low)
+          (hash_one_more (lane g.V.Lanes.at k c.args.state) c.args.bytes.now (slice_index c.args.starts.now k) block);
     }
 
 pub returns-clause-message : goal.returns-clause-message

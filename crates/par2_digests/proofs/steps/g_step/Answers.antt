@@ -15,4 +15,4 @@ returns g c = λ k h low held.
     let value = second_function t (at state.b k) (at state.c k) (at state.d k) c.requires.from c.requires.to in
     let read = word_of_lane at c.args.words.now k ((5 * t + 1) % 16) c.index-words-t.result (omega (arith, c.told-words)) ∙ ap (slice_index words) (second_place t c.requires.from c.requires.to) in
     let sum = c.plus_g.ensures k low ∙ ap (λ n. add32 n f) (c.early_sum-sum.ensures k low) in
-    c.turned.ensures k f _ low sum ∙ after_step h words _ t _ _ held value read
+    after_step h words _ _ t f _ (c.turned.ensures k f _ low sum) held value read

@@ -12,4 +12,4 @@ returns g c = λ k h low held.
     let words = lane_words at k c.args.words.now in
     let value = c.h.ensures k low ∙ third_function t (at state.b k) (at state.c k) (at state.d k) c.requires.from c.requires.to in
     let read = word_of_lane at c.args.words.now k ((3 * t + 5) % 16) c.index-words-t.result (omega (arith, c.told-words)) ∙ ap (slice_index words) (third_place t c.requires.from c.requires.to) in
-    c.stepped.ensures k low ∙ after_step h words _ t _ _ held value read
+    after_step h words _ _ t _ _ (c.stepped.ensures k low) held value read

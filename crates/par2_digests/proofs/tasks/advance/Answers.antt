@@ -17,9 +17,9 @@ returns-clause-leads g c = λ j none last rest low leads.
     let place : slice_index starts j ≡ 2048 * j = each_lane (λ i. slice_index starts i ≡ 2048 * i) refl refl refl refl refl refl refl refl j (omega (arith, low, c.requires.lanes, c.requires.few)) in
     let text : List ℕ = drop (2048 * j) blocks in
     let after : lane at j c.absorbed.result ≡ hash_behind hash (take (batch * 64) text) batch =
-    c.absorbed.ensures.behind j (omega (arith, low, c.requires.lanes))
-    ∙ ap (λ n. hash_behind hash (drop n blocks) batch) place
-    ∙ blocks_alike hash text (take (batch * 64) text) batch (batch * 64) (omega arith) (sym (take-take (batch * 64) (batch * 64) text (omega arith))) in
+    ◌∙◌ {b = hash_behind hash (drop (slice_index starts j) blocks) batch} (c.absorbed.ensures.behind j (omega (arith, low, c.requires.lanes)))
+    (◌∙◌ {b = hash_behind hash text batch} (ap (λ n. hash_behind hash (drop n blocks) batch) place)
+    (blocks_alike hash text (take (batch * 64) text) batch (batch * 64) (omega arith) (sym (take-take (batch * 64) (batch * 64) text (omega arith))))) in
     subst (λ (h : List ℕ). LeadsTo (get_or c.turn_all.new.tasks j none) h last rest) (sym after) (c.turn_all.ensures.leads j none last rest low leads)
 
 pub returns-clause-shrinks : goal.returns-clause-shrinks

@@ -1,5 +1,6 @@
 use Rattle.std.proofs.Common.{◌≡◌, ◌*◌, ◌≤◌, length, ◌∙◌, arith, inl, inr}
 use Rattle.std.proofs.lemmas.Bool.{cases_lt}
+use borrow.Rule.Slice.PartMut.{post_of}
 use Rattle.par2_digests.specs.Feeds.{bytes_left}
 use Rattle.par2_digests.specs.Lanes.{lane}
 use Rattle.par2_digests.proofs.TaskLaws.{at_the_end, blocks_more, kept_rest, left_blocks}
@@ -11,8 +12,8 @@ returns-then-count-lt64-clause-leads g c = λ n last rest size held.
     let hash = lane g.V.Lanes.at c.args.k c.args.state.now in
     let all : c.fill-count.result ≡ length (bytes_left task.feed) = omega (arith, c.fill-count.ensures.count, c.if-count-lt64.true, c.requires.some) in
     let ended = at_the_end task.hash task.rest (bytes_left task.feed) hash last rest c.fill-count.result c.in-None.is all c.if-count-lt64.true held in (
-      c.in_lane.ensures ∙ ended.0,
-      kept_rest (bytes_left task.feed) rest c.fill-count.new.blocks c.copy_from_slice.new.self _ c.fill-count.result c.copy_from_slice.ensures.after c.fill-count.ensures.bytes all ended.1,
+      ◌∙◌ {b = hash} c.in_lane.ensures ended.0,
+      kept_rest (bytes_left task.feed) rest c.fill-count.new.blocks c.copy_from_slice.new.self (post_of 0 c.fill-count.result task.rest) c.fill-count.result c.copy_from_slice.ensures.after c.fill-count.ensures.bytes all ended.1,
     )
 
 pub returns-else-count-lt64-clause-leads : goal.returns-else-count-lt64-clause-leads
