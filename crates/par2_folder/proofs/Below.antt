@@ -14,7 +14,8 @@ use Rattle.par2_spec.specs.Folders.{File, Folder, bytes_of, behind_length}
 use Rattle.par2_spec.specs.Changes.{Change, Write, Replace, Rename, Remove, effect}
 use Rattle.par2_folder.specs.Sorting.{name_cmp, IsSortedByName, folder_of, file_at, IsAt, IsGapFor, IsKept}
 use Rattle.par2_folder.specs.Below.{is_below, folder_below, fingerprint_input, IsFrom, IsFront}
-use Rattle.par2_folder.proofs.SortedFiles.{same_names, holds, rises, turned, turned_back}
+use Rattle.par2_spec.proofs.TestLaws.{by_true}
+use Rattle.par2_folder.proofs.SortedFiles.{same_names, rises, turned, turned_back}
 
 -- ---- the files before a place
 
@@ -36,10 +37,10 @@ alike p q x e = ap p (sym (same_names q x e))
 
 kept_where : (p : List ℕ → Bool) (files : List File) → IsSortedByName files → entries (map_of.retain_keys (folder_of files) p) ≡ where_key name_cmp p files
 kept_where p files h =
-    let sorted = is_sorted-where_key name_cmp p files (holds h) in
+    let sorted = is_sorted-where_key name_cmp p files (by_true h) in
     ap entries (same_map nat_list_cmp_total same_names _ (folder_of (where_key name_cmp p files)) (λ q.
     get-retain_keys (folder_of files) p q (alike p q)
-    ∙ ap (λ o. cond (p q) o None) (get-from_sorted name_cmp files q (holds h))
+    ∙ ap (λ o. cond (p q) o None) (get-from_sorted name_cmp files q (by_true h))
     ∙ sym (find-where_key name_cmp p q (alike p q) files)
     ∙ sym (get-from_sorted name_cmp _ q sorted)))
     ∙ entries-from_sorted name_cmp _ sorted

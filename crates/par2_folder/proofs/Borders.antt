@@ -1,8 +1,6 @@
 -- What lies between two borders among names, and what changes leave before a border.
-use Rattle.std.proofs.Common.{◌≡◌, ℕ, ◌+◌, ◌-◌, ◌≤◌, true, false, List, [], ◌++◌, length, map, take, drop, Result, Ok, Err, IfOk, refl, sym, ap, ◌∙◌, arith}
+use Rattle.std.proofs.Common.{◌≡◌, ℕ, ◌+◌, ◌-◌, ◌≤◌, true, false, List, [], ◌++◌, length, map, take, drop, refl, sym, ap, ◌∙◌, arith}
 use Rattle.std.specs.Ordering.{is_lt}
-use Rattle.std.specs.declared.cmp.Ordering.{Ordering}
-use Rattle.std.specs.declared.cmp.Ordering.TheVariants.{Less, Equal, Greater}
 use Rattle.std.specs.Cmp.Lexicographic.{nat_list_cmp_total}
 use Rattle.std.specs.FinMap as map_of
 use Rattle.std.specs.FinMap.{entries, same_map, get-retain_keys}
@@ -18,14 +16,9 @@ use Rattle.par2_folder.specs.declared.border.Border.TheVariants.{Beginning, At, 
 use Rattle.par2_folder.specs.declared.snapshot.BorrowedFile.{BorrowedFile}
 use Rattle.par2_folder.specs.Snapshots.{file_of}
 use Rattle.par2_folder.proofs.Below.{effect_below, front_entries, front_further, hashed-append}
-use Rattle.par2_folder.proofs.SortedFiles.{same_names}
+use Rattle.par2_folder.proofs.SortedFiles.{less, same_names}
 
 -- ---- borders in order
-
-less : (o : Ordering) → is_lt o ≡ true → o ≡ Less
-less Less h = refl
-less Equal h = cc
-less Greater h = cc
 
 -- what comes before a name comes before a later one
 pub later : (before next name : List ℕ) → is_lt (name_cmp before next) ≡ true → is_below before name ≡ true → is_below next name ≡ true
@@ -38,10 +31,6 @@ pub all_before : (files : List File) (count : ℕ) → count ≡ length files �
 all_before files count is = record { within = omega arith; before = λ j lt. refl; behind = λ j le lt. absurd (omega arith) }
 
 -- ---- what lies between two borders
-
-pub if_ok : {A E : Type 0} {P Q : A → Type 0} (r : Result A E) → IfOk r P → ((x : A) → P x → Q x) → IfOk r Q
-if_ok (Ok x) held f = f x held
-if_ok (Err e) held f = tt
 
 pub taken_on : {A : Type 0} (xs : List A) (from to : ℕ) → from ≤ to → take from xs ++ take (to - from) (drop from xs) ≡ take to xs
 taken_on xs from to le =

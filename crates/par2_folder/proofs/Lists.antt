@@ -1,55 +1,39 @@
 -- Changes in order, one by one.
-use Rattle.std.proofs.Common.{◌≡◌, ℕ, suc, ◌+◌, ◌<◌, ◌≤◌, List, [], ◌∷◌, ◌++◌, length, map, take, drop, get_or, set, Option, Some, None, IsTrue, refl, sym, ap, subst, ◌∙◌, append_assoc, append-nil, add-one, drop-cons, arith}
-use Rattle.std.specs.Prelude.{reverse, is_none}
+use Rattle.std.proofs.Common.{◌≡◌, ℕ, suc, ◌+◌, ◌<◌, ◌≤◌, List, [], ◌∷◌, ◌++◌, length, map, take, drop, get_or, set, None, IsTrue, refl, sym, ap, subst, ◌∙◌, append_assoc, append-nil, add-one, drop-cons, arith}
+use Rattle.std.specs.Prelude.{reverse}
 use Rattle.std.proofs.Math.Seq.{take-suc-set}
 use Rattle.std.proofs.lemmas.List.{reverse-append, map-append, drop-set-lt, take_all, drop_all}
 use Rattle.par2_spec.specs.Folders.{Folder}
 use Rattle.par2_spec.specs.Changes.{Change, FolderState, change_refusal, effect, inverse, state_after, state_after_all, takes_all, way_back}
-use Rattle.par2_spec.specs.declared.ChangeFault.{ChangeFault}
-use Rattle.par2_spec.proofs.FolderLaws.{both_first, both_second}
+use Rattle.par2_spec.proofs.FolderLaws.{takes_first, takes_rest}
+use Rattle.par2_spec.proofs.ListsLaws.{map-reverse}
 
-no_fault : (o : Option ChangeFault) → IsTrue (is_none o) → o ≡ None
-no_fault None h = refl
-no_fault (Some x) h = cc
-
-pub taken_first : (state : FolderState) (change : Change) (changes : List Change) → IsTrue (takes_all state (change ∷ changes)) → change_refusal state change ≡ None
-unfolding takes_all
-taken_first state change changes h = no_fault _ (both_first _ _ h)
-
-pub taken_rest : (state : FolderState) (change : Change) (changes : List Change) → IsTrue (takes_all state (change ∷ changes)) → IsTrue (takes_all (state_after state change) changes)
-unfolding takes_all
-taken_rest state change changes h = both_second _ _ h
-
-pub after_first : (state : FolderState) (change : Change) (changes : List Change) → state_after_all state (change ∷ changes) ≡ state_after_all (state_after state change) changes
+after_first : (state : FolderState) (change : Change) (changes : List Change) → state_after_all state (change ∷ changes) ≡ state_after_all (state_after state change) changes
 unfolding state_after_all
 after_first state change changes = refl
 
-pub after_none : (state : FolderState) → state_after_all state [] ≡ state
+after_none : (state : FolderState) → state_after_all state [] ≡ state
 unfolding state_after_all
 after_none state = refl
 
 -- the inverses in the order of the changes
-pub inverses : Folder → List Change → List Change
+inverses : Folder → List Change → List Change
 inverses folder [] = []
 inverses folder (change ∷ changes) = inverse folder change ∷ inverses (effect folder change) changes
 
-pub inverses_none : (folder : Folder) → inverses folder [] ≡ []
+inverses_none : (folder : Folder) → inverses folder [] ≡ []
 unfolding inverses
 inverses_none folder = refl
 
-pub inverses_first : (folder : Folder) (change : Change) (changes : List Change) → inverses folder (change ∷ changes) ≡ inverse folder change ∷ inverses (effect folder change) changes
+inverses_first : (folder : Folder) (change : Change) (changes : List Change) → inverses folder (change ∷ changes) ≡ inverse folder change ∷ inverses (effect folder change) changes
 unfolding inverses
 inverses_first folder change changes = refl
 
-pub inverses_reversed : (folder : Folder) (changes : List Change) → reverse (inverses folder changes) ≡ way_back folder changes
+inverses_reversed : (folder : Folder) (changes : List Change) → reverse (inverses folder changes) ≡ way_back folder changes
 unfolding inverses way_back
 inverses_reversed folder [] = refl
 inverses_reversed folder (change ∷ changes) =
     reverse-append (inverse folder change ∷ []) (inverses (effect folder change) changes) ∙ ap (λ l. l ++ inverse folder change ∷ []) (inverses_reversed (effect folder change) changes)
-
-map_reversed : {A B : Type 0} (v : A → B) (xs : List A) → map v (reverse xs) ≡ reverse (map v xs)
-map_reversed v [] = refl
-map_reversed v (x ∷ xs) = ap (map v) (reverse-append (x ∷ []) xs) ∙ map-append v (reverse xs) (x ∷ []) ∙ ap (λ l. l ++ v x ∷ []) (map_reversed v xs) ∙ sym (reverse-append (v x ∷ []) (map v xs))
 
 -- ---- a loop that applies changes in turn, seen through v: given is what it began with, and now what stands there at
 -- the place i
@@ -77,13 +61,13 @@ module _ {A : Type 0} (v : A → Change) where
     taken_now = subst (λ l. IsTrue (takes_all state (map v l))) split so_far.taken
 
     pub is_accepted : change_refusal state (v x) ≡ None
-    is_accepted = taken_first state (v x) _ taken_now
+    is_accepted = takes_first state (v x) _ taken_now
 
     pub goes_on : (next : FolderState) (y : A) → next ≡ state_after state (v x) → v y ≡ inverse state.files (v x) → IsOnItsWay start next given (set now i y) (i + 1)
     goes_on next y moved turned =
         let files : next.files ≡ effect state.files (v x) = ap (λ (s : FolderState). s.files) moved in
         rw add-one (record {
-          taken = subst (λ s. IsTrue (takes_all s (map v (drop (suc i) given)))) (sym moved) (taken_rest state (v x) _ taken_now);
+          taken = subst (λ s. IsTrue (takes_all s (map v (drop (suc i) given)))) (sym moved) (takes_rest state (v x) _ taken_now);
           after = ap (λ s. state_after_all s (map v (drop (suc i) given))) moved ∙ sym (after_first state (v x) _) ∙ ap (λ l. state_after_all state (map v l)) (sym split) ∙ so_far.after;
           left = drop-set-lt (suc i) now i y (omega arith) ∙ rest;
           back = ap (λ l. map v l ++ inverses next.files (map v (drop (suc i) given))) (take-suc-set now i y lt)
@@ -102,6 +86,6 @@ module _ {A : Type 0} (v : A → Change) where
 
   pub turned_round : (start state : FolderState) (given now : List A) (i : ℕ) → IsOnItsWay start state given now i → length given ≤ i → length now ≤ i → map v (reverse now) ≡ way_back start.files (map v given)
   turned_round start state given now i so_far over over_now =
-      map_reversed v now
+      map-reverse v now
       ∙ ap reverse (ap (map v) (sym (take_all i now over_now)) ∙ sym (append-nil (map v (take i now))) ∙ ap (λ l. map v (take i now) ++ l) (sym (inverses_none state.files) ∙ ap (λ l. inverses state.files (map v l)) (sym (drop_all i given over))) ∙ so_far.back)
       ∙ inverses_reversed start.files (map v given)

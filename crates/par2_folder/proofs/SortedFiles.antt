@@ -13,23 +13,18 @@ use Rattle.std.specs.FinMap as map_of
 use Rattle.std.specs.FinMap.{entries, is_sorted, find, put, IsAntisymmetric, slice_cmp-IsAntisymmetric, nat_cmp-IsAntisymmetric, same_entries_map, same_map, entries_sorted, entries-from_sorted, get-from_sorted, entries-insert, get-remove, get-empty}
 use Rattle.std.specs.FinMap.Entries.{where_key, find-where_key, is_sorted-where_key}
 use Rattle.std.proofs.lemmas.List.{length-map, get_or-map, length-take-le, get_or-take, take_all, drop_all, take_more, get_or_default}
+use Rattle.std.proofs.lemmas.List.Elements.{All-from_recursion, recursion_from_All, All-set}
 use Rattle.std.proofs.lemmas.List.Sorted.{IsNonDecreasingBy-from_default}
 use Rattle.par2_spec.specs.Folders.{File, Folder, IsFolder, has, names, behind_length, fingerprint}
 use Rattle.md5.specs.Md5.{md5}
 use Rattle.par2_folder.specs.Sorting.{name_cmp, IsSortedByName, folder_of, file_at, IsAt, IsGapFor, IsFile, IsKept}
 use Rattle.par2_spec.proofs.FolderLaws.{both_first, both_second}
+use Rattle.par2_spec.proofs.TestLaws.{by_true, is_true}
 
 pub same_names : IsAntisymmetric name_cmp
 same_names = slice_cmp-IsAntisymmetric nat_cmp-IsAntisymmetric
 
-pub holds : {b : Bool} → IsTrue b → T b
-holds {b} h = subst T (sym h) tt
-
-is_true : (b : Bool) → T b → IsTrue b
-is_true true h = refl
-is_true false h = absurd h
-
-less : (o : Ordering) → IsTrue (is_lt o) → o ≡ Less
+pub less : (o : Ordering) → IsTrue (is_lt o) → o ≡ Less
 less Less h = refl
 less Equal h = cc
 less Greater h = cc
@@ -173,11 +168,6 @@ each_insert [] (suc at) file each is = (is, tt)
 each_insert (e ∷ files) zero file each is = (is, each)
 each_insert (e ∷ files) (suc at) file each is = (each.0, each_insert files at file each.1 is)
 
-each_set : (files : List File) (at : ℕ) (file : File) → AllByRecursion IsFile files → IsFile file → AllByRecursion IsFile (set files at file)
-each_set [] at file each is = tt
-each_set (e ∷ files) zero file each is = (is, each.1)
-each_set (e ∷ files) (suc at) file each is = (each.0, each_set files at file each.1 is)
-
 each_remove : (files : List File) (at : ℕ) → AllByRecursion IsFile files → AllByRecursion IsFile (remove files at)
 each_remove [] zero each = tt
 each_remove [] (suc at) each = tt
@@ -187,7 +177,7 @@ each_remove (e ∷ files) (suc at) each = (each.0, each_remove files at each.1)
 -- ---- the same of the folder
 
 pub files_of : (files : List File) → IsSortedByName files → entries (folder_of files) ≡ files
-files_of files h = entries-from_sorted name_cmp files (holds h)
+files_of files h = entries-from_sorted name_cmp files (by_true h)
 
 pub is_folder : (files : List File) → IsKept files → IsFolder (folder_of files)
 is_folder files h = subst (AllByRecursion IsFile) (sym (files_of files h.sorted)) h.each
@@ -196,13 +186,13 @@ is_folder files h = subst (AllByRecursion IsFile) (sym (files_of files h.sorted)
 is_made_of : (files : List File) (folder : Folder) → entries folder ≡ files → record { sorted : IsSortedByName files; folder : folder_of files ≡ folder }
 is_made_of files folder e =
     let sorted = subst (λ l. T (is_sorted name_cmp l)) e (entries_sorted folder) in
-    record { sorted = is_true _ sorted; folder = same_entries_map _ _ (entries-from_sorted name_cmp files sorted ∙ sym e) }
+    record { sorted = is_true sorted; folder = same_entries_map _ _ (entries-from_sorted name_cmp files sorted ∙ sym e) }
 
 get_at : (files : List File) → IsSortedByName files → (name : List ℕ) (at : ℕ) → IsAt files name at → map_of.get (folder_of files) name ≡ Some (file_at files at).1
-get_at files h name at here = get-from_sorted name_cmp files name (holds h) ∙ find_at files h name at here
+get_at files h name at here = get-from_sorted name_cmp files name (by_true h) ∙ find_at files h name at here
 
 get_in_gap : (files : List File) → IsSortedByName files → (name : List ℕ) (at : ℕ) → IsGapFor files name at → map_of.get (folder_of files) name ≡ None
-get_in_gap files h name at gap = get-from_sorted name_cmp files name (holds h) ∙ find_in_gap files name at gap
+get_in_gap files h name at gap = get-from_sorted name_cmp files name (by_true h) ∙ find_in_gap files name at gap
 
 pub bytes_at : (files : List File) → IsKept files → (name : List ℕ) (at : ℕ) → IsAt files name at → map_of.get (folder_of files) name ≡ Some (file_at files at).1
 bytes_at files h = get_at files h.sorted
@@ -220,7 +210,7 @@ inserted files h name bytes at gap is =
 pub exchanged : (files : List File) → IsKept files → (name bytes : List ℕ) (at : ℕ) → IsAt files name at → IsFile (name, bytes) → Makes (set files at (name, bytes)) (map_of.insert (folder_of files) name bytes)
 exchanged files h name bytes at here is =
     let made = is_made_of _ _ (entries-insert nat_list_cmp_total (folder_of files) name bytes ∙ ap (put name_cmp name bytes) (files_of files h.sorted) ∙ put_at files h.sorted name bytes at here) in
-    record { kept = record { sorted = made.sorted; each = each_set files at (name, bytes) h.each is }; is = made.folder }
+    record { kept = record { sorted = made.sorted; each = recursion_from_All IsFile (set files at (name, bytes)) (All-set IsFile files at (name, bytes) is (All-from_recursion IsFile files h.each)) }; is = made.folder }
 
 flipped : {A : Type 0} (b : Bool) (x y : A) → cond (not b) x y ≡ cond b y x
 flipped true x y = refl
@@ -229,15 +219,15 @@ flipped false x y = refl
 pub removed : (files : List File) → IsKept files → (name : List ℕ) (at : ℕ) → IsAt files name at → Makes (remove files at) (map_of.remove (folder_of files) name)
 removed files h name at here =
     let same = others_at files h.sorted name at here in
-    let sorted = subst (λ l. T (is_sorted name_cmp l)) same (is_sorted-where_key name_cmp (other name) files (holds h.sorted)) in
+    let sorted = subst (λ l. T (is_sorted name_cmp l)) same (is_sorted-where_key name_cmp (other name) files (by_true h.sorted)) in
     record {
-      kept = record { sorted = is_true _ sorted; each = each_remove files at h.each };
+      kept = record { sorted = is_true sorted; each = each_remove files at h.each };
       is = same_map nat_list_cmp_total same_names _ _ (λ q.
           get-from_sorted name_cmp _ q sorted ∙ ap (find name_cmp q) (sym same)
           ∙ find-where_key name_cmp (other name) q (λ x t. ap (λ o. not (is_eq o)) (sym (alike_right nat_list_cmp_total q x name t))) files
           ∙ flipped (eq_by_cmp name_cmp name q) (find {X = List ℕ} name_cmp q files) None
           ∙ ap (λ b. cond b None (find name_cmp q files)) ((eq_by_cmp_equiv nat_list_cmp_total).symm name q)
-          ∙ sym (get-remove nat_list_cmp_total (folder_of files) name q ∙ ap (cond (eq_by_cmp name_cmp q name) None) (get-from_sorted name_cmp files q (holds h.sorted))));
+          ∙ sym (get-remove nat_list_cmp_total (folder_of files) name q ∙ ap (cond (eq_by_cmp name_cmp q name) None) (get-from_sorted name_cmp files q (by_true h.sorted))));
     }
 
 -- a binary search, and what the folder has at the name
@@ -283,7 +273,7 @@ listed_at whole i name d lt is =
 listed_is_there : (whole : Folder) (i : ℕ) (name d : List ℕ) → i < length (names whole) → name ≡ get_or (names whole) i d → IsTrue (has whole name)
 listed_is_there whole i name d lt is =
     let all = entries whole in
-    ap is_some (map_of.get-entries whole name ∙ find_at all (is_true _ (entries_sorted whole)) name i (listed_at whole i name d lt is))
+    ap is_some (map_of.get-entries whole name ∙ find_at all (is_true (entries_sorted whole)) name i (listed_at whole i name d lt is))
 
 -- a name that was listed is that of a file, as long as the folder stays
 pub still_there : (whole folder : Folder) (list : List (List ℕ)) (i : ℕ) (name : List ℕ) → folder ≡ whole → list ≡ names whole → i < length list → name ≡ get_or list i name → IsTrue (has folder name)
@@ -294,7 +284,7 @@ still_there whole folder list i name same listed lt is =
 pub next_file : (whole folder : Folder) (i : ℕ) (name bytes d : List ℕ) → entries folder ≡ take i (entries whole) → i < length (names whole) → name ≡ get_or (names whole) i d → map_of.get whole name ≡ Some bytes → IsNext whole folder i name bytes
 next_file whole folder i name bytes d so_far lt is found =
     let all = entries whole in
-    let sorted : IsSortedByName all = is_true _ (entries_sorted whole) in
+    let sorted : IsSortedByName all = is_true (entries_sorted whole) in
     let here : IsAt all name i = listed_at whole i name d lt is in
     let in_range = here.in_range in
     let named = here.has_name in

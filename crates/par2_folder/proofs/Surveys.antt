@@ -1,6 +1,7 @@
 -- A survey on its way.
-use Rattle.std.proofs.Common.{◌≡◌, ℕ, zero, suc, ◌-◌, ◌<◌, ◌≤◌, List, [], ◌∷◌, ◌++◌, length, take, drop, get_or, sym, ap, subst, ◌∙◌, arith}
+use Rattle.std.proofs.Common.{◌≡◌, ℕ, ◌-◌, ◌<◌, ◌≤◌, List, [], ◌∷◌, ◌++◌, length, take, drop, get_or, sym, ap, subst, ◌∙◌}
 use Rattle.std.specs.FinMap.{entries}
+use Rattle.std.proofs.lemmas.List.Elements.{All-push}
 use Rattle.par2_digests.specs.Messages.{HasAbsorbed, message_of}
 use Rattle.par2_digests.specs.declared.midstate.Midstate.{Midstate}
 use Rattle.par2_digests.specs.declared.pending.Pending.{Pending}
@@ -23,16 +24,9 @@ pub moved : (text : List ℕ) (from to : ℕ) (bytes : List ℕ) (state : Midsta
 moved text from to bytes state le is held = subst (HasAbsorbed state) (ap (λ b. take from text ++ b) is ∙ taken_on text from to le) held
 
 -- one more landmark
-one_more : (folder : Folder) (marks : List Landmark) (mark : Landmark) → ((i : ℕ) (none : Landmark) → i < length marks → IsLandmarkOf folder (get_or marks i none)) → IsLandmarkOf folder mark
-    → (i : ℕ) (none : Landmark) → i < length (marks ++ mark ∷ []) → IsLandmarkOf folder (get_or (marks ++ mark ∷ []) i none)
-one_more folder [] mark each one zero none lt = one
-one_more folder [] mark each one (suc i) none lt = absurd (omega (arith, lt))
-one_more folder (m ∷ marks) mark each one zero none lt = each 0 none (omega arith)
-one_more folder (m ∷ marks) mark each one (suc i) none lt = one_more folder marks mark (λ j d l. each (suc j) d (omega (arith, l))) one i none (omega (arith, lt))
-
 pub with_mark : (folder : Folder) (old new : Landmarks) (mark : Landmark) → new.list.items ≡ old.list.items ++ mark ∷ [] → AreLandmarksOf folder old → IsLandmarkOf folder mark → AreLandmarksOf folder new
 with_mark folder old new mark pushed are is = λ i none lt.
-    subst (λ l. IsLandmarkOf folder (get_or l i none)) (sym pushed) (one_more folder old.list.items mark are is i none (subst (λ l. i < length l) pushed lt))
+    subst (λ l. IsLandmarkOf folder (get_or l i none)) (sym pushed) (All-push (IsLandmarkOf folder) old.list.items mark are is i none (subst (λ l. i < length l) pushed lt))
 
 -- the state at a border at a name is a landmark
 pub is_mark : (name copy : List ℕ) (here folder : Folder) (state : Midstate) → copy ≡ name → here ≡ folder → HasAbsorbed state (fingerprint_input (entries (folder_below name here)))

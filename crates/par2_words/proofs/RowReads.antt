@@ -1,5 +1,5 @@
 -- What the getters read of matches, by the rows.
-use Rattle.std.proofs.Common.{◌≡◌, ◌∙◌, ◌^◌, ◌&&◌, ℕ, Bool, true, false, true≢false, nat_lt, refl, ap, sym, List, [], ◌∷◌, map, length, Option, Some, None, Result, Ok, Err, lt-ltb, ltb-true}
+use Rattle.std.proofs.Common.{◌≡◌, ◌∙◌, ◌^◌, ◌&&◌, ℕ, Bool, true, false, nat_lt, refl, ap, List, [], ◌∷◌, map, length, Option, Some, None, Result, Ok, Err, lt-ltb, ltb-true}
 use Rattle.std.specs.Prelude.{unwrap_or, option_map, codes}
 use Rattle.std.specs.List.{list_all}
 use Rattle.std.specs.Option.{option_map_or}
@@ -7,6 +7,7 @@ use Rattle.std.specs.Borrow.{Bor}
 use Rattle.std.specs.Char.{digit_value}
 use Rattle.std.specs.Str.{bytes_eq}
 use Rattle.std.specs.Str.Parse.{AllDigits, ParsesUnsigned, digits_value, without_leading_plus}
+use Rattle.std.proofs.lemmas.Bool.{and_parts}
 use Rattle.clap.specs.Words.{ReadsOne, Text, first_value, matched_of, one_text, raw_values, rows_of}
 use Rattle.clap.specs.ValueTests.{is_numeral}
 use Rattle.clap.specs.declared.parser.matches.Found.{Found}
@@ -40,14 +41,10 @@ digits_pass : (ds : List ℕ) → AllDigits 10 ds → list_all (λ d. nat_lt (di
 digits_pass [] h = refl
 digits_pass (d ∷ ds) h = rw (lt-ltb (digit_value d) 10 h.0) (digits_pass ds h.1)
 
-both : (a b : Bool) → (a && b) ≡ true → (a ≡ true) × (b ≡ true)
-both true b e = (refl, e)
-both false b e = absurd (true≢false (sym e))
-
 digits_from : (ds : List ℕ) → list_all (λ d. nat_lt (digit_value d) 10) ds ≡ true → AllDigits 10 ds
 digits_from [] e = tt
 digits_from (d ∷ ds) e =
-    let parts = both _ _ e in
+    let parts = and_parts _ _ e in
     (ltb-true _ _ parts.0, digits_from ds parts.1)
 
 abbrev fits : ℕ → List ℕ → Bool
@@ -64,8 +61,8 @@ module _ {E : Type 0} (G : List ℕ → Result ℕ E → Type 0) (k : ℕ) (only
       go : (b : Bool) → fits k (without_leading_plus t) ≡ b → 0 ≡ number k t
       go false e = rw e refl
       go true e =
-          let outer = both _ _ e in
-          let inner = both _ _ outer.0 in
+          let outer = and_parts _ _ e in
+          let inner = and_parts _ _ outer.0 in
           absurd (only t (Err h.0) h.1 ((ltb-true _ _ inner.0, digits_from (without_leading_plus t) inner.1), ltb-true _ _ outer.1))
 
   pub number_read : (f : Found) (id : Text) (r : Option ℕ) → (one_text f id ≡ None → r ≡ None) → ((t : List ℕ) → one_text f id ≡ Some t → ReadsOne G t r)

@@ -1,9 +1,11 @@
 -- The subcommand that a parse met is one of the six.
-use Rattle.std.proofs.Common.{◌≡◌, ◌∙◌, ◌&&◌, Bool, cond, true, false, true≢false, refl, ap, sym, subst, List, [], ◌∷◌, Option, Some, None}
+use Rattle.std.proofs.Common.{◌≡◌, ◌∙◌, Bool, cond, true, false, true≢false, refl, ap, sym, subst, List, [], ◌∷◌, Option, Some, None}
 use Rattle.std.specs.Prelude.{is_some, option_map, codes, unwrap_or, Box, find}
 use Rattle.std.specs.List.{list_all}
 use Rattle.std.specs.Str.{bytes_eq}
 use Rattle.std.specs.Box.{box_value}
+use Rattle.std.proofs.lemmas.Bool.{and_parts}
+use Rattle.std.proofs.lemmas.Option.{none-some}
 use Rattle.clap.specs.Words.{App, HasMatchesOf, Row, Shape, Text, app_of, built, fault_of, found_of, is_simple, is_simple_and_free, rows_of, subcommand_name_of, subcommand_of, subcommand_rows, subcommand_rows_of}
 use Rattle.clap.specs.Simple.{argument_words, entered, label_of, names_of, rows_at}
 use Rattle.clap.specs.Walk.{answers_to, stop_after}
@@ -31,19 +33,12 @@ all_known : list_all is_known (built par2_app).subs ≡ true
 unfolding clap_on_literals create_app create_numbers_app file_commands_app par2_app purge_app repair_app start_app verify_app
 all_known = refl
 
-some≢none : {X : Type 0} (x : X) → Some x ≡ None → ⊥
-some≢none x e = true≢false (ap is_some e)
-
-both : (a b : Bool) → (a && b) ≡ true → (a ≡ true) × (b ≡ true)
-both true b e = (refl, e)
-both false b e = absurd (true≢false (sym e))
-
 find_all : {X : Type 0} (p q : X → Bool) (xs : List X) (x : X) → find p xs ≡ Some x → list_all q xs ≡ true → q x ≡ true
-find_all p q [] x e h = absurd (some≢none x (sym e))
-find_all {X} p q (y ∷ ys) x e h = go (p y) e (λ k. find_all p q ys x k ((both _ _ h).1))
+find_all p q [] x e h = absurd (none-some x e)
+find_all {X} p q (y ∷ ys) x e h = go (p y) e (λ k. find_all p q ys x k (and_parts _ _ h).1)
   where
     go : (b : Bool) → cond b (Some y) (find p ys) ≡ Some x → (find p ys ≡ Some x → q x ≡ true) → q x ≡ true
-    go true k more = subst (λ (z : X). q z ≡ true) (ap (λ o. unwrap_or o x) k) ((both _ _ h).0)
+    go true k more = subst (λ (z : X). q z ≡ true) (ap (λ o. unwrap_or o x) k) (and_parts _ _ h).0
     go false k more = more k
 
 abbrev pick : {M : Type 0} → Bool → Bool → Bool → Bool → Bool → Bool → M × M × M × M × M × M → Option M
@@ -66,12 +61,12 @@ any_rows n rows = same_pick (bytes_eq n (codes "create")) (bytes_eq n (codes "ve
     (bytes_eq n (codes "purge")) (bytes_eq n (codes "undo")) (bytes_eq n (codes "redo")) (choices []) (choices rows)
 
 known_in : (stop : Option (Text × List Text)) (p : Text × List Row) → entered (built par2_app) stop ≡ Some p → is_some (meaning p) ≡ true
-known_in None p e = absurd (some≢none p (sym e))
+known_in None p e = absurd (none-some p e)
 known_in (Some q) p e = go (find (λ s. answers_to q.0 (label_of s)) (built par2_app).subs) refl e
   where
     go : (o : Option Shape) → find (λ s. answers_to q.0 (label_of s)) (built par2_app).subs ≡ o → option_map (λ s. rows_at s q.1) o ≡ Some p
         → is_some (meaning p) ≡ true
-    go None found k = absurd (some≢none p (sym k))
+    go None found k = absurd (none-some p k)
     go (Some s) found k =
         let name_known : is_some (meaning (s.name, [])) ≡ true = find_all _ is_known (built par2_app).subs s found all_known in
         let there : is_some (meaning (rows_at s q.1)) ≡ true = sym (any_rows s.name (rows_at s q.1).1) ∙ name_known in
@@ -82,7 +77,7 @@ known words p e = known_in (stop_after (built par2_app).top.rules (names_of (bui
 
 named : {Z : Type 0} (o : Option (Box SubCommand Z)) (n : Text) (rows : List Row) → Some n ≡ option_map (λ b. (out-SubCommand (box_value b)).name.now) o
     → Some rows ≡ option_map (λ p. p.1) (subcommand_rows o) → subcommand_rows o ≡ Some (n, rows)
-named None n rows e f = absurd (some≢none n e)
+named None n rows e f = absurd (none-some n (sym e))
 named (Some b) n rows e f =
     let name_is : n ≡ (out-SubCommand (box_value b)).name.now = ap (λ o. unwrap_or o n) e in
     let rows_are : rows ≡ rows_of (found_of (out-SubCommand (box_value b)).matches) = ap (λ o. unwrap_or o rows) f in
@@ -97,7 +92,7 @@ unmet m words has none there = go (out-ArgMatches m).subcommand none (ap is_some
   where
     go : {Z : Type 0} (o : Option (Box SubCommand Z)) → None ≡ option_map (λ b. (out-SubCommand (box_value b)).name.now) o → is_some (subcommand_rows o) ≡ true → ⊥
     go None e h = true≢false (sym h)
-    go (Some b) e h = some≢none _ (sym e)
+    go (Some b) e h = none-some _ e
 
 -- where the parse gave matches, no kind of fault was due
 pub faultless : (command : Command) (words : List Text) → app_of command ≡ par2_app

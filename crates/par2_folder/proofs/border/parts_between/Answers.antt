@@ -1,4 +1,5 @@
-use Rattle.par2_folder.proofs.Borders.{between, if_ok, no_less}
+use Rattle.std.proofs.lemmas.Result.{IfOk-weaker}
+use Rattle.par2_folder.proofs.Borders.{between, no_less}
 use Rattle.par2_folder.proofs.border.parts_between.Goals as goal
 
 pub returns : goal.returns
@@ -7,5 +8,5 @@ returns c =
     let front = rw c.deref.ensures.value at c.count_before-start.ensures in
     let longer = rw c.deref-2.ensures.value at c.count_before-end.ensures in
     let le = no_less items c.requires.kept c.args.from.now c.args.to.now c.count_before-start.result c.count_before-end.result front longer c.requires.further in
-    if_ok c.parts_of.result (rw c.deref-3.ensures.value at c.parts_of.ensures) (λ parts is.
-    between items c.requires.kept c.args.from.now c.args.to.now c.count_before-start.result c.count_before-end.result _ front longer le is)
+    IfOk-weaker c.parts_of.result _ _ (λ parts is.
+    between items c.requires.kept c.args.from.now c.args.to.now c.count_before-start.result c.count_before-end.result _ front longer le is) (rw c.deref-3.ensures.value at c.parts_of.ensures)
