@@ -17,7 +17,7 @@ unfolding state_after_all
 after_none state = refl
 
 -- the inverses in the order of the changes
-inverses : Folder → List Change → List Change
+pub inverses : Folder → List Change → List Change
 inverses folder [] = []
 inverses folder (change ∷ changes) = inverse folder change ∷ inverses (effect folder change) changes
 

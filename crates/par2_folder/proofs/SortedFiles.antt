@@ -7,7 +7,7 @@ use Rattle.std.specs.Ordering.{ordering_index, ordering_reverse, eq_by_cmp, is_l
 use Rattle.std.specs.declared.cmp.Ordering.{Ordering}
 use Rattle.std.specs.declared.cmp.Ordering.TheVariants.{Less, Equal, Greater}
 use Rattle.std.specs.Cmp.{tied_itself, alike_right, eq_by_cmp_equiv}
-use Rattle.std.proofs.lemmas.Bool.{cases_lt}
+use Rattle.std.proofs.lemmas.Bool.{cases_lt, and_parts}
 use Rattle.std.specs.Cmp.Lexicographic.{nat_list_cmp_total}
 use Rattle.std.specs.FinMap as map_of
 use Rattle.std.specs.FinMap.{entries, is_sorted, find, put, IsAntisymmetric, slice_cmp-IsAntisymmetric, nat_cmp-IsAntisymmetric, same_entries_map, same_map, entries_sorted, entries-from_sorted, get-from_sorted, entries-insert, get-remove, get-empty}
@@ -18,7 +18,6 @@ use Rattle.std.proofs.lemmas.List.Sorted.{IsNonDecreasingBy-from_default}
 use Rattle.par2_spec.specs.Folders.{File, Folder, IsFolder, has, names, behind_length, fingerprint}
 use Rattle.md5.specs.Md5.{md5}
 use Rattle.par2_folder.specs.Sorting.{name_cmp, IsSortedByName, folder_of, file_at, IsAt, IsGapFor, IsFile, IsKept}
-use Rattle.par2_spec.proofs.FolderLaws.{both_first, both_second}
 use Rattle.par2_spec.proofs.TestLaws.{by_true, is_true}
 
 pub same_names : IsAntisymmetric name_cmp
@@ -42,14 +41,14 @@ tail_gap e files name i gap = record {
 -- a file of a sorted list comes before each that follows it
 below : (name : List ℕ) (files : List File) (i : ℕ) → IsTrue (map_of.Entries.below_all name_cmp name files) → i < length files → name_cmp name (file_at files i).0 ≡ Less
 below name [] i h lt = absurd (omega arith)
-below name (e ∷ files) zero h lt = less _ (both_first _ _ h)
-below name (e ∷ files) (suc i) h lt = below name files i (both_second _ _ h) (omega arith)
+below name (e ∷ files) zero h lt = less _ (and_parts _ _ h).0
+below name (e ∷ files) (suc i) h lt = below name files i (and_parts _ _ h).1 (omega arith)
 
 pub rises : (files : List File) → IsSortedByName files → (i j : ℕ) → i < j → j < length files → name_cmp (file_at files i).0 (file_at files j).0 ≡ Less
 rises [] h i j lt in_range = absurd (omega arith)
 rises (e ∷ files) h i zero lt in_range = absurd (omega arith)
-rises (e ∷ files) h zero (suc j) lt in_range = below e.0 files j (both_first _ _ h) (omega arith)
-rises (e ∷ files) h (suc i) (suc j) lt in_range = rises files (both_second _ _ h) i j (omega arith) (omega arith)
+rises (e ∷ files) h zero (suc j) lt in_range = below e.0 files j (and_parts _ _ h).0 (omega arith)
+rises (e ∷ files) h (suc i) (suc j) lt in_range = rises files (and_parts _ _ h).1 i j (omega arith) (omega arith)
 
 module _ (files : List File) (sorted : IsSortedByName files) (name : List ℕ) where
   by_case : (a b c : List ℕ) (s : Ordering) → name_cmp b c ≡ s → name_cmp a b ≡ Less → ordering_index (name_cmp a c) ≤ ordering_index s
@@ -102,8 +101,8 @@ find_at [] h name at here = absurd (omega (arith, here.in_range))
 find_at (e ∷ files) h name zero here = ap (λ o. cond (is_eq o) (Some e.1) (find name_cmp name files)) (subst (λ n. name_cmp n e.0 ≡ Equal) here.has_name (tied_itself nat_list_cmp_total e.0))
 find_at (e ∷ files) h name (suc at) here =
     let inside = tail_at e files name at here in
-    let before : name_cmp e.0 name ≡ Less = subst (λ n. name_cmp e.0 n ≡ Less) inside.has_name (below e.0 files at (both_first _ _ h) inside.in_range) in
-    ap (λ o. cond (is_eq o) (Some e.1) (find name_cmp name files)) (turned e.0 name before) ∙ find_at files (both_second _ _ h) name at inside
+    let before : name_cmp e.0 name ≡ Less = subst (λ n. name_cmp e.0 n ≡ Less) inside.has_name (below e.0 files at (and_parts _ _ h).0 inside.in_range) in
+    ap (λ o. cond (is_eq o) (Some e.1) (find name_cmp name files)) (turned e.0 name before) ∙ find_at files (and_parts _ _ h).1 name at inside
 
 apart : (a b : List ℕ) (at : ℕ) (o : Ordering) → name_cmp a b ≡ o → is_eq o ≡ false → is_eq (name_cmp b a) ≡ false
 apart a b at Less e h = ap is_eq (turned a b e)
@@ -136,9 +135,9 @@ put_at (e ∷ files) h name bytes zero here =
     ∙ ap (λ n. (n, bytes) ∷ files) here.has_name
 put_at (e ∷ files) h name bytes (suc at) here =
     let inside = tail_at e files name at here in
-    let before : name_cmp e.0 name ≡ Less = subst (λ n. name_cmp e.0 n ≡ Less) inside.has_name (below e.0 files at (both_first _ _ h) inside.in_range) in
+    let before : name_cmp e.0 name ≡ Less = subst (λ n. name_cmp e.0 n ≡ Less) inside.has_name (below e.0 files at (and_parts _ _ h).0 inside.in_range) in
     ap (λ o. map_of.Entries.by_order o ((name, bytes) ∷ e ∷ files) ((e.0, bytes) ∷ files) (e ∷ put name_cmp name bytes files)) (turned e.0 name before)
-    ∙ ap (λ rest. e ∷ rest) (put_at files (both_second _ _ h) name bytes at inside)
+    ∙ ap (λ rest. e ∷ rest) (put_at files (and_parts _ _ h).1 name bytes at inside)
 
 abbrev other : List ℕ → List ℕ → Bool
 other name n = not (eq_by_cmp name_cmp name n)
@@ -146,19 +145,19 @@ other name n = not (eq_by_cmp name_cmp name n)
 all_others : (files : List File) (name : List ℕ) → IsTrue (map_of.Entries.below_all name_cmp name files) → where_key name_cmp (other name) files ≡ files
 all_others [] name h = refl
 all_others (e ∷ files) name h =
-    ap (λ o. cond (not (is_eq o)) (e ∷ where_key name_cmp (other name) files) (where_key name_cmp (other name) files)) (less _ (both_first _ _ h))
-    ∙ ap (λ rest. e ∷ rest) (all_others files name (both_second _ _ h))
+    ap (λ o. cond (not (is_eq o)) (e ∷ where_key name_cmp (other name) files) (where_key name_cmp (other name) files)) (less _ (and_parts _ _ h).0)
+    ∙ ap (λ rest. e ∷ rest) (all_others files name (and_parts _ _ h).1)
 
 others_at : (files : List File) → IsSortedByName files → (name : List ℕ) (at : ℕ) → IsAt files name at → where_key name_cmp (other name) files ≡ remove files at
 others_at [] h name at here = absurd (omega (arith, here.in_range))
 others_at (e ∷ files) h name zero here =
     ap (λ o. cond (not (is_eq o)) (e ∷ where_key name_cmp (other name) files) (where_key name_cmp (other name) files)) (subst (λ n. name_cmp n e.0 ≡ Equal) here.has_name (tied_itself nat_list_cmp_total e.0))
-    ∙ all_others files name (subst (λ n. IsTrue (map_of.Entries.below_all name_cmp n files)) here.has_name (both_first _ _ h))
+    ∙ all_others files name (subst (λ n. IsTrue (map_of.Entries.below_all name_cmp n files)) here.has_name (and_parts _ _ h).0)
 others_at (e ∷ files) h name (suc at) here =
     let inside = tail_at e files name at here in
-    let before : name_cmp e.0 name ≡ Less = subst (λ n. name_cmp e.0 n ≡ Less) inside.has_name (below e.0 files at (both_first _ _ h) inside.in_range) in
+    let before : name_cmp e.0 name ≡ Less = subst (λ n. name_cmp e.0 n ≡ Less) inside.has_name (below e.0 files at (and_parts _ _ h).0 inside.in_range) in
     ap (λ o. cond (not (is_eq o)) (e ∷ where_key name_cmp (other name) files) (where_key name_cmp (other name) files)) (turned e.0 name before)
-    ∙ ap (λ rest. e ∷ rest) (others_at files (both_second _ _ h) name at inside)
+    ∙ ap (λ rest. e ∷ rest) (others_at files (and_parts _ _ h).1 name at inside)
 
 -- ---- each file is a file
 

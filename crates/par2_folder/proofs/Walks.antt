@@ -1,6 +1,7 @@
 -- States of runs of folders, on their way from a border to the next along changes.
 use Rattle.std.proofs.Common.{◌≡◌, ℕ, zero, suc, ◌+◌, ◌<◌, ◌≤◌, Bool, true, false, cond, IsTrue, List, [], ◌∷◌, ◌++◌, length, map, take, drop, get_or, refl, sym, ap, subst, ◌∙◌, append_assoc, append-nil, add-one, drop-cons, arith}
 use Rattle.std.proofs.lemmas.List.{drop_all, map-append, take_more}
+use Rattle.std.proofs.lemmas.Bool.{and_parts}
 use Rattle.md5.specs.Md5.{md5}
 use Rattle.par2_digests.specs.Messages.{HasAbsorbed}
 use Rattle.par2_digests.specs.declared.midstate.Midstate.{Midstate}
@@ -19,7 +20,6 @@ use Rattle.par2_folder.specs.declared.change.Change.{Change}
 use Rattle.par2_folder.specs.declared.runs.Runs.{Runs}
 use Rattle.par2_folder.specs.declared.snapshot.Snapshot.{Snapshot}
 use Rattle.par2_folder.proofs.Borders.{no_text, text_on, whole_text}
-use Rattle.par2_spec.proofs.FolderLaws.{both_first, both_second}
 
 -- ---- states and texts one by one
 
@@ -67,11 +67,11 @@ digested_more digests new digest texts i lt pushed so_far is =
 
 first_applicable : (folder : Folder) (change : defined.Change) (rest : List defined.Change) → IsTrue (are_applicable folder (change ∷ rest)) → IsTrue (is_applicable folder change)
 unfolding are_applicable
-first_applicable folder change rest h = both_first _ _ h
+first_applicable folder change rest h = (and_parts _ _ h).0
 
 rest_applicable : (folder : Folder) (change : defined.Change) (rest : List defined.Change) → IsTrue (are_applicable folder (change ∷ rest)) → IsTrue (are_applicable (effect folder change) rest)
 unfolding are_applicable
-rest_applicable folder change rest h = both_second _ _ h
+rest_applicable folder change rest h = (and_parts _ _ h).1
 
 later_first : (border : Border) (folder : Folder) (change : defined.Change) (rest : List defined.Change)
     → later_texts border folder (change ∷ rest) ≡ new_run border (effect folder change) change ++ later_texts border (effect folder change) rest

@@ -1,5 +1,5 @@
-use Rattle.par2_spec.proofs.NamesLaws.{false_true}
 use Rattle.par2_folder.proofs.landmarks.are_behind.Goals as goal
+use Rattle.std.proofs.lemmas.Bool.{false≢true}
 
 pub returns-then-touches : goal.returns-then-touches
-returns-then-touches c = λ is. absurd (false_true is)
+returns-then-touches c = λ is. absurd (false≢true is)
