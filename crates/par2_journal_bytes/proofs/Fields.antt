@@ -9,30 +9,9 @@ use Rattle.std.proofs.lemmas.List.{take_at, drop_at, take-append-drop, length-ap
 use Rattle.std.proofs.lemmas.Nat.{le_bytes_8, from_le_bytes-to_le_bytes_8}
 use Rattle.par2_journal_bytes.specs.Reading.{◌>>=◌, block_at, number_at, many_at}
 use Rattle.par2_journal_bytes.proofs.Many.{Reader}
-
--- ---- bytes
-
-abbrev pub IsBytes : List ℕ → Type 0
-IsBytes bytes = AllByRecursion (λ b. b < 256) bytes
-
-pub bytes-from_each : (bytes : List ℕ) → ((i : ℕ) → get_or bytes i 0 < 256) → IsBytes bytes
-bytes-from_each [] h = tt
-bytes-from_each (b ∷ bytes) h = (h 0, bytes-from_each bytes (λ i. h (suc i)))
-
-each_byte : (bytes : List ℕ) → IsBytes bytes → (i : ℕ) → get_or bytes i 0 < 256
-each_byte [] h i = omega arith
-each_byte (b ∷ bytes) h zero = h.0
-each_byte (b ∷ bytes) h (suc i) = each_byte bytes h.1 i
-
-pub bytes-take : (n : ℕ) (bytes : List ℕ) → IsBytes bytes → IsBytes (take n bytes)
-bytes-take zero bytes h = tt
-bytes-take (suc n) [] h = tt
-bytes-take (suc n) (b ∷ bytes) h = (h.0, bytes-take n bytes h.1)
-
-bytes-drop : (n : ℕ) (bytes : List ℕ) → IsBytes bytes → IsBytes (drop n bytes)
-bytes-drop zero bytes h = h
-bytes-drop (suc n) [] h = tt
-bytes-drop (suc n) (b ∷ bytes) h = bytes-drop n bytes h.1
+use Rattle.par2_spec.specs.Rank.{AreBytes}
+use Rattle.par2_spec.proofs.RestoredLaws.{bytes-take, bytes-drop}
+use Rattle.par2_spec.proofs.ListsLaws.{all_at}
 
 -- ---- steps
 
@@ -48,7 +27,7 @@ passed false x y e = (refl, cc)
 -- what was taken from the front
 pub record Took (bytes text rest : List ℕ) : Type 0 where
   pub parts : bytes ≡ text ++ rest
-  pub fits : IsBytes rest
+  pub fits : AreBytes rest
 
 pub Took-then : (a x b y c : List ℕ) → Took a x b → Took b y c → Took a (x ++ y) c
 Took-then a x b y c p q = record { parts = p.parts ∙ ap (λ (t : List ℕ). x ++ t) q.parts ∙ sym (append_assoc x y c); fits = q.fits }
@@ -58,7 +37,7 @@ Took-behind k a x b p = record { parts = ap (λ (t : List ℕ). k ∷ t) p.parts
 
 -- a reader takes exactly the texts of what holds
 pub record IsRead {A : Type 0} (one : Reader A) (text_of : A → List ℕ) (P : A → Type 0) : Type 0 where
-  pub takes : (bytes : List ℕ) (x : A × List ℕ) → IsBytes bytes → one bytes ≡ Some x → Took bytes (text_of x.0) x.1 × P x.0
+  pub takes : (bytes : List ℕ) (x : A × List ℕ) → AreBytes bytes → one bytes ≡ Some x → Took bytes (text_of x.0) x.1 × P x.0
   pub again : (a : A) (rest : List ℕ) → P a → one (text_of a ++ rest) ≡ Some (a, rest)
 
 -- ---- blocks
@@ -66,7 +45,7 @@ pub record IsRead {A : Type 0} (one : Reader A) (text_of : A → List ℕ) (P : 
 abbrev pub IsBlock : ℕ → List ℕ → Type 0
 IsBlock n bytes = length bytes ≡ n
 
-block_takes : (n : ℕ) (bytes : List ℕ) (x : List ℕ × List ℕ) → IsBytes bytes → block_at n bytes ≡ Some x → Took bytes x.0 x.1 × IsBlock n x.0
+block_takes : (n : ℕ) (bytes : List ℕ) (x : List ℕ × List ℕ) → AreBytes bytes → block_at n bytes ≡ Some x → Took bytes x.0 x.1 × IsBlock n x.0
 unfolding block_at
 block_takes n bytes x fits e =
     let p = passed (ltb (length bytes) n) (take n bytes, drop n bytes) x e in
@@ -85,18 +64,18 @@ block_read n = record { takes = block_takes n; again = block_again n }
 
 -- ---- numbers
 
-below : (bytes : List ℕ) → IsBytes bytes → from_le_bytes w64 bytes < 2 ^ 64
+below : (bytes : List ℕ) → AreBytes bytes → from_le_bytes w64 bytes < 2 ^ 64
 below bytes fits =
-    let f : (i : ℕ) → get_or bytes i 0 < 256 = each_byte bytes fits in
+    let f : (i : ℕ) → get_or bytes i 0 < 256 = all_at (λ b. b < 256) 0 (omega arith) bytes fits in
     omega (arith, f 0, f 1, f 2, f 3, f 4, f 5, f 6, f 7)
 
-number_takes : (bytes : List ℕ) (x : ℕ × List ℕ) → IsBytes bytes → number_at bytes ≡ Some x → Took bytes (to_le_bytes w64 x.0) x.1 × (x.0 < 2 ^ 64)
+number_takes : (bytes : List ℕ) (x : ℕ × List ℕ) → AreBytes bytes → number_at bytes ≡ Some x → Took bytes (to_le_bytes w64 x.0) x.1 × (x.0 < 2 ^ 64)
 unfolding number_at
 number_takes bytes x fits e =
     let p = passed (ltb (length bytes) 8) (from_le_bytes w64 (take 8 bytes), drop 8 bytes) x e in
     let long : 8 ≤ length bytes = ltb-false (length bytes) 8 p.0 in
     let front = bytes-take 8 bytes fits in
-    let back : to_le_bytes w64 (from_le_bytes w64 (take 8 bytes)) ≡ take 8 bytes = le_bytes_8 (take 8 bytes) _ (length-take-le 8 bytes long) (each_byte (take 8 bytes) front) refl in
+    let back : to_le_bytes w64 (from_le_bytes w64 (take 8 bytes)) ≡ take 8 bytes = le_bytes_8 (take 8 bytes) _ (length-take-le 8 bytes long) (all_at (λ b. b < 256) 0 (omega arith) (take 8 bytes) front) refl in
     subst (λ (y : ℕ × List ℕ). Took bytes (to_le_bytes w64 y.0) y.1 × (y.0 < 2 ^ 64)) p.1
     (record { parts = sym (ap (λ (t : List ℕ). t ++ drop 8 bytes) back ∙ take-append-drop 8 bytes); fits = bytes-drop 8 bytes fits }, below (take 8 bytes) front)
 
@@ -118,7 +97,7 @@ abbrev pub AreMany : {A : Type 0} → (A → Type 0) → ℕ → List A → Type
 AreMany P n xs = (length xs ≡ n) × AllByRecursion P xs
 
 many_takes : {A : Type 0} (one : Reader A) (text_of : A → List ℕ) (P : A → Type 0) (read : IsRead one text_of P) (n : ℕ) (bytes : List ℕ) (x : List A × List ℕ)
-    → IsBytes bytes → many_at one n bytes ≡ Some x → Took bytes (flat_map text_of x.0) x.1 × AreMany P n x.0
+    → AreBytes bytes → many_at one n bytes ≡ Some x → Took bytes (flat_map text_of x.0) x.1 × AreMany P n x.0
 unfolding many_at
 many_takes one text_of P read zero bytes x fits e =
     subst (λ y. Took bytes (flat_map text_of y.0) y.1 × AreMany P 0 y.0) (same_Some ([], bytes) x e) (record { parts = refl; fits = fits }, (refl, tt))

@@ -4,5 +4,4 @@ pub mod Pieces
 pub mod Whole
 pub mod UntestedTexts
 pub mod ReaderAnswers
-pub mod NameTests
 pub mod Fronts

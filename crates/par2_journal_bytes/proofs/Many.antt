@@ -2,7 +2,7 @@
 use Rattle.std.proofs.Common.{◌≡◌, ℕ, suc, ◌-◌, ◌+◌, ◌≤◌, ◌<◌, List, [], ◌∷◌, ◌++◌, length, map, take, get_or, Option, Some, None, refl, sym, ap, subst, ◌∙◌, append_assoc, arith}
 use Rattle.std.specs.Prelude.{flat_map}
 use Rattle.std.specs.List.{AllByRecursion}
-use Rattle.std.proofs.lemmas.List.{append-nil, flat_map_more, map-append, take_all, take_more}
+use Rattle.std.proofs.lemmas.List.{append-nil, flat_map_more, map_more, take_all}
 use Rattle.par2_spec.proofs.ListsLaws.{all-append}
 use Rattle.par2_journal_bytes.specs.declared.fault.DecodeFault.{DecodeFault}
 use Rattle.par2_journal_bytes.specs.declared.fault.DecodeFault.TheVariants.{JournalInvalid, Memory}
@@ -56,15 +56,21 @@ ends one n bytes front i rest le so_far =
 
 module _ {X Y : Type 0} (v : X → Y) (xs : List X) (i : ℕ) where
   one_more_seen : (x : X) → i < length xs → x ≡ get_or xs i x → map v (take (i + 1) xs) ≡ map v (take i xs) ++ v x ∷ []
-  one_more_seen x lt is = ap (map v) (take_more xs i x lt ∙ ap (λ y. take i xs ++ y ∷ []) (sym is)) ∙ map-append v (take i xs) (x ∷ [])
+  one_more_seen x lt is = map_more v xs i x lt ∙ ap (λ y. map v (take i xs) ++ v y ∷ []) (sym is)
 
-  pub all_more : (P : Y → Type 0) (x : X) → i < length xs → x ≡ get_or xs i x → AllByRecursion P (map v (take i xs)) → P (v x) → AllByRecursion P (map v (take (i + 1) xs))
-  all_more P x lt is each here = subst (AllByRecursion P) (sym (one_more_seen x lt is)) (all-append P (map v (take i xs)) (v x ∷ []) each (here, tt))
-
-  pub wrote_more : (f : Y → List ℕ) (start out new : List ℕ) (x : X) → i < length xs → x ≡ get_or xs i x → out ≡ start ++ flat_map f (map v (take i xs)) → new ≡ out ++ f (v x)
-      → new ≡ start ++ flat_map f (map v (take (i + 1) xs))
-  wrote_more f start out new x lt is so_far step =
-      step ∙ ap (λ (o : List ℕ). o ++ f (v x)) so_far ∙ flat_map_more f start (map v (take i xs)) (v x) ∙ ap (λ ys. start ++ flat_map f ys) (sym (one_more_seen x lt is))
+  -- so they stand behind what was there before, and P holds of each
+  abbrev pub AreWritten : (Y → Type 0) → (Y → List ℕ) → List ℕ → List ℕ → Type 0
+  AreWritten P f start out = record {
+    bytes : out ≡ start ++ flat_map f (map v (take i xs));
+    each : AllByRecursion P (map v (take i xs));
+  }
 
   pub wrote_all : (f : Y → List ℕ) (start out : List ℕ) → length xs ≤ i → out ≡ start ++ flat_map f (map v (take i xs)) → out ≡ start ++ flat_map f (map v xs)
   wrote_all f start out le so_far = so_far ∙ ap (λ ys. start ++ flat_map f (map v ys)) (take_all i xs le)
+
+pub wrote_more : {X Y : Type 0} (v : X → Y) (xs : List X) (i : ℕ) (P : Y → Type 0) (f : Y → List ℕ) (start out new : List ℕ) (x : X) → i < length xs → x ≡ get_or xs i x
+    → AreWritten v xs i P f start out → new ≡ out ++ f (v x) → P (v x) → AreWritten v xs (i + 1) P f start new
+wrote_more v xs i P f start out new x lt is so_far step here = record {
+  bytes = step ∙ ap (λ (o : List ℕ). o ++ f (v x)) so_far.bytes ∙ flat_map_more f start (map v (take i xs)) (v x) ∙ ap (λ ys. start ++ flat_map f ys) (sym (one_more_seen v xs i x lt is));
+  each = subst (AllByRecursion P) (sym (one_more_seen v xs i x lt is)) (all-append P (map v (take i xs)) (v x ∷ []) so_far.each (here, tt));
+}

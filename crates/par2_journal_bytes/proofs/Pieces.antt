@@ -10,15 +10,16 @@ use Rattle.par2_spec.specs.Names.{is_name}
 use Rattle.par2_spec.specs.Folders.{behind_length}
 use Rattle.par2_spec.specs.Changes.{Change, Write, Replace, Rename, Remove}
 use Rattle.par2_spec.specs.Journals.{HalfwayPart, IsFileBytes, IsDigest, IsChange, IsEntry, IsHalfwayPart, name_bytes, change_bytes, entry_bytes, halfway_bytes}
+use Rattle.par2_spec.specs.Rank.{AreBytes}
 use Rattle.par2_journal_bytes.specs.Reading.{◌>>=◌, some_where, block_at, number_at, name_at, behind_length_at, change_at, many_at, entry_at, halfway_at}
-use Rattle.par2_journal_bytes.proofs.Fields.{IsBytes, bind_some, Took, Took-then, Took-behind, IsRead, block_read, block_again, number_read, number_again, many_read}
+use Rattle.par2_journal_bytes.proofs.Fields.{bind_some, Took, Took-then, Took-behind, IsRead, block_read, block_again, number_read, number_again, many_read}
 
 abbrev pub IsName : List ℕ → Type 0
 IsName name = IsTrue (is_name name)
 
 -- ---- names
 
-name_takes : (bytes : List ℕ) (x : List ℕ × List ℕ) → IsBytes bytes → name_at bytes ≡ Some x → Took bytes (name_bytes x.0) x.1 × IsName x.0
+name_takes : (bytes : List ℕ) (x : List ℕ × List ℕ) → AreBytes bytes → name_at bytes ≡ Some x → Took bytes (name_bytes x.0) x.1 × IsName x.0
 unfolding name_at
 name_takes [] x fits e = absurd cc
 name_takes (n ∷ bytes) x fits e =
@@ -37,7 +38,7 @@ name_read = record { takes = name_takes; again = name_again }
 
 -- ---- bytes behind their number
 
-counted_takes : (bytes : List ℕ) (x : List ℕ × List ℕ) → IsBytes bytes → behind_length_at bytes ≡ Some x → Took bytes (behind_length x.0) x.1 × IsFileBytes x.0
+counted_takes : (bytes : List ℕ) (x : List ℕ × List ℕ) → AreBytes bytes → behind_length_at bytes ≡ Some x → Took bytes (behind_length x.0) x.1 × IsFileBytes x.0
 unfolding behind_length_at
 counted_takes bytes x fits e =
     let b = bind_some (number_at bytes) (λ n. block_at n.0 n.1) x e in
@@ -63,7 +64,7 @@ abbrev two_at : (one two : List ℕ → Option (List ℕ × List ℕ)) → (List
 two_at one two make bytes = one bytes >>= λ a. two a.1 >>= λ b. Some (make a.0 b.0, b.1)
 
 two_take : (one two : List ℕ → Option (List ℕ × List ℕ)) (f g : List ℕ → List ℕ) (P Q : List ℕ → Type 0) (first : IsRead one f P) (second : IsRead two g Q) (make : List ℕ → List ℕ → Change)
-    (bytes : List ℕ) (x : Change × List ℕ) → IsBytes bytes → two_at one two make bytes ≡ Some x
+    (bytes : List ℕ) (x : Change × List ℕ) → AreBytes bytes → two_at one two make bytes ≡ Some x
     → (a b : List ℕ) × (x.0 ≡ make a b) × Took bytes (f a ++ g b) x.1 × P a × Q b
 two_take one two f g P Q first second make bytes x fits e =
     let a = bind_some (one bytes) (λ a. two a.1 >>= λ b. Some (make a.0 b.0, b.1)) x e in
@@ -81,7 +82,7 @@ two_again one two f g P Q first second make a b rest p q =
 
 -- ---- changes
 
-change_takes : (bytes : List ℕ) (x : Change × List ℕ) → IsBytes bytes → change_at bytes ≡ Some x → Took bytes (change_bytes x.0) x.1 × IsChange x.0
+change_takes : (bytes : List ℕ) (x : Change × List ℕ) → AreBytes bytes → change_at bytes ≡ Some x → Took bytes (change_bytes x.0) x.1 × IsChange x.0
 unfolding change_at
 change_takes [] x fits e = absurd cc
 change_takes (zero ∷ bytes) x fits e = absurd cc
@@ -112,7 +113,7 @@ change_read = record { takes = change_takes; again = change_again }
 
 -- ---- entries
 
-entry_takes : (bytes : List ℕ) (x : List Change × List ℕ) → IsBytes bytes → entry_at bytes ≡ Some x → Took bytes (entry_bytes x.0) x.1 × IsEntry x.0
+entry_takes : (bytes : List ℕ) (x : List Change × List ℕ) → AreBytes bytes → entry_at bytes ≡ Some x → Took bytes (entry_bytes x.0) x.1 × IsEntry x.0
 unfolding entry_at
 entry_takes bytes x fits e =
     let b = bind_some (number_at bytes) (λ n. many_at change_at n.0 n.1) x e in
@@ -145,7 +146,7 @@ behind_prints n prints = many_at change_at n prints.1 >>= halfway_with n prints
 abbrev behind_count : ℕ × List ℕ → Option (Option HalfwayPart × List ℕ)
 behind_count n = many_at (block_at 16) n.0 n.1 >>= behind_prints n.0
 
-halfway_takes : (bytes : List ℕ) (x : Option HalfwayPart × List ℕ) → IsBytes bytes → halfway_at bytes ≡ Some x → Took bytes (halfway_bytes x.0) x.1 × IfSome x.0 IsHalfwayPart
+halfway_takes : (bytes : List ℕ) (x : Option HalfwayPart × List ℕ) → AreBytes bytes → halfway_at bytes ≡ Some x → Took bytes (halfway_bytes x.0) x.1 × IfSome x.0 IsHalfwayPart
 unfolding halfway_at
 halfway_takes [] x fits e = absurd cc
 halfway_takes (zero ∷ bytes) x fits e =

@@ -4,15 +4,15 @@ use Rattle.std.specs.Prelude.{IfOk, MatchResult}
 use Rattle.std.proofs.lemmas.Option.{same_Some, none-some}
 use Rattle.par2_spec.specs.Journals as defined
 use Rattle.par2_spec.specs.Journals.{Spells}
+use Rattle.par2_spec.specs.Rank.{AreBytes}
 use Rattle.par2_journal_bytes.specs.declared.journal.Journal.{Journal}
 use Rattle.par2_journal_bytes.specs.declared.fault.DecodeFault.{DecodeFault}
 use Rattle.par2_journal_bytes.specs.declared.fault.DecodeFault.TheVariants.{JournalInvalid, Memory}
 use Rattle.par2_journal_bytes.specs.Views.{journal_of}
 use Rattle.par2_journal_bytes.specs.Reading.{Gives, journal_at}
-use Rattle.par2_journal_bytes.proofs.Fields.{IsBytes}
 use Rattle.par2_journal_bytes.proofs.Whole.{journal_takes, journal_again}
 
-pub is_found : (text : List ℕ) (r : Result Journal DecodeFault) → IsBytes text → Gives journal_of r (journal_at text) → IfOk r (λ j. Spells text (journal_of j))
+pub is_found : (text : List ℕ) (r : Result Journal DecodeFault) → AreBytes text → Gives journal_of r (journal_at text) → IfOk r (λ j. Spells text (journal_of j))
 is_found text (Ok j) fits given = journal_takes text (journal_of j) fits given
 is_found text (Err fault) fits given = tt
 

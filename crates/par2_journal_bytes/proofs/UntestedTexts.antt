@@ -6,12 +6,13 @@ use Rattle.std.proofs.lemmas.Option.{none-some}
 use Rattle.std.proofs.lemmas.Slice.Eq.{bytes_eq-Decides}
 use Rattle.md5.specs.Md5.{md5}
 use Rattle.par2_spec.specs.Journals.{Journal, IsJournal, Spells}
+use Rattle.par2_spec.specs.Rank.{AreBytes}
+use Rattle.par2_spec.proofs.RestoredLaws.{bytes-take}
 use Rattle.par2_journal_bytes.specs.Reading.{Fails, IsSealed, parts_at, journal_at}
 use Rattle.par2_journal_bytes.specs.Untested.{IsForeign}
 use Rattle.par2_journal_bytes.specs.declared.fault.DecodeFault.{DecodeFault}
 use Rattle.par2_journal_bytes.specs.declared.fault.DecodeFault.TheVariants.{JournalInvalid, Memory}
 use Rattle.par2_journal_bytes.specs.declared.reading.Untested.{Untested}
-use Rattle.par2_journal_bytes.proofs.Fields.{IsBytes, bytes-take}
 use Rattle.par2_journal_bytes.proofs.Whole.{parts_take, journal_takes, journal_again}
 
 either_none : (b : Bool) (o : Option Journal) → o ≡ None → cond b o None ≡ None
@@ -48,12 +49,12 @@ module _ (text body digest : List ℕ) (long : 16 ≤ length text) (front : body
   pub sealed : digest ≡ md5 body → IsSealed text
   sealed right = record { long = long; digest = sym end ∙ right ∙ ap md5 front }
 
-  pub untested : (j : Journal) → IsBytes text → parts_at body ≡ Some j → IsJournal j × (digest ≡ md5 body → Spells text j) × (¬ (digest ≡ md5 body) → IsForeign text)
+  pub untested : (j : Journal) → AreBytes text → parts_at body ≡ Some j → IsJournal j × (digest ≡ md5 body → Spells text j) × (¬ (digest ≡ md5 body) → IsForeign text)
   untested j fits is =
-      let part : IsBytes body = subst-bytes in
+      let part : AreBytes body = subst-bytes in
       ((parts_take body j part is).0, (λ right. journal_takes text j fits (at_is ∙ ap (λ b. cond b (parts_at body) None) ((bytes_eq-Decides digest (md5 body)).1 right) ∙ is)), foreign)
     where
-      subst-bytes : IsBytes body
+      subst-bytes : AreBytes body
       subst-bytes = rw front (bytes-take (length text - 16) text fits)
 
 -- nothing was read, and not for want of memory

@@ -13,8 +13,10 @@ use Rattle.par2_spec.specs.Changes.{Change}
 use Rattle.par2_spec.specs.Journals.{HalfwayPart, Journal, IsEntry, IsCursor, IsJournal, Spells, heading, cursor_bytes, entry_bytes, halfway_bytes, journal_bytes, spelling}
 use Rattle.par2_spec.specs.declared.Version.{Version}
 use Rattle.par2_spec.specs.declared.Version.TheVariants.{One, Two}
+use Rattle.par2_spec.specs.Rank.{AreBytes}
+use Rattle.par2_spec.proofs.RestoredLaws.{bytes-take}
 use Rattle.par2_journal_bytes.specs.Reading.{◌>>=◌, some_where, block_at, number_at, many_at, entry_at, halfway_at, heading_at, cursor_at, cursor_in, behind_cursor_at, parts_at, journal_at}
-use Rattle.par2_journal_bytes.proofs.Fields.{IsBytes, bind_some, Took, Took-then, block_read, block_again, number_read, number_again, many_read, bytes-take}
+use Rattle.par2_journal_bytes.proofs.Fields.{bind_some, Took, Took-then, block_read, block_again, number_read, number_again, many_read}
 use Rattle.par2_journal_bytes.proofs.Pieces.{entry_read, halfway_read}
 
 -- ---- heading
@@ -27,7 +29,7 @@ chosen false false x y z e = absurd (none-some z e)
 abbrev version_in : List ℕ × List ℕ → Option (Version × List ℕ)
 version_in x = if bytes_eq x.0 (heading One) then Some (One, x.1) else if bytes_eq x.0 (heading Two) then Some (Two, x.1) else None
 
-heading_takes : (bytes : List ℕ) (x : Version × List ℕ) → IsBytes bytes → heading_at bytes ≡ Some x → Took bytes (heading x.0) x.1
+heading_takes : (bytes : List ℕ) (x : Version × List ℕ) → AreBytes bytes → heading_at bytes ≡ Some x → Took bytes (heading x.0) x.1
 unfolding heading_at
 heading_takes bytes x fits e =
     let b = bind_some (block_at 8 bytes) version_in x e in
@@ -46,7 +48,7 @@ heading_again Two rest = ap (λ (o : Option (List ℕ × List ℕ)). o >>= versi
 
 -- ---- cursor
 
-cursor_takes : (v : Version) (bytes : List ℕ) (x : ℕ × List ℕ) → IsBytes bytes → cursor_at v bytes ≡ Some x → Took bytes (cursor_bytes v x.0) x.1
+cursor_takes : (v : Version) (bytes : List ℕ) (x : ℕ × List ℕ) → AreBytes bytes → cursor_at v bytes ≡ Some x → Took bytes (cursor_bytes v x.0) x.1
 unfolding cursor_at
 cursor_takes One bytes x fits e = subst (λ (y : ℕ × List ℕ). Took bytes [] y.1) (same_Some (0, bytes) x e) (record { parts = refl; fits = fits })
 cursor_takes Two bytes x fits e = (number_read.takes bytes x fits e).0
@@ -98,7 +100,7 @@ after_print v print = cursor_at v print.1 >>= after_cursor v print.0
 abbrev after_heading : Version × List ℕ → Option Journal
 after_heading v = block_at 16 v.1 >>= after_print v.0
 
-pub parts_take : (bytes : List ℕ) (j : Journal) → IsBytes bytes → parts_at bytes ≡ Some j → IsJournal j × (bytes ≡ journal_bytes j)
+pub parts_take : (bytes : List ℕ) (j : Journal) → AreBytes bytes → parts_at bytes ≡ Some j → IsJournal j × (bytes ≡ journal_bytes j)
 unfolding parts_at behind_cursor_at journal_bytes
 parts_take bytes j fits e =
     let a = bind_some (heading_at bytes) after_heading j e in
@@ -173,7 +175,7 @@ digest_passed false true o j e = (refl, refl, e)
 digest_passed false false o j e = absurd (none-some j e)
 
 -- what is read is spelled so
-pub journal_takes : (text : List ℕ) (j : Journal) → IsBytes text → journal_at text ≡ Some j → Spells text j
+pub journal_takes : (text : List ℕ) (j : Journal) → AreBytes text → journal_at text ≡ Some j → Spells text j
 unfolding journal_at spelling
 journal_takes text j fits e =
     let n : ℕ = length text - 16 in

@@ -1,11 +1,12 @@
 -- The subcommand that a parse met is one of the six.
-use Rattle.std.proofs.Common.{◌≡◌, ◌∙◌, Bool, cond, true, false, true≢false, refl, ap, sym, subst, List, [], ◌∷◌, Option, Some, None}
+use Rattle.std.proofs.Common.{◌≡◌, ◌∙◌, Bool, cond, true, false, true≢false, refl, ap, sym, subst, List, [], Option, Some, None}
 use Rattle.std.specs.Prelude.{is_some, option_map, codes, unwrap_or, Box, find}
 use Rattle.std.specs.List.{list_all}
 use Rattle.std.specs.Str.{bytes_eq}
 use Rattle.std.specs.Box.{box_value}
-use Rattle.std.proofs.lemmas.Bool.{and_parts}
 use Rattle.std.proofs.lemmas.Option.{none-some}
+use Rattle.std.proofs.lemmas.List.Elements.{recursion_from_All}
+use Rattle.std.proofs.lemmas.List.Sums.{AllPass-from_list_all}
 use Rattle.clap.specs.Words.{App, HasMatchesOf, Row, Shape, Text, app_of, built, fault_of, found_of, is_simple, is_simple_and_free, rows_of, subcommand_name_of, subcommand_of, subcommand_rows, subcommand_rows_of}
 use Rattle.clap.specs.Simple.{argument_words, entered, label_of, names_of, rows_at}
 use Rattle.clap.specs.Walk.{answers_to, stop_after}
@@ -16,6 +17,7 @@ use Rattle.clap.specs.declared.parser.matches.ArgMatches.TheViews.{out-ArgMatche
 use Rattle.clap.proofs.OnLiterals.{clap_on_literals}
 use Rattle.par2_words.specs.Definition.{create_app, create_numbers_app, file_commands_app, par2_app, purge_app, repair_app, start_app, verify_app}
 use Rattle.par2_spec.specs.Commands.{Action, Undo, Redo}
+use Rattle.par2_spec.proofs.ListsLaws.{found_one}
 use Rattle.par2_words.specs.Meanings.{create_meaning, meaning, purge_meaning, repair_meaning, verify_meaning}
 
 simple : is_simple par2_app ≡ true
@@ -34,12 +36,7 @@ unfolding clap_on_literals create_app create_numbers_app file_commands_app par2_
 all_known = refl
 
 find_all : {X : Type 0} (p q : X → Bool) (xs : List X) (x : X) → find p xs ≡ Some x → list_all q xs ≡ true → q x ≡ true
-find_all p q [] x e h = absurd (none-some x e)
-find_all {X} p q (y ∷ ys) x e h = go (p y) e (λ k. find_all p q ys x k (and_parts _ _ h).1)
-  where
-    go : (b : Bool) → cond b (Some y) (find p ys) ≡ Some x → (find p ys ≡ Some x → q x ≡ true) → q x ≡ true
-    go true k more = subst (λ (z : X). q z ≡ true) (ap (λ o. unwrap_or o x) k) (and_parts _ _ h).0
-    go false k more = more k
+find_all p q xs x e h = (found_one (λ y. q y ≡ true) p xs (recursion_from_All (λ y. q y ≡ true) xs (AllPass-from_list_all q xs h)) x e).0
 
 abbrev pick : {M : Type 0} → Bool → Bool → Bool → Bool → Bool → Bool → M × M × M × M × M × M → Option M
 pick a b c d e f x = cond a (Some x.0) (cond b (Some x.1) (cond c (Some x.2) (cond d (Some x.3) (cond e (Some x.4) (cond f (Some x.5) None)))))

@@ -1,10 +1,10 @@
-use Rattle.std.proofs.Common.{arith}
+use Rattle.std.proofs.Common.{◌<◌, arith}
 use Rattle.std.proofs.lemmas.Result.{err_from_is_err_and}
 use Rattle.par2_journal_bytes.specs.Reading.{parts_at}
 use Rattle.par2_journal_bytes.specs.Views.{journal_of}
-use Rattle.par2_journal_bytes.proofs.Fields.{bytes-from_each}
 use Rattle.par2_journal_bytes.proofs.UntestedTexts.{refused, sealed, too_short, unread, untested}
 use Rattle.par2_journal_bytes.proofs.reading.decode_untested.Goals as goal
+use Rattle.par2_spec.proofs.ListsLaws.{all_from}
 
 pub returns-in_err-body-clause-invalid : goal.returns-in_err-body-clause-invalid
 returns-in_err-body-clause-invalid c = λ _ j spells. too_short c.args.bytes.now c.in_err-body.ensures.short.1 j spells
@@ -19,7 +19,7 @@ returns-in_err-journal-clause-invalid c = λ e j spells.
 pub returns-clause-found : goal.returns-clause-found
 returns-clause-found c =
     let split = c.in_ok-body.ensures in
-    let fits = bytes-from_each c.args.bytes.now (λ i. omega (arith, c.type_inv.bytes i)) in
+    let fits = all_from (λ b. b < 256) 0 c.args.bytes.now (λ i low. omega (arith, c.type_inv.bytes i)) in
     let all = untested c.args.bytes.now c.in_ok-body.body.now c.in_ok-body.digest.now split.long split.body split.digest (journal_of c.in_ok-journal.journal) fits c.in_ok-journal.ensures in
     record {
       journal = all.0;
