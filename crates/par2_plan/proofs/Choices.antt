@@ -1,12 +1,13 @@
 -- The items that are chosen by their flags, and a list whose items come once.
-use Rattle.std.proofs.Common.{◌≡◌, ℕ, List, [], ◌∷◌, ◌++◌, map, refl, ap, ◌∙◌, Bool, true, false, not, cond, ◌||◌, ◌&&◌, ◌⊎◌, inl, inr, Bor}
+use Rattle.std.proofs.Common.{◌≡◌, ℕ, List, [], ◌∷◌, ◌++◌, map, refl, ap, ◌∙◌, Bool, true, false, not, cond, ◌||◌, ◌&&◌, ◌⊎◌, inl, inr, Bor, append-nil}
 use Rattle.std.specs.Prelude.{filter}
 use Rattle.std.specs.BTreeSet.{BTreeSet, contains}
 use Rattle.std.specs.BTreeMap.{is_at}
-use Rattle.std.specs.List.{list_all}
 use Rattle.std.specs.Str.{bytes_eq}
 use Rattle.std.proofs.lemmas.Map.Text.{is_eq-slice_cmp}
 use Rattle.std.proofs.lemmas.Slice.Eq.{bytes_eq-Decides}
+use Rattle.std.proofs.lemmas.List.Elements.{filter-append}
+use Rattle.std.proofs.Math.Bool.{and-false}
 use Rattle.par2_spec.specs.Names.{is_among, distinct}
 use Rattle.par2_spec.specs.Sets.{Target}
 use Rattle.par2_spec.proofs.NamesLaws.{same_either_way, AreDistinct, among-filter, distinct-filter}
@@ -44,10 +45,6 @@ passed_over_end (b ∷ flags) [] h = refl
 passed_over_end (b ∷ flags) (x ∷ xs) (inl h) = absurd (let no : ⊥ = cc in no)
 passed_over_end (b ∷ flags) (x ∷ xs) (inr h) = absurd (let no : ⊥ = cc in no)
 
-pub all-map : {A B : Type 0} (p : B → Bool) (g : A → B) (xs : List A) → list_all p (map g xs) ≡ list_all (λ x. p (g x)) xs
-all-map p g [] = refl
-all-map p g (x ∷ xs) = ap (λ b. p (g x) && b) (all-map p g xs)
-
 pub Describe-more : (xs : List search.Target) (ts : List Target) (x : search.Target) (t : Target) → Describe xs ts → Describes x t → Describe (xs ++ x ∷ []) (ts ++ t ∷ [])
 Describe-more [] [] x t h d = (d, tt)
 Describe-more [] (u ∷ ts) x t h d = absurd h
@@ -55,14 +52,6 @@ Describe-more (y ∷ xs) [] x t h d = absurd h
 Describe-more (y ∷ xs) (u ∷ ts) x t h d = (h.0, Describe-more xs ts x t h.1 d)
 
 -- ---- each once
-
-filter-append : (p : List ℕ → Bool) (xs ys : List (List ℕ)) → filter p (xs ++ ys) ≡ filter p xs ++ filter p ys
-filter-append p [] ys = refl
-filter-append p (x ∷ xs) ys = step (p x) (filter-append p xs ys)
-  where
-    step : (b : Bool) → filter p (xs ++ ys) ≡ filter p xs ++ filter p ys → cond b (x ∷ filter p (xs ++ ys)) (filter p (xs ++ ys)) ≡ cond b (x ∷ filter p xs) (filter p xs) ++ filter p ys
-    step true h = ap (λ zs. x ∷ zs) h
-    step false h = h
 
 pub filter_push : (p : List ℕ → Bool) (xs : List (List ℕ)) (x : List ℕ) → filter p (xs ++ x ∷ []) ≡ filter p xs ++ cond (p x) (x ∷ []) []
 filter_push p xs x = filter-append p xs (x ∷ [])
@@ -75,25 +64,17 @@ distinct_more (y ∷ xs) x = step (is_among xs x) (bytes_eq x y) (same_either_wa
     other : List ℕ → Bool
     other z = not (bytes_eq y z)
 
-    nothing_more : (zs : List (List ℕ)) → zs ++ [] ≡ zs
-    nothing_more [] = refl
-    nothing_more (z ∷ zs) = ap (λ ws. z ∷ ws) (nothing_more zs)
-
     step : (r e : Bool) → bytes_eq y x ≡ e → distinct (xs ++ x ∷ []) ≡ cond r (distinct xs) (distinct xs ++ x ∷ [])
         → y ∷ filter other (distinct (xs ++ x ∷ [])) ≡ cond (e || r) (y ∷ filter other (distinct xs)) (y ∷ filter other (distinct xs) ++ x ∷ [])
     step true true same h = ap (λ zs. y ∷ filter other zs) h
     step true false same h = ap (λ zs. y ∷ filter other zs) h
     step false true same h =
-        ap (λ zs. y ∷ filter other zs) h ∙ ap (λ zs. y ∷ zs) (filter-append other (distinct xs) (x ∷ []) ∙ ap (λ b. filter other (distinct xs) ++ cond (not b) (x ∷ []) []) same ∙ nothing_more (filter other (distinct xs)))
+        ap (λ zs. y ∷ filter other zs) h ∙ ap (λ zs. y ∷ zs) (filter-append other (distinct xs) (x ∷ []) ∙ ap (λ b. filter other (distinct xs) ++ cond (not b) (x ∷ []) []) same ∙ append-nil (filter other (distinct xs)))
     step false false same h =
         ap (λ zs. y ∷ filter other zs) h ∙ ap (λ zs. y ∷ zs) (filter-append other (distinct xs) (x ∷ []) ∙ ap (λ b. filter other (distinct xs) ++ cond (not b) (x ∷ []) []) same)
 
 out_of_filter : (x : List ℕ) (xs : List (List ℕ)) → is_among (filter (λ z. not (bytes_eq x z)) xs) x ≡ false
-out_of_filter x xs = among-filter (λ z. not (bytes_eq x z)) xs x ∙ ap (λ b. is_among xs x && not b) ((bytes_eq-Decides x x).1 refl) ∙ never (is_among xs x)
-  where
-    never : (b : Bool) → (b && false) ≡ false
-    never true = refl
-    never false = refl
+out_of_filter x xs = among-filter (λ z. not (bytes_eq x z)) xs x ∙ ap (λ b. is_among xs x && not b) ((bytes_eq-Decides x x).1 refl) ∙ and-false (is_among xs x)
 
 -- each name stands there once
 pub distinct_once : (xs : List (List ℕ)) → AreDistinct (distinct xs)

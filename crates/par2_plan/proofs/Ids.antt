@@ -1,33 +1,22 @@
 -- Whether File IDs are distinct.
-use Rattle.std.proofs.Common.{◌≡◌, ℕ, List, [], ◌∷◌, length, map, refl, sym, ap, ◌∙◌, subst, false, not, cond, Some, None}
-use Rattle.std.specs.Prelude.{◌==◌, filter}
+use Rattle.std.proofs.Common.{◌≡◌, ℕ, List, length, map, sym, ap, ◌∙◌, subst, Some, None}
+use Rattle.std.specs.Prelude.{◌==◌}
 use Rattle.std.specs.List.{IsDistinct}
 use Rattle.std.specs.Str.{bytes_eq}
-use Rattle.std.proofs.lemmas.Bool.{or_parts, not_from_true, not_from_false, eqb-true, eq-eqb, false_from_ne_true}
+use Rattle.std.proofs.lemmas.Bool.{not_from_true, not_from_false, eqb-true, eq-eqb, false_from_ne_true}
 use Rattle.std.proofs.lemmas.List.{length-map}
 use Rattle.std.proofs.lemmas.Simd.{map-map}
 use Rattle.par2_spec.specs.Faults.{fault_where}
-use Rattle.par2_spec.specs.Names.{is_among, distinct}
+use Rattle.par2_spec.specs.Names.{distinct}
 use Rattle.par2_spec.specs.Folders.{File}
 use Rattle.par2_spec.specs.Volumes.{FileRecord, id_of, record_of}
 use Rattle.par2_spec.specs.declared.Fault.TheVariants.{DuplicateId}
-use Rattle.par2_spec.proofs.NamesLaws.{AreDistinct, distinct_from_std, std_from_distinct}
+use Rattle.par2_spec.proofs.NamesLaws.{AreDistinct, distinct_from_std, std_from_distinct, distinct_same}
 use Rattle.par2_spec.proofs.ReadLaws.{distinct_by_length}
 use Rattle.par2_packets.specs.Views.{file_record_of}
 use Rattle.par2_packets.specs.declared.record.FileRecord as packets
 use Rattle.par2_recovery.specs.Views.{AreRecords}
 use Rattle.par2_plan.specs.Faults.{ids_fault}
-
-all_kept : (x : List ℕ) (xs : List (List ℕ)) → is_among xs x ≡ false → filter (λ other. not (bytes_eq x other)) xs ≡ xs
-all_kept x [] h = refl
-all_kept x (y ∷ xs) h =
-    let r = or_parts (bytes_eq x y) (is_among xs x) h in
-    ap (λ b. cond b (y ∷ filter (λ other. not (bytes_eq x other)) xs) (filter (λ other. not (bytes_eq x other)) xs)) (not_from_false (bytes_eq x y) r.0)
-    ∙ ap (λ ys. y ∷ ys) (all_kept x xs r.1)
-
-distinct_whole : (xs : List (List ℕ)) → AreDistinct xs → distinct xs ≡ xs
-distinct_whole [] d = refl
-distinct_whole (x ∷ xs) d = ap (λ ys. x ∷ ys) (ap (filter (λ other. not (bytes_eq x other))) (distinct_whole xs d.1) ∙ all_kept x xs d.0)
 
 ids_of_records : (s : ℕ) (files : List File) → map (λ (file : FileRecord). file.id) (map (record_of s) files) ≡ map id_of files
 unfolding record_of
@@ -42,7 +31,7 @@ pub ids_accepted : (files : List File) (s : ℕ) → IsDistinct bytes_eq (map (�
 unfolding ids_fault
 ids_accepted files s h =
     let once : AreDistinct (map id_of files) = distinct_from_std (map id_of files) (subst (IsDistinct bytes_eq) (ids_of_records s files) h) in
-    let size : length (distinct (map id_of files)) ≡ length files = ap length (distinct_whole (map id_of files) once) ∙ length-map files id_of in
+    let size : length (distinct (map id_of files)) ≡ length files = ap length (distinct_same (map id_of files) once) ∙ length-map files id_of in
     ap (λ b. fault_where b DuplicateId) (not_from_true (length (distinct (map id_of files)) == length files) (eq-eqb (length (distinct (map id_of files))) (length files) size))
 
 pub ids_refused : (files : List File) (s : ℕ) → (IsDistinct bytes_eq (map (λ (file : FileRecord). file.id) (map (record_of s) files)) → ⊥) → ids_fault files ≡ Some DuplicateId

@@ -6,7 +6,7 @@ mod IndexBytes
 mod SliceLists
 mod LostSlices
 mod VolumeNumbers
-mod FileOrder
+mod SliceCounts
 mod Pairs
 mod GoodWords
 mod PassedAnswers

@@ -1,24 +1,19 @@
 -- Numbers of slices that are not found.
-use Rattle.std.proofs.Common.{◌≡◌, ℕ, zero, suc, ◌+◌, ◌≤◌, ◌<◌, List, [], ◌∷◌, ◌++◌, length, take, get_or, refl, sym, ap, ◌∙◌, true, cond, ◌==◌, ◌⊎◌, inl, inr, Bor, arith, append-nil, append_assoc, length-append, Vec, Global}
-use Rattle.std.specs.Prelude.{Option, Some, None, is_some, is_none, filter, flat_map, slice_index}
+use Rattle.std.proofs.Common.{◌≡◌, ℕ, suc, ◌+◌, ◌≤◌, ◌<◌, List, [], ◌∷◌, ◌++◌, length, take, get_or, refl, sym, ap, ◌∙◌, cond, ◌⊎◌, inl, inr, Bor, arith, append-nil, append_assoc, length-append}
+use Rattle.std.specs.Prelude.{Option, Some, None, is_some, filter, flat_map}
 use Rattle.std.specs.List.{AllByRecursion}
 use Rattle.std.proofs.lemmas.List.{take_more, length-take-le, length-map}
+use Rattle.std.proofs.lemmas.List.Sums.{length-filter, count_by-le-length}
 use Rattle.par2_spec.specs.Rank.{rank}
 use Rattle.par2_spec.specs.Sets.{Target}
 use Rattle.par2_spec.proofs.ListsLaws.{all-append}
 use Rattle.par2_spec.proofs.RankLaws.{none_kept}
-use Rattle.std.proofs.lemmas.Bool.{eqb-true}
 use Rattle.par2_search.specs.Texts.{padded_window, padded_windows}
 use Rattle.par2_plan.specs.Findings.{Standing, Intact, Matched, Unmatched, AreSized}
 use Rattle.par2_plan.specs.Parts.{missing_from, lost_from}
 use Rattle.par2_plan.specs.Views.{standing_of, standings_of, missing_in, windows_in}
 use Rattle.par2_plan.specs.declared.finding.Standing as code
 use Rattle.par2_plan.specs.declared.finding.Standing.TheVariants as variants
-
--- the first slice of some
-missing_head : {A : Type 0} (n : ℕ) (x : Option A) (xs : List (Option A)) → missing_from n (x ∷ xs) ≡ cond (is_none x) (n ∷ missing_from (n + 1) xs) (missing_from (n + 1) xs)
-missing_head n None xs = refl
-missing_head n (Some x) xs = refl
 
 pub missing-append : {A : Type 0} (n : ℕ) (xs ys : List (Option A)) → missing_from n (xs ++ ys) ≡ missing_from n xs ++ missing_from (n + length xs) ys
 missing-append n [] ys = ap (λ k. missing_from k ys) (let e : n ≡ n + 0 = omega arith in e)
@@ -33,15 +28,10 @@ missing-padded s n [] = refl
 missing-padded s n (None ∷ windows) = ap (λ rest. n ∷ rest) (missing-padded s (n + 1) windows)
 missing-padded s n (Some window ∷ windows) = missing-padded s (n + 1) windows
 
-few_some : {A : Type 0} (xs : List (Option A)) → length (filter (λ x. is_some x) xs) ≤ length xs
-few_some [] = omega arith
-few_some (None ∷ xs) = omega (arith, few_some xs)
-few_some (Some x ∷ xs) = omega (arith, few_some xs)
-
 -- nothing is missing where as many are there as there can be
 pub none_missing : {A : Type 0} (n : ℕ) (xs : List (Option A)) → length (filter (λ x. is_some x) xs) ≡ length xs → missing_from n xs ≡ []
 none_missing n [] h = refl
-none_missing n (None ∷ xs) h = absurd (omega (arith, few_some xs, h))
+none_missing n (None ∷ xs) h = absurd (omega (arith, length-filter (λ x. is_some x) xs, count_by-le-length (λ x. is_some x) xs, h))
 none_missing n (Some x ∷ xs) h = none_missing (n + 1) xs (omega (arith, h))
 
 -- numbers from n on stay below the end
@@ -61,11 +51,6 @@ lost_below n m (t ∷ ts) (Unmatched slices ∷ standings) sized h =
     all-append (λ i. i < m) (missing_from n slices) (lost_from (n + length t.pairs) ts standings)
     (missing_below n m slices (omega (arith, h, whole, sized.0)))
     (lost_below (n + length t.pairs) m ts standings sized.1 (omega (arith, h, whole)))
-
-pub each_below : (m : ℕ) (xs : List ℕ) → 0 < m → AllByRecursion (λ i. i < m) xs → (i : ℕ) → slice_index xs i < m
-each_below m [] positive h i = positive
-each_below m (x ∷ xs) positive h zero = h.0
-each_below m (x ∷ xs) positive h (suc i) = each_below m xs positive h.1 i
 
 -- ---- where nothing is lost
 
@@ -102,10 +87,6 @@ sized_rest s t ts (variants.Unmatched windows) standings h = h.1
 
 pub few_rest : (n m : ℕ) (t : Target) (ts : List Target) → n + length (flat_map (λ u. u.pairs) (t ∷ ts)) ≤ m → n + length t.pairs + length (flat_map (λ u. u.pairs) ts) ≤ m
 few_rest n m t ts h = omega (arith, h, length-append t.pairs (flat_map (λ u. u.pairs) ts))
-
-pub nothing_from : (xs : List ℕ) → (length xs == 0) ≡ true → xs ≡ []
-nothing_from [] h = refl
-nothing_from (x ∷ xs) h = absurd (omega (arith, eqb-true (length (x ∷ xs)) 0 h))
 
 -- the windows of the first target have numbers
 pub windows_fit : (s n m : ℕ) (t : Target) (ts : List Target) (standing : code.Standing) (standings : List Standing) → AreSized (t ∷ ts) (standing_of s standing ∷ standings)

@@ -1,5 +1,5 @@
 -- The matches of needing targets, by numbers and by names.
-use Rattle.std.proofs.Common.{◌≡◌, ℕ, zero, suc, ◌+◌, ◌<◌, List, [], ◌∷◌, length, map, sym, ap, ◌∙◌, Bool, true, false, not, cond, arith}
+use Rattle.std.proofs.Common.{◌≡◌, ℕ, ◌<◌, List, [], ◌∷◌, length, map, refl, sym, ap, ◌∙◌, Bool, not}
 use Rattle.std.specs.Prelude.{Option, Some, None, IfSome, filter, find, option_map, ◌==◌}
 use Rattle.std.specs.List.{AllByRecursion, IsDistinct, range_with_len}
 use Rattle.std.specs.Str.{bytes_eq}
@@ -8,6 +8,7 @@ use Rattle.par2_spec.specs.Names.{is_among}
 use Rattle.par2_spec.specs.Folders.{Folder, bytes_of}
 use Rattle.par2_spec.specs.Sets.{ParSet, Target}
 use Rattle.par2_spec.specs.Search.{is_needing, needing, intact_names, matched, matches}
+use Rattle.par2_spec.specs.Lists.{all_below}
 use Rattle.par2_spec.proofs.FoundLaws.{all-filter}
 use Rattle.par2_spec.proofs.NamesLaws.{distinct_from_std, std_from_distinct, distinct-filter}
 use Rattle.par2_search.specs.Matching.{text_at, first_intact, without, matched_from, matched_numbers, NumbersAreNames}
@@ -15,16 +16,16 @@ use Rattle.par2_plan.specs.Matches.{ArePlaces, items_where, intact_by}
 use Rattle.par2_plan.specs.Findings.{needs, matches_given}
 use Rattle.par2_plan.proofs.Choices.{chosen-map, passed_over-map}
 use Rattle.par2_spec.proofs.ReportLaws.{matched_count}
+use Rattle.par2_spec.proofs.ListsLaws.{all_below_are, found_one}
 
 -- ---- numbers are places
 
 found_holds : (P : ℕ → Type 0) (p : ℕ → Bool) (xs : List ℕ) → AllByRecursion P xs → IfSome (find p xs) P
-found_holds P p [] h = tt
-found_holds P p (x ∷ xs) h = step (p x) (found_holds P p xs h.1)
+found_holds P p xs h = step (find p xs) refl
   where
-    step : (b : Bool) → IfSome (find p xs) P → IfSome (cond b (Some x) (find p xs)) P
-    step true k = h.0
-    step false k = k
+    step : (o : Option ℕ) → find p xs ≡ o → IfSome o P
+    step None e = tt
+    step (Some x) e = (found_one P p xs h x e).0
 
 left_hold : (P : ℕ → Type 0) (o : Option ℕ) (free : List ℕ) → AllByRecursion P free → AllByRecursion P (without o free)
 left_hold P None free h = h
@@ -35,12 +36,9 @@ places_from n s texts [] free h = tt
 places_from n s texts (t ∷ ts) free h =
     (found_holds (λ i. i < n) _ free h, places_from n s texts ts (without (first_intact s texts t free) free) (left_hold (λ i. i < n) (first_intact s texts t free) free h))
 
-below_end : (a k n : ℕ) → a + k ≡ n → AllByRecursion (λ i. i < n) (range_with_len a k)
-below_end a zero n e = tt
-below_end a (suc k) n e = (omega (arith, e), below_end (a + 1) k n (omega (arith, e)))
-
 pub are_places : (s : ℕ) (texts : List (List ℕ)) (ts : List Target) → ArePlaces (length texts) (matched_numbers s texts ts)
-are_places s texts ts = places_from (length texts) s texts ts (range_with_len 0 (length texts)) (below_end 0 (length texts) (length texts) (omega arith))
+unfolding all_below
+are_places s texts ts = places_from (length texts) s texts ts (range_with_len 0 (length texts)) (all_below_are (length texts))
 
 -- ---- the matches of a set
 

@@ -8,6 +8,7 @@ use Rattle.std.proofs.lemmas.Map.Text.{is_eq-slice_cmp}
 use Rattle.par2_spec.specs.Changes.{Remove}
 use Rattle.par2_spec.specs.Names.{is_among}
 use Rattle.par2_spec.proofs.NamesLaws.{same_either_way, same_name}
+use Rattle.par2_spec.proofs.ListsLaws.{map-cond}
 use Rattle.par2_plan.specs.Matches.{name_cmp}
 use Rattle.par2_plan.specs.Repairing.{names_given, asides_removed, files_removed}
 use Rattle.par2_plan.proofs.Choices.{filter_push}
@@ -23,9 +24,6 @@ zip_end (x ∷ xs) (y ∷ ys) (inr h) = absurd (let no : ⊥ = cc in no)
 pub all_done : {A B C : Type 0} (part : List (A × B) → List C) (xs : List A) (ys : List B) (done all : List C)
     → (xs ≡ []) ⊎ (ys ≡ []) → part [] ≡ [] → done ++ part (zip xs ys) ≡ all → done ≡ all
 all_done part xs ys done all h none e = sym (append-nil done) ∙ ap (λ zs. done ++ zs) (sym (ap part (zip_end xs ys h) ∙ none)) ∙ e
-
-pub firsts : (x y : List ℕ) (xs ys : List (List ℕ)) → x ∷ xs ≡ y ∷ ys → (x ≡ y) × (xs ≡ ys)
-firsts x y xs ys e = (cc, cc)
 
 -- ---- trees of asides
 
@@ -73,8 +71,4 @@ pub removed_push : (given names : List (List ℕ)) (name : List ℕ) → files_r
 removed_push given names name =
     let free = λ (n : List ℕ). not (is_among given n) in
     ap (map Remove) (filter_push free names name) ∙ map-append Remove (filter free names) (cond (free name) (name ∷ []) [])
-    ∙ ap (λ cs. files_removed given names ++ cs) (one (free name))
-  where
-    one : (b : Bool) → map Remove (cond b (name ∷ []) []) ≡ cond b (Remove name ∷ []) []
-    one true = refl
-    one false = refl
+    ∙ ap (λ cs. files_removed given names ++ cs) (map-cond Remove (free name) name [])

@@ -1,30 +1,23 @@
 -- Answers that are passed on.
-use Rattle.std.proofs.Common.{◌≡◌, ◌⊎◌, ◌∙◌, inl, inr, sym, ap, subst, Result, Ok, Err}
+use Rattle.std.proofs.Common.{◌≡◌, ◌⊎◌, ◌∙◌, sym, ap, Result, Ok, Err}
+use Rattle.std.proofs.lemmas.Option.{none-some, same_Some}
+use Rattle.std.proofs.Math.Logic.{⊎_map}
 use Rattle.std.specs.Prelude.{Option, Some, None, IfOk, IfErr, IsErrOf}
 use Rattle.par2_spec.specs.declared.Fault.{Fault}
 use Rattle.par2_spec.specs.declared.Fault.TheVariants.{Memory}
+use Rattle.par2_spec.proofs.TestLaws.{err_again}
 
 -- a fault that is passed on has the cause of the whole, where the cause of its step is one
 pub refused_by : {X : Type 0} (P Q : Fault → Type 0) (r : Result X Fault) (fault : Fault)
     → (y : Fault) × (r ≡ Err y) × (y ≡ fault) → (fault ≡ Memory) ⊎ P fault → (P fault → Q fault) → IfErr r (λ y. (y ≡ Memory) ⊎ Q y)
-refused_by P Q r fault p why cause = subst (λ x. IfErr x (λ y. (y ≡ Memory) ⊎ Q y)) (sym (p.1 ∙ ap Err p.2)) (step why)
-  where
-    step : (fault ≡ Memory) ⊎ P fault → (fault ≡ Memory) ⊎ Q fault
-    step (inl memory) = inl memory
-    step (inr h) = inr (cause h)
+refused_by P Q r fault p why cause = err_again (λ x. IfErr x (λ y. (y ≡ Memory) ⊎ Q y)) r fault p (⊎_map (λ memory. memory) cause why)
 
 -- the fault that is found is the one that is answered
 pub answered_so : {X : Type 0} (r : Result X Fault) (found : Option Fault) (fault other : Fault) → r ≡ Err fault → found ≡ Some fault → found ≡ Some other → IsErrOf r other
-answered_so r found fault other is here h = is ∙ ap Err (same (sym here ∙ h))
-  where
-    same : ◌≡◌ {A = Option Fault} (Some fault) (Some other) → fault ≡ other
-    same e = cc
+answered_so r found fault other is here h = is ∙ ap Err (same_Some fault other (sym here ∙ h))
 
 pub never_found : {F : Type 0} (found : Option F) (other : F) → found ≡ None → found ≡ Some other → ⊥
-never_found found other none h = clash (sym none ∙ h)
-  where
-    clash : None ≡ Some other → ⊥
-    clash e = cc
+never_found found other none h = none-some other (sym none ∙ h)
 
 -- what a `?` answers where a step's error is known
 pub err_passed : {X Y E : Type 0} (r : Result X E) (fault other : E) → (y : E) × (r ≡ Err y) × (y ≡ fault) → ◌≡◌ {A = Result Y E} (Err fault) (Err other) → IsErrOf r other
@@ -32,9 +25,6 @@ err_passed {X} {Y} {E} r fault other p h = p.1 ∙ ap Err (p.2 ∙ same h)
   where
     same : ◌≡◌ {A = Result Y E} (Err fault) (Err other) → fault ≡ other
     same e = cc
-
-pub ok_no_err : {A E : Type 0} (x : A) (fault : E) → Ok x ≡ Err fault → ⊥
-ok_no_err x fault h = cc
 
 -- what follows from two things that hold of a value
 pub joined : {A E : Type 0} (P Q R : A → Type 0) (r : Result A E) → ((x : A) → P x → Q x → R x) → IfOk r P → IfOk r Q → IfOk r R

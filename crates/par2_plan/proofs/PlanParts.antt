@@ -1,5 +1,5 @@
 -- What a repair and a purge are by the set that they read.
-use Rattle.std.proofs.Common.{◌≡◌, ◌∙◌, ℕ, List, [], refl, sym, ap, subst, Bool, Some, Result, Ok, Err}
+use Rattle.std.proofs.Common.{◌≡◌, ◌∙◌, ℕ, List, [], refl, sym, ap, subst, Bool, Some, Ok, Err}
 use Rattle.par2_spec.specs.Commands.{Verify, Repair, Purge}
 use Rattle.par2_spec.specs.Faults.{then_fault}
 use Rattle.par2_spec.specs.Folders.{Folder}
@@ -10,11 +10,9 @@ use Rattle.par2_spec.specs.Search.{candidates}
 use Rattle.par2_spec.specs.Sets.{ParSet}
 use Rattle.par2_spec.specs.declared.Fault.{Fault}
 use Rattle.par2_spec.proofs.AcceptedCommands.{command_leads, set_in_reads}
+use Rattle.par2_spec.proofs.SessionLaws.{same_ok}
 use Rattle.par2_plan.specs.Repairing.{IsWholeWhereMatched, repair_by}
 use Rattle.par2_plan.proofs.RepairParts.{whole_where_matched}
-
-pub same_set : (set other : ParSet) → ◌≡◌ {A = Result ParSet Fault} (Ok set) (Ok other) → set ≡ other
-same_set set other e = cc
 
 -- ---- what is refused first
 
@@ -50,7 +48,7 @@ module _ (folder : Folder) (base : List ℕ) (extras : List (List ℕ)) (purge :
     pub repair_leads : AreFew folder set → LeadsToAfter folder (Repair base extras purge)
     repair_leads few =
         command_leads folder (Repair base extras purge)
-        (λ other h. subst (AreFew folder) (same_set set other (sym (set_in_reads folder base extras set reads).0 ∙ h)) few)
+        (λ other h. subst (AreFew folder) (same_ok set other (sym (set_in_reads folder base extras set reads).0 ∙ h)) few)
 
 module _ (folder : Folder) (base : List ℕ) where
   pub purge_unread : (fault : Fault) → set_in folder base [] ≡ Err fault → refusal folder (Purge base) ≡ Some fault

@@ -1,12 +1,12 @@
 -- The base and the further files that are there.
-use Rattle.std.proofs.Common.{◌≡◌, ℕ, ◌+◌, ◌<◌, ◌^◌, List, [], ◌∷◌, map, refl, sym, ap, ◌∙◌, Bool, true, false, not, cond, arith, IsTrue, length, ◌⊎◌, subst}
-use Rattle.std.specs.Prelude.{Option, Some, None, Result, Ok, Err, IfErr, option_map, is_ok, IsOk}
+use Rattle.std.proofs.Common.{◌≡◌, ℕ, ◌+◌, ◌<◌, ◌^◌, List, [], ◌∷◌, map, refl, sym, ap, ◌∙◌, Bool, true, false, not, cond, arith, IsTrue, length}
+use Rattle.std.specs.Prelude.{Option, Some, None, Result, Ok, Err, option_map}
 use Rattle.std.specs.List.{AllByRecursion, position_from}
 use Rattle.std.specs.Str.{bytes_eq}
 use Rattle.std.proofs.lemmas.Bool.{or_from, false_from_ne_true}
 use Rattle.std.proofs.lemmas.Iterator.Adapters.{position_from-zero}
 use Rattle.par2_spec.specs.declared.Fault.{Fault}
-use Rattle.par2_spec.specs.declared.Fault.TheVariants.{NoSuchFile, Memory}
+use Rattle.par2_spec.specs.declared.Fault.TheVariants.{NoSuchFile}
 use Rattle.par2_spec.specs.Faults.{or_fault}
 use Rattle.par2_spec.specs.Names.{is_name, is_among}
 use Rattle.par2_spec.specs.Folders.{Folder, File, has, files, IsFolder}
@@ -15,18 +15,7 @@ use Rattle.par2_spec.specs.Refusals.{absent_file, set_in}
 use Rattle.par2_spec.proofs.NamesLaws.{same_name, clash}
 use Rattle.par2_spec.proofs.MovesLaws.{has_by_names}
 use Rattle.par2_spec.proofs.AcceptedCommands.{missing, in_full, in_part}
-use Rattle.par2_sets.specs.Steps.{Gives}
 use Rattle.par2_plan.specs.Readings.{present_from}
-
--- what a `?` answers, where a step has ended in a fault
-pub passed_on : {X Y : Type 0} (view : X → Y) (r : Result X Fault) (whole : Result Y Fault) (fault : Fault)
-    → (y : Fault) × (r ≡ Err y) × (y ≡ fault) → (fault ≡ Memory) ⊎ (whole ≡ Err fault) → Gives view r whole
-passed_on view r whole fault p h = subst (λ x. Gives view x whole) (sym (p.1 ∙ ap Err p.2)) h
-
--- the same of a cause that holds of the step's fault
-pub refused_so : {X : Type 0} (r : Result X Fault) (Cause : Fault → Type 0) (fault : Fault)
-    → (y : Fault) × (r ≡ Err y) × (y ≡ fault) → Cause fault → IfErr r Cause
-refused_so r Cause fault p h = subst (λ x. IfErr x Cause) (sym (p.1 ∙ ap Err p.2)) h
 
 -- ---- what is no name is no file's
 
@@ -39,9 +28,6 @@ none_of_these word unnamed (file ∷ entries) h =
 
 pub no_file : (folder : Folder) (word : List ℕ) → IsFolder folder → is_name word ≡ false → has folder word ≡ false
 no_file folder word kept unnamed = has_by_names folder word ∙ none_of_these word unnamed (files folder) kept
-
-pub not_ok : {A E : Type 0} (r : Result A E) → is_ok r ≡ false → IsOk r → ⊥
-not_ok r e h = clash h e
 
 -- ---- the first word that is absent
 

@@ -18,7 +18,7 @@ use Rattle.par2_spec.specs.Sets.{ParSet, Target, set_of}
 use Rattle.par2_spec.specs.Windows.{found}
 use Rattle.par2_spec.specs.declared.Fault.{Fault}
 use Rattle.par2_spec.specs.declared.Fault.TheVariants.{NotRepairable}
-use Rattle.par2_spec.proofs.ListsLaws.{all-append, filter_map-map}
+use Rattle.par2_spec.proofs.ListsLaws.{all-append, filter_map-map, all-each}
 use Rattle.par2_spec.proofs.RankLaws.{repairable-iff}
 use Rattle.par2_spec.proofs.ReadLaws.{lost_of}
 use Rattle.par2_spec.proofs.SearchLaws.{matches_of_needing}
@@ -68,13 +68,9 @@ quiet n [] h = refl
 quiet n ((true, slice) ∷ xs) h = absurd (let no : ⊥ = cc in no)
 quiet n ((false, slice) ∷ xs) h = quiet (n + 1) xs h.1
 
-none_wanted : (f : Pair → Option (List ℕ)) (pairs : List Pair) → AllByRecursion (λ (x : Bool × Option (List ℕ)). x.0 ≡ false) (map (λ pair. (false, f pair)) pairs)
-none_wanted f [] = tt
-none_wanted f (pair ∷ pairs) = (refl, none_wanted f pairs)
-
 all_quiet : (f : Pair → Option (List ℕ)) (ts : List Target) → AllByRecursion (λ (x : Bool × Option (List ℕ)). x.0 ≡ false) (flat_map (λ t. map (λ pair. (is_among [] t.name, f pair)) t.pairs) ts)
 all_quiet f [] = tt
-all_quiet f (t ∷ ts) = all-append _ (map (λ pair. (false, f pair)) t.pairs) _ (none_wanted f t.pairs) (all_quiet f ts)
+all_quiet f (t ∷ ts) = all-append _ (map (λ pair. (false, f pair)) t.pairs) _ (all-each (λ (x : Bool × Option (List ℕ)). x.0 ≡ false) (λ (pair : Pair). (false, f pair)) (λ pair. refl) t.pairs) (all_quiet f ts)
 
 pub whole_where_matched : (folder : Folder) (base : List ℕ) (set : ParSet) (extras : List (List ℕ)) → set_of folder base ≡ Ok set → IsWholeWhereMatched folder set (candidates folder set extras)
 whole_where_matched folder base set extras reads = λ none.

@@ -18,6 +18,7 @@ use Rattle.par2_spec.proofs.ReportLaws.{by_target, states_follow, found_whole_in
 use Rattle.par2_plan.specs.Findings.{needing_standing, standings_by, matches_given, standings}
 use Rattle.par2_plan.specs.Parts.{target_report_by, target_reports_by, missing_from, lost_from, report_by}
 use Rattle.par2_plan.proofs.LostSlices.{missing-append, none_missing}
+use Rattle.par2_plan.proofs.SliceLists.{heads}
 
 -- how many of a target's slices are found
 abbrev count_of : (Pair → Option (List ℕ)) → Target → ℕ
@@ -30,9 +31,6 @@ said_of f state t = record { name = t.name; state = state t; found = count_of f 
 -- where the state says so, each slice is found
 abbrev WholeByState : (Pair → Option (List ℕ)) → (Target → State) → Target → Type 0
 WholeByState f state t = HasIntactFile (state t) → count_of f t ≡ length (map f t.pairs)
-
-state_head : (a b : State) (rest others : List State) → a ∷ rest ≡ b ∷ others → (a ≡ b) × (rest ≡ others)
-state_head a b rest others e = (cc, cc)
 
 said_so : (name : List ℕ) (a b : State) (found other total count : ℕ) → a ≡ b → found ≡ other → total ≡ count
     → ◌≡◌ {A = TargetReport} (record { name = name; state = a; found = found; total = total }) (record { name = name; state = b; found = other; total = count })
@@ -56,10 +54,10 @@ module _ (folder : Folder) (f : Pair → Option (List ℕ)) (p : Target → Bool
           → ((rest : List (Option (List ℕ))) → map state ts ≡ states_by p there ts rest → target_reports_by folder ts (standings_by f (map p ts) ts rest) ≡ map (said_of f state) ts)
           → target_reports_by folder (t ∷ ts) (standings_by f (b ∷ map p ts) (t ∷ ts) given) ≡ map (said_of f state) (t ∷ ts)
       step true e later =
-          let r = state_head _ _ _ _ e in
+          let r = heads _ _ _ _ e in
           ap₂ (λ (x : TargetReport) (xs : List TargetReport). x ∷ xs) (needs (slice_index_or given 0 None) r.0) (later (drop 1 given) r.1)
       step false e later =
-          let r = state_head _ _ _ _ e in
+          let r = heads _ _ _ _ e in
           ap₂ (λ (x : TargetReport) (xs : List TargetReport). x ∷ xs)
           (said_so t.name _ _ _ _ _ _ (sym r.0) (sym (length-map t.pairs f) ∙ sym (whole.0 (subst HasIntactFile (sym r.0) tt))) (sym (length-map t.pairs f)))
           (later given r.1)
@@ -91,8 +89,8 @@ module _ (folder : Folder) (f : Pair → Option (List ℕ)) (p : Target → Bool
       step : (b : Bool) → map state (t ∷ ts) ≡ cond b (needing_state (there t) (slice_index_or given 0 None) ∷ states_by p there ts (drop 1 given)) (Complete ∷ states_by p there ts given)
           → ((rest : List (Option (List ℕ))) → map state ts ≡ states_by p there ts rest → lost_from (n + length t.pairs) ts (standings_by f (map p ts) ts rest) ≡ missing_from (n + length t.pairs) more)
           → lost_from n (t ∷ ts) (standings_by f (b ∷ map p ts) (t ∷ ts) given) ≡ missing_from n (map f t.pairs) ++ missing_from (n + length t.pairs) more
-      step true e later = let r = state_head _ _ _ _ e in needs (slice_index_or given 0 None) r.0 (later (drop 1 given) r.1)
-      step false e later = let r = state_head _ _ _ _ e in later given r.1 ∙ nothing (subst HasIntactFile (sym r.0) tt)
+      step true e later = let r = heads _ _ _ _ e in needs (slice_index_or given 0 None) r.0 (later (drop 1 given) r.1)
+      step false e later = let r = heads _ _ _ _ e in later given r.1 ∙ nothing (subst HasIntactFile (sym r.0) tt)
 
 -- ---- of a set that is read
 

@@ -1,5 +1,5 @@
 -- The standings of targets, one after the other.
-use Rattle.std.proofs.Common.{◌≡◌, ℕ, suc, List, [], ◌∷◌, ◌++◌, length, map, take, drop, refl, sym, ap, ap₂, subst, ◌∙◌, Bool, true, false, ◌⊎◌, inl, inr, Bor, Iter, MatchOption, append-nil, append_assoc, arith}
+use Rattle.std.proofs.Common.{◌≡◌, ℕ, suc, List, [], ◌∷◌, ◌++◌, length, map, take, drop, refl, sym, ap, ap₂, subst, ◌∙◌, Bool, true, false, ◌⊎◌, inl, inr, Bor, Iter, MatchOption, append_assoc, arith}
 use Rattle.std.specs.Prelude.{Option, Some, None, is_some, filter, slice_index_or}
 use Rattle.std.specs.Slice.Iter.{iter_rest}
 use Rattle.std.proofs.lemmas.List.{map-append, length-map, take-map, drop-map}
@@ -54,11 +54,21 @@ pub stays : (needs : Bool) (s u : Iter (Option (List ℕ))) (given : Option (Bor
 stays true s u given e same = absurd (let no : ⊥ = cc in no)
 stays false s u given e same = ap iter_rest same
 
-pub sought_more : (needs : Bool) (flags : List Bool) (t : Target) (ts : List Target) (matches later : List (Option (List ℕ))) (given : Option (Bor (Option (List ℕ)))) → GoesOn needs matches given later
+sought_more : (needs : Bool) (flags : List Bool) (t : Target) (ts : List Target) (matches later : List (Option (List ℕ))) (given : Option (Bor (Option (List ℕ)))) → GoesOn needs matches given later
     → sought_by (needs ∷ flags) (t ∷ ts) matches ≡ pairs_sought needs (given_of given) t.pairs ++ sought_by flags ts later
 sought_more true flags t ts matches later given h =
     ap₂ (λ (o : Option (List ℕ)) (g : List (Option (List ℕ))). pairs_sought true o t.pairs ++ sought_by flags ts g) h.0 (sym h.1)
 sought_more false flags t ts matches later given h = ap (sought_by flags ts) (sym h)
+
+-- the pairs that are sought go on by those of one more target
+pub sought_on : (needs : Bool) (flags all_flags : List Bool) (t : Target) (ts all_ts : List Target) (matches later : List (Option (List ℕ))) (given : Option (Bor (Option (List ℕ)))) (old new all : List Pair)
+    → GoesOn needs matches given later → all_flags ≡ needs ∷ flags → all_ts ≡ t ∷ ts → new ≡ old ++ pairs_sought needs (given_of given) t.pairs
+    → old ++ sought_by all_flags all_ts matches ≡ all → new ++ sought_by flags ts later ≡ all
+sought_on needs flags all_flags t ts all_ts matches later given old new all on of_flags of_ts added so_far =
+    ap (λ ps. ps ++ sought_by flags ts later) added ∙ append_assoc old (pairs_sought needs (given_of given) t.pairs) (sought_by flags ts later)
+    ∙ ap (λ ps. old ++ ps) (sym (sought_more needs flags t ts matches later given on))
+    ∙ ap₂ (λ (fs : List Bool) (us : List Target). old ++ sought_by fs us matches) (sym of_flags) (sym of_ts)
+    ∙ so_far
 
 stands_by : (f : Pair → Option (List ℕ)) (needs : Bool) (flags : List Bool) (t : Target) (ts : List Target) (matches later : List (Option (List ℕ))) (given : Option (Bor (Option (List ℕ)))) → GoesOn needs matches given later
     → standings_by f (needs ∷ flags) (t ∷ ts) matches ≡ standing_by needs (given_of given) (map f t.pairs) ∷ standings_by f flags ts later

@@ -1,14 +1,15 @@
 -- The name of a volume is a name, where it has at most 255 bytes.
-use Rattle.std.proofs.Common.{◌≡◌, ℕ, ◌+◌, ◌-◌, ◌/◌, ◌%◌, ◌^◌, ◌<◌, ◌≤◌, List, [], ◌∷◌, ◌++◌, length, take, drop, refl, sym, ap, ◌∙◌, subst, Bool, true, false, not, eqb, arith, length-append}
+use Rattle.std.proofs.Common.{◌≡◌, ℕ, ◌+◌, ◌-◌, ◌/◌, ◌%◌, ◌^◌, ◌<◌, ◌≤◌, List, [], ◌∷◌, ◌++◌, length, take, drop, refl, sym, ap, ◌∙◌, subst, Bool, true, false, eqb, arith, length-append}
 use Rattle.std.specs.Prelude.{codes, nat_eq, ◌==◌}
 use Rattle.std.specs.List.{list_any, starts_with}
-use Rattle.std.specs.Str.{bytes_eq, is_utf8}
-use Rattle.std.proofs.lemmas.Bool.{and_parts, and_from, or_from, or_parts, false_from_ne_true, not_from_false, ne_eqb, le-leb}
+use Rattle.std.specs.Str.{is_utf8}
+use Rattle.std.proofs.lemmas.Bool.{and_parts, and_from, or_from, or_parts, false_from_ne_true, not_from_false, ne_eqb, le-leb, not-true}
 use Rattle.std.proofs.lemmas.List.{append_assoc, take-append-drop}
 use Rattle.std.proofs.lemmas.List.Folds.{list_any-append}
 use Rattle.par2_spec.specs.Names.{is_name}
 use Rattle.par2_spec.specs.Volumes.{five_digits, stem, volume_name}
-use Rattle.par2_spec.proofs.NamesLaws.{clash, false_from_not}
+use Rattle.par2_spec.proofs.NamesLaws.{clash}
+use Rattle.par2_spec.proofs.NameTests.{tests_of, name_of}
 use Rattle.par2_spec.proofs.AsideNames.{front_of_name, longer}
 
 -- what follows the stem
@@ -80,21 +81,17 @@ long_enough base x n =
     omega (arith, size)
 
 pub volume_is_name : (base : List ℕ) (x n : ℕ) → is_name base ≡ true → is_utf8 (volume_name base x n) ≡ true → length (volume_name base x n) ≤ 255 → is_name (volume_name base x n) ≡ true
-unfolding is_name
 volume_is_name base x n h text short =
-    let a = and_parts _ (not (starts_with nat_eq base (codes ".par2undo"))) h in
-    let b = and_parts _ (not (bytes_eq base (codes ".."))) a.0 in
-    let c = and_parts _ (not (bytes_eq base (codes "."))) b.0 in
-    let d = and_parts _ (not (list_any (λ z. z == 0) base)) c.0 in
-    let e = and_parts _ (not (list_any (λ z. z == 0x2F) base)) d.0 in
+    let t = tests_of base h in
     let name = volume_name base x n in
     let long : 20 ≤ length name = long_enough base x n in
-    and_from _ _ (and_from _ _ (and_from _ _ (and_from _ _ (and_from _ _ (and_from _ _ (and_from _ _
-    (le-leb 1 (length name) (omega (arith, long)))
-    (le-leb (length name) 255 short))
-    text)
-    (not_from_false _ (not_in_name 0x2F base x n (false_from_not _ e.1) (not_in_rest 0x2F x n (omega arith) refl refl refl))))
-    (not_from_false _ (not_in_name 0 base x n (false_from_not _ d.1) (not_in_rest 0 x n (omega arith) refl refl refl))))
-    (not_from_false _ (longer name (codes ".") (omega (arith, long)))))
-    (not_from_false _ (longer name (codes "..") (omega (arith, long)))))
-    (not_from_false _ (not_undo base x n (false_from_not _ a.1)))
+    name_of name (record {
+      some = le-leb 1 (length name) (omega (arith, long));
+      short = le-leb (length name) 255 short;
+      text = text;
+      no_slash = not_from_false _ (not_in_name 0x2F base x n (not-true _ t.no_slash) (not_in_rest 0x2F x n (omega arith) refl refl refl));
+      no_zero = not_from_false _ (not_in_name 0 base x n (not-true _ t.no_zero) (not_in_rest 0 x n (omega arith) refl refl refl));
+      no_dot = not_from_false _ (longer name (codes ".") (omega (arith, long)));
+      no_dots = not_from_false _ (longer name (codes "..") (omega (arith, long)));
+      no_undo = not_from_false _ (not_undo base x n (not-true _ t.no_undo));
+    })

@@ -1,46 +1,33 @@
 -- The volumes, one after the other.
-use Rattle.std.proofs.Common.{◌≡◌, ℕ, zero, suc, ◌+◌, ◌-◌, ◌≤◌, ◌<◌, List, [], ◌∷◌, ◌++◌, length, map, refl, sym, ap, ◌∙◌, subst, Bool, true, false, cond, ◌||◌, Some, None, arith}
-use Rattle.std.specs.Prelude.{filter, nat_lt, if◌then◌else◌}
+use Rattle.std.proofs.Common.{◌≡◌, ℕ, zero, suc, ◌+◌, ◌-◌, ◌≤◌, ◌<◌, List, [], ◌∷◌, ◌++◌, length, map, sym, ap, ◌∙◌, subst, Bool, true, false, cond, ◌||◌, Some, None, arith}
+use Rattle.std.specs.Prelude.{filter, nat_lt}
 use Rattle.std.specs.List.{AllByRecursion, range_with_len, list_any}
 use Rattle.std.proofs.lemmas.Bool.{ltb-true, le-ltb, leb-true}
 use Rattle.std.proofs.lemmas.List.{map-append}
 use Rattle.std.proofs.lemmas.List.Folds.{list_any-append}
+use Rattle.std.proofs.lemmas.List.Elements.{filter-append, filter_passes, recursion_from_All}
 use Rattle.par2_spec.specs.Faults.{fault_where}
 use Rattle.par2_spec.specs.Names.{is_name}
 use Rattle.par2_spec.specs.Volumes.{volume_numbers, volumes_before}
 use Rattle.par2_spec.specs.declared.Fault.{Fault}
 use Rattle.par2_spec.specs.declared.Fault.TheVariants.{NameTooLong}
-use Rattle.par2_spec.proofs.AsideNames.{name_is_short}
-use Rattle.par2_spec.proofs.ListsLaws.{all-map, any-map}
+use Rattle.par2_spec.proofs.ListsLaws.{all-map, any-map, range-append, map-cond}
+use Rattle.par2_spec.proofs.NameTests.{name_is_short}
 use Rattle.par2_plan.specs.declared.names.Volume.{Volume}
 use Rattle.par2_plan.specs.Faults.{long_name}
-use Rattle.par2_plan.proofs.SliceLists.{all_passed}
 use Rattle.par2_plan.specs.Outputs.{volume_at, volume_if, volumes_of, names_of}
 
 -- those with numbers below n
 abbrev pub volumes_below : List ℕ → ℕ → ℕ → ℕ → List Volume
 volumes_below base f c n = map (volume_at base f c) (filter (λ i. nat_lt (volumes_before i) c) (range_with_len 0 n))
 
-filter_more : (p : ℕ → Bool) (a n j : ℕ) → a + n ≡ j → filter p (range_with_len a (suc n)) ≡ filter p (range_with_len a n) ++ cond (p j) (j ∷ []) []
-filter_more p a zero j e = ap (λ k. cond (p k) (k ∷ []) []) (let same : a ≡ j = omega (arith, e) in same)
-filter_more p a (suc n) j e = step (p a) (filter_more p (a + 1) n j (omega (arith, e)))
-  where
-    step : (b : Bool) → filter p (range_with_len (a + 1) (suc n)) ≡ filter p (range_with_len (a + 1) n) ++ cond (p j) (j ∷ []) []
-        → cond b (a ∷ filter p (range_with_len (a + 1) (suc n))) (filter p (range_with_len (a + 1) (suc n))) ≡ cond b (a ∷ filter p (range_with_len (a + 1) n)) (filter p (range_with_len (a + 1) n)) ++ cond (p j) (j ∷ []) []
-    step true h = ap (λ xs. a ∷ xs) h
-    step false h = h
-
 pub volumes_more : (base : List ℕ) (f c i : ℕ) → volumes_below base f c (i + 1) ≡ volumes_below base f c i ++ volume_if base f c i
 volumes_more base f c i =
     let p = λ (k : ℕ). nat_lt (volumes_before k) c in
-    ap (volumes_below base f c) (let e : i + 1 ≡ suc i = omega arith in e)
-    ∙ ap (map (volume_at base f c)) (filter_more p 0 i i (let e : 0 + i ≡ i = omega arith in e))
+    ap (λ ns. map (volume_at base f c) (filter p ns)) (range-append 0 i 1 ∙ ap (λ a. range_with_len 0 i ++ range_with_len a 1) (let e : 0 + i ≡ i = omega arith in e))
+    ∙ ap (map (volume_at base f c)) (filter-append p (range_with_len 0 i) (i ∷ []))
     ∙ map-append (volume_at base f c) (filter p (range_with_len 0 i)) (cond (p i) (i ∷ []) [])
-    ∙ ap (λ vs. volumes_below base f c i ++ vs) (step (p i))
-  where
-    step : (b : Bool) → map (volume_at base f c) (cond b (i ∷ []) []) ≡ (if b then volume_at base f c i ∷ [] else [])
-    step true = refl
-    step false = refl
+    ∙ ap (λ vs. volumes_below base f c i ++ vs) (map-cond (volume_at base f c) (p i) i [])
 
 pub any_named : (test : List ℕ → Bool) (volumes : List Volume) → list_any test (names_of volumes) ≡ list_any (λ volume. test volume.name) volumes
 any_named test volumes = any-map test (λ (volume : Volume). volume.name) volumes
@@ -96,4 +83,5 @@ long_without_base base names h =
 pub volumes_end : (base : List ℕ) (f c : ℕ) → f + c ≤ 65536 → AllByRecursion (λ (volume : Volume). volume.first + volume.count ≤ 65536) (volumes_of base f c)
 volumes_end base f c few =
     all-map (λ i. nat_lt (volumes_before i) c ≡ true) (λ (volume : Volume). volume.first + volume.count ≤ 65536) (volume_at base f c)
-    (λ i low. omega (arith, ltb-true (volumes_before i) c low, few)) (volume_numbers c) (all_passed (λ i. nat_lt (volumes_before i) c) (range_with_len 0 17))
+    (λ i low. omega (arith, ltb-true (volumes_before i) c low, few)) (volume_numbers c)
+    (recursion_from_All (λ i. nat_lt (volumes_before i) c ≡ true) (volume_numbers c) (filter_passes (λ i. nat_lt (volumes_before i) c) (range_with_len 0 17)))

@@ -5,7 +5,7 @@ use Rattle.std.specs.Prelude.{filter}
 use Rattle.par2_spec.specs.Folders.{has}
 use Rattle.par2_spec.specs.Sets.{Target}
 use Rattle.par2_spec.specs.Names.{distinct}
-use Rattle.par2_spec.proofs.FilesLaws.{filter-map}
+use Rattle.par2_spec.proofs.ListsLaws.{filter-map}
 use Rattle.par2_plan.proofs.candidates.candidates.Goals as goal
 
 pub returns : goal.returns

@@ -1,7 +1,7 @@
-use Rattle.std.proofs.Common.{◌≡◌, ◌∙◌, ◌+◌, ◌++◌, ◌∷◌, [], List, ℕ, Bor, true, false, not, cond, sym, ap, subst, take, get_or, rules}
-use Rattle.std.proofs.lemmas.List.{take_all, take_more, get_or_default}
+use Rattle.std.proofs.Common.{◌≡◌, ◌∙◌, ◌+◌, ◌++◌, ◌∷◌, [], List, ℕ, Bor, true, false, not, cond, sym, ap, subst, take, rules}
+use Rattle.std.proofs.lemmas.List.{take_all, take_more}
+use Rattle.std.proofs.lemmas.Bool.{not-true, not-false}
 use Rattle.par2_spec.specs.Names.{is_among, distinct}
-use Rattle.par2_spec.proofs.NamesLaws.{false_from_not, true_from_not}
 use Rattle.par2_plan.specs.Matches.{HoldsNames}
 use Rattle.par2_spec.proofs.TreeLaws.{holds_more}
 use Rattle.par2_plan.proofs.Choices.{distinct_more}
@@ -14,19 +14,18 @@ loop-name-preserved c =
     let i = c.loop-name.name-index in
     let item : List ℕ = c.name-item.result in
     let before : List (List ℕ) = take i names in
-    let name : item ≡ get_or names i [] = c.name-item.is ∙ get_or_default names i _ [] c.loop-name-test.true in
-    let more : take (i + 1) names ≡ before ++ item ∷ [] = take_more names i [] c.loop-name-test.true ∙ ap (λ x. before ++ x ∷ []) (sym name) in
+    let more : take (i + 1) names ≡ before ++ item ∷ [] = take_more names i item c.loop-name-test.true ∙ ap (λ x. before ++ x ∷ []) (sym c.name-item.is) in
     let key : Bor (List ℕ) = record { ref_ptr = c.args.names.ref_ptr; now = item } in
     let added : c.in_ok-insert.field-0 ≡ not (is_among before item) = c.in_ok-insert.ensures.added ∙ ap not (c.loop-name.invariant.1 key) in
     let list : List (List ℕ) = c.if-branch.list.items in
     let once : list ≡ cond (is_among before item) (distinct before) (distinct before ++ item ∷ []) =
     elim c.if-branch.branch as (λ _. list ≡ cond (is_among before item) (distinct before) (distinct before ++ item ∷ [])) [
       | then-branch+in_ok-push w ↦
-          let out : is_among before item ≡ false = false_from_not _ (sym added ∙ w.if-branch.true) in
+          let out : is_among before item ≡ false = not-true _ (sym added ∙ w.if-branch.true) in
           let pushed : list ≡ c.loop-name.list.items ++ item ∷ [] = search rules in
           pushed ∙ ap (λ xs. xs ++ item ∷ []) c.loop-name.invariant.0 ∙ ap (λ b. cond b (distinct before) (distinct before ++ item ∷ [])) (sym out)
       | else-branch w ↦
-          let there : is_among before item ≡ true = true_from_not _ (sym added ∙ w.if-branch.false) in
+          let there : is_among before item ≡ true = not-false _ (sym added ∙ w.if-branch.false) in
           let same : list ≡ c.loop-name.list.items = search rules in
           same ∙ c.loop-name.invariant.0 ∙ ap (λ b. cond b (distinct before) (distinct before ++ item ∷ [])) (sym there)
     ] in (

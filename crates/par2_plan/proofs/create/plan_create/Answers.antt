@@ -1,19 +1,20 @@
 use Rattle.std.proofs.Common.{◌≡◌, ◌∙◌, ◌∷◌, ◌⊎◌, inl, inr, refl, sym, ap, ap₂, subst, true, Option, Some, None, Err, List, ℕ, map, string_bytes}
 use Rattle.par2_spec.specs.Names.{is_par_name}
 use Rattle.std.proofs.lemmas.Result.{err_from_is_err_and}
+use Rattle.std.specs.Prelude.{IfErr}
 use Rattle.par2_spec.specs.Folders.{Folder}
 use Rattle.par2_spec.specs.Commands.{Create, CreateArgs}
 use Rattle.par2_spec.specs.Refusals.{bad_name, early_refusal, refusal}
 use Rattle.par2_spec.specs.Views.{create_args_of}
 use Rattle.par2_spec.specs.declared.Fault.{Fault}
 use Rattle.par2_spec.specs.declared.Fault.TheVariants.{Memory}
+use Rattle.par2_spec.proofs.TestLaws.{err_again}
 use Rattle.par2_plan.specs.declared.names.Volume.{Volume}
 use Rattle.par2_plan.specs.Faults.{long_name, there_already}
 use Rattle.par2_plan.specs.Outputs.{volumes_of, names_of, output_names}
 use Rattle.par2_plan.proofs.GoodWords.{head_passed}
 use Rattle.par2_plan.proofs.RefusalGroups.{early_by_head, early_by_name, not_early, refused_by_head, refused_by_name, refused_by_inputs, refused_by_length, refused_by_there, not_refused, are_planned, apply_in_order, lead_to_folder}
 use Rattle.par2_plan.proofs.PassedAnswers.{answered_so, never_found}
-use Rattle.par2_plan.proofs.Present.{refused_so}
 use Rattle.par2_plan.proofs.create.plan_create.Goals.{In-Some, After-set_of_inputs, After-there_already}
 use Rattle.par2_plan.proofs.create.plan_create.Goals as goal
 
@@ -47,7 +48,7 @@ named c =
 pub returns-in_err-base-clause-refused : goal.returns-in_err-base-clause-refused
 returns-in_err-base-clause-refused c =
     let a = create_args_of c.args.args.now in
-    refused_so _ (IsRefused c.args.folder.now.files a) c.in_err-base.field-0.0 (err_from_is_err_and c.from_residual.result c.from_residual.ensures.1)
+    err_again (λ r. IfErr r (IsRefused c.args.folder.now.files a)) c.from_residual.result c.in_err-base.field-0.0 (err_from_is_err_and c.from_residual.result c.from_residual.ensures.1)
     (inr (refused_by_head c.args.folder.now.files a c.in_err-base.field-0.0 c.in_err-base.ensures.refused))
 
 pub returns-in_err-base-clause-early : goal.returns-in_err-base-clause-early
@@ -72,7 +73,7 @@ pub returns-in_err-set-clause-refused : goal.returns-in_err-set-clause-refused
 returns-in_err-set-clause-refused c =
     let a = create_args_of c.args.args.now in
     let fault : Fault = c.in_err-set.field-0.0 in
-    refused_so _ (IsRefused c.args.folder.now.files a) fault (err_from_is_err_and c.from_residual-in_err-set.result c.from_residual-in_err-set.ensures.1)
+    err_again (λ r. IfErr r (IsRefused c.args.folder.now.files a)) c.from_residual-in_err-set.result fault (err_from_is_err_and c.from_residual-in_err-set.result c.from_residual-in_err-set.ensures.1)
     (elim c.in_err-set.ensures.refused as (λ _. IsRefused c.args.folder.now.files a fault) [
       | inl memory ↦ inl memory
       | inr cause ↦ inr (refused_by_inputs c.args.folder.now.files a c.in_ok-base.ensures.accepted fault cause)
@@ -89,7 +90,7 @@ pub returns-in_err-volumes-clause-refused : goal.returns-in_err-volumes-clause-r
 returns-in_err-volumes-clause-refused c =
     let a = create_args_of c.args.args.now in
     let fault : Fault = c.in_err-volumes.field-0.0 in
-    refused_so _ (IsRefused c.args.folder.now.files a) fault (err_from_is_err_and c.from_residual-in_err-volumes.result c.from_residual-in_err-volumes.ensures.1)
+    err_again (λ r. IfErr r (IsRefused c.args.folder.now.files a)) c.from_residual-in_err-volumes.result fault (err_from_is_err_and c.from_residual-in_err-volumes.result c.from_residual-in_err-volumes.ensures.1)
     (elim c.in_err-volumes.ensures.refused as (λ _. IsRefused c.args.folder.now.files a fault) [
       | inl memory ↦ inl memory
       | inr cause ↦ inr (refused_by_length c.args.folder.now.files a c.in_ok-base.ensures.accepted c.in_ok-set.ensures.accepted fault

@@ -1,24 +1,18 @@
-use Rattle.std.proofs.Common.{◌≡◌, ◌∙◌, ◌++◌, [], List, ℕ, Bool, sym, ap, ap₂, append-nil, append_assoc}
+use Rattle.std.proofs.Common.{◌≡◌, ◌∙◌, ◌++◌, [], List, ℕ, Bool, sym, ap, append-nil}
 use Rattle.std.specs.Prelude.{Option}
 use Rattle.std.specs.Iterator.Adapters.{zip_first, zip_second}
 use Rattle.std.specs.Slice.Iter.{iter_rest}
 use Rattle.std.proofs.lemmas.Slice.Zip.{Zip-more, either_empty_from_Zip}
 use Rattle.par2_spec.specs.Checksums.{Pair}
-use Rattle.par2_spec.specs.Sets.{Target}
-use Rattle.par2_plan.specs.Findings.{pairs_sought, sought_by}
-use Rattle.par2_plan.specs.Views.{given_of}
-use Rattle.par2_plan.proofs.Standings.{GoesOn, goes_on, stays, sought_more, sought_end}
+use Rattle.par2_plan.specs.Findings.{sought_by}
+use Rattle.par2_plan.proofs.Standings.{GoesOn, goes_on, stays, sought_on, sought_end}
 use Rattle.par2_plan.proofs.finding.sought_pairs.Goals as goal
 use Rattle.par2_plan.proofs.finding.sought_pairs.Goals.{then-needs, else-needs}
 
 pub loop-target-preserved : goal.loop-target-preserved
 loop-target-preserved c =
-    let it = c.loop-target.target-iterator in
-    let more = Zip-more it c.next.new.self c.next.result _ c.in-Some.is c.next.ensures.steps in
+    let more = Zip-more c.loop-target.target-iterator c.next.new.self c.next.result _ c.in-Some.is c.next.ensures.steps in
     let needs : Bool = c.in-Some.needs.now in
-    let t : Target = c.in-Some.target.now in
-    let flags : List Bool = iter_rest (zip_second c.next.new.self) in
-    let ts : List Target = iter_rest (zip_first c.next.new.self) in
     let matches : List (Option (List ℕ)) = iter_rest c.loop-target.matches in
     let later : List (Option (List ℕ)) = iter_rest c.if-needs.matches in
     let on : GoesOn needs matches c.if-needs.given later =
@@ -27,12 +21,7 @@ loop-target-preserved c =
       | else-needs w ↦ stays needs c.loop-target.matches c.if-needs.matches c.if-needs.given w.if-needs.false w.matches-is
     ] in
     let old : List Pair = c.loop-target.pairs.items in
-    let own : List Pair = pairs_sought needs (given_of c.if-needs.given) t.pairs in
-    let added : c.extend_from_slice.new.self.items ≡ old ++ own = c.in_ok-extend_from_slice.ensures.items ∙ ap (λ ps. old ++ ps) c.sought_of.ensures in
-    ap (λ ps. ps ++ sought_by flags ts later) added ∙ append_assoc old own (sought_by flags ts later)
-    ∙ ap (λ ps. old ++ ps) (sym (sought_more needs flags t ts matches later c.if-needs.given on))
-    ∙ ap₂ (λ (fs : List Bool) (us : List Target). old ++ sought_by fs us matches) (sym more.1) (sym more.0)
-    ∙ c.loop-target.invariant
+    sought_on needs _ _ c.in-Some.target.now _ _ matches later c.if-needs.given old _ _ on more.1 more.0 (c.in_ok-extend_from_slice.ensures.items ∙ ap (λ ps. old ++ ps) c.sought_of.ensures) c.loop-target.invariant
 
 pub returns : goal.returns
 returns c =

@@ -1,7 +1,7 @@
 use Rattle.std.proofs.Common.{◌≡◌, ◌∙◌, ◌+◌, ◌++◌, ◌∷◌, [], ℕ, List, Bor, sym, ap, true, false, not, get_or, take, subst, arith, below_more}
 use Rattle.std.proofs.lemmas.List.{get_or_default, take_more}
+use Rattle.std.proofs.lemmas.Bool.{not-true, not-false}
 use Rattle.par2_spec.specs.Names.{is_among}
-use Rattle.par2_spec.proofs.NamesLaws.{false_from_not, true_from_not}
 use Rattle.par2_plan.specs.Matches.{HoldsNames}
 use Rattle.par2_spec.proofs.TreeLaws.{holds_more}
 use Rattle.par2_plan.proofs.Places.{again_found, again_nowhere}
@@ -15,7 +15,7 @@ returns-then-not-branch-clause-place c =
     let name : item ≡ get_or names i [] = c.index-names-i.is ∙ get_or_default names i _ [] c.loop-i-test.true in
     let key : Bor (List ℕ) = record { ref_ptr = (0, 0); now = item } in
     let added : c.in_ok-insert.field-0 ≡ not (is_among (take i names) item) = c.in_ok-insert.ensures.added ∙ ap not (c.loop-i.invariant.1 key) in
-    let there : is_among (take i names) item ≡ true = true_from_not _ (sym added ∙ c.if-not-branch.true) in
+    let there : is_among (take i names) item ≡ true = not-false _ (sym added ∙ c.if-not-branch.true) in
     sym (again_found names i c.loop-i-test.true c.loop-i.invariant.0 (ap (is_among (take i names)) (sym name) ∙ there))
 
 pub loop-i-preserved : goal.loop-i-preserved
@@ -28,7 +28,7 @@ loop-i-preserved c =
     let more : take (i + 1) names ≡ before ++ item ∷ [] = take_more names i [] c.loop-i-test.true ∙ ap (λ x. before ++ x ∷ []) (sym name) in
     let key : Bor (List ℕ) = record { ref_ptr = (0, 0); now = item } in
     let added : c.in_ok-insert.field-0 ≡ not (is_among before item) = c.in_ok-insert.ensures.added ∙ ap not (c.loop-i.invariant.1 key) in
-    let out : is_among before item ≡ false = false_from_not _ (sym added ∙ c.if-not-branch.false) in (
+    let out : is_among before item ≡ false = not-true _ (sym added ∙ c.if-not-branch.false) in (
       below_more _ _ c.loop-i.invariant.0 (ap (is_among before) (sym name) ∙ out),
       subst (HoldsNames c.insert.new.self) (sym more) (holds_more (λ (k : Bor (List ℕ)). k.now) _ _ key before c.in_ok-insert.ensures.updates.0 c.loop-i.invariant.1),
     )

@@ -1,6 +1,6 @@
-use Rattle.std.proofs.Common.{◌≡◌, ◌∙◌, ◌+◌, ◌++◌, ◌∷◌, [], List, ℕ, Bor, true, false, not, cond, sym, ap, take, get_or, append-nil, rules}
+use Rattle.std.proofs.Common.{◌≡◌, ◌∙◌, ◌+◌, ◌++◌, ◌∷◌, [], List, ℕ, Bor, true, false, not, cond, sym, ap, take, append-nil, rules}
 use Rattle.std.specs.Prelude.{filter}
-use Rattle.std.proofs.lemmas.List.{take_all, take_more, get_or_default}
+use Rattle.std.proofs.lemmas.List.{take_all, take_more}
 use Rattle.par2_spec.specs.Names.{is_among}
 use Rattle.par2_plan.specs.Matches.{intact_by}
 use Rattle.par2_plan.proofs.Choices.{filter_push}
@@ -13,8 +13,7 @@ loop-name-preserved c =
     let i = c.loop-name.name-index in
     let item : List ℕ = c.name-item.result in
     let before : List (List ℕ) = take i names in
-    let name : item ≡ get_or names i [] = c.name-item.is ∙ get_or_default names i _ [] c.loop-name-test.true in
-    let more : take (i + 1) names ≡ before ++ item ∷ [] = take_more names i [] c.loop-name-test.true ∙ ap (λ x. before ++ x ∷ []) (sym name) in
+    let more : take (i + 1) names ≡ before ++ item ∷ [] = take_more names i item c.loop-name-test.true ∙ ap (λ x. before ++ x ∷ []) (sym c.name-item.is) in
     let key : Bor (List ℕ) = record { ref_ptr = c.args.candidates.ref_ptr; now = item } in
     let all : List (List ℕ) = intact_by c.args.needing.now c.args.set.now.targets in
     let free = λ (n : List ℕ). not (is_among all n) in

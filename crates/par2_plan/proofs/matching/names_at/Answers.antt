@@ -1,12 +1,12 @@
 use Rattle.std.proofs.Common.{◌∙◌, ◌<◌, ◌++◌, ◌∷◌, [], List, ℕ, length, map, sym, ap, ap₂}
 use Rattle.std.specs.Prelude.{Option, None, option_map, IfSome}
 use Rattle.std.proofs.lemmas.List.{map_more, take_all}
+use Rattle.std.proofs.lemmas.List.Elements.{All-from_recursion}
 use Rattle.par2_search.specs.Matching.{text_at}
-use Rattle.par2_plan.proofs.SliceLists.{all_get}
 use Rattle.par2_plan.proofs.matching.names_at.Goals as goal
 
 pub name_at-requires : goal.name_at-requires
-name_at-requires c = all_get (λ number. IfSome number (λ i. i < length c.args.names.now)) c.args.numbers.now c.loop-number.number-index None c.loop-number-test.true c.requires
+name_at-requires c = All-from_recursion (λ number. IfSome number (λ i. i < length c.args.names.now)) c.args.numbers.now c.requires c.loop-number.number-index None c.loop-number-test.true
 
 pub loop-number-preserved : goal.loop-number-preserved
 loop-number-preserved c =

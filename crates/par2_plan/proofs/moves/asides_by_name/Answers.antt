@@ -6,8 +6,9 @@ use Rattle.std.specs.Slice.Iter.{iter_rest}
 use Rattle.std.proofs.lemmas.Slice.Zip.{Zip-more}
 use Rattle.par2_spec.specs.Names.{is_among}
 use Rattle.par2_plan.specs.Matches.{name_cmp}
-use Rattle.par2_plan.proofs.Pairs.{firsts, asides_with_rest}
+use Rattle.par2_plan.proofs.Pairs.{asides_with_rest}
 use Rattle.par2_plan.proofs.moves.asides_by_name.Goals as goal
+use Rattle.par2_plan.proofs.SliceLists.{heads}
 
 pub loop-name-preserved : goal.loop-name-preserved
 loop-name-preserved c = λ aside e.
@@ -18,7 +19,7 @@ loop-name-preserved c = λ aside e.
     let value : Bor (List ℕ) = c.in-Some.aside in
     let names : List (List ℕ) = iter_rest (zip_first c.next.new.self) in
     let asides : List (List ℕ) = iter_rest (zip_second c.next.new.self) in
-    let own = firsts value.now (aside key.now) asides (map aside names) (sym more.1 ∙ now.0 ∙ ap (map aside) more.0) in (
+    let own = heads value.now (aside key.now) asides (map aside names) (sym more.1 ∙ now.0 ∙ ap (map aside) more.0) in (
       own.1,
       λ q. asides_with_rest aside c.loop-name.tree c.insert.new.self key value names q (c.in_ok-insert.ensures.updates.0 q) own.0
           ∙ ap (λ ns. if is_among ns q.now then Some (aside q.now) else option_map (λ (found : Bor (List ℕ)). found.now) (get name_cmp c.loop-name.tree q)) (sym more.0)

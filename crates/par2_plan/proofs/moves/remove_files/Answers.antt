@@ -1,5 +1,5 @@
-use Rattle.std.proofs.Common.{◌≡◌, ◌∙◌, ◌+◌, ◌++◌, ◌∷◌, [], List, ℕ, Bor, true, false, not, cond, sym, ap, take, get_or, append-nil, append_assoc, rules}
-use Rattle.std.proofs.lemmas.List.{take_more, get_or_default}
+use Rattle.std.proofs.Common.{◌≡◌, ◌∙◌, ◌+◌, ◌++◌, ◌∷◌, [], List, ℕ, Bor, true, false, not, cond, sym, ap, take, append-nil, append_assoc, rules}
+use Rattle.std.proofs.lemmas.List.{take_more}
 use Rattle.par2_spec.specs.Changes.{Change, Remove}
 use Rattle.par2_spec.specs.Names.{is_among}
 use Rattle.par2_plan.specs.Repairing.{files_removed}
@@ -13,8 +13,7 @@ loop-name-preserved c = λ given h.
     let i = c.loop-name.name-index in
     let item : List ℕ = c.name-item.result in
     let before : List (List ℕ) = take i names in
-    let name : item ≡ get_or names i [] = c.name-item.is ∙ get_or_default names i _ [] c.loop-name-test.true in
-    let more : take (i + 1) names ≡ before ++ item ∷ [] = take_more names i [] c.loop-name-test.true ∙ ap (λ x. before ++ x ∷ []) (sym name) in
+    let more : take (i + 1) names ≡ before ++ item ∷ [] = take_more names i item c.loop-name-test.true ∙ ap (λ x. before ++ x ∷ []) (sym c.name-item.is) in
     let key : Bor (List ℕ) = record { ref_ptr = c.args.names.ref_ptr; now = item } in
     let test : c.contains.result ≡ is_among given item = c.contains.ensures ∙ h key in
     let old : List Change = c.args.changes.now in

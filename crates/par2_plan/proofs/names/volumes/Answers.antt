@@ -1,11 +1,12 @@
 use Rattle.std.proofs.Common.{◌≡◌, ◌++◌, ◌∙◌, inl, inr, sym, ap, subst, None, Some, ◌⊎◌, arith}
 use Rattle.std.proofs.lemmas.Result.{err_from_is_err_and}
+use Rattle.std.specs.Prelude.{IfErr}
 use Rattle.par2_spec.specs.declared.Fault.{Fault}
 use Rattle.par2_spec.specs.declared.Fault.TheVariants.{Memory}
+use Rattle.par2_spec.proofs.TestLaws.{err_again}
 use Rattle.par2_plan.specs.Faults.{long_name}
 use Rattle.par2_plan.specs.Outputs.{volume_if, volumes_of, names_of}
 use Rattle.par2_plan.proofs.VolumeNumbers.{volumes_below, volumes_more, none_long, one_is_long}
-use Rattle.par2_plan.proofs.Present.{refused_so}
 use Rattle.par2_plan.proofs.names.volumes.Goals as goal
 
 pub loop-i-preserved : goal.loop-i-preserved
@@ -27,7 +28,7 @@ pub returns-in_err-add_volume-clause-refused : goal.returns-in_err-add_volume-cl
 returns-in_err-add_volume-clause-refused c =
     let fault : Fault = c.in_err-add_volume.field-0.0 in
     let IsCause : Fault → Type 0 = (λ fault. (fault ≡ Memory) ⊎ (long_name (names_of (volumes_of c.args.base.now c.args.first c.args.count)) ≡ Some fault)) in
-    refused_so _ IsCause fault (err_from_is_err_and c.from_residual.result c.from_residual.ensures.1)
+    err_again (λ r. IfErr r IsCause) c.from_residual.result fault (err_from_is_err_and c.from_residual.result c.from_residual.ensures.1)
     (elim c.in_err-add_volume.ensures.refused as (λ _. IsCause fault) [
       | inl memory ↦ inl memory
       | inr long ↦ inr (one_is_long c.args.base.now c.args.first c.args.count c.loop-i.i fault c.loop-i-test.true long)

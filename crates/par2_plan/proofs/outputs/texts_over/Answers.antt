@@ -1,16 +1,16 @@
 use Rattle.std.proofs.Common.{◌∙◌, ◌≤◌, ◌+◌, ◌++◌, ◌∷◌, [], List, ℕ, Vec, Global, map, sym, ap, ap₂, subst}
 use Rattle.std.proofs.lemmas.List.{map-append, map_more, take_all}
+use Rattle.std.proofs.lemmas.List.Elements.{All-from_recursion}
 use Rattle.par2_spec.specs.Sums.{lists_of}
 use Rattle.par2_plan.specs.Outputs.{volume_text}
 use Rattle.par2_plan.specs.declared.names.Volume.{Volume}
-use Rattle.par2_plan.proofs.SliceLists.{all_get}
 use Rattle.par2_plan.proofs.outputs.texts_over.Goals as goal
 
 pub volume_bytes-requires-clause-exponents : goal.volume_bytes-requires-clause-exponents
 volume_bytes-requires-clause-exponents c =
     let fits = λ (volume : Volume). volume.first + volume.count ≤ 65536 in
     let volumes : List Volume = c.args.volumes.now in
-    subst fits (sym c.volume-item.is) (all_get fits volumes c.loop-volume.volume-index _ c.loop-volume-test.true c.requires.exponents)
+    subst fits (sym c.volume-item.is) (All-from_recursion fits volumes c.requires.exponents c.loop-volume.volume-index _ c.loop-volume-test.true)
 
 pub loop-volume-init : goal.loop-volume-init
 loop-volume-init c = ap (λ (texts : List (Vec ℕ Global)). lists_of texts) c.in_ok-texts.ensures.items

@@ -7,7 +7,8 @@ use Rattle.par2_spec.specs.Plans.{changes_of}
 use Rattle.par2_spec.specs.Refusals.{set_in, refusal, after}
 use Rattle.par2_spec.specs.declared.Fault.{Fault}
 use Rattle.par2_spec.specs.declared.Fault.TheVariants.{Memory}
-use Rattle.par2_plan.proofs.PassedAnswers.{refused_by, err_passed, ok_no_err}
+use Rattle.par2_spec.proofs.SessionLaws.{ok_no_err}
+use Rattle.par2_plan.proofs.PassedAnswers.{refused_by, err_passed}
 use Rattle.par2_plan.proofs.PlanParts.{early_purge, purge_unread, purge_refused, purge_by_set, purge_leads}
 use Rattle.par2_plan.proofs.purge.plan_purge.Goals as goal
 

@@ -1,4 +1,4 @@
-use Rattle.std.proofs.Common.{◌≡◌, ◌<◌, ◌+◌, ◌∙◌, ◌++◌, ◌∷◌, [], ℕ, List, length, map, get_or, sym, ap, ap₂, subst, inl, inr, true, false, not, arith, rules, string_bytes, Some, Ok, Err, Result}
+use Rattle.std.proofs.Common.{◌≡◌, ◌<◌, ◌+◌, ◌∙◌, ◌++◌, ◌∷◌, [], ℕ, List, length, map, get_or, sym, ap, ap₂, subst, inl, inr, true, false, not, arith, rules, string_bytes, Some, Ok, Err, Result, Vec, Global}
 use Rattle.std.specs.Prelude.{option_map, position, ok_or}
 use Rattle.std.proofs.lemmas.Bool.{cases_lt}
 use Rattle.std.proofs.lemmas.Result.{err_from_is_err_and}
@@ -7,10 +7,11 @@ use Rattle.par2_spec.specs.declared.Fault.{Fault}
 use Rattle.par2_spec.specs.declared.Fault.TheVariants.{NoSuchFile}
 use Rattle.par2_spec.specs.Faults.{or_fault}
 use Rattle.par2_spec.specs.Folders.{has}
+use Rattle.par2_spec.proofs.TestLaws.{err_again}
+use Rattle.par2_sets.specs.Steps.{Gives}
 use Rattle.par2_plan.specs.Readings.{present_from}
 use Rattle.par2_plan.proofs.SliceLists.{get_at_place}
 use Rattle.par2_plan.proofs.Places.{found_at, found_nowhere}
-use Rattle.par2_plan.proofs.Present.{passed_on}
 use Rattle.par2_plan.proofs.reading.present_extras.Goals as goal
 
 pub returns-in_err-name : goal.returns-in_err-name
@@ -25,7 +26,7 @@ returns-in_err-name c =
     let fault : ◌≡◌ {A = Fault} c.in_err-name.field-0.0 (NoSuchFile (i + 1)) = cc (c.in_err-name.ensures.value, ap (λ o. ok_or o (NoSuchFile (i + 1))) c.in_err-name.ensures.ok_part) in
     let answer : present_from 1 folder words ≡ Err c.in_err-name.field-0.0 =
     ap (λ o. or_fault (option_map (λ k. NoSuchFile (1 + k)) o) words) place ∙ ap (λ n. Err (NoSuchFile n)) (let e : 1 + i ≡ i + 1 = omega arith in e) ∙ ap Err (sym fault) in
-    passed_on _ _ _ c.in_err-name.field-0.0 (err_from_is_err_and c.from_residual.result c.from_residual.ensures.1) (inr answer)
+    err_again (λ r. Gives (λ (list : Vec (List ℕ) Global). list.items) r (present_from 1 folder words)) c.from_residual.result c.in_err-name.field-0.0 (err_from_is_err_and c.from_residual.result c.from_residual.ensures.1) (inr answer)
 
 pub loop-i-preserved : goal.loop-i-preserved
 loop-i-preserved c =

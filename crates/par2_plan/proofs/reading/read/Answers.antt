@@ -1,16 +1,23 @@
 use Rattle.std.proofs.Common.{◌≡◌, ◌⊎◌, ◌+◌, ◌∙◌, refl, sym, ap, inl, inr, map, string_bytes, true, false, not, Some, None, Err, rules}
-use Rattle.std.specs.Prelude.{ok_or, position}
+use Rattle.std.specs.Prelude.{ok_or, position, Result}
 use Rattle.std.proofs.lemmas.Result.{err_from_is_err_and}
 use Rattle.par2_spec.specs.declared.Fault.{Fault}
 use Rattle.par2_spec.specs.declared.Fault.TheVariants.{NoSuchFile, Memory}
 use Rattle.par2_spec.specs.Folders.{has}
-use Rattle.par2_spec.specs.Sets.{set_of}
+use Rattle.par2_spec.specs.Sets.{ParSet, set_of}
 use Rattle.par2_spec.specs.Refusals.{absent_file, set_in}
+use Rattle.par2_spec.proofs.TestLaws.{err_again}
+use Rattle.par2_sets.specs.Steps.{Gives}
 use Rattle.par2_plan.proofs.PassedAnswers.{answered_so, never_found}
 use Rattle.par2_plan.proofs.Places.{position-map}
-use Rattle.par2_plan.proofs.Present.{passed_on, base_first, extra_first, none_absent, extra_refused, base_absent, extra_absent, all_present}
+use Rattle.par2_plan.proofs.Present.{base_first, extra_first, none_absent, extra_refused, base_absent, extra_absent, all_present}
 use Rattle.par2_plan.proofs.reading.read.Goals.{In_err-base, After-first_absent, In-Some, After-present_extras, After-set_of}
 use Rattle.par2_plan.proofs.reading.read.Goals as goal
+use Rattle.par2_plan.specs.declared.reading.Reading.{Reading}
+
+-- a set that was read, or the fault of that
+abbrev Answers : Result ParSet Fault → Result Reading Fault → Type 0
+Answers set r = Gives (λ (reading : Reading). reading.set) r set
 
 -- the base is absent, and that is the fault
 gone : (c : In_err-base) → (has c.args.folder.now.files c.args.base.now ≡ false) × (c.in_err-base.field-0.0 ≡ NoSuchFile 0)
@@ -40,7 +47,7 @@ of_base c there =
 pub returns-in_err-base-clause-set : goal.returns-in_err-base-clause-set
 returns-in_err-base-clause-set c =
     let is = gone (goal.at.returns-in_err-base-clause-set c).In_err-base in
-    passed_on _ _ _ c.in_err-base.field-0.0 (err_from_is_err_and c.from_residual.result c.from_residual.ensures.1)
+    err_again (Answers (set_in c.args.folder.now.files c.args.base.now (map string_bytes c.args.extras.now))) c.from_residual.result c.in_err-base.field-0.0 (err_from_is_err_and c.from_residual.result c.from_residual.ensures.1)
     (inr (base_absent c.args.folder.now.files c.args.base.now (map string_bytes c.args.extras.now) is.0 ∙ ap Err (sym is.1)))
 
 pub returns-in_err-base-clause-early : goal.returns-in_err-base-clause-early
@@ -67,7 +74,7 @@ returns-in_err-extras-clause-set c =
     let extras = map string_bytes c.args.extras.now in
     let fault = c.in_err-extras.field-0.0 in
     let here = there (goal.at.returns-in_err-extras-clause-set c).After-first_absent in
-    passed_on _ _ _ fault (err_from_is_err_and c.from_residual-in_err-extras.result c.from_residual-in_err-extras.ensures.1) (
+    err_again (Answers (set_in folder base extras)) c.from_residual-in_err-extras.result fault (err_from_is_err_and c.from_residual-in_err-extras.result c.from_residual-in_err-extras.ensures.1) (
     elim c.in_err-extras.ensures as (λ _. (fault ≡ Memory) ⊎ (set_in folder base extras ≡ Err fault)) [
       | inl memory ↦ inl memory
       | inr refused ↦ inr (extra_absent folder base extras here fault refused)
@@ -77,7 +84,7 @@ pub returns-in_err-set-clause-set : goal.returns-in_err-set-clause-set
 returns-in_err-set-clause-set c =
     let at = goal.at.returns-in_err-set-clause-set c in
     let fault = c.in_err-set.field-0.0 in
-    passed_on _ _ _ fault (err_from_is_err_and c.from_residual-in_err-set.result c.from_residual-in_err-set.ensures.1) (
+    err_again (Answers (set_in c.args.folder.now.files c.args.base.now (map string_bytes c.args.extras.now))) c.from_residual-in_err-set.result fault (err_from_is_err_and c.from_residual-in_err-set.result c.from_residual-in_err-set.ensures.1) (
     elim c.in_err-set.ensures.refused as (λ _. (fault ≡ Memory) ⊎ (set_in c.args.folder.now.files c.args.base.now (map string_bytes c.args.extras.now) ≡ Err fault)) [
       | inl memory ↦ inl memory
       | inr refused ↦ inr (of_base at.After-set_of (there at.After-first_absent) ∙ refused)

@@ -10,10 +10,11 @@ use Rattle.par2_spec.specs.Repairs.{rebuilt_targets, AreFew}
 use Rattle.par2_spec.specs.Search.{candidates}
 use Rattle.par2_spec.specs.declared.Fault.{Fault}
 use Rattle.par2_spec.specs.declared.Fault.TheVariants.{Memory}
+use Rattle.par2_spec.proofs.SessionLaws.{same_ok, ok_no_err}
 use Rattle.par2_restore.specs.Restoring.{IsAsDescribed}
 use Rattle.par2_plan.specs.Repairing.{WritesAsDescribed, IsWholeWhereMatched, repair_by}
-use Rattle.par2_plan.proofs.PassedAnswers.{refused_by, joined, err_passed, ok_no_err}
-use Rattle.par2_plan.proofs.PlanParts.{early_repair, repair_unread, whole_if_matched, repair_refused, repair_changes, repair_leads, same_set}
+use Rattle.par2_plan.proofs.PassedAnswers.{refused_by, joined, err_passed}
+use Rattle.par2_plan.proofs.PlanParts.{early_repair, repair_unread, whole_if_matched, repair_refused, repair_changes, repair_leads}
 use Rattle.par2_plan.proofs.repair.plan_repair.Goals.{After-repair_of}
 use Rattle.par2_plan.proofs.repair.plan_repair.Goals as goal
 
@@ -103,6 +104,6 @@ returns-clause-written c =
     let set = c.in_ok-reading.reading.set in
     IfOk-weaker c.repair_of.result (λ _. AllByRecursion IsAsDescribed (rebuilt_targets folder set (candidates folder set c.deref.result.now))) (λ _. WritesAsDescribed folder c.args.base.now extras)
     (λ changes h. λ other e.
-    subst (λ s. AllByRecursion IsAsDescribed (rebuilt_targets folder s (candidates folder s extras))) (same_set set other (sym c.in_ok-reading.ensures.set ∙ e))
+    subst (λ s. AllByRecursion IsAsDescribed (rebuilt_targets folder s (candidates folder s extras))) (same_ok set other (sym c.in_ok-reading.ensures.set ∙ e))
     (subst (λ words. AllByRecursion IsAsDescribed (rebuilt_targets folder set (candidates folder set words))) (c.deref.ensures.value ∙ c.in_ok-reading.ensures.extras) h))
     c.repair_of.ensures.described

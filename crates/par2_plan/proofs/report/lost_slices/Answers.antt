@@ -6,10 +6,11 @@ use Rattle.std.proofs.lemmas.Slice.Zip.{Zip-more, either_empty_from_Zip}
 use Rattle.std.specs.Prelude.{flat_map}
 use Rattle.par2_spec.specs.Checksums.{Pair}
 use Rattle.par2_spec.specs.Sets.{Target}
+use Rattle.par2_spec.proofs.ListsLaws.{all_at}
 use Rattle.par2_plan.specs.Findings.{Standing, AreSized}
 use Rattle.par2_plan.specs.Parts.{lost_from}
 use Rattle.par2_plan.specs.Views.{standing_of, standings_of, missing_in}
-use Rattle.par2_plan.proofs.LostSlices.{lost_step, sized_rest, few_rest, windows_fit, lost_end_of, lost_below, each_below}
+use Rattle.par2_plan.proofs.LostSlices.{lost_step, sized_rest, few_rest, windows_fit, lost_end_of, lost_below}
 use Rattle.par2_plan.proofs.report.lost_slices.Goals as goal
 
 pub loop-target-init : goal.loop-target-init
@@ -87,4 +88,4 @@ returns-clause-low c =
     let sound = c.targets.ensures.sound in
     let few : 0 + length (flat_map (λ (u : Target). u.pairs) set.targets) ≤ 32768 = omega (arith, sound.slices) in
     let all = lost_below 0 32768 set.targets (standings_of set.slice_size c.args.standings.now) c.requires few in
-    each_below 32768 c.loop-target.lost.items (omega arith) (subst (AllByRecursion (λ i. i < 32768)) (sym (returns-clause-numbers c)) all)
+    all_at (λ i. i < 32768) 0 (omega arith) c.loop-target.lost.items (subst (AllByRecursion (λ i. i < 32768)) (sym (returns-clause-numbers c)) all)

@@ -2,15 +2,17 @@ use Rattle.std.proofs.Common.{◌≡◌, ◌∙◌, List, ℕ, sym, ap, map, sub
 use Rattle.std.specs.List.Sorted.{IsStrictlyIncreasing}
 use Rattle.std.proofs.lemmas.Simd.{map-map}
 use Rattle.std.proofs.lemmas.Result.{IfOk-weaker}
+use Rattle.std.proofs.lemmas.Bool.{eqb-true}
+use Rattle.std.proofs.lemmas.List.{nil_from_length}
 use Rattle.par2_spec.specs.Rank.{rank}
 use Rattle.par2_spec.specs.Search.{survivors}
 use Rattle.par2_sets.specs.Slices.{entry_of}
-use Rattle.par2_plan.proofs.LostSlices.{rank_of_nothing, nothing_from}
+use Rattle.par2_plan.proofs.LostSlices.{rank_of_nothing}
 use Rattle.par2_plan.proofs.report.rank_of.Goals as goal
 
 pub returns-then-is_empty : goal.returns-then-is_empty
 returns-then-is_empty c =
-    sym (ap (λ (lost : List ℕ). rank lost (survivors c.args.set.now)) (nothing_from c.args.lost.now (sym c.is_empty.ensures ∙ c.if-is_empty.true)) ∙ rank_of_nothing (survivors c.args.set.now))
+    sym (ap (λ (lost : List ℕ). rank lost (survivors c.args.set.now)) (nil_from_length c.args.lost.now (eqb-true _ _ (sym c.is_empty.ensures ∙ c.if-is_empty.true))) ∙ rank_of_nothing (survivors c.args.set.now))
 
 pub rank-requires-clause-exponents : goal.rank-requires-clause-exponents
 rank-requires-clause-exponents c =

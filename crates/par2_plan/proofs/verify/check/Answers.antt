@@ -1,16 +1,15 @@
-use Rattle.std.proofs.Common.{◌≡◌, ◌∙◌, ◌⊎◌, List, ℕ, Ok, Err, Some, Result, inl, inr, map, string_bytes, sym, ap, subst}
-use Rattle.std.specs.Prelude.{IfErr}
+use Rattle.std.proofs.Common.{◌≡◌, ◌∙◌, List, ℕ, Ok, Err, Some, Result, map, string_bytes, sym, ap}
 use Rattle.std.proofs.lemmas.Result.{err_from_is_err_and}
 use Rattle.par2_spec.specs.Commands.{Verify}
-use Rattle.par2_spec.specs.Refusals.{early_refusal}
+use Rattle.par2_spec.specs.Refusals.{early_refusal, set_in}
 use Rattle.par2_spec.specs.Search.{candidates}
 use Rattle.par2_plan.specs.Findings.{standings}
 use Rattle.par2_plan.specs.Parts.{report_by}
 use Rattle.par2_spec.specs.declared.Fault.{Fault}
-use Rattle.par2_spec.specs.declared.Fault.TheVariants.{Memory}
 use Rattle.par2_spec.specs.Reports as reports
 use Rattle.par2_spec.specs.Reports.{report_in}
-use Rattle.par2_plan.proofs.PassedAnswers.{err_passed, ok_no_err}
+use Rattle.par2_spec.proofs.SessionLaws.{ok_no_err}
+use Rattle.par2_plan.proofs.PassedAnswers.{refused_by, err_passed}
 use Rattle.par2_plan.proofs.PlanParts.{early_verify}
 use Rattle.par2_plan.proofs.ReportValues.{refused_in, answered}
 use Rattle.par2_plan.proofs.verify.check.Goals.{After-report_with}
@@ -42,10 +41,9 @@ returns-in_err-reading-clause-refused c =
     let base = c.args.base.now in
     let extras : List (List ℕ) = map string_bytes c.args.extras.now in
     let fault = c.in_err-reading.field-0.0 in
-    let p = err_from_is_err_and c.from_residual.result c.from_residual.ensures.1 in
-    let why : (fault ≡ Memory) ⊎ (report_in folder base extras ≡ Err fault) =
-    elim c.in_err-reading.ensures.set as (λ _. (fault ≡ Memory) ⊎ (report_in folder base extras ≡ Err fault)) [ inl memory ↦ inl memory | inr refused ↦ inr (refused_in folder base extras fault refused) ] in
-    subst (λ r. IfErr r (λ y. (y ≡ Memory) ⊎ (report_in folder base extras ≡ Err y))) (sym (p.1 ∙ ap Err p.2)) why
+    refused_by (λ y. set_in folder base extras ≡ Err y) (λ y. report_in folder base extras ≡ Err y) c.from_residual.result fault
+    (err_from_is_err_and c.from_residual.result c.from_residual.ensures.1) c.in_err-reading.ensures.set
+    (refused_in folder base extras fault)
 
 pub returns-clause-report : goal.returns-clause-report
 returns-clause-report c =
