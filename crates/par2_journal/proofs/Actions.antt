@@ -1,8 +1,7 @@
 -- What an accepted action makes of a session, and a run of them.
-use Rattle.std.proofs.Common.{◌≡◌, ◌≢◌, ℕ, suc, ◌+◌, ◌<◌, ◌≤◌, List, [], ◌∷◌, length, map, get_or, drop, Ok, Err, Result, true, refl, sym, ap, subst, ◌∙◌, add-one, arith}
-use Rattle.std.proofs.Math.Seq.{drop-cons}
+use Rattle.std.proofs.Common.{◌≡◌, ◌≢◌, ℕ, suc, ◌+◌, ◌<◌, ◌≤◌, List, [], ◌∷◌, length, map, get_or, drop, Ok, Err, Result, true, refl, sym, ap, subst, ◌∙◌, arith}
 use Rattle.std.specs.Prelude.{IsErr, OnErr}
-use Rattle.std.proofs.lemmas.List.{get_or-map, length-map, drop_all}
+use Rattle.std.proofs.lemmas.List.{get_or-map, length-map, drop_all, drop_more}
 use Rattle.par2_spec.specs.Views.{action_of}
 use Rattle.par2_spec.specs.declared.commands.Action as given
 use Rattle.par2_spec.specs.Changes.{Change}
@@ -78,7 +77,7 @@ leads_asked s t action valid leads h = (accepted_next s t action valid leads h).
 module _ (all : List Action) (i : ℕ) (within : i < length all) (action : Action) (read : action ≡ get_or all i action) (start : History) (old new : KeptSession) (n : ℕ)
     (on : (k : ℕ) (end : History) → Run (history_of (session_of_kept old)) (drop i all) k end → Run start all (n + k) end) where
   left : drop i all ≡ action ∷ drop (i + 1) all
-  left = rw add-one (drop-cons all i action within ∙ ap (λ a. a ∷ drop (suc i) all) (sym read))
+  left = drop_more all i action within ∙ ap (λ a. a ∷ drop (i + 1) all) (sym read)
 
   pub on_accepted : LeadsToAfterAsked old.folder.files action → CanWalk old → session_after (session_of_kept old) action ≡ Ok (session_of_kept new)
       → (k : ℕ) (end : History) → Run (history_of (session_of_kept new)) (drop (i + 1) all) k end → Run start all (n + 1 + k) end

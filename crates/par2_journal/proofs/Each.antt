@@ -1,22 +1,14 @@
 -- A loop that has a state take items in order, where each becomes what takes it back.
-use Rattle.std.proofs.Common.{◌≡◌, ℕ, zero, suc, ◌+◌, ◌<◌, ◌≤◌, Bool, true, false, ◌&&◌, List, [], ◌∷◌, ◌++◌, length, map, take, drop, get_or, set, refl, sym, ap, subst, ◌∙◌, append_assoc, append-nil, add-one, drop-cons, arith, length-append, length-drop}
+use Rattle.std.proofs.Common.{◌≡◌, ℕ, zero, suc, ◌+◌, ◌<◌, ◌≤◌, Bool, true, false, ◌&&◌, List, [], ◌∷◌, ◌++◌, length, map, take, drop, get_or, set, sym, ap, subst, ◌∙◌, append_assoc, append-nil, drop-cons, arith, length-append, length-drop}
 use Rattle.std.specs.Prelude.{reverse}
-use Rattle.std.proofs.Math.Seq.{drop-append_seam, take-append_seam}
-use Rattle.std.proofs.lemmas.List.{take_more, take-append-drop, length-take-le, length-reverse, reverse-append, reverse-reverse, get_or-map, map-set, length-map, map-append, take-map, drop-map}
-
-pub set_seam : {X : Type 0} (front : List X) (x y : X) (rest : List X) → set (front ++ x ∷ rest) (length front) y ≡ front ++ y ∷ rest
-set_seam [] x y rest = refl
-set_seam (z ∷ front) x y rest = ap (λ l. z ∷ l) (set_seam front x y rest)
-
-pub map_reversed : {A B : Type 0} (v : A → B) (xs : List A) → map v (reverse xs) ≡ reverse (map v xs)
-map_reversed v [] = refl
-map_reversed v (x ∷ xs) =
-    ap (map v) (reverse-append (x ∷ []) xs) ∙ map-append v (reverse xs) (x ∷ []) ∙ ap (λ l. l ++ v x ∷ []) (map_reversed v xs) ∙ sym (reverse-append (v x ∷ []) (map v xs))
+use Rattle.std.proofs.Math.Seq.{drop-append_seam, set-append_seam, take-append_seam}
+use Rattle.std.proofs.lemmas.List.{take_more, take-append-drop, length-take-le, length-reverse, reverse-append, reverse-reverse, get_or-map, map-set, length-map, take-map, drop-map, drop_more}
+use Rattle.par2_spec.proofs.ListsLaws.{map-reverse}
 
 -- a list of which the front was turned: seen by v, the front is w in reverse
 module _ {A X : Type 0} (v : A → X) (now : List A) (w rest : List X) (seen : map v now ≡ reverse w ++ rest) where
   pub all_reversed : rest ≡ [] → map v (reverse now) ≡ w
-  all_reversed none = map_reversed v now ∙ ap reverse (seen ∙ ap (λ l. reverse w ++ l) none ∙ append-nil (reverse w)) ∙ reverse-reverse w
+  all_reversed none = map-reverse v now ∙ ap reverse (seen ∙ ap (λ l. reverse w ++ l) none ∙ append-nil (reverse w)) ∙ reverse-reverse w
 
   module _ (r : ℕ) (same : length w ≡ r) where
     front_length : length (reverse w) ≡ r
@@ -24,7 +16,7 @@ module _ {A X : Type 0} (v : A → X) (now : List A) (w rest : List X) (seen : m
 
     pub front_reversed : map v (reverse (take r now)) ≡ w
     front_reversed =
-        map_reversed v (take r now)
+        map-reverse v (take r now)
         ∙ ap reverse (sym (take-map v r now) ∙ ap (take r) seen ∙ ap (λ n. take n (reverse w ++ rest)) (sym front_length) ∙ take-append_seam (reverse w) rest)
         ∙ reverse-reverse w
 
@@ -89,7 +81,7 @@ module _ {S X : Type 0} (takes : S → List X → Bool) (after : S → List X �
       whole = take_more given i x lt ∙ ap (λ y. take i given ++ y ∷ []) (sym is_given)
 
       next : drop i given ≡ x ∷ drop (i + 1) given
-      next = rw add-one (drop-cons given i x lt ∙ ap (λ y. y ∷ drop (suc i) given) (sym is_given))
+      next = drop_more given i x lt ∙ ap (λ y. y ∷ drop (i + 1) given) (sym is_given)
 
       all : given ≡ take i given ++ x ∷ drop (i + 1) given
       all = sym (take-append-drop i given) ∙ ap (λ l. take i given ++ l) next
@@ -102,7 +94,7 @@ module _ {S X : Type 0} (takes : S → List X → Bool) (after : S → List X �
         after_them = moved ∙ ap (λ s. step s x) so_far.after_them ∙ sym (after_more start (take i given) x) ∙ ap (after start) (sym whole);
         items = ap (λ l. set l i y) (so_far.items ∙ ap (λ l. done ++ l) next)
             ∙ ap (λ n. set (done ++ x ∷ drop (i + 1) given) n y) (sym (done_length le))
-            ∙ set_seam done x y (drop (i + 1) given)
+            ∙ set-append_seam done x (drop (i + 1) given) y
             ∙ sym (append_assoc done (y ∷ []) (drop (i + 1) given))
             ∙ ap (λ l. l ++ drop (i + 1) given) (ap (λ z. done ++ z ∷ []) (turned ∙ ap (λ s. turn s x) so_far.after_them)
             ∙ sym (reverse-append (turn (after start (take i given)) x ∷ []) (back start (take i given)))

@@ -1,28 +1,21 @@
 -- The entries of a session before and after one of them was turned.
-use Rattle.std.proofs.Common.{◌≡◌, ℕ, ◌+◌, ◌<◌, ◌≤◌, List, [], ◌∷◌, ◌++◌, length, get_or, set, take, drop, sym, ap, ◌∙◌, add-one, arith}
+use Rattle.std.proofs.Common.{◌≡◌, ℕ, ◌+◌, ◌<◌, ◌≤◌, List, [], ◌∷◌, ◌++◌, length, get_or, set, take, drop, sym, ap, ◌∙◌, arith}
 use Rattle.std.specs.Prelude.{reverse}
 use Rattle.std.specs.List.{insert}
 use Rattle.std.proofs.lemmas.List.Edits.{insert_end, length-insert}
 use Rattle.std.proofs.Common.{length-take}
-use Rattle.std.proofs.Math.Seq.{drop-cons}
-use Rattle.std.proofs.lemmas.List.{take_all, drop_all, take_more, take_more_set, take-set, drop-set, reverse-append, drop-set-lt}
+use Rattle.std.proofs.lemmas.List.{take_all, drop_all, take_more, take_more_set, take-set, reverse-append, drop-set-lt}
 
 module _ {X : Type 0} (xs : List X) (i : ℕ) (within : i < length xs) where
-  -- the undos up to i and the redos from i on
+  -- the undos up to i
   pub undos_at : (d : X) → reverse (take (i + 1) xs) ≡ get_or xs i d ∷ reverse (take i xs)
   undos_at d = ap reverse (take_more xs i d within) ∙ reverse-append (take i xs) (get_or xs i d ∷ [])
-
-  pub redos_at : (d : X) → drop i xs ≡ get_or xs i d ∷ drop (i + 1) xs
-  redos_at d = rw add-one (drop-cons xs i d within)
 
   pub undos_set : (y : X) → reverse (take i (set xs i y)) ≡ reverse (take i xs)
   undos_set y = ap reverse (take-set xs i y)
 
   pub undos_more_set : (y : X) → reverse (take (i + 1) (set xs i y)) ≡ y ∷ reverse (take i xs)
   undos_more_set y = ap reverse (take_more_set xs i y within) ∙ reverse-append (take i xs) (y ∷ [])
-
-  pub redos_set : (y : X) → drop i (set xs i y) ≡ y ∷ drop (i + 1) xs
-  redos_set y = drop-set xs i y within
 
   pub redos_more_set : (y : X) → drop (i + 1) (set xs i y) ≡ drop (i + 1) xs
   redos_more_set y = drop-set-lt (i + 1) xs i y (omega arith)

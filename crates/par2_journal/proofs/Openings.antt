@@ -1,6 +1,8 @@
 -- What a journal opens as.
-use Rattle.std.proofs.Common.{◌≡◌, ◌⊎◌, inl, inr, ℕ, ◌+◌, ◌-◌, ◌≤◌, Bool, true, false, not, ◌&&◌, List, [], ◌∷◌, length, map, take, drop, Option, Some, None, Result, Ok, Err, refl, sym, ap, subst, ◌∙◌, arith}
-use Rattle.std.specs.Prelude.{reverse, position, is_some, IfOk, IfErr, IsTrue, IsFalse, if◌then◌else◌}
+use Rattle.std.proofs.Common.{◌≡◌, ◌⊎◌, inl, inr, ℕ, ◌+◌, ◌-◌, ◌≤◌, Bool, true, false, not, ◌&&◌, List, [], ◌∷◌, length, map, take, drop, Some, None, Result, Ok, Err, refl, sym, ap, subst, ◌∙◌, arith}
+use Rattle.std.proofs.lemmas.Bool.{and_parts, both_ways, false_from_ne_true}
+use Rattle.std.proofs.Math.Logic.{⊎_map}
+use Rattle.std.specs.Prelude.{reverse, position, IfOk, IfErr, IsTrue, IsFalse, if◌then◌else◌}
 use Rattle.std.specs.Cmp.Lexicographic.{pointwise}
 use Rattle.std.specs.Str.{bytes_eq}
 use Rattle.par2_spec.specs.Folders.{Folder, fingerprint}
@@ -17,12 +19,8 @@ use Rattle.par2_journal_bytes.specs.Views.{journal_of}
 use Rattle.par2_journal_bytes.specs.declared.reading.Untested.{Untested}
 use Rattle.par2_journal.specs.Opening.{session_at, journal_with, halfway_as, opened_of, AnswersOpening, OpensAsIs}
 use Rattle.par2_journal.specs.declared.opening.Opened.{Opened}
-use Rattle.par2_spec.proofs.FolderLaws.{takes_applicable, taken_are_applicable, both_first, both_second, more_room_all, state_files}
+use Rattle.par2_spec.proofs.FolderLaws.{takes_applicable, taken_are_applicable, more_room_all, state_files}
 use Rattle.par2_spec.proofs.StopLaws.{through_applies}
-
-false_unless : (a b : Bool) → (a ≡ true → b ≡ true) → b ≡ false → a ≡ false
-false_unless true b f h = let yes : b ≡ true = f refl in cc
-false_unless false b f h = refl
 
 -- changes that apply lead through these fingerprints where they leave them
 pub through_is : (f : Folder) (cs : List Change) (ps : List (List ℕ)) → length ps ≡ length cs → are_applicable f cs ≡ true → leads_through f cs ps ≡ pointwise bytes_eq (map fingerprint (folders_after f cs)) ps
@@ -31,33 +29,17 @@ through_is f [] [] same h = refl
 through_is f [] (p ∷ ps) same h = absurd (omega (arith, same))
 through_is f (c ∷ cs) [] same h = absurd (omega (arith, same))
 through_is f (c ∷ cs) (p ∷ ps) same h =
-    let here = both_first (is_applicable f c) (are_applicable (effect f c) cs) h in
-    let rest = both_second (is_applicable f c) (are_applicable (effect f c) cs) h in
+    let both = and_parts (is_applicable f c) (are_applicable (effect f c) cs) h in
     let fewer : length ps ≡ length cs = omega (arith, same) in
-    ap (λ b. b && bytes_eq (fingerprint (effect f c)) p && leads_through (effect f c) cs ps) here
-    ∙ ap (λ b. bytes_eq (fingerprint (effect f c)) p && b) (through_is (effect f c) cs ps fewer rest)
+    ap (λ b. b && bytes_eq (fingerprint (effect f c)) p && leads_through (effect f c) cs ps) both.0
+    ∙ ap (λ b. bytes_eq (fingerprint (effect f c)) p && b) (through_is (effect f c) cs ps fewer both.1)
 
 pub goes_not : (f : FolderState) (cs : List Change) (ps : List (List ℕ)) → places_taken cs ≤ f.vacant → takes_all f cs ≡ false → false ≡ leads_through f.files cs ps
 goes_not f cs ps room h =
-    sym (false_unless (leads_through f.files cs ps) (takes_all f cs) (λ through. takes_applicable f cs (through_applies f.files cs ps through) room) h)
+    sym (false_from_ne_true (leads_through f.files cs ps) (λ through. both_ways (takes_all f cs) h (takes_applicable f cs (through_applies f.files cs ps through) room)))
 
 pub goes : (f : FolderState) (cs : List Change) (ps prints : List (List ℕ)) → length ps ≡ length cs → takes_all f cs ≡ true → prints ≡ map fingerprint (folders_after f.files cs) → pointwise bytes_eq prints ps ≡ leads_through f.files cs ps
 goes f cs ps prints same h is = ap (λ l. pointwise bytes_eq l ps) is ∙ sym (through_is f.files cs ps same (taken_are_applicable f cs h))
-
--- ---- of sums
-
-pub one_or : {A B C : Type 0} → (B → C) → A ⊎ B → A ⊎ C
-one_or f (inl a) = inl a
-one_or f (inr b) = inr (f b)
-
-pub and_false : (a b : Bool) → b ≡ false → (a && b) ≡ false
-and_false true b h = h
-and_false false b h = refl
-
--- ---- what a `?` answers
-
-pub refused_so : {X E : Type 0} (r : Result X E) (Cause : E → Type 0) (e : E) → (y : E) × (r ≡ Err y) × (y ≡ e) → Cause e → IfErr r Cause
-refused_so r Cause e p h = subst (λ x. IfErr x Cause) (sym (p.1 ∙ ap Err p.2)) h
 
 -- ---- with more room
 
@@ -116,17 +98,13 @@ pub all_refused : {V F : Type 0} (r : Result V F) (view : F → JournalFault) (f
     → IfErr r (λ e. (view e ≡ Memory) ⊎ (defined.opened f j ≡ Err (view e))) → IfErr r (λ e. (view e ≡ Memory) ⊎ defined.Opens f text (Err (view e)))
 unfolding defined.Opens
 all_refused (Ok v) view f text j spells h = tt
-all_refused (Err e) view f text j spells h = one_or (λ same. inl (j, spells, sym same)) h
+all_refused (Err e) view f text j spells h = ⊎_map (λ memory. memory) (λ same. inl (j, spells, sym same)) h
 
 pub no_journal : (f : Folder) (text : List ℕ) → ((j : Journal) → Spells text j → ⊥) → defined.Opens f text (Err JournalInvalid)
 unfolding defined.Opens
 no_journal f text none = inr (none, refl)
 
 -- ---- of a folder as it is
-
-pub none_if : {A : Type 0} (o : Option A) → is_some o ≡ false → o ≡ None
-none_if None h = refl
-none_if (Some x) h = let no : ⊥ = cc h in absurd no
 
 -- what a settled journal opens as, by whether the folder has its fingerprint
 settled_by_print : (f : Folder) (j : Journal) (b : Bool) → j.halfway ≡ None → bytes_eq (fingerprint f) j.fingerprint ≡ b

@@ -1,5 +1,6 @@
 -- What is asked of a session, and what it makes ready.
 use Rattle.std.proofs.Common.{◌≡◌, ◌≢◌, inl, inr, ◌<◌, ◌≤◌, List, [], ◌∷◌, length, map, None, Result, Ok, Err, true, refl, sym, ap, subst, ◌∙◌, arith}
+use Rattle.std.proofs.lemmas.List.{nil_from_length}
 use Rattle.std.specs.Prelude.{IfOk, IfErr, IsErrAnd}
 use Rattle.par2_spec.specs.Changes.{Change, Write, Replace, Rename, Remove, places_taken, are_applicable}
 use Rattle.par2_spec.specs.Commands.{Action, Command, Do, Undo, Redo}
@@ -69,21 +70,16 @@ module _ (old new : KeptSession) (command : Command) (changes : List Change) (ch
   plan_ready (Ok ready) is fits = ready_command ready is fits
   plan_ready (Err fault) is fits = tt
 
+none_is_first : {F : Type 0} (fault : F) (entries : List (List Change)) → length entries ≡ 0 → first_entry fault entries ≡ Err fault
+none_is_first fault entries h = ap (first_entry fault) (nil_from_length entries h)
+
 pub nothing_to_undo : (s : KeptSession) → length s.undos ≡ 0 → MayRefuse Undo s NothingToUndo
 unfolding changes_asked
-nothing_to_undo s none = inr (empty s.undos none)
-  where
-    empty : (entries : List (List Change)) → length entries ≡ 0 → first_entry history.NothingToUndo entries ≡ Err history.NothingToUndo
-    empty [] h = refl
-    empty (entry ∷ entries) h = absurd (omega (arith, h))
+nothing_to_undo s none = inr (none_is_first history.NothingToUndo s.undos none)
 
 pub nothing_to_redo : (s : KeptSession) → length s.redos ≡ 0 → MayRefuse Redo s NothingToRedo
 unfolding changes_asked
-nothing_to_redo s none = inr (empty s.redos none)
-  where
-    empty : (entries : List (List Change)) → length entries ≡ 0 → first_entry history.NothingToRedo entries ≡ Err history.NothingToRedo
-    empty [] h = refl
-    empty (entry ∷ entries) h = absurd (omega (arith, h))
+nothing_to_redo s none = inr (none_is_first history.NothingToRedo s.redos none)
 
 some_there : (entries : List (List Change)) → 0 < length entries → entries ≢ []
 some_there [] h e = absurd (omega (arith, h))

@@ -1,5 +1,5 @@
 -- Entries that can be those of a session.
-use Rattle.std.proofs.Common.{◌≡◌, ℕ, ◌+◌, ◌<◌, ◌≤◌, Bool, true, false, List, [], ◌∷◌, ◌++◌, length, map, take, drop, get_or, refl, sym, ap, ◌∙◌, arith}
+use Rattle.std.proofs.Common.{◌≡◌, ℕ, ◌+◌, ◌<◌, ◌≤◌, List, [], ◌∷◌, ◌++◌, length, map, take, drop, get_or, sym, ap, ◌∙◌, arith}
 use Rattle.std.specs.Prelude.{reverse, sum_by}
 use Rattle.std.proofs.lemmas.List.{take_more, map_push, map-append, take-map, drop-map, reverse-reverse, take-append-drop}
 use Rattle.std.proofs.lemmas.List.Sums.{sum_by-take-drop, sum_by-append, sum_by-cons}
@@ -8,16 +8,12 @@ use Rattle.par2_spec.specs.Changes.{Change, FolderState, places_taken}
 use Rattle.par2_spec.specs.Sessions.{walks}
 use Rattle.par2_spec.specs.Opening.{leads}
 use Rattle.par2_spec.proofs.SessionLaws.{walked_leads, leading_walks}
-use Rattle.par2_journal.proofs.Each.{map_reversed}
-
-same_test : (a b : Bool) → (a ≡ true → b ≡ true) → (b ≡ true → a ≡ true) → a ≡ b
-same_test true b f g = sym (f refl)
-same_test false true f g = g refl
-same_test false false f g = refl
+use Rattle.par2_spec.proofs.ListsLaws.{map-reverse}
+use Rattle.par2_spec.proofs.TestLaws.{same_tests}
 
 -- with room enough it is a matter of the files
 pub walks_as_leads : (f : FolderState) (es : List (List Change)) → sum_by places_taken es ≤ f.vacant → walks f es ≡ leads f.files es
-walks_as_leads f es room = same_test (walks f es) (leads f.files es) (walked_leads f es) (λ h. leading_walks f es h room)
+walks_as_leads f es room = same_tests (walks f es) (leads f.files es) (walked_leads f es) (λ h. leading_walks f es h room)
 
 -- the places of one side are among those of all
 pub places_before : (es : List (List Change)) (n : ℕ) → sum_by places_taken (reverse (take n es)) ≤ sum_by places_taken es
@@ -39,7 +35,7 @@ count_more v xs i d n k lt so_far one =
 -- ---- the sides of a list that is seen by v
 
 pub undos_seen : {A X : Type 0} (v : A → X) (xs : List A) (n : ℕ) (front turned : List A) → front ≡ take n xs → turned ≡ reverse front → map v turned ≡ reverse (take n (map v xs))
-undos_seen v xs n front turned cut turn = ap (map v) (turn ∙ ap reverse cut) ∙ map_reversed v (take n xs) ∙ ap reverse (sym (take-map v n xs))
+undos_seen v xs n front turned cut turn = ap (map v) (turn ∙ ap reverse cut) ∙ map-reverse v (take n xs) ∙ ap reverse (sym (take-map v n xs))
 
 pub redos_seen : {A X : Type 0} (v : A → X) (xs : List A) (n : ℕ) (rest : List A) → rest ≡ drop n xs → map v rest ≡ drop n (map v xs)
 redos_seen v xs n rest cut = ap (map v) cut ∙ sym (drop-map v n xs)
@@ -47,5 +43,5 @@ redos_seen v xs n rest cut = ap (map v) cut ∙ sym (drop-map v n xs)
 pub sides_joined : {A X : Type 0} (v : A → X) (xs : List A) (n : ℕ) (walked front rest : List A) → map v walked ≡ reverse (take n (map v xs)) → front ≡ reverse walked → map v rest ≡ drop n (map v xs) → map v (front ++ rest) ≡ map v xs
 sides_joined v xs n walked front rest undos turn redos =
     map-append v front rest
-    ∙ (λ i. (ap (map v) turn ∙ map_reversed v walked ∙ ap reverse undos ∙ reverse-reverse (take n (map v xs))) i ++ redos i)
+    ∙ (λ i. (ap (map v) turn ∙ map-reverse v walked ∙ ap reverse undos ∙ reverse-reverse (take n (map v xs))) i ++ redos i)
     ∙ take-append-drop n (map v xs)

@@ -1,12 +1,13 @@
 -- A session's journals, by the session's fields.
-use Rattle.std.proofs.Common.{◌≡◌, ℕ, zero, suc, ◌+◌, ◌-◌, ◌<◌, ◌≤◌, List, [], ◌∷◌, ◌++◌, length, map, take, drop, get_or, set, Option, Some, None, Result, Ok, Err, Vec, true, refl, sym, ap, subst, ◌∙◌, append-nil, length-set, arith}
+use Rattle.std.proofs.Common.{◌≡◌, ℕ, zero, suc, ◌+◌, ◌-◌, ◌<◌, ◌≤◌, List, [], ◌∷◌, ◌++◌, length, map, take, drop, get_or, set, inl, inr, Option, Some, None, Result, Ok, Err, Vec, true, refl, sym, ap, subst, ◌∙◌, append-nil, length-set, arith}
 use Rattle.std.specs.Prelude.{reverse, IfOk}
 use Rattle.std.specs.declared.alloc.Global.{Global}
 use Rattle.std.proofs.lemmas.List.{reverse-reverse, take-append-drop, length-reverse, length-take-le, reverse-append, get_or_default, drop_all, map-append, take-map}
+use Rattle.std.proofs.lemmas.Bool.{cases_lt}
 use Rattle.par2_spec.specs.Folders.{Folder, fingerprint}
 use Rattle.par2_spec.specs.Changes.{Change, FolderState, effect, effects, folders_after, state_after_all, takes_all, way_back}
 use Rattle.par2_spec.specs.Commands.{Action}
-use Rattle.par2_spec.specs.Sessions.{Session, KeptSession, OnlyGrew, CanWalk, walks, session_of_kept, session_after, session_with, session_unless, kept_done, kept_undone, kept_redone}
+use Rattle.par2_spec.specs.Sessions.{KeptSession, OnlyGrew, CanWalk, walks, session_of_kept, session_after, session_with, session_unless, kept_done, kept_undone, kept_redone}
 use Rattle.par2_spec.specs.Journals.{Journal, Spells}
 use Rattle.par2_spec.specs.Opening.{settled_journal, halfway_journal, halfway_where, journals_of}
 use Rattle.par2_spec.specs.declared.Version.TheVariants.{Two}
@@ -17,10 +18,10 @@ use Rattle.par2_journal.specs.declared.ahead.Next.{Next}
 use Rattle.par2_journal.specs.declared.ahead.Next.TheVariants as ahead
 use Rattle.par2_journal.specs.Spelling.{Turn, SpellsWhere, AreSpelled, HasNext, turn_of, entries_with, halfway_with, settled_with}
 use Rattle.par2_journal.specs.declared.spelling.Journals.{Journals}
-use Rattle.par2_spec.proofs.FolderLaws.{state_files}
-use Rattle.par2_spec.proofs.SessionLaws.{next_taken, same_session}
+use Rattle.par2_spec.proofs.FolderLaws.{state_files, takes_none}
+use Rattle.par2_spec.proofs.SessionLaws.{next_taken, same_session, same_ok}
 use Rattle.par2_journal.proofs.Turns.{at, undone_to, redone_to, next_undo_is, next_redo_is}
-use Rattle.par2_journal.proofs.Ways.{back_length, takes_none}
+use Rattle.par2_journal.proofs.Ways.{back_length}
 
 module _ (xs : List (List Change)) (n : ℕ) (within : n ≤ length xs) where
   pub all_entries : reverse (reverse (take n xs)) ++ drop n xs ≡ xs
@@ -107,23 +108,18 @@ has_next : (xs : List (List Change)) (n : ℕ) (folder : FolderState) (room : �
 has_next xs n folder room (Changing cs) within can = within
 has_next xs zero folder room Undoing within can = absurd (can refl)
 has_next xs (suc n) folder room Undoing within can = (omega arith, within)
-has_next xs n folder room Redoing within can = below xs n (λ over. can (drop_all n xs over))
-  where
-    below : (xs : List (List Change)) (n : ℕ) → (length xs ≤ n → ⊥) → n < length xs
-    below [] n h = absurd (h (omega arith))
-    below (x ∷ xs) zero h = omega arith
-    below (x ∷ xs) (suc n) h = let lt : n < length xs = below xs n (λ le. h (omega (arith, le))) in omega (arith, lt)
+has_next xs n folder room Redoing within can = elim (cases_lt n (length xs)) as (λ _. n < length xs) [
+  | inl lt ↦ lt
+  | inr over ↦ absurd (can (drop_all n xs over))
+]
 
 -- ---- of what was prepared for an action
-
-ok_same : {F : Type 0} (x : Result Session F) (a b : Session) → x ≡ Ok a → x ≡ Ok b → a ≡ b
-ok_same x a b e h = cc
 
 pub asked_session : (action : Action) (before s : KeptSession) (ready : Ready) → OnlyGrew before s → IsReady action before ready s
     → session_of_kept (after_commit ready.kind s) ≡ session_with (session_of_kept s) action (changes_by_kind ready.kind s)
 unfolding session_after
 asked_session action before s ready grew is =
-    let same = ok_same (session_after (session_of_kept before) action) (session_with (session_of_kept before) action (changes_by_kind ready.kind before)) (session_of_kept (after_commit ready.kind s)) (ap (session_unless (session_of_kept before) action) is.asked) is.leads in
+    let same = same_ok (session_with (session_of_kept before) action (changes_by_kind ready.kind before)) (session_of_kept (after_commit ready.kind s)) (sym (ap (session_unless (session_of_kept before) action) is.asked) ∙ is.leads) in
     sym same ∙ (λ i. session_with (sym (same_session before s grew) i) action (sym (same_changes ready.kind before s grew) i))
 
 pub both_spelled : (journals : Journals) (action : Action) (s : KeptSession) (ready : Ready) (before : KeptSession) → OnlyGrew before s → IsReady action before ready s

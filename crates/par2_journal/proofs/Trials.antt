@@ -4,12 +4,12 @@ use Rattle.std.specs.Prelude.{is_none, reverse}
 use Rattle.par2_spec.specs.Changes.{Change, FolderState, change_refusal, inverse, state_after, takes_all, state_after_all, way_back}
 use Rattle.par2_spec.specs.Sessions.{walks}
 use Rattle.par2_spec.specs.declared.ChangeFault.{ChangeFault}
-use Rattle.par2_spec.proofs.FolderLaws.{changes_back}
+use Rattle.par2_spec.proofs.FolderLaws.{changes_back, takes_none}
 use Rattle.std.proofs.lemmas.List.{length-take-le, length-map, map-append, take_all, drop_all, take-append-drop}
 use Rattle.par2_journal.specs.Walks.{state_along, ways_back}
 use Rattle.par2_journal.proofs.Each.{IsTurned, all_reversed, front_reversed, rest_seen, reached}
 use Rattle.par2_journal.proofs.Each as each
-use Rattle.par2_journal.proofs.Ways.{takes_none, takes_next, takes_more, after_none, after_more, back_none, back_more, back_length, walks_none, walks_next, walks_more, along_none, along_one, ways_none, ways_more, ways_length, ways_walk, ways_lead, ways_twice}
+use Rattle.par2_journal.proofs.Ways.{takes_next, takes_more, after_none, after_more, back_none, back_more, back_length, walks_none, walks_next, walks_more, along_none, along_one, ways_none, ways_more, ways_length, ways_walk, ways_lead, ways_twice}
 
 abbrev pub AreTurned : FolderState → FolderState → List Change → List Change → ℕ → Type 0
 AreTurned start state given now i = IsTurned takes_all state_after_all (λ (s : FolderState). way_back s.files) start state given now i

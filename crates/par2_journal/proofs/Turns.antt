@@ -1,12 +1,13 @@
 -- A session before and after an entry at the cursor was turned.
 use Rattle.std.proofs.Common.{◌≡◌, ℕ, ◌+◌, ◌<◌, ◌≤◌, List, ◌∷◌, length, get_or, set, take, drop, sym, ap, subst, ◌∙◌, true}
+use Rattle.std.proofs.lemmas.List.{drop_more, drop-set}
 use Rattle.std.specs.Prelude.{reverse}
 use Rattle.std.specs.List.{insert}
 use Rattle.par2_spec.specs.Changes.{Change, FolderState, takes_all, state_after_all, way_back}
 use Rattle.par2_spec.specs.Sessions.{KeptSession, CanWalk, walks, kept_undone, kept_redone, kept_done, others}
 use Rattle.par2_spec.proofs.SessionLaws.{undone_can_walk, redone_can_walk, done_can_walk, next_taken}
 use Rattle.par2_journal.specs.Ready.{next_of}
-use Rattle.par2_journal.proofs.Entries.{undos_at, redos_at, undos_set, undos_more_set, redos_set, redos_more_set, undos_added, redos_added}
+use Rattle.par2_journal.proofs.Entries.{undos_at, undos_set, undos_more_set, redos_more_set, undos_added, redos_added}
 
 -- the session whose cursor stands at n
 abbrev pub at : FolderState → List (List Change) → ℕ → ℕ → KeptSession
@@ -17,7 +18,7 @@ module _ (xs : List (List Change)) (i : ℕ) (within : i < length xs) (entry : L
   next_undo = undos_at xs i within entry ∙ ap (λ e. e ∷ reverse (take i xs)) (sym is)
 
   next_redo : drop i xs ≡ entry ∷ drop (i + 1) xs
-  next_redo = redos_at xs i within entry ∙ ap (λ e. e ∷ drop (i + 1) xs) (sym is)
+  next_redo = drop_more xs i entry within ∙ ap (λ e. e ∷ drop (i + 1) xs) (sym is)
 
   -- the entry before the cursor can be applied, and so can the one behind it
   pub undo_taken : (n : ℕ) → i + 1 ≡ n → (folder : FolderState) (room : ℕ) → CanWalk (at folder xs n room) → takes_all folder entry ≡ true
@@ -39,7 +40,7 @@ module _ (xs : List (List Change)) (i : ℕ) (within : i < length xs) (entry : L
     undone_here = λ j. record {
       folder = after j;
       undos = (undos_set xs i within turned ∙ ap others (sym next_undo)) j;
-      redos = (redos_set xs i within turned ∙ ap (λ b. b ∷ drop (i + 1) xs) back) j;
+      redos = (drop-set xs i turned within ∙ ap (λ b. b ∷ drop (i + 1) xs) back) j;
       room = room;
     }
 

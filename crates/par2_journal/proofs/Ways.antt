@@ -2,17 +2,14 @@
 use Rattle.std.proofs.Common.{◌≡◌, ℕ, ◌<◌, true, ◌&&◌, get_or, set, List, [], ◌∷◌, ◌++◌, length, refl, sym, ap, ◌∙◌, append_assoc, append-nil, length-append, arith}
 use Rattle.std.specs.Prelude.{is_none}
 use Rattle.std.proofs.lemmas.List.{get_or_default, get_or-set_same, set-set, set-get_or}
+use Rattle.std.proofs.lemmas.Bool.{and_parts, and_from}
 use Rattle.par2_spec.specs.Folders.{Folder}
 use Rattle.par2_spec.specs.Changes.{Change, FolderState, change_refusal, effect, effects, inverse, state_after, takes_all, state_after_all, way_back}
 use Rattle.par2_spec.specs.Sessions.{walks}
-use Rattle.par2_spec.proofs.FolderLaws.{both_first, both_second, both_true, state_files, state_all_back, way_back_taken, changes_back, way_back-append, state_after_all-append}
+use Rattle.par2_spec.proofs.FolderLaws.{state_files, state_all_back, way_back_taken, changes_back, way_back-append, state_after_all-append}
 use Rattle.par2_journal.specs.Walks.{state_along, ways_back, WentForth}
 
 module _ (s : FolderState) where
-  pub takes_none : takes_all s [] ≡ true
-  unfolding takes_all
-  takes_none = refl
-
   pub takes_next : (c : Change) (cs : List Change) → takes_all s (c ∷ cs) ≡ (is_none (change_refusal s c) && takes_all (state_after s c) cs)
   unfolding takes_all
   takes_next c cs = refl
@@ -47,9 +44,8 @@ pub takes_more : (s : FolderState) (cs ds : List Change) → takes_all s cs ≡ 
 unfolding takes_all state_after_all
 takes_more s [] ds h = refl
 takes_more s (c ∷ cs) ds h =
-    let here = both_first (is_none (change_refusal s c)) (takes_all (state_after s c) cs) h in
-    let rest = both_second (is_none (change_refusal s c)) (takes_all (state_after s c) cs) h in
-    ap (λ b. b && takes_all (state_after s c) (cs ++ ds)) here ∙ takes_more (state_after s c) cs ds rest
+    let both = and_parts (is_none (change_refusal s c)) (takes_all (state_after s c) cs) h in
+    ap (λ b. b && takes_all (state_after s c) (cs ++ ds)) both.0 ∙ takes_more (state_after s c) cs ds both.1
 
 pub after_more : (s : FolderState) (cs : List Change) (c : Change) → state_after_all s (cs ++ c ∷ []) ≡ state_after (state_after_all s cs) c
 unfolding state_after_all
@@ -70,9 +66,8 @@ pub walks_more : (s : FolderState) (es ds : List (List Change)) → walks s es �
 unfolding walks state_along
 walks_more s [] ds h = refl
 walks_more s (e ∷ es) ds h =
-    let here = both_first (takes_all s e) (walks (state_after_all s e) es) h in
-    let rest = both_second (takes_all s e) (walks (state_after_all s e) es) h in
-    ap (λ b. b && walks (state_after_all s e) (es ++ ds)) here ∙ walks_more (state_after_all s e) es ds rest
+    let both = and_parts (takes_all s e) (walks (state_after_all s e) es) h in
+    ap (λ b. b && walks (state_after_all s e) (es ++ ds)) both.0 ∙ walks_more (state_after_all s e) es ds both.1
 
 pub along_more : (s : FolderState) (es ds : List (List Change)) → state_along s (es ++ ds) ≡ state_along (state_along s es) ds
 unfolding state_along
@@ -106,32 +101,29 @@ unfolding state_along ways_back walks
 ways_lead s [] h = refl
 ways_lead s (e ∷ es) h =
     let next = state_after_all s e in
-    let here = both_first (takes_all s e) (walks next es) h in
-    let rest = both_second (takes_all s e) (walks next es) h in
+    let both = and_parts (takes_all s e) (walks next es) h in
     along_more (state_along next es) (ways_back next es) (way_back s.files e ∷ [])
-    ∙ ap (λ t. state_after_all t (way_back s.files e)) (ways_lead next es rest) ∙ state_all_back s e here
+    ∙ ap (λ t. state_after_all t (way_back s.files e)) (ways_lead next es both.1) ∙ state_all_back s e both.0
 
 pub ways_walk : (s : FolderState) (es : List (List Change)) → walks s es ≡ true → walks (state_along s es) (ways_back s es) ≡ true
 unfolding state_along ways_back walks
 ways_walk s [] h = refl
 ways_walk s (e ∷ es) h =
     let next = state_after_all s e in
-    let here = both_first (takes_all s e) (walks next es) h in
-    let rest = both_second (takes_all s e) (walks next es) h in
-    walks_more (state_along next es) (ways_back next es) (way_back s.files e ∷ []) (ways_walk next es rest)
-    ∙ ap (λ t. takes_all t (way_back s.files e) && true) (ways_lead next es rest) ∙ both_true _ _ (way_back_taken s e here) refl
+    let both = and_parts (takes_all s e) (walks next es) h in
+    walks_more (state_along next es) (ways_back next es) (way_back s.files e ∷ []) (ways_walk next es both.1)
+    ∙ ap (λ t. takes_all t (way_back s.files e) && true) (ways_lead next es both.1) ∙ and_from _ _ (way_back_taken s e both.0) refl
 
 pub ways_twice : (s : FolderState) (es : List (List Change)) → walks s es ≡ true → ways_back (state_along s es) (ways_back s es) ≡ es
 unfolding state_along ways_back walks
 ways_twice s [] h = refl
 ways_twice s (e ∷ es) h =
     let next = state_after_all s e in
-    let here = both_first (takes_all s e) (walks next es) h in
-    let rest = both_second (takes_all s e) (walks next es) h in
+    let both = and_parts (takes_all s e) (walks next es) h in
     ways_append (state_along next es) (ways_back next es) (way_back s.files e ∷ [])
-    ∙ ap (λ t. way_back t.files (way_back s.files e) ∷ ways_back (state_along next es) (ways_back next es)) (ways_lead next es rest)
-    ∙ ap (λ d. d ∷ ways_back (state_along next es) (ways_back next es)) (changes_back s e here)
-    ∙ ap (λ l. e ∷ l) (ways_twice next es rest)
+    ∙ ap (λ t. way_back t.files (way_back s.files e) ∷ ways_back (state_along next es) (ways_back next es)) (ways_lead next es both.1)
+    ∙ ap (λ d. d ∷ ways_back (state_along next es) (ways_back next es)) (changes_back s e both.0)
+    ∙ ap (λ l. e ∷ l) (ways_twice next es both.1)
 
 -- ---- the way back of changes
 

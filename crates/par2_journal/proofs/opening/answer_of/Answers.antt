@@ -1,15 +1,14 @@
 use Rattle.std.proofs.Common.{◌≡◌, inl, inr, false, refl, sym, ◌∙◌}
 use Rattle.std.specs.Str.{bytes_eq}
-use Rattle.std.proofs.lemmas.Bool.{not-false, not-true}
+use Rattle.std.proofs.lemmas.Bool.{not-false, not-true, false≢true}
 use Rattle.std.proofs.lemmas.Slice.Eq.{bytes_eq-Decides}
-use Rattle.par2_spec.proofs.NamesLaws.{false_true}
 use Rattle.par2_journal.proofs.opening.answer_of.Goals as goal
 
 pub returns-then-ne-clause-refused : goal.returns-then-ne-clause-refused
 returns-then-ne-clause-refused c =
     let digest = c.args.digest.now in
     let other : bytes_eq digest c.args.found.now.text ≡ false = (λ i. bytes_eq digest (sym c.as_slice.ensures i)) ∙ not-true _ (sym c.ne.ensures ∙ c.if-ne.true) in
-    inl (refl, λ same. false_true (sym other ∙ (bytes_eq-Decides digest c.args.found.now.text).1 same))
+    inl (refl, λ same. false≢true (sym other ∙ (bytes_eq-Decides digest c.args.found.now.text).1 same))
 
 pub returns-then-ne-2-clause-refused : goal.returns-then-ne-2-clause-refused
 returns-then-ne-2-clause-refused c =

@@ -1,9 +1,10 @@
 use Rattle.std.proofs.Common.{◌≡◌, sym, ap, subst, ◌∙◌}
 use Rattle.std.specs.Prelude.{IfOk}
 use Rattle.par2_spec.specs.Opening.{is_valid}
+use Rattle.par2_spec.proofs.TestLaws.{none_if}
 use Rattle.par2_journal_bytes.specs.Views.{entries_of, halfway_of, journal_of}
 use Rattle.par2_journal.specs.Opening.{session_at}
-use Rattle.par2_journal.proofs.Openings.{none_if, settled_as_is}
+use Rattle.par2_journal.proofs.Openings.{settled_as_is}
 use Rattle.par2_journal.proofs.opening.opens_as_is.Goals as goal
 
 pub returns-clause-opens : goal.returns-clause-opens

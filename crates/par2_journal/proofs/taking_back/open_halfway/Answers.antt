@@ -1,8 +1,9 @@
 use Rattle.std.proofs.Common.{◌≡◌, ◌⊎◌, ◌-◌, ◌&&◌, ◌∷◌, List, Ok, Err, Some, length, drop, sym, ap, ◌∙◌, arith}
-use Rattle.std.specs.Prelude.{position, reverse, take}
+use Rattle.std.specs.Prelude.{position, reverse, take, IfErr}
 use Rattle.std.specs.Str.{bytes_eq}
 use Rattle.std.proofs.lemmas.List.{length-map, drop-map}
 use Rattle.std.proofs.lemmas.Result.{err_from_is_err_and}
+use Rattle.std.proofs.Math.Logic.{⊎_map}
 use Rattle.par2_spec.specs.Changes.{Change, FolderState, effects}
 use Rattle.par2_spec.specs.Folders.{fingerprint}
 use Rattle.par2_spec.specs.Opening as defined
@@ -10,10 +11,11 @@ use Rattle.par2_spec.specs.Opening.{is_valid, leads_through}
 use Rattle.par2_spec.specs.Sessions.{session_of_kept}
 use Rattle.par2_spec.specs.declared.JournalFault.{JournalFault}
 use Rattle.par2_spec.specs.declared.JournalFault.TheVariants.{Memory}
+use Rattle.par2_spec.proofs.TestLaws.{err_again}
 use Rattle.par2_folder.specs.Views.{change_of}
 use Rattle.par2_journal_bytes.specs.Views.{changes_in, entries_of}
 use Rattle.par2_journal.specs.Opening.{session_at, halfway_as}
-use Rattle.par2_journal.proofs.Openings.{one_or, refused_so, halfway_ok, halfway_refused}
+use Rattle.par2_journal.proofs.Openings.{halfway_ok, halfway_refused}
 use Rattle.par2_journal.proofs.taking_back.open_halfway.Goals.{After-take_back}
 use Rattle.par2_journal.proofs.taking_back.open_halfway.Goals as goal
 
@@ -50,7 +52,7 @@ returns-in_err-session-clause-refused c =
     let here = (goal.at.returns-in_err-session-clause-refused c).After-take_back in
     let all = changes_in c.args.back.items in
     let same = ap (λ w. leads_through c.args.folder.files (way here) w && is_valid (session_at (effects c.args.folder.files (way here)) c.args.cursor (entries_of c.args.entries.items))) (sym c.deref.ensures.value) in
-    refused_so _ (λ (e : JournalFault × FolderState). (e.0 ≡ Memory) ⊎ (halfway_as c.args.folder.files c.args.first c.args.cursor (entries_of c.args.entries.items) c.args.others.now all ≡ Err e.0))
+    err_again (λ r. IfErr r (λ (e : JournalFault × FolderState). (e.0 ≡ Memory) ⊎ (halfway_as c.args.folder.files c.args.first c.args.cursor (entries_of c.args.entries.items) c.args.others.now all ≡ Err e.0))) c.from_residual.result
     c.in_err-session.field-0.0 (err_from_is_err_and c.from_residual.result c.from_residual.ensures.1)
-    (one_or (λ p. halfway_refused c.args.folder.files c.args.first c.args.cursor (entries_of c.args.entries.items) c.args.others.now all (way here) c.in-Ok-Some.wanted.items (place here) (list here) (cut here) (same ∙ p.1) ∙ ap Err (sym p.0))
+    (⊎_map (λ memory. memory) (λ p. halfway_refused c.args.folder.files c.args.first c.args.cursor (entries_of c.args.entries.items) c.args.others.now all (way here) c.in-Ok-Some.wanted.items (place here) (list here) (cut here) (same ∙ p.1) ∙ ap Err (sym p.0))
     c.in_err-session.ensures.refused)

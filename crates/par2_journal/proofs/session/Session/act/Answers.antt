@@ -1,8 +1,8 @@
 use Rattle.std.proofs.Common.{◌≢◌, [], Ok, refl, sym, ap, subst, ◌∙◌}
+use Rattle.std.proofs.lemmas.Bool.{false≢true}
 use Rattle.par2_spec.specs.History.{MayBeRefused}
 use Rattle.par2_spec.specs.Sessions.{KeptSession, session_of_kept, session_after, history_of}
 use Rattle.par2_spec.specs.Views.{action_of}
-use Rattle.par2_spec.proofs.NamesLaws.{false_true}
 use Rattle.par2_spec.specs.declared.commands.Action.{Action}
 use Rattle.par2_journal.proofs.Actions.{undo_done, redo_done, undo_refused, redo_refused, of_error}
 use Rattle.par2_journal.proofs.session.Session.act.Goals as goal
@@ -10,7 +10,7 @@ use Rattle.par2_journal.proofs.session.Session.act.Goals as goal
 pub returns-in_ok-undo-in-Undo-clause-done : goal.returns-in_ok-undo-in-Undo-clause-done
 returns-in_ok-undo-in-Undo-clause-done c =
     let undone = c.in_ok-undo-in-Undo.ensures in
-    let some : c.args.self.now.undos ≢ [] = (λ none. false_true (undone.refused.1 none)) in
+    let some : c.args.self.now.undos ≢ [] = (λ none. false≢true (undone.refused.1 none)) in
     ap (λ (a : Action). session_after (session_of_kept c.args.self.now) (action_of a)) c.in-Undo.is
     ∙ undo_done c.args.self.now some
     ∙ ap (λ (s : KeptSession). Ok (session_of_kept s)) (sym undone.undone)
@@ -24,7 +24,7 @@ returns-in_err-undo-in-Undo-clause-refused c =
 pub returns-in_ok-redo-in-Redo-clause-done : goal.returns-in_ok-redo-in-Redo-clause-done
 returns-in_ok-redo-in-Redo-clause-done c =
     let redone = c.in_ok-redo-in-Redo.ensures in
-    let some : c.args.self.now.redos ≢ [] = (λ none. false_true (redone.refused.1 none)) in
+    let some : c.args.self.now.redos ≢ [] = (λ none. false≢true (redone.refused.1 none)) in
     ap (λ (a : Action). session_after (session_of_kept c.args.self.now) (action_of a)) c.in-Redo.is
     ∙ redo_done c.args.self.now some
     ∙ ap (λ (s : KeptSession). Ok (session_of_kept s)) (sym redone.redone)

@@ -44,12 +44,4 @@ returns-clause-run c =
 
 pub returns-clause-undos : goal.returns-clause-undos
 returns-clause-undos c changing =
-    let actions = c.args.actions.now in
-    let all = map action_of actions in
-    let i = c.loop-action.action-index in
-    let start = history_of (session_of_kept c.args.self.now) in
-    let here = history_of (session_of_kept c.loop-action.self) in
-    let n = c.loop-action.accepted in
-    let sum : n + 0 ≡ n = omega arith in
-    let run : Run start all n here = subst (λ m. Run start all m here) sum (c.loop-action.invariant.run 0 here (subst (λ l. Run here l 0 here) (sym (none_left actions i c.loop-action-test.false)) Ended)) in
-    run_leaves start here all n run changing
+    run_leaves (history_of (session_of_kept c.args.self.now)) (history_of (session_of_kept c.loop-action.self)) (map action_of c.args.actions.now) c.loop-action.accepted (returns-clause-run c) changing

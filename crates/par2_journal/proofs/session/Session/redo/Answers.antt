@@ -3,29 +3,29 @@ use Rattle.par2_spec.specs.Sessions.{KeptSession, kept_redone}
 use Rattle.par2_journal.specs.Ready.{next_of}
 use Rattle.par2_journal.specs.Sessions.{kept_session}
 use Rattle.par2_journal.proofs.Turns.{redo_taken, redone_to, redone_walks, next_redo_is}
+use Rattle.par2_journal.proofs.session.Session.redo.Goals.{After-index_mut-entry}
 use Rattle.par2_journal.proofs.session.Session.redo.Goals as goal
+
+-- there is an entry at the cursor
+at_cursor : (c : After-index_mut-entry) → c.self.inside.cursor < length c.self.inside.entries.items
+at_cursor c =
+    let least = c.self.invariant.within in
+    let same = c.self.inside.entries.ok.0 in
+    grind (arith, c.if-at-len.false, c.len.ensures)
 
 pub turn-requires : goal.turn-requires
 turn-requires c =
-    let xs = c.self.inside.entries.items in
-    let i = c.self.inside.cursor in
-    let least = c.self.invariant.within in
-    let same = c.self.inside.entries.ok.0 in
-    let within : i < length xs = grind (arith, c.if-at-len.false, c.len.ensures) in
-    let entry = c.index_mut-entry.result.now in
-    redo_taken xs i within entry c.index_mut-entry.ensures.value c.self.inside.folder _ c.self.invariant.walks
+    let within = at_cursor (goal.at.turn-requires c).After-index_mut-entry in
+    redo_taken _ _ within c.index_mut-entry.result.now c.index_mut-entry.ensures.value c.self.inside.folder _ c.self.invariant.walks
 
 pub invariant_of-self : goal.invariant_of-self
 invariant_of-self c =
     let xs = c.self.inside.entries.items in
     let i = c.self.inside.cursor in
-    let least = c.self.invariant.within in
-    let same = c.self.inside.entries.ok.0 in
-    let within : i < length xs = grind (arith, c.if-at-len.false, c.len.ensures) in
-    let entry = c.index_mut-entry.result.now in
+    let within = at_cursor (goal.at.invariant_of-self c).After-index_mut-entry in
     record {
       within = omega (arith, within, length-set xs i c.turn.new.self);
-      walks = redone_walks xs i within entry c.index_mut-entry.ensures.value c.self.inside.folder c.turn.new.folder _ c.turn.new.self c.turn.ensures.folder c.turn.ensures.way_back c.self.invariant.walks;
+      walks = redone_walks xs i within c.index_mut-entry.result.now c.index_mut-entry.ensures.value c.self.inside.folder c.turn.new.folder _ c.turn.new.self c.turn.ensures.folder c.turn.ensures.way_back c.self.invariant.walks;
       ahead = tt;
     }
 
@@ -33,9 +33,7 @@ pub returns-clause-redone : goal.returns-clause-redone
 returns-clause-redone c =
     let xs = c.self.inside.entries.items in
     let i = c.self.inside.cursor in
-    let least = c.self.invariant.within in
-    let same = c.self.inside.entries.ok.0 in
-    let within : i < length xs = grind (arith, c.if-at-len.false, c.len.ensures) in
+    let within = at_cursor (goal.at.returns-clause-redone c).After-index_mut-entry in
     let entry = c.index_mut-entry.result.now in
     redone_to xs i within entry c.index_mut-entry.ensures.value c.self.inside.folder c.turn.new.folder (vec_capacity c.self.inside.entries - vec_len c.self.inside.entries) c.turn.new.self c.turn.ensures.folder c.turn.ensures.way_back
     ∙ ap (kept_redone (kept_session c.self.inside)) (sym (next_redo_is xs i within entry c.index_mut-entry.ensures.value))
