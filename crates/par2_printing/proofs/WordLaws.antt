@@ -1,7 +1,7 @@
 -- The words of a command by their places.
 use Rattle.std.proofs.Common.{◌≡◌, ◌∙◌, ◌-◌, ◌<◌, ◌≤◌, ℕ, zero, suc, List, [], ◌∷◌, map, length, refl, ap, sym, arith}
 use Rattle.std.proofs.Math.ListN.{get_or}
-use Rattle.std.proofs.lemmas.List.{get_or-map}
+use Rattle.std.proofs.lemmas.List.{get_or-map, get_or_past, length-map}
 use Rattle.par2_spec.specs.Texts.{word_at}
 
 word_at-get_or : (words : List (List ℕ)) (k : ℕ) → word_at words k ≡ get_or words k []
@@ -19,11 +19,7 @@ pub listed_word : {X : Type 0} (f : X → List ℕ) (base : List ℕ) (words : L
 listed_word f base words place word past within =
     sym (get_or-map f words (place - 1) word [] within) ∙ sym (word_at-get_or (map f words) (place - 1)) ∙ further base (map f words) place past
 
-beyond : {X : Type 0} (f : X → List ℕ) (words : List X) (k : ℕ) → length words ≤ k → [] ≡ word_at (map f words) k
-beyond f [] k past = refl
-beyond f (word ∷ words) zero past = absurd (omega (past, arith))
-beyond f (word ∷ words) (suc k) past = beyond f words k (omega (past, arith))
-
 pub no_word : {X : Type 0} (f : X → List ℕ) (base : List ℕ) (words : List X) (place : ℕ) → (place ≡ 0 → ⊥) → length words ≤ place - 1
     → [] ≡ word_at (base ∷ map f words) place
-no_word f base words place past none = beyond f words (place - 1) none ∙ further base (map f words) place past
+no_word f base words place past none =
+    sym (word_at-get_or (map f words) (place - 1) ∙ get_or_past (map f words) (place - 1) [] (omega (arith, none, length-map words f))) ∙ further base (map f words) place past
