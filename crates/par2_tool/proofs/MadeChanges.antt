@@ -1,9 +1,8 @@
 -- Changes that were made one after the other in a store.
 use Rattle.std.proofs.Common.{◌≡◌, ◌<◌, ◌+◌, ℕ, zero, suc, List, [], ◌∷◌, ◌++◌, length, map, get_or, take, IsTrue, refl, sym, ap, subst, ◌∙◌, arith}
-use Rattle.std.proofs.lemmas.List.{take_more}
-use Rattle.std.proofs.lemmas.List.{map-append}
+use Rattle.std.proofs.lemmas.List.{map_more}
+use Rattle.std.proofs.lemmas.Bool.{and_parts}
 use Rattle.par2_spec.specs.Changes as defined
-use Rattle.par2_spec.proofs.FolderLaws.{both_first, both_second}
 use Rattle.par2_spec.specs.Stores.{Contents, with_change}
 use Rattle.par2_folder.specs.declared.change.Change.{Change}
 use Rattle.par2_folder.specs.Views.{change_of}
@@ -27,17 +26,16 @@ pub made_next : (k : Contents) (changes : List Change) (i : ℕ) (item : Change)
     → with_change (with_all_changes k (map change_of (take i changes))) (change_of item) ≡ with_all_changes k (map change_of (take (i + 1) changes))
 made_next k changes i item within is =
     sym (changed_more k (map change_of (take i changes)) (change_of item))
-    ∙ ap (with_all_changes k) (sym (map-append change_of (take i changes) (item ∷ [])))
-    ∙ ap (λ x. with_all_changes k (map change_of (take i changes ++ x ∷ []))) is
-    ∙ ap (λ l. with_all_changes k (map change_of l)) (sym (take_more changes i item within))
+    ∙ ap (λ x. with_all_changes k (map change_of (take i changes) ++ change_of x ∷ [])) is
+    ∙ ap (with_all_changes k) (sym (map_more change_of changes i item within))
 
 -- where changes apply one after the other, each does behind those before it
 applicable_next : (k : Contents) (changes : List Change) (i : ℕ) (item : Change) → i < length changes → item ≡ get_or changes i item → IsTrue (defined.are_applicable k.files (map change_of changes))
     → IsTrue (defined.is_applicable (with_all_changes k (map change_of (take i changes))).files (change_of item))
 unfolding defined.are_applicable
 applicable_next k [] i item within is all = absurd (omega (arith, within))
-applicable_next k (c ∷ cs) zero item within is all = subst (λ x. IsTrue (defined.is_applicable k.files (change_of x))) (sym is) (both_first _ _ all)
-applicable_next k (c ∷ cs) (suc i) item within is all = applicable_next (with_change k (change_of c)) cs i item (omega (arith, within)) is (both_second _ _ all)
+applicable_next k (c ∷ cs) zero item within is all = subst (λ x. IsTrue (defined.is_applicable k.files (change_of x))) (sym is) (and_parts _ _ all).0
+applicable_next k (c ∷ cs) (suc i) item within is all = applicable_next (with_change k (change_of c)) cs i item (omega (arith, within)) is (and_parts _ _ all).1
 
 -- so does it where they were made
 pub applicable_here : (k now : Contents) (changes : List Change) (i : ℕ) (item : Change) → now ≡ with_all_changes k (map change_of (take i changes)) → i < length changes → item ≡ get_or changes i item

@@ -1,5 +1,6 @@
 -- What comes of an action on a store that was opened.
 use Rattle.std.proofs.Common.{◌≡◌, inl, inr, ℕ, List, Option, Some, None, Result, Ok, Err, Bool, true, false, refl, sym, ap, subst, ◌∙◌, arith}
+use Rattle.std.proofs.lemmas.Bool.{false≢true}
 use Rattle.par2_spec.specs.Changes.{Change}
 use Rattle.par2_spec.specs.Commands.{Action, Do, Undo, Redo}
 use Rattle.par2_spec.specs.History as history
@@ -9,7 +10,6 @@ use Rattle.par2_spec.specs.Refusals.{refusal}
 use Rattle.par2_spec.specs.Stores.{Contents}
 use Rattle.par2_spec.specs.declared.Fault.{Fault}
 use Rattle.par2_spec.specs.declared.Fault.TheVariants.{Memory}
-use Rattle.par2_spec.proofs.NamesLaws.{false_true}
 use Rattle.par2_journal.specs.declared.preparation.SessionFault.{SessionFault}
 use Rattle.par2_journal.specs.declared.preparation.SessionFault.TheVariants.{Plan, NothingToUndo, NothingToRedo}
 use Rattle.par2_tool.specs.Holding.{TellsApartAlong, TellsApartBack, OpensAsBefore, OpensAsBeforeOrAfter}
@@ -36,7 +36,7 @@ planned_is_plan (Some fault) cs = refl
 
 at_an_end : (s : Session) (action : Action) (end : history.Refusal) → is_plan {A = List Change} (Err end) ≡ false → changes_asked s action ≡ Err end → IsBack action
 unfolding changes_asked
-at_an_end s (Do command) end is e = absurd (false_true (sym is ∙ ap is_plan (sym e) ∙ planned_is_plan (refusal s.folder command) _))
+at_an_end s (Do command) end is e = absurd (false≢true (sym is ∙ ap is_plan (sym e) ∙ planned_is_plan (refusal s.folder command) _))
 at_an_end s Undo end is e = tt
 at_an_end s Redo end is e = tt
 
@@ -77,12 +77,12 @@ module _ (action : Action) (old mid new : Contents) (s later : KeptSession) (dro
       ]
   perform_failed before after (Refusing NothingToUndo) refused same stopped =
       elim refused.0 [
-        | inl memory ↦ absurd (false_true (ap is_plan_fault memory))
+        | inl memory ↦ absurd (false≢true (ap is_plan_fault memory))
         | inr asked ↦ ended history.NothingToUndo refl asked (same tt)
       ]
   perform_failed before after (Refusing NothingToRedo) refused same stopped =
       elim refused.0 [
-        | inl memory ↦ absurd (false_true (ap is_plan_fault memory))
+        | inl memory ↦ absurd (false≢true (ap is_plan_fault memory))
         | inr asked ↦ ended history.NothingToRedo refl asked (same tt)
       ]
   perform_failed before after Store refused same stopped = λ _ along. all_stops (stopped (along start opened.opens))
@@ -112,12 +112,12 @@ perform_cause action s later before middle after (Refusing (Plan reason)) steady
     ]
 perform_cause action s later before middle after (Refusing NothingToUndo) steady refused =
     elim refused.0 [
-      | inl memory ↦ absurd (false_true (ap is_plan_fault memory))
+      | inl memory ↦ absurd (false≢true (ap is_plan_fault memory))
       | inr asked ↦ ((session_of_kept s, asked), refused.2 ∙ steady)
     ]
 perform_cause action s later before middle after (Refusing NothingToRedo) steady refused =
     elim refused.0 [
-      | inl memory ↦ absurd (false_true (ap is_plan_fault memory))
+      | inl memory ↦ absurd (false≢true (ap is_plan_fault memory))
       | inr asked ↦ ((session_of_kept s, asked), refused.2 ∙ steady)
     ]
 perform_cause action s later before middle after Store steady refused = omega (arith, steady, refused)

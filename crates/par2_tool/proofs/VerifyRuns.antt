@@ -1,5 +1,6 @@
 -- What a verify answers and leaves, and what the other commands leave.
 use Rattle.std.proofs.Common.{◌≡◌, ◌⊎◌, inl, inr, ℕ, List, Some, None, Result, Ok, Err, refl, sym, ap, arith}
+use Rattle.std.proofs.lemmas.Bool.{false≢true}
 use Rattle.std.specs.Prelude.{is_ok}
 use Rattle.par2_spec.specs.Commands.{Do, Verify}
 use Rattle.par2_spec.specs.Folders.{Folder}
@@ -16,7 +17,6 @@ use Rattle.par2_spec.specs.Faults.{fault_of}
 use Rattle.par2_spec.specs.Sessions.{Session, KeptSession, OnlyGrew, session_after, changes_asked, session_unless, changes_unless}
 use Rattle.par2_spec.specs.declared.Fault.{Fault}
 use Rattle.par2_spec.specs.declared.Fault.TheVariants.{Memory}
-use Rattle.par2_spec.proofs.NamesLaws.{false_true}
 use Rattle.par2_journal.specs.Refusals.{MayRefuse}
 use Rattle.par2_journal.specs.declared.preparation.SessionFault.TheVariants.{Plan}
 use Rattle.par2_tool.specs.Performing.{HoldsJournaled, IsWritten}
@@ -28,11 +28,11 @@ module _ (folder : Folder) (base : List ℕ) (extras : List (List ℕ)) where
   read : (found : Result ParSet Fault) (report : Report) → answer_of found ≡ Ok report → fault_of found ≡ None
   unfolding answer_of
   read (Ok set) report e = refl
-  read (Err fault) report e = absurd (false_true (ap is_ok e))
+  read (Err fault) report e = absurd (false≢true (ap is_ok e))
 
   unread : (found : Result ParSet Fault) (fault : Fault) → answer_of found ≡ Err fault → fault_of found ≡ Some fault
   unfolding answer_of
-  unread (Ok set) fault e = absurd (false_true (sym (ap is_ok e)))
+  unread (Ok set) fault e = absurd (false≢true (sym (ap is_ok e)))
   unread (Err reason) fault e = cc
 
   accepted : (report : Report) → report_in folder base extras ≡ Ok report → refusal folder (Verify base extras) ≡ None

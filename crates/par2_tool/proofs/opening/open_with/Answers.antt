@@ -1,6 +1,6 @@
 use Rattle.std.proofs.Common.{inl, Ok, Err, true, false, refl, sym, ap, subst, rules, ◌∙◌}
 use Rattle.par2_spec.specs.Changes.{FolderState}
-use Rattle.par2_spec.specs.Opening.{Opens, Started}
+use Rattle.par2_spec.specs.Opening.{Halfway, Opens, Started}
 use Rattle.par2_spec.specs.Sessions.{Session, KeptSession, session_of_kept}
 use Rattle.par2_spec.specs.Stores.{Contents}
 use Rattle.par2_spec.specs.declared.JournalFault.TheVariants.{JournalInvalid, FolderChanged}
@@ -10,7 +10,12 @@ use Rattle.par2_tool.specs.Opening.{IsOpened}
 use Rattle.par2_tool.proofs.AsIs.{opened_on}
 use Rattle.par2_tool.proofs.MadeChanges.{is_new}
 use Rattle.par2_tool.proofs.Openings.{any_err, holds_settled, opened_taken_back, opens_refused, opens_still, way_applies}
+use Rattle.par2_tool.proofs.opening.open_with.Goals.{In-Ok-Halfway}
 use Rattle.par2_tool.proofs.opening.open_with.Goals as goal
+
+-- what is to be taken back
+opens_so : (g : _) (c : In-Ok-Halfway g) → Opens c.args.folder.files c.args.text.now (Ok (Halfway (session_of_kept (session_before c.in-Ok-Halfway.halfway)) (way_left c.in-Ok-Halfway.halfway)))
+opens_so g c = subst (λ found. Opens c.args.folder.files c.args.text.now (Ok (opened_of found))) c.in-Ok-Halfway.field-0-is c.in-Ok-Halfway.ensures.opened
 
 pub returns-in_err-session-in-Ok-Halfway-clause-unopened : goal.returns-in_err-session-in-Ok-Halfway-clause-unopened
 returns-in_err-session-in-Ok-Halfway-clause-unopened g c honest read =
@@ -19,7 +24,7 @@ returns-in_err-session-in-Ok-Halfway-clause-unopened g c honest read =
     let files = c.args.folder.files in
     let text = c.args.text.now in
     let halfway = c.in-Ok-Halfway.halfway in
-    let opens = subst (λ found. Opens files text (Ok (opened_of found))) c.in-Ok-Halfway.field-0-is c.in-Ok-Halfway.ensures.opened in
+    let opens = opens_so g (goal.at.returns-in_err-session-in-Ok-Halfway-clause-unopened g c).In-Ok-Halfway in
     record {
       refused = search rules;
       stopped = λ apart.
@@ -82,18 +87,18 @@ returns-in_ok-session-in-Ok-Halfway-clause-opened g c honest read =
     let text = c.args.text.now in
     let halfway = c.in-Ok-Halfway.halfway in
     let arm = c.in_ok-session-in-Ok-Halfway in
-    let opens = subst (λ found. Opens files text (Ok (opened_of found))) c.in-Ok-Halfway.field-0-is c.in-Ok-Halfway.ensures.opened in
+    let opens = opens_so g (goal.at.returns-in_ok-session-in-Ok-Halfway-clause-opened g c).In-Ok-Halfway in
     subst (λ (s : KeptSession). IsOpened old new (with_history (session_of_kept s))) (sym arm.ensures.session)
     (opened_taken_back old new files text (session_of_kept (session_before halfway)) (way_left halfway) read opens (arm.ensures.done honest))
 
 pub returns-in_err-session-in-Ok-Halfway-clause-possible : goal.returns-in_err-session-in-Ok-Halfway-clause-possible
 returns-in_err-session-in-Ok-Halfway-clause-possible g c honest read =
     let halfway = c.in-Ok-Halfway.halfway in
-    let opens = subst (λ found. Opens c.args.folder.files c.args.text.now (Ok (opened_of found))) c.in-Ok-Halfway.field-0-is c.in-Ok-Halfway.ensures.opened in
+    let opens = opens_so g (goal.at.returns-in_err-session-in-Ok-Halfway-clause-possible g c).In-Ok-Halfway in
     c.take_back.ensures.possible honest (way_applies (g.S.FolderStore.contents c.args.store.now) _ _ (session_of_kept (session_before halfway)) (way_left halfway) read opens)
 
 pub returns-in_ok-session-in-Ok-Halfway-clause-possible : goal.returns-in_ok-session-in-Ok-Halfway-clause-possible
 returns-in_ok-session-in-Ok-Halfway-clause-possible g c honest read =
     let halfway = c.in-Ok-Halfway.halfway in
-    let opens = subst (λ found. Opens c.args.folder.files c.args.text.now (Ok (opened_of found))) c.in-Ok-Halfway.field-0-is c.in-Ok-Halfway.ensures.opened in
+    let opens = opens_so g (goal.at.returns-in_ok-session-in-Ok-Halfway-clause-possible g c).In-Ok-Halfway in
     c.take_back.ensures.possible honest (way_applies (g.S.FolderStore.contents c.args.store.now) _ _ (session_of_kept (session_before halfway)) (way_left halfway) read opens)

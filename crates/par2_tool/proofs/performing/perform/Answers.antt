@@ -16,7 +16,8 @@ use Rattle.par2_tool.specs.Holding.{TellsApartAlong, OpensAsBeforeOrAfter}
 use Rattle.par2_tool.specs.Performing.{after_write_down, AreSomeMade, HoldsJournaled, IsStoppedAt, IsWritten}
 use Rattle.par2_tool.proofs.Openings.{any_err}
 use Rattle.par2_tool.proofs.VerifyRuns.{as_it_was, verify_leaves, verify_refused, written_by}
-use Rattle.par2_tool.proofs.Stops.{none_made, made_ready, ready_applies, written_holds, written_journal, stopped_opens, asked_in_order}
+use Rattle.par2_tool.proofs.Stops.{IsMadeReady, none_made, made_ready, ready_applies, written_holds, written_journal, stopped_opens, asked_in_order}
+use Rattle.par2_tool.proofs.performing.perform.Goals.{After-write_down}
 use Rattle.par2_tool.proofs.performing.perform.Goals as goal
 
 pub returns-in-Ok-clause-session : goal.returns-in-Ok-clause-session
@@ -52,18 +53,26 @@ returns-in_err-journals-clause-in_order g c honest =
     let asked = changes_asked (session_of_kept c.args.session.now) (command_of c.args.command.now) in
     any_err c.from_residual.result (AreSomeMade asked files files) (none_made files asked)
 
+-- what was made ready, and the changes that were written
+made_of : (g : _) (c : After-write_down g) → IsMadeReady (action_of c.in-Act.action) c.args.session.now c.in-Ok-prepare.prepared c.prepare.new.self
+made_of g c = made_ready c.ready_changes_apply.ensures.applies c.ready_changes_apply.ensures.commits (action_of c.in-Act.action) c.args.session.now c.in-Ok-prepare.prepared c.prepare.new.self c.in-Ok-prepare.ensures.kept c.in-Ok-prepare.ensures.ready c.folder-folder.ensures.walks
+
+changed_so : (g : _) (c : After-write_down g) → map change_of c.changes.result.now ≡ changes_by_kind c.in-Ok-prepare.prepared.kind c.prepare.new.self
+changed_so g c = c.changes.ensures ∙ (λ i. changes_by_kind (c.in_ok-journals.ensures.prepared i).kind (c.in_ok-journals.ensures.unchanged i))
+
 pub returns-in-Ok-write_down-clause-written : goal.returns-in-Ok-write_down-clause-written
 returns-in-Ok-write_down-clause-written g c honest files =
     let ready = c.in-Ok-prepare.prepared in
     let old = c.args.session.now in
     let mid = c.prepare.new.self in
-    let made = made_ready c.ready_changes_apply.ensures.applies c.ready_changes_apply.ensures.commits (action_of c.in-Act.action) old ready mid c.in-Ok-prepare.ensures.kept c.in-Ok-prepare.ensures.ready c.folder-folder.ensures.walks in
+    let at = (goal.at.returns-in-Ok-write_down-clause-written g c).After-write_down in
+    let made = made_of g at in
     let journals = c.in_ok-journals.journals in
     let given = c.in-Act.action in
     let start = g.S.FolderStore.contents c.args.store.now in
     let new = g.S.FolderStore.contents c.write_down.new.store in
     let spelled = c.in_ok-journals.ensures.journals (action_of given) old made.grew made.is in
-    let changed : map change_of c.changes.result.now ≡ changes_by_kind ready.kind mid = c.changes.ensures ∙ (λ i. changes_by_kind (c.in_ok-journals.ensures.prepared i).kind (c.in_ok-journals.ensures.unchanged i)) in
+    let changed = changed_so g at in
     let there : new ≡ after_write_down start journals (changes_by_kind ready.kind mid) = c.in-Ok-write_down.ensures.done honest ∙ ap (after_write_down start journals) changed in
     let after : c.commit.new.self ≡ after_commit ready.kind mid = c.commit.ensures.session ∙ (λ i. after_commit (c.in_ok-journals.ensures.prepared i).kind (c.in_ok-journals.ensures.unchanged i)) in
     let all : HoldsJournaled (session_of_kept (after_commit ready.kind mid)) (after_write_down start journals (changes_by_kind ready.kind mid)) = (
@@ -80,12 +89,13 @@ returns-in-Err-write_down-clause-stopped g c honest files apart =
     let ready = c.in-Ok-prepare.prepared in
     let old = c.args.session.now in
     let mid = c.prepare.new.self in
-    let made = made_ready c.ready_changes_apply.ensures.applies c.ready_changes_apply.ensures.commits (action_of c.in-Act.action) old ready mid c.in-Ok-prepare.ensures.kept c.in-Ok-prepare.ensures.ready c.folder-folder.ensures.walks in
+    let at = (goal.at.returns-in-Err-write_down-clause-stopped g c).After-write_down in
+    let made = made_of g at in
     let journals = c.in_ok-journals.journals in
     let action = action_of c.in-Act.action in
     let start = g.S.FolderStore.contents c.args.store.now in
     let new = g.S.FolderStore.contents c.write_down.new.store in
-    let changed : map change_of c.changes.result.now ≡ changes_by_kind ready.kind mid = c.changes.ensures ∙ (λ i. changes_by_kind (c.in_ok-journals.ensures.prepared i).kind (c.in_ok-journals.ensures.unchanged i)) in
+    let changed = changed_so g at in
     let stop = subst (λ (cs : List defined.Change). IsStoppedAt start journals cs new) changed (c.in-Err-write_down.ensures.stopped honest) in
     let apart_from : TellsApartAlong (session_of_kept old) action = subst (λ (x : Command). TellsApartAlong (session_of_kept old) (command_of x)) c.in-Act.is apart in
     subst (λ (x : Command). OpensAsBeforeOrAfter (session_of_kept old) (command_of x) start new) (sym c.in-Act.is)
@@ -96,31 +106,24 @@ returns-in-Err-write_down-clause-in_order g c honest =
     let ready = c.in-Ok-prepare.prepared in
     let old = c.args.session.now in
     let mid = c.prepare.new.self in
-    let made = made_ready c.ready_changes_apply.ensures.applies c.ready_changes_apply.ensures.commits (action_of c.in-Act.action) old ready mid c.in-Ok-prepare.ensures.kept c.in-Ok-prepare.ensures.ready c.folder-folder.ensures.walks in
+    let at = (goal.at.returns-in-Err-write_down-clause-in_order g c).After-write_down in
+    let made = made_of g at in
     let journals = c.in_ok-journals.journals in
     let start = g.S.FolderStore.contents c.args.store.now in
     let new = g.S.FolderStore.contents c.write_down.new.store in
-    let changed : map change_of c.changes.result.now ≡ changes_by_kind ready.kind mid = c.changes.ensures ∙ (λ i. changes_by_kind (c.in_ok-journals.ensures.prepared i).kind (c.in_ok-journals.ensures.unchanged i)) in
+    let changed = changed_so g at in
     let stop = subst (λ (cs : List defined.Change). IsStoppedAt start journals cs new) changed (c.in-Err-write_down.ensures.stopped honest) in
     subst (λ (x : Command). AreSomeMade (changes_asked (session_of_kept old) (command_of x)) start.files new.files) (sym c.in-Act.is)
     (asked_in_order (action_of c.in-Act.action) old ready mid made start journals new stop)
 
 pub returns-in-Ok-write_down-clause-possible : goal.returns-in-Ok-write_down-clause-possible
 returns-in-Ok-write_down-clause-possible g c honest files =
-    let ready = c.in-Ok-prepare.prepared in
-    let old = c.args.session.now in
-    let mid = c.prepare.new.self in
-    let made = made_ready c.ready_changes_apply.ensures.applies c.ready_changes_apply.ensures.commits (action_of c.in-Act.action) old ready mid c.in-Ok-prepare.ensures.kept c.in-Ok-prepare.ensures.ready c.folder-folder.ensures.walks in
-    let changed : map change_of c.changes.result.now ≡ changes_by_kind ready.kind mid = c.changes.ensures ∙ (λ i. changes_by_kind (c.in_ok-journals.ensures.prepared i).kind (c.in_ok-journals.ensures.unchanged i)) in
+    let at = (goal.at.returns-in-Ok-write_down-clause-possible g c).After-write_down in
     c.write_down.ensures.possible honest
-    (ready_applies (action_of c.in-Act.action) old ready mid made (g.S.FolderStore.contents c.args.store.now) files _ changed)
+    (ready_applies (action_of c.in-Act.action) c.args.session.now c.in-Ok-prepare.prepared c.prepare.new.self (made_of g at) (g.S.FolderStore.contents c.args.store.now) files _ (changed_so g at))
 
 pub returns-in-Err-write_down-clause-possible : goal.returns-in-Err-write_down-clause-possible
 returns-in-Err-write_down-clause-possible g c honest files =
-    let ready = c.in-Ok-prepare.prepared in
-    let old = c.args.session.now in
-    let mid = c.prepare.new.self in
-    let made = made_ready c.ready_changes_apply.ensures.applies c.ready_changes_apply.ensures.commits (action_of c.in-Act.action) old ready mid c.in-Ok-prepare.ensures.kept c.in-Ok-prepare.ensures.ready c.folder-folder.ensures.walks in
-    let changed : map change_of c.changes.result.now ≡ changes_by_kind ready.kind mid = c.changes.ensures ∙ (λ i. changes_by_kind (c.in_ok-journals.ensures.prepared i).kind (c.in_ok-journals.ensures.unchanged i)) in
+    let at = (goal.at.returns-in-Err-write_down-clause-possible g c).After-write_down in
     c.write_down.ensures.possible honest
-    (ready_applies (action_of c.in-Act.action) old ready mid made (g.S.FolderStore.contents c.args.store.now) files _ changed)
+    (ready_applies (action_of c.in-Act.action) c.args.session.now c.in-Ok-prepare.prepared c.prepare.new.self (made_of g at) (g.S.FolderStore.contents c.args.store.now) files _ (changed_so g at))

@@ -1,9 +1,9 @@
 use Rattle.std.proofs.Common.{◌≡◌, inl, inr, false, sym, ap, subst, ◌∙◌}
 use Rattle.std.proofs.lemmas.Result.{err_from_is_err_and}
+use Rattle.std.proofs.lemmas.Bool.{false≢true}
 use Rattle.par2_spec.specs.Sessions.{session_of_kept}
 use Rattle.par2_spec.specs.Views.{command_of}
 use Rattle.par2_spec.specs.declared.Failure.{Failure}
-use Rattle.par2_spec.proofs.NamesLaws.{false_true}
 use Rattle.par2_spec.specs.Opening.{Started}
 use Rattle.par2_tool.specs.Opening.{started_of, IsOpened}
 use Rattle.par2_tool.specs.Performing.{outcome_of}
@@ -70,7 +70,7 @@ returns-in_err-outcome-clause-failed g c honest =
     let refused = c.in_err-outcome.ensures.refused in
     let found = c.in_ok-session.ensures.opened in
     let back : IsBack action → started.dropped ≡ false = (λ is. elim c.else-dropped.branch as (λ _. started.dropped ≡ false) [
-      | else-dropped-via-then-dropped+else-is_back w ↦ absurd (false_true (sym w.if-is_back.false ∙ w.is_back.ensures.all is))
+      | else-dropped-via-then-dropped+else-is_back w ↦ absurd (false≢true (sym w.if-is_back.false ∙ w.is_back.ensures.all is))
       | else-dropped-via-else-dropped w ↦ w.if-dropped.false
     ]) in
     let failing : IsFailed action old new (failure_for fault) = (elim found.1 as (λ _. IsFailed action old new (failure_for fault)) [
