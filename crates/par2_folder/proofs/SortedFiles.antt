@@ -18,7 +18,7 @@ use Rattle.std.proofs.lemmas.List.Sorted.{IsNonDecreasingBy-from_default}
 use Rattle.par2_spec.specs.Folders.{File, Folder, IsFolder, has, names, behind_length, fingerprint}
 use Rattle.md5.specs.Md5.{md5}
 use Rattle.par2_folder.specs.Sorting.{name_cmp, IsSortedByName, folder_of, file_at, IsAt, IsGapFor, IsFile, IsKept}
-use Rattle.par2_spec.proofs.TestLaws.{by_true, is_true}
+use Rattle.par2_spec.proofs.TestLaws.{by_true, is_true, cond-not}
 
 pub same_names : IsAntisymmetric name_cmp
 same_names = slice_cmp-IsAntisymmetric nat_cmp-IsAntisymmetric
@@ -211,10 +211,6 @@ exchanged files h name bytes at here is =
     let made = is_made_of _ _ (entries-insert nat_list_cmp_total (folder_of files) name bytes ∙ ap (put name_cmp name bytes) (files_of files h.sorted) ∙ put_at files h.sorted name bytes at here) in
     record { kept = record { sorted = made.sorted; each = recursion_from_All IsFile (set files at (name, bytes)) (All-set IsFile files at (name, bytes) is (All-from_recursion IsFile files h.each)) }; is = made.folder }
 
-flipped : {A : Type 0} (b : Bool) (x y : A) → cond (not b) x y ≡ cond b y x
-flipped true x y = refl
-flipped false x y = refl
-
 pub removed : (files : List File) → IsKept files → (name : List ℕ) (at : ℕ) → IsAt files name at → Makes (remove files at) (map_of.remove (folder_of files) name)
 removed files h name at here =
     let same = others_at files h.sorted name at here in
@@ -224,7 +220,7 @@ removed files h name at here =
       is = same_map nat_list_cmp_total same_names _ _ (λ q.
           get-from_sorted name_cmp _ q sorted ∙ ap (find name_cmp q) (sym same)
           ∙ find-where_key name_cmp (other name) q (λ x t. ap (λ o. not (is_eq o)) (sym (alike_right nat_list_cmp_total q x name t))) files
-          ∙ flipped (eq_by_cmp name_cmp name q) (find {X = List ℕ} name_cmp q files) None
+          ∙ cond-not (eq_by_cmp name_cmp name q) (find {X = List ℕ} name_cmp q files) None
           ∙ ap (λ b. cond b None (find name_cmp q files)) ((eq_by_cmp_equiv nat_list_cmp_total).symm name q)
           ∙ sym (get-remove nat_list_cmp_total (folder_of files) name q ∙ ap (cond (eq_by_cmp name_cmp q name) None) (get-from_sorted name_cmp files q (by_true h.sorted))));
     }

@@ -1,8 +1,8 @@
 -- What holds of the words of a create with which nothing is wrong.
-use Rattle.std.proofs.Common.{◌≡◌, ℕ, ◌+◌, ◌%◌, ◌≤◌, ◌^◌, List, [], ◌∷◌, length, sym, ◌∙◌, true, false, not, ◌&&◌, None, nat_lt, nat_le, arith, subst}
+use Rattle.std.proofs.Common.{◌≡◌, ℕ, ◌+◌, ◌%◌, ◌≤◌, List, [], ◌∷◌, length, sym, ◌∙◌, true, false, not, ◌&&◌, None, nat_lt, nat_le, arith, subst}
 use Rattle.std.specs.Prelude.{◌==◌, sum_by, IsTrue}
 use Rattle.std.specs.List.{AllByRecursion}
-use Rattle.std.proofs.lemmas.Bool.{and_parts, eqb-true, leb-true, ltb-false, not-false}
+use Rattle.std.proofs.lemmas.Bool.{and_parts, leb-true, ltb-false, not-false}
 use Rattle.std.proofs.lemmas.List.Sorted.{length_permutation, sum_by-IsPermutation}
 use Rattle.par2_spec.specs.Faults.{fault_where, fault_at}
 use Rattle.par2_spec.specs.Names.{is_name, is_par_name}
@@ -17,6 +17,7 @@ use Rattle.par2_spec.proofs.ListsLaws.{all-map}
 use Rattle.par2_spec.proofs.TestLaws.{where_none, all_none, at_none}
 use Rattle.par2_spec.proofs.FilesLaws.{names_of_files}
 use Rattle.par2_spec.proofs.OrderLaws.{moved-all, moved-ordered}
+use Rattle.par2_spec.proofs.ReadLaws.{size_parts}
 use Rattle.par2_plan.proofs.SliceCounts.{slices_counted, few_files}
 use Rattle.par2_plan.specs.Faults.{duplicate_input, files_fault, ids_fault, inputs_fault}
 
@@ -43,12 +44,11 @@ head_passed a h =
     let is_size : is_slice_size a.slice_size ≡ true = not-false _ (where_none _ _ none.0) in
     let are : are_counts a.first a.count ≡ true = not-false _ (where_none _ _ none.1.0) in
     let named : (is_name a.base && is_par_name a.base) ≡ true = not-false _ (where_none _ _ none.1.1.0) in
-    let low = and_parts (a.slice_size % 4 == 0) (nat_le 4 a.slice_size) (and_parts (a.slice_size % 4 == 0 && nat_le 4 a.slice_size) (nat_le a.slice_size (2 ^ 30)) is_size).0 in
-    let four : 4 ≤ a.slice_size = leb-true 4 a.slice_size low.1 in
+    let size = size_parts a.slice_size is_size in
     let both = and_parts (is_name a.base) (is_par_name a.base) named in
     record {
-      positive = omega (arith, four);
-      fours = eqb-true (a.slice_size % 4) 0 low.0;
+      positive = omega (arith, size.1);
+      fours = size.0;
       exponents = leb-true (a.first + a.count) 65536 (and_parts (nat_le a.count 65536 && nat_le a.first 65535) (nat_le (a.first + a.count) 65536) are).1;
       name = both.0;
       par_name = both.1;
