@@ -53,12 +53,7 @@ fn row(bytes: &[u8], at: usize) -> u32x4
     requires { at + 16 ≤ length bytes.now }
     ensures { result ≡ four_words_at bytes.now at }
 {
-    u32x4::from_array([
-        word(bytes, at),
-        word(bytes, at + 4),
-        word(bytes, at + 8),
-        word(bytes, at + 12),
-    ])
+    u32x4::from_le_bytes(u8x16::from_slice(&bytes[at..]))
 }
 
 // The front end makes no struct of vectors whose count of lanes is a parameter.
