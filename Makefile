@@ -1,22 +1,30 @@
-# make demo     builds the program and protects a real file in a fresh folder
-# make test     proves everything from nothing, tries the must-fail edits, runs tests and programs
-# make edits    shows that each function that a must-fail edit changes is refused by itself, which takes half an hour
-# make bench    measures the kernels and whole commands, as ratios within one run
-# make install  puts the program at PREFIX/bin/par2, and its page where man finds it
-# install and bench take CPU=x86-64-v3, for machines that have AVX2; without it the program runs on all that have SSE 4.2.
-# All need the command rt of the toolchain alone.
+# make demo       builds the program and protects a real file in a fresh folder
+# make test       proves everything from nothing, tries the must-fail edits, runs tests and programs
+# make edits      shows that each function that a must-fail edit changes is refused by itself, 
+# make bench      measures the kernels and whole commands, as ratios within one run, and draws two of the tables
+# make install    builds for this machine's processor, and puts the program, its page and its completions below PREFIX
+# make uninstall  removes them
+# make deb        builds a Debian package in out/
+# make pictures   draws the pictures of docs/ anew, from the tables and the map beside them
+#
+# CPU=x86-64-v3 builds for machines that have AVX2, CPU=x86-64-v2 for all that have SSE 4.2: demo, bench and deb do that
+# without the word, and install takes what this machine has. NAME=par2undo installs under another name, beside
+# par2cmdline, whose program is called par2 too. DESTDIR stands before PREFIX.
+# All need the command rt of the toolchain; install and uninstall need it only to build.
 PREFIX ?= $(HOME)/.local
-CPU ?= x86-64-v2
-PROGRAM = crates/par2/out/par2$(if $(filter-out x86-64-v2,$(CPU)),-$(CPU))
+NAME = par2
+CPU ?=
+DEFAULT = x86-64-v2
+export PREFIX NAME DESTDIR ZSH_FUNCTIONS
 
-.PHONY: build demo test edits bench install
+.PHONY: build demo test edits bench install uninstall deb pictures
 
 # Proves what the program stands on and builds it, unless it was built from the same sources.
 build:
-	sh scripts/build "$(CPU)"
+	sh scripts/build "$(or $(CPU),$(DEFAULT))"
 
 demo: build
-	sh scripts/demo "$(CURDIR)/$(PROGRAM)"
+	sh scripts/demo "$(CURDIR)/crates/par2/out/par2$(filter-out %-$(DEFAULT),$(CPU:%=-%))"
 
 test:
 	sh scripts/test
@@ -25,8 +33,16 @@ edits: build
 	python3 scripts/each_change --together
 
 bench:
-	sh scripts/bench "$(CPU)"
+	sh scripts/bench "$(or $(CPU),$(DEFAULT))"
 
-install: build
-	install -D -m 755 $(PROGRAM) "$(PREFIX)/bin/par2"
-	install -D -m 644 docs/par2.1 "$(PREFIX)/share/man/man1/par2.1"
+install:
+	sh scripts/install "$(CPU)"
+
+uninstall:
+	sh scripts/install --remove
+
+deb:
+	sh scripts/package "$(or $(CPU),$(DEFAULT))" $(if $(filter command,$(firstword $(origin NAME))),"$(NAME)")
+
+pictures:
+	sh scripts/pictures
