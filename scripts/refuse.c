@@ -1,6 +1,7 @@
 // Refuses one growth of memory: the one whose number the variable REFUSED gives, counted from 1. It then writes a byte
-// on descriptor 9, so that who started the program sees that there was such a growth. Where the variable LARGEST is set,
-// it refuses each growth to more bytes than that. For LD_PRELOAD.
+// on descriptor 9, so that who started the program sees that there was such a growth; where the variable SHOWN is set it
+// writes one for each growth. Where the variable LARGEST is set, it refuses each growth to more bytes than that. For
+// LD_PRELOAD.
 typedef unsigned long size;
 extern void *__libc_malloc(size bytes);
 extern void *__libc_realloc(void *place, size bytes);
@@ -16,11 +17,14 @@ static int is_refused(size bytes) {
         return 1;
     }
     const char *text = getenv("REFUSED");
-    if (text == 0 || ++seen != atol(text)) {
+    if (text == 0) {
         return 0;
     }
-    write(9, "!", 1);
-    return 1;
+    int is_its_turn = ++seen == atol(text);
+    if (is_its_turn || getenv("SHOWN") != 0) {
+        write(9, "!", 1);
+    }
+    return is_its_turn;
 }
 
 void *malloc(size bytes) { return is_refused(bytes) ? 0 : __libc_malloc(bytes); }

@@ -29,7 +29,7 @@ fn elements_of_a_row(rt: HostRuntime) {
     );
 }
 
-// What the unknown texts are multiplied by and what that gives, what becomes of the equation, and the rank behind it.
+// What the unknown texts are multiplied by and what that gives, what becomes of the equation, and the rank after it.
 type Equation = (&'static [u16], &'static [u8], Offer, usize);
 
 // A number of columns and of bytes, equations, and the texts, or None where the equations leave one open.

@@ -74,7 +74,7 @@ fn gives(
     bytes_in(folder, &name(rt, text)) == bytes
 }
 
-// Files and vacant places, changes and the answer to each, and what is seen behind them.
+// Files and vacant places, changes and the answer to each, and what is seen after them.
 struct Case {
     files: Files,
     vacant: usize,
@@ -162,7 +162,7 @@ fn are_answered(
     true
 }
 
-// Whether a folder is as the case says of what is behind the changes.
+// Whether a folder is as the case says of what is after the changes.
 fn is_behind(rt: &(impl Abort + AllocGlobal), folder: &Folder, case: &Case) -> bool {
     let (text, bytes) = case.read_then;
     folder.vacant() == case.vacant_then
@@ -199,7 +199,7 @@ const DIGEST_OF_ABC: [u8; 16] = [
     0x90, 0x01, 0x50, 0x98, 0x3c, 0xd2, 0x4f, 0xb0, 0xd6, 0x96, 0x3f, 0x7d, 0x28, 0xe1, 0x7f, 0x72,
 ];
 
-// MD5 of nothing, of 01 00 00 00 00 00 00 00 `a` 02 00 00 00 00 00 00 00 `bc`, and of 01 .. `b` 00 .. behind it.
+// MD5 of nothing, of 01 00 00 00 00 00 00 00 `a` 02 00 00 00 00 00 00 00 `bc`, and of 01 .. `b` 00 .. after it.
 const FINGERPRINTS: &[(Files, [u8; 16])] = &[
     (&[], NO_FILES),
     (&[("a", b"bc")], ONE_FILE),

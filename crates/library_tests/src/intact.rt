@@ -47,7 +47,7 @@ fn one_byte_is_another(rt: HostRuntime) {
     }
 }
 
-// Zeros behind the text have the checksums of the padding.
+// Zeros after the text have the checksums of the padding.
 const LENGTHS: &[(&[u8], &[u8])] = &[(b"ab", b"ab\0"), (b"ab\0", b"ab"), (b"", b"a")];
 
 #[test]
@@ -62,7 +62,7 @@ fn is_like_by(bytes: &[u8], pairs: &[Pair]) -> bool {
     is_intact(bytes, 4, bytes.len() as u64, pairs)
 }
 
-// A pair behind the last slice is not compared, nor is a slice behind the last pair.
+// A pair after the last slice is not compared, nor is a slice after the last pair.
 #[test]
 fn another_number_of_pairs(rt: HostRuntime) {
     let many = pairs_of(&rt, TEXT, 4);

@@ -30,6 +30,8 @@ mod plain_elimination;
 #[cfg(test)]
 mod plain_field;
 #[cfg(test)]
+mod ranks;
+#[cfg(test)]
 mod reading;
 #[cfg(test)]
 mod records;

@@ -73,7 +73,7 @@ fn messages<'a>(
     messages
 }
 
-// Whether so many messages behind one piece have the digests of the hasher.
+// Whether so many messages after one piece have the digests of the hasher.
 fn are_digested(rt: &(impl Abort + AllocGlobal), text: &[u8], turn: usize, count: usize) -> bool {
     let messages = messages(rt, text, turn, count);
     let mut state = Midstate::new();
@@ -93,7 +93,7 @@ fn are_of_messages(digests: &[[u8; 16]; 8], text: &[u8], turn: usize, count: usi
     true
 }
 
-// A state behind a piece of its own, and the parts of message k.
+// A state after a piece of its own, and the parts of message k.
 fn pending<'a>(
     rt: &(impl Abort + AllocGlobal),
     text: &'a [u8],
@@ -128,7 +128,7 @@ fn digest_behind(text: &[u8], turn: usize, k: usize) -> [u8; 16] {
     digest_by_the_hasher(before, text, turn, k, piece(text, 7, turn))
 }
 
-// Whether so many states, and a piece behind each, have the digests of the hasher.
+// Whether so many states, and a piece after each, have the digests of the hasher.
 fn are_absorbed(rt: &(impl Abort + AllocGlobal), text: &[u8], turn: usize, count: usize) -> bool {
     let pendings = pendings(rt, text, turn, count);
     if pendings.len() > 8 {

@@ -1,11 +1,11 @@
 //! The expected texts were made by another program, from the format alone.
 
-ghost use Rattle.std.specs.Prelude.{◌+◌, ◌≤◌, length};
+ghost use Rattle.std.specs.Prelude.{◌≡◌, ◌+◌, ◌%◌, ◌≤◌, length};
 
 use crate::set_packets::{add_checksums, add_description, add_main, id_of};
 use par2_packets::{
     DescView, DuplicateId, FileRecord, Kind, Packet, Packets, append_creator, append_recoveries,
-    file_id, read_desc, read_ifsc, read_main, read_recovery, sort_ids,
+    append_recovery, file_id, read_desc, read_ifsc, read_main, read_recovery, sort_ids,
 };
 use std::process::Abort;
 
@@ -71,7 +71,7 @@ const FOX_VOLUME: &str = "\
     f68e674d3ae8a011b258a65e5880a8cdb4c26e63b5d37bc050415220322e300043726561746f72004372656174656420\
     62792070617232636d646c696e652076657273696f6e20302e382e312e000000";
 
-// The bytes of these texts, one behind the other.
+// The bytes of these texts, one after the other.
 fn decoded(rt: &(impl Abort + AllocGlobal), texts: &[&str]) -> Vec<u8> {
     let whole = texts.concat(rt.alloc()).expect(rt, "memory");
     hex::decode(rt.alloc(), &whole).expect(rt, "hexadecimal digits")
@@ -272,7 +272,7 @@ fn lists_of(rt: &(impl Abort + AllocGlobal), texts: &[&[u8]]) -> Vec<Vec<u8>> {
     lists
 }
 
-// Behind the index of a set of this file the recovery slices from an exponent on.
+// After the index of a set of this file the recovery slices from an exponent on.
 fn written_volume(
     rt: &(impl Abort + AllocGlobal),
     file: &FileRecord,
@@ -283,6 +283,35 @@ fn written_volume(
     let lists = lists_of(rt, slices);
     assert!(rt; first < 65536 && lists.len() <= 65536 - first as usize);
     add_recoveries(rt, &mut text, &id_of(4, file), first, &lists);
+    text
+}
+
+fn add_recovery(
+    rt: &(impl Abort + AllocGlobal),
+    out: &mut Vec<u8>,
+    id: &[u8; 16],
+    e: u32,
+    slice: &[u8],
+)
+    requires { length slice.now % 4 ≡ 0 }
+{
+    append_recovery(rt.alloc(), out, id, e, slice).expect(rt, "memory");
+}
+
+// The same volume, whose recovery slices are added one by one.
+fn written_one_by_one(
+    rt: &(impl Abort + AllocGlobal),
+    file: &FileRecord,
+    first: u32,
+    slices: &[&[u8]],
+) -> Vec<u8> {
+    let mut text = written_index(rt, file);
+    let mut e = first;
+    for slice in slices {
+        assert!(rt; slice.len() % 4 == 0);
+        add_recovery(rt, &mut text, &id_of(4, file), e, slice);
+        e = e.wrapping_add(1);
+    }
     text
 }
 
@@ -308,6 +337,22 @@ fn volumes_are_written(rt: HostRuntime) {
             "from {first}"
         );
     }
+}
+
+#[test]
+fn volumes_are_written_one_by_one(rt: HostRuntime) {
+    let file = record_of_a(&rt);
+    for (first, slices, texts, _) in VOLUMES {
+        let volume = written_one_by_one(&rt, &file, *first, slices);
+        assert!(rt; volume == decoded(&rt, texts), "from {first}");
+    }
+}
+
+#[test]
+fn greatest_exponent(rt: HostRuntime) {
+    let mut text = Vec::new(rt.alloc());
+    add_recovery(&rt, &mut text, &[7; 16], u32::MAX, b"abcd");
+    assert!(rt; has_exponents(&rt, &text, &[u32::MAX]));
 }
 
 // Whether a packet, if it is the Main, says that the set has this file alone.
@@ -396,7 +441,7 @@ fn packets_between_other_bytes(rt: HostRuntime) {
     }
 }
 
-// The recovery slice of exponent 2, and a head behind it.
+// The recovery slice of exponent 2, and a head after it.
 fn head_at_the_end(rt: &(impl Abort + AllocGlobal)) -> Vec<u8> {
     [decoded(rt, &[RECOVERY_2]).as_slice(), &false_head(rt, 64)]
         .concat(rt.alloc())

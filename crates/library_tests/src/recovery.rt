@@ -4,8 +4,8 @@ use crate::calls::are_texts;
 use crate::field::field;
 use par2_folder::Folder;
 use par2_gf16::Gf;
-use par2_packets::{DuplicateId, FileRecord};
-use par2_recovery::{RebuildFault, SetRecord, Survivors, rank, recovery_slices_over};
+use par2_packets::FileRecord;
+use par2_recovery::{RebuildFault, RecordFault, SetRecord, Survivors, rank, recovery_slices_over};
 use recovery_calls::{
     folder_of, input_slices_of, lost_rebuilt, recovery_slice_of, recovery_slices_of, set_of,
 };
@@ -21,7 +21,7 @@ fn read_set(
     folder: &Folder,
     names: &[&str],
     s: u64,
-) -> Result<SetRecord, DuplicateId> {
+) -> Result<SetRecord, RecordFault> {
     let set = set_of(rt.alloc(), folder, names, s).expect(rt, "memory");
     set.expect(rt, "names and a size")
 }
@@ -247,7 +247,7 @@ fn recovery_slice_over_texts(rt: HostRuntime) {
 #[test]
 fn one_name_twice(rt: HostRuntime) {
     let answer = read_set(&rt, &two_files(&rt), &["a", "b", "a"], 4);
-    assert!(rt; matches!(answer, Err(DuplicateId)));
+    assert!(rt; matches!(answer, Err(RecordFault::DuplicateId)));
 }
 
 // The recovery slice of an exponent, made alone.
@@ -285,4 +285,18 @@ fn one_by_one(rt: HostRuntime) {
     let folder = folder_with(&rt, &[("a", b"abcdefghijk"), ("b", b"lm"), ("c", b"")]);
     let set = set_with(&rt, &folder, &["a", "b", "c"], 6);
     assert!(rt; are_as_alone(&rt, &set, &folder, &slices_from(&rt, &set, &folder, 5, 4)));
+}
+
+// The powers of a constant come again after 65,535 of them.
+#[test]
+fn exponents_of_any_size(rt: HostRuntime) {
+    let folder = folder_with(&rt, &[("a", b"abcdefgh")]);
+    let set = set_with(&rt, &folder, &["a"], 4);
+    let gf = field(&rt);
+    assert!(rt;
+        slice_alone(&rt, &gf, &set, &folder, 65536).as_slice() == b"\x5d\x4d\x51\x79".as_slice()
+    );
+    assert!(rt;
+        slice_alone(&rt, &gf, &set, &folder, u32::MAX).as_slice() == b"\x04\x04\x04\x0c".as_slice()
+    );
 }

@@ -74,7 +74,7 @@ fn equation(factors: [u16; 4], text: &[u8; 4]) -> Equation {
     [a, b, c, d, first, second]
 }
 
-// The word at a place of bytes behind which zeros follow.
+// The word at a place of bytes after which zeros follow.
 fn word_at(bytes: &[u8], w: usize) -> u16 {
     let at = w.saturating_mul(2);
     let low = bytes.get(at).copied().unwrap_or(0);
@@ -82,7 +82,7 @@ fn word_at(bytes: &[u8], w: usize) -> u16 {
     u16::from_le_bytes([low, high])
 }
 
-// Word w of the recovery slices of exponents 1 and 2 over slices that lie behind each other.
+// Word w of the recovery slices of exponents 1 and 2 over slices that follow each other.
 fn plain_words(bytes: &[u8], w: usize) -> (u16, u16) {
     let mut first = 0;
     let mut second = 0;
@@ -126,7 +126,7 @@ fn plain_answer(rt: &(impl Abort + AllocGlobal), lost: u8, chosen: &[Recovered])
     eliminated(rt, equations)
 }
 
-// The lost slices by the plain answer, one behind the other.
+// The lost slices by the plain answer, one after the other.
 fn plain_texts(rt: &(impl Abort + AllocGlobal), lost: u8, solved: &[Equation]) -> Vec<u8> {
     let mut texts = Vec::new(rt.alloc());
     for (k, equation) in solved.iter().enumerate() {
@@ -176,7 +176,7 @@ fn our_answer(
     rebuilt(rt.alloc(), gf, &survivors).expect(rt, "fitting survivors")
 }
 
-// Whether the texts, one behind the other, are those of the plain answer.
+// Whether the texts, one after the other, are those of the plain answer.
 fn are_plain(
     rt: &(impl Abort + AllocGlobal),
     texts: &[Vec<u8>],

@@ -44,7 +44,7 @@ pub fn record(rt: &(impl Abort + AllocGlobal), id: u8, name: &str, size: u64) ->
     }
 }
 
-/// Puts the Main of one file behind the bytes.
+/// Puts the Main of one file after the bytes.
 pub fn add_main(rt: &(impl Abort + AllocGlobal), out: &mut Vec<u8>, s: u64, file: &FileRecord) {
     append_main(rt.alloc(), out, s, from_ref(file)).expect(rt, "memory");
 }
@@ -146,7 +146,7 @@ const FALSE_DESCRIPTION: &[u8; 60] = b"\
     \x07\x07\x07\x07\x07\x07\x07\x07\x07\x07\x07\x07\x07\x07\x07\x07\
     \x08\0\0\0\0\0\0\0\xff\xff\0\0";
 
-// Puts the bytes of a part behind the others.
+// Puts the bytes of a part after the others.
 fn add_part(rt: &(impl Abort + AllocGlobal), out: &mut Vec<u8>, set: &Parts, part: &Part) {
     match part {
         Part::Main => add(rt, out, &set.main),
@@ -164,7 +164,7 @@ fn add_part(rt: &(impl Abort + AllocGlobal), out: &mut Vec<u8>, set: &Parts, par
     }
 }
 
-/// Puts more bytes behind the others.
+/// Puts more bytes after the others.
 pub fn add(rt: &(impl Abort + AllocGlobal), out: &mut Vec<u8>, bytes: &[u8]) {
     out.extend_from_slice(bytes).expect(rt, "memory");
 }

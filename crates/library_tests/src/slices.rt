@@ -2,8 +2,8 @@ ghost use Rattle.std.specs.Prelude.{◌≤◌, length};
 
 use crate::pairs::pairs_of;
 use par2_slices::{
-    Pair, Rolling, Spot, Wanted, crc32, find_among, padded_crc32, padded_md5, pair_of, slice_bytes,
-    slice_count, slice_into,
+    Pair, Rolling, Spot, Wanted, crc32, find, find_among, padded_crc32, padded_md5, pair_of,
+    slice_bytes, slice_count, slice_into,
 };
 use std::process::Abort;
 
@@ -18,7 +18,7 @@ fn checksums(rt: HostRuntime) {
     assert!(rt; padded_md5(b"abcd", 4) == DIGEST);
 }
 
-// The checksum of the first slice, of `s` bytes, and that behind one slide from `out` to `next`.
+// The checksum of the first slice, of `s` bytes, and that after one slide from `out` to `next`.
 fn rolled(rt: &(impl Abort + AllocGlobal), s: u64, bytes: &[u8], out: u8, next: u8) -> (u32, u32)
     requires size { 1 ≤ s }
     requires room { length bytes.now ≤ s }
@@ -75,6 +75,19 @@ fn spots_of(
 {
     let wanted = Wanted::new(rt.alloc(), pairs).expect(rt, "memory");
     find_among(rt.alloc(), &[bytes], s, &wanted).expect(rt, "memory")
+}
+
+// The offsets at which `find` finds the pairs.
+fn offsets_of(
+    rt: &(impl Abort + AllocGlobal),
+    bytes: &[u8],
+    s: u64,
+    pairs: &[Pair],
+) -> Vec<Option<usize>>
+    requires { 1 ≤ s }
+{
+    let wanted = Wanted::new(rt.alloc(), pairs).expect(rt, "memory");
+    find(rt.alloc(), bytes, s, &wanted).expect(rt, "memory")
 }
 
 // Whether `find_among` finds the pairs at these offsets of one text, for slices of at least one byte.
@@ -145,9 +158,13 @@ const OFFSETS: &[Row] = &[
     ),
 ];
 
+// Whether both searches answer as the row says.
 fn is_as_told(rt: &(impl Abort + AllocGlobal), row: &Row) -> bool {
     let (text, s, slices, offsets) = *row;
-    are_found(rt, text, s, &pairs_with(rt, s, slices), offsets)
+    let pairs = pairs_with(rt, s, slices);
+    s != 0
+        && offsets_of(rt, text, s, &pairs).as_slice() == offsets
+        && are_found(rt, text, s, &pairs, offsets)
 }
 
 #[test]

@@ -8,7 +8,7 @@ use crate::calls::{
 use par2_folder::{FolderStore, FuseStore, MemoryStore, ReadFault, StoreFault};
 use std::process::Abort;
 
-// Whether call k of seven has an answer, on a store with the file `a` and the journal `j` and behind the calls before.
+// Whether call k of seven has an answer, on a store with the file `a` and the journal `j` and after the calls before.
 fn answers<S: FolderStore>(rt: &(impl Abort + AllocGlobal), store: &mut S, k: usize) -> bool {
     match k {
         0 => names_of(rt.alloc(), store).is_ok(),

@@ -32,7 +32,7 @@ const ROWS: &[Row] = &[
         &[b"Xabcdefgh"],
         &[Some(b"abcd"), Some(b"efgh")],
     ),
-    // The zeros behind the end of a text are left out, those in it are not.
+    // The zeros after the end of a text are left out, those in it are not.
     (b"abcdef", &[b"abcdef"], &[Some(b"abcd"), Some(b"ef")]),
     (
         b"abcdef",
@@ -45,7 +45,7 @@ const ROWS: &[Row] = &[
         &[b"xaaaa"],
         &[Some(b"aaaa"), None, Some(b"aaaa")],
     ),
-    // The first text has the slice behind the end, the second one as it stands.
+    // The first text has the slice after the end, the second one as it stands.
     (
         b"ab\0\0efghijklmnop",
         &[b"xxab", b"ab\0\0efgh", b"efghijkl"],

@@ -2,8 +2,9 @@
 #![tactic(auto)]
 
 use par2_folder::DiskStore;
+use par2_headline::run;
 use par2_printing::{Printer, write_failure};
-use par2_tool::{Failure, Fault, run};
+use par2_spec::{Failure, Fault};
 use std::alloc::AllocError;
 use std::env;
 use std::io::{ErrorKind, Write};

@@ -30,13 +30,6 @@ pub all_names : (folder : Folder) (set : ParSet) → IsFolder folder → IsSound
 all_names folder set kept sound =
     list_all-append is_name (names folder) (target_names set) ∙ and_from _ _ (names_of_files (files folder) kept) sound.are_names
 
--- what is no name is not among names
-pub no_name : (taken : List (List ℕ)) (text : List ℕ) → list_all is_name taken ≡ true → is_name text ≡ false → is_among taken text ≡ false
-no_name [] text h unnamed = refl
-no_name (name ∷ taken) text h unnamed =
-    let all = and_parts (is_name name) (list_all is_name taken) h in
-    or_from _ _ (other_name text name (λ e. clash (ap is_name e ∙ all.0) unnamed)) (no_name taken text all.1 unnamed)
-
 -- ---- numbers
 
 -- the name with the first of the numbers from n up to `most` that is free

@@ -63,12 +63,12 @@ same_parts x y m i n h same =
     ∙ ap (drop i) (sym (take-take (i + n) m x h) ∙ ap (take (i + n)) same ∙ take-take (i + n) m y h)
     ∙ drop-take i n y
 
--- the state behind a block, of an equal state and the words of the block
+-- the state after a block, of an equal state and the words of the block
 pub after_words : (new old hash words block next : List ℕ) → new ≡ add_state old (rounds old words 64) → old ≡ hash → words ≡ block_words block 16 → compress hash block ≡ next → new ≡ next
 unfolding compress
 after_words new old hash words block next made same read is = made ∙ ap₂ (λ h ws. add_state h (rounds h ws 64)) same read ∙ is
 
--- a block more of a message, which stands `offset` bytes behind a start in a text
+-- a block more of a message, which stands `offset` bytes after a start in a text
 pub one_block_more : (p text : List ℕ) (n count block start : ℕ) → block < count
     → take (count * 64) (drop (n * 64) p) ≡ take (count * 64) (drop start text)
     → compress (hash_after p (n + block)) (take 64 (drop (start + 64 * block) text)) ≡ hash_after p (n + (block + 1))

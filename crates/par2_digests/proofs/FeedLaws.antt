@@ -1,4 +1,4 @@
--- The hash value behind the blocks of some bytes.
+-- The hash value after the blocks of some bytes.
 use Rattle.std.proofs.Common.{◌≡◌, ℕ, zero, suc, min, ◌++◌, length-append, ◌+◌, ◌*◌, ◌/◌, ◌%◌, ◌≤◌, List, length, take, drop, [], ◌∷◌, slice_index, subst, ap, ap₂, sym, refl, ◌∙◌, arith, length-drop}
 use Rattle.std.proofs.lemmas.List.{drop-append-le, take-append-le, drop-drop, drop-take, take-append-drop, take-take}
 use Rattle.md5.specs.Md5.{compress, hash_after}
@@ -33,7 +33,7 @@ blocks_first hash bytes a (suc n) =
     ap₂ compress (blocks_first hash bytes a n) (ap (take 64) (drop-drop (n * 64) (a * 64) bytes ∙ ap (λ (m : ℕ). drop m bytes) place))
     ∙ ap (hash_behind hash bytes) (sym e)
 
--- a block more, which stands in a text behind a start
+-- a block more, which stands in a text after a start
 pub hash_one_more : (hash text : List ℕ) (start n : ℕ) → compress (hash_behind hash (drop start text) n) (take 64 (drop (start + 64 * n) text)) ≡ hash_behind hash (drop start text) (n + 1)
 unfolding hash_behind
 hash_one_more hash text start n =
@@ -50,7 +50,7 @@ blocks_alike hash x y (suc n) m room same = ap₂ compress (blocks_alike hash x 
 
 -- ---- a block that is filled piece by piece
 
--- bytes that go on behind those which the block has
+-- bytes that go on after those which the block has
 pub filled_more : (whole rest old new : List ℕ) (f r : ℕ) → rest ≡ drop f whole → take f old ≡ take f whole
     → take (f + r) new ≡ take f old ++ take r rest → take (f + r) new ≡ take (f + r) whole
 filled_more whole rest old new f r rest_is old_is new_is =
@@ -108,7 +108,7 @@ goes_on m x bytes hash hash_is bytes_is =
     ∙ behind_blocks (m ++ x) q n
     ∙ ap (hash_after (m ++ x)) count
 
--- what is behind the blocks stays so
+-- what is after the blocks stays so
 pub end_goes_on : (m x bytes : List ℕ) → bytes ≡ drop (length m / 64 * 64) m ++ x → drop (length bytes / 64 * 64) bytes ≡ drop (length (m ++ x) / 64 * 64) (m ++ x)
 end_goes_on m x bytes bytes_is =
     let q : ℕ = length m / 64 in

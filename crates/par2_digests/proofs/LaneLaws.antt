@@ -60,7 +60,7 @@ last_four x y count-x count-y =
     rw (get_or-append_right x y 4 4 0 count-x (omega arith), get_or-append_right x y 4 5 0 count-x (omega arith), get_or-append_right x y 4 6 0 count-x (omega arith), get_or-append_right x y 4 7 0 count-x (omega arith))
     (all_of_four y count-y)
 
--- each vector is that of `low` and behind it that of `high`
+-- each vector is that of `low` and after it that of `high`
 pub record ArePairs (q low high : Quad (List ℕ)) : Type 0 where
   pub first : q.first ≡ low.first ++ high.first
   pub second : q.second ≡ low.second ++ high.second

@@ -1,4 +1,4 @@
--- Hash values as bytes, read back word by word, and states behind their parts.
+-- Hash values as bytes, read back word by word, and states after their parts.
 use Rattle.std.proofs.Common.{◌≡◌, ℕ, zero, suc, ◌+◌, ◌<◌, ◌≤◌, ◌^◌, List, [], ◌∷◌, take, drop, slice_index, sym, ap, ◌∙◌, arith}
 use Rattle.std.proofs.lemmas.Nat.{from_le_bytes-to_le_bytes_4}
 use Rattle.md5.specs.Md5.{compress, digest_bytes, hash_after, word_at}

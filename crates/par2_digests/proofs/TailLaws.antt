@@ -22,7 +22,7 @@ padding_len len =
     let eight : length bits ≡ 8 = refl in
     omega (arith, length-append zero_bytes bits, length-replicate {A = ℕ} (zeros len) 0, eight)
 
--- the byte 0x80 behind the rest, and zeros
+-- the byte 0x80 after the rest, and zeros
 marked : (rest : List ℕ) → length rest < 128
     → slice_set (rest ++ drop (length rest) (replicate 128 0)) (length rest) 0x80 ≡ rest ++ 0x80 ∷ replicate (127 - length rest) 0
 marked rest h =
@@ -30,7 +30,7 @@ marked rest h =
     ap (λ (ys : List ℕ). slice_set (rest ++ ys) (length rest) 0x80) (drop-replicate (length rest) 128 0 ∙ ap (λ (n : ℕ). replicate n 0) one_more)
     ∙ set_at rest 0 (replicate (127 - length rest) 0) 0x80 (length rest) refl
 
--- the tail as it is written: the rest, the byte behind it, and the length in bits before `end`
+-- the tail as it is written: the rest, the byte after it, and the length in bits before `end`
 pub tail_is : (rest first last : List ℕ) (end j len : ℕ) → length rest ≡ len % 64 → end ≡ tail_len len → end ≤ 128
     → first ≡ rest → last ≡ to_le_bytes w64 (len * 8 % 2 ^ 64)
     → take (tail_len len) (put_mid (end - 8) j (slice_set (first ++ drop (length rest) (replicate 128 0)) (length rest) 0x80) last)
@@ -63,7 +63,7 @@ marks_are n low =
     let more : n + 1 ≡ suc n = omega arith in
     ap (λ (k : ℕ). take k marks) more ∙ ap (λ (xs : List ℕ). 0x80 ∷ xs) (take-replicate n 63 0 low)
 
--- ---- the tails of eight messages, one behind the other
+-- ---- the tails of eight messages, one after the other
 
 -- a tail at `at` in the room of all
 pub tail_at : (tails tail : List ℕ) (at j n : ℕ) → at + 128 ≤ length tails → length tail ≡ 128 → n ≤ 128 → take n (drop at (put_mid at j tails tail)) ≡ take n tail

@@ -18,7 +18,7 @@ pub done_stays : (done : Option (List ℕ)) (kept d bytes hash next last rest : 
 done_stays (Some x) kept d bytes hash next last rest is held = held
 done_stays None kept d bytes hash next last rest is held = (cc)
 
--- fewer bytes than a block are what is behind the blocks
+-- fewer bytes than a block are what is after the blocks
 pub at_the_end : (done : Option (List ℕ)) (kept bytes hash last rest : List ℕ) (count : ℕ) → done ≡ None → count ≡ length bytes → count < 64
     → LeadsWith done kept bytes hash last rest → (hash ≡ last) × (bytes ≡ rest)
 unfolding hash_behind
@@ -68,14 +68,14 @@ pub finished : (done : Option (List ℕ)) (kept bytes hash last rest : List ℕ)
 finished (Some x) kept bytes hash last rest idle held = (ap Some held.0, held.1)
 finished None kept bytes hash last rest idle held = absurd (omega arith)
 
--- what is behind the blocks, where a block begins with it
+-- what is after the blocks, where a block begins with it
 pub ended_at : (bytes block rest : List ℕ) → drop (length bytes / 64 * 64) bytes ≡ rest → take (length bytes % 64) block ≡ drop (length bytes / 64 * 64) bytes
     → take (length rest) block ≡ rest
 ended_at bytes block rest is held =
     let size : length rest ≡ length bytes % 64 = omega (arith, ap length is, length-drop (length bytes / 64 * 64) bytes) in
     ap (λ (n : ℕ). take n block) size ∙ held ∙ is
 
--- what is behind the blocks, copied
+-- what is after the blocks, copied
 pub kept_rest : (bytes rest block copied others : List ℕ) (count : ℕ) → copied ≡ take count block → take count block ≡ take count bytes → count ≡ length bytes → bytes ≡ rest
     → take (length rest) (copied ++ others) ≡ rest
 kept_rest bytes rest block copied others count copy same all is =

@@ -12,7 +12,7 @@ abbrev pub part_bytes : Part → List ℕ
 part_bytes (parts.Length n) = to_le_bytes w64 n
 part_bytes (parts.Bytes bytes) = bytes.now
 
--- the bytes of some parts, one behind the other
+-- the bytes of some parts, one after the other
 abbrev pub message_of : List Part → List ℕ
 message_of parts = flat_map part_bytes parts
 

@@ -5,7 +5,7 @@ use Rattle.par2_digests.specs.Messages.{message_of}
 use Rattle.par2_digests.specs.declared.pending.Pending.{Pending}
 use Rattle.par2_digests.specs.declared.tasks.Task.{Task}
 
--- the bytes behind the whole blocks that the state has taken
+-- the bytes after the whole blocks that the state has taken
 abbrev pub bytes_to_absorb : Pending → List ℕ
 bytes_to_absorb pending = take (pending.state.length % 64) pending.state.rest ++ message_of pending.parts.items
 

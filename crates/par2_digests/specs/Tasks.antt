@@ -4,7 +4,7 @@ use Rattle.md5.specs.Md5.{hash_after}
 use Rattle.par2_digests.specs.Feeds.{hash_behind, bytes_left}
 use Rattle.par2_digests.specs.declared.tasks.Task.{Task}
 
--- the hash value is the last, and so is what is behind the blocks; or whole blocks lead from this hash value to both
+-- the hash value is the last, and so is what is after the blocks; or whole blocks lead from this hash value to both
 abbrev pub LeadsWith : Option (List ℕ) → List ℕ → List ℕ → List ℕ → List ℕ → List ℕ → Type 0
 LeadsWith (Some done) kept bytes hash last rest = (done ≡ last) × (take (length rest) kept ≡ rest)
 LeadsWith None kept bytes hash last rest = (hash_behind hash bytes (length bytes / 64) ≡ last) × (drop (length bytes / 64 * 64) bytes ≡ rest)
@@ -18,11 +18,11 @@ LeadOn hash_at count old before new after =
     (j : ℕ) (none : Task) (last rest : List ℕ) → j < count
     → LeadsTo (get_or old j none) (hash_at j before) last rest → LeadsTo (get_or new j none) (hash_at j after) last rest
 
--- the hash value behind the whole blocks, and the bytes behind them
+-- the hash value after the whole blocks, and the bytes after them
 abbrev pub HasEnded : Task → List ℕ → List ℕ → Type 0
 HasEnded task last rest = (task.hash ≡ Some last) × (take (length rest) task.rest ≡ rest)
 
--- the task has ended behind this message
+-- the task has ended after this message
 abbrev pub HasTaken : Task → List ℕ → Type 0
 HasTaken task p = HasEnded task (hash_after p (length p / 64)) (drop (length p / 64 * 64) p)
 

@@ -8,7 +8,7 @@ use crate::feeds::Feed;
 use crate::steps::{State, in_each_lane};
 use std::simd::prelude::*;
 
-/// The hash value behind the whole blocks of what the feed has left; the block then begins with what is behind them.
+/// The hash value after the whole blocks of what the feed has left; the block then begins with what is after them.
 pub(crate) fn hashed(hash: [u32; 4], feed: Feed, block: &mut [u8; 64]) -> [u32; 4]
     ensures hash { result ≡ hash_behind hash (bytes_left feed.entry) (length (bytes_left
         feed.entry) / 64) }

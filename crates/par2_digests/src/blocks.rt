@@ -8,7 +8,7 @@ ghost use Rattle.par2_digests.specs.Lanes.{lane, lane_words};
 use crate::lanes::Lanes;
 use crate::steps::{State, Words, compressed};
 
-// The words of the blocks that begin `offset` bytes behind each start.
+// The words of the blocks that begin `offset` bytes after each start.
 #[inline(always)]
 fn read_words<V: Lanes>(bytes: &[u8], starts: &[usize], offset: usize) -> Words<V>
     requires enough { V.count ≤ length starts.now }

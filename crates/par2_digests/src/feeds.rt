@@ -14,7 +14,7 @@ pub(crate) struct Feed<'a> {
     // How many bytes of the part are taken.
     pub(crate) at: usize,
     pub(crate) parts: &'a [Part<'a>],
-    // The parts behind those.
+    // The parts after those.
     pub(crate) ending: &'a [Part<'a>],
 }
 
@@ -25,7 +25,7 @@ fn behind(bytes: &[u8], at: usize) -> &[u8]
     &bytes[at.min(bytes.len())..]
 }
 
-// Copies as many of the bytes as the block has room for behind `from`.
+// Copies as many of the bytes as the block has room for after `from`.
 fn copy_into(block: &mut [u8], from: usize, bytes: &[u8]) -> usize
     requires { from ≤ length block.old }
     ensures count { result ≡ min (length bytes.now) (length block.old - from) }

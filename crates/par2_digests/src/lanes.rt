@@ -40,7 +40,7 @@ pub(crate) trait Lanes: Copy {
     fn rotated(x: Self, shift: u32) -> Self
         ensures { (k : ℕ) → k < count → at result k ≡ rotate_left w32 (at x k) shift };
 
-    /// Four words of each message, which stand `offset` bytes behind its start.
+    /// Four words of each message, which stand `offset` bytes after its start.
     fn four_words(bytes: &[u8], starts: &[usize], offset: usize) -> Quad<Self>
         requires enough { count ≤ length starts.now }
         requires room { offset + 16 ≤ length bytes.now }

@@ -36,12 +36,12 @@ pub struct Message<'a> {
     pub parts: Vec<Part<'a>>,
 }
 
-/// MD5 behind the first bytes of a message.
+/// MD5 after the first bytes of a message.
 #[derive(Clone, Copy, Debug, Drop)]
 pub struct Midstate {
-    // The hash value behind the whole blocks.
+    // The hash value after the whole blocks.
     pub(crate) hash: [u32; 4],
-    // Begins with the bytes behind them.
+    // Begins with the bytes after them.
     pub(crate) rest: [u8; 64],
     // How many bytes there were, modulo 2^64, as the padding writes it.
     pub(crate) length: u64,
@@ -152,7 +152,7 @@ impl Midstate {
         }
     }
 
-    /// Goes on behind the parts.
+    /// Goes on after the parts.
     pub fn absorb(&mut self, parts: &[Part])
         ensures { (m : List ℕ) → HasAbsorbed self.old m
             → HasAbsorbed self.new (m ++ message_of parts.now) }

@@ -126,7 +126,7 @@ fn state_behind(pending: &Pending, task: &Task) -> Midstate
     }
 }
 
-// The states behind their parts.
+// The states after their parts.
 fn states_behind<'a, V: Lanes>(
     words: &mut Words<V>,
     pendings: &'a [Pending<'a>],
@@ -147,7 +147,7 @@ fn states_behind<'a, V: Lanes>(
     states
 }
 
-/// The states behind their parts; eight at most.
+/// The states after their parts; eight at most.
 pub fn absorb_each(pendings: &[Pending]) -> [Midstate; LANES]
     requires few { length pendings.now ≤ 8 }
     ensures { (k : ℕ) (m : List ℕ) (none : Pending) (no_state : Midstate)

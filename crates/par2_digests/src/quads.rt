@@ -31,7 +31,7 @@ fn word(bytes: &[u8], at: usize) -> u32
     u32::from_le_bytes([bytes[at], bytes[at + 1], bytes[at + 2], bytes[at + 3]])
 }
 
-// The words that stand `offset` bytes behind each start.
+// The words that stand `offset` bytes after each start.
 #[inline(always)]
 fn gathered_words<const N: usize>(bytes: &[u8], starts: &[usize], offset: usize) -> Simd<u32, N>
     requires enough { N ≤ length starts.now }
@@ -129,7 +129,7 @@ fn with_lanes<const M: usize, const N: usize>(vector: Simd<u32, M>) -> Simd<u32,
     Simd::from_array(lanes)
 }
 
-/// Four words of each message, which stand `offset` bytes behind its start.
+/// Four words of each message, which stand `offset` bytes after its start.
 #[inline(always)]
 pub(crate) fn four_words<const N: usize>(
     bytes: &[u8],

@@ -29,12 +29,12 @@ const BLOCKS_LEN: usize = 8 * ROOM;
 // Where the blocks of each message begin.
 const STARTS: [usize; 8] = [0, 2048, 4096, 6144, 8192, 10240, 12288, 14336];
 
-/// A message in a lane: what is left of it, or the hash value behind its whole blocks.
+/// A message in a lane: what is left of it, or the hash value after its whole blocks.
 #[derive(Clone, Copy, Drop)]
 pub(crate) struct Task<'a> {
     pub(crate) feed: Feed<'a>,
     pub(crate) hash: Option<[u32; 4]>,
-    // Begins with what is behind the whole blocks, once the hash value is there.
+    // Begins with what is after the whole blocks, once the hash value is there.
     pub(crate) rest: [u8; 64],
 }
 
@@ -49,7 +49,7 @@ impl Task<'_> {
         }
     }
 
-    // Takes the next blocks, or the hash value behind the last. More than one are taken only where all of them are
+    // Takes the next blocks, or the hash value after the last. More than one are taken only where all of them are
     // left.
     fn turn<V: Lanes>(&mut self, blocks: &mut [u8], state: &State<V>, k: usize)
         requires within { k < V.count }
@@ -71,7 +71,7 @@ impl Task<'_> {
         }
     }
 
-    // Takes all blocks that are left by itself, behind this hash value.
+    // Takes all blocks that are left by itself, after this hash value.
     fn finish(&mut self, hash: [u32; 4])
         ensures leads { (last rest : List ℕ)
             → LeadsTo self.old hash last rest → LeadsTo self.new hash last rest }
@@ -98,7 +98,7 @@ fn batch_of(tasks: &[Task]) -> usize
     count.max(1)
 }
 
-// Takes the next `batch` blocks of each message, or the hash value behind its last.
+// Takes the next `batch` blocks of each message, or the hash value after its last.
 fn turn_all<V: Lanes>(
     tasks: &mut [Task; 8],
     blocks: &mut [u8; BLOCKS_LEN],
@@ -134,7 +134,7 @@ fn any_is_open(tasks: &[Task]) -> bool
     tasks.iter().any(|task| task.hash.is_none())
 }
 
-// Whether the hash value of message k is still to come, and so is that of one behind it.
+// Whether the hash value of message k is still to come, and so is that of one after it.
 fn has_company(tasks: &[Task], count: usize, k: usize) -> bool
     requires within { k < count }
     requires few { count ≤ length tasks.now }
@@ -163,7 +163,7 @@ fn advance<V: Lanes>(
     absorbed(state, words, blocks, &STARTS, batch)
 }
 
-// Goes on until the hash value of message k is there, or those of all behind it.
+// Goes on until the hash value of message k is there, or those of all after it.
 fn go_on<V: Lanes>(
     tasks: &mut [Task; 8],
     state: State<V>,

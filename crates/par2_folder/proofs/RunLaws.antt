@@ -15,7 +15,7 @@ one_more [] (p ∷ pendings) [] pending text held reached = absurd held
 one_more [] [] (t ∷ texts) pending text held reached = absurd held
 one_more [] [] [] pending text held reached = (reached, tt)
 
--- the states behind the parts of all
+-- the states after the parts of all
 abbrev pub AreBehind : List Pending → List Midstate → Type 0
 AreBehind pendings new = (k : ℕ) (m : List ℕ) (none : Pending) (no_state : Midstate) → k < length pendings → HasAbsorbed (get_or pendings k none).state m
     → HasAbsorbed (get_or new k no_state) (m ++ message_of (get_or pendings k none).parts.items)

@@ -13,7 +13,7 @@ use Rattle.par2_folder.specs.declared.landmarks.Landmark.{Landmark}
 use Rattle.par2_folder.specs.declared.landmarks.Landmarks.{Landmarks}
 use Rattle.par2_folder.proofs.Borders.{taken_on}
 
--- the state behind the parts of a pending one has absorbed what that reaches
+-- the state after the parts of a pending one has absorbed what that reaches
 pub behind : (pending : Pending) (text : List ℕ) (state : Midstate) → Reaches pending text
     → ((m : List ℕ) → HasAbsorbed pending.state m → HasAbsorbed state (m ++ message_of pending.parts.items)) → HasAbsorbed state text
 behind pending text state reached held = subst (HasAbsorbed state) reached.1.1 (held reached.0 reached.1.0)

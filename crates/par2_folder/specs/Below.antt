@@ -20,7 +20,7 @@ pub record IsFront (test : List ℕ → Bool) (files : List File) (count : ℕ) 
   pub before : (j : ℕ) → j < count → test (file_at files j).0 ≡ true
   pub behind : (j : ℕ) → count ≤ j → j < length files → test (file_at files j).0 ≡ false
 
--- what is hashed of files: their names and bytes, each behind its length
+-- what is hashed of files: their names and bytes, each after its length
 abbrev pub fingerprint_input : List File → List ℕ
 fingerprint_input files = flat_map (λ file. behind_length file.0 ++ behind_length file.1) files
 

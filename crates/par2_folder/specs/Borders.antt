@@ -25,7 +25,7 @@ touches border change = is_before border (first_name change)
 abbrev pub text_before : Border → Folder → List ℕ
 text_before border folder = fingerprint_input (map_of.entries (map_of.retain_keys folder (is_before border)))
 
--- the text of the run that the folder behind a change begins, if it begins one
+-- the text of the run that the folder after a change begins, if it begins one
 abbrev pub new_run : Border → Folder → Change → List (List ℕ)
 new_run border after change = cond (touches border change) (text_before border after ∷ []) []
 

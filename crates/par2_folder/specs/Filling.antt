@@ -4,7 +4,7 @@ use Rattle.std.specs.FinMap as map_of
 use Rattle.par2_spec.specs.Folders.{has}
 use Rattle.par2_spec.specs.Changes.{FolderState}
 
--- as it is the i-th of n writes, there are places for those behind it; where there was a place, a new file is written
+-- as it is the i-th of n writes, there are places for those after it; where there was a place, a new file is written
 pub record IsTried (old new : FolderState) (name bytes : List ℕ) : Type 0 where
   pub places : (n i : ℕ) → n ≤ old.vacant + i → i < n → n ≤ new.vacant + (i + 1)
   pub written : has old.files name ≡ false → 0 < old.vacant → new.files ≡ map_of.insert old.files name bytes

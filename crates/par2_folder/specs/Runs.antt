@@ -5,7 +5,7 @@ use Rattle.par2_digests.specs.declared.midstate.Midstate.{Midstate}
 use Rattle.par2_digests.specs.declared.pending.Pending.{Pending}
 use Rattle.par2_folder.specs.declared.runs.Runs.{Runs}
 
--- behind its parts the state has absorbed the text
+-- after its parts the state has absorbed the text
 abbrev pub Reaches : Pending → List ℕ → Type 0
 Reaches pending text = (m : List ℕ) × (HasAbsorbed pending.state m × (m ++ message_of pending.parts.items ≡ text))
 

@@ -14,7 +14,7 @@ use crate::{Change, Name};
 use par2_digests::Part;
 use std::alloc::{AllocError, Global};
 
-/// A border among names: before all, before one, or behind all.
+/// A border among names: before all, before one, or after all.
 #[derive(Clone, Copy)]
 pub enum Border<'a> {
     Beginning,
@@ -63,7 +63,7 @@ fn count_before(files: &[BorrowedFile], border: &Border) -> usize
     }
 }
 
-// Adds the bytes behind their length.
+// Adds the bytes after their length.
 fn push_counted<'a>(parts: &mut Vec<Part<'a>>, bytes: &'a [u8]) -> Result<(), AllocError>
     ensures { OnOk result
         (message_of parts.new.items ≡ message_of parts.old.items ++ behind_length bytes.now) }

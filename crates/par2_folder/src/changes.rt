@@ -42,7 +42,7 @@ impl Changes {
         }
     }
 
-    /// One more change, behind the others.
+    /// One more change, after the others.
     pub fn push(&mut self, change: Change) -> Result<(), AllocError>
         ensures ok { OnOk result (self.new ≡ self.old ++ change_of change ∷ []) }
         ensures err { OnErr result (self.new ≡ self.old) }

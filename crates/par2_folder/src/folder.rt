@@ -99,7 +99,7 @@ impl Folder {
         Ok(names)
     }
 
-    /// What tells folders apart: the MD5 of names and bytes, in the order of the names, each behind its length as
+    /// What tells folders apart: the MD5 of names and bytes, in the order of the names, each after its length as
     /// eight bytes.
     pub fn fingerprint(&self, alloc: Global) -> Result<[u8; 16], AllocError>
         ensures { IfOk result (λ digest. digest ≡ fingerprint self.now.files) }

@@ -11,7 +11,7 @@ use crate::{Change, Name};
 use par2_digests::Midstate;
 use std::alloc::{AllocError, Global};
 
-/// The state behind the files before a name.
+/// The state after the files before a name.
 #[derive(Debug, Drop)]
 pub struct Landmark {
     pub name: Name,
@@ -46,7 +46,7 @@ impl Landmarks {
         }
     }
 
-    /// Adds a landmark behind the others.
+    /// Adds a landmark after the others.
     pub(crate) fn push(&mut self, mark: Landmark) -> Result<(), AllocError>
         ensures { OnOk result (self.new.list.items ≡ self.old.list.items ++ mark ∷ []) }
     {

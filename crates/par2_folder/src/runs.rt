@@ -5,7 +5,7 @@ ghost use Rattle.par2_folder.specs.Runs.{AreTo, HaveAbsorbed, Reaches};
 use par2_digests::{LANES, Midstate, Pending, absorb_each};
 use std::alloc::{AllocError, Global};
 
-/// States, behind which others have parts to absorb yet.
+/// States, after which others have parts to absorb yet.
 #[derive(Drop)]
 pub struct Runs<'a> {
     states: Vec<Midstate>,
@@ -52,7 +52,7 @@ impl<'a> Runs<'a> {
         Ok(())
     }
 
-    /// The states behind all parts.
+    /// The states after all parts.
     pub(crate) fn finish(mut self) -> Result<Vec<Midstate>, AllocError>
         requires few { length self.pendings.items ≤ 8 }
         ensures { (texts : List (List ℕ)) → AreTo self.entry texts

@@ -87,7 +87,7 @@ fn go_on<'a>(
     })
 }
 
-// The digest of what the state has absorbed and the bytes behind it.
+// The digest of what the state has absorbed and the bytes after it.
 fn digest_behind(mut state: Midstate, bytes: &[u8]) -> [u8; 16]
     ensures { (m : List ℕ) → HasAbsorbed state m → result ≡ md5 (m ++ bytes.now) }
 {

@@ -92,7 +92,7 @@ fn add_run<'a>(
     runs.push(run_of(alloc, state, snapshot, from, to)?)
 }
 
-// Adds the run that the folder behind the change begins, if it begins one.
+// Adds the run that the folder after the change begins, if it begins one.
 fn follow<'a>(
     alloc: Global,
     runs: &mut Runs<'a>,
@@ -117,7 +117,7 @@ fn follow<'a>(
     }
 }
 
-// Goes on to the folder behind the change.
+// Goes on to the folder after the change.
 fn go_on<'a>(
     alloc: Global,
     runs: &mut Runs<'a>,
@@ -143,7 +143,7 @@ fn go_on<'a>(
     follow(alloc, runs, state, snapshot, change, from, to)
 }
 
-// The runs behind that of the snapshot's folder.
+// The runs after that of the snapshot's folder.
 fn runs_behind<'a>(
     alloc: Global,
     mut runs: Runs<'a>,
@@ -223,7 +223,7 @@ fn states_before(
     runs_before(alloc, folder, changes, states, from, to)?.finish()
 }
 
-// Goes on with the states to the border at the name, if it lies behind.
+// Goes on with the states to the border at the name, if it comes later.
 fn go_to<'b>(
     alloc: Global,
     folder: &Folder,
@@ -268,7 +268,7 @@ fn runs_along<'a>(
     runs_before(alloc, folder, changes, &states, &border, &Border::End)
 }
 
-/// The state, with the bytes of a text behind it.
+/// The state, with the bytes of a text after it.
 pub fn run_of_text(alloc: Global, state: Midstate, text: &[u8]) -> Result<Pending<'_>, AllocError>
     ensures { (m : List ℕ) → HasAbsorbed state m
         → IfOk result (λ run. Reaches run (m ++ text.now)) }
@@ -314,7 +314,7 @@ pub fn digests_along(
     digests_behind(alloc, runs_along(alloc, landmarks, folder, changes)?)
 }
 
-/// The same, and behind them the digest of a text, which is computed side by side with them.
+/// The same, and after them the digest of a text, which is computed side by side with them.
 pub fn digests_along_and_of(
     alloc: Global,
     folder: &Folder,

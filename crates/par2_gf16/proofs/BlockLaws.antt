@@ -152,7 +152,7 @@ vector_added old v at room long fit =
           ∙ ap (λ x. bit_xor x (get_or v j 0)) (get_or-chunk at 32 old j 0 h);
     }
 
--- two vectors, one behind the other
+-- two vectors, one after the other
 pub both_added : (old mid new first second : List ℕ) (at : ℕ) → AddsLanes old mid at 32 first → AddsLanes mid new (at + 32) 32 second → AddsLanes old new at 64 (first ++ second)
 both_added old mid new first second at one two = record {
   count = length-append first second ∙ ap₂ (λ a b. a + b) one.count two.count;

@@ -1,11 +1,12 @@
 -- Words that are added one part after another, and where a source ends.
-use Rattle.std.proofs.Common.{ℕ, ◌+◌, ◌*◌, ◌<◌, ◌≤◌, ◌≡◌, inl, inr, refl, sym, ap, ◌∙◌, arith, List, length, bit_xor}
+use Rattle.std.proofs.Common.{ℕ, ◌+◌, ◌*◌, ◌/◌, ◌<◌, ◌≤◌, ◌≡◌, inl, inr, refl, sym, ap, ◌∙◌, subst, arith, List, length, bit_xor}
 use Rattle.std.proofs.lemmas.Bool.{cases_lt}
 use Rattle.std.specs.Int.Bits.{xor_zero_r}
 use Rattle.par2_spec.specs.Field.{mul}
 use Rattle.par2_spec.specs.Slices.{word}
 use Rattle.par2_spec.proofs.FieldOrder.{product-zero}
 use Rattle.par2_spec.proofs.WordLaws.{word_past}
+use Rattle.par2_gf16.specs.Products.{AddsProducts}
 use Rattle.par2_gf16.specs.Steps.{AddsWithin}
 
 -- one part after another
@@ -36,3 +37,12 @@ nothing_past c src old from to h = record {
 pub up_to_end : (c : ℕ) (src old new : List ℕ) (from end to : ℕ) → from ≤ end → end ≤ to → ((i : ℕ) → end ≤ i → i < to → length src ≤ 2 * i)
     → AddsWithin c src old new from end → AddsWithin c src old new from to
 up_to_end c src old new from end to low high past added = adds_after c src old new new from end to low high added (nothing_past c src new end to past)
+
+-- the words of whole blocks and those behind them are all words
+pub blocks_and_rest : (c : ℕ) (src old mid new : List ℕ) (a b d : ℕ) → a ≡ b → b ≤ d → d ≡ length old / 2
+    → AddsWithin c src old mid 0 a → AddsWithin c src mid new b d → AddsProducts c src old new
+blocks_and_rest c src old mid new a b d met low end first second =
+    let whole = adds_after c src old mid new 0 b d (omega arith) low (subst (AddsWithin c src old mid 0) met first) second in record {
+      same_length = whole.same_length;
+      each = λ p room. whole.inside p (omega arith) (omega (arith, end)) room;
+    }

@@ -3,7 +3,7 @@ use Rattle.std.specs.Prelude.{ℕ, ◌+◌, ◌*◌, ◌<◌, ◌≤◌, List, l
 use Rattle.par2_gf16.specs.Nibbles.{AreSplit}
 use Rattle.par2_gf16.specs.declared.nibbles.Nibbles.{Nibbles}
 
--- the words of a text from `from` up to `to`, of which those behind its end are zero
+-- the words of a text from `from` up to `to`, of which those after its end are zero
 pub record WordRange : Type 0 where
   pub text : List ℕ
   pub from : ℕ

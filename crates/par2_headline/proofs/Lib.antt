@@ -1,2 +1,3 @@
-mod RepairAnswers
-mod UndoRuns
+mod Statuses
+mod Answers
+mod UndoneRuns

@@ -20,7 +20,7 @@ module _ (xs : List (List Change)) (i : ℕ) (within : i < length xs) (entry : L
   next_redo : drop i xs ≡ entry ∷ drop (i + 1) xs
   next_redo = drop_more xs i entry within ∙ ap (λ e. e ∷ drop (i + 1) xs) (sym is)
 
-  -- the entry before the cursor can be applied, and so can the one behind it
+  -- the entry before the cursor can be applied, and so can the one after it
   pub undo_taken : (n : ℕ) → i + 1 ≡ n → (folder : FolderState) (room : ℕ) → CanWalk (at folder xs n room) → takes_all folder entry ≡ true
   undo_taken n one folder room h =
       (next_taken folder (reverse (take n xs)) entry (reverse (take i xs)) h.back (ap (λ m. reverse (take m xs)) (sym one) ∙ next_undo)).0

@@ -9,7 +9,7 @@ use Rattle.par2_spec.specs.declared.Fault.TheVariants.{Memory}
 use Rattle.par2_journal.specs.declared.preparation.SessionFault.{SessionFault}
 use Rattle.par2_journal.specs.declared.preparation.SessionFault.TheVariants.{Plan, NothingToUndo, NothingToRedo}
 
--- a command is refused for the cause that the definitions name, or for want of memory
+-- a command is refused for the cause that the definitions name, or because memory ran out
 abbrev pub MayFail : Command → KeptSession → Fault → Type 0
 MayFail command s fault = (fault ≡ Memory) ⊎ (refusal s.folder.files command ≡ Some fault)
 

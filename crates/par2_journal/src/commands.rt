@@ -14,10 +14,11 @@ impl Session {
     ghost use Rattle.par2_spec.specs.History.{Run, MayBeRefused, folders, IsChanging};
     ghost use Rattle.par2_spec.specs.Refusals.{early_refusal, early_refusal_of};
     ghost use Rattle.par2_spec.specs.Reports.{report_in};
-    ghost use Rattle.par2_spec.specs.Plans.{LeadsToAfterAsked};
+    ghost use Rattle.par2_spec.specs.Plans.{AreFewFor, LeadsToAfterAsked};
     ghost use Rattle.par2_spec.specs.Sessions.{OnlyGrew, CanWalk, session_of_kept, session_after, changes_asked, history_of};
     ghost use Rattle.par2_spec.specs.Texts.{step_of};
     ghost use Rattle.par2_spec.specs.Views.{action_of, create_args_of};
+    ghost use Rattle.par2_plan.specs.Repairing.{WritesAsDescribed};
     ghost use Rattle.par2_plan.specs.Views.{report_of};
     ghost use Rattle.par2_journal.specs.Refusals.{MayFail, MayRefuse};
     ghost use Rattle.par2_journal.specs.Ready.{Changing, Fits, IsReady};
@@ -74,6 +75,10 @@ impl Session {
         ensures early { let command = Repair base.now (map string_bytes extras.now) purge in
             (fault : Fault) → early_refusal self.old.folder.files command ≡ Some fault
             → IsErrOf result fault }
+        ensures written { let words = map string_bytes extras.now in
+            IfOk result (λ _. WritesAsDescribed self.old.folder.files base.now words) }
+        ensures few { let command = Repair base.now (map string_bytes extras.now) purge in
+            IfOk result (λ _. AreFewFor self.old.folder.files command) }
     {
         let changes = plan_repair(alloc, self.folder(), base, extras, purge)?;
         self.prepare_changes(alloc, changes)
@@ -186,8 +191,9 @@ impl Session {
         Ok(self.commit(prepared))
     }
 
-    /// Repairs, with further files to search, and answers the steps. Where asked to it purges in the same command. After
-    /// a refusal names, bytes and history are as before.
+    /// Repairs, with further files to search, and answers the steps. Where asked to it purges in the same command. Each
+    /// file that it writes from slices has the length and the MD5 that the set describes. After a refusal names, bytes
+    /// and history are as before.
     pub fn repair(
         &mut self,
         alloc: Global,
@@ -195,6 +201,8 @@ impl Session {
         extras: &[String],
         purge: bool,
     ) -> Result<Steps, Fault>
+        // The session is the one from after the action, whose changes lead to its folder; the steps
+        // are theirs.
         ensures done { let action = Do (Repair base.now (map string_bytes extras.now) purge) in
             OnOk result (session_after (session_of_kept self.old) action
             ≡ Ok (session_of_kept self.new)) }
@@ -203,6 +211,13 @@ impl Session {
         ensures steps { let action = Do (Repair base.now (map string_bytes extras.now) purge) in
             IfOk result (λ steps. IfOk (changes_asked (session_of_kept self.old) action)
             (λ changes. steps ≡ map step_of changes)) }
+        // Each file that is written from slices has the described length and MD5, whatever the files
+        // of the folder hold; and there were so few names that asides could be numbered.
+        ensures written { let words = map string_bytes extras.now in
+            OnOk result (WritesAsDescribed self.old.folder.files base.now words) }
+        ensures few { let command = Repair base.now (map string_bytes extras.now) purge in
+            OnOk result (AreFewFor self.old.folder.files command) }
+        // A refusal leaves the session as it was, and is told before memory is taken where it can be.
         ensures unchanged { OnErr result (OnlyGrew self.old self.new) }
         ensures refused { let command = Repair base.now (map string_bytes extras.now) purge in
             IfErr result (MayFail command self.old) }

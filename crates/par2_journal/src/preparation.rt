@@ -4,6 +4,7 @@ use par2_folder::{Change, Name};
 use par2_plan::{Changes, Fault};
 use std::alloc::{AllocError, Global};
 use std::marker::Model;
+use thiserror::Error;
 
 /// A change without its bytes.
 #[derive(Debug, Drop)]
@@ -86,10 +87,13 @@ impl Steps {
 }
 
 /// Why a session refuses an action.
-#[derive(Clone, Copy, PartialEq, Eq, Debug, Drop)]
+#[derive(Debug, Error, Clone, Copy, PartialEq, Eq, Drop)]
 pub enum SessionFault {
+    #[error(transparent)]
     Plan(Fault),
+    #[error("nothing to undo")]
     NothingToUndo,
+    #[error("nothing to redo")]
     NothingToRedo,
 }
 

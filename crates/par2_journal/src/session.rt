@@ -6,13 +6,16 @@ use crate::{Changes, Journals, Next, Prepared, Steps};
 use par2_folder::{Change, Folder, survey_folder};
 use std::alloc::{AllocError, Global};
 use std::marker::Model;
+use thiserror::Error;
 
 /// No command is left to take back.
-#[derive(Clone, Copy, PartialEq, Eq, Debug, Drop)]
+#[derive(Debug, Error, Clone, Copy, PartialEq, Eq, Drop)]
+#[error("nothing to undo")]
 pub struct NothingToUndo;
 
 /// No command is left to do again.
-#[derive(Clone, Copy, PartialEq, Eq, Debug, Drop)]
+#[derive(Debug, Error, Clone, Copy, PartialEq, Eq, Drop)]
+#[error("nothing to redo")]
 pub struct NothingToRedo;
 
 // The digests that tell whether a session is that of a journal.

@@ -231,7 +231,7 @@ fn both(
     })
 }
 
-// The entries before the cursor, and behind them the way back of a command.
+// The entries before the cursor, and after them the way back of a command.
 fn with_command<'a>(
     alloc: Global,
     entries: &'a &[Changes],

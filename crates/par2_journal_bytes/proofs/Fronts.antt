@@ -7,7 +7,7 @@ use Rattle.par2_spec.specs.Journals.{HalfwayPart, Spells, spelling}
 use Rattle.par2_spec.specs.declared.Version.{Version}
 use Rattle.par2_journal_bytes.specs.Fronts.{Begins, Continues, Finishes, journal_of_parts}
 
--- behind the digest of all but it, the journal is spelled
+-- after the digest of all but it, the journal is spelled
 spelled : (front : List ℕ) (halfway : Option HalfwayPart) (body : List ℕ) → Continues front halfway body → (text : List ℕ) → text ≡ body ++ md5 body
     → (version : Version) (print : List ℕ) (cursor : ℕ) (entries : List (List Change)) → Begins front version print cursor entries
     → Spells text (journal_of_parts version print cursor entries halfway)

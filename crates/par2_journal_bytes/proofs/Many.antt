@@ -58,7 +58,7 @@ module _ {X Y : Type 0} (v : X → Y) (xs : List X) (i : ℕ) where
   one_more_seen : (x : X) → i < length xs → x ≡ get_or xs i x → map v (take (i + 1) xs) ≡ map v (take i xs) ++ v x ∷ []
   one_more_seen x lt is = map_more v xs i x lt ∙ ap (λ y. map v (take i xs) ++ v y ∷ []) (sym is)
 
-  -- so they stand behind what was there before, and P holds of each
+  -- so they stand after what was there before, and P holds of each
   abbrev pub AreWritten : (Y → Type 0) → (Y → List ℕ) → List ℕ → List ℕ → Type 0
   AreWritten P f start out = record {
     bytes : out ≡ start ++ flat_map f (map v (take i xs));

@@ -36,7 +36,7 @@ name_again name rest h = rw (block_again (length name) name rest refl, h) refl
 name_read : IsRead name_at name_bytes IsName
 name_read = record { takes = name_takes; again = name_again }
 
--- ---- bytes behind their number
+-- ---- bytes after their number
 
 counted_takes : (bytes : List ℕ) (x : List ℕ × List ℕ) → AreBytes bytes → behind_length_at bytes ≡ Some x → Took bytes (behind_length x.0) x.1 × IsFileBytes x.0
 unfolding behind_length_at

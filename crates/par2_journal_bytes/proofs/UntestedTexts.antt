@@ -57,7 +57,7 @@ module _ (text body digest : List ℕ) (long : 16 ≤ length text) (front : body
       subst-bytes : AreBytes body
       subst-bytes = rw front (bytes-take (length text - 16) text fits)
 
--- nothing was read, and not for want of memory
+-- nothing was read, and not because memory ran out
 pub refused : (fault : DecodeFault) (r : Result Untested DecodeFault) (o : Option Journal) → Fails fault o → (y : DecodeFault) × (r ≡ Err y) × (y ≡ fault) → r ≡ Err JournalInvalid → o ≡ None
 refused fault r o fails p e = by_fault fault fails (cc (e, p.1, p.2))
   where

@@ -1,4 +1,4 @@
--- Reading from left to right: a value and the bytes behind it, or nothing.
+-- Reading from left to right: a value and the bytes after it, or nothing.
 use Rattle.std.specs.Prelude.{◌≡◌, ◌≤◌, ℕ, zero, suc, ◌-◌, List, [], ◌∷◌, length, take, drop, Option, Some, None, Result, Ok, Err, nat_lt, nat_le, ◌==◌, ◌&&◌, Bool, if◌then◌else◌}
 use Rattle.std.specs.Int.{w64, from_le_bytes}
 use Rattle.std.specs.Str.{bytes_eq}
@@ -42,7 +42,7 @@ name_at (n ∷ bytes) = do
   x ← block_at n bytes
   some_where (is_name x.0) x
 
--- bytes behind their length
+-- bytes after their length
 unfoldable pub behind_length_at : List ℕ → Option (List ℕ × List ℕ)
 behind_length_at bytes = do
   n ← number_at bytes
@@ -76,7 +76,7 @@ many_at one (suc n) bytes = do
   others ← many_at one n first.1
   Some (first.0 ∷ others.0, others.1)
 
--- changes behind their number
+-- changes after their number
 unfoldable pub entry_at : List ℕ → Option (List Change × List ℕ)
 entry_at bytes = do
   n ← number_at bytes
@@ -107,7 +107,7 @@ abbrev pub cursor_in : Version → ℕ → ℕ → ℕ
 cursor_in One c n = n
 cursor_in Two c n = c
 
--- what stands behind the cursor that was read
+-- what stands after the cursor that was read
 unfoldable pub behind_cursor_at : Version → List ℕ → ℕ → List ℕ → Option Journal
 behind_cursor_at version print cursor bytes = do
   n ← number_at bytes

@@ -3,11 +3,14 @@ ghost use Rattle.std.specs.Prelude.{◌≡◌};
 ghost use Rattle.par2_journal_bytes.specs.declared.fault.DecodeFault.TheVariants.{Memory};
 
 use std::alloc::{AllocError, AllocFailed};
+use thiserror::Error;
 
 /// Why no journal was read.
-#[derive(Clone, Copy, PartialEq, Eq, Debug, Drop)]
+#[derive(Debug, Error, Clone, Copy, PartialEq, Eq, Drop)]
 pub enum DecodeFault {
+    #[error("the journal is not valid")]
     JournalInvalid,
+    #[error("out of memory")]
     Memory,
 }
 

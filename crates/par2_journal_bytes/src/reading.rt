@@ -1,4 +1,4 @@
-//! A journal from its bytes. Each reader takes its part from the front, and gives the bytes behind it too.
+//! A journal from its bytes. Each reader takes its part from the front, and gives the bytes after it too.
 ghost use Rattle.std.specs.Prelude.{◌≡◌, ◌<◌, ◌≤◌, ◌-◌, ◌∷◌, ℕ, List, length, take, drop, IfOk, IfErr, IfSome, IsTrue, Some, Err, is_some, MatchResult};
 ghost use Rattle.md5.specs.Md5.{md5};
 ghost use Rattle.par2_spec.specs.Names.{is_name};
@@ -92,7 +92,7 @@ fn read_bytes(alloc: Global, bytes: &[u8]) -> Result<(Bytes, &[u8]), DecodeFault
     Ok((Bytes::copy_of(alloc, content)?, rest))
 }
 
-// A change of each kind, behind the byte of its kind.
+// A change of each kind, after the byte of its kind.
 
 #[tactic(auto, unfolding(crate::specs::Reading::change_at))]
 fn read_write(alloc: Global, bytes: &[u8]) -> Result<(Change, &[u8]), DecodeFault>

@@ -206,7 +206,7 @@ fn body(front: Vec<u8>, halfway: &Option<HalfwayPartView<'_>>) -> Result<Vec<u8>
     Ok(out)
 }
 
-// The journal, its digest behind all that stands before it.
+// The journal, its digest after all that stands before it.
 fn with_digest(body: Vec<u8>, digest: [u8; 16]) -> Result<Vec<u8>, AllocError>
     requires { digest ≡ md5 body.items }
     ensures { IfOk result (λ bytes. bytes.items ≡ body.items ++ md5 body.items) }

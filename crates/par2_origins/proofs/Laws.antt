@@ -17,7 +17,6 @@ use Rattle.par2_spec.specs.Refusals.{refusal}
 use Rattle.par2_spec.specs.declared.Fault.TheVariants.{NotRepairable}
 use Rattle.par2_spec.specs.Checksums.{IsPair}
 use Rattle.par2_spec.specs.Volumes.{IsFileRecord, FileRecord, all_slices, in_id_order, index_packets, recovery_packets, main_bytes, desc_bytes, ifsc_bytes, recovery_bytes}
-use Rattle.par2_spec.proofs.AcceptedCommands.{missing}
 
 -- bodies that were written say what was given
 pub record AreRead : Type 0 where

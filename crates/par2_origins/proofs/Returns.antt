@@ -1,12 +1,11 @@
 -- What an accepted repair gives back.
-use Rattle.std.proofs.Common.{◌≡◌, ℕ, ◌+◌, ◌^◌, ◌<◌, Bool, true, false, not, List, [], ◌∷◌, ◌++◌, length, map, Option, Some, None, Ok, refl, sym, ap, ◌∙◌, subst, length-append, inl, inr, ◌⊎◌}
+use Rattle.std.proofs.Common.{◌≡◌, ℕ, ◌+◌, Bool, true, false, not, List, [], ◌∷◌, ◌++◌, length, map, Option, Some, None, Ok, refl, sym, ap, ◌∙◌, subst, inl, inr, ◌⊎◌}
 use Rattle.std.specs.Prelude.{IsPermutation, is_some, nat_lt, filter, if◌then◌else◌}
 use Rattle.std.specs.List.{AllByRecursion, list_all, list_any}
 use Rattle.std.specs.Str.{bytes_eq}
 use Rattle.std.specs.FinMap as map_of
 use Rattle.std.proofs.lemmas.Bool.{false≢true, not-false, and_parts}
-use Rattle.std.proofs.lemmas.List.{length-map}
-use Rattle.std.proofs.lemmas.List.Sorted.{IsPermutation-sym, IsPermutation-map, length_permutation}
+use Rattle.std.proofs.lemmas.List.Sorted.{IsPermutation-sym, IsPermutation-map}
 use Rattle.std.proofs.lemmas.Option.{same_Some}
 use Rattle.std.proofs.lemmas.Simd.{map-map}
 use Rattle.par2_spec.specs.declared.Fault.{Fault}
@@ -18,11 +17,11 @@ use Rattle.par2_spec.specs.Faults.{first_fault, then_fault, fault_where}
 use Rattle.par2_spec.specs.Slices.{slices}
 use Rattle.par2_spec.specs.Rank.{AreBytes, is_repairable, rank, IsRepairable}
 use Rattle.par2_spec.specs.Names.{distinct}
-use Rattle.par2_spec.specs.Folders.{Folder, File, has, bytes_of, names}
+use Rattle.par2_spec.specs.Folders.{Folder, File, has, bytes_of}
 use Rattle.par2_spec.specs.Volumes.{record_of, all_slices, in_id_order}
 use Rattle.par2_spec.specs.Sets.{ParSet, MadeFrom, set_of, target_of_file, target_names}
 use Rattle.par2_spec.specs.Search.{candidates, known, lost, survivors, NoCollision}
-use Rattle.par2_spec.specs.Repairs.{aside, put_aside, rebuilt_targets, after_repair, after_repair_and_purge, AreFew}
+use Rattle.par2_spec.specs.Repairs.{aside, put_aside, rebuilt_targets, after_repair, after_repair_and_purge}
 use Rattle.par2_spec.specs.Commands.{CreateArgs, Repair, files_of}
 use Rattle.par2_spec.specs.Refusals.{refusal, after, set_in, by_set, repair_refusal}
 use Rattle.par2_origins.specs.Creates.{FollowsCreate, may_refuse, HaveAChoice}
@@ -140,13 +139,6 @@ module _ (order : (files : List File) → IsPermutation files (in_id_order files
     names_are : target_names m.set ≡ map (λ file. file.0) ordered
     names_are = ap (map (λ t. t.name)) m.targets ∙ target_names_are s ordered
 
-    few : AreFew damaged m.set
-    few =
-        let same : length (target_names m.set) ≡ length a.inputs =
-        ap length names_are ∙ length-map ordered (λ file. file.0) ∙ length_permutation inputs ordered (order inputs)
-        ∙ sym (length-map inputs (λ file. file.0)) ∙ ap length (names_of_files before a.inputs) in
-        subst (λ n. n + 1 < 2 ^ 64) (length-append (names damaged) a.inputs ∙ ap (λ n. length (names damaged) + n) (sym same) ∙ sym (length-append (names damaged) (target_names m.set))) follows.few
-
     among_searched : (P : List ℕ → Type 0) → AllByRecursion P (a.inputs ++ extras) → AllByRecursion P searched
     among_searched P h =
         let r = all-parts P a.inputs extras h in
@@ -178,8 +170,8 @@ module _ (order : (files : List File) → IsPermutation files (in_id_order files
     repaired purge = if purge then after_repair_and_purge damaged m.set searched else after_repair damaged m.set searched
 
     set_returns : AreRepaired → IsAsked damaged base extras m.set None → (purge : Bool) → Holds (repaired purge) ordered
-    set_returns laws is true = laws.purged damaged base extras ordered s m is.there few told bytes (repairable laws damaged m.set searched is.passes)
-    set_returns laws is false = laws.repaired damaged base extras ordered s m is.there few told bytes (repairable laws damaged m.set searched is.passes)
+    set_returns laws is true = laws.purged damaged base extras ordered s m is.there told bytes (repairable laws damaged m.set searched is.passes)
+    set_returns laws is false = laws.repaired damaged base extras ordered s m is.there told bytes (repairable laws damaged m.set searched is.passes)
 
     after_is : IsAsked damaged base extras m.set None → (purge : Bool) → after damaged (Repair base extras purge) ≡ repaired purge
     unfolding after
@@ -203,7 +195,7 @@ module _ (order : (files : List File) → IsPermutation files (in_id_order files
   pub few_causes : AreRepaired → MadeFrom damaged base ordered s → (purge : Bool) (fault : Fault) → refusal damaged (Repair base extras purge) ≡ Some fault → may_refuse fault ≡ true
   few_causes laws m purge fault refused =
       elim (is_asked damaged base extras purge m.set (Some fault) refused m.reads) as (λ _. may_refuse fault ≡ true) [
-        | inl is ↦ refused_for laws damaged m.set (searched m) fault (λ repairs. laws.digests damaged base extras ordered s m is.there (few m) (told m) (bytes m) repairs) is.passes
+        | inl is ↦ refused_for laws damaged m.set (searched m) fault (λ repairs. laws.digests damaged base extras ordered s m is.there (told m) (bytes m) repairs) is.passes
         | inr missed ↦ subst (λ f. may_refuse f ≡ true) (sym (same_Some fault (NoSuchFile missed.0) missed.1)) refl
       ]
 

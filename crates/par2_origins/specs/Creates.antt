@@ -1,10 +1,10 @@
 -- A folder that a create is run in, and one that it left and that was damaged since.
-use Rattle.std.specs.Prelude.{◌≡◌, ℕ, ◌+◌, ◌<◌, ◌^◌, Bool, true, false, IsTrue, IsFalse, List, ◌++◌, length, map, Ok, None}
+use Rattle.std.specs.Prelude.{◌≡◌, ℕ, Bool, true, false, IsTrue, IsFalse, List, ◌++◌, map, Ok, None}
 use Rattle.std.specs.List.{AllByRecursion}
 use Rattle.std.specs.FinMap as map_of
 use Rattle.par2_spec.specs.Rank.{AreBytes, AnotherAgrees}
 use Rattle.par2_spec.specs.Names.{is_par_name, is_among}
-use Rattle.par2_spec.specs.Folders.{Folder, IsFolder, has, bytes_of, names}
+use Rattle.par2_spec.specs.Folders.{Folder, IsFolder, has, bytes_of}
 use Rattle.par2_spec.specs.Volumes.{all_slices, in_id_order}
 use Rattle.par2_spec.specs.Sets.{ParSet, set_of}
 use Rattle.par2_spec.specs.Search.{NoCollision, known, candidates}
@@ -35,8 +35,7 @@ pub record IsDamage (before damaged : Folder) (a : CreateArgs) (base : List ℕ)
   pub pars : (name : List ℕ) → IsTrue (is_par_name name) → IsTrue (has damaged name)
       → map_of.get damaged name ≡ map_of.get (after before (Create a)) name
 
--- an accepted create and such damage since, where what a repair finds of the files is true and the names are so
--- few that asides can be numbered
+-- an accepted create and such damage since, where what a repair finds of the files is true
 pub record FollowsCreate (before damaged : Folder) (a : CreateArgs) (base : List ℕ)
     (extras : List (List ℕ)) : Type 0 where
   pub created : refusal before (Create a) ≡ None
@@ -44,7 +43,6 @@ pub record FollowsCreate (before damaged : Folder) (a : CreateArgs) (base : List
   pub damage : IsDamage before damaged a base
   pub told : let slices = all_slices a.slice_size (files_of before a.inputs) in
       NoCollision damaged (a.inputs ++ extras) a.slice_size slices
-  pub few : length (names damaged ++ a.inputs) + 1 < 2 ^ 64
 
 -- why a repair of such a folder is refused, if it is: a further file isn't there, too few slices are left, or
 -- the name for a file to be put aside would be too long

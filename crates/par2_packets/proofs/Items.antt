@@ -1,4 +1,4 @@
--- Items of one length, one behind the other.
+-- Items of one length, one after the other.
 use Rattle.std.proofs.Common.{◌≡◌, ℕ, ◌+◌, ◌-◌, ◌*◌, ◌/◌, ◌≤◌, ◌<◌, List, Some, length, take, drop, map, slice_get, sym, ap, ◌∙◌, arith}
 use Rattle.std.specs.List.{range_with_len}
 use Rattle.std.proofs.lemmas.List.{length-map, take-take, drop-drop, drop-take}

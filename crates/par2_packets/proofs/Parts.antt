@@ -16,7 +16,7 @@ regrouped : (text m l d s k a b : List ℕ)
     → ((((text ++ m) ++ l) ++ (d ++ (s ++ (k ++ [])))) ++ a) ++ b ≡ text ++ (m ++ l ++ d ++ (s ++ k ++ (a ++ b)))
 regrouped text m l d s k a b = simp (append-nil, append_assoc)
 
--- the parts behind a text are the text and the packet
+-- the parts after a text are the text and the packet
 pub packet_in_parts : (text s a b : List ℕ) (kind : Kind)
     → ((((text ++ magic) ++ to_le_bytes w64 (64 + length a + length b)) ++ (md5 (((s ++ type_of kind) ++ a) ++ b) ++ (s ++ (type_of kind ++ [])))) ++ a) ++ b
     ≡ text ++ packet (packet_of s kind (a ++ b))

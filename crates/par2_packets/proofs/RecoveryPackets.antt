@@ -18,7 +18,7 @@ enumerate_append n [] ys = ap (λ k. enumerate_from k ys) (let e : n ≡ n + 0 =
 enumerate_append n (x ∷ xs) ys =
     ap (λ zs. (n, x) ∷ zs) (enumerate_append (n + 1) xs ys ∙ ap (λ k. enumerate_from (n + 1) xs ++ enumerate_from k ys) (let e : n + 1 + length xs ≡ n + suc (length xs) = omega arith in e))
 
--- the packets of some slices, and behind them those of others
+-- the packets of some slices, and after them those of others
 packets_append : (id : List ℕ) (first : ℕ) (xs ys : List (List ℕ))
     → flat_map packet (packets_from id first (xs ++ ys)) ≡ flat_map packet (packets_from id first xs) ++ flat_map packet (packets_from id (first + length xs) ys)
 packets_append id first xs ys =
@@ -27,7 +27,7 @@ packets_append id first xs ys =
     ∙ ap (flat_map packet) (map-append made (enumerate_from first xs) (enumerate_from (first + length xs) ys))
     ∙ flat_map-append packet (packets_from id first xs) (packets_from id (first + length xs) ys)
 
--- one packet more behind a text
+-- one packet more after a text
 pub packet_more : (text out : List ℕ) (id : List ℕ) (first : ℕ) (slices : List (List ℕ)) (k : ℕ) (new : List ℕ) → k < length slices
     → out ≡ text ++ flat_map packet (packets_from id first (take k slices)) → new ≡ out ++ packet (packet_of id Recovery (recovery_bytes (first + k) (get_or slices k [])))
     → new ≡ text ++ flat_map packet (packets_from id first (take (k + 1) slices))
@@ -43,7 +43,7 @@ packet_more text out id first slices k new low so_far is =
     ∙ ap (λ n. before ++ one n) size in
     is ∙ ap (λ o. o ++ one k) so_far ∙ append_assoc text before (one k) ∙ ap (λ o. text ++ o) (sym added)
 
--- some packets more behind a text
+-- some packets more after a text
 pub packets_more : (text out : List ℕ) (id : List ℕ) (first : ℕ) (slices : List (List ℕ)) (a start n b : ℕ) (new : List ℕ) → start ≤ length slices
     → out ≡ text ++ flat_map packet (packets_from id first (take a slices)) → new ≡ out ++ flat_map packet (packets_from id (first + start) (take n (drop start slices)))
     → a ≡ start → b ≡ start + n → new ≡ text ++ flat_map packet (packets_from id first (take b slices))
@@ -60,7 +60,7 @@ packets_more text out id first slices a start n b new within so_far is same next
     is ∙ ap (λ o. o ++ some start) (so_far ∙ ap (λ m. text ++ flat_map packet (packets_from id first (take m slices))) same)
     ∙ append_assoc text before (some start) ∙ ap (λ o. text ++ o) (sym added)
 
--- a text behind two parts of a message
+-- a text after two parts of a message
 pub behind_two : (s type kind text body : List ℕ) → type ≡ kind → text ≡ body → ([] ++ (s ++ (type ++ []))) ++ text ≡ s ++ kind ++ body
 behind_two s type kind text body is same = ap₂ (λ (a b : List ℕ). s ++ a ++ b) (append-nil type ∙ is) same
 
@@ -68,7 +68,7 @@ behind_two s type kind text body is same = ap₂ (λ (a b : List ℕ). s ++ a ++
 pub front_kept : (text out more : List ℕ) → out ≡ text ++ more → take (length text) out ≡ text
 front_kept text out more is = ap (take (length text)) is ∙ take-append_seam text more
 
--- a message more behind others
+-- a message more after others
 pub message_more : (bodies new : List Message) (body : Message) (k : ℕ) (said : ℕ → List ℕ) → length bodies ≡ k → new ≡ bodies ++ body ∷ []
     → ((j : ℕ) → j < k → message_at bodies j ≡ said j) → message_of body.parts.items ≡ said k → (j : ℕ) → j < k + 1 → message_at new j ≡ said j
 message_more bodies new body k said size pushed before its j low =

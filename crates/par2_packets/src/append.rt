@@ -3,7 +3,7 @@
 ghost use Rattle.std.specs.Prelude.{◌≡◌, ◌≤◌, ◌+◌, ◌-◌, ◌%◌, ◌++◌, length, map, flat_map, OnOk, OnErr, IfOk};
 ghost use Rattle.md5.specs.Md5.{md5};
 ghost use Rattle.par2_spec.specs.Packets.{packet, digest_input};
-ghost use Rattle.par2_spec.specs.Volumes.{packet_of, main_id, main_bytes, desc_bytes, ifsc_bytes, creator_bytes, padded_4};
+ghost use Rattle.par2_spec.specs.Volumes.{packet_of, main_id, main_bytes, desc_bytes, ifsc_bytes, creator_bytes, recovery_bytes, padded_4};
 ghost use Rattle.par2_packets.specs.Views.{file_record_of};
 
 use crate::bytes::{u32_bytes, u64_bytes};
@@ -66,7 +66,7 @@ fn padding(len: usize) -> usize
     (4 - len % 4) % 4
 }
 
-// The text and zeros up to a multiple of 4, behind what is there.
+// The text and zeros up to a multiple of 4, after what is there.
 fn append_padded(out: &mut Vec<u8>, text: &[u8]) -> Result<(), AllocError>
     ensures { OnOk result (out.new.items ≡ out.old.items ++ padded_4 text.now) }
 {
@@ -165,4 +165,20 @@ pub fn append_creator(
     ensures err { OnErr result (out.new.items ≡ out.old.items) }
 {
     append_packet(out, set_id, Kind::Creator, b"par2 undo profile 1", &[0])
+}
+
+/// Adds the recovery slice of exponent `e`. Several cost less by `append_recoveries`.
+pub fn append_recovery(
+    _alloc: Global,
+    out: &mut Vec<u8>,
+    set_id: &[u8; 16],
+    e: u32,
+    bytes: &[u8],
+) -> Result<(), AllocError>
+    requires { length bytes.now % 4 ≡ 0 }
+    ensures ok { let added = packet_of set_id.now Kind.Recovery (recovery_bytes e bytes.now) in
+        OnOk result (out.new.items ≡ out.old.items ++ packet added) }
+    ensures err { OnErr result (out.new.items ≡ out.old.items) }
+{
+    append_packet(out, set_id, Kind::Recovery, &u32_bytes(e), bytes)
 }

@@ -10,7 +10,7 @@ mod recoveries;
 mod scan;
 mod views;
 
-pub use append::{append_creator, append_desc, append_ifsc, append_main};
+pub use append::{append_creator, append_desc, append_ifsc, append_main, append_recovery};
 pub use order::{DuplicateId, sort_ids};
 pub use par2_spec::Kind;
 pub use record::{FileRecord, Pair, file_id, main_id};

@@ -82,7 +82,7 @@ fn first_packet(text: &[u8]) -> Packet<'_>
     }
 }
 
-// The first packet of the text, and what is behind it.
+// The first packet of the text, and what is after it.
 fn next_packet(text: &[u8]) -> Option<(Packet<'_>, &[u8])>
     ensures { let found = packets.accepted text.now in
         MatchOption result (found ≡ []) (λ x. found ≡ packet_of x.0 ∷ packets.accepted x.1.now) }
@@ -106,7 +106,7 @@ fn next_packet(text: &[u8]) -> Option<(Packet<'_>, &[u8])>
 /// least 64 and within the text, and the right MD5. What stands between them is passed over, and so is a packet with
 /// a false digest, whose claim hides none.
 ///
-/// The time is that of a search for the magic and of one MD5 of each packet. Where a false digest stands behind a
+/// The time is that of a search for the magic and of one MD5 of each packet. Where a false digest stands after a
 /// magic it is the MD5 of what that claims, so a text of n bytes that was made for it takes up to n * n / 32 bytes
 /// of MD5.
 #[derive(Clone, Copy, Drop)]

@@ -1,22 +1,20 @@
 -- What holds of the words of a create with which nothing is wrong.
-use Rattle.std.proofs.Common.{◌≡◌, ℕ, ◌+◌, ◌%◌, ◌≤◌, List, [], ◌∷◌, length, sym, ◌∙◌, true, false, not, ◌&&◌, None, nat_lt, nat_le, arith, subst}
-use Rattle.std.specs.Prelude.{◌==◌, sum_by, IsTrue}
+use Rattle.std.proofs.Common.{◌≡◌, ℕ, ◌+◌, ◌%◌, ◌≤◌, List, [], ◌∷◌, length, ◌∙◌, true, false, not, ◌&&◌, None, nat_lt, nat_le, arith}
+use Rattle.std.specs.Prelude.{◌==◌, sum_by}
 use Rattle.std.specs.List.{AllByRecursion}
 use Rattle.std.proofs.lemmas.Bool.{and_parts, leb-true, ltb-false, not-false}
 use Rattle.std.proofs.lemmas.List.Sorted.{length_permutation, sum_by-IsPermutation}
 use Rattle.par2_spec.specs.Faults.{fault_where, fault_at}
 use Rattle.par2_spec.specs.Names.{is_name, is_par_name}
 use Rattle.par2_spec.specs.Slices.{slice_count}
-use Rattle.par2_spec.specs.Folders.{Folder, File, has, bytes_of}
+use Rattle.par2_spec.specs.Folders.{Folder, File, has}
 use Rattle.par2_spec.specs.Volumes.{in_id_order, all_slices}
 use Rattle.par2_spec.specs.Sets.{is_slice_size}
 use Rattle.par2_spec.specs.Commands.{CreateArgs, files_of}
-use Rattle.par2_spec.specs.Refusals.{are_counts, is_input_name, head_fault, bad_name}
-use Rattle.par2_spec.specs.declared.Fault.TheVariants.{BadSliceSize, BadCount, BadBase, NoInput, BadName, NoSuchFile, EmptyFile, TooManySlices}
-use Rattle.par2_spec.proofs.ListsLaws.{all-map}
+use Rattle.par2_spec.specs.Refusals.{are_counts, head_fault, bad_name}
+use Rattle.par2_spec.specs.declared.Fault.TheVariants.{BadSliceSize, BadCount, BadBase, NoInput, NoSuchFile, EmptyFile, TooManySlices}
 use Rattle.par2_spec.proofs.TestLaws.{where_none, all_none, at_none}
-use Rattle.par2_spec.proofs.FilesLaws.{names_of_files}
-use Rattle.par2_spec.proofs.OrderLaws.{moved-all, moved-ordered}
+use Rattle.par2_spec.proofs.OrderLaws.{moved-ordered}
 use Rattle.par2_spec.proofs.ReadLaws.{size_parts}
 use Rattle.par2_plan.proofs.SliceCounts.{slices_counted, few_files}
 use Rattle.par2_plan.specs.Faults.{duplicate_input, files_fault, ids_fault, inputs_fault}
@@ -57,7 +55,6 @@ head_passed a h =
 -- ---- the inputs
 
 pub record AreInputs (folder : Folder) (size : ℕ) (inputs : List (List ℕ)) : Type 0 where
-  pub names : AllByRecursion (λ file. IsTrue (is_name file.0)) (files_of folder inputs)
   pub filled : AllByRecursion (λ file. (length file.1 == 0) ≡ false) (files_of folder inputs)
   pub few : sum_by (λ file. slice_count size (length file.1)) (files_of folder inputs) ≤ 32768
 
@@ -71,8 +68,6 @@ inputs_passed folder size inputs h =
     let none = all_none (bad_name inputs ∷ duplicate_input inputs ∷ files_fault folder size inputs ∷ ids_fault (files_of folder inputs) ∷ []) h in
     let files = all_none (no_such ∷ empties ∷ fault_where too_many TooManySlices ∷ []) none.1.1.0 in
     record {
-      names = all-map (λ (word : List ℕ). not (is_input_name word) ≡ false) (λ (file : File). IsTrue (is_name file.0)) (λ (word : List ℕ). (word, bytes_of folder word))
-          (λ word no. (and_parts (is_name word) (not (is_par_name word)) (not-false _ no)).0) inputs (at_none 1 BadName (λ word. not (is_input_name word)) inputs none.0);
       filled = at_none 1 EmptyFile (λ (file : File). length file.1 == 0) (files_of folder inputs) files.1.0;
       few = ltb-false 32768 (sum_by (λ (file : File). slice_count size (length file.1)) (files_of folder inputs)) (where_none too_many TooManySlices files.1.1.0);
     }
@@ -80,12 +75,6 @@ inputs_passed folder size inputs h =
 -- ---- what a set says of them
 
 module _ (folder : Folder) (size : ℕ) (inputs : List (List ℕ)) (are : AreInputs folder size inputs) where
-  pub names_in_order : (names : List (List ℕ)) → files_of folder names ≡ in_id_order (files_of folder inputs) → AllByRecursion (λ name. IsTrue (is_name name)) names
-  names_in_order names order =
-      subst (AllByRecursion (λ name. IsTrue (is_name name))) (names_of_files folder names)
-      (all-map (λ (file : File). IsTrue (is_name file.0)) (λ name. IsTrue (is_name name)) (λ (file : File). file.0) (λ file h. h) (files_of folder names)
-      (subst (AllByRecursion (λ (file : File). IsTrue (is_name file.0))) (sym order) (moved-all (λ file. IsTrue (is_name file.0)) (files_of folder inputs) (in_id_order (files_of folder inputs)) (moved-ordered (files_of folder inputs)) are.names)))
-
   pub few_slices : length (all_slices size (in_id_order (files_of folder inputs))) ≤ 32768
   few_slices =
       let counted : length (all_slices size (in_id_order (files_of folder inputs))) ≡ sum_by (λ (file : File). slice_count size (length file.1)) (files_of folder inputs) =

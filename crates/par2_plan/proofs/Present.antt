@@ -1,33 +1,16 @@
 -- The base and the further files that are there.
-use Rattle.std.proofs.Common.{◌≡◌, ℕ, ◌+◌, ◌<◌, ◌^◌, List, [], ◌∷◌, map, refl, sym, ap, ◌∙◌, Bool, true, false, not, cond, arith, IsTrue, length}
+use Rattle.std.proofs.Common.{◌≡◌, ℕ, ◌+◌, List, [], ◌∷◌, map, refl, sym, ap, ◌∙◌, Bool, true, false, not, cond, arith}
 use Rattle.std.specs.Prelude.{Option, Some, None, Result, Ok, Err, option_map}
-use Rattle.std.specs.List.{AllByRecursion, position_from}
-use Rattle.std.specs.Str.{bytes_eq}
-use Rattle.std.proofs.lemmas.Bool.{or_from, false_from_ne_true}
+use Rattle.std.specs.List.{position_from}
 use Rattle.std.proofs.lemmas.Iterator.Adapters.{position_from-zero}
 use Rattle.par2_spec.specs.declared.Fault.{Fault}
 use Rattle.par2_spec.specs.declared.Fault.TheVariants.{NoSuchFile}
 use Rattle.par2_spec.specs.Faults.{or_fault}
-use Rattle.par2_spec.specs.Names.{is_name, is_among}
-use Rattle.par2_spec.specs.Folders.{Folder, File, has, files, IsFolder}
+use Rattle.par2_spec.specs.Folders.{Folder, has}
 use Rattle.par2_spec.specs.Sets.{ParSet, set_of}
 use Rattle.par2_spec.specs.Refusals.{absent_file, set_in}
-use Rattle.par2_spec.proofs.NamesLaws.{same_name, clash}
-use Rattle.par2_spec.proofs.MovesLaws.{has_by_names}
 use Rattle.par2_spec.proofs.AcceptedCommands.{missing, in_full, in_part}
 use Rattle.par2_plan.specs.Readings.{present_from}
-
--- ---- what is no name is no file's
-
-none_of_these : (word : List ℕ) → is_name word ≡ false → (entries : List File) → AllByRecursion (λ file. IsTrue (is_name file.0) × (length file.1 < 2 ^ 64)) entries
-    → is_among (map (λ file. file.0) entries) word ≡ false
-none_of_these word unnamed [] h = refl
-none_of_these word unnamed (file ∷ entries) h =
-    or_from (bytes_eq word file.0) (is_among (map (λ file. file.0) entries) word)
-    (false_from_ne_true _ (λ e. clash (ap is_name (same_name word file.0 e) ∙ h.0.0) unnamed)) (none_of_these word unnamed entries h.1)
-
-pub no_file : (folder : Folder) (word : List ℕ) → IsFolder folder → is_name word ≡ false → has folder word ≡ false
-no_file folder word kept unnamed = has_by_names folder word ∙ none_of_these word unnamed (files folder) kept
 
 -- ---- the first word that is absent
 

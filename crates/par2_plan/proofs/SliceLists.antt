@@ -52,7 +52,7 @@ packets_of_range s id texts e n =
     let made = λ (z : ℕ × List ℕ). packet_of id Recovery (recovery_bytes z.0 z.1) in
     ap (map made) (enumerate_range (recovery s texts) e n) ∙ map-map made (λ k. (k, recovery s texts k)) (range_with_len e n)
 
--- the packets of n more of them behind a text
+-- the packets of n more of them after a text
 pub packets_joined : (text out new : List ℕ) (s : ℕ) (id : List ℕ) (texts : List (List ℕ)) (e done n : ℕ)
     → out ≡ text ++ flat_map packet (recovery_packets s id texts e done) → new ≡ out ++ flat_map packet (recovery_packets s id texts (e + done) n)
     → new ≡ text ++ flat_map packet (recovery_packets s id texts e (done + n))

@@ -29,12 +29,12 @@ standings_end f (b ∷ needing) (t ∷ ts) given (inr h) = absurd (let no : ⊥ 
 
 -- ---- what is given for a target
 
--- the matches go on behind a target that needs one
+-- the matches go on after a target that needs one
 abbrev pub GoesOn : Bool → List (Option (List ℕ)) → Option (Bor (Option (List ℕ))) → List (Option (List ℕ)) → Type 0
 GoesOn true matches given later = (slice_index_or matches 0 None ≡ given_of given) × (later ≡ drop 1 matches)
 GoesOn false matches given later = later ≡ matches
 
--- behind the last match there is none
+-- after the last match there is none
 given_out : (given later : List (Option (List ℕ))) → length given ≡ 0 → later ≡ given → (slice_index_or given 0 None ≡ None) × (later ≡ drop 1 given)
 given_out [] later h same = (refl, same)
 given_out (o ∷ given) later h same = absurd (let no : ⊥ = grind arith in no)

@@ -1,11 +1,9 @@
 -- The outputs of a create, by parts.
-use Rattle.std.specs.Prelude.{ℕ, ◌≡◌, ◌≤◌, ◌+◌, ◌%◌, nat_lt, List, [], ◌∷◌, ◌++◌, length, map, flat_map, if◌then◌else◌, IsTrue}
-use Rattle.std.specs.List.{AllByRecursion}
+use Rattle.std.specs.Prelude.{ℕ, ◌≡◌, ◌≤◌, ◌+◌, ◌%◌, nat_lt, List, [], ◌∷◌, ◌++◌, length, map, flat_map, if◌then◌else◌}
 use Rattle.std.specs.Borrow.{Bor}
 use Rattle.par2_spec.specs.Packets.{Packet, packet}
 use Rattle.par2_spec.specs.Folders.{Folder, File, has}
 use Rattle.par2_spec.specs.Changes.{Change, Write, Replace}
-use Rattle.par2_spec.specs.Names.{is_name}
 use Rattle.par2_spec.specs.Volumes.{volume_name, volume_numbers, volumes_before, volume_size, all_slices, recovery_packets}
 use Rattle.par2_spec.specs.Commands.{CreateArgs, files_of}
 use Rattle.par2_spec.specs.Slices.{padded}
@@ -37,7 +35,7 @@ names_of volumes = map (λ volume. volume.name) volumes
 abbrev pub output_names : CreateArgs → List (List ℕ)
 output_names a = a.base ∷ names_of (volumes_of a.base a.first a.count)
 
--- the slices of a set's files, one file behind the other
+-- the slices of a set's files, one file after the other
 abbrev pub inputs_of : Parts → List (List ℕ)
 inputs_of parts = all_slices parts.set.now.slice_size (files_of parts.folder.now.files (records.names_of parts.set.now))
 
@@ -45,7 +43,6 @@ inputs_of parts = all_slices parts.set.now.slice_size (files_of parts.folder.now
 pub record HasSlices (parts : Parts) : Type 0 where
   pub positive : 1 ≤ parts.set.now.slice_size
   pub fours : parts.set.now.slice_size % 4 ≡ 0
-  pub names : AllByRecursion (λ name. IsTrue (is_name name)) (records.names_of parts.set.now)
   pub few : length (inputs_of parts) ≤ 32768
 
 -- these are the set's input slices, which zeros follow where a file ends early

@@ -203,6 +203,7 @@ pub fn plan_repair(
     extras: &[String],
     purge: bool,
 ) -> Result<Changes, Fault>
+    // It is refused as the definitions say, or memory ran out; what is refused first wants none.
     ensures refused { let command = Repair base.now (map string_bytes extras.now) purge in
         let reason = refusal folder.now.files command in
         IfErr result (λ fault. (fault ≡ Fault.Memory) ⊎ (reason ≡ Some fault)) }
@@ -211,14 +212,19 @@ pub fn plan_repair(
     ensures early { let command = Repair base.now (map string_bytes extras.now) purge in
         (fault : Fault) → early_refusal folder.now.files command ≡ Some fault
         → IsErrOf result fault }
+    // The changes are those of the definitions. They apply in order and lead to their folder.
     ensures changes { let command = Repair base.now (map string_bytes extras.now) purge in
         IfOk result (λ changes. changes ≡ plans.changes_of folder.now.files command) }
     ensures applies { IfOk result (λ changes. IsTrue (are_applicable folder.now.files changes)) }
     ensures leads { let command = Repair base.now (map string_bytes extras.now) purge in
         let left = after folder.now.files command in
         IfOk result (λ changes. effects folder.now.files changes ≡ left) }
+    // Each file that is written from slices has the described length and MD5, whatever the files
+    // of the folder hold; and there are so few names that asides can be numbered.
     ensures written { let words = map string_bytes extras.now in
         IfOk result (λ _. WritesAsDescribed folder.now.files base.now words) }
+    ensures few { let command = Repair base.now (map string_bytes extras.now) purge in
+        IfOk result (λ _. plans.AreFewFor folder.now.files command) }
 {
     let reading = read(alloc, folder, base, extras)?;
     repair_of(alloc, folder, &reading.set, &reading.extras, purge)

@@ -1,9 +1,10 @@
 //! What a verify reports.
-ghost use Rattle.std.specs.Prelude.{◌≡◌, ◌+◌, ◌≤◌, ◌<◌, ◌++◌, ℕ, length, map, slice_index, filter, is_some, IfOk, OnOk};
+ghost use Rattle.std.specs.Prelude.{◌≡◌, ◌+◌, ◌≤◌, ◌<◌, ◌++◌, ℕ, List, length, map, slice_index, filter, is_some, Ok, IfOk, OnOk};
 ghost use Rattle.std.specs.List.{list_all};
+ghost use Rattle.par2_spec.specs.Folders as folders;
 ghost use Rattle.par2_spec.specs.Folders.{has};
 ghost use Rattle.par2_spec.specs.Rank as ranks;
-ghost use Rattle.par2_spec.specs.Reports.{is_complete, verdict_of};
+ghost use Rattle.par2_spec.specs.Reports.{is_complete, verdict_of, report_in, IsVerdictIn};
 ghost use Rattle.par2_spec.specs.Search.{survivors};
 ghost use Rattle.par2_plan.specs.Findings.{AreSized};
 ghost use Rattle.par2_plan.specs.Parts.{state_by, found_by, target_report_by, target_reports_by, missing_from, lost_from, report_by};
@@ -71,9 +72,13 @@ fn are_complete(targets: &[TargetReport]) -> bool
 }
 
 impl Report {
-    /// What follows from the report: complete, repairable or neither. It takes no memory.
+    /// What follows from the report: complete, repairable or neither. Of a report on a set it is repairable exactly where
+    /// a target is needing and the lost slices are determined. It takes no memory.
     pub fn verdict(&self) -> Verdict
-        ensures { result ≡ verdict_of (report_of self.now) }
+        ensures answer { result ≡ verdict_of (report_of self.now) }
+        ensures words { (folder : folders.Folder) (base : List ℕ) (extras : List (List ℕ))
+            → report_in folder base extras ≡ Ok (report_of self.now)
+            → IsVerdictIn folder base extras result }
     {
         if are_complete(&self.targets) {
             Verdict::Complete

@@ -2,7 +2,7 @@
 ghost use Rattle.std.specs.Prelude.{◌≡◌, ◌⊎◌, map, string_bytes, IfOk, IfErr, IsErrOf, Some, Ok, Err};
 ghost use Rattle.par2_spec.specs.Commands.{Verify};
 ghost use Rattle.par2_spec.specs.Refusals.{early_refusal};
-ghost use Rattle.par2_spec.specs.Reports.{report_in};
+ghost use Rattle.par2_spec.specs.Reports.{report_in, verdict_of, IsVerdictIn, RefusedAsReported};
 ghost use Rattle.par2_spec.specs.Search as search;
 ghost use Rattle.par2_plan.specs.Findings.{standings};
 ghost use Rattle.par2_plan.specs.Parts.{report_by};
@@ -34,8 +34,10 @@ fn report_with(
     report_on(alloc, folder, set, &standings)
 }
 
-/// What a verify says of the set of a base, which is searched for in the files of its targets and in further ones.
-/// Memory is answered only where a growth is refused.
+/// What a verify says of the set of a base, which is searched for in the files of its targets and in further ones. The
+/// verdict on it is complete exactly where no target is needing, else repairable exactly where the surviving recovery
+/// slices determine the lost slices; and a repair is refused as not repairable exactly where the verdict says so. Memory
+/// is answered only where a growth is refused.
 pub fn check(alloc: Global, folder: &Folder, base: &str, extras: &[String]) -> Result<Report, Fault>
     ensures refused { let words = map string_bytes extras.now in
         let answer = report_in folder.now.files base.now words in
@@ -46,6 +48,12 @@ pub fn check(alloc: Global, folder: &Folder, base: &str, extras: &[String]) -> R
     ensures report { let words = map string_bytes extras.now in
         let answer = report_in folder.now.files base.now words in
         IfOk result (λ report. answer ≡ Ok (report_of report)) }
+    ensures verdict { let words = map string_bytes extras.now in
+        let is_verdict = IsVerdictIn folder.now.files base.now words in
+        IfOk result (λ report. is_verdict (verdict_of (report_of report))) }
+    ensures repair { let words = map string_bytes extras.now in
+        let is_refused = RefusedAsReported folder.now.files base.now words in
+        IfOk result (λ report. is_refused (report_of report)) }
 {
     let reading = read(alloc, folder, base, extras)?;
     Ok(report_with(alloc, folder, &reading.set, &reading.extras)?)

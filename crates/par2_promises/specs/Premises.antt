@@ -6,7 +6,6 @@ use Rattle.par2_spec.specs.Folders.{Folder, File, files}
 use Rattle.par2_spec.specs.Volumes.{all_slices}
 use Rattle.par2_spec.specs.Sets.{MadeFrom}
 use Rattle.par2_spec.specs.Search.{candidates, NoCollision}
-use Rattle.par2_spec.specs.Repairs.{AreFew}
 
 -- the set of the base was made from these files, cut into slices of s bytes, and what a repair
 -- finds of them is true
@@ -17,8 +16,6 @@ pub record IsTrueTo (folder : Folder) (base : List ℕ) (extras : List (List ℕ
   pub bytes : AllByRecursion (λ file. AreBytes file.1) originals
   -- a window with the checksums of a slice is that slice
   pub no_collision : NoCollision folder (candidates folder made.set extras) s (all_slices s originals)
-  -- the numbers of asides are written in full
-  pub few : AreFew folder made.set
 
 -- each file of the folder holds bytes
 abbrev pub HoldsBytes : Folder → Type 0

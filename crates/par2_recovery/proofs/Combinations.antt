@@ -2,15 +2,14 @@
 use Rattle.std.proofs.lemmas.Bool.{cases_lt}
 use Rattle.std.proofs.Common.{◌⊎◌, inl, inr, ℕ, zero, suc, ◌+◌, ◌-◌, ◌*◌, ◌/◌, ◌%◌, ◌<◌, ◌≤◌, ◌≡◌, refl, sym, ap, ap₂, ◌∙◌, subst, arith, List, [], ◌∷◌, ◌++◌, length, get_or, map, replicate, bit_xor, Vec, Global, length-append}
 use Rattle.std.specs.Borrow.{Bor}
-use Rattle.std.specs.List.{range_with_len, AllByRecursion}
+use Rattle.std.specs.List.{range_with_len}
 use Rattle.std.specs.Int.Bits.{xor_zero_l}
-use Rattle.std.proofs.Common.{append_assoc, zero-add, true}
+use Rattle.std.proofs.Common.{append_assoc, zero-add}
 use Rattle.std.proofs.lemmas.List.{ext_get_or, length-map, map-append, get_or_append_left, get_or_at, get_or_past, length-replicate}
 use Rattle.std.proofs.lemmas.List.FromFn.{map-range_with_len_more, get_or-map-range_with_len, length-map-range_with_len, length-range_with_len, get_or-range_with_len}
 use Rattle.par2_spec.specs.Field.{mul, coefficient}
 use Rattle.std.specs.Prelude.{take, drop}
 use Rattle.par2_spec.specs.Slices.{padded, word, slice_at}
-use Rattle.par2_spec.specs.Names.{is_name}
 use Rattle.par2_spec.specs.Recovery.{dot, coefficients, combination, recovery}
 use Rattle.par2_spec.proofs.ListsLaws.{all_at, range-append}
 use Rattle.par2_spec.proofs.FieldProducts.{product-lt}
@@ -160,11 +159,6 @@ slices_push s j bytes xs v before so_far is =
     ∙ ap₂ (λ a b. a ++ padded s b ∷ []) so_far is
     ∙ append_assoc before (map (slice_at s bytes) (range_with_len 0 j)) (slice_at s bytes j ∷ [])
     ∙ ap (λ xs. before ++ xs) (sym (map-range_with_len_more (slice_at s bytes) 0 j j (zero-add j)))
-
-pub name_within : (names : List (List ℕ)) (i : ℕ) → AllByRecursion (λ name. is_name name ≡ true) names → i < length names → is_name (get_or names i []) ≡ true
-name_within [] i all h = absurd (omega arith)
-name_within (x ∷ names) zero all h = all.0
-name_within (x ∷ names) (suc i) all h = name_within names i all.1 (omega arith)
 
 pub length-padded : (s : ℕ) (xs : List (Bor (List ℕ))) (ys : List (List ℕ)) → map (padded s) (texts_of xs) ≡ ys → length xs ≡ length ys
 length-padded s xs ys e = sym (length-map (texts_of xs) (padded s) ∙ length-map xs (λ (x : Bor (List ℕ)). x.now)) ∙ ap length e

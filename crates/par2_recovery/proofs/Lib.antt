@@ -2,6 +2,7 @@ pub mod RankTests
 pub mod Dots
 pub mod Adding
 pub mod Ranks
+pub mod Runs
 pub mod Combinations
 pub mod Rebuilding
 pub mod Inverting

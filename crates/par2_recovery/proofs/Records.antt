@@ -9,11 +9,12 @@ use Rattle.md5.specs.Md5.{md5}
 use Rattle.par2_digests.specs.Texts.{texts_of}
 use Rattle.par2_spec.specs.Folders.{Folder, File, bytes_of}
 use Rattle.par2_spec.specs.Volumes as volumes
-use Rattle.par2_spec.specs.Volumes.{record_of, in_id_order}
+use Rattle.par2_spec.specs.Volumes.{record_of, id_of, in_id_order}
 use Rattle.par2_spec.specs.Commands.{files_of}
 use Rattle.par2_spec.proofs.OrderLaws.{rising_records, files_of_ordered}
 use Rattle.par2_packets.specs.Views.{file_record_of, id_number}
 use Rattle.par2_packets.specs.declared.record.FileRecord.{FileRecord}
+use Rattle.par2_recovery.specs.Views.{AreRecords}
 
 pub record_push : (s : ℕ) (folder : Folder) (names : List (List ℕ)) (i : ℕ) (xs : List FileRecord) (x : FileRecord) (name bytes : List ℕ) → i < length names → name ≡ get_or names i [] → bytes ≡ bytes_of folder name
     → map file_record_of xs ≡ map (record_of s) (files_of folder (take i names)) → file_record_of x ≡ record_of s (name, bytes)
@@ -66,3 +67,11 @@ pub files_of_records : (s : ℕ) (folder : Folder) (names : List (List ℕ)) (xs
 files_of_records s folder names xs e =
     ap (files_of folder) (sym (map-map (λ (file : volumes.FileRecord). file.name) file_record_of xs) ∙ ap (map (λ (file : volumes.FileRecord). file.name)) e ∙ names_of_records s (in_id_order (files_of folder names)))
     ∙ files_of_ordered folder names
+
+-- the identifiers in the records of files
+pub ids_of_records : (s : ℕ) (files : List File) (records : List FileRecord) → AreRecords s files records → map (λ (file : FileRecord). file.id) records ≡ map id_of files
+unfolding record_of
+ids_of_records s files records are =
+    sym (map-map (λ (file : volumes.FileRecord). file.id) file_record_of records)
+    ∙ ap (map (λ (file : volumes.FileRecord). file.id)) are
+    ∙ map-map (λ (file : volumes.FileRecord). file.id) (record_of s) files

@@ -1,10 +1,11 @@
 //! Which lost slices the surviving recovery slices determine.
 
-ghost use Rattle.std.specs.Prelude.{◌≡◌, ◌≢◌, ◌↔◌, ◌<◌, ◌≤◌, ℕ, length, slice_index, map, IfOk, Ok};
+ghost use Rattle.std.specs.Prelude.{◌≡◌, ◌≢◌, ◌↔◌, ◌<◌, ◌≤◌, ℕ, length, slice_index, map, IfOk, IfSome, IsTrue, Ok};
 ghost use Rattle.std.specs.List.Sorted.{IsStrictlyIncreasing};
 ghost use Rattle.par2_spec.specs.Field.{coefficient};
 ghost use Rattle.par2_spec.specs.Recovery.{coefficients};
 ghost use Rattle.par2_spec.specs.Rank.{rank, IsRepairable};
+ghost use Rattle.par2_spec.specs.Runs.{AreClose, HasRun};
 ghost use Rattle.par2_matrix.specs.Systems.{CutDown, IsIndependent, IsDependent};
 
 use par2_gf16::Gf;
@@ -66,6 +67,80 @@ pub(crate) fn offer(
     system.offer(alloc, gf, &row, right)
 }
 
+// Whether the numbers rise.
+fn rise(numbers: &[u32]) -> bool
+    ensures { IsTrue result ↔ IsStrictlyIncreasing numbers.now }
+{
+    for i in 1..numbers.len() {
+        if numbers[i] <= numbers[i - 1] {
+            return false;
+        }
+    }
+    true
+}
+
+// Whether any two of these exponents, which rise, differ by less than `count`: the last and the first do.
+fn are_close(exponents: &[u32], count: usize) -> bool
+    requires { IsStrictlyIncreasing exponents.now }
+    ensures { IsTrue result ↔ AreClose count exponents.now }
+{
+    if exponents.is_empty() {
+        return true;
+    }
+    let span = exponents[exponents.len() - 1] - exponents[0];
+    (span as usize) < count
+}
+
+// Whether `count` of these exponents, which rise, follow one another without a gap: as many that are close do.
+fn has_run(exponents: &[u32], count: usize) -> bool
+    requires { IsStrictlyIncreasing exponents.now }
+    ensures { IsTrue result ↔ (first : ℕ) × HasRun first count exponents.now }
+{
+    for end in count..=exponents.len() {
+        if are_close(&exponents[end - count..end], count) {
+            return true;
+        }
+    }
+    false
+}
+
+// The rank, where the exponents tell it without their equations: all of them are close, or a run has as many as slices
+// are lost.
+fn rank_by_runs(lost: &[u32], exponents: &[u32]) -> Option<usize>
+    requires lost { (i : ℕ) → slice_index lost.now i < 32768 }
+    requires exponents { IsStrictlyIncreasing exponents.now }
+    ensures { IfSome result (λ n. n ≡ rank lost.now exponents.now) }
+{
+    if !rise(lost) {
+        return None;
+    }
+    if are_close(exponents, lost.len()) {
+        return Some(exponents.len());
+    }
+    if has_run(exponents, lost.len()) {
+        return Some(lost.len());
+    }
+    None
+}
+
+// The rank by the equations.
+fn rank_by_elimination(
+    alloc: Global,
+    gf: &Gf,
+    lost: &[u32],
+    exponents: &[u32],
+) -> Result<usize, AllocError>
+    requires lost { (i : ℕ) → slice_index lost.now i < 32768 }
+    requires exponents { IsStrictlyIncreasing exponents.now }
+    ensures { IfOk result (λ n. n ≡ rank lost.now exponents.now) }
+{
+    let mut system = System::new(alloc, lost.len(), 0)?;
+    for i in 0..exponents.len() {
+        offer(alloc, gf, &mut system, lost, exponents[i], Vec::new(alloc))?;
+    }
+    Ok(system.rank())
+}
+
 /// How many of the exponents are kept, for these lost slices: as many as are lost exactly where the recovery slices of
 /// the exponents determine them.
 pub fn rank(alloc: Global, gf: &Gf, lost: &[u32], exponents: &[u32]) -> Result<usize, AllocError>
@@ -76,9 +151,8 @@ pub fn rank(alloc: Global, gf: &Gf, lost: &[u32], exponents: &[u32]) -> Result<u
     ensures full { IfOk result (λ n. (n ≡ length lost.now)
         ↔ IsRepairable lost.now exponents.now) }
 {
-    let mut system = System::new(alloc, lost.len(), 0)?;
-    for i in 0..exponents.len() {
-        offer(alloc, gf, &mut system, lost, exponents[i], Vec::new(alloc))?;
+    match rank_by_runs(lost, exponents) {
+        Some(rank) => Ok(rank),
+        None => rank_by_elimination(alloc, gf, lost, exponents),
     }
-    Ok(system.rank())
 }

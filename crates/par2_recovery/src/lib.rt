@@ -13,5 +13,5 @@ mod set_record;
 pub use exponents::rank;
 pub use file_record::file_record_by_md5;
 pub use rebuild_slices::{RebuildFault, Survivors, rebuild, rebuild_lost};
-pub use recovery::{input_slices, recovery_slice, recovery_slices, recovery_slices_over};
-pub use set_record::{SetRecord, file_records};
+pub use recovery::{input_slices, recovery_slice, recovery_slices_over};
+pub use set_record::{RecordFault, SetRecord, file_records};

@@ -16,6 +16,7 @@ use crate::inverse::{Elimination, combined, eliminate};
 use crate::products::{fit_bytes, fit_texts};
 use par2_gf16::Gf;
 use std::alloc::{AllocError, Global};
+use thiserror::Error;
 
 /// What survives of the slices of a set.
 #[derive(Drop)]
@@ -29,11 +30,13 @@ pub struct Survivors<'a> {
 }
 
 /// Why lost slices aren't rebuilt.
-#[derive(Clone, Copy, PartialEq, Eq, Debug, Drop)]
+#[derive(Debug, Error, Clone, Copy, PartialEq, Eq, Drop)]
 pub enum RebuildFault {
     /// Too few exponents are kept.
+    #[error("not repairable, lost {missing}, rank {rank}")]
     NotRepairable { missing: usize, rank: usize },
     /// There was no memory.
+    #[error("out of memory")]
     Memory,
 }
 

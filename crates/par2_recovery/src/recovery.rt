@@ -1,8 +1,7 @@
 //! Recovery slices over the files of a set (Parity Volume Set Specification 2.0, "Recovery Slice packet").
 
 ghost use Rattle.std.specs.Prelude.{◌≡◌, ℕ, ◌+◌, ◌*◌, ◌%◌, ◌^◌, ◌<◌, ◌≤◌, ◌++◌, length, map, slice_index_or, [], IfOk, IsTrue};
-ghost use Rattle.std.specs.List.{range_with_len, AllByRecursion};
-ghost use Rattle.par2_spec.specs.Names.{is_name};
+ghost use Rattle.std.specs.List.{range_with_len};
 ghost use Rattle.par2_spec.specs.Folders.{bytes_of};
 ghost use Rattle.par2_spec.specs.Slices as spec;
 ghost use Rattle.par2_spec.specs.Volumes.{all_slices};
@@ -41,7 +40,7 @@ fn factors(
     count: u32,
 ) -> Result<Vec<Vec<u16>>, AllocError>
     requires slices { n ≤ 32768 }
-    requires exponents { first + count ≤ 65536 }
+    requires exponents { first + count ≤ 2 ^ 32 }
     ensures { IfOk result (λ rows. lists_of rows.items
         ≡ map (coefficients (range_with_len 0 n)) (range_with_len first count)) }
 {
@@ -76,7 +75,7 @@ pub fn recovery_slices_over(
 ) -> Result<Vec<Vec<u8>>, AllocError>
     requires slices { length slices.now ≤ 32768 }
     requires even { size % 2 ≡ 0 }
-    requires exponents { first + count ≤ 65536 }
+    requires exponents { first + count ≤ 2 ^ 32 }
     ensures { IfOk result (λ texts. lists_of texts.items ≡ map (recovery size
         (map (spec.padded size) (texts_of slices.now))) (range_with_len first count)) }
 {
@@ -88,9 +87,10 @@ pub fn recovery_slices_over(
 
 // The bytes of a file, none where it is absent.
 pub(crate) fn bytes_of<'a>(folder: &'a Folder, name: &str) -> &'a [u8]
-    requires { IsTrue (is_name name.now) }
     ensures { result.now ≡ bytes_of folder.now.files name.now }
 {
+    // It says that the names in a folder are names.
+    let _ = folder.vacant();
     let Ok(name) = Name::new(name) else {
         return &[];
     };
@@ -132,8 +132,7 @@ pub fn input_slices<'a>(
     record: &SetRecord,
     folder: &'a Folder,
 ) -> Result<Vec<&'a [u8]>, AllocError>
-    requires size { 1 ≤ record.now.slice_size }
-    requires names { AllByRecursion (λ name. IsTrue (is_name name)) (names_of record.now) }
+    requires { 1 ≤ record.now.slice_size }
     ensures { IfOk result (λ all. map (spec.padded record.now.slice_size) (texts_of all.items)
         ≡ all_slices record.now.slice_size (files_of folder.now.files (names_of record.now))) }
 {
@@ -142,32 +141,6 @@ pub fn input_slices<'a>(
         all = with_slices(all, bytes_of(folder, name_at(record, i)), record.slice_size)?;
     }
     Ok(all)
-}
-
-/// The recovery slices of `count` exponents from `first` on over the slices of the record's files, which are read once.
-/// A file that is absent has no slices.
-pub fn recovery_slices(
-    alloc: Global,
-    gf: &Gf,
-    record: &SetRecord,
-    folder: &Folder,
-    first: u32,
-    count: u32,
-) -> Result<Vec<Vec<u8>>, AllocError>
-    requires size { 1 ≤ record.now.slice_size }
-    requires even { record.now.slice_size % 2 ≡ 0 }
-    requires names { AllByRecursion (λ name. IsTrue (is_name name)) (names_of record.now) }
-    requires slices { length
-        (all_slices record.now.slice_size (files_of folder.now.files (names_of record.now)))
-        ≤ 32768 }
-    requires exponents { first + count ≤ 65536 }
-    ensures { IfOk result (λ texts. lists_of texts.items
-        ≡ map (recovery record.now.slice_size (all_slices record.now.slice_size
-        (files_of folder.now.files (names_of record.now)))) (range_with_len first count)) }
-{
-    let slices = input_slices(alloc, record, folder)?;
-    let size = record.slice_size as usize;
-    recovery_slices_over(alloc, gf, &slices, size, first, count)
 }
 
 /// The recovery slice of exponent `e` over the slices of the record's files. A file that is absent has no slices.
@@ -180,14 +153,14 @@ pub fn recovery_slice(
 ) -> Result<Vec<u8>, AllocError>
     requires size { 1 ≤ record.now.slice_size }
     requires even { record.now.slice_size % 2 ≡ 0 }
-    requires names { AllByRecursion (λ name. IsTrue (is_name name)) (names_of record.now) }
     requires slices { length
         (all_slices record.now.slice_size (files_of folder.now.files (names_of record.now)))
         ≤ 32768 }
-    requires exponent { e < 65536 }
     ensures { IfOk result (λ text. text.items ≡ recovery record.now.slice_size
         (all_slices record.now.slice_size (files_of folder.now.files (names_of record.now))) e) }
 {
-    let mut texts = recovery_slices(alloc, gf, record, folder, e, 1)?;
+    let slices = input_slices(alloc, record, folder)?;
+    let size = record.slice_size as usize;
+    let mut texts = recovery_slices_over(alloc, gf, &slices, size, e, 1)?;
     Ok(texts.remove(0))
 }

@@ -1,6 +1,6 @@
 //! What a set says of its files.
 
-ghost use Rattle.std.specs.Prelude.{◌≡◌, ◌≤◌, ◌<◌, ◌↔◌, ℕ, List, length, map, slice_index_or, [], IfOk, IsOk, IsTrue, IsPermutation};
+ghost use Rattle.std.specs.Prelude.{◌≡◌, ◌≤◌, ◌<◌, ◌↔◌, ℕ, List, length, map, slice_index_or, [], Err, IfOk, IsOk, IsPermutation};
 ghost use Rattle.std.specs.List.{IsDistinct};
 ghost use Rattle.std.specs.List.Sorted.{IsStrictlyIncreasing};
 ghost use Rattle.std.specs.Str.{bytes_eq};
@@ -8,8 +8,7 @@ ghost use Rattle.md5.specs.Md5.{md5};
 ghost use Rattle.par2_digests.specs.Texts.{texts_of};
 ghost use Rattle.par2_spec.specs.Folders as spec;
 ghost use Rattle.par2_spec.specs.Folders.{File};
-ghost use Rattle.par2_spec.specs.Names.{is_name};
-ghost use Rattle.par2_spec.specs.Volumes.{in_id_order};
+ghost use Rattle.par2_spec.specs.Volumes.{id_of, in_id_order};
 ghost use Rattle.par2_spec.specs.Commands.{files_of};
 ghost use Rattle.par2_packets.specs.Views.{id_number};
 ghost use Rattle.par2_recovery.specs.Views.{AreRecords, names_of};
@@ -20,6 +19,7 @@ use par2_digests::text_digests;
 use par2_folder::{Folder, Name};
 use par2_packets::{DuplicateId, FileRecord, sort_ids};
 use std::alloc::{AllocError, Global};
+use thiserror::Error;
 
 /// What a set says of its files.
 #[derive(Drop)]
@@ -33,8 +33,7 @@ pub struct SetRecord {
 // The text of name i.
 fn text_at(names: &[Name], i: usize) -> &str
     requires { i < length names.now }
-    ensures text { result.now ≡ slice_index_or names.now i [] }
-    ensures name { IsTrue (is_name result.now) }
+    ensures { result.now ≡ slice_index_or names.now i [] }
 {
     names[i].as_str()
 }
@@ -83,7 +82,57 @@ pub fn file_records(
     Ok(records)
 }
 
+/// Why there is no record of a set.
+#[derive(Debug, Error, Clone, Copy, PartialEq, Eq, Drop)]
+pub enum RecordFault {
+    /// Two files have one File ID.
+    #[error("two inputs have one file id")]
+    DuplicateId,
+    /// A growth was refused.
+    #[error("out of memory")]
+    Memory,
+}
+
+impl From<AllocError> for RecordFault {
+    ghost use Rattle.std.specs.Prelude.{◌≡◌};
+    ghost use Rattle.par2_recovery.specs.declared.set_record.RecordFault.TheVariants.{Memory};
+
+    ghost from_gives = { λ _ fault. fault ≡ Memory };
+
+    fn from(_: AllocError) -> Self {
+        RecordFault::Memory
+    }
+}
+
 impl SetRecord {
+    /// What a set of slice size `s` says of the files of these names, in the order of their File IDs. DuplicateId is
+    /// answered exactly where two of them have one File ID, unless memory ran out before.
+    pub fn of_files(
+        alloc: Global,
+        folder: &Folder,
+        names: &[Name],
+        s: u64,
+    ) -> Result<SetRecord, RecordFault>
+        requires { 1 ≤ s }
+        ensures slice { IfOk result (λ set. set.slice_size ≡ s) }
+        ensures files { IfOk result (λ set.
+            AreRecords s (in_id_order (files_of folder.now.files names.now)) set.files.items) }
+        ensures order { IfOk result (λ set. files_of folder.now.files (names_of set)
+            ≡ in_id_order (files_of folder.now.files names.now)) }
+        ensures rising { IfOk result
+            (λ set. IsStrictlyIncreasing (map id_number set.files.items)) }
+        ensures distinct { IsOk result
+            → IsDistinct bytes_eq (map id_of (files_of folder.now.files names.now)) }
+        ensures duplicate { result ≡ Err RecordFault.DuplicateId
+            → ¬ IsDistinct bytes_eq (map id_of (files_of folder.now.files names.now)) }
+    {
+        let records = file_records(alloc, folder, names, s)?;
+        match SetRecord::of_records(records, s) {
+            Ok(set) => Ok(set),
+            Err(DuplicateId) => Err(RecordFault::DuplicateId),
+        }
+    }
+
     /// What a set of slice size `s` says of the files with these records, in the order of their File IDs. All memory was
     /// taken for the records, so there is no other fault than that two of them have one File ID.
     pub fn of_records(mut files: Vec<FileRecord>, s: u64) -> Result<SetRecord, DuplicateId>

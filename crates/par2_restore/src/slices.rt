@@ -41,7 +41,7 @@ impl<'a> Slice<'a> {
     }
 }
 
-/// All slices of a set, in order, with the zeros behind the end of their files. Those that are found stand in the
+/// All slices of a set, in order, with the zeros after the end of their files. Those that are found stand in the
 /// texts, and none is copied.
 #[derive(Drop)]
 pub struct Slices<'a> {

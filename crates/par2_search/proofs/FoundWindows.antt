@@ -61,7 +61,7 @@ head_of_rest xs n x ys d is =
     let both = sym (drop_more xs n d within) ∙ is in
     (within, (let e : get_or xs n d ≡ x = cc both in e), (let e : drop (n + 1) xs ≡ ys = cc both in e))
 
--- ---- the first spot among texts, which stand behind others
+-- ---- the first spot among texts, which stand after others
 
 module _ (all : List (List ℕ)) (s : ℕ) (pair : Pair) where
   -- is in one of them

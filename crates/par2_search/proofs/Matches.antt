@@ -35,7 +35,7 @@ first_later s texts t free n within h =
 
 -- ---- one target after the other
 
--- target n, and those behind it
+-- target n, and those after it
 pub described_from : (targets : List Target) (ts : List sets.Target) (n : ℕ) (d : Target) → Describe targets ts → n < length targets → (t : sets.Target) × (drop n ts ≡ t ∷ drop (n + 1) ts) × Describes (get_or targets n d) t
 described_from [] ts n d h within = absurd (omega (arith, within))
 described_from (target ∷ targets) [] n d h within = absurd h

@@ -18,7 +18,7 @@ fn window_at<'a>(texts: &[&'a [u8]], s: u64, spot: Option<Spot>) -> Option<&'a [
 }
 
 /// For each pair the first window of `s` bytes that matches it, by text and then by offset; None where there is none.
-/// Where a window passes the end of its text, the zeros behind the end are left out.
+/// Where a window passes the end of its text, the zeros after the end are left out.
 pub fn found_windows<'a>(
     alloc: Global,
     texts: &[&'a [u8]],

@@ -117,7 +117,7 @@ pub one_byte : (c byte : ℕ) → crc_byte c byte ≡ bit_xor (steps 8 (bit_xor 
 unfolding steps
 one_byte c byte = crc_steps-split 0 8 (bit_xor c byte)
 
--- the groups of n bytes, one behind the other
+-- the groups of n bytes, one after the other
 pub concat-first_chunks : (n k : ℕ) (xs : List ℕ) → concat (first_chunks n k xs) ≡ take (k * n) xs
 concat-first_chunks n zero xs = ap (λ t. take t xs) (let e : 0 ≡ 0 * n = omega arith in e)
 concat-first_chunks n (suc k) xs =

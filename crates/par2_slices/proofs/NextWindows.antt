@@ -23,7 +23,7 @@ window_at s text o k below =
           ∙ sym (get_or_past text (o + k) 0 (omega (arith, past, below, size, rest)))
     ]
 
--- without its first byte, and with the next one behind, it is the next window
+-- without its first byte, and with the next one after, it is the next window
 pub next_window : (s : ℕ) (text : List ℕ) (o next : ℕ) → 1 ≤ s → next ≡ get_or text (s + o) 0 → drop 1 (window s text o) ++ next ∷ [] ≡ window s text (o + 1)
 next_window s text o next some is =
     let w : List ℕ = window s text o in

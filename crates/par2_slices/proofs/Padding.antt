@@ -1,4 +1,4 @@
--- Zeros behind the bytes, in pieces.
+-- Zeros after the bytes, in pieces.
 use Rattle.std.proofs.Common.{◌≡◌, ℕ, ◌+◌, ◌-◌, ◌*◌, ◌%◌, ◌/◌, List, ◌++◌, length, take, replicate, ap, ◌∙◌, arith}
 use Rattle.std.proofs.lemmas.List.{append_assoc, replicate-append-replicate, take-replicate}
 use Rattle.par2_spec.specs.Slices.{padded}

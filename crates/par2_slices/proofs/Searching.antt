@@ -62,12 +62,12 @@ pub none_settled : (s : ℕ) (text : List ℕ) (pair : Pair) (candidates : List 
 none_settled s text pair [] answer none = settled_none s text pair answer
 none_settled s text pair (candidate ∷ rest) answer none = absurd (omega (arith, none))
 
--- a candidate behind the others
+-- a candidate after the others
 settled_more : (s : ℕ) (text : List ℕ) (pair : Pair) (candidates : List Candidate) (candidate : Candidate) (answer : Option Spot) → after_candidates s text pair (candidates ++ candidate ∷ []) answer ≡ after_window (is_match pair (window s text candidate.spot.offset)) candidate.spot (after_candidates s text pair candidates answer)
 unfolding after_candidates
 settled_more s text pair candidates candidate answer = fold-append (λ (so_far : Option Spot) (c : Candidate). after_window (is_match pair (window s text c.spot.offset)) c.spot so_far) answer candidates (candidate ∷ [])
 
--- candidate k in front of those behind it
+-- candidate k in front of those after it
 pub settled_from : (s : ℕ) (text : List ℕ) (pair : Pair) (candidates : List Candidate) (k : ℕ) (answer : Option Spot) → k < length candidates →
     after_candidates s text pair (drop k candidates) answer ≡ after_candidates s text pair (drop (k + 1) candidates) (after_window (is_match pair (window s text (candidate_at candidates k).spot.offset)) (candidate_at candidates k).spot answer)
 unfolding after_candidates

@@ -1,4 +1,4 @@
--- Zero bits behind the bytes.
+-- Zero bits after the bytes.
 use Rattle.std.proofs.Common.{◌≡◌, ℕ, zero, suc, ◌+◌, ◌-◌, ◌*◌, ◌^◌, ◌<◌, ◌%◌, ◌/◌, List, length, replicate, sym, ap, subst, ◌∙◌, arith}
 use Rattle.std.specs.Prelude.{bit_xor, fold}
 use Rattle.std.specs.Int.Bits.{xor_zero_r}

@@ -19,6 +19,6 @@ pub use cutting::{slice_bytes, slice_count, slice_into, window_bytes};
 pub use digest::padded_md5;
 pub use pairs::{count_side_by_side, pairs_of, slice_md5s};
 pub use rolling::Rolling;
-pub use search::find_among;
+pub use search::{find, find_among};
 pub use wanted_pairs::{Pair, Wanted, pair_of};
 pub use zeros::padded_crc32;

@@ -81,7 +81,7 @@ impl Rolling {
         self.value = padded_crc32(window, self.size);
     }
 
-    /// Moves the window on by a byte: `out` leaves it in front, `next` comes in behind.
+    /// Moves the window on by a byte: `out` leaves it in front, `next` comes in at the end.
     pub fn slide(&mut self, out: u8, next: u8)
         ensures size { self.new.size ≡ self.old.size }
         ensures value { (rest : List ℕ) → length rest + 1 ≡ self.old.size → self.old.value

@@ -1,10 +1,10 @@
 //! The search for slices in a file by their checksums.
 
-ghost use Rattle.std.specs.Prelude.{None, ◌≡◌, ◌≤◌, ◌<◌, ◌+◌, ◌⊎◌, ◌↔◌, [], ℕ, List, IfOk, IsTrue, length, map, drop, slice_index};
+ghost use Rattle.std.specs.Prelude.{None, option_map, ◌≡◌, ◌≤◌, ◌<◌, ◌+◌, ◌⊎◌, ◌↔◌, [], ℕ, List, IfOk, IsTrue, length, map, drop, slice_index};
 ghost use Rattle.std.specs.List.{count_by};
 ghost use Rattle.std.specs.Option.{is_none};
 ghost use Rattle.par2_spec.specs.Checksums.{crc32};
-ghost use Rattle.par2_spec.specs.Windows.{window};
+ghost use Rattle.par2_spec.specs.Windows.{first_match, window};
 ghost use Rattle.par2_slices.specs.Filters.{AreFor};
 ghost use Rattle.par2_slices.specs.Searches.{after_window, candidate_at, has_checksums, is_awaited, answer_at, pair_at, place_at, first_spot, after_candidates, Earlier, IsAt, IsPlace, IsTally, IsWaiting, IsWindow};
 
@@ -434,4 +434,34 @@ pub fn find_among(
         search.search_text(wanted, text, bytes, s, &mut rolling);
     }
     Ok(search.found)
+}
+
+/// The offset of a spot.
+fn offset_of(spot: &Option<Spot>) -> Option<usize>
+    ensures { result ≡ option_map (λ spot. spot.offset) spot.now }
+{
+    spot.map(|spot| spot.offset)
+}
+
+/// The offsets of spots.
+fn offsets_of(alloc: Global, spots: &[Option<Spot>]) -> Result<Vec<Option<usize>>, AllocError>
+    ensures { IfOk result (λ offsets. offsets.items
+        ≡ map (option_map (λ spot. spot.offset)) spots.now) }
+{
+    spots.iter().map(offset_of).collect(alloc)
+}
+
+/// For each pair the least offset at which the window of `s` bytes of the text matches it, zeros standing past the end
+/// of the text; None where there is no such offset. It costs what `find_among` does.
+pub fn find(
+    alloc: Global,
+    bytes: &[u8],
+    s: u64,
+    wanted: &Wanted,
+) -> Result<Vec<Option<usize>>, AllocError>
+    requires { 1 ≤ s }
+    ensures { IfOk result (λ offsets. offsets.items ≡ map (first_match s bytes.now) wanted.now) }
+{
+    let spots = find_among(alloc, &[bytes], s, wanted)?;
+    offsets_of(alloc, &spots)
 }

@@ -1,6 +1,6 @@
-//! The CRC-32 of bytes with many zeros behind them, in a number of steps that doesn't grow with the zeros.
+//! The CRC-32 of bytes with many zeros after them, in a number of steps that doesn't grow with the zeros.
 //!
-//! A remainder is a polynomial, the lowest bit first, and each zero bit behind the bytes multiplies it by x.
+//! A remainder is a polynomial, the lowest bit first, and each zero bit after the bytes multiplies it by x.
 
 ghost use Rattle.std.specs.Prelude.{◌≡◌, ◌≤◌, ◌*◌, ℕ, length};
 ghost use Rattle.par2_spec.specs.Checksums as spec;

@@ -17,7 +17,7 @@ use Rattle.par2_spec.specs.Plans.{changes_of, repair_changes, repair_removals, p
 use Rattle.par2_spec.proofs.CommandLaws.{create_leads, removals_lead}
 use Rattle.par2_spec.proofs.CreateLaws.{create_applies}
 use Rattle.par2_spec.proofs.ReadLaws.{fits_of}
-use Rattle.par2_spec.proofs.RepairLaws.{fits_all, repair_applies, repair_leads, repair_and_purge_applies, repair_and_purge_leads, purge_applies}
+use Rattle.par2_spec.proofs.RepairLaws.{fits_all, asides_free, repair_applies, repair_leads, repair_and_purge_applies, repair_and_purge_leads, purge_applies}
 use Rattle.par2_spec.proofs.TestLaws.{no_place}
 use Rattle.par2_spec.proofs.RankLaws.{test_from_all, all_weaker}
 use Rattle.par2_spec.proofs.SessionLaws.{ok_no_err}
@@ -60,8 +60,8 @@ nothing_leads folder = (refl, refl)
 repair_of_set : (folder : Folder) (set : ParSet) (searched : List (List ℕ)) (purge : Bool) → FitsRepair folder set searched
     → Leads folder (if purge then repair_changes folder set searched ++ repair_removals folder set searched else repair_changes folder set searched)
     (if purge then after_repair_and_purge folder set searched else after_repair folder set searched)
-repair_of_set folder set searched true fits = let all = fits_all folder set searched fits in (repair_and_purge_applies folder set searched all, repair_and_purge_leads folder set searched all)
-repair_of_set folder set searched false fits = let all = fits_all folder set searched fits in (repair_applies folder set searched all, repair_leads folder set searched all)
+repair_of_set folder set searched true fits = let all = fits_all folder set searched fits in let free = asides_free folder set fits.few in (repair_and_purge_applies folder set searched all free, repair_and_purge_leads folder set searched all free)
+repair_of_set folder set searched false fits = let all = fits_all folder set searched fits in let free = asides_free folder set fits.few in (repair_applies folder set searched all free, repair_leads folder set searched all free)
 
 repair_of : (folder : Folder) (base : List ℕ) (extras : List (List ℕ)) (purge : Bool) → AreFewFor folder (Repair base extras purge) → (r : Result ParSet Fault) → set_in folder base extras ≡ r
     → Leads folder

@@ -5,17 +5,19 @@ use Rattle.std.specs.List.{range_with_len, list_all}
 use Rattle.std.specs.Str.{bytes_eq}
 use Rattle.std.proofs.Math.Seq.{drop-append_seam}
 use Rattle.std.proofs.lemmas.List.{append_assoc}
-use Rattle.std.proofs.lemmas.Bool.{and_parts, and_from, or_cases, or_from, cases_Bool, ne_eqb, not_from_false, cases_eq, false≢true, not-true, not-false}
+use Rattle.std.proofs.lemmas.Bool.{and_parts, and_from, or_cases, or_parts, or_from, cases_Bool, ne_eqb, not_from_false, cases_eq, false≢true, not-true, not-false}
 use Rattle.std.proofs.lemmas.Cmp.{nat_list_eq_equiv}
 use Rattle.std.proofs.lemmas.Fmt.{decimal_by_steps, decimal_injective}
 use Rattle.std.proofs.lemmas.List.Folds.{list_all-append}
 use Rattle.std.proofs.lemmas.List.FromFn.{length-map-range_with_len}
 use Rattle.std.proofs.lemmas.Map.Made.{length-le_from_is_member}
-use Rattle.par2_spec.specs.Names.{is_among, numbered, IsLeastFree}
-use Rattle.par2_spec.specs.Folders.{Folder}
-use Rattle.par2_spec.specs.Sets.{ParSet}
+use Rattle.par2_spec.specs.Names.{is_among, is_name, numbered, IsLeastFree}
+use Rattle.par2_spec.specs.Folders.{Folder, names}
+use Rattle.par2_spec.specs.Sets.{ParSet, target_names}
 use Rattle.par2_spec.specs.Repairs.{aside, taken_for, AreFew}
-use Rattle.par2_spec.proofs.NamesLaws.{same_name, other_name, AreDistinct, std_from_distinct}
+use Rattle.par2_spec.proofs.NamesLaws.{same_name, other_name, among-append, AreDistinct, std_from_distinct}
+use Rattle.par2_spec.proofs.NameTests.{no_name}
+use Rattle.par2_spec.proofs.SearchLaws.{found_passes}
 
 -- ---- a numbered name tells its name
 
@@ -178,3 +180,22 @@ aside_least folder set name few =
       free = aside_out folder set name few;
       least = λ m low high. not-false (is_among (taken_for folder set) (numbered name m)) (r.1.none_before m low high);
     }
+
+no_empty_name : is_name [] ≡ false
+unfolding is_name
+no_empty_name = refl
+
+-- an aside is no target's, also where no number is free
+pub aside_no_target : (folder : Folder) (set : ParSet) (name : List ℕ) → list_all is_name (target_names set) ≡ true → is_among (target_names set) (aside folder set name) ≡ false
+unfolding aside
+aside_no_target folder set name are_names = step (find free numbers) (found_passes free numbers)
+  where
+    free : List ℕ → Bool
+    free other = not (is_among (taken_for folder set) other)
+
+    numbers : List (List ℕ)
+    numbers = map (numbered name) (range_with_len 1 (length (taken_for folder set) + 1))
+
+    step : (o : Option (List ℕ)) → ((q : List ℕ) → o ≡ Some q → (is_among numbers q ≡ true) × (free q ≡ true)) → is_among (target_names set) (unwrap_or o []) ≡ false
+    step None h = no_name (target_names set) [] are_names no_empty_name
+    step (Some q) h = (or_parts _ _ (sym (among-append (names folder) (target_names set) q) ∙ not-true _ (h q refl).1)).1

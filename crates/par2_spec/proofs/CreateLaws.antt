@@ -39,7 +39,7 @@ read_five x =
     spelled : (a b c d e : ℕ) → read_digits 0 ((48 + a) ∷ (48 + b) ∷ (48 + c) ∷ (48 + d) ∷ (48 + e) ∷ []) ≡ a * 10000 + b * 1000 + c * 100 + d * 10 + e
     spelled a b c d e = omega arith
 
--- what stands behind the same front
+-- what stands after the same front
 same_rest : (front a b : List ℕ) → front ++ a ≡ front ++ b → a ≡ b
 same_rest front a b e = sym (drop-append_seam front a) ∙ ap (drop (length front)) e ∙ drop-append_seam front b
 

@@ -13,13 +13,14 @@ use Rattle.par2_spec.specs.Slices.{word}
 use Rattle.par2_spec.specs.Recovery.{dot, coefficients, combination, recovery}
 use Rattle.par2_spec.specs.Rank.{kept, IsVector, IsRepairable, Kills, AreBytes, AreSurvivors, Agrees, kept_slices, TwoAgree}
 use Rattle.par2_spec.specs.Search.{lost}
+use Rattle.par2_spec.specs.Polynomials.{AreElements}
 use Rattle.par2_spec.proofs.FieldProducts.{product_linear_right, product-lt, product_comm, product-one, product_assoc}
 use Rattle.par2_spec.proofs.FieldOrder.{product-zero, has_inverse}
 use Rattle.par2_spec.proofs.NamesLaws.{clash}
 use Rattle.par2_spec.proofs.RankLaws.{kept-iff, counts, counts-iff}
 use Rattle.par2_spec.proofs.OthersLaws.{another_agrees}
 use Rattle.par2_spec.proofs.WordLaws.{byte_at, word-lt, spelled, length-spelled, bytes-spelled, word_of}
-use Rattle.par2_spec.proofs.UniqueLaws.{sums, AreElements, dot-sums, dot-lt, coefficients_are, sums-elements, lost_from, whole_row, words_are, same_words, AreTexts}
+use Rattle.par2_spec.proofs.UniqueLaws.{sums, dot-sums, dot-lt, coefficients_are, sums-elements, lost_from, whole_row, words_are, same_words, AreTexts}
 use Rattle.par2_spec.proofs.ListsLaws.{all-map, all_unmap, all-passing, contained_later, of_contained}
 use Rattle.par2_spec.proofs.FoundLaws.{all-filter}
 
@@ -43,7 +44,7 @@ dot-scaled c (r ∷ row) (x ∷ v) small hr hv =
     ap₂ bit_xor (products_exchange r c x hr.0 small hv.0) (dot-scaled c row v small hr.1 hv.1)
     ∙ sym ((product_linear_right c).on_xor (mul r x) (dot row v))
 
-length-sums : (u v : List ℕ) → length u ≡ length v → length (sums u v) ≡ length v
+pub length-sums : (u v : List ℕ) → length u ≡ length v → length (sums u v) ≡ length v
 length-sums [] [] e = refl
 length-sums [] (y ∷ v) e = absurd (omega (arith, e))
 length-sums (x ∷ u) [] e = absurd (omega (arith, e))
@@ -51,7 +52,7 @@ length-sums (x ∷ u) (y ∷ v) e = ap suc (length-sums u v (omega (arith, e)))
 
 -- ---- a vector for which each kept exponent gives its number
 
-zeros_are : (n : ℕ) → IsVector n (replicate n 0)
+pub zeros_are : (n : ℕ) → IsVector n (replicate n 0)
 zeros_are zero = (refl, tt)
 zeros_are (suc n) = let rest = zeros_are n in (ap suc rest.0, (omega arith, rest.1))
 
@@ -106,12 +107,12 @@ moved row x v goal hr hx hv long small nonzero = record {
         product_assoc r inverse.0 d r_small inverse.1.0 d_small ∙ ap (mul r) (product_comm inverse.0 d inverse.1.0 d_small ∙ inverse.1.1) ∙ product-one r r_small
 
 -- the kept exponents below m give their numbers for the vector
-record IsSolved (is es : List ℕ) (goal : ℕ → ℕ) (m : ℕ) : Type 0 where
-  vector : List ℕ
-  is_vector : IsVector (length is) vector
-  gives : (e : ℕ) → e < m → Contains (kept is es) e → dot (coefficients is e) vector ≡ goal e
+pub record IsSolved (is es : List ℕ) (goal : ℕ → ℕ) (m : ℕ) : Type 0 where
+  pub vector : List ℕ
+  pub is_vector : IsVector (length is) vector
+  pub gives : (e : ℕ) → e < m → Contains (kept is es) e → dot (coefficients is e) vector ≡ goal e
 
-solved : (is es : List ℕ) (goal : ℕ → ℕ) → ((e : ℕ) → goal e < 2 ^ 16) → (m : ℕ) → IsSolved is es goal m
+pub solved : (is es : List ℕ) (goal : ℕ → ℕ) → ((e : ℕ) → goal e < 2 ^ 16) → (m : ℕ) → IsSolved is es goal m
 solved is es goal small zero = record { vector = replicate (length is) 0; is_vector = zeros_are (length is); gives = λ e lt c. absurd (omega (arith, lt)) }
 solved is es goal small (suc m) = step (counts (kept is es) m) refl (solved is es goal small m)
   where
@@ -149,7 +150,7 @@ solved is es goal small (suc m) = step (counts (kept is es) m) refl (solved is e
 
 -- ---- slices with the known ones and these texts at the lost places
 
--- the j-th lost slice and those behind it get the texts from the j-th on
+-- the j-th lost slice and those after it get the texts from the j-th on
 abbrev filled : (ℕ → List ℕ) → ℕ → List (Option (List ℕ)) → List (List ℕ)
 filled text j [] = []
 filled text j (Some y ∷ ks) = y ∷ filled text j ks

@@ -17,7 +17,7 @@ use Rattle.par2_spec.specs.Folders.{Folder, File, has, bytes_of, names}
 use Rattle.par2_spec.specs.Volumes.{record_of, all_slices}
 use Rattle.par2_spec.specs.Sets.{ParSet, Target, target_of_file, MadeFrom, is_slice_size}
 use Rattle.par2_spec.specs.Search.{is_intact, is_needing, needing, intact_names, matches, known, lost, survivors, NoCollision}
-use Rattle.par2_spec.specs.Repairs.{aside, put_aside, names_without_match, files_of_slices, rebuilt_targets, after_repair, after_repair_and_purge, par_files, is_par_file, FitsRepair, HoldsRepaired}
+use Rattle.par2_spec.specs.Repairs.{aside, put_aside, names_without_match, files_of_slices, rebuilt_targets, after_repair, after_repair_and_purge, par_files, is_par_file}
 use Rattle.par2_spec.specs.Commands.{files_of}
 use Rattle.par2_spec.proofs.NamesLaws.{same_name, itself, clash, among-filter, among-append, apart_by_test}
 use Rattle.par2_spec.proofs.FoundLaws.{slice_begins, all-filter, all_by_test}
@@ -25,7 +25,7 @@ use Rattle.par2_spec.proofs.RankLaws.{all_weaker}
 use Rattle.par2_spec.proofs.MovesLaws.{get_without}
 use Rattle.par2_spec.proofs.SearchLaws.{pairs_with, found_passes}
 use Rattle.par2_spec.proofs.ReadLaws.{sound_of, size_positive, size_parts}
-use Rattle.par2_spec.proofs.RepairLaws.{Fits, fits_all, match_free, repaired_holds, target_no_aside}
+use Rattle.par2_spec.proofs.RepairLaws.{Fits, match_free, matched_ones, written_ones, other_ones, target_no_aside}
 use Rattle.par2_spec.proofs.RestoredLaws.{IsTold, same_slices, true_slices_rebuilt, true_files}
 use Rattle.par2_spec.proofs.TestLaws.{some_if}
 use Rattle.par2_spec.proofs.ListsLaws.{all-parts, all-both, all_unmap, filter-map}
@@ -160,7 +160,7 @@ names_of_files folder (name ∷ names) = ap (λ ns. name ∷ ns) (names_of_files
 
 -- ---- after a repair
 
-module _ (folder : Folder) (base : List ℕ) (files : List File) (s : ℕ) (searched : List (List ℕ)) (m : MadeFrom folder base files s) (fits : FitsRepair folder m.set searched) where
+module _ (folder : Folder) (base : List ℕ) (files : List File) (s : ℕ) (searched : List (List ℕ)) (m : MadeFrom folder base files s) (all : Fits folder m.set searched) where
   abbrev set : ParSet
   set = m.set
 
@@ -170,17 +170,11 @@ module _ (folder : Folder) (base : List ℕ) (files : List File) (s : ℕ) (sear
   abbrev targets : List (List ℕ)
   targets = map (λ t. t.name) m.set.targets
 
-  abbrev all : Fits folder m.set searched
-  all = fits_all folder m.set searched fits
-
   abbrev IsWanted : File → Bool
   IsWanted file = is_needing folder m.set (target_of_file s file)
 
   abbrev free : List (List ℕ)
   free = filter (λ name. not (is_among (intact_names folder m.set) name)) searched
-
-  abbrev holds : HoldsRepaired folder m.set searched (after_repair folder m.set searched)
-  holds = repaired_holds folder m.set searched (fits_all folder m.set searched fits)
 
   -- each target's name is one, and an intact one's is an intact one's
   abbrev IsNamed : Target → Type 0
@@ -193,7 +187,7 @@ module _ (folder : Folder) (base : List ℕ) (files : List File) (s : ℕ) (sear
 
   untouched : (q : List ℕ) → is_among targets q ≡ true → is_among (intact_names folder m.set) q ≡ true → map_of.get after q ≡ map_of.get folder q
   untouched q own intact =
-      holds.others q
+      other_ones folder m.set searched all q
       (apart_by_test (λ t. t.name) (λ t. not (is_needing folder m.set t)) (is_needing folder m.set) (λ t. sym (not-not (is_needing folder m.set t))) m.set.targets all.once q intact)
       (false_from_ne_true _ (λ i. clash intact (not-true _ (match_free folder m.set searched all q i).1)))
       (target_no_aside folder m.set searched all (put_aside folder m.set) q own)
@@ -221,14 +215,14 @@ module _ (folder : Folder) (base : List ℕ) (files : List File) (s : ℕ) (sear
       let needed : needing folder m.set ≡ map (target_of_file s) wanted = ap (filter (is_needing folder m.set)) m.targets ∙ filter-map (is_needing folder m.set) (target_of_file s) files in
       let pairs : matches folder m.set searched ≡ pairs_with folder s free (map (target_of_file s) wanted) = ap (λ ts. pairs_with folder m.set.slice_size free ts) needed ∙ ap (λ n. pairs_with folder n free (map (target_of_file s) wanted)) m.slice_size in
       let cut = ap (files_of_slices m.set) (true_slices_rebuilt folder base files s searched m even told bytes repairable) ∙ true_files folder base files s m positive in
-      let by_slices = written_files after s test files (subst (λ cs. AllByRecursion (λ c. map_of.get after c.0.name ≡ Some c.1) (filter (λ c. test c.0.name) cs)) cut holds.written_ones) in
+      let by_slices = written_files after s test files (subst (λ cs. AllByRecursion (λ c. map_of.get after c.0.name ≡ Some c.1) (filter (λ c. test c.0.name) cs)) cut (written_ones folder m.set searched all)) in
       all_by_test (Holds after) IsWanted files (intact_hold present files named exact)
       (needing_hold folder after s searched free wanted test
       (λ q h. (and_parts _ _ (sym (among-filter (λ name. not (is_among (intact_names folder m.set) name)) searched q) ∙ h)).0)
       (λ q h. ap (λ ms. is_among (names_without_match ms) q) pairs ∙ h)
       (all-filter (λ file. test file.0 ≡ true → Holds after file) IsWanted files by_slices)
       (all-filter (IsExact folder s searched) IsWanted files exact)
-      (subst (AllByRecursion (λ n. ForSome n.1 (λ name. map_of.get after n.0.name ≡ Some (bytes_of folder name)))) pairs holds.matched_ones))
+      (subst (AllByRecursion (λ n. ForSome n.1 (λ name. map_of.get after n.0.name ≡ Some (bytes_of folder name)))) pairs (matched_ones folder m.set searched all)))
 
   -- with their digests
   pub right_digests : 0 < s → s % 2 ≡ 0 → NoCollision folder searched s (all_slices s files) → AllByRecursion (λ file. AllByRecursion (λ b. b < 256) file.1) files → IsRepairable (lost (known folder m.set searched)) (survivors m.set)

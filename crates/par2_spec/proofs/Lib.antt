@@ -6,6 +6,7 @@ pub mod FieldSteps
 pub mod FieldConstants
 pub mod FieldRows
 pub mod SumLaws
+pub mod PolynomialLaws
 pub mod FolderLaws
 pub mod CommandLaws
 pub mod TestLaws
@@ -44,6 +45,9 @@ pub mod RowsRank
 pub mod UniqueLaws
 pub mod OthersLaws
 pub mod ExistLaws
+pub mod FullRank
+pub mod RunLaws
+pub mod VerdictLaws
 pub mod LengthLaws
 pub mod OrderLaws
 pub mod RestoredLaws

@@ -1,5 +1,5 @@
 -- Renames and writes one after the other, as one change of a map.
-use Rattle.std.proofs.Common.{◌≡◌, ℕ, List, [], ◌∷◌, ◌++◌, map, refl, sym, ap, ◌∙◌, subst, T, cond, true, false, Bool, not, ◌&&◌, ◌||◌}
+use Rattle.std.proofs.Common.{◌≡◌, ℕ, ◌<◌, ◌^◌, List, [], ◌∷◌, ◌++◌, length, map, refl, sym, ap, ◌∙◌, subst, T, cond, true, false, Bool, not, ◌&&◌, ◌||◌, IsTrue}
 use Rattle.std.specs.Prelude.{filter, Option, Some, None, is_some, unwrap_or}
 use Rattle.std.specs.FinMap as map_of
 use Rattle.std.specs.FinMap.{get-insert, get-remove, get-retain_keys, slice_cmp-IsAntisymmetric, nat_cmp-IsAntisymmetric, contains_key-keys, entries_sorted}
@@ -12,9 +12,9 @@ use Rattle.std.specs.Str.{bytes_eq}
 use Rattle.std.specs.List.{list_any, AllByRecursion}
 use Rattle.std.proofs.lemmas.Map.Text.{is_eq-slice_cmp}
 use Rattle.std.proofs.lemmas.Bool.{or_left, or_right, or_from, false_from_ne_true, and_from, not_from_false, false≢true, or_parts}
-use Rattle.par2_spec.specs.Names.{is_among}
+use Rattle.par2_spec.specs.Names.{is_name, is_among}
 use Rattle.par2_spec.specs.Changes.{Change, Write, Rename, Remove, effect, effects, is_applicable, are_applicable}
-use Rattle.par2_spec.specs.Folders.{Folder, has, bytes_of, names, File, laid_over, without}
+use Rattle.par2_spec.specs.Folders.{Folder, has, bytes_of, names, File, files, laid_over, without, IsFolder}
 use Rattle.par2_spec.proofs.FolderLaws.{same_folder}
 use Rattle.par2_spec.proofs.CommandLaws.{gone_first, none_gone}
 use Rattle.par2_spec.proofs.NamesLaws.{among-append, same_name, itself, clash, other_name, AreDistinct, not_first}
@@ -84,6 +84,17 @@ names_once f = sorted_once (map_of.entries f) (entries_sorted f)
 
 pub no_file : (f : Folder) (q : List ℕ) → has f q ≡ false → map_of.get f q ≡ None
 no_file f q h = none_if (map_of.get f q) h
+
+none_named : (word : List ℕ) → is_name word ≡ false → (entries : List File) → AllByRecursion (λ file. IsTrue (is_name file.0) × (length file.1 < 2 ^ 64)) entries
+    → is_among (map (λ file. file.0) entries) word ≡ false
+none_named word unnamed [] h = refl
+none_named word unnamed (file ∷ entries) h =
+    or_from (bytes_eq word file.0) (is_among (map (λ file. file.0) entries) word)
+    (false_from_ne_true _ (λ e. clash (ap is_name (same_name word file.0 e) ∙ h.0.0) unnamed)) (none_named word unnamed entries h.1)
+
+-- what is no name is no file's
+pub no_names_file : (folder : Folder) (word : List ℕ) → IsFolder folder → is_name word ≡ false → has folder word ≡ false
+no_names_file folder word kept unnamed = has_by_names folder word ∙ none_named word unnamed (files folder) kept
 
 -- ---- files laid over a folder
 

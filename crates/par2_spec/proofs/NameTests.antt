@@ -1,11 +1,12 @@
 -- The tests of a name, one by one.
-use Rattle.std.proofs.Common.{◌≡◌, ℕ, List, length, true, false, not}
+use Rattle.std.proofs.Common.{◌≡◌, ◌∙◌, ℕ, List, [], ◌∷◌, length, ap, refl, true, false, not}
 use Rattle.std.specs.Prelude.{codes, nat_le, nat_eq, ◌==◌}
-use Rattle.std.specs.List.{list_any, starts_with}
+use Rattle.std.specs.List.{list_all, list_any, starts_with}
 use Rattle.std.specs.Str.{bytes_eq, is_utf8, IsUtf8}
-use Rattle.std.proofs.lemmas.Bool.{and_parts, and_from, false_from_ne_true}
+use Rattle.std.proofs.lemmas.Bool.{and_parts, and_from, or_from, false_from_ne_true}
 use Rattle.std.proofs.lemmas.Str.{IsUtf8-from_is_utf8}
-use Rattle.par2_spec.specs.Names.{is_name}
+use Rattle.par2_spec.specs.Names.{is_among, is_name}
+use Rattle.par2_spec.proofs.NamesLaws.{clash, other_name}
 
 pub record Tests (name : List ℕ) : Type 0 where
   pub some : nat_le 1 (length name) ≡ true
@@ -40,3 +41,10 @@ name_is_short name h = (tests_of name h).short
 -- what is no text is no name
 pub no_text : (bytes : List ℕ) → (IsUtf8 bytes → ⊥) → is_name bytes ≡ false
 no_text bytes not_text = false_from_ne_true (is_name bytes) (λ h. not_text (IsUtf8-from_is_utf8 bytes (tests_of bytes h).text))
+
+-- what is no name is not among names
+pub no_name : (names : List (List ℕ)) (text : List ℕ) → list_all is_name names ≡ true → is_name text ≡ false → is_among names text ≡ false
+no_name [] text h unnamed = refl
+no_name (name ∷ names) text h unnamed =
+    let all = and_parts (is_name name) (list_all is_name names) h in
+    or_from _ _ (other_name text name (λ e. clash (ap is_name e ∙ all.0) unnamed)) (no_name names text all.1 unnamed)

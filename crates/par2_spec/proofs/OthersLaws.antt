@@ -13,9 +13,10 @@ use Rattle.par2_spec.specs.Slices.{word}
 use Rattle.par2_spec.specs.Recovery.{dot, coefficients, combination, recovery}
 use Rattle.par2_spec.specs.Rank.{IsVector, Kills, IsRepairable, Agrees, AnotherAgrees}
 use Rattle.par2_spec.specs.Search.{lost}
+use Rattle.par2_spec.specs.Polynomials.{AreElements}
 use Rattle.par2_spec.proofs.RankLaws.{killed_vector}
 use Rattle.par2_spec.proofs.WordLaws.{word_behind}
-use Rattle.par2_spec.proofs.UniqueLaws.{sums, AreElements, AreTexts, IsZeroAtKnown, at_lost, lost_from, dot-at_lost, dot-sums, whole_row}
+use Rattle.par2_spec.proofs.UniqueLaws.{sums, AreTexts, IsZeroAtKnown, at_lost, lost_from, dot-at_lost, dot-sums, whole_row}
 
 -- ---- a vector over the lost slices, among all slices
 

@@ -1,8 +1,8 @@
 -- The changes of a repair lead to its folder.
 use Rattle.std.proofs.Common.{◌≡◌, ℕ, List, [], ◌∷◌, ◌++◌, length, map, inl, inr, refl, sym, ap, ◌∙◌, subst, cond, true, false, Bool, not, ◌&&◌, ◌||◌}
-use Rattle.std.specs.Prelude.{filter, filter_map, zip, take, drop, Option, Some, None, option_map, is_some, is_none, unwrap_or, if◌then◌else◌}
+use Rattle.std.specs.Prelude.{filter, filter_map, zip, take, drop, Option, Some, None, Ok, option_map, is_some, is_none, unwrap_or, if◌then◌else◌}
 use Rattle.std.specs.FinMap as map_of
-use Rattle.std.specs.List.{concat, list_any, AllByRecursion}
+use Rattle.std.specs.List.{concat, list_all, list_any, AllByRecursion}
 use Rattle.std.specs.Option.{ForSome}
 use Rattle.std.specs.Str.{bytes_eq}
 use Rattle.std.proofs.lemmas.List.{map-append}
@@ -14,15 +14,15 @@ use Rattle.par2_spec.specs.Names.{is_among, is_par_name}
 use Rattle.par2_spec.specs.Folders.{Folder, has, bytes_of, names, File, laid_over, without}
 use Rattle.par2_spec.specs.Changes.{Write, Rename, Remove, effects, are_applicable}
 use Rattle.par2_spec.specs.Packets.{accepted}
-use Rattle.par2_spec.specs.Sets.{ParSet, Target}
-use Rattle.par2_spec.specs.Search.{matches, known, needing, is_needing, intact_names, matching}
-use Rattle.par2_spec.specs.Repairs.{aside, put_aside, files_of_slices, cut_into, rebuilt, rebuilt_targets, matched_files, names_without_match, aside_files, after_repair, is_par_file, par_files, after_repair_and_purge, FitsRepair, HoldsRepaired}
+use Rattle.par2_spec.specs.Sets.{ParSet, Target, set_of, target_names}
+use Rattle.par2_spec.specs.Search.{candidates, matches, known, needing, needing_names, is_needing, intact_names, matching}
+use Rattle.par2_spec.specs.Repairs.{aside, put_aside, files_of_slices, cut_into, rebuilt, rebuilt_targets, matched_files, names_without_match, aside_files, after_repair, is_par_file, par_files, after_repair_and_purge, FitsRepair, HoldsRepaired, AreFew, taken_for}
 use Rattle.par2_spec.specs.Plans.{now_at, repair_changes, repair_removals, purge_changes}
 use Rattle.par2_spec.proofs.CommandLaws.{removals_lead}
 use Rattle.par2_spec.proofs.NamesLaws.{same_name, itself, clash, AreDistinct, among-filter, among-append, among_some, apart_by_test, distinct-map, distinct-filter, distinct_some, image_of, image_in, distinct-append, distinct_from_std}
 use Rattle.par2_spec.proofs.MovesLaws.{Move, CanMove, renames, sources, goals, arrived, renames_apply, renames_lead, writes_apply, writes_lead, get_put, get_laid, get_without, has_laid, has_without, has_by_names, laid_over-append, without-laid_over, without_without, same_without, removals_apply, names_once, all_laid}
-use Rattle.par2_spec.proofs.AsideLaws.{aside_out, aside_one}
-use Rattle.par2_spec.proofs.ReadLaws.{each_there}
+use Rattle.par2_spec.proofs.AsideLaws.{aside_out, aside_one, aside_no_target}
+use Rattle.par2_spec.proofs.ReadLaws.{each_there, candidates_there, sound_of}
 use Rattle.par2_spec.proofs.SearchLaws.{names_of_pairs, taken_was_free, taken_once}
 use Rattle.par2_spec.proofs.TestLaws.{same_tests, none_if, some_if}
 use Rattle.par2_spec.proofs.ListsLaws.{filter-map, map-cond}
@@ -106,12 +106,16 @@ names_of_contents f (t ∷ ts) slices = ap (λ ns. t.name ∷ ns) (names_of_cont
 
 -- ---- the law
 
--- what a repair is offered: a set whose names are distinct, names of the folder, and asides that are
--- nobody's names, to each target its own
+-- what the targets want: their names are distinct, the names that are searched are the folder's, and no aside is a
+-- target's
 pub record Fits (folder : Folder) (set : ParSet) (given : List (List ℕ)) : Type 0 where
   pub once : AreDistinct (map (λ t. t.name) set.targets)
   pub there : (q : List ℕ) → is_among given q ≡ true → has folder q ≡ true
-  pub aside_out : (n : List ℕ) → is_among (names folder ++ map (λ t. t.name) set.targets) (aside folder set n) ≡ false
+  pub aside_apart : (n : List ℕ) → is_among (map (λ t. t.name) set.targets) (aside folder set n) ≡ false
+
+-- and what the files that are put aside want: no aside is in the folder, and each name has its own
+pub record AreFree (folder : Folder) (set : ParSet) : Type 0 where
+  pub aside_free : (n : List ℕ) → has folder (aside folder set n) ≡ false
   pub aside_one : (a b : List ℕ) → aside folder set a ≡ aside folder set b → a ≡ b
 
 module _ (folder : Folder) (set : ParSet) (given : List (List ℕ)) (fits : Fits folder set given) where
@@ -136,18 +140,8 @@ module _ (folder : Folder) (set : ParSet) (given : List (List ℕ)) (fits : Fits
   abbrev now : List ℕ → List ℕ
   now = now_at folder set
 
-  -- an aside is in no folder and no target's
-  aside_free : (n : List ℕ) → has folder (off n) ≡ false
-  aside_free n = has_by_names folder (off n) ∙ (or_parts _ _ (sym (among-append (names folder) targets (off n)) ∙ fits.aside_out n)).0
-
-  aside_no_target : (n : List ℕ) → is_among targets (off n) ≡ false
-  aside_no_target n = (or_parts _ _ (sym (among-append (names folder) targets (off n)) ∙ fits.aside_out n)).1
-
-  present_no_aside : (ns : List (List ℕ)) (q : List ℕ) → has folder q ≡ true → is_among (map off ns) q ≡ false
-  present_no_aside ns q h = false_from_ne_true _ (λ i. let r = image_of off ns q i in clash h (subst (λ x. has folder x ≡ false) (sym r.2) (aside_free r.0)))
-
   pub target_no_aside : (ns : List (List ℕ)) (q : List ℕ) → is_among targets q ≡ true → is_among (map off ns) q ≡ false
-  target_no_aside ns q h = false_from_ne_true _ (λ i. let r = image_of off ns q i in clash h (subst (λ x. is_among targets x ≡ false) (sym r.2) (aside_no_target r.0)))
+  target_no_aside ns q h = false_from_ne_true _ (λ i. let r = image_of off ns q i in clash h (subst (λ x. is_among targets x ≡ false) (sym r.2) (fits.aside_apart r.0)))
 
   -- the heads of the matches are the needing targets
   heads : map (λ m. m.0.name) (matches folder set given) ≡ wanted
@@ -170,13 +164,6 @@ module _ (folder : Folder) (set : ParSet) (given : List (List ℕ)) (fits : Fits
       and_parts _ _ (sym (among-filter (λ name. not (is_among intact name)) given q)
       ∙ taken_was_free folder set.slice_size (filter (λ name. not (is_among intact name)) given) (needing folder set) q h)
 
-  match_there : (q : List ℕ) → is_among taken_names q ≡ true → has folder q ≡ true
-  match_there q h = fits.there q (match_free q h).0
-
-  matches_once : AreDistinct taken_names
-  unfolding matches
-  matches_once = taken_once folder set.slice_size (filter (λ name. not (is_among intact name)) given) (needing folder set)
-
   -- the present needing targets
   moved_is : (q : List ℕ) → is_among moved q ≡ (is_among wanted q && has folder q)
   moved_is q = among-filter (has folder) wanted q
@@ -184,190 +171,17 @@ module _ (folder : Folder) (set : ParSet) (given : List (List ℕ)) (fits : Fits
   moved_wanted : (q : List ℕ) → is_among moved q ≡ true → is_among wanted q ≡ true
   moved_wanted q h = (and_parts _ _ (sym (moved_is q) ∙ h)).0
 
-  moved_there : (q : List ℕ) → is_among moved q ≡ true → has folder q ≡ true
-  moved_there q h = (and_parts _ _ (sym (moved_is q) ∙ h)).1
-
-  wanted_moved : (q : List ℕ) → is_among wanted q ≡ true → has folder q ≡ true → is_among moved q ≡ true
-  wanted_moved q h k = moved_is q ∙ and_from _ _ h k
-
-  moved_once : AreDistinct moved
-  moved_once = distinct-filter (has folder) wanted wanted_once
-
-  now_moved : (q : List ℕ) → is_among moved q ≡ true → now q ≡ off q
-  now_moved q h = ap (λ b. if b then off q else q) h
-
-  now_other : (q : List ℕ) → is_among moved q ≡ false → now q ≡ q
-  now_other q h = ap (λ b. if b then off q else q) h
-
-  -- two matches stand at two places
-  now_one : (a b : List ℕ) → is_among taken_names a ≡ true → is_among taken_names b ≡ true → now a ≡ now b → a ≡ b
-  now_one a b i j e = elim (cases_Bool (is_among moved a)) as (λ _. a ≡ b) [
-    | inl h ↦ elim (cases_Bool (is_among moved b)) as (λ _. a ≡ b) [
-      | inl k ↦ fits.aside_one a b (sym (now_moved a h) ∙ e ∙ now_moved b k)
-      | inr k ↦ absurd (clash (match_there b j) (subst (λ x. has folder x ≡ false) (sym (now_moved a h) ∙ e ∙ now_other b k) (aside_free a)))
-    ]
-    | inr h ↦ elim (cases_Bool (is_among moved b)) as (λ _. a ≡ b) [
-      | inl k ↦ absurd (clash (match_there a i) (subst (λ x. has folder x ≡ false) (sym (sym (now_other a h) ∙ e ∙ now_moved b k)) (aside_free b)))
-      | inr k ↦ sym (now_other a h) ∙ e ∙ now_other b k
-    ]
-  ]
-
-  -- ---- first: the present needing targets are put aside
-
-  abbrev first : List Move
-  first = map (λ n. (n, off n)) moved
-
-  first_sources : sources first ≡ moved
-  first_sources = map-map (λ m. m.0) (λ n. (n, off n)) moved ∙ map_itself moved
-
-  first_goals : goals first ≡ map off moved
-  first_goals = map-map (λ m. m.1) (λ n. (n, off n)) moved
-
-  can_put_aside : CanMove folder first
-  can_put_aside = record {
-    sources_once = subst AreDistinct (sym first_sources) moved_once;
-    goals_once = subst AreDistinct (sym first_goals) (distinct-map off moved (λ a b i j. fits.aside_one a b) moved_once);
-    there = λ q h. moved_there q (subst (λ ns. is_among ns q ≡ true) first_sources h);
-    free = λ q h. let r = image_of off moved q (subst (λ ns. is_among ns q ≡ true) first_goals h) in subst (λ x. has folder x ≡ false) (sym r.2) (aside_free r.0);
-  }
-
-  -- the folder then
-  abbrev cleared : Folder
-  cleared = laid_over (put_under off folder moved) (without moved folder)
-
-  first_leads : effects folder (renames first) ≡ cleared
-  first_leads =
-      renames_lead folder first can_put_aside
-      ∙ ap (λ ns. laid_over (arrived folder first) (without ns folder)) first_sources
-      ∙ ap (λ fs. laid_over fs (without moved folder)) (map-map (λ m. (m.1, bytes_of folder m.0)) (λ n. (n, off n)) moved)
-
-  cleared_has : (q : List ℕ) → has cleared q ≡ (is_among (map off moved) q || (not (is_among moved q) && has folder q))
-  cleared_has q =
-      has_laid (put_under off folder moved) (without moved folder) q
-      ∙ ap (λ ns. is_among ns q || has (without moved folder) q) (map-map (λ file. file.0) (λ n. (off n, bytes_of folder n)) moved)
-      ∙ ap (λ b. is_among (map off moved) q || b) (has_without moved folder q)
-
-  -- no target that is needed stands there
-  cleared_wanted : (q : List ℕ) → is_among wanted q ≡ true → has cleared q ≡ false
-  cleared_wanted q h = cleared_has q ∙ or_from _ _ (target_no_aside moved q (wanted_is_target q h)) gone
-    where
-      step : (b : Bool) → has folder q ≡ b → (not (is_among moved q) && has folder q) ≡ false
-      step true k = ap (λ b. not b && has folder q) (wanted_moved q h k)
-      step false k = ap (λ b. not (is_among moved q) && b) k ∙ and-false (not (is_among moved q))
-
-      gone : (not (is_among moved q) && has folder q) ≡ false
-      gone = step (has folder q) refl
-
-  -- a match has its bytes where it stands now
-  cleared_match : (q : List ℕ) → is_among taken_names q ≡ true → map_of.get cleared (now q) ≡ map_of.get folder q
-  cleared_match q h = elim (cases_Bool (is_among moved q)) as (λ _. map_of.get cleared (now q) ≡ map_of.get folder q) [
-    | inl k ↦ ap (map_of.get cleared) (now_moved q k) ∙ get_under off folder (without moved folder) moved fits.aside_one q k ∙ sym (some_if [] (map_of.get folder q) (match_there q h))
-    | inr k ↦ ap (map_of.get cleared) (now_other q k)
-        ∙ get_laid (put_under off folder moved) (without moved folder) q (ap (λ ns. is_among ns q) (map-map (λ file. file.0) (λ n. (off n, bytes_of folder n)) moved) ∙ present_no_aside moved q (match_there q h))
-        ∙ get_without moved folder q ∙ ap (λ b. cond b None (map_of.get folder q)) k
-  ]
-
-  -- ---- second: the matched targets take their matches
-
-  abbrev second : List Move
-  second = moves_of now (matches folder set given)
-
-  second_sources : sources second ≡ map now taken_names
-  second_sources = sources-moves now (matches folder set given)
-
   abbrev won : List (List ℕ)
   won = map (λ m. m.0.name) (filter (λ m. is_some m.1) (matches folder set given))
 
-  second_goals : goals second ≡ won
-  second_goals = goals-moves now (matches folder set given)
-
   won_wanted : (q : List ℕ) → is_among won q ≡ true → is_among wanted q ≡ true
   won_wanted q h = subst (λ ns. is_among ns q ≡ true) heads (among_some (λ m. m.0.name) (λ m. is_some m.1) (matches folder set given) q h)
-
-  can_take : CanMove cleared second
-  can_take = record {
-    sources_once = subst AreDistinct (sym second_sources) (distinct-map now taken_names now_one matches_once);
-    goals_once = subst AreDistinct (sym second_goals) (distinct_some (λ m. m.0.name) (λ m. is_some m.1) (matches folder set given) heads_once);
-    there = λ q h. let r = image_of now taken_names q (subst (λ ns. is_among ns q ≡ true) second_sources h) in
-        ap (has cleared) r.2 ∙ ap is_some (cleared_match r.0 r.1) ∙ match_there r.0 r.1;
-    free = λ q h. cleared_wanted q (won_wanted q (subst (λ ns. is_among ns q ≡ true) second_goals h));
-  }
-
-  -- a needing target that is put aside and matched leaves no file under its aside
-  aside_taken : (n : List ℕ) → is_among moved n ≡ true → is_among (map now taken_names) (off n) ≡ is_among taken_names n
-  aside_taken n k = same_tests _ _
-      (λ h. let r = image_of now taken_names (off n) h in from r.0 r.1 r.2)
-      (λ h. subst (λ x. is_among (map now taken_names) x ≡ true) (now_moved n k) (image_in now taken_names n h))
-    where
-      from : (x : List ℕ) → is_among taken_names x ≡ true → off n ≡ now x → is_among taken_names n ≡ true
-      from x i e = elim (cases_Bool (is_among moved x)) as (λ _. is_among taken_names n ≡ true) [
-        | inl j ↦ subst (λ y. is_among taken_names y ≡ true) (sym (fits.aside_one n x (e ∙ now_moved x j))) i
-        | inr j ↦ absurd (clash (match_there x i) (subst (λ y. has folder y ≡ false) (e ∙ now_other x j) (aside_free n)))
-      ]
-
-  -- the asides that stay
-  asides_left : (ns : List (List ℕ)) → ((n : List ℕ) → is_among ns n ≡ true → is_among moved n ≡ true) → filter (λ file. not (is_among (map now taken_names) file.0)) (put_under off folder ns) ≡ put_under off folder (filter (λ n. not (is_among taken_names n)) ns)
-  asides_left [] k = refl
-  asides_left (n ∷ ns) k =
-      ap (λ b. cond (not b) ((off n, bytes_of folder n) ∷ filter (λ file. not (is_among (map now taken_names) file.0)) (put_under off folder ns)) (filter (λ file. not (is_among (map now taken_names) file.0)) (put_under off folder ns)))
-      (aside_taken n (k n (or_left _ _ (itself n))))
-      ∙ ap (λ fs. cond (not (is_among taken_names n)) ((off n, bytes_of folder n) ∷ fs) fs) (asides_left ns (λ m i. k m (or_right _ _ i)))
-      ∙ sym (map-cond (λ m. (off m, bytes_of folder m)) (not (is_among taken_names n)) n (filter (λ m. not (is_among taken_names m)) ns))
-
-  -- what is gone from the folder before
-  gone_alike : (q : List ℕ) → has folder q ≡ true → is_among (map now taken_names ++ moved) q ≡ is_among (map (λ m. m.0.name) (matches folder set given) ++ taken_names) q
-  gone_alike q k = same_tests _ _ to from
-    where
-      in_goals : is_among wanted q ≡ true → is_among (map (λ m. m.0.name) (matches folder set given) ++ taken_names) q ≡ true
-      in_goals h = among-append (map (λ m. m.0.name) (matches folder set given)) taken_names q ∙ or_left _ _ (subst (λ ns. is_among ns q ≡ true) (sym heads) h)
-
-      in_taken : is_among taken_names q ≡ true → is_among (map (λ m. m.0.name) (matches folder set given) ++ taken_names) q ≡ true
-      in_taken h = among-append (map (λ m. m.0.name) (matches folder set given)) taken_names q ∙ or_right _ _ h
-
-      in_moved : is_among moved q ≡ true → is_among (map now taken_names ++ moved) q ≡ true
-      in_moved h = among-append (map now taken_names) moved q ∙ or_right _ _ h
-
-      of_now : (x : List ℕ) → is_among taken_names x ≡ true → q ≡ now x → is_among taken_names q ≡ true
-      of_now x i e = elim (cases_Bool (is_among moved x)) as (λ _. is_among taken_names q ≡ true) [
-        | inl j ↦ absurd (clash k (subst (λ y. has folder y ≡ false) (sym (e ∙ now_moved x j)) (aside_free x)))
-        | inr j ↦ subst (λ y. is_among taken_names y ≡ true) (sym (e ∙ now_other x j)) i
-      ]
-
-      to : is_among (map now taken_names ++ moved) q ≡ true → is_among (map (λ m. m.0.name) (matches folder set given) ++ taken_names) q ≡ true
-      to h = elim (or_cases (is_among (map now taken_names) q) (is_among moved q) (sym (among-append (map now taken_names) moved q) ∙ h)) as (λ _. is_among (map (λ m. m.0.name) (matches folder set given) ++ taken_names) q ≡ true) [
-        | inl i ↦ let r = image_of now taken_names q i in in_taken (of_now r.0 r.1 r.2)
-        | inr i ↦ in_goals (moved_wanted q i)
-      ]
-
-      from : is_among (map (λ m. m.0.name) (matches folder set given) ++ taken_names) q ≡ true → is_among (map now taken_names ++ moved) q ≡ true
-      from h = elim (or_cases (is_among (map (λ m. m.0.name) (matches folder set given)) q) (is_among taken_names q) (sym (among-append (map (λ m. m.0.name) (matches folder set given)) taken_names q) ∙ h)) as (λ _. is_among (map now taken_names ++ moved) q ≡ true) [
-        | inl i ↦ in_moved (wanted_moved q (subst (λ ns. is_among ns q ≡ true) heads i) k)
-        | inr i ↦ elim (cases_Bool (is_among moved q)) as (λ _. is_among (map now taken_names ++ moved) q ≡ true) [
-          | inl j ↦ in_moved j
-          | inr j ↦ among-append (map now taken_names) moved q ∙ or_left _ _ (subst (λ x. is_among (map now taken_names) x ≡ true) (now_other q j) (image_in now taken_names q i))
-        ]
-      ]
 
   -- the folder then, as the map of the repair has it
   abbrev settled : Folder
   settled =
       laid_over (matched_files folder (matches folder set given))
       (laid_over (aside_files folder set taken_names) (without (map (λ m. m.0.name) (matches folder set given) ++ taken_names) folder))
-
-  left_over : without (map now taken_names) cleared ≡ laid_over (aside_files folder set taken_names) (without (map (λ m. m.0.name) (matches folder set given) ++ taken_names) folder)
-  left_over =
-      without-laid_over (map now taken_names) (put_under off folder moved) (without moved folder)
-      ∙ ap (λ fs. laid_over fs (without (map now taken_names) (without moved folder))) (asides_left moved (λ n i. i))
-      ∙ ap (laid_over (aside_files folder set taken_names))
-      (without_without (map now taken_names) moved folder ∙ same_without (map now taken_names ++ moved) (map (λ m. m.0.name) (matches folder set given) ++ taken_names) folder gone_alike)
-
-  second_leads : effects cleared (renames second) ≡ settled
-  second_leads =
-      renames_lead cleared second can_take
-      ∙ ap (λ fs. laid_over fs (without (sources second) cleared)) (arrived-moves now folder cleared (matches folder set given) (λ q h. ap (λ o. unwrap_or o []) (cleared_match q h)))
-      ∙ ap (laid_over (matched_files folder (matches folder set given))) (ap (λ ns. without ns cleared) second_sources ∙ left_over)
-
-  -- ---- third: the others are written
 
   abbrev written : List File
   written = map (λ c. (c.0.name, c.1)) (rebuilt_targets folder set given)
@@ -389,208 +203,392 @@ module _ (folder : Folder) (set : ParSet) (given : List (List ℕ)) (fits : Fits
       turned None = refl
       turned (Some x) = refl
 
-  -- where the needing targets' names are free, and then those that are matched are taken
-  settled_has : (q : List ℕ) → is_among wanted q ≡ true → has settled q ≡ is_among won q
-  settled_has q h =
-      ap (λ f. has f q) (sym second_leads ∙ renames_lead cleared second can_take)
-      ∙ has_laid (arrived cleared second) (without (sources second) cleared) q
-      ∙ ap (λ ns. is_among ns q || has (without (sources second) cleared) q) (map-map (λ file. file.0) (λ m. (m.1, bytes_of cleared m.0)) second ∙ second_goals)
-      ∙ ap (λ b. is_among won q || b) (has_without (sources second) cleared q ∙ ap (λ b. not (is_among (sources second) q) && b) (cleared_wanted q h))
-      ∙ none (is_among won q) (not (is_among (sources second) q))
-    where
-      none : (a b : Bool) → (a || (b && false)) ≡ a
-      none true b = refl
-      none false true = refl
-      none false false = refl
-
-  third_apply : are_applicable settled (map (λ file. Write file.0 file.1) written) ≡ true
-  third_apply =
-      writes_apply settled written (subst AreDistinct (sym written_names) (distinct-filter (is_among unwon) targets fits.once))
-      (λ q h.
-      let r = and_parts _ _ (sym (among-filter (is_among unwon) targets q) ∙ subst (λ ns. is_among ns q ≡ true) written_names h) in
-      settled_has q (subst (λ ns. is_among ns q ≡ true) heads (among_some (λ m. m.0.name) (λ m. is_none m.1) (matches folder set given) q r.1)) ∙ unwon_apart q r.1)
-
-  -- ---- together
-
-  changes_are : repair_changes folder set given ≡ renames first ++ renames second ++ map (λ file. Write file.0 file.1) written
-  unfolding repair_changes
-  changes_are =
-      ap (λ cs. cs ++ filter_map (λ m. option_map (λ name. Rename (now name) m.0.name) m.1) (matches folder set given) ++ map (λ c. Write c.0.name c.1) (rebuilt_targets folder set given))
-      (sym (map-map (λ m. Rename m.0 m.1) (λ n. (n, off n)) moved))
-      ∙ ap (λ cs. renames first ++ cs ++ map (λ c. Write c.0.name c.1) (rebuilt_targets folder set given)) (renames-moves now (matches folder set given))
-      ∙ ap (λ cs. renames first ++ renames second ++ cs) (sym (map-map (λ file. Write file.0 file.1) (λ c. (c.0.name, c.1)) (rebuilt_targets folder set given)))
-
-  -- the changes of a repair apply in order
-  pub repair_applies : are_applicable folder (repair_changes folder set given) ≡ true
-  repair_applies =
-      ap (are_applicable folder) changes_are
-      ∙ are_applicable-append folder (renames first ++ renames second) (map (λ file. Write file.0 file.1) written)
-      (are_applicable-append folder (renames first) (renames second) (renames_apply folder first can_put_aside)
-      (ap (λ f. are_applicable f (renames second)) first_leads ∙ renames_apply cleared second can_take))
-      (ap (λ f. are_applicable f (map (λ file. Write file.0 file.1) written))
-      (effects-append folder (renames first) (renames second) ∙ ap (λ f. effects f (renames second)) first_leads ∙ second_leads)
-      ∙ third_apply)
-
-  -- and lead to its folder
-  pub repair_leads : effects folder (repair_changes folder set given) ≡ after_repair folder set given
-  unfolding after_repair
-  repair_leads =
-      ap (effects folder) changes_are
-      ∙ effects-append folder (renames first ++ renames second) (map (λ file. Write file.0 file.1) written)
-      ∙ ap (λ f. effects f (map (λ file. Write file.0 file.1) written))
-      (effects-append folder (renames first) (renames second) ∙ ap (λ f. effects f (renames second)) first_leads ∙ second_leads)
-      ∙ writes_lead settled written
-      ∙ sym (laid_over-append (matched_files folder (matches folder set given)) written
-      (laid_over (aside_files folder set taken_names) (without (map (λ m. m.0.name) (matches folder set given) ++ taken_names) folder)))
-
-  -- ---- then the asides that are left and the par files are removed
-
   abbrev left : List (List ℕ)
   left = filter (λ name. not (is_among taken_names name)) moved
-
-  abbrev par_left : List (List ℕ)
-  par_left = filter (λ name. not (is_among taken_names name)) (par_files folder set)
 
   abbrev gone_names : List (List ℕ)
   gone_names = map (λ m. m.0.name) (matches folder set given) ++ taken_names
 
-  -- the names of the folder after a repair
-  after_has : (q : List ℕ) → has (after_repair folder set given) q ≡ (is_among (filter (is_among unwon) targets) q || (is_among won q || (is_among (map off left) q || (not (is_among gone_names q) && has folder q))))
-  unfolding after_repair
-  after_has q =
-      ap (λ f. has f q) (laid_over-append (matched_files folder (matches folder set given)) written (laid_over (aside_files folder set taken_names) (without gone_names folder)))
-      ∙ has_laid written settled q
-      ∙ ap (λ ns. is_among ns q || has settled q) written_names
-      ∙ ap (λ b. is_among (filter (is_among unwon) targets) q || b)
-      (has_laid (matched_files folder (matches folder set given)) (laid_over (aside_files folder set taken_names) (without gone_names folder)) q
-      ∙ ap (λ ns. is_among ns q || has (laid_over (aside_files folder set taken_names) (without gone_names folder)) q) (names-matched folder (matches folder set given))
-      ∙ ap (λ b. is_among won q || b)
-      (has_laid (aside_files folder set taken_names) (without gone_names folder) q
-      ∙ ap (λ ns. is_among ns q || has (without gone_names folder) q) (map-map (λ file. file.0) (λ n. (off n, bytes_of folder n)) left)
-      ∙ ap (λ b. is_among (map off left) q || b) (has_without gone_names folder q)))
-
-  -- a name that is no target's is there only as an aside that is left, or as before
-  after_other : (q : List ℕ) → is_among targets q ≡ false → has (after_repair folder set given) q ≡ (is_among (map off left) q || (not (is_among gone_names q) && has folder q))
-  after_other q h = after_has q ∙ past _ _ _ no_written no_won
-    where
-      past : (a b c : Bool) → a ≡ false → b ≡ false → (a || (b || c)) ≡ c
-      past true b c i j = absurd (false≢true (sym i))
-      past false true c i j = absurd (false≢true (sym j))
-      past false false c i j = refl
-
-      no_written : is_among (filter (is_among unwon) targets) q ≡ false
-      no_written = among-filter (is_among unwon) targets q ∙ ap (λ b. b && is_among unwon q) h
-
-      no_won : is_among won q ≡ false
-      no_won = false_from_ne_true _ (λ i. clash (wanted_is_target q (won_wanted q i)) h)
-
   left_is : (q : List ℕ) → is_among left q ≡ (is_among moved q && not (is_among taken_names q))
   left_is q = among-filter (λ name. not (is_among taken_names name)) moved q
-
-  par_left_is : (q : List ℕ) → is_among par_left q ≡ (is_among (par_files folder set) q && not (is_among taken_names q))
-  par_left_is q = among-filter (λ name. not (is_among taken_names name)) (par_files folder set) q
 
   left_moved : (q : List ℕ) → is_among left q ≡ true → is_among moved q ≡ true
   left_moved q h = (and_parts _ _ (sym (left_is q) ∙ h)).0
 
-  -- nothing stands under the aside of a match
-  pub vacant_aside : (q : List ℕ) → is_among taken_names q ≡ true → has (after_repair folder set given) (off q) ≡ false
-  vacant_aside q h =
-      after_other (off q) (aside_no_target q)
-      ∙ or_from (is_among (map off left) (off q)) (not (is_among gone_names (off q)) && has folder (off q)) (false_from_ne_true (is_among (map off left) (off q)) not_left)
-      (and_right (not (is_among gone_names (off q))) (has folder (off q)) (aside_free q))
-    where
-      not_left : is_among (map off left) (off q) ≡ true → ⊥
-      not_left i =
-          let r = image_of off left (off q) i in
-          let mine = subst (λ x. is_among left x ≡ true) (sym (fits.aside_one q r.0 r.2)) r.1 in
-          clash h (not-true (is_among taken_names q) (and_parts (is_among moved q) (not (is_among taken_names q)) (sym (left_is q) ∙ mine)).1)
+  module _ (free : AreFree folder set) where
+    present_no_aside : (ns : List (List ℕ)) (q : List ℕ) → has folder q ≡ true → is_among (map off ns) q ≡ false
+    present_no_aside ns q h = false_from_ne_true _ (λ i. let r = image_of off ns q i in clash h (subst (λ x. has folder x ≡ false) (sym r.2) (free.aside_free r.0)))
 
-  par_left_par : (q : List ℕ) → is_among par_left q ≡ true → is_among (par_files folder set) q ≡ true
-  par_left_par q h = (and_parts _ _ (sym (par_left_is q) ∙ h)).0
+    match_there : (q : List ℕ) → is_among taken_names q ≡ true → has folder q ≡ true
+    match_there q h = fits.there q (match_free q h).0
 
-  par_no_target : (q : List ℕ) → is_among (par_files folder set) q ≡ true → is_among targets q ≡ false
-  par_no_target q h =
-      let packets = accepted (bytes_of folder q) in
-      let passes = (and_parts _ _ (sym (among-filter (is_par_file folder set) (names folder) q) ∙ h)).1 in
-      let some = (and_parts (is_par_name q && not (is_among targets q) && list_any (λ p. bytes_eq p.set_id set.id) packets) _ passes).0 in
-      let no_target = (and_parts (is_par_name q && not (is_among targets q)) _ some).0 in
-      not-true (is_among targets q) (and_parts (is_par_name q) _ no_target).1
+    matches_once : AreDistinct taken_names
+    unfolding matches
+    matches_once = taken_once folder set.slice_size (filter (λ name. not (is_among intact name)) given) (needing folder set)
 
-  par_there : (q : List ℕ) → is_among (par_files folder set) q ≡ true → has folder q ≡ true
-  par_there q h = has_by_names folder q ∙ (and_parts _ _ (sym (among-filter (is_par_file folder set) (names folder) q) ∙ h)).0
+    moved_there : (q : List ℕ) → is_among moved q ≡ true → has folder q ≡ true
+    moved_there q h = (and_parts _ _ (sym (moved_is q) ∙ h)).1
 
-  -- a par file that was taken as a match is there no more
-  par_taken : (q : List ℕ) → is_among (par_files folder set) q ≡ true → is_among taken_names q ≡ true → has (after_repair folder set given) q ≡ false
-  par_taken q i j =
-      after_other q (par_no_target q i)
-      ∙ or_from (is_among (map off left) q) (not (is_among gone_names q) && has folder q) (present_no_aside left q (par_there q i))
-      (ap (λ b. not b && has folder q) (among-append (map (λ m. m.0.name) (matches folder set given)) taken_names q ∙ or_right (is_among (map (λ m. m.0.name) (matches folder set given)) q) (is_among taken_names q) j))
+    wanted_moved : (q : List ℕ) → is_among wanted q ≡ true → has folder q ≡ true → is_among moved q ≡ true
+    wanted_moved q h k = moved_is q ∙ and_from _ _ h k
 
-  -- what stands after the repair and is to go is what is removed
-  removed_alike : (q : List ℕ) → has (after_repair folder set given) q ≡ true → is_among (map off left ++ par_left) q ≡ is_among (map off moved ++ par_files folder set) q
-  removed_alike q k = same_tests _ _ to from
-    where
-      to : is_among (map off left ++ par_left) q ≡ true → is_among (map off moved ++ par_files folder set) q ≡ true
-      to h = elim (or_cases (is_among (map off left) q) (is_among par_left q) (sym (among-append (map off left) par_left q) ∙ h)) as (λ _. is_among (map off moved ++ par_files folder set) q ≡ true) [
-        | inl i ↦ let r = image_of off left q i in among-append (map off moved) (par_files folder set) q
-            ∙ or_left _ _ (subst (λ x. is_among (map off moved) x ≡ true) (sym r.2) (image_in off moved r.0 (left_moved r.0 r.1)))
-        | inr i ↦ among-append (map off moved) (par_files folder set) q ∙ or_right _ _ (par_left_par q i)
+    moved_once : AreDistinct moved
+    moved_once = distinct-filter (has folder) wanted wanted_once
+
+    now_moved : (q : List ℕ) → is_among moved q ≡ true → now q ≡ off q
+    now_moved q h = ap (λ b. if b then off q else q) h
+
+    now_other : (q : List ℕ) → is_among moved q ≡ false → now q ≡ q
+    now_other q h = ap (λ b. if b then off q else q) h
+
+    -- two matches stand at two places
+    now_one : (a b : List ℕ) → is_among taken_names a ≡ true → is_among taken_names b ≡ true → now a ≡ now b → a ≡ b
+    now_one a b i j e = elim (cases_Bool (is_among moved a)) as (λ _. a ≡ b) [
+      | inl h ↦ elim (cases_Bool (is_among moved b)) as (λ _. a ≡ b) [
+        | inl k ↦ free.aside_one a b (sym (now_moved a h) ∙ e ∙ now_moved b k)
+        | inr k ↦ absurd (clash (match_there b j) (subst (λ x. has folder x ≡ false) (sym (now_moved a h) ∙ e ∙ now_other b k) (free.aside_free a)))
       ]
-
-      was_aside : (n : List ℕ) → q ≡ off n → is_among (map off left) q ≡ true
-      was_aside n e = subst (λ x. is_among (map off left) x ≡ true) (sym e)
-          (only (is_among (map off left) (off n)) (not (is_among gone_names (off n))) (has folder (off n)) (aside_free n) (sym (after_other (off n) (aside_no_target n)) ∙ subst (λ x. has (after_repair folder set given) x ≡ true) e k))
-        where
-          only : (a b c : Bool) → c ≡ false → (a || (b && c)) ≡ true → a ≡ true
-          only true b c i j = refl
-          only false true c i j = absurd (clash j i)
-          only false false c i j = absurd (false≢true j)
-
-      was_par : is_among (par_files folder set) q ≡ true → is_among taken_names q ≡ false
-      was_par i = false_from_ne_true (is_among taken_names q) (λ j. clash k (par_taken q i j))
-
-      from : is_among (map off moved ++ par_files folder set) q ≡ true → is_among (map off left ++ par_left) q ≡ true
-      from h = elim (or_cases (is_among (map off moved) q) (is_among (par_files folder set) q) (sym (among-append (map off moved) (par_files folder set) q) ∙ h)) as (λ _. is_among (map off left ++ par_left) q ≡ true) [
-        | inl i ↦ let r = image_of off moved q i in among-append (map off left) par_left q ∙ or_left _ _ (was_aside r.0 r.2)
-        | inr i ↦ among-append (map off left) par_left q ∙ or_right _ _ (par_left_is q ∙ and_from _ _ i (not_from_false _ (was_par i)))
+      | inr h ↦ elim (cases_Bool (is_among moved b)) as (λ _. a ≡ b) [
+        | inl k ↦ absurd (clash (match_there a i) (subst (λ x. has folder x ≡ false) (sym (sym (now_other a h) ∙ e ∙ now_moved b k)) (free.aside_free b)))
+        | inr k ↦ sym (now_other a h) ∙ e ∙ now_other b k
       ]
+    ]
 
-  removed_there : (q : List ℕ) → is_among (map off left ++ par_left) q ≡ true → has (after_repair folder set given) q ≡ true
-  removed_there q h = elim (or_cases (is_among (map off left) q) (is_among par_left q) (sym (among-append (map off left) par_left q) ∙ h)) as (λ _. has (after_repair folder set given) q ≡ true) [
-    | inl i ↦ let r = image_of off left q i in after_other q (subst (λ x. is_among targets x ≡ false) (sym r.2) (aside_no_target r.0)) ∙ or_left _ _ i
-    | inr i ↦
-        let r = and_parts _ _ (sym (par_left_is q) ∙ i) in
-        after_other q (par_no_target q r.0) ∙ or_right _ _ (and_from _ _ (not_from_false _ (stays r.0 r.1)) (par_there q r.0))
-  ]
-    where
-      stays : is_among (par_files folder set) q ≡ true → not (is_among taken_names q) ≡ true → is_among gone_names q ≡ false
-      stays i j = among-append (map (λ m. m.0.name) (matches folder set given)) taken_names q
-          ∙ or_from _ _ (ap (λ ns. is_among ns q) heads ∙ false_from_ne_true _ (λ m. clash (wanted_is_target q m) (par_no_target q i))) (not-true (is_among taken_names q) j)
+    -- ---- first: the present needing targets are put aside
 
-  removed_once : AreDistinct (map off left ++ par_left)
-  removed_once = distinct-append (map off left) par_left
-      (distinct-map off left (λ a b i j. fits.aside_one a b) (distinct-filter (λ name. not (is_among taken_names name)) moved moved_once))
-      (distinct-filter (λ name. not (is_among taken_names name)) (par_files folder set) (distinct-filter (is_par_file folder set) (names folder) (names_once folder)))
-      (λ q i. false_from_ne_true _ (λ j. clash i (present_no_aside left q (par_there q (par_left_par q j)))))
+    abbrev first : List Move
+    first = map (λ n. (n, off n)) moved
 
-  removals_are : repair_removals folder set given ≡ map Remove (map off left ++ par_left)
-  unfolding repair_removals
-  removals_are =
-      ap (λ cs. cs ++ map Remove par_left) (sym (map-map Remove off left)) ∙ sym (map-append Remove (map off left) par_left)
+    first_sources : sources first ≡ moved
+    first_sources = map-map (λ m. m.0) (λ n. (n, off n)) moved ∙ map_itself moved
 
-  pub repair_and_purge_applies : are_applicable folder (repair_changes folder set given ++ repair_removals folder set given) ≡ true
-  repair_and_purge_applies =
-      are_applicable-append folder (repair_changes folder set given) (repair_removals folder set given) repair_applies
-      (ap (λ f. are_applicable f (repair_removals folder set given)) repair_leads ∙ ap (are_applicable (after_repair folder set given)) removals_are
-      ∙ removals_apply (after_repair folder set given) (map off left ++ par_left) removed_once removed_there)
+    first_goals : goals first ≡ map off moved
+    first_goals = map-map (λ m. m.1) (λ n. (n, off n)) moved
 
-  pub repair_and_purge_leads : effects folder (repair_changes folder set given ++ repair_removals folder set given) ≡ after_repair_and_purge folder set given
-  repair_and_purge_leads =
-      effects-append folder (repair_changes folder set given) (repair_removals folder set given)
-      ∙ ap (λ f. effects f (repair_removals folder set given)) repair_leads ∙ ap (effects (after_repair folder set given)) removals_are
-      ∙ removals_lead (after_repair folder set given) (map off left ++ par_left)
-      ∙ same_without (map off left ++ par_left) (map off moved ++ par_files folder set) (after_repair folder set given) removed_alike
+    can_put_aside : CanMove folder first
+    can_put_aside = record {
+      sources_once = subst AreDistinct (sym first_sources) moved_once;
+      goals_once = subst AreDistinct (sym first_goals) (distinct-map off moved (λ a b i j. free.aside_one a b) moved_once);
+      there = λ q h. moved_there q (subst (λ ns. is_among ns q ≡ true) first_sources h);
+      free = λ q h. let r = image_of off moved q (subst (λ ns. is_among ns q ≡ true) first_goals h) in subst (λ x. has folder x ≡ false) (sym r.2) (free.aside_free r.0);
+    }
+
+    -- the folder then
+    abbrev cleared : Folder
+    cleared = laid_over (put_under off folder moved) (without moved folder)
+
+    first_leads : effects folder (renames first) ≡ cleared
+    first_leads =
+        renames_lead folder first can_put_aside
+        ∙ ap (λ ns. laid_over (arrived folder first) (without ns folder)) first_sources
+        ∙ ap (λ fs. laid_over fs (without moved folder)) (map-map (λ m. (m.1, bytes_of folder m.0)) (λ n. (n, off n)) moved)
+
+    cleared_has : (q : List ℕ) → has cleared q ≡ (is_among (map off moved) q || (not (is_among moved q) && has folder q))
+    cleared_has q =
+        has_laid (put_under off folder moved) (without moved folder) q
+        ∙ ap (λ ns. is_among ns q || has (without moved folder) q) (map-map (λ file. file.0) (λ n. (off n, bytes_of folder n)) moved)
+        ∙ ap (λ b. is_among (map off moved) q || b) (has_without moved folder q)
+
+    -- no target that is needed stands there
+    cleared_wanted : (q : List ℕ) → is_among wanted q ≡ true → has cleared q ≡ false
+    cleared_wanted q h = cleared_has q ∙ or_from _ _ (target_no_aside moved q (wanted_is_target q h)) gone
+      where
+        step : (b : Bool) → has folder q ≡ b → (not (is_among moved q) && has folder q) ≡ false
+        step true k = ap (λ b. not b && has folder q) (wanted_moved q h k)
+        step false k = ap (λ b. not (is_among moved q) && b) k ∙ and-false (not (is_among moved q))
+
+        gone : (not (is_among moved q) && has folder q) ≡ false
+        gone = step (has folder q) refl
+
+    -- a match has its bytes where it stands now
+    cleared_match : (q : List ℕ) → is_among taken_names q ≡ true → map_of.get cleared (now q) ≡ map_of.get folder q
+    cleared_match q h = elim (cases_Bool (is_among moved q)) as (λ _. map_of.get cleared (now q) ≡ map_of.get folder q) [
+      | inl k ↦ ap (map_of.get cleared) (now_moved q k) ∙ get_under off folder (without moved folder) moved free.aside_one q k ∙ sym (some_if [] (map_of.get folder q) (match_there q h))
+      | inr k ↦ ap (map_of.get cleared) (now_other q k)
+          ∙ get_laid (put_under off folder moved) (without moved folder) q (ap (λ ns. is_among ns q) (map-map (λ file. file.0) (λ n. (off n, bytes_of folder n)) moved) ∙ present_no_aside moved q (match_there q h))
+          ∙ get_without moved folder q ∙ ap (λ b. cond b None (map_of.get folder q)) k
+    ]
+
+    -- ---- second: the matched targets take their matches
+
+    abbrev second : List Move
+    second = moves_of now (matches folder set given)
+
+    second_sources : sources second ≡ map now taken_names
+    second_sources = sources-moves now (matches folder set given)
+
+    second_goals : goals second ≡ won
+    second_goals = goals-moves now (matches folder set given)
+
+    can_take : CanMove cleared second
+    can_take = record {
+      sources_once = subst AreDistinct (sym second_sources) (distinct-map now taken_names now_one matches_once);
+      goals_once = subst AreDistinct (sym second_goals) (distinct_some (λ m. m.0.name) (λ m. is_some m.1) (matches folder set given) heads_once);
+      there = λ q h. let r = image_of now taken_names q (subst (λ ns. is_among ns q ≡ true) second_sources h) in
+          ap (has cleared) r.2 ∙ ap is_some (cleared_match r.0 r.1) ∙ match_there r.0 r.1;
+      free = λ q h. cleared_wanted q (won_wanted q (subst (λ ns. is_among ns q ≡ true) second_goals h));
+    }
+
+    -- a needing target that is put aside and matched leaves no file under its aside
+    aside_taken : (n : List ℕ) → is_among moved n ≡ true → is_among (map now taken_names) (off n) ≡ is_among taken_names n
+    aside_taken n k = same_tests _ _
+        (λ h. let r = image_of now taken_names (off n) h in from r.0 r.1 r.2)
+        (λ h. subst (λ x. is_among (map now taken_names) x ≡ true) (now_moved n k) (image_in now taken_names n h))
+      where
+        from : (x : List ℕ) → is_among taken_names x ≡ true → off n ≡ now x → is_among taken_names n ≡ true
+        from x i e = elim (cases_Bool (is_among moved x)) as (λ _. is_among taken_names n ≡ true) [
+          | inl j ↦ subst (λ y. is_among taken_names y ≡ true) (sym (free.aside_one n x (e ∙ now_moved x j))) i
+          | inr j ↦ absurd (clash (match_there x i) (subst (λ y. has folder y ≡ false) (e ∙ now_other x j) (free.aside_free n)))
+        ]
+
+    -- the asides that stay
+    asides_left : (ns : List (List ℕ)) → ((n : List ℕ) → is_among ns n ≡ true → is_among moved n ≡ true) → filter (λ file. not (is_among (map now taken_names) file.0)) (put_under off folder ns) ≡ put_under off folder (filter (λ n. not (is_among taken_names n)) ns)
+    asides_left [] k = refl
+    asides_left (n ∷ ns) k =
+        ap (λ b. cond (not b) ((off n, bytes_of folder n) ∷ filter (λ file. not (is_among (map now taken_names) file.0)) (put_under off folder ns)) (filter (λ file. not (is_among (map now taken_names) file.0)) (put_under off folder ns)))
+        (aside_taken n (k n (or_left _ _ (itself n))))
+        ∙ ap (λ fs. cond (not (is_among taken_names n)) ((off n, bytes_of folder n) ∷ fs) fs) (asides_left ns (λ m i. k m (or_right _ _ i)))
+        ∙ sym (map-cond (λ m. (off m, bytes_of folder m)) (not (is_among taken_names n)) n (filter (λ m. not (is_among taken_names m)) ns))
+
+    -- what is gone from the folder before
+    gone_alike : (q : List ℕ) → has folder q ≡ true → is_among (map now taken_names ++ moved) q ≡ is_among (map (λ m. m.0.name) (matches folder set given) ++ taken_names) q
+    gone_alike q k = same_tests _ _ to from
+      where
+        in_goals : is_among wanted q ≡ true → is_among (map (λ m. m.0.name) (matches folder set given) ++ taken_names) q ≡ true
+        in_goals h = among-append (map (λ m. m.0.name) (matches folder set given)) taken_names q ∙ or_left _ _ (subst (λ ns. is_among ns q ≡ true) (sym heads) h)
+
+        in_taken : is_among taken_names q ≡ true → is_among (map (λ m. m.0.name) (matches folder set given) ++ taken_names) q ≡ true
+        in_taken h = among-append (map (λ m. m.0.name) (matches folder set given)) taken_names q ∙ or_right _ _ h
+
+        in_moved : is_among moved q ≡ true → is_among (map now taken_names ++ moved) q ≡ true
+        in_moved h = among-append (map now taken_names) moved q ∙ or_right _ _ h
+
+        of_now : (x : List ℕ) → is_among taken_names x ≡ true → q ≡ now x → is_among taken_names q ≡ true
+        of_now x i e = elim (cases_Bool (is_among moved x)) as (λ _. is_among taken_names q ≡ true) [
+          | inl j ↦ absurd (clash k (subst (λ y. has folder y ≡ false) (sym (e ∙ now_moved x j)) (free.aside_free x)))
+          | inr j ↦ subst (λ y. is_among taken_names y ≡ true) (sym (e ∙ now_other x j)) i
+        ]
+
+        to : is_among (map now taken_names ++ moved) q ≡ true → is_among (map (λ m. m.0.name) (matches folder set given) ++ taken_names) q ≡ true
+        to h = elim (or_cases (is_among (map now taken_names) q) (is_among moved q) (sym (among-append (map now taken_names) moved q) ∙ h)) as (λ _. is_among (map (λ m. m.0.name) (matches folder set given) ++ taken_names) q ≡ true) [
+          | inl i ↦ let r = image_of now taken_names q i in in_taken (of_now r.0 r.1 r.2)
+          | inr i ↦ in_goals (moved_wanted q i)
+        ]
+
+        from : is_among (map (λ m. m.0.name) (matches folder set given) ++ taken_names) q ≡ true → is_among (map now taken_names ++ moved) q ≡ true
+        from h = elim (or_cases (is_among (map (λ m. m.0.name) (matches folder set given)) q) (is_among taken_names q) (sym (among-append (map (λ m. m.0.name) (matches folder set given)) taken_names q) ∙ h)) as (λ _. is_among (map now taken_names ++ moved) q ≡ true) [
+          | inl i ↦ in_moved (wanted_moved q (subst (λ ns. is_among ns q ≡ true) heads i) k)
+          | inr i ↦ elim (cases_Bool (is_among moved q)) as (λ _. is_among (map now taken_names ++ moved) q ≡ true) [
+            | inl j ↦ in_moved j
+            | inr j ↦ among-append (map now taken_names) moved q ∙ or_left _ _ (subst (λ x. is_among (map now taken_names) x ≡ true) (now_other q j) (image_in now taken_names q i))
+          ]
+        ]
+
+    left_over : without (map now taken_names) cleared ≡ laid_over (aside_files folder set taken_names) (without (map (λ m. m.0.name) (matches folder set given) ++ taken_names) folder)
+    left_over =
+        without-laid_over (map now taken_names) (put_under off folder moved) (without moved folder)
+        ∙ ap (λ fs. laid_over fs (without (map now taken_names) (without moved folder))) (asides_left moved (λ n i. i))
+        ∙ ap (laid_over (aside_files folder set taken_names))
+        (without_without (map now taken_names) moved folder ∙ same_without (map now taken_names ++ moved) (map (λ m. m.0.name) (matches folder set given) ++ taken_names) folder gone_alike)
+
+    second_leads : effects cleared (renames second) ≡ settled
+    second_leads =
+        renames_lead cleared second can_take
+        ∙ ap (λ fs. laid_over fs (without (sources second) cleared)) (arrived-moves now folder cleared (matches folder set given) (λ q h. ap (λ o. unwrap_or o []) (cleared_match q h)))
+        ∙ ap (laid_over (matched_files folder (matches folder set given))) (ap (λ ns. without ns cleared) second_sources ∙ left_over)
+
+    -- ---- third: the others are written
+
+    -- where the needing targets' names are free, and then those that are matched are taken
+    settled_has : (q : List ℕ) → is_among wanted q ≡ true → has settled q ≡ is_among won q
+    settled_has q h =
+        ap (λ f. has f q) (sym second_leads ∙ renames_lead cleared second can_take)
+        ∙ has_laid (arrived cleared second) (without (sources second) cleared) q
+        ∙ ap (λ ns. is_among ns q || has (without (sources second) cleared) q) (map-map (λ file. file.0) (λ m. (m.1, bytes_of cleared m.0)) second ∙ second_goals)
+        ∙ ap (λ b. is_among won q || b) (has_without (sources second) cleared q ∙ ap (λ b. not (is_among (sources second) q) && b) (cleared_wanted q h))
+        ∙ none (is_among won q) (not (is_among (sources second) q))
+      where
+        none : (a b : Bool) → (a || (b && false)) ≡ a
+        none true b = refl
+        none false true = refl
+        none false false = refl
+
+    third_apply : are_applicable settled (map (λ file. Write file.0 file.1) written) ≡ true
+    third_apply =
+        writes_apply settled written (subst AreDistinct (sym written_names) (distinct-filter (is_among unwon) targets fits.once))
+        (λ q h.
+        let r = and_parts _ _ (sym (among-filter (is_among unwon) targets q) ∙ subst (λ ns. is_among ns q ≡ true) written_names h) in
+        settled_has q (subst (λ ns. is_among ns q ≡ true) heads (among_some (λ m. m.0.name) (λ m. is_none m.1) (matches folder set given) q r.1)) ∙ unwon_apart q r.1)
+
+    -- ---- together
+
+    changes_are : repair_changes folder set given ≡ renames first ++ renames second ++ map (λ file. Write file.0 file.1) written
+    unfolding repair_changes
+    changes_are =
+        ap (λ cs. cs ++ filter_map (λ m. option_map (λ name. Rename (now name) m.0.name) m.1) (matches folder set given) ++ map (λ c. Write c.0.name c.1) (rebuilt_targets folder set given))
+        (sym (map-map (λ m. Rename m.0 m.1) (λ n. (n, off n)) moved))
+        ∙ ap (λ cs. renames first ++ cs ++ map (λ c. Write c.0.name c.1) (rebuilt_targets folder set given)) (renames-moves now (matches folder set given))
+        ∙ ap (λ cs. renames first ++ renames second ++ cs) (sym (map-map (λ file. Write file.0 file.1) (λ c. (c.0.name, c.1)) (rebuilt_targets folder set given)))
+
+    -- the changes of a repair apply in order
+    pub repair_applies : are_applicable folder (repair_changes folder set given) ≡ true
+    repair_applies =
+        ap (are_applicable folder) changes_are
+        ∙ are_applicable-append folder (renames first ++ renames second) (map (λ file. Write file.0 file.1) written)
+        (are_applicable-append folder (renames first) (renames second) (renames_apply folder first can_put_aside)
+        (ap (λ f. are_applicable f (renames second)) first_leads ∙ renames_apply cleared second can_take))
+        (ap (λ f. are_applicable f (map (λ file. Write file.0 file.1) written))
+        (effects-append folder (renames first) (renames second) ∙ ap (λ f. effects f (renames second)) first_leads ∙ second_leads)
+        ∙ third_apply)
+
+    -- and lead to its folder
+    pub repair_leads : effects folder (repair_changes folder set given) ≡ after_repair folder set given
+    unfolding after_repair
+    repair_leads =
+        ap (effects folder) changes_are
+        ∙ effects-append folder (renames first ++ renames second) (map (λ file. Write file.0 file.1) written)
+        ∙ ap (λ f. effects f (map (λ file. Write file.0 file.1) written))
+        (effects-append folder (renames first) (renames second) ∙ ap (λ f. effects f (renames second)) first_leads ∙ second_leads)
+        ∙ writes_lead settled written
+        ∙ sym (laid_over-append (matched_files folder (matches folder set given)) written
+        (laid_over (aside_files folder set taken_names) (without (map (λ m. m.0.name) (matches folder set given) ++ taken_names) folder)))
+
+    -- ---- then the asides that are left and the par files are removed
+
+    abbrev par_left : List (List ℕ)
+    par_left = filter (λ name. not (is_among taken_names name)) (par_files folder set)
+
+    -- the names of the folder after a repair
+    after_has : (q : List ℕ) → has (after_repair folder set given) q ≡ (is_among (filter (is_among unwon) targets) q || (is_among won q || (is_among (map off left) q || (not (is_among gone_names q) && has folder q))))
+    unfolding after_repair
+    after_has q =
+        ap (λ f. has f q) (laid_over-append (matched_files folder (matches folder set given)) written (laid_over (aside_files folder set taken_names) (without gone_names folder)))
+        ∙ has_laid written settled q
+        ∙ ap (λ ns. is_among ns q || has settled q) written_names
+        ∙ ap (λ b. is_among (filter (is_among unwon) targets) q || b)
+        (has_laid (matched_files folder (matches folder set given)) (laid_over (aside_files folder set taken_names) (without gone_names folder)) q
+        ∙ ap (λ ns. is_among ns q || has (laid_over (aside_files folder set taken_names) (without gone_names folder)) q) (names-matched folder (matches folder set given))
+        ∙ ap (λ b. is_among won q || b)
+        (has_laid (aside_files folder set taken_names) (without gone_names folder) q
+        ∙ ap (λ ns. is_among ns q || has (without gone_names folder) q) (map-map (λ file. file.0) (λ n. (off n, bytes_of folder n)) left)
+        ∙ ap (λ b. is_among (map off left) q || b) (has_without gone_names folder q)))
+
+    -- a name that is no target's is there only as an aside that is left, or as before
+    after_other : (q : List ℕ) → is_among targets q ≡ false → has (after_repair folder set given) q ≡ (is_among (map off left) q || (not (is_among gone_names q) && has folder q))
+    after_other q h = after_has q ∙ past _ _ _ no_written no_won
+      where
+        past : (a b c : Bool) → a ≡ false → b ≡ false → (a || (b || c)) ≡ c
+        past true b c i j = absurd (false≢true (sym i))
+        past false true c i j = absurd (false≢true (sym j))
+        past false false c i j = refl
+
+        no_written : is_among (filter (is_among unwon) targets) q ≡ false
+        no_written = among-filter (is_among unwon) targets q ∙ ap (λ b. b && is_among unwon q) h
+
+        no_won : is_among won q ≡ false
+        no_won = false_from_ne_true _ (λ i. clash (wanted_is_target q (won_wanted q i)) h)
+
+    par_left_is : (q : List ℕ) → is_among par_left q ≡ (is_among (par_files folder set) q && not (is_among taken_names q))
+    par_left_is q = among-filter (λ name. not (is_among taken_names name)) (par_files folder set) q
+
+    -- nothing stands under the aside of a match
+    pub vacant_aside : (q : List ℕ) → is_among taken_names q ≡ true → has (after_repair folder set given) (off q) ≡ false
+    vacant_aside q h =
+        after_other (off q) (fits.aside_apart q)
+        ∙ or_from (is_among (map off left) (off q)) (not (is_among gone_names (off q)) && has folder (off q)) (false_from_ne_true (is_among (map off left) (off q)) not_left)
+        (and_right (not (is_among gone_names (off q))) (has folder (off q)) (free.aside_free q))
+      where
+        not_left : is_among (map off left) (off q) ≡ true → ⊥
+        not_left i =
+            let r = image_of off left (off q) i in
+            let mine = subst (λ x. is_among left x ≡ true) (sym (free.aside_one q r.0 r.2)) r.1 in
+            clash h (not-true (is_among taken_names q) (and_parts (is_among moved q) (not (is_among taken_names q)) (sym (left_is q) ∙ mine)).1)
+
+    par_left_par : (q : List ℕ) → is_among par_left q ≡ true → is_among (par_files folder set) q ≡ true
+    par_left_par q h = (and_parts _ _ (sym (par_left_is q) ∙ h)).0
+
+    par_no_target : (q : List ℕ) → is_among (par_files folder set) q ≡ true → is_among targets q ≡ false
+    par_no_target q h =
+        let packets = accepted (bytes_of folder q) in
+        let passes = (and_parts _ _ (sym (among-filter (is_par_file folder set) (names folder) q) ∙ h)).1 in
+        let some = (and_parts (is_par_name q && not (is_among targets q) && list_any (λ p. bytes_eq p.set_id set.id) packets) _ passes).0 in
+        let no_target = (and_parts (is_par_name q && not (is_among targets q)) _ some).0 in
+        not-true (is_among targets q) (and_parts (is_par_name q) _ no_target).1
+
+    par_there : (q : List ℕ) → is_among (par_files folder set) q ≡ true → has folder q ≡ true
+    par_there q h = has_by_names folder q ∙ (and_parts _ _ (sym (among-filter (is_par_file folder set) (names folder) q) ∙ h)).0
+
+    -- a par file that was taken as a match is there no more
+    par_taken : (q : List ℕ) → is_among (par_files folder set) q ≡ true → is_among taken_names q ≡ true → has (after_repair folder set given) q ≡ false
+    par_taken q i j =
+        after_other q (par_no_target q i)
+        ∙ or_from (is_among (map off left) q) (not (is_among gone_names q) && has folder q) (present_no_aside left q (par_there q i))
+        (ap (λ b. not b && has folder q) (among-append (map (λ m. m.0.name) (matches folder set given)) taken_names q ∙ or_right (is_among (map (λ m. m.0.name) (matches folder set given)) q) (is_among taken_names q) j))
+
+    -- what stands after the repair and is to go is what is removed
+    removed_alike : (q : List ℕ) → has (after_repair folder set given) q ≡ true → is_among (map off left ++ par_left) q ≡ is_among (map off moved ++ par_files folder set) q
+    removed_alike q k = same_tests _ _ to from
+      where
+        to : is_among (map off left ++ par_left) q ≡ true → is_among (map off moved ++ par_files folder set) q ≡ true
+        to h = elim (or_cases (is_among (map off left) q) (is_among par_left q) (sym (among-append (map off left) par_left q) ∙ h)) as (λ _. is_among (map off moved ++ par_files folder set) q ≡ true) [
+          | inl i ↦ let r = image_of off left q i in among-append (map off moved) (par_files folder set) q
+              ∙ or_left _ _ (subst (λ x. is_among (map off moved) x ≡ true) (sym r.2) (image_in off moved r.0 (left_moved r.0 r.1)))
+          | inr i ↦ among-append (map off moved) (par_files folder set) q ∙ or_right _ _ (par_left_par q i)
+        ]
+
+        was_aside : (n : List ℕ) → q ≡ off n → is_among (map off left) q ≡ true
+        was_aside n e = subst (λ x. is_among (map off left) x ≡ true) (sym e)
+            (only (is_among (map off left) (off n)) (not (is_among gone_names (off n))) (has folder (off n)) (free.aside_free n) (sym (after_other (off n) (fits.aside_apart n)) ∙ subst (λ x. has (after_repair folder set given) x ≡ true) e k))
+          where
+            only : (a b c : Bool) → c ≡ false → (a || (b && c)) ≡ true → a ≡ true
+            only true b c i j = refl
+            only false true c i j = absurd (clash j i)
+            only false false c i j = absurd (false≢true j)
+
+        was_par : is_among (par_files folder set) q ≡ true → is_among taken_names q ≡ false
+        was_par i = false_from_ne_true (is_among taken_names q) (λ j. clash k (par_taken q i j))
+
+        from : is_among (map off moved ++ par_files folder set) q ≡ true → is_among (map off left ++ par_left) q ≡ true
+        from h = elim (or_cases (is_among (map off moved) q) (is_among (par_files folder set) q) (sym (among-append (map off moved) (par_files folder set) q) ∙ h)) as (λ _. is_among (map off left ++ par_left) q ≡ true) [
+          | inl i ↦ let r = image_of off moved q i in among-append (map off left) par_left q ∙ or_left _ _ (was_aside r.0 r.2)
+          | inr i ↦ among-append (map off left) par_left q ∙ or_right _ _ (par_left_is q ∙ and_from _ _ i (not_from_false _ (was_par i)))
+        ]
+
+    removed_there : (q : List ℕ) → is_among (map off left ++ par_left) q ≡ true → has (after_repair folder set given) q ≡ true
+    removed_there q h = elim (or_cases (is_among (map off left) q) (is_among par_left q) (sym (among-append (map off left) par_left q) ∙ h)) as (λ _. has (after_repair folder set given) q ≡ true) [
+      | inl i ↦ let r = image_of off left q i in after_other q (subst (λ x. is_among targets x ≡ false) (sym r.2) (fits.aside_apart r.0)) ∙ or_left _ _ i
+      | inr i ↦
+          let r = and_parts _ _ (sym (par_left_is q) ∙ i) in
+          after_other q (par_no_target q r.0) ∙ or_right _ _ (and_from _ _ (not_from_false _ (stays r.0 r.1)) (par_there q r.0))
+    ]
+      where
+        stays : is_among (par_files folder set) q ≡ true → not (is_among taken_names q) ≡ true → is_among gone_names q ≡ false
+        stays i j = among-append (map (λ m. m.0.name) (matches folder set given)) taken_names q
+            ∙ or_from _ _ (ap (λ ns. is_among ns q) heads ∙ false_from_ne_true _ (λ m. clash (wanted_is_target q m) (par_no_target q i))) (not-true (is_among taken_names q) j)
+
+    removed_once : AreDistinct (map off left ++ par_left)
+    removed_once = distinct-append (map off left) par_left
+        (distinct-map off left (λ a b i j. free.aside_one a b) (distinct-filter (λ name. not (is_among taken_names name)) moved moved_once))
+        (distinct-filter (λ name. not (is_among taken_names name)) (par_files folder set) (distinct-filter (is_par_file folder set) (names folder) (names_once folder)))
+        (λ q i. false_from_ne_true _ (λ j. clash i (present_no_aside left q (par_there q (par_left_par q j)))))
+
+    removals_are : repair_removals folder set given ≡ map Remove (map off left ++ par_left)
+    unfolding repair_removals
+    removals_are =
+        ap (λ cs. cs ++ map Remove par_left) (sym (map-map Remove off left)) ∙ sym (map-append Remove (map off left) par_left)
+
+    pub repair_and_purge_applies : are_applicable folder (repair_changes folder set given ++ repair_removals folder set given) ≡ true
+    repair_and_purge_applies =
+        are_applicable-append folder (repair_changes folder set given) (repair_removals folder set given) repair_applies
+        (ap (λ f. are_applicable f (repair_removals folder set given)) repair_leads ∙ ap (are_applicable (after_repair folder set given)) removals_are
+        ∙ removals_apply (after_repair folder set given) (map off left ++ par_left) removed_once removed_there)
+
+    pub repair_and_purge_leads : effects folder (repair_changes folder set given ++ repair_removals folder set given) ≡ after_repair_and_purge folder set given
+    repair_and_purge_leads =
+        effects-append folder (repair_changes folder set given) (repair_removals folder set given)
+        ∙ ap (λ f. effects f (repair_removals folder set given)) repair_leads ∙ ap (effects (after_repair folder set given)) removals_are
+        ∙ removals_lead (after_repair folder set given) (map off left ++ par_left)
+        ∙ same_without (map off left ++ par_left) (map off moved ++ par_files folder set) (after_repair folder set given) removed_alike
 
 -- ---- file by file
 
@@ -632,44 +630,79 @@ module _ (folder : Folder) (set : ParSet) (given : List (List ℕ)) (fits : Fits
   written_hold after [] h = tt
   written_hold after (c ∷ cs) h = (h.0, written_hold after cs h.1)
 
-  pub repaired_holds : HoldsRepaired folder set given (after_repair folder set given)
-  repaired_holds = record {
-    matched_ones = matched_hold folder (after_repair folder set given) (matches folder set given)
-        (all_laid (matched_files folder (matches folder set given)) with_asides (after_repair folder set given)
-        (subst AreDistinct (sym (names-matched folder (matches folder set given))) (distinct_some (λ m. m.0.name) (λ m. is_some m.1) (matches folder set given) (heads_once folder set given fits)))
-        (λ q h. unwritten q (false_from_ne_true _ (λ i. clash (subst (λ ns. is_among ns q ≡ true) (names-matched folder (matches folder set given)) h) (unwon_apart folder set given fits q i)))));
-    written_ones = written_hold (after_repair folder set given) (rebuilt_targets folder set given)
-        (all_laid (written folder set given fits) (settled folder set given fits) (after_repair folder set given)
-        (subst AreDistinct (sym (written_names folder set given fits)) (distinct-filter (is_among (unwon folder set given fits)) (targets folder set given fits) fits.once))
-        (λ q h. ap (λ f. map_of.get f q) after_is));
+  unaside : (q : List ℕ) → is_among (map (aside folder set) (left folder set given fits)) q ≡ false → map_of.get with_asides q ≡ map_of.get base q
+  unaside q h = get_laid (aside_files folder set (matching folder set given)) base q (ap (λ ns. is_among ns q) (map-map (λ file. file.0) (λ n. (aside folder set n, bytes_of folder n)) (left folder set given fits)) ∙ h)
+
+  -- each matched target has the bytes of its match
+  pub matched_ones : AllByRecursion (λ m. ForSome m.1 (λ name. map_of.get (after_repair folder set given) m.0.name ≡ Some (bytes_of folder name))) (matches folder set given)
+  matched_ones =
+      matched_hold folder (after_repair folder set given) (matches folder set given)
+      (all_laid (matched_files folder (matches folder set given)) with_asides (after_repair folder set given)
+      (subst AreDistinct (sym (names-matched folder (matches folder set given))) (distinct_some (λ m. m.0.name) (λ m. is_some m.1) (matches folder set given) (heads_once folder set given fits)))
+      (λ q h. unwritten q (false_from_ne_true _ (λ i. clash (subst (λ ns. is_among ns q ≡ true) (names-matched folder (matches folder set given)) h) (unwon_apart folder set given fits q i)))))
+
+  -- each other needing target its slices
+  pub written_ones : AllByRecursion (λ c. map_of.get (after_repair folder set given) c.0.name ≡ Some c.1) (rebuilt_targets folder set given)
+  written_ones =
+      written_hold (after_repair folder set given) (rebuilt_targets folder set given)
+      (all_laid (written folder set given fits) (settled folder set given fits) (after_repair folder set given)
+      (subst AreDistinct (sym (written_names folder set given fits)) (distinct-filter (is_among (unwon folder set given fits)) (targets folder set given fits) fits.once))
+      (λ q h. ap (λ f. map_of.get f q) after_is))
+
+  -- what is no needing target's name, no match and no aside stands as before
+  pub other_ones : (name : List ℕ) → is_among (needing_names folder set) name ≡ false → is_among (matching folder set given) name ≡ false
+      → is_among (map (aside folder set) (put_aside folder set)) name ≡ false → map_of.get (after_repair folder set given) name ≡ map_of.get folder name
+  other_ones name h k l =
+      unwanted name h ∙ unaside name (false_from_ne_true _ (λ i.
+      let r = image_of (aside folder set) (left folder set given fits) name i in
+      clash (subst (λ x. is_among (map (aside folder set) (put_aside folder set)) x ≡ true) (sym r.2) (image_in (aside folder set) (put_aside folder set) r.0 (left_moved folder set given fits r.0 r.1))) l))
+      ∙ get_without (gone_names folder set given fits) folder name
+      ∙ ap (λ b. cond b None (map_of.get folder name)) (among-append (map (λ m. m.0.name) (matches folder set given)) (matching folder set given) name
+      ∙ or_from _ _ (ap (λ ns. is_among ns name) (heads folder set given fits) ∙ h) k)
+
+  pub repaired_holds : AreFree folder set → HoldsRepaired folder set given (after_repair folder set given)
+  repaired_holds free = record {
+    matched_ones = matched_ones;
+    written_ones = written_ones;
     asides = λ name h k.
-        unwanted (aside folder set name) (false_from_ne_true _ (λ i. clash (wanted_is_target folder set given fits (aside folder set name) i) (aside_no_target folder set given fits name)))
-        ∙ get_under (aside folder set) folder base (left folder set given fits) fits.aside_one name (left_is folder set given fits name ∙ and_from _ _ h (not_from_false _ k));
-    taken_asides = λ name h k. none_if (map_of.get (after_repair folder set given) (aside folder set name)) (vacant_aside folder set given fits name k);
+        unwanted (aside folder set name) (false_from_ne_true _ (λ i. clash (wanted_is_target folder set given fits (aside folder set name) i) (fits.aside_apart name)))
+        ∙ get_under (aside folder set) folder base (left folder set given fits) free.aside_one name (left_is folder set given fits name ∙ and_from _ _ h (not_from_false _ k));
+    taken_asides = λ name h k. none_if (map_of.get (after_repair folder set given) (aside folder set name)) (vacant_aside folder set given fits free name k);
     moved_away = λ name h k.
-        unwanted name k ∙ unaside name (present_no_aside folder set given fits (left folder set given fits) name (match_there folder set given fits name h))
+        unwanted name k ∙ unaside name (present_no_aside folder set given fits free (left folder set given fits) name (match_there folder set given fits free name h))
         ∙ get_without (gone_names folder set given fits) folder name
         ∙ ap (λ b. cond b None (map_of.get folder name)) (among-append (map (λ m. m.0.name) (matches folder set given)) (matching folder set given) name ∙ or_right _ _ h);
-    others = λ name h k l.
-        unwanted name h ∙ unaside name (false_from_ne_true _ (λ i.
-        let r = image_of (aside folder set) (left folder set given fits) name i in
-        clash (subst (λ x. is_among (map (aside folder set) (put_aside folder set)) x ≡ true) (sym r.2) (image_in (aside folder set) (put_aside folder set) r.0 (left_moved folder set given fits r.0 r.1))) l))
-        ∙ get_without (gone_names folder set given fits) folder name
-        ∙ ap (λ b. cond b None (map_of.get folder name)) (among-append (map (λ m. m.0.name) (matches folder set given)) (matching folder set given) name
-        ∙ or_from _ _ (ap (λ ns. is_among ns name) (heads folder set given fits) ∙ h) k);
+    others = other_ones;
   }
-    where
-      unaside : (q : List ℕ) → is_among (map (aside folder set) (left folder set given fits)) q ≡ false → map_of.get with_asides q ≡ map_of.get base q
-      unaside q h = get_laid (aside_files folder set (matching folder set given)) base q (ap (λ ns. is_among ns q) (map-map (λ file. file.0) (λ n. (aside folder set n, bytes_of folder n)) (left folder set given fits)) ∙ h)
 
 -- ---- from what a repair wants
+
+-- what is not taken is in no folder and no target's
+apart_parts : (folder : Folder) (set : ParSet) (n : List ℕ) → is_among (taken_for folder set) (aside folder set n) ≡ false → (is_among (names folder) (aside folder set n) ≡ false) × (is_among (target_names set) (aside folder set n) ≡ false)
+apart_parts folder set n h = or_parts _ _ (sym (among-append (names folder) (target_names set) (aside folder set n)) ∙ h)
 
 pub fits_all : (folder : Folder) (set : ParSet) (given : List (List ℕ)) → FitsRepair folder set given → Fits folder set given
 fits_all folder set given f = record {
   once = distinct_from_std _ f.names_once;
   there = each_there folder given f.all_there;
-  aside_out = λ n. aside_out folder set n f.few;
-  aside_one = λ a b. aside_one folder set a b f.few;
+  aside_apart = λ n. (apart_parts folder set n (aside_out folder set n f.few)).1;
+}
+
+-- of a set that reads, without a bound on the names: where no number is free, the aside is the empty name, and that is
+-- no target's
+pub targets_fit : (folder : Folder) (name : List ℕ) (set : ParSet) (extras : List (List ℕ)) → set_of folder name ≡ Ok set → list_all (has folder) extras ≡ true → Fits folder set (candidates folder set extras)
+targets_fit folder name set extras h there =
+    let sound = sound_of folder name set h in
+    record {
+      once = distinct_from_std _ sound.names_once;
+      there = candidates_there folder set extras there;
+      aside_apart = λ n. aside_no_target folder set n sound.are_names;
+    }
+
+pub asides_free : (folder : Folder) (set : ParSet) → AreFew folder set → AreFree folder set
+asides_free folder set few = record {
+  aside_free = λ n. has_by_names folder (aside folder set n) ∙ (apart_parts folder set n (aside_out folder set n few)).0;
+  aside_one = λ a b. aside_one folder set a b few;
 }
 
 pub purge_applies : (folder : Folder) (set : ParSet) → are_applicable folder (purge_changes folder set) ≡ true

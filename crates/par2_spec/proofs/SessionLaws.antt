@@ -212,7 +212,7 @@ pub redone_of_kept : (s : KeptSession) (cs : List Change) → session_of_kept (k
 unfolding kept_redone session_with
 redone_of_kept s cs = λ i. record { folder = state_files s.folder cs i; undos = way_back s.folder.files cs ∷ s.undos; redos = others s.redos }
 
--- the entries can be walked behind the way back
+-- the entries can be walked after the way back
 walks_back : (folder : FolderState) (cs : List Change) (entries : List (List Change)) → takes_all folder cs ≡ true → walks folder entries ≡ true → walks (state_after_all folder cs) (way_back folder.files cs ∷ entries) ≡ true
 unfolding walks
 walks_back folder cs entries h w = and_from _ _ (way_back_taken folder cs h) (ap (λ f. walks f entries) (state_all_back folder cs h) ∙ w)
@@ -221,7 +221,7 @@ pub done_can_walk : (s : KeptSession) (cs : List Change) → CanWalk s → takes
 unfolding kept_done walks
 done_can_walk s cs c h = record { back = walks_back s.folder cs s.undos h c.back; forth = refl }
 
--- the next entry is taken, and the entries behind it can be walked
+-- the next entry is taken, and the entries after it can be walked
 pub next_taken : (folder : FolderState) (entries : List (List Change)) (cs : List Change) (rest : List (List Change)) → walks folder entries ≡ true → entries ≡ cs ∷ rest → (takes_all folder cs ≡ true) × (walks (state_after_all folder cs) rest ≡ true)
 unfolding walks
 next_taken folder entries cs rest w e = and_parts (takes_all folder cs) (walks (state_after_all folder cs) rest) (sym (ap (walks folder) e) ∙ w)

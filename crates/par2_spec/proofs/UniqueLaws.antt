@@ -14,6 +14,7 @@ use Rattle.par2_spec.specs.Field.{mul, coefficient}
 use Rattle.par2_spec.specs.Slices.{word}
 use Rattle.par2_spec.specs.Recovery.{dot, coefficients, combination, recovery}
 use Rattle.par2_spec.specs.Rank.{kept, IsVector, Kills, IsRepairable, Agrees, kept_slices, IsRebuilt}
+use Rattle.par2_spec.specs.Polynomials.{AreElements}
 use Rattle.par2_spec.specs.Sets.{ParSet}
 use Rattle.par2_spec.specs.Search.{lost, survivors}
 use Rattle.par2_spec.proofs.FieldBits.{xor_middle}
@@ -33,9 +34,6 @@ abbrev pub sums : List ℕ → List ℕ → List ℕ
 sums [] v = []
 sums (x ∷ u) [] = []
 sums (x ∷ u) (y ∷ v) = bit_xor x y ∷ sums u v
-
-abbrev pub AreElements : List ℕ → Type 0
-AreElements v = AllByRecursion (λ x. x < 2 ^ 16) v
 
 pub dot-sums : (row u v : List ℕ) → length u ≡ length v → dot row (sums u v) ≡ bit_xor (dot row u) (dot row v)
 unfolding dot
@@ -150,7 +148,7 @@ all_zero (k ∷ ks) [] z h = absurd z
 all_zero (None ∷ ks) (x ∷ d) z h = (h.0, all_zero ks d z h.1)
 all_zero (Some y ∷ ks) (x ∷ d) z h = (z.0, all_zero ks d z.1 h)
 
-no_difference : (u v : List ℕ) → length u ≡ length v → AllByRecursion (λ x. x ≡ 0) (sums u v) → u ≡ v
+pub no_difference : (u v : List ℕ) → length u ≡ length v → AllByRecursion (λ x. x ≡ 0) (sums u v) → u ≡ v
 no_difference [] [] e h = refl
 no_difference [] (y ∷ v) e h = absurd (omega (arith, e))
 no_difference (x ∷ u) [] e h = absurd (omega (arith, e))
@@ -175,7 +173,7 @@ zero_at_known (Some z ∷ ks) (x ∷ a) (y ∷ b) p h k =
 
 -- ---- what all kept exponents kill, all survivors kill
 
-all_from_contains : (P : ℕ → Type 0) (xs : List ℕ) → ((q : ℕ) → Contains xs q → P q) → AllByRecursion P xs
+pub all_from_contains : (P : ℕ → Type 0) (xs : List ℕ) → ((q : ℕ) → Contains xs q → P q) → AllByRecursion P xs
 all_from_contains P [] h = tt
 all_from_contains P (x ∷ xs) h = (h x (contained_first x xs), all_from_contains P xs (λ q c. h q (contained_later x xs q c)))
 

@@ -110,7 +110,7 @@ after text m l d s k b t h =
     let size : length (m ++ (l ++ (d ++ (s ++ (k ++ b))))) ≡ 64 + length b = omega (arith, len3 m l (d ++ (s ++ (k ++ b))), len3 d s (k ++ b), length-append k b, lens.0, lens.1, lens.2, h.set_id, h.kind) in
     ap (drop (claimed_length text)) (h.is ∙ to_end m l d s k b t) ∙ drop_at (m ++ (l ++ (d ++ (s ++ (k ++ b))))) t (claimed_length text) (size ∙ sym claim)
 
--- where a packet stands at the front, the packets are that one and those behind it
+-- where a packet stands at the front, the packets are that one and those after it
 pub accepted_first : (text : List ℕ) → begins_with_packet text ≡ true → 1 ≤ claimed_length text → accepted text ≡ first_packet text ∷ accepted (drop (claimed_length text) text)
 unfolding begins_with_packet
 accepted_first [] h one = absurd cc
@@ -168,7 +168,7 @@ unfolding accepted_after
 none_short [] lt = refl
 none_short (b ∷ text) lt = accepted-none b text (short_front (b ∷ text) lt) ∙ none_short text (let below : suc (length text) < 64 = lt in omega arith)
 
--- packets one behind the other
+-- packets one after the other
 pub packets_then : (ps : List Packet) (t : List ℕ) → AllByRecursion IsPacket ps → accepted (flat_map packet ps ++ t) ≡ ps ++ accepted t
 packets_then [] t h = refl
 packets_then (p ∷ ps) t h =

@@ -45,10 +45,10 @@ laid_over (file ∷ files) folder = laid_over files (map_of.insert folder file.0
 abbrev pub without : List (List ℕ) → Folder → Folder
 without gone folder = map_of.retain_keys folder (λ name. not (is_among gone name))
 
--- bytes behind their length
+-- bytes after their length
 abbrev pub behind_length : List ℕ → List ℕ
 behind_length bytes = to_le_bytes w64 (length bytes) ++ bytes
 
--- what tells folders apart: the MD5 of their names and bytes, each behind its length
+-- what tells folders apart: the MD5 of their names and bytes, each after its length
 unfoldable pub fingerprint : Folder → List ℕ
 fingerprint folder = md5 (flat_map (λ file. behind_length file.0 ++ behind_length file.1) (files folder))

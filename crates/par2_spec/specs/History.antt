@@ -48,7 +48,7 @@ history_after h (Do command) = unless_refused (refusal h.now command) (after_com
 history_after h Undo = after_undo h.now h.older h.newer
 history_after h Redo = after_redo h.older h.now h.newer
 
--- an action may be refused although it could be done: a command, for want of memory
+-- an action may be refused although it could be done: a command, because memory ran out
 abbrev pub MayBeRefused : History → Action → Type 0
 MayBeRefused h (Do command) = Unit {0}
 MayBeRefused h Undo = IsErr (history_after h Undo)

@@ -61,7 +61,7 @@ DescIsRead =
       name = file.name;
     })
 
--- packets of recovery slices are accepted, and what stands behind them as it would be alone
+-- packets of recovery slices are accepted, and what stands after them as it would be alone
 abbrev pub RecoverySlicesAreRead : Type 0
 RecoverySlicesAreRead =
     (s : ℕ) (id : List ℕ) (slices : List (List ℕ)) (e n : ℕ) (text : List ℕ)

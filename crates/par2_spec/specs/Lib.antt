@@ -6,6 +6,8 @@ pub mod Windows
 pub mod Recovery
 pub mod Sums
 pub mod Rank
+pub mod Polynomials
+pub mod Runs
 pub mod Packets
 pub mod Names
 pub mod Folders

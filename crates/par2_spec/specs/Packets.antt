@@ -139,7 +139,7 @@ without_end_zeros bytes = take (length bytes - suffix_len (λ b. b == 0) bytes) 
 abbrev pub is_head_and_items : ℕ → ℕ → List ℕ → Bool
 is_head_and_items head item body = nat_le head (length body) && (length body - head) % item == 0
 
--- the n items of a given length behind a head
+-- the n items of a given length after a head
 abbrev pub items_at : ℕ → ℕ → ℕ → List ℕ → List (List ℕ)
 items_at head item n body = map (λ k. bytes_at (head + item * k) item body) (range_with_len 0 n)
 

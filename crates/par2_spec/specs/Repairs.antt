@@ -141,5 +141,5 @@ pub record HoldsRepaired (folder : Folder) (set : ParSet) (searched : List (List
 abbrev pub Restores : (folder : Folder) (base : List ℕ) (extras : List (List ℕ)) (files : List File) (s : ℕ) → MadeFrom folder base files s → Type 0 → Type 0
 Restores folder base extras files s m what =
     let searched = candidates folder m.set extras in
-    IsTrue (list_all (has folder) extras) → AreFew folder m.set → NoCollision folder searched s (all_slices s files)
+    IsTrue (list_all (has folder) extras) → NoCollision folder searched s (all_slices s files)
     → AllByRecursion (λ file. AreBytes file.1) files → IsRepairable (lost (known folder m.set searched)) (survivors m.set) → what

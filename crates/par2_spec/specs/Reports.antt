@@ -1,14 +1,16 @@
 -- What a verify reports.
-use Rattle.std.specs.Prelude.{◌≡◌, ℕ, ◌==◌, Bool, true, false, List, [], ◌∷◌, length, drop, map, filter, zip, slice_index_or, Option, Some, None, Result, Ok, is_some, if◌then◌else◌}
+use Rattle.std.specs.Prelude.{◌≡◌, ◌≢◌, ◌↔◌, ℕ, ◌==◌, Bool, true, false, List, [], ◌∷◌, length, drop, map, filter, zip, slice_index_or, Option, Some, None, Result, Ok, is_some, if◌then◌else◌}
 use Rattle.std.specs.List.{list_all, AllByRecursion}
 use Rattle.par2_spec.specs.Windows.{found}
-use Rattle.par2_spec.specs.Rank.{rank}
+use Rattle.par2_spec.specs.Rank.{rank, IsRepairable}
 use Rattle.par2_spec.specs.Folders.{Folder, has, bytes_of}
 use Rattle.par2_spec.specs.Sets.{ParSet, Target, ◌>>=◌}
-use Rattle.par2_spec.specs.Search.{is_needing, matches, match_of, known, lost, survivors, candidates}
+use Rattle.par2_spec.specs.Search.{is_needing, needing, matches, match_of, known, lost, survivors, candidates}
 use Rattle.par2_spec.specs.Repairs.{cut_into}
-use Rattle.par2_spec.specs.Refusals.{set_in}
+use Rattle.par2_spec.specs.Refusals.{set_in, refusal}
+use Rattle.par2_spec.specs.Commands.{Repair}
 use Rattle.par2_spec.specs.declared.Fault.{Fault}
+use Rattle.par2_spec.specs.declared.Fault.TheVariants.{NotRepairable}
 use Rattle.par2_spec.specs.declared.Verdict.{Verdict}
 use Rattle.par2_spec.specs.declared.Verdict.TheVariants as verdict
 
@@ -115,6 +117,26 @@ HasIntactFile Missing = ⊥
 -- such a target is found whole
 abbrev pub IsFoundWhole : TargetReport → Type 0
 IsFoundWhole report = HasIntactFile report.state → report.found ≡ report.total
+
+-- ---- the verdict by what the words say
+
+-- complete exactly where no target is needing; else repairable exactly where the surviving exponents determine the lost
+-- slices
+pub record IsVerdict (folder : Folder) (set : ParSet) (searched : List (List ℕ)) (v : Verdict) : Type 0 where
+  pub complete : (v ≡ verdict.Complete) ↔ (needing folder set ≡ [])
+  pub repairable : needing folder set ≢ [] → (v ≡ verdict.Repairable) ↔ IsRepairable (lost (known folder set searched)) (survivors set)
+
+-- the verdict on the set of a base
+abbrev pub IsVerdictIn : Folder → List ℕ → List (List ℕ) → Verdict → Type 0
+IsVerdictIn folder base extras v =
+    (set : ParSet) → set_in folder base extras ≡ Ok set → IsVerdict folder set (candidates folder set extras) v
+
+-- a repair is refused as not repairable exactly where the verdict says so, and with the same numbers
+abbrev pub RefusedAsReported : Folder → List ℕ → List (List ℕ) → Report → Type 0
+RefusedAsReported folder base extras report =
+    (purge : Bool)
+    → (verdict_of report ≡ verdict.NotRepairable)
+    ↔ (refusal folder (Repair base extras purge) ≡ Some (NotRepairable report.lost report.rank))
 
 -- ---- what the laws of reports say
 

@@ -16,7 +16,7 @@ slice_count s n = div_ceil n s
 abbrev pub slice_at : ℕ → List ℕ → ℕ → List ℕ
 slice_at s text j = padded s (take s (drop (j * s) text))
 
--- the slices of a text, one behind the other
+-- the slices of a text, one after the other
 abbrev pub slices : ℕ → List ℕ → List (List ℕ)
 slices s text = map (slice_at s text) (range_with_len 0 (slice_count s (length text)))
 

@@ -11,7 +11,7 @@ pub record Writer : Type 0 where
 abbrev pub TookAll : Writer → Writer → List ℕ → Type 0
 TookAll old new text = Appends old.taken new.taken text × (new.failures ≡ old.failures)
 
--- it took a part of the text from its beginning, which lacks a byte at least, and has failed
+-- it took a part of the text from its beginning, which is a proper prefix, and has failed
 abbrev pub TookPart : Writer → Writer → List ℕ → Type 0
 TookPart old new text =
     ((n : ℕ) × (n < length text) × Appends old.taken new.taken (take n text)) × (old.failures < new.failures)

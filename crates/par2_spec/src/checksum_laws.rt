@@ -9,7 +9,7 @@ pub fn steps_are_linear()
         → crc_steps n (bit_xor a b) ≡ bit_xor (crc_steps n a) (crc_steps n b) }
 {}
 
-/// Each zero byte behind the bytes takes eight steps.
+/// Each zero byte after the bytes takes eight steps.
 pub fn zeros_behind_take_steps()
     ensures { (bytes : List ℕ) (n : ℕ) → crc32 (bytes ++ replicate n 0)
         ≡ bit_xor (crc_steps (8 * n) (bit_xor (crc32 bytes) 0xFFFFFFFF)) 0xFFFFFFFF }

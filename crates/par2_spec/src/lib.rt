@@ -7,16 +7,19 @@ pub mod create_laws;
 pub mod field_laws;
 pub mod folder_laws;
 pub mod packet_laws;
+pub mod polynomial_laws;
 pub mod rank_laws;
 pub mod repair_laws;
 pub mod report_laws;
 pub mod restored_laws;
+pub mod run_laws;
 pub mod search_laws;
 pub mod session_laws;
 pub mod stop_laws;
 
 pub use commands::{Action, Command, CreateArgs};
 use std::alloc::{AllocError, AllocFailed};
+use thiserror::Error;
 
 /// The type of a packet.
 #[derive(Clone, Copy, PartialEq, Eq, Debug, Drop)]
@@ -29,50 +32,72 @@ pub enum Kind {
     Other([u8; 16]),
 }
 
-/// Why a command is refused. Place 0 is the base, place k the k-th further name. What is printed of it, `par2_printing` says.
-#[derive(Clone, Copy, PartialEq, Eq, Debug, Drop)]
+/// Why a command is refused. Place 0 is the base, place k the k-th further name. Where the program prints the name at a
+/// place, the fault itself knows the place alone, and shows that.
+#[derive(Debug, Error, Clone, Copy, PartialEq, Eq, Drop)]
 pub enum Fault {
     /// The slice size is no multiple of 4 from 4 to 2^30.
+    #[error("block size must be a multiple of 4 from 4 to 1073741824")]
     BadSliceSize,
     /// An exponent would be above 65,535.
+    #[error("block numbers must stay below 65536")]
     BadCount,
     /// The base is no file name that ends in `.par2`.
+    #[error("the base must be a file name that ends in .par2")]
     BadBase,
     /// No input is named.
+    #[error("no input files")]
     NoInput,
     /// The name at this place can't be that of an input.
+    #[error("bad input name: {0}")]
     BadName(usize),
     /// The name at this place is that of an input before.
+    #[error("input named twice: {0}")]
     DuplicateInput(usize),
     /// No file has the name at this place.
+    #[error("no such file: {0}")]
     NoSuchFile(usize),
     /// The file of the name at this place has no bytes.
+    #[error("empty input: {0}")]
     EmptyFile(usize),
     /// The inputs have more than 32,768 slices.
+    #[error("more than 32768 blocks")]
     TooManySlices,
     /// Two inputs have one File ID.
+    #[error("two inputs have one file id")]
     DuplicateId,
     /// A file name would be longer than 255 bytes.
+    #[error("a file name would be longer than 255 bytes")]
     NameTooLong,
     /// An output exists, and may not be replaced.
+    #[error("an output file exists")]
     Exists,
     /// The base has no packets.
+    #[error("no packets in the base")]
     NoPackets,
     /// No Main packet is in the set.
+    #[error("no main packet")]
     NoMain,
     /// A target has no FileDesc packet.
+    #[error("a file description is missing")]
     NoDescription,
     /// A target has no IFSC packet.
+    #[error("block checksums are missing")]
     NoChecksums,
     /// The set is not in this profile.
+    #[error("the set is not in this profile")]
     BadSet,
     /// So many slices are lost, and the recovery slices are of a lower rank.
+    #[error("not repairable, lost {missing}, rank {rank}")]
     NotRepairable { missing: usize, rank: usize },
     /// A rebuilt file has another MD5 than its target.
+    #[error("a rebuilt file has another digest")]
     RepairFailed,
     /// A target is not complete.
+    #[error("the files are not complete")]
     NotComplete,
     /// A growth was refused.
+    #[error("out of memory")]
     Memory,
 }
 
@@ -99,11 +124,14 @@ impl<T: Drop> From<AllocFailed<T>> for Fault {
 }
 
 /// Why a journal is refused.
-#[derive(Clone, Copy, PartialEq, Eq, Debug, Drop)]
+#[derive(Debug, Error, Clone, Copy, PartialEq, Eq, Drop)]
 pub enum JournalFault {
+    #[error("the journal is not valid")]
     JournalInvalid,
     /// The journal, which is that of a halfway command where `halfway` holds, is another folder's.
+    #[error("the folder is not as the journal left it")]
     FolderChanged { halfway: bool },
+    #[error("out of memory")]
     Memory,
 }
 
@@ -119,10 +147,13 @@ impl From<AllocError> for JournalFault {
 }
 
 /// Why a change is refused.
-#[derive(Clone, Copy, PartialEq, Eq, Debug, Drop)]
+#[derive(Debug, Error, Clone, Copy, PartialEq, Eq, Drop)]
 pub enum ChangeFault {
+    #[error("a file has that name")]
     NameTaken,
+    #[error("no place is vacant")]
     NoRoom,
+    #[error("no file has that name")]
     NoSuchName,
 }
 
@@ -151,6 +182,6 @@ pub enum Failure {
 pub enum Version {
     /// Without a cursor: each entry is one that an undo applies.
     One,
-    /// With a cursor, behind which the entries are those that a redo applies.
+    /// With a cursor, after which the entries are those that a redo applies.
     Two,
 }

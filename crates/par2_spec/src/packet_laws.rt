@@ -13,7 +13,7 @@ pub fn none_in_short_text()
     ensures { (text : List ℕ) → length text < 64 → accepted text ≡ [] }
 {}
 
-/// Where a packet stands at the front, the packets are that one and those of what is behind it.
+/// Where a packet stands at the front, the packets are that one and those of what is after it.
 pub fn packet_in_front()
     ensures { (text : List ℕ) → begins_with_packet text ≡ true
         → accepted text ≡ first_packet text ∷ accepted (drop (claimed_length text) text) }
@@ -84,7 +84,7 @@ pub fn recovery_is_a_packet()
         ≡ 0 → length bytes < 2 ^ 60 → IsPacket (packet_of id Recovery (recovery_bytes e bytes)) }
 {}
 
-/// The packets of an index that was written are read as they are, and what is behind them as it is.
+/// The packets of an index that was written are read as they are, and what is after them as it is.
 pub fn index_is_read()
     ensures { (s : ℕ) (files : List FileRecord) (text : List ℕ)
         → length files < 2 ^ 32 → AllByRecursion IsFileRecord files → accepted

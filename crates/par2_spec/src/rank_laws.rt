@@ -2,8 +2,9 @@
 
 ghost use Rattle.std.specs.Prelude.{◌≡◌, ◌≤◌, ◌↔◌, ℕ, List, IsTrue, Option, length, map};
 ghost use Rattle.std.specs.List.{AllByRecursion, Contains};
+ghost use Rattle.std.specs.List.Sorted.{IsStrictlyIncreasing};
 ghost use Rattle.std.specs.FinMap as map_of;
-ghost use Rattle.par2_spec.specs.Rank.{is_repairable, IsRepairable, kept, IsKept, agrees, Agrees, AnotherAgrees, kept_slices, IsRebuilt, IsVector, Kills};
+ghost use Rattle.par2_spec.specs.Rank.{is_repairable, IsRepairable, kept, rank, IsKept, agrees, Agrees, AnotherAgrees, kept_slices, IsRebuilt, IsVector, Kills};
 ghost use Rattle.par2_spec.specs.Sets.{ParSet};
 ghost use Rattle.par2_spec.specs.Search.{lost, survivors};
 ghost use Rattle.par2_spec.specs.Repairs.{rebuilt};
@@ -24,6 +25,15 @@ pub fn rebuilt_slices_agree()
     ensures only { (set : ParSet) (known : List (Option (List ℕ))) (slices : List (List ℕ))
         → IsRebuilt set.slice_size known (kept_slices (lost known)
         (survivors set) (map_of.entries set.recovery)) slices → rebuilt set known ≡ slices }
+{}
+
+/// Of exponents that rise, as many are kept as slices are lost exactly where the lost slices are determined, and never
+/// more: the rank and the number of the lost slices tell whether a set is repairable.
+pub fn full_rank_is_repairable()
+    ensures repairable { (lost survivors : List ℕ) → IsStrictlyIncreasing survivors
+        → (rank lost survivors ≡ length lost) ↔ IsRepairable lost survivors }
+    ensures most { (lost survivors : List ℕ) → IsStrictlyIncreasing survivors
+        → rank lost survivors ≤ length lost }
 {}
 
 /// Where the lost slices are determined, one list alone agrees, and what agrees is what is rebuilt.

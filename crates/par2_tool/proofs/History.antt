@@ -1,13 +1,13 @@
 -- Runs on one store keep one history.
-use Rattle.std.proofs.Common.{◌≡◌, inl, inr, List, [], ◌∷◌, Option, Some, None, Result, Ok, Err, Bool, true, false, refl, sym, ap, subst, ◌∙◌}
-use Rattle.std.specs.Prelude.{IsErr, ℕ}
+use Rattle.std.proofs.Common.{◌≡◌, inl, inr, List, Option, Some, None, Result, Ok, Err, Bool, true, false, refl, sym, ap, subst, ◌∙◌}
+use Rattle.std.specs.Prelude.{ℕ, length}
 use Rattle.par2_spec.specs.Commands.{Action, Do, Undo, Redo, Create, Verify, Repair, Purge}
 use Rattle.par2_spec.specs.Folders.{Folder}
-use Rattle.par2_spec.specs.History.{History, Refusal, Refused, MayBeRefused, Run, history_after}
+use Rattle.par2_spec.specs.History.{Refusal, Refused, Run, history_after}
 use Rattle.par2_spec.specs.History as history
 use Rattle.par2_spec.specs.Opening.{Opened, Settled, Halfway, Started, OpensAs, Opens, opened, new_session, is_valid, leads, started}
 use Rattle.par2_spec.specs.Sessions.{Session, history_of, session_after, changes_asked, session_unless, changes_unless}
-use Rattle.par2_spec.specs.Plans.{changes_of}
+use Rattle.par2_spec.specs.Plans.{changes_of, LeadsToAfterAsked}
 use Rattle.par2_spec.specs.Refusals.{refusal}
 use Rattle.par2_spec.specs.declared.Fault.{Fault}
 use Rattle.par2_spec.specs.Stores.{Contents}
@@ -18,11 +18,15 @@ use Rattle.par2_spec.proofs.SessionLaws.{accepted_next, refused_alike, same_ok, 
 use Rattle.par2_spec.proofs.StopLaws.{taken_back_leads}
 use Rattle.par2_tool.specs.Opening.{IsOpened}
 use Rattle.par2_tool.specs.Performing.{IsWritten}
-use Rattle.par2_tool.specs.Holding.{Holds, with_history}
-use Rattle.par2_tool.specs.Runs.{Runs, Ended, Accepted, Passed}
+use Rattle.par2_tool.specs.Holding.{IsOpening, IsSettled, Holds, with_history}
+use Rattle.par2_tool.specs.Runs.{HasNoEffect, Runs, Ended, Effective, Passed, TakesEffect}
+use Rattle.par2_tool.specs.Telling.{IsRefusedFor}
 use Rattle.par2_tool.proofs.Openings.{settled_on, halfway_by}
 
 -- ---- a store opens in one way
+
+abbrev OneStart : Type 0
+OneStart = (contents : Contents) (a b : Started) → IsOpening contents (Ok a) → IsOpening contents (Ok b) → a ≡ b
 
 -- a text spells at most one journal
 abbrev OneReading : Type 0
@@ -35,7 +39,7 @@ one_opening one_reading folder text a b (inl p) (inr q) = absurd (q.0 p.0 p.1)
 one_opening one_reading folder text a b (inr p) (inl q) = absurd (p.0 q.0 q.1)
 one_opening one_reading folder text a b (inr p) (inr q) = p.1 ∙ sym q.1
 
-one_start : OneReading → (folder : Folder) (journal : Option (List ℕ)) (a b : Started) → OpensAs folder journal (Ok a) → OpensAs folder journal (Ok b) → a ≡ b
+pub one_start : OneReading → (folder : Folder) (journal : Option (List ℕ)) (a b : Started) → OpensAs folder journal (Ok a) → OpensAs folder journal (Ok b) → a ≡ b
 unfolding OpensAs
 one_start one_reading folder None a b p q = same_ok a b (p ∙ sym q)
 one_start one_reading folder (Some text) a b p q =
@@ -62,14 +66,10 @@ start_leads folder (Some text) a p = started_leads folder text p.0 a p.1 p.2
 
 -- ---- one action
 
+-- what is refused of the session, the history refuses
 refused_after : (s : Session) (action : Action) (reason : Refusal) → changes_asked s action ≡ Err reason → history_after (history_of s) action ≡ Err reason
 unfolding session_after
 refused_after s action reason e = refused_alike s action reason (ap (session_unless s action) e)
-
-may_be_refused : (s : Session) (action : Action) (reason : Refusal) → changes_asked s action ≡ Err reason → MayBeRefused (history_of s) action
-may_be_refused s (Do command) reason e = tt
-may_be_refused s Undo reason e = subst (λ (r : Result History Refusal). IsErr r) (sym (refused_after s Undo reason e)) refl
-may_be_refused s Redo reason e = subst (λ (r : Result History Refusal). IsErr r) (sym (refused_after s Redo reason e)) refl
 
 -- a verify leaves the session
 verify_stays : (s after : Session) (base : List ℕ) (extras : List (List ℕ)) → session_after s (Do (Verify base extras)) ≡ Ok after → s ≡ after
@@ -92,21 +92,61 @@ written_holds (Do (Purge base)) s after dropped old between new opened leads wri
 written_holds Undo s after dropped old between new opened leads written = (with_history after, refl, written.0)
 written_holds Redo s after dropped old between new opened leads written = (with_history after, refl, written.0)
 
+-- ---- one run
+
+-- where it takes effect, the history goes its step, and the store holds the session from after it
+module _ (one : OneStart) (old : Contents) (started : Started) (opens : IsOpening old (Ok started)) where
+  takes_step : (action : Action) (session after : Session) (dropped : Bool) → IsOpening old (Ok (record { session = session; dropped = dropped })) → LeadsToAfterAsked session.folder action → session_after session action ≡ Ok after
+      → history_after (history_of started.session) action ≡ Ok (history_of after)
+  takes_step action session after dropped opening leads accepted =
+      let same : started.session ≡ session = ap (λ (x : Started). x.session) (one old started _ opens opening) in
+      ap (λ s. history_after (history_of s) action) same ∙ (accepted_next session after action (start_leads old.files old.journal _ opening) leads accepted).0
+
+  effective : (action : Action) (new : Contents) → TakesEffect action old new
+      → (next : Started) × (history_after (history_of started.session) action ≡ Ok (history_of next.session)) × Holds new next
+  effective action new (inl p) =
+      let done = p.2 in
+      let left = written_holds action done.session done.after p.0 old done.between new done.opened done.accepted done.written in (
+        left.0,
+        takes_step action done.session done.after p.0 done.opened.opens done.leads done.accepted ∙ ap (λ (s : Session). Ok (history_of s)) (sym left.1),
+        left.2,
+      )
+  effective action new (inr p) =
+      let stopped = p.2 in (
+        with_history stopped.after,
+        takes_step action p.0.session stopped.after p.0.dropped p.1 stopped.leads stopped.accepted,
+        stopped.holds,
+      )
+
+  -- and where it has none, the store opens as before
+  passed : (new : Contents) → HasNoEffect old new → (left : Started) × (left.session ≡ started.session) × IsOpening new (Ok left)
+  passed new (inl same) = (started, refl, subst (λ k. IsOpening k (Ok started)) (sym same) opens)
+  passed new (inr p) = (p.1, p.4 ∙ ap (λ (x : Started). x.session) (one old p.0 started p.2 opens), p.3)
+
+-- no command is halfway after one that takes effect
+pub effect_settles : (action : Action) (old new : Contents) → TakesEffect action old new → IsSettled new
+effect_settles action old new (inl p) =
+    let done = p.2 in
+    let left = written_holds action done.session done.after p.0 old done.between new done.opened done.accepted done.written in
+    (left.0, left.2)
+effect_settles action old new (inr p) = (with_history p.2.after, p.2.holds)
+
+-- what is refused, the history refuses too
+pub refused_so : OneStart → (old new : Contents) (started : Started) (action : Action) (reason : Refusal) → IsOpening old (Ok started) → IsRefusedFor action old new reason
+    → history_after (history_of started.session) action ≡ Err reason
+refused_so one old new started action reason opens refused =
+    ap (λ (x : Started). history_after (history_of x.session) action) (one old started refused.0 opens refused.1.opens) ∙ refused_after refused.0.session action reason refused.2
+
 -- ---- all of them
 
-pub runs_go : OneReading → (old new : Contents) (started : Started) (actions : List Action) (n : ℕ) → Holds old started → Runs old actions n new
-    → (end : Started) × Run (history_of started.session) actions n (history_of end.session) × Holds new end
-runs_go one_reading old new started [] n holds Ended = (started, history.Ended, holds)
-runs_go one_reading old new started (action ∷ actions) n holds (Accepted done rest) =
-    let same : started.session ≡ done.session = ap (λ (x : Started). x.session) (one_start one_reading old.files old.journal started _ holds.opens done.opened.opens) in
-    let valid = start_leads old.files old.journal _ done.opened.opens in
-    let goes = (accepted_next done.session done.after action valid done.leads done.accepted).0 in
-    let left = written_holds action done.session done.after _ old done.between _ done.opened done.accepted done.written in
-    let later = runs_go one_reading _ new left.0 actions _ left.2 rest in
-    let step = ap (λ s. history_after (history_of s) action) same ∙ goes ∙ ap (λ (s : Session). Ok (history_of s)) (sym left.1) in
-    (later.0, history.Accepted step later.1, later.2)
-runs_go one_reading old new started (action ∷ actions) n holds (Passed refused rest) =
-    let same : refused.0 ≡ started = one_start one_reading old.files old.journal refused.0 started refused.1.opens holds.opens in
-    let may = subst (λ (x : Started). MayBeRefused (history_of x.session) action) same (may_be_refused refused.0.session action _ refused.2) in
-    let later = runs_go one_reading _ new started actions n (subst (λ (x : Started). Holds _ x) same refused.1.holds) rest in
-    (later.0, history.Passed may later.1, later.2)
+pub runs_go : OneStart → (old new : Contents) (started : Started) (asked done : List Action) → IsOpening old (Ok started) → Runs old asked done new
+    → (end : Started) × Run (history_of started.session) done (length done) (history_of end.session) × IsOpening new (Ok end)
+runs_go one old new started _ _ opens Ended = (started, history.Ended, opens)
+runs_go one old new started _ _ opens (Effective {action = action} {asked = asked} {done = done} effect rest) =
+    let next = effective one old started opens action _ effect in
+    let later = runs_go one _ new next.0 asked done next.2.opens rest in
+    (later.0, history.Accepted next.1 later.1, later.2)
+runs_go one old new started _ done opens (Passed {asked = asked} none rest) =
+    let next = passed one old started opens _ none in
+    let later = runs_go one _ new next.0 asked done next.2 rest in
+    (later.0, subst (λ s. Run (history_of s) done (length done) (history_of later.0.session)) next.1 later.1, later.2)

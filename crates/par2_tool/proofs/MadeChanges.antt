@@ -29,7 +29,7 @@ made_next k changes i item within is =
     ∙ ap (λ x. with_all_changes k (map change_of (take i changes) ++ change_of x ∷ [])) is
     ∙ ap (with_all_changes k) (sym (map_more change_of changes i item within))
 
--- where changes apply one after the other, each does behind those before it
+-- where changes apply one after the other, each does after those before it
 applicable_next : (k : Contents) (changes : List Change) (i : ℕ) (item : Change) → i < length changes → item ≡ get_or changes i item → IsTrue (defined.are_applicable k.files (map change_of changes))
     → IsTrue (defined.is_applicable (with_all_changes k (map change_of (take i changes))).files (change_of item))
 unfolding defined.are_applicable

@@ -80,7 +80,7 @@ pub opens_read : (contents : Contents) (files : Folder) (text : List ℕ) (o : R
 unfolding OpensAs
 opens_read contents files text o answer read opens is = subst (λ k. IsOpening k answer) (sym read) (o, opens, is)
 
--- a refusal that is not for want of memory decides what the store opens as
+-- a refusal that is not because memory ran out decides what the store opens as
 pub opens_refused : (contents : Contents) (files : Folder) (text : List ℕ) (e named : JournalFault) (answer : Result Started JournalFault) → IsRead contents files (Some text) → (e ≡ fault.Memory) ⊎ Opens files text (Err e) → e ≡ named → (named ≡ fault.Memory → ⊥) → answer ≡ started files (Err named)
     → IsOpening contents answer
 opens_refused contents files text e named answer read (inl memory) same other is = absurd (other (sym same ∙ memory))
@@ -151,7 +151,7 @@ opens_still old new files text s back read opens apart stop = inr (with_history 
         some.2 ∙ all_changed_is old (take n back) ∙ ap (λ (k : Contents). record { files = effects k.files (take n back); journal = k.journal }) read in
         subst (λ k. IsOpening k (Ok (with_history s))) (sym is) (still_stored by.0 files s back n text by.1 by.2 apart_from some.1)
 
--- a stop on the way back: before the changes, behind some of them, or with everything done
+-- a stop on the way back: before the changes, after some of them, or with everything done
 pub still_halfway : (old new : Contents) (s : Session) (back : List Change) (after : Vec ℕ Global) → Spells after.items (settled_journal Two s) → IsStoppedAt old (record { halfway = None; after = after }) back new → IsStillHalfway s back old new
 still_halfway old new s back after spells (inl same) = inl (0, omega arith, same)
 still_halfway old new s back after spells (inr (inl some)) = inl some

@@ -7,6 +7,7 @@ use Rattle.par2_spec.specs.Changes.{Change, are_applicable, effects, takes_all}
 use Rattle.par2_spec.specs.Commands.{Action}
 use Rattle.par2_spec.specs.Folders.{Folder}
 use Rattle.par2_spec.specs.Journals.{Spells}
+use Rattle.par2_spec.specs.Plans.{LeadsToAfterAsked}
 use Rattle.par2_spec.specs.Opening.{OpensAs, TellsApart, halfway_where, journals_of, settled_journal}
 use Rattle.par2_spec.specs.Sessions.{Session, KeptSession, CanWalk, OnlyGrew, session_of_kept, session_with, changes_asked, kept_done, kept_undone, kept_redone}
 use Rattle.par2_spec.specs.Stores.{Contents, with_journal}
@@ -124,7 +125,7 @@ module _ (action : Action) (old : KeptSession) (ready : Ready) (mid : KeptSessio
       settled_holds (with_all_changes (with_halfway k journals.halfway) (changes_by_kind ready.kind mid)) (after_commit ready.kind mid) journals.after.items (committed_walks ready.kind mid made.walks made.is.fits.can) after_spelled
       (changed_files k journals.halfway (changes_by_kind ready.kind mid) ∙ ap (λ f. effects f (changes_by_kind ready.kind mid)) (files ∙ sym made.grew.files) ∙ sym (committed_files ready.kind mid))
 
-  -- behind some of the changes
+  -- after some of the changes
   passed_opens : (halfway : Option (Vec ℕ Global)) (changes : List Change) (n : ℕ) → SpellsWhere halfway (halfway_where Two (session_of_kept mid) changes) → takes_all mid.folder changes ≡ true → TellsApart mid.folder.files changes → n ≤ length changes
       → (with_all_changes (with_halfway k halfway) (take n changes) ≡ k) ⊎ IsOpening (with_all_changes (with_halfway k halfway) (take n changes)) (Ok (with_history (session_of_kept mid)))
   passed_opens None [] n spells taken apart le = inl (ap (with_all_changes k) (take_all n [] (omega arith)))
@@ -140,12 +141,17 @@ module _ (action : Action) (old : KeptSession) (ready : Ready) (mid : KeptSessio
   apart_from_mid apart =
       subst (λ (f : Folder). TellsApart f (changes_by_kind ready.kind mid)) (sym made.grew.files) (subst (λ r. IfOk r (TellsApart old.folder.files)) (asked_of_mid action old ready mid made) apart)
 
-  pub stopped_opens : (new : Contents) → IsStoppedAt k journals (changes_by_kind ready.kind mid) new → TellsApartAlong (session_of_kept old) action → OpensAsBeforeOrAfter (session_of_kept old) action k new
-  stopped_opens new (inl e) apart = inl e
-  stopped_opens new (inr (inl s)) apart =
+  pub stopped_opens : (new : Contents) → IsStoppedAt k journals (changes_by_kind ready.kind mid) new → TellsApartAlong (session_of_kept old) action → LeadsToAfterAsked old.folder.files action → OpensAsBeforeOrAfter (session_of_kept old) action k new
+  stopped_opens new (inl e) apart leads = inl e
+  stopped_opens new (inr (inl s)) apart leads =
       elim (passed_opens journals.halfway (changes_by_kind ready.kind mid) s.0 halfway_spelled made.applies (apart_from_mid apart) s.1) as (λ _. OpensAsBeforeOrAfter (session_of_kept old) action k new) [
         | inl none ↦ inl (s.2 ∙ none)
         | inr opens ↦ inr (inl (subst (λ (t : Session). IsOpening new (Ok (with_history t))) (same_session old mid made.grew) (subst (λ (x : Contents). IsOpening x (Ok (with_history (session_of_kept mid)))) (sym s.2) opens)))
       ]
-  stopped_opens new (inr (inr e)) apart =
-      inr (inr (session_of_kept (after_commit ready.kind mid), made.is.leads, subst (λ (x : Contents). Holds x (with_history (session_of_kept (after_commit ready.kind mid)))) (sym e) written_holds))
+  stopped_opens new (inr (inr e)) apart leads =
+      inr (inr (record {
+        after = session_of_kept (after_commit ready.kind mid);
+        accepted = made.is.leads;
+        leads = leads;
+        holds = subst (λ (x : Contents). Holds x (with_history (session_of_kept (after_commit ready.kind mid)))) (sym e) written_holds;
+      }))

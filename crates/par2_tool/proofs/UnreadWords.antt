@@ -16,7 +16,7 @@ is_memory : WordsFault → Bool
 is_memory Arguments = false
 is_memory Memory = true
 
--- words that are a command line are refused for want of memory alone
+-- words that are a command line are refused only where memory runs out
 pub unread_words : (words : List Text) (fault : WordsFault) → (takes par2_app words ≡ true → is_some (subcommand_of par2_app words) ≡ true → fault ≡ Memory) → IsUnread words (unread_as fault)
 unfolding is_memory
 unread_words words Arguments memory =

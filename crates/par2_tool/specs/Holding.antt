@@ -2,6 +2,7 @@
 use Rattle.std.specs.Prelude.{◌≡◌, ◌⊎◌, ℕ, List, Some, Result, Ok, IfOk, false}
 use Rattle.par2_spec.specs.Changes.{Change}
 use Rattle.par2_spec.specs.Commands.{Action}
+use Rattle.par2_spec.specs.Plans.{LeadsToAfterAsked}
 use Rattle.par2_spec.specs.Sessions.{Session, changes_asked, session_after}
 use Rattle.par2_spec.specs.Journals.{Spells}
 use Rattle.par2_spec.specs.Opening.{Started, OpensAs, Opens, Halfway, TellsApart, settled_journal}
@@ -17,6 +18,10 @@ IsOpening contents answer = OpensAs contents.files contents.journal answer
 pub record Holds (contents : Contents) (started : Started) : Type 0 where
   pub files : contents.files ≡ started.session.folder
   pub opens : IsOpening contents (Ok started)
+
+-- no command is halfway: the store's folder is that of the session that it opens as
+abbrev pub IsSettled : Contents → Type 0
+IsSettled contents = (started : Started) × Holds contents started
 
 -- the session, of which no history was dropped
 abbrev pub with_history : Session → Started
@@ -38,12 +43,24 @@ abbrev pub TellsApartBack : Contents → Type 0
 TellsApartBack contents =
     (text : List _) (session : Session) (back : List Change) → contents.journal ≡ Some text → Opens contents.files text (Ok (Halfway session back)) → TellsApart contents.files back
 
+-- the same of all that a run of the action passes through
+pub record TellsApartInRun (action : Action) (contents : Contents) : Type 0 where
+  pub back : TellsApartBack contents
+  pub along : (started : Started) → IsOpening contents (Ok started) → TellsApartAlong started.session action
+
 -- ---- stops
+
+-- the store holds the session from after the action, and the changes of a command lead to its folder
+pub record HoldsAfter (session : Session) (action : Action) (new : Contents) : Type 0 where
+  pub after : Session
+  pub accepted : session_after session action ≡ Ok after
+  pub leads : LeadsToAfterAsked session.folder action
+  pub holds : Holds new (with_history after)
 
 -- nothing was done, or the store opens as the session from before the action, or it holds the one from afterwards
 abbrev pub OpensAsBeforeOrAfter : Session → Action → Contents → Contents → Type 0
 OpensAsBeforeOrAfter session action old new =
-    (new ≡ old) ⊎ (IsOpening new (Ok (with_history session)) ⊎ ((after : Session) × (session_after session action ≡ Ok after) × Holds new (with_history after)))
+    (new ≡ old) ⊎ (IsOpening new (Ok (with_history session)) ⊎ HoldsAfter session action new)
 
 -- the store opens as it did
 abbrev pub OpensAsBefore : Contents → Contents → Type 0

@@ -22,7 +22,7 @@ abbrev pub started_of : Started → defined.Started
 started_of started = record { session = session_of_kept started.session; dropped = started.dropped }
 
 -- why a store isn't opened, and what it holds then: a journal that is none, a command that was left halfway in another
--- folder, want of memory, or a failure of the store
+-- folder, out of memory, or a failure of the store
 abbrev pub IsUnopened : Contents → Contents → OpenFault → Type 0
 IsUnopened old new JournalInvalid = IsOpening old (Err journal.JournalInvalid) × (new ≡ old)
 IsUnopened old new FolderChanged = IsOpening old (Err (journal.FolderChanged true)) × (new ≡ old)

@@ -65,7 +65,7 @@ with_halfway contents (Some text) = with_journal contents text.items
 abbrev pub after_write_down : Contents → Journals → List Change → Contents
 after_write_down contents journals changes = with_journal (with_all_changes (with_halfway contents journals.halfway) changes) journals.after.items
 
--- where that can stop: before anything is done, behind some of the changes, or with everything done
+-- where that can stop: before anything is done, after some of the changes, or with everything done
 abbrev pub IsStoppedAt : Contents → Journals → List Change → Contents → Type 0
 IsStoppedAt old journals changes new =
     (new ≡ old)

@@ -12,7 +12,7 @@ use Rattle.par2_tool.specs.declared.performing.PerformFault.TheVariants.{Session
 use Rattle.par2_tool.specs.declared.opening.OpenFault.{OpenFault}
 use Rattle.par2_tool.specs.declared.opening.OpenFault.TheVariants as unopened
 
--- the session refuses for the cause that the definitions name or for want of memory, stays as it was, and no failure
+-- the session refuses for the cause that the definitions name or because memory ran out, stays as it was, and no failure
 -- of the store is counted; or the store failed
 abbrev pub IsRefused : Action → KeptSession → KeptSession → ℕ → ℕ → PerformFault → Type 0
 IsRefused action old new before after (Session fault) = MayRefuse action old fault × OnlyGrew old new × (after ≡ before)

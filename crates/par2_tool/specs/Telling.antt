@@ -16,7 +16,7 @@ use Rattle.par2_printing.specs.Views.{words_asked}
 use Rattle.par2_printing.specs.Writing.{TookAll, TookPart}
 use Rattle.par2_printing.specs.declared.printer.Printer.{Printer}
 use Rattle.par2_tool.specs.Asking.{AskFor, IsCommandLine}
-use Rattle.par2_tool.specs.Holding.{IsOpening, Holds, with_history, TellsApartAlong, TellsApartBack}
+use Rattle.par2_tool.specs.Holding.{IsOpening, HoldsAfter, with_history, TellsApartAlong, TellsApartBack}
 use Rattle.par2_tool.specs.Opening.{IsOpened}
 use Rattle.par2_tool.specs.Performing.{IsAnswer, IsWritten}
 
@@ -76,14 +76,14 @@ abbrev pub OpensAsBeforeOrAfterRun : Action → Contents → Contents → Type 0
 OpensAsBeforeOrAfterRun action old new =
     (new ≡ old)
     ⊎ ((started : Started) × IsOpening old (Ok started)
-    × (IsOpening new (Ok started) ⊎ (IsOpening new (Ok (with_history started.session)) ⊎ ((after : Session) × (session_after started.session action ≡ Ok after) × Holds new (with_history after)))))
+    × (IsOpening new (Ok started) ⊎ (IsOpening new (Ok (with_history started.session)) ⊎ HoldsAfter started.session action new)))
 
 -- the same where fingerprints tell apart the folders that are passed through
 abbrev pub IsStopped : Action → Contents → Contents → Type 0
 IsStopped action old new =
     TellsApartBack old → ((started : Started) → IsOpening old (Ok started) → TellsApartAlong started.session action) → OpensAsBeforeOrAfterRun action old new
 
--- a refused action: for want of memory, or for the cause that the definitions name; or the store failed
+-- a refused action: because memory ran out, or for the cause that the definitions name; or the store failed
 abbrev pub IsFailed : Action → Contents → Contents → Failure → Type 0
 IsFailed action old new (failure.Refused reason) =
     ((reason ≡ fault.Memory) × IsLeft old new) ⊎ IsRefusedFor action old new (history.Refused reason)
@@ -94,7 +94,7 @@ IsFailed action old new failure.Arguments = ⊥
 IsFailed action old new failure.JournalInvalid = IsOpening old (Err journal.JournalInvalid) × (new ≡ old)
 IsFailed action old new failure.FolderChanged = IsChanged action old new
 
--- words that are no command line, or that can't be read for want of memory
+-- words that are no command line, or that can't be read because memory ran out
 abbrev pub IsUnread : List Text → Failure → Type 0
 IsUnread words reason = ((reason ≡ failure.Arguments) × (IsCommandLine words → ⊥)) ⊎ (reason ≡ failure.Refused fault.Memory)
 
@@ -107,7 +107,7 @@ Leaves words (Failed spoken reason) old new =
 
 -- ---- on any store
 
--- why an action fails: for want of memory; for the cause that the definitions name, on some session; by the journal
+-- why an action fails: because memory ran out; for the cause that the definitions name, on some session; by the journal
 -- that was read; or since the store failed, which is counted, and counted for that alone
 abbrev pub IsCause : Action → ℕ → ℕ → Failure → Type 0
 IsCause action before after (failure.Refused reason) =
@@ -131,7 +131,7 @@ IsTold words before after (Failed spoken reason) =
     ⊎ ((action : Action) × AskFor words action × (spoken ≡ words_asked action) × IsCause action before after reason)
 
 -- the text was written and the status is its own; or the writer failed, which is counted, it holds a part of the
--- text, which lacks a byte at least, and the status is 6
+-- text, which is a proper prefix, and the status is 6
 abbrev pub IsPrinted : {W : Type 0} → (W → Option (List ℕ)) → Printer W → Printer W → List ℕ → ℕ → ℕ → Type 0
 IsPrinted held old new text own status =
     (TookAll held old new text × (status ≡ own)) ⊎ (TookPart held old new text × (status ≡ 6))

@@ -1,24 +1,39 @@
-//! A law of runs on one store: it is the contract of a function that does nothing.
-ghost use Rattle.std.specs.Prelude.{ℕ, List};
+//! Laws of runs on one store: each is the contract of a function that does nothing.
+ghost use Rattle.std.specs.Prelude.{◌≡◌, List, Ok, Err, length};
 ghost use Rattle.par2_spec.specs.Commands.{Action};
-ghost use Rattle.par2_spec.specs.History.{Run};
+ghost use Rattle.par2_spec.specs.History.{Refusal, Run, history_after};
 ghost use Rattle.par2_spec.specs.Opening.{Started};
 ghost use Rattle.par2_spec.specs.Sessions.{history_of};
 ghost use Rattle.par2_spec.specs.Stores.{Contents};
-ghost use Rattle.par2_tool.specs.Holding.{Holds};
-ghost use Rattle.par2_tool.specs.Runs.{Runs};
+ghost use Rattle.par2_tool.specs.Holding.{IsOpening, IsSettled};
+ghost use Rattle.par2_tool.specs.Runs.{HasNoEffect, Runs, TakesEffect};
+ghost use Rattle.par2_tool.specs.Telling.{IsRefusedFor};
 
 use par2_journal_bytes::one_reading;
 
-/// Runs on one store, each of which opens it anew, go through the history that one lasting session would have, and the
-/// store holds that session afterwards. A verify is a run that changes neither.
-pub fn runs_keep_one_history()
-    ensures { (old new : Contents) (started : Started) (actions : List Action) (n : ℕ)
-        → Holds old started → Runs old actions n new
-        → (end : Started)
-        × Run (history_of started.session) actions n (history_of end.session)
-        × Holds new end }
+/// A store opens in one way.
+pub fn stores_open_in_one_way()
+    ensures { (contents : Contents) (a b : Started)
+        → IsOpening contents (Ok a) → IsOpening contents (Ok b) → a ≡ b }
 {
-    // By this law a store opens in one way.
     one_reading();
+}
+
+/// Runs on one store, each of which opens it anew, go through the history that one lasting session would have, and the
+/// store opens as that session afterwards. Runs without effect, as stopped ones may be, change neither.
+pub fn runs_keep_one_history()
+    ensures kept { (old new : Contents) (started : Started) (asked done : List Action)
+        → IsOpening old (Ok started) → Runs old asked done new
+        → (end : Started)
+        × Run (history_of started.session) done (length done) (history_of end.session)
+        × IsOpening new (Ok end) }
+    // what is refused, the history refuses too
+    ensures refused { (old new : Contents) (started : Started) (action : Action) (reason : Refusal)
+        → IsOpening old (Ok started) → IsRefusedFor action old new reason
+        → history_after (history_of started.session) action ≡ Err reason }
+    // and no command is halfway afterwards
+    ensures settled { (old new : Contents) (action : Action)
+        → TakesEffect action old new → IsSettled new }
+{
+    stores_open_in_one_way();
 }

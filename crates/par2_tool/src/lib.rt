@@ -9,7 +9,7 @@ mod printing;
 mod running;
 mod writing;
 
-pub use laws::runs_keep_one_history;
+pub use laws::{runs_keep_one_history, stores_open_in_one_way};
 pub use opening::{OpenFault, Started, open_store};
 pub use par2_journal::{Report, Session, SessionFault, State, Step, Steps, TargetReport};
 pub use par2_printing::Printer;

@@ -13,6 +13,7 @@ use par2_folder::{Folder, FolderStore, ReadFault, read_folder};
 use par2_journal::{Halfway, Journals, Next, Opened, Session, opens_as_is};
 use par2_spec::{Action, Command, Failure, Fault, JournalFault};
 use std::alloc::{AllocError, Global};
+use thiserror::Error;
 
 /// A store that was opened.
 #[derive(Debug, Drop)]
@@ -23,12 +24,16 @@ pub struct Started {
 }
 
 /// Why a store can't be opened.
-#[derive(Clone, Copy, PartialEq, Eq, Debug, Drop)]
+#[derive(Debug, Error, Clone, Copy, PartialEq, Eq, Drop)]
 pub enum OpenFault {
+    #[error("a file could not be read or written")]
     Store,
+    #[error("out of memory")]
     Memory,
+    #[error("the journal is not valid")]
     JournalInvalid,
     /// A command was left halfway in another folder than this one, so that it can't be taken back.
+    #[error("the folder is not as the journal left it")]
     FolderChanged,
 }
 

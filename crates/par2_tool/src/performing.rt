@@ -14,6 +14,7 @@ use par2_folder::FolderStore;
 use par2_journal::{Report, Session, SessionFault, Steps, ready_changes_apply};
 use par2_spec::{Command, Failure, Fault};
 use std::alloc::{AllocError, Global};
+use thiserror::Error;
 
 /// What an accepted command answers.
 #[derive(Debug, Drop)]
@@ -25,9 +26,11 @@ pub enum Outcome {
 }
 
 /// Why a command is not performed.
-#[derive(Clone, Copy, PartialEq, Eq, Debug, Drop)]
+#[derive(Debug, Error, Clone, Copy, PartialEq, Eq, Drop)]
 pub enum PerformFault {
+    #[error(transparent)]
     Session(SessionFault),
+    #[error("a file could not be read or written")]
     Store,
 }
 

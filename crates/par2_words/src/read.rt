@@ -10,11 +10,15 @@ use clap::ArgMatches;
 use clap::error::ErrorKind;
 use par2_spec::{Action, Command, CreateArgs, Failure, Fault};
 use std::alloc::{AllocError, Global};
+use thiserror::Error;
 
 /// Why words are no command.
-#[derive(Clone, Copy, PartialEq, Eq, Debug, Drop)]
+#[derive(Debug, Error, Clone, Copy, PartialEq, Eq, Drop)]
 pub enum WordsFault {
+    /// What is shown is how the program is called.
+    #[error("usage: par2 create -sN -cN [-fN] [--overwrite] BASE.par2 FILE.. | verify BASE [FILE..] | repair [-p] BASE [FILE..] | purge BASE | undo | redo")]
     Arguments,
+    #[error("out of memory")]
     Memory,
 }
 
@@ -167,12 +171,12 @@ fn matches_of<'a>(alloc: Global, words: &'a [String]) -> Result<ArgMatches<'a>, 
 
 /// The command that the words ask for, the program's name left out.
 ///
-/// Every refusal by clap but want of memory is `Arguments`, `--help` too.
+/// Every refusal by clap but out of memory is `Arguments`, `--help` too.
 pub fn read_words(alloc: Global, words: &[String]) -> Result<Command, WordsFault>
     ensures command { IfOk result (λ c. asked_by (map string_bytes words.now)
         ≡ Some (command_of c)) }
     ensures faultless { IfOk result (λ _. fault_of par2_app (map string_bytes words.now) ≡ []) }
-    // Words that clap's definition takes, with a subcommand, are refused for want of memory alone.
+    // Words that clap's definition takes, with a subcommand, are refused only where memory runs out.
     ensures arguments { let texts = map string_bytes words.now in
         takes par2_app texts ≡ true → is_some (subcommand_of par2_app texts) ≡ true
         → IfErr result (λ e. e ≡ WordsFault.Memory) }

@@ -1,22 +1,15 @@
 -- What tests of each element say of the lists that contracts name.
 use Rattle.std.proofs.Common.{ℕ, suc, ◌<◌, ◌≤◌, ◌≡◌, refl, ap, subst, arith, List, [], ◌∷◌, length, map}
-use Rattle.std.specs.Prelude.{All, IfSome, IsTrue, Option, Some, None, string_bytes}
+use Rattle.std.specs.Prelude.{All, IfSome, Option, Some, None}
 use Rattle.std.specs.Borrow.{Bor}
 use Rattle.std.specs.List.{AllByRecursion, AllAdjacentBelow}
 use Rattle.std.specs.List.Sorted.{IsStrictlyIncreasing}
-use Rattle.par2_spec.specs.Names.{is_name}
 use Rattle.par2_spec.proofs.ListsLaws.{increasing}
-use Rattle.par2_packets.specs.declared.record.FileRecord.{FileRecord}
 use Rattle.par2_recovery.specs.Survivors.{known_alone, recovered_of, exponents_of}
-use Rattle.par2_recovery.specs.Views.{names_of}
-use Rattle.par2_recovery.specs.declared.set_record.SetRecord.{SetRecord}
 
 each_mapped : {A B : Type 0} (f : A → B) (P : B → Type 0) (xs : List A) → All (λ x. P (f x)) xs → AllByRecursion P (map f xs)
 each_mapped f P [] h = tt
 each_mapped f P (x ∷ xs) h = (h 0 x (omega arith), each_mapped f P xs (λ k d low. h (suc k) d (omega arith)))
-
-pub are_names : (set : SetRecord) → All (λ file. IsTrue (is_name (string_bytes file.name))) set.files.items → AllByRecursion (λ name. IsTrue (is_name name)) (names_of set)
-are_names set h = each_mapped (λ (file : FileRecord). string_bytes file.name) (λ name. IsTrue (is_name name)) set.files.items h
 
 pub known_fits : (s : ℕ) (known : List (Option (Bor (List ℕ)))) → All (λ slice. IfSome slice (λ bytes. length bytes.now ≤ s)) known → AllByRecursion (λ slice. length slice.now ≤ s) (known_alone known)
 known_fits s [] h = tt

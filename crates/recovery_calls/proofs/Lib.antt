@@ -1,2 +1,1 @@
 pub mod ElementTests
-pub mod SliceCounts

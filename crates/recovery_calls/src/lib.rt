@@ -1,27 +1,21 @@
 //! Calls of `par2_recovery` whose conditions are tested first, for tests and figures. What may not be asked for is None.
 #![tactic(auto)]
 
-ghost use Rattle.std.specs.Prelude.{◌≡◌, ◌<◌, ◌≤◌, ◌%◌, length, slice_index_or, string_bytes, All, IsTrue, IfSome, []};
-ghost use Rattle.std.specs.List.{AllAdjacentBelow, AllByRecursion};
-ghost use Rattle.par2_spec.specs.Commands.{files_of};
-ghost use Rattle.par2_spec.specs.Folders.{bytes_of};
-ghost use Rattle.par2_spec.specs.Names.{is_name};
-ghost use Rattle.par2_spec.specs.Volumes.{all_slices};
+ghost use Rattle.std.specs.Prelude.{◌≡◌, ◌<◌, ◌≤◌, ◌%◌, ℕ, length, slice_index, All, IsTrue, IfSome};
+ghost use Rattle.std.specs.List.{AllAdjacentBelow};
+ghost use Rattle.std.specs.List.Sorted.{IsStrictlyIncreasing};
 ghost use Rattle.par2_recovery.specs.Rebuilding.{CanRebuild};
-ghost use Rattle.par2_recovery.specs.Views.{names_of};
 
 use par2_folder::{Bytes, Change, Folder, Name};
 use par2_gf16::Gf;
-use par2_packets::{DuplicateId, FileRecord};
 use par2_recovery::{
-    RebuildFault, SetRecord, Survivors, file_records, input_slices, rebuild, rebuild_lost,
-    recovery_slice, recovery_slices,
+    RebuildFault, RecordFault, SetRecord, Survivors, input_slices, rank, rebuild, rebuild_lost,
+    recovery_slice, recovery_slices_over,
 };
-use par2_slices::slice_count;
 use std::alloc::{AllocError, Global};
 
 // How many slices a set may have.
-const MOST_SLICES: u64 = 32768;
+const MOST_SLICES: usize = 32768;
 
 /// A folder of these files. A text that is no name is left out.
 pub fn folder_of(alloc: Global, files: &[(&str, &[u8])]) -> Result<Folder, AllocError> {
@@ -41,7 +35,7 @@ pub fn set_of(
     folder: &Folder,
     texts: &[&str],
     s: u64,
-) -> Result<Option<Result<SetRecord, DuplicateId>>, AllocError> {
+) -> Result<Option<Result<SetRecord, RecordFault>>, AllocError> {
     let mut names = Vec::new(alloc);
     for text in texts {
         let Ok(name) = Name::new(text) else {
@@ -52,73 +46,15 @@ pub fn set_of(
     if s == 0 {
         return Ok(None);
     }
-    let records = file_records(alloc, folder, &names, s)?;
-    Ok(Some(SetRecord::of_records(records, s)))
+    Ok(Some(SetRecord::of_files(alloc, folder, &names, s)))
 }
 
-fn are_names(files: &[FileRecord]) -> bool
-    ensures { IsTrue result → All (λ file. IsTrue (is_name (string_bytes file.name))) files.now }
+// Whether recovery slices may be made of so many slices of this size.
+fn can_combine(count: usize, size: u64) -> bool
+    ensures slices { IsTrue result → count ≤ 32768 }
+    ensures even { IsTrue result → size % 2 ≡ 0 }
 {
-    files
-        .iter()
-        .all(|file| Name::new(file.name.as_str()).is_ok())
-}
-
-// The name of file i.
-fn name_at(set: &SetRecord, i: usize) -> &str
-    requires { i < length set.now.files.items }
-    ensures { result.now ≡ slice_index_or (names_of set.now) i [] }
-{
-    set.files[i].name.as_str()
-}
-
-// The bytes of a file, none where it is absent.
-fn bytes_of<'a>(folder: &'a Folder, name: &str) -> &'a [u8]
-    requires { IsTrue (is_name name.now) }
-    ensures { result.now ≡ bytes_of folder.now.files name.now }
-{
-    let Ok(name) = Name::new(name) else {
-        return &[];
-    };
-    match folder.get(&name) {
-        Some(bytes) => bytes,
-        None => &[],
-    }
-}
-
-// Whether the files have no more slices than a set may have.
-fn has_few_slices(set: &SetRecord, folder: &Folder) -> bool
-    requires size { 1 ≤ set.now.slice_size }
-    requires names { AllByRecursion (λ name. IsTrue (is_name name)) (names_of set.now) }
-    ensures { IsTrue result
-        → length (all_slices set.now.slice_size (files_of folder.now.files (names_of set.now))) ≤
-        32768 }
-{
-    let mut left = MOST_SLICES;
-    for i in 0..set.files.len() {
-        let bytes = bytes_of(folder, name_at(set, i));
-        let count = slice_count(bytes.len() as u64, set.slice_size);
-        if count > left {
-            return false;
-        }
-        left -= count;
-    }
-    true
-}
-
-// Whether recovery slices may be asked for.
-#[tactic(auto, using(crate::proofs::ElementTests::are_names))]
-fn fits(set: &SetRecord, folder: &Folder) -> bool
-    ensures size { IsTrue result → 1 ≤ set.now.slice_size }
-    ensures even { IsTrue result → set.now.slice_size % 2 ≡ 0 }
-    ensures names { IsTrue result
-        → AllByRecursion (λ name. IsTrue (is_name name)) (names_of set.now) }
-    ensures slices { IsTrue result
-        → length (all_slices set.now.slice_size (files_of folder.now.files (names_of set.now))) ≤
-        32768 }
-{
-    let s = set.slice_size;
-    s != 0 && s % 2 == 0 && are_names(&set.files) && has_few_slices(set, folder)
+    count <= MOST_SLICES && size % 2 == 0
 }
 
 /// The slices of the set's files.
@@ -127,7 +63,7 @@ pub fn input_slices_of<'a>(
     set: &SetRecord,
     folder: &'a Folder,
 ) -> Result<Option<Vec<&'a [u8]>>, AllocError> {
-    if !fits(set, folder) {
+    if set.slice_size == 0 {
         return Ok(None);
     }
     Ok(Some(input_slices(alloc, set, folder)?))
@@ -142,10 +78,14 @@ pub fn recovery_slices_of(
     first: u32,
     count: u32,
 ) -> Result<Option<Vec<Vec<u8>>>, AllocError> {
-    if !fits(set, folder) || first > 65536 || count > 65536 - first {
+    let Some(slices) = input_slices_of(alloc, set, folder)? else {
+        return Ok(None);
+    };
+    if !can_combine(slices.len(), set.slice_size) || first.checked_add(count).is_none() {
         return Ok(None);
     }
-    Ok(Some(recovery_slices(alloc, gf, set, folder, first, count)?))
+    let size = set.slice_size as usize;
+    Ok(Some(recovery_slices_over(alloc, gf, &slices, size, first, count)?))
 }
 
 /// The recovery slice of this exponent.
@@ -156,7 +96,11 @@ pub fn recovery_slice_of(
     folder: &Folder,
     e: u32,
 ) -> Result<Option<Vec<u8>>, AllocError> {
-    if !fits(set, folder) || e > 65535 {
+    if set.slice_size == 0 {
+        return Ok(None);
+    }
+    let slices = input_slices(alloc, set, folder)?;
+    if !can_combine(slices.len(), set.slice_size) {
         return Ok(None);
     }
     Ok(Some(recovery_slice(alloc, gf, set, folder, e)?))
@@ -224,4 +168,39 @@ pub fn lost_rebuilt(
         return None;
     }
     Some(rebuild_lost(alloc, survivors))
+}
+
+fn are_slices(numbers: &[u32]) -> bool
+    ensures { IsTrue result → (i : ℕ) → slice_index numbers.now i < 32768 }
+{
+    for i in 0..numbers.len() {
+        if numbers[i] >= 32768 {
+            return false;
+        }
+    }
+    true
+}
+
+fn rise(exponents: &[u32]) -> bool
+    ensures { IsTrue result → IsStrictlyIncreasing exponents.now }
+{
+    for i in 1..exponents.len() {
+        if exponents[i - 1] >= exponents[i] {
+            return false;
+        }
+    }
+    true
+}
+
+/// What `rank` answers.
+pub fn rank_of(
+    alloc: Global,
+    gf: &Gf,
+    lost: &[u32],
+    exponents: &[u32],
+) -> Option<Result<usize, AllocError>> {
+    if !are_slices(lost) || !rise(exponents) {
+        return None;
+    }
+    Some(rank(alloc, gf, lost, exponents))
 }

@@ -2,9 +2,11 @@
 
 use crate::disk;
 use crate::files::{clear, put_text, remove};
+use crate::growths::grow;
 use crate::rows::{answer_of, row, show};
 use crate::scarce_memory::want_memory;
 use crate::sessions::{failing_session, session};
+use crate::stopping_output::stop_output;
 use crate::stops::{stop, stop_and_repeat, stop_each, told_stop};
 use crate::words::read;
 use anyhow::{Error, Result};
@@ -32,6 +34,9 @@ fn fail(rt: &HostRuntime, store: &mut MemoryStore, word: &str, rest: &str) -> Re
         "stop-each" => stop_each(rt, store, rest),
         "stop-and-repeat" => stop_and_repeat(rt, store, rest),
         "want-memory" => want_memory(rt, store, rest),
+        "output-fails" => stop_output(rt, store, rest, true),
+        "output-full" => stop_output(rt, store, rest, false),
+        "grow" => grow(rt, store, rest),
         _ => Err(Error::msg("no such word")),
     }
 }

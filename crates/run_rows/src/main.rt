@@ -3,17 +3,21 @@
 //! of their calls, at the second, and so on until none is refused, actions on one session, and calls on real folders.
 //! What whole commands answer in any folder is carried out by `scripts/folder_rows`.
 //!
+//! `scripts/growths` has it make calls of which it refuses a growth.
+//!
 //! Memory is ample but where a store answers otherwise, so the stored output also refuses a `run` that always
-//! answers want of memory. `rt run` builds the program; `rt try` takes minutes and can't go into real folders.
+//! answers out of memory. `rt run` builds the program; `rt try` takes minutes and can't go into real folders.
 #![tactic(auto)]
 
 mod calls;
 mod disk;
 mod files;
+mod growths;
 mod lines;
 mod rows;
 mod scarce_memory;
 mod sessions;
+mod stopping_output;
 mod stops;
 mod words;
 

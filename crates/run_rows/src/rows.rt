@@ -5,6 +5,7 @@ use anyhow::Result;
 use par2_folder::{FolderStore, MemoryStore, Name};
 use par2_tool::{Printer, run};
 use std::alloc::{AllocError, Global};
+use std::io::Write;
 
 /// What came of a run.
 #[derive(Drop)]
@@ -32,8 +33,8 @@ pub fn parted(alloc: Global, line: &str) -> Result<Vec<String>, AllocError> {
     Ok(words)
 }
 
-// A printer on bytes.
-fn printer(alloc: Global) -> Printer<Vec<u8>> {
+/// A printer on bytes.
+pub fn printer(alloc: Global) -> Printer<Vec<u8>> {
     Printer::new(Vec::new(alloc))
 }
 
@@ -42,19 +43,19 @@ fn bytes_on(printer: Printer<Vec<u8>>) -> Vec<u8> {
     printer.into_inner()
 }
 
-// The status of a run.
-fn status_of<S: FolderStore>(
+/// The status of a run.
+pub fn status_of<S: FolderStore, O: Write>(
     alloc: Global,
     words: &[String],
     store: &mut S,
-    out: &mut Printer<Vec<u8>>,
+    out: &mut Printer<O>,
     err: &mut Printer<Vec<u8>>,
 ) -> u8 {
     run(alloc, words, store, out, err)
 }
 
-// Runs words on a store.
-fn answer_to<S: FolderStore>(alloc: Global, store: &mut S, words: &[String]) -> Answer {
+/// Runs words on a store.
+pub fn answer_to<S: FolderStore>(alloc: Global, store: &mut S, words: &[String]) -> Answer {
     let mut out = printer(alloc);
     let mut err = printer(alloc);
     let status = status_of(alloc, words, store, &mut out, &mut err);
@@ -71,8 +72,8 @@ pub fn answer_of<S: FolderStore>(alloc: Global, store: &mut S, line: &str) -> Re
     Ok(answer_to(alloc, store, &words))
 }
 
-// Prints what a writer got, if anything.
-fn show_text(rt: &HostRuntime, writer: &str, text: &[u8]) -> Result<()> {
+/// Prints what a writer got, if anything.
+pub fn show_text(rt: &HostRuntime, writer: &str, text: &[u8]) -> Result<()> {
     if text.is_empty() {
         return Ok(());
     }

@@ -33,8 +33,21 @@ pub fn plan_of(alloc: Global, folder: &Folder, args: &CreateArgs) -> Result<Chan
     par2_plan::plan_create(alloc, folder, args)
 }
 
+pub fn new_session(alloc: Global, folder: Folder) -> Session {
+    Session::new(alloc, folder)
+}
+
 pub fn create(session: &mut Session, alloc: Global, args: &CreateArgs) -> Result<Steps, Fault> {
     session.create(alloc, args)
+}
+
+// Repairs by the index `t.par2` alone.
+pub fn repair(session: &mut Session, alloc: Global, purge: bool) -> Result<Steps, Fault> {
+    session.repair(alloc, "t.par2", &[], purge)
+}
+
+pub fn purge(session: &mut Session, alloc: Global) -> Result<Steps, Fault> {
+    session.purge(alloc, "t.par2")
 }
 
 pub fn prepare(
@@ -93,6 +106,11 @@ pub fn depths_of(session: &Session) -> (usize, usize) {
 
 pub fn folder_in(session: &Session) -> &Folder {
     session.folder()
+}
+
+// How many files the session's folder takes without memory.
+pub fn vacant_in(session: &Session) -> usize {
+    session.folder().vacant()
 }
 
 pub fn encode(session: &Session, alloc: Global) -> Result<Vec<u8>, AllocError> {

@@ -305,7 +305,7 @@ fn are_prefixes_refused(alloc: Global, text: &[u8]) -> bool {
     (0..text.len()).all(|n| is_refused(alloc, text.split_at(n).0))
 }
 
-// The body behind which its digest stands.
+// The body after which its digest stands.
 fn closed(alloc: Global, body: &[u8]) -> Result<Vec<u8>, AllocError> {
     let mut text = Vec::from_slice(alloc, body)?;
     text.extend_from_slice(&Md5::digest(body))?;
@@ -337,7 +337,7 @@ const FALSE_BODIES: &[&[u8]] = &[
         \x01\xff\xff\xff\xff\xff\xff\xff\xffaaaaaaaaaaaaaaaa\x04\x01a",
     // A cursor of 2, where there is one entry.
     b"P2UNDO2\n0123456789abcdef\x02\0\0\0\0\0\0\0\x01\0\0\0\0\0\0\0\x01\0\0\0\0\0\0\0\x04\x06t.par2\0",
-    // A byte behind the last part.
+    // A byte after the last part.
     b"P2UNDO1\n0123456789abcdef\0\0\0\0\0\0\0\0\0\0",
     // A way back of no change.
     b"P2UNDO1\n0123456789abcdef\0\0\0\0\0\0\0\0\x01\0\0\0\0\0\0\0\0",
@@ -345,7 +345,7 @@ const FALSE_BODIES: &[&[u8]] = &[
     b"P2UNDO1\n0123456789abcdef\x01\0\0\0\0\0\0\0\x01\0\0\0\0\0\0\0\x04\x03a/b\0",
 ];
 
-// Whether the bytes are refused with one more behind them.
+// Whether the bytes are refused with one more after them.
 fn is_longer_refused(alloc: Global, text: &[u8]) -> Result<bool, AllocError> {
     let mut longer = Vec::from_slice(alloc, text)?;
     longer.push(0)?;

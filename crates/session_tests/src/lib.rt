@@ -19,6 +19,10 @@ mod plan;
 #[cfg(test)]
 mod printing;
 #[cfg(test)]
+mod promises;
+#[cfg(test)]
 mod reports;
 #[cfg(test)]
 mod session;
+#[cfg(test)]
+mod texts;

@@ -160,7 +160,7 @@ const LINES: &[(Line, &str)] = &[
     ),
 ];
 
-// What is written with this line behind it.
+// What is written with this line after it.
 fn line_behind(out: Vec<u8>, line: Line) -> Result<Vec<u8>, Trouble> {
     let mut printer = Printer::new(out);
     match write_line(&mut printer, line) {
@@ -169,7 +169,7 @@ fn line_behind(out: Vec<u8>, line: Line) -> Result<Vec<u8>, Trouble> {
     }
 }
 
-// The text of the first line that isn't written behind those before it, if there is one.
+// The text of the first line that isn't written after those before it, if there is one.
 fn first_unwritten(alloc: Global) -> Result<Option<&'static str>, Trouble> {
     let (mut out, mut expected) = (Vec::new(alloc), String::new(alloc));
     for (line, text) in LINES {
@@ -247,7 +247,7 @@ fn told(alloc: Global, command: Option<&Command>, failure: Failure) -> Result<Ve
 }
 
 // Whether a failure is told by this text.
-fn is_told(
+pub fn is_told(
     alloc: Global,
     command: Option<&Command>,
     failure: Failure,

@@ -36,11 +36,11 @@ fn protected(alloc: Global) -> Result<Folder, Trouble> {
     Ok(folder)
 }
 
-// What another hand makes of `a`.
-enum Damage {
+/// What another hand makes of `a`.
+pub enum Damage {
     None,
     Bytes(&'static [u8]),
-    // The file gets the name `x`.
+    /// The file gets the name `x`.
     Renamed,
 }
 
@@ -61,7 +61,7 @@ fn change_of(alloc: Global, damage: &Damage) -> Result<Option<Change>, Trouble> 
 }
 
 // The same folder after this damage.
-fn damaged(alloc: Global, damage: &Damage) -> Result<Folder, Trouble> {
+pub fn damaged(alloc: Global, damage: &Damage) -> Result<Folder, Trouble> {
     let mut folder = protected(alloc)?;
     if let Some(change) = change_of(alloc, damage)? {
         apply(&mut folder, change)?;

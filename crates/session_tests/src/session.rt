@@ -1,21 +1,25 @@
 //! Worked examples of a session and its journals, and each refusal that it knows. The helpers have no clauses, so that
 //! the proof of a test carries none from one call to the next.
 use crate::calls;
-use crate::calls::{bytes_in, depths_of, encode, fingerprint, folder_in, prepare};
+use crate::calls::{
+    bytes_in, depths_of, encode, fingerprint, folder_in, new_session, prepare, vacant_in,
+};
 use crate::fixtures::{A, Trouble, args_of, folder_of};
 use crate::journal::{
     CREATE_JOURNAL, FINGERPRINT, FRONT, FRONT_AFTER, HALFWAY_JOURNAL, NEW_JOURNAL, Text,
     UNDONE_JOURNAL, commits, is_text,
 };
 use crate::opening::{is_taken_back, reopened};
+use crate::reports::{Damage, damaged};
 use par2_folder::Name;
-use par2_journal::{Action, Fault, Session, SessionFault, Step};
+use par2_journal::{Action, Fault, Session, SessionFault, Step, Steps};
+use par2_printing::PrintedStep;
 use std::alloc::{AllocError, Global};
 use std::test::Fail;
 
 // A session on a folder with the file `a`.
 fn session_of(alloc: Global) -> Result<Session, Trouble> {
-    Ok(Session::new(alloc, folder_of(alloc, A)?))
+    Ok(new_session(alloc, folder_of(alloc, A)?))
 }
 
 // The bytes of a file, where there is one.
@@ -36,20 +40,32 @@ pub fn stands(session: &Session, wanted: &Standing) -> bool {
     undos == wanted.1 && redos == wanted.2 && length == wanted.3
 }
 
-/// An action. A create writes this index over the file `a`.
+/// An action. A create writes this index over the file `a`, a repair and a purge are of `t.par2`.
 pub enum Task {
     Create(&'static str),
+    Repair { purge: bool },
+    Purge,
     Undo,
     Redo,
 }
 
-fn create_of(alloc: Global, base: &str) -> Result<Action, AllocError> {
-    Ok(Action::Create(args_of(alloc, 4, base, &["a"])?))
+fn base(alloc: Global) -> Result<String, AllocError> {
+    String::from_str(alloc, "t.par2")
+}
+
+fn repair_of(alloc: Global, purge: bool) -> Result<Action, AllocError> {
+    Ok(Action::Repair {
+        base: base(alloc)?,
+        extras: Vec::new(alloc),
+        purge,
+    })
 }
 
 pub fn action_of(alloc: Global, task: &Task) -> Result<Action, AllocError> {
     match task {
-        Task::Create(base) => create_of(alloc, base),
+        Task::Create(base) => Ok(Action::Create(args_of(alloc, 4, base, &["a"])?)),
+        Task::Repair { purge } => repair_of(alloc, *purge),
+        Task::Purge => Ok(Action::Purge { base: base(alloc)? }),
         Task::Undo => Ok(Action::Undo),
         Task::Redo => Ok(Action::Redo),
     }
@@ -69,25 +85,48 @@ fn played(alloc: Global, session: &mut Session, tasks: &[Task]) -> Result<usize,
     Ok(calls::play(session, alloc, &actions))
 }
 
-// Creates an index over the file `a`, whose writing is the one step.
-fn creates(alloc: Global, session: &mut Session, base: &str) -> Result<bool, Trouble> {
-    let args = args_of(alloc, 4, base, &["a"])?;
-    let steps = calls::create(session, alloc, &args);
-    Ok(matches!(&steps, Ok(steps) if is_write_of(steps.as_slice(), base)))
+// The steps of a command, which the session's own call of it does.
+fn steps_of(alloc: Global, session: &mut Session, task: &Task) -> Result<Steps, Trouble> {
+    let steps = match task {
+        Task::Create(base) => {
+            let args = args_of(alloc, 4, base, &["a"])?;
+            calls::create(session, alloc, &args)
+        }
+        Task::Repair { purge } => calls::repair(session, alloc, *purge),
+        Task::Purge => calls::purge(session, alloc),
+        Task::Undo | Task::Redo => return Err(Trouble::Refused),
+    };
+    steps.map_err(|_| Trouble::Refused)
 }
 
-fn is_write_of(steps: &[Step], text: &str) -> bool {
-    matches!(steps, [Step::Write(name)] if name.as_str() == text)
+fn told(step: &Step) -> PrintedStep<'_> {
+    match step {
+        Step::Write(name) => PrintedStep::Write(name.as_str()),
+        Step::Replace(name) => PrintedStep::Replace(name.as_str()),
+        Step::Rename(from, to) => PrintedStep::Rename(from.as_str(), to.as_str()),
+        Step::Remove(name) => PrintedStep::Remove(name.as_str()),
+    }
 }
 
-// Whether a create of this index is refused like this.
+// Whether a command is done by these steps.
+fn does(
+    alloc: Global,
+    session: &mut Session,
+    task: &Task,
+    wanted: &[PrintedStep<'_>],
+) -> Result<bool, Trouble> {
+    let steps = steps_of(alloc, session, task)?;
+    Ok(steps.as_slice().iter().map(told).eq(wanted.iter().copied()))
+}
+
+// Whether a command is refused like this.
 fn refuses(
     alloc: Global,
     session: &mut Session,
-    base: &str,
+    task: &Task,
     wanted: SessionFault,
 ) -> Result<bool, Trouble> {
-    let action = create_of(alloc, base)?;
+    let action = action_of(alloc, task)?;
     let prepared = prepare(session, alloc, &action);
     Ok(matches!(&prepared, Err(fault) if *fault == wanted))
 }
@@ -102,8 +141,9 @@ fn has_journal(alloc: Global, session: &Session, wanted: &Text) -> Result<bool, 
 
 /// What is done with a session, and what holds of it then.
 pub enum Row {
-    Create(&'static str),
-    Refused(&'static str, SessionFault),
+    /// A command, and the steps that it answers.
+    Does(Task, &'static [PrintedStep<'static>]),
+    Refused(Task, SessionFault),
     /// How many of these tasks are done.
     Play(&'static [Task], usize),
     /// A task that is made ready, with its journal while it is halfway, and done.
@@ -116,14 +156,18 @@ pub enum Row {
     Journal(Text),
     /// The file `a` alone is opened with the session's journal, and whether a redo is next.
     Reopen(bool),
+    /// The session is a new one on the folder of a set, after this damage.
+    Damaged(Damage),
+    /// At least so many files can be written without memory.
+    Vacant(usize),
     /// The folder as it stands is opened with the first journal. When that command is taken back, the second stands.
     TakenBack(&'static [u8], &'static [u8]),
 }
 
 fn is_met(alloc: Global, session: &mut Session, row: &Row) -> Result<bool, Trouble> {
     match row {
-        Row::Create(base) => creates(alloc, session, base),
-        Row::Refused(base, wanted) => refuses(alloc, session, base, *wanted),
+        Row::Does(task, wanted) => does(alloc, session, task, wanted),
+        Row::Refused(task, wanted) => refuses(alloc, session, task, *wanted),
         Row::Play(tasks, wanted) => Ok(played(alloc, session, tasks)? == *wanted),
         Row::Commit(task, halfway) => commits(alloc, session, task, halfway),
         Row::Undo(wanted) => Ok(calls::undo(session) == *wanted),
@@ -135,6 +179,11 @@ fn is_met(alloc: Global, session: &mut Session, row: &Row) -> Result<bool, Troub
             *session = reopened(alloc, session, *is_redo_next)?;
             Ok(true)
         }
+        Row::Damaged(damage) => {
+            *session = new_session(alloc, damaged(alloc, damage)?);
+            Ok(true)
+        }
+        Row::Vacant(least) => Ok(vacant_in(session) >= *least),
         Row::TakenBack(text, settled) => is_taken_back(alloc, session, text, settled),
     }
 }
@@ -159,7 +208,7 @@ const EXAMPLES: &[Example] = &[
     (
         "an undo of a create",
         &[
-            Row::Create("t.par2"),
+            Row::Does(Task::Create("t.par2"), &[PrintedStep::Write("t.par2")]),
             Row::Stands(("t.par2", 1, 0, Some(420))),
             Row::Undo(true),
             Row::Stands(("t.par2", 0, 1, None)),
@@ -199,7 +248,7 @@ const EXAMPLES: &[Example] = &[
         &[
             Row::Commit(Task::Create("t.par2"), (89, HALFWAY_JOURNAL)),
             Row::Stands(("t.par2", 1, 0, Some(420))),
-            Row::Refused("t.par2", SessionFault::Plan(Fault::Exists)),
+            Row::Refused(Task::Create("t.par2"), SessionFault::Plan(Fault::Exists)),
         ],
     ),
     (
@@ -254,6 +303,108 @@ const EXAMPLES: &[Example] = &[
         &[
             Row::Commit(Task::Create("t.par2"), (89, HALFWAY_JOURNAL)),
             Row::TakenBack(HALFWAY_JOURNAL, NEW_JOURNAL),
+        ],
+    ),
+    (
+        "a repair of a file that was cut, and its undo",
+        &[
+            Row::Damaged(Damage::Bytes(b"abcdef")),
+            Row::Does(
+                Task::Repair { purge: false },
+                &[PrintedStep::Rename("a", "a.1"), PrintedStep::Write("a")],
+            ),
+            Row::Stands(("a", 1, 0, Some(8))),
+            Row::Stands(("a.1", 1, 0, Some(6))),
+            Row::Undo(true),
+            Row::Stands(("a", 0, 1, Some(6))),
+            Row::Stands(("a.1", 0, 1, None)),
+            Row::Undo(false),
+        ],
+    ),
+    // The undo writes the volume, the index and what was put aside, before it removes anything.
+    (
+        "a repair that purges, with room for its undo",
+        &[
+            Row::Damaged(Damage::Bytes(b"abcdef")),
+            Row::Does(
+                Task::Repair { purge: true },
+                &[
+                    PrintedStep::Rename("a", "a.1"),
+                    PrintedStep::Write("a"),
+                    PrintedStep::Remove("a.1"),
+                    PrintedStep::Remove("t.par2"),
+                    PrintedStep::Remove("t.vol00000+00001.par2"),
+                ],
+            ),
+            Row::Vacant(3),
+            Row::Fingerprint(FINGERPRINT),
+            Row::Undo(true),
+            Row::Stands(("a", 0, 1, Some(6))),
+            Row::Stands(("t.vol00000+00001.par2", 0, 1, Some(492))),
+        ],
+    ),
+    (
+        "a purge of a complete set",
+        &[
+            Row::Damaged(Damage::None),
+            Row::Does(
+                Task::Purge,
+                &[
+                    PrintedStep::Remove("t.par2"),
+                    PrintedStep::Remove("t.vol00000+00001.par2"),
+                ],
+            ),
+            Row::Fingerprint(FINGERPRINT),
+            Row::Undo(true),
+            Row::Stands(("t.par2", 0, 1, Some(420))),
+        ],
+    ),
+    (
+        "three commands and four undos, the last of which is refused",
+        &[
+            Row::Play(
+                &[
+                    Task::Create("t.par2"),
+                    Task::Repair { purge: false },
+                    Task::Purge,
+                    Task::Undo,
+                    Task::Undo,
+                    Task::Undo,
+                    Task::Undo,
+                ],
+                6,
+            ),
+            Row::Fingerprint(FINGERPRINT),
+            Row::Stands(("t.par2", 0, 3, None)),
+            Row::Undo(false),
+        ],
+    ),
+    (
+        "a redo after a refused create",
+        &[
+            Row::Play(CREATE, 1),
+            Row::Undo(true),
+            Row::Refused(Task::Create("t"), SessionFault::Plan(Fault::BadBase)),
+            Row::Play(&[Task::Create("t")], 0),
+            Row::Stands(("t.par2", 0, 1, None)),
+            Row::Redo(true),
+            Row::Stands(("t.par2", 1, 0, Some(420))),
+            Row::Redo(false),
+        ],
+    ),
+    (
+        "nothing to undo where a repair can't be done",
+        &[
+            Row::Damaged(Damage::Renamed),
+            Row::Refused(
+                Task::Repair { purge: false },
+                SessionFault::Plan(Fault::NotRepairable {
+                    missing: 2,
+                    rank: 1,
+                }),
+            ),
+            Row::Undo(false),
+            Row::Stands(("x", 0, 0, Some(8))),
         ],
     ),
 ];

@@ -5,7 +5,8 @@ use Rattle.par2_spec.specs.Names.{is_among, numbered}
 use Rattle.par2_spec.specs.Repairs.{aside, taken_for}
 use Rattle.par2_spec.specs.Sets.{target_names}
 use Rattle.par2_asides.specs.Asides.{long_aside}
-use Rattle.par2_asides.proofs.TakenNames.{first_here, first_later, from_one, long_is_no_name, no_name, passed_on, too_long}
+use Rattle.par2_spec.proofs.NameTests.{no_name}
+use Rattle.par2_asides.proofs.TakenNames.{first_here, first_later, from_one, long_is_no_name, passed_on, too_long}
 use Rattle.par2_asides.proofs.numbering.aside.Goals as goal
 
 pub loop-n-init : goal.loop-n-init

@@ -12,7 +12,7 @@ use Rattle.par2_packets.specs.declared.record.FileRecord.{FileRecord}
 use Rattle.par2_recovery.specs.Views.{names_of}
 use Rattle.par2_plan.specs.declared.names.Volume.{Volume}
 use Rattle.par2_plan.proofs.VolumeNumbers.{volumes_end}
-use Rattle.par2_plan.proofs.GoodWords.{IsHead, AreInputs, head_passed, inputs_passed, names_in_order, few_slices, few_in_order}
+use Rattle.par2_plan.proofs.GoodWords.{IsHead, AreInputs, head_passed, inputs_passed, few_slices, few_in_order}
 use Rattle.par2_plan.proofs.OutputChanges.{written, create_written}
 use Rattle.par2_plan.proofs.create.outputs_written.Goals as goal
 
@@ -44,7 +44,6 @@ changes_of-requires-clause-parts c =
     record {
       positive = subst (λ n. 1 ≤ n) (sym slice) head.positive;
       fours = subst (λ n. n % 4 ≡ 0) (sym slice) head.fours;
-      names = names_in_order folder s inputs are _ c.requires.order;
       few = subst (λ n. n ≤ 32768) (sym (ap₂ (λ n files. length (all_slices n files)) slice c.requires.order)) (few_slices folder s inputs are);
     }
 

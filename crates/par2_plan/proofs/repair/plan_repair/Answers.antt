@@ -4,12 +4,13 @@ use Rattle.std.specs.Prelude.{IfOk, IfErr}
 use Rattle.std.proofs.lemmas.Result.{err_from_is_err_and, IfOk-weaker}
 use Rattle.par2_spec.specs.Changes.{Change, effects, are_applicable}
 use Rattle.par2_spec.specs.Commands.{Repair}
-use Rattle.par2_spec.specs.Plans.{changes_of}
+use Rattle.par2_spec.specs.Plans.{changes_of, AreFewFor}
 use Rattle.par2_spec.specs.Refusals.{set_in, refusal, repair_refusal, after}
 use Rattle.par2_spec.specs.Repairs.{rebuilt_targets, AreFew}
 use Rattle.par2_spec.specs.Search.{candidates}
 use Rattle.par2_spec.specs.declared.Fault.{Fault}
 use Rattle.par2_spec.specs.declared.Fault.TheVariants.{Memory}
+use Rattle.par2_spec.proofs.AcceptedCommands.{set_in_reads}
 use Rattle.par2_spec.proofs.SessionLaws.{same_ok, ok_no_err}
 use Rattle.par2_restore.specs.Restoring.{IsAsDescribed}
 use Rattle.par2_plan.specs.Repairing.{WritesAsDescribed, IsWholeWhereMatched, repair_by}
@@ -107,3 +108,13 @@ returns-clause-written c =
     subst (λ s. AllByRecursion IsAsDescribed (rebuilt_targets folder s (candidates folder s extras))) (same_ok set other (sym c.in_ok-reading.ensures.set ∙ e))
     (subst (λ words. AllByRecursion IsAsDescribed (rebuilt_targets folder set (candidates folder set words))) (c.deref.ensures.value ∙ c.in_ok-reading.ensures.extras) h))
     c.repair_of.ensures.described
+
+pub returns-clause-few : goal.returns-clause-few
+returns-clause-few c =
+    let folder = c.args.folder.now.files in
+    let base = c.args.base.now in
+    let extras : List (List ℕ) = map string_bytes c.args.extras.now in
+    let set = c.in_ok-reading.reading.set in
+    IfOk-weaker c.repair_of.result (λ _. AreFew folder set) (λ _. AreFewFor folder (Repair base extras c.args.purge))
+    (λ changes few. λ other e. subst (AreFew folder) (same_ok set other (sym (set_in_reads folder base extras set c.in_ok-reading.ensures.set).0 ∙ e)) few)
+    c.repair_of.ensures.few

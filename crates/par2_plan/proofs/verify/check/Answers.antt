@@ -9,6 +9,8 @@ use Rattle.par2_spec.specs.declared.Fault.{Fault}
 use Rattle.par2_spec.specs.Reports as reports
 use Rattle.par2_spec.specs.Reports.{report_in}
 use Rattle.par2_spec.proofs.SessionLaws.{ok_no_err}
+use Rattle.par2_spec.proofs.VerdictLaws.{verdict_by_words, refused_as_reported}
+use Rattle.par2_plan.specs.Views.{report_of}
 use Rattle.par2_plan.proofs.PassedAnswers.{refused_by, err_passed}
 use Rattle.par2_plan.proofs.PlanParts.{early_verify}
 use Rattle.par2_plan.proofs.ReportValues.{refused_in, answered}
@@ -54,3 +56,11 @@ returns-clause-report c =
     let is = answered folder base extras set c.in_ok-reading.ensures.set in
     let names : c.deref.result.now ≡ extras = c.deref.ensures.value ∙ c.in_ok-reading.ensures.extras in
     is ∙ ap (λ (xs : List (List ℕ)). let r : Result reports.Report Fault = Ok (report_by folder set (standings folder set (candidates folder set xs))) in r) (sym names) ∙ ap Ok (sym c.in_ok-report_with.ensures)
+
+pub returns-clause-verdict : goal.returns-clause-verdict
+returns-clause-verdict c =
+    verdict_by_words c.args.folder.now.files c.args.base.now (map string_bytes c.args.extras.now) (report_of c.in_ok-report_with.field-0) (returns-clause-report c)
+
+pub returns-clause-repair : goal.returns-clause-repair
+returns-clause-repair c =
+    refused_as_reported c.args.folder.now.files c.args.base.now (map string_bytes c.args.extras.now) (report_of c.in_ok-report_with.field-0) (returns-clause-report c)

@@ -25,8 +25,8 @@ returns c folder base extras purge files s original accepted =
           let left = c.repair_leaves_the_files.ensures in
           let then = c.folder_is_that_of_the_set.ensures in
           elim purge as (λ p. HasFiles files (after folder (Repair base extras p))) [
-            | true ↦ subst (HasFiles files) (sym (then.purged folder base extras set read)) (left.purged folder base extras files s made there original.few original.no_collision original.bytes determined)
-            | false ↦ subst (HasFiles files) (sym (then.repaired folder base extras set read)) (left.repaired folder base extras files s made there original.few original.no_collision original.bytes determined)
+            | true ↦ subst (HasFiles files) (sym (then.purged folder base extras set read)) (left.purged folder base extras files s made there original.no_collision original.bytes determined)
+            | false ↦ subst (HasFiles files) (sym (then.repaired folder base extras set read)) (left.repaired folder base extras files s made there original.no_collision original.bytes determined)
           ]
       | inr absent ↦
           let clash = sym (of_set.unread folder base extras purge _ absent.1) ∙ accepted in absurd (cc)

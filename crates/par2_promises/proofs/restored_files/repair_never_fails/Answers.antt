@@ -19,7 +19,7 @@ returns c folder base extras purge files s original refused =
           let determined = c.failed_repair_is_wrong.ensures.repairable folder set searched failed in
           both_ways (list_all has_digest (rebuilt_targets folder set searched))
           (c.failed_repair_is_wrong.ensures.digests folder set searched failed)
-          (c.repair_leaves_the_files.ensures.digests folder base extras files s made there original.few original.no_collision original.bytes determined)
+          (c.repair_leaves_the_files.ensures.digests folder base extras files s made there original.no_collision original.bytes determined)
       | inr absent ↦
           let clash = sym (of_set.unread folder base extras purge _ absent.1) ∙ refused in cc
     ]

@@ -1,27 +1,26 @@
-use Rattle.std.proofs.Common.{◌≡◌, ◌∙◌, ◌≤◌, sym, subst, arith, length}
-use Rattle.par2_recovery.proofs.Ranks.{offered, all_offered}
-use Rattle.par2_recovery.proofs.Standing.{repairable_iff}
+use Rattle.std.proofs.Common.{◌≡◌, ◌≤◌, ◌↔◌, sym, subst, length}
+use Rattle.std.proofs.lemmas.Result.{IfOk-weaker}
+use Rattle.std.proofs.lemmas.Option.{MatchOption-at_some}
+use Rattle.par2_spec.specs.Rank.{rank, IsRepairable}
+use Rattle.par2_spec.proofs.FullRank.{rank-le, full-iff}
 use Rattle.par2_recovery.proofs.exponents.rank.Goals as goal
 
-pub loop-i-preserved : goal.loop-i-preserved
-loop-i-preserved c = record {
-  so_far = offered c.args.lost.now c.args.exponents.now c.loop-i.i c.loop-i.system c.offer.new.system c.new-in-loop-i.result.items c.offer.result c.in_ok-offer.field-0 c.in_ok-offer.was c.requires.exponents (omega arith)
-      c.loop-i.invariant.so_far c.offer.ensures.columns c.offer.ensures.kept c.offer.ensures.told c.offer.ensures.dependent c.offer.ensures.unchanged;
-  bytes = c.offer.ensures.bytes ∙ c.loop-i.invariant.bytes;
-}
+pub returns-in-Some-clause-most : goal.returns-in-Some-clause-most
+returns-in-Some-clause-most c =
+    let same = MatchOption-at_some _ (λ n. n ≡ rank c.args.lost.now c.args.exponents.now) c.in-Some.rank c.in-Some.is c.rank_by_runs.ensures in
+    subst (λ n. n ≤ length c.args.lost.now) (sym same) (rank-le c.args.lost.now c.args.exponents.now c.requires.exponents)
 
-pub returns-clause-rank : goal.returns-clause-rank
-returns-clause-rank c =
-    let at_end : c.loop-i.i ≡ length c.args.exponents.now = omega (arith, c.loop-i-test.false, c.loop-i.auto.i-end) in
-    c.rank.ensures.value ∙ all_offered c.args.lost.now c.args.exponents.now c.loop-i.i c.loop-i.system at_end c.loop-i.invariant.so_far
+pub returns-in-Some-clause-full : goal.returns-in-Some-clause-full
+returns-in-Some-clause-full c =
+    let same = MatchOption-at_some _ (λ n. n ≡ rank c.args.lost.now c.args.exponents.now) c.in-Some.rank c.in-Some.is c.rank_by_runs.ensures in
+    subst (λ n. (n ≡ length c.args.lost.now) ↔ IsRepairable c.args.lost.now c.args.exponents.now) (sym same) (full-iff c.args.lost.now c.args.exponents.now c.requires.exponents)
 
-pub returns-clause-most : goal.returns-clause-most
-returns-clause-most c = subst (λ n. c.rank.result ≤ n) c.loop-i.invariant.so_far.columns c.rank.ensures.most
+pub returns-in-None-clause-most : goal.returns-in-None-clause-most
+returns-in-None-clause-most c =
+    IfOk-weaker c.rank_by_elimination.result _ _
+    (λ n same. subst (λ n. n ≤ length c.args.lost.now) (sym same) (rank-le c.args.lost.now c.args.exponents.now c.requires.exponents)) c.rank_by_elimination.ensures
 
-pub returns-clause-full : goal.returns-clause-full
-returns-clause-full c =
-    let at_end : c.loop-i.i ≡ length c.args.exponents.now = omega (arith, c.loop-i-test.false, c.loop-i.auto.i-end) in
-    let columns = c.loop-i.invariant.so_far.columns in
-    let iff = repairable_iff c.args.lost.now c.args.exponents.now c.loop-i.i c.loop-i.system at_end c.loop-i.invariant.so_far in
-    let full = c.rank.ensures.full in
-    ((λ e. iff.0 (full.0 (e ∙ sym columns))), (λ repairable. full.1 (iff.1 repairable) ∙ columns))
+pub returns-in-None-clause-full : goal.returns-in-None-clause-full
+returns-in-None-clause-full c =
+    IfOk-weaker c.rank_by_elimination.result _ _
+    (λ n same. subst (λ n. (n ≡ length c.args.lost.now) ↔ IsRepairable c.args.lost.now c.args.exponents.now) (sym same) (full-iff c.args.lost.now c.args.exponents.now c.requires.exponents)) c.rank_by_elimination.ensures

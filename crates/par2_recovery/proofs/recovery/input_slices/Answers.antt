@@ -1,18 +1,11 @@
-use Rattle.std.proofs.Common.{◌≡◌, ◌∙◌, true, map, sym, subst, ap, arith, length, string_bytes}
+use Rattle.std.proofs.Common.{◌≡◌, ◌∙◌, map, ap, arith, length, string_bytes}
 use Rattle.std.proofs.lemmas.List.{length-map}
-use Rattle.par2_spec.specs.Names.{is_name}
 use Rattle.par2_spec.specs.Slices.{padded}
 use Rattle.par2_spec.specs.Folders.{bytes_of}
 use Rattle.par2_packets.specs.declared.record.FileRecord.{FileRecord}
 use Rattle.par2_recovery.specs.Views.{texts_of, names_of}
-use Rattle.par2_recovery.proofs.Combinations.{name_within}
 use Rattle.par2_spec.proofs.SliceLaws.{files_push}
 use Rattle.par2_recovery.proofs.recovery.input_slices.Goals as goal
-
-pub bytes_of-requires : goal.bytes_of-requires
-bytes_of-requires c =
-    let n : length (names_of c.args.record.now) ≡ length c.args.record.now.files.items = length-map c.args.record.now.files.items (λ (file : FileRecord). string_bytes file.name) in
-    subst (λ name. is_name name ≡ true) (sym c.name_at.ensures) (name_within (names_of c.args.record.now) c.loop-i.i c.requires.names (omega (arith, n)))
 
 pub loop-i-preserved : goal.loop-i-preserved
 loop-i-preserved c =

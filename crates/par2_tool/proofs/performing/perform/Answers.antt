@@ -99,7 +99,7 @@ returns-in-Err-write_down-clause-stopped g c honest files apart =
     let stop = subst (λ (cs : List defined.Change). IsStoppedAt start journals cs new) changed (c.in-Err-write_down.ensures.stopped honest) in
     let apart_from : TellsApartAlong (session_of_kept old) action = subst (λ (x : Command). TellsApartAlong (session_of_kept old) (command_of x)) c.in-Act.is apart in
     subst (λ (x : Command). OpensAsBeforeOrAfter (session_of_kept old) (command_of x) start new) (sym c.in-Act.is)
-    (stopped_opens action old ready mid made journals (c.in_ok-journals.ensures.journals action old made.grew made.is) start files new stop apart_from)
+    (stopped_opens action old ready mid made journals (c.in_ok-journals.ensures.journals action old made.grew made.is) start files new stop apart_from c.in-Ok-prepare.ensures.leads)
 
 pub returns-in-Err-write_down-clause-in_order : goal.returns-in-Err-write_down-clause-in_order
 returns-in-Err-write_down-clause-in_order g c honest =

@@ -46,6 +46,6 @@ returns g c =
     let before = c.write_targets.new.out in
     let after = c.write_verdict.new.out in
     let all = rw c.deref.ensures.value at c.in_ok-write_targets.ensures in
-    let last = subst (λ v. Wrote g.W.Write.contents before after (verdict_line r v) c.write_verdict.result) c.verdict.ensures (c.write_verdict.ensures r refl refl) in
+    let last = subst (λ v. Wrote g.W.Write.contents before after (verdict_line r v) c.write_verdict.result) c.verdict.ensures.answer (c.write_verdict.ensures r refl refl) in
     wrote_then held a before after _ (verdict_line r (verdict_of r)) c.write_verdict.result
     (took_both held a c.write_set.new.out before _ (targets r) c.in_ok-write_set.ensures all) last

@@ -1,6 +1,6 @@
-use Rattle.std.proofs.Common.{◌≡◌, ◌+◌, ◌*◌, arith, subst}
+use Rattle.std.proofs.Common.{◌≡◌, ◌+◌, ◌*◌, ◌/◌, length, ap, arith, subst}
 use Rattle.par2_gf16.specs.Steps.{AddsWithin}
-use Rattle.par2_gf16.proofs.Parts.{adds_after}
+use Rattle.par2_gf16.proofs.Parts.{adds_after, blocks_and_rest}
 use Rattle.par2_gf16.proofs.tables.Gf.mul_add_by.Goals as goal
 
 pub loop-block-preserved : goal.loop-block-preserved
@@ -11,3 +11,13 @@ loop-block-preserved c =
     let is : 32 * n + 32 ≡ 32 * (n + 1) = omega arith in
     subst (λ to. AddsWithin c.args.factor.now c.args.src.now old new 0 to) is
     (adds_after c.args.factor.now c.args.src.now old c.loop-block.dst new 0 (32 * n) (32 * n + 32) (omega arith) (omega arith) c.loop-block.invariant c.add_block.ensures)
+
+pub returns : goal.returns
+returns c =
+    let old = c.args.dst.now in
+    let mid = c.loop-block.dst in
+    let new = c.add_words.new.dst in
+    let to = length mid / 2 in
+    blocks_and_rest c.args.factor.now c.args.src.now old mid new (32 * c.loop-block.block) (32 * (length old / 64)) to (omega arith) (omega arith)
+    (ap (λ n. n / 2) c.loop-block.invariant.same_length) c.loop-block.invariant
+    (subst (λ f. AddsWithin f c.args.src.now mid new (32 * (length old / 64)) to) c.element.ensures c.add_words.ensures)

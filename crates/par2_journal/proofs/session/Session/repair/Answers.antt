@@ -16,3 +16,9 @@ returns-clause-steps c =
 
 pub returns-clause-early : goal.returns-clause-early
 returns-clause-early c = λ fault is. let refused = c.in_ok-prepared.ensures.early fault is in cc
+
+pub returns-clause-written : goal.returns-clause-written
+returns-clause-written c = c.in_ok-prepared.ensures.written
+
+pub returns-clause-few : goal.returns-clause-few
+returns-clause-few c = c.in_ok-prepared.ensures.few

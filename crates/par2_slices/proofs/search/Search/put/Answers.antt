@@ -20,7 +20,7 @@ returns-then-window-s-clause-at g c =
     (compared s text g.earlier o c.args.wanted.now c.args.self.now.found.items c.answer.new.self.found.items c.args.self.now.left c.answer.new.self.left c.args.self.now.filter c.answer.new.self.filter c.args.self.now.batch.items c.args.candidate.spot c.padded_md5.result c.args.candidate.crc
     c.requires.0 (c.requires.1.1.1.1.1 short) (ap (λ t. spot_in t o) c.requires.1.1.0) (c.padded_md5.ensures ∙ ap (λ bytes. md5 (padded s bytes)) c.window_bytes-window.ensures) c.requires.1.1.1.0 c.answer.ensures.tally c.answer.ensures.each)
 
--- the candidate is behind the others of the batch
+-- the candidate is after the others of the batch
 pushed_at : (g : Over) (c : After-push g) → IsAt c.args.s c.args.bytes.now g.earlier (c.args.candidate.spot.offset + 1) c.args.wanted.now c.args.self.now.found.items c.args.self.now.left c.args.self.now.filter c.push.new.self.items
 pushed_at g c =
     let s : ℕ = c.args.s in

@@ -1,0 +1,105 @@
+//! Calls whose contracts are long, each behind a function that promises nothing: of such a call the prover sees its
+//! type alone.
+ghost use Rattle.std.specs.Prelude.{IfOk};
+ghost use Rattle.par2_journal.specs.Ready.{Fits};
+
+use par2_folder::{Folder, FolderStore, MemoryStore, Name, ReadFault, StoreFault, read_folder};
+use par2_journal::{
+    Action, CreateArgs, Fault, Halfway, Journals, Opened, Prepared, Report, Session, SessionFault,
+    Steps,
+};
+use par2_spec::JournalFault;
+use std::alloc::{AllocError, Global};
+
+/// The names of a store's files.
+pub fn names_of(alloc: Global, store: &mut MemoryStore) -> Result<Vec<Name>, ReadFault> {
+    store.names(alloc)
+}
+
+/// The bytes of a file.
+pub fn read(alloc: Global, store: &mut MemoryStore, name: &Name) -> Result<Vec<u8>, ReadFault> {
+    store.read(alloc, name)
+}
+
+/// The journal, if there is one.
+pub fn read_journal(alloc: Global, store: &mut MemoryStore) -> Result<Option<Vec<u8>>, ReadFault> {
+    store.read_journal(alloc)
+}
+
+/// Writes a file.
+pub fn put(store: &mut MemoryStore, name: &Name, bytes: &[u8]) -> Result<(), StoreFault> {
+    store.put(name, bytes)
+}
+
+/// Puts a journal in place of the one that is there.
+pub fn put_journal(store: &mut MemoryStore, bytes: &[u8]) -> Result<(), StoreFault> {
+    store.put_journal(bytes)
+}
+
+/// The folder of a store.
+pub fn folder_in(alloc: Global, store: &mut MemoryStore) -> Result<Folder, ReadFault> {
+    read_folder(alloc, store)
+}
+
+pub fn create(session: &mut Session, alloc: Global, args: &CreateArgs) -> Result<Steps, Fault> {
+    session.create(alloc, args)
+}
+
+/// Repairs by `t.par2` alone.
+pub fn repair(session: &mut Session, alloc: Global, purge: bool) -> Result<Steps, Fault> {
+    session.repair(alloc, "t.par2", &[], purge)
+}
+
+/// Purges the set of `u.par2`, which is complete.
+pub fn purge(session: &mut Session, alloc: Global) -> Result<Steps, Fault> {
+    session.purge(alloc, "u.par2")
+}
+
+pub fn verify(session: &Session, alloc: Global) -> Result<Report, Fault> {
+    session.verify(alloc, "t.par2", &[])
+}
+
+pub fn prepare(
+    session: &mut Session,
+    alloc: Global,
+    action: &Action,
+) -> Result<Prepared, SessionFault>
+    ensures { IfOk result (λ prepared. Fits prepared session.new) }
+{
+    session.prepare(alloc, action)
+}
+
+pub fn journals_of(
+    session: &mut Session,
+    alloc: Global,
+    prepared: &mut Prepared,
+) -> Result<Journals, AllocError>
+    requires { Fits prepared.old session.old }
+    ensures { Fits prepared.new session.new }
+{
+    session.journals(alloc, prepared)
+}
+
+/// How many steps were done.
+pub fn commit(session: &mut Session, prepared: Prepared) -> usize
+    requires { Fits prepared session.old }
+{
+    session.commit(prepared).len()
+}
+
+/// How many of the actions were done.
+pub fn play(session: &mut Session, alloc: Global, actions: &[Action]) -> usize {
+    session.play(alloc, actions)
+}
+
+pub fn encode(session: &Session, alloc: Global) -> Result<Vec<u8>, AllocError> {
+    session.encode(alloc)
+}
+
+pub fn open(alloc: Global, folder: Folder, text: &[u8]) -> Result<Opened, (JournalFault, Folder)> {
+    Session::open(alloc, folder, text)
+}
+
+pub fn settled(halfway: &Halfway, alloc: Global) -> Result<Vec<u8>, AllocError> {
+    halfway.settled(alloc)
+}

@@ -1,0 +1,116 @@
+//! Makes the calls of the libraries that can answer out of memory, each on a small input of its own, and prints what
+//! stands before and after it. With the words of one call it makes that one, and without any all of them.
+//!
+//! `scripts/growths` refuses each growth between a line that begins with `>` and the next one. A call that answers out of
+//! memory is made once more.
+#![tactic(auto)]
+
+mod calls;
+mod folders;
+mod inputs;
+mod openings;
+mod scene;
+mod sessions;
+mod systems;
+mod texts;
+
+use anyhow::Result;
+use folders::Folders;
+use openings::Openings;
+use scene::tell;
+use sessions::Sessions;
+use std::env;
+use systems::Systems;
+use texts::Texts;
+
+// What the calls work on, and the calls.
+const CALLS: &[(&str, &[&str])] = &[
+    (
+        "texts",
+        &[
+            "Gf::new",
+            "Wanted::new",
+            "find_among",
+            "Rolling::new",
+            "pairs_of",
+            "append_main",
+            "append_desc",
+            "append_ifsc",
+            "append_creator",
+            "append_recoveries",
+            "file_records",
+            "recovery_slice",
+            "recovery_slices",
+            "recovery_slices_over",
+            "rank",
+            "rebuild",
+            "rebuild_lost",
+        ],
+    ),
+    ("systems", &["System::new", "System::offer"]),
+    (
+        "folders",
+        &[
+            "Folder::names",
+            "Folder::fingerprint",
+            "Folder::reserve",
+            "MemoryStore::names",
+            "MemoryStore::read",
+            "MemoryStore::read_journal",
+            "MemoryStore::put",
+            "MemoryStore::put_journal",
+            "read_folder",
+            "plan_create",
+            "plan_repair",
+            "plan_purge",
+            "check",
+        ],
+    ),
+    (
+        "sessions",
+        &[
+            "Session::create",
+            "Session::repair",
+            "Session::repair with a purge",
+            "Session::purge",
+            "Session::verify",
+            "Session::prepare",
+            "Session::journals",
+            "Session::encode",
+            "Session::play",
+            "Session::play of two",
+        ],
+    ),
+    (
+        "openings",
+        &["Session::open", "Session::open halfway", "Halfway::settled"],
+    ),
+];
+
+fn tell_one(rt: &HostRuntime, place: &str, name: &str) -> Result<()> {
+    match place {
+        "texts" => tell(rt, Texts::new(rt.alloc())?, name),
+        "systems" => tell(rt, Systems::new(rt.alloc())?, name),
+        "folders" => tell(rt, Folders::new(rt.alloc())?, name),
+        "sessions" => tell(rt, Sessions::new(rt.alloc())?, name),
+        _ => tell(rt, Openings::new(rt.alloc())?, name),
+    }
+}
+
+fn tell_all(rt: &HostRuntime) -> Result<()> {
+    for (place, names) in CALLS {
+        for name in *names {
+            println!(rt; "{place}: {name}")?;
+            tell_one(rt, place, name)?;
+        }
+    }
+    Ok(())
+}
+
+fn main(rt: HostRuntime) -> Result<()> {
+    let mut words = env::args(&rt)?.skip(1);
+    match (words.next(), words.next()) {
+        (Some(place), Some(name)) => tell_one(&rt, &place, &name),
+        _ => tell_all(&rt),
+    }
+}

@@ -1,0 +1,131 @@
+//! Sessions on the folder of a set whose file `a` was cut, in which another set of that file was created then.
+
+use crate::calls;
+use crate::inputs::{args_of, damaged, text_of};
+use crate::scene::{Refusal, Scene};
+use anyhow::{Error, Result};
+use par2_journal::{Action, CreateArgs, Session};
+use par2_slices::crc32;
+use std::alloc::{AllocError, Global};
+
+/// What the calls need, and what they answer.
+#[derive(Drop)]
+pub struct Sessions {
+    session: Session,
+    args: CreateArgs,
+    repair: Action,
+    creates: Vec<Action>,
+    text: Vec<u8>,
+    number: usize,
+}
+
+// A repair of `t.par2`.
+fn repair_of(alloc: Global) -> Result<Action, AllocError> {
+    Ok(Action::Repair {
+        base: text_of(alloc, "t.par2")?,
+        extras: Vec::new(alloc),
+        purge: false,
+    })
+}
+
+fn create_of(alloc: Global) -> Result<Action, AllocError> {
+    Ok(Action::Create(args_of(alloc, "v.par2")?))
+}
+
+fn session_of(alloc: Global) -> Result<Session> {
+    let mut session = Session::new(alloc, damaged(alloc)?);
+    match calls::create(&mut session, alloc, &args_of(alloc, "u.par2")?) {
+        Ok(_) => Ok(session),
+        Err(_) => Err(Error::msg("a create is refused")),
+    }
+}
+
+impl Sessions {
+    /// Before the first call.
+    pub fn new(alloc: Global) -> Result<Sessions> {
+        Ok(Sessions {
+            session: session_of(alloc)?,
+            args: args_of(alloc, "v.par2")?,
+            repair: repair_of(alloc)?,
+            creates: vec![in alloc; create_of(alloc)?, create_of(alloc)?]?,
+            text: Vec::new(alloc),
+            number: 0,
+        })
+    }
+
+    // Commands.
+    fn act(&mut self, alloc: Global, name: &str) -> Result<(), Refusal> {
+        let steps = match name {
+            "Session::create" => calls::create(&mut self.session, alloc, &self.args)?,
+            "Session::purge" => calls::purge(&mut self.session, alloc)?,
+            _ => calls::repair(
+                &mut self.session,
+                alloc,
+                name == "Session::repair with a purge",
+            )?,
+        };
+        self.number = steps.len();
+        Ok(())
+    }
+
+    fn verify(&mut self, alloc: Global) -> Result<(), Refusal> {
+        let report = calls::verify(&self.session, alloc)?;
+        self.number = report.lost;
+        Ok(())
+    }
+
+    fn prepare(&mut self, alloc: Global) -> Result<(), Refusal> {
+        let prepared = calls::prepare(&mut self.session, alloc, &self.repair)?;
+        self.number = prepared.steps().len();
+        Ok(())
+    }
+
+    // Makes a repair ready, with its journals, and does it.
+    fn commit(&mut self, alloc: Global) -> Result<(), Refusal> {
+        let mut prepared = calls::prepare(&mut self.session, alloc, &self.repair)?;
+        let journals = calls::journals_of(&mut self.session, alloc, &mut prepared)?;
+        self.number = calls::commit(&mut self.session, prepared);
+        self.text = journals.after;
+        Ok(())
+    }
+
+    // Of one create, or of two of one index: where memory is out for one of these, the other is done.
+    fn play(&mut self, alloc: Global, count: usize) -> Result<(), Refusal> {
+        let actions = self.creates.get(..count).unwrap_or(&[]);
+        self.number = calls::play(&mut self.session, alloc, actions);
+        if self.number == 0 {
+            return Err(Refusal::Memory);
+        }
+        Ok(())
+    }
+}
+
+impl Scene for Sessions {
+    fn call(&mut self, alloc: Global, name: &str) -> Result<(), Refusal> {
+        match name {
+            "Session::verify" => self.verify(alloc),
+            "Session::prepare" => self.prepare(alloc),
+            "Session::journals" => self.commit(alloc),
+            "Session::play" => self.play(alloc, 1),
+            "Session::play of two" => self.play(alloc, 2),
+            "Session::encode" => {
+                self.text = calls::encode(&self.session, alloc)?;
+                Ok(())
+            }
+            _ => self.act(alloc, name),
+        }
+    }
+
+    fn show(&mut self, rt: &HostRuntime) -> Result<()> {
+        let (undos, redos) = (self.session.undo_depth(), self.session.redo_depth());
+        let journal = calls::encode(&self.session, rt.alloc())?;
+        println!(rt; "  {undos} undos, {redos} redos, {}", self.number)?;
+        println!(rt;
+            "  a journal of {} bytes, {:08x}",
+            journal.len(),
+            crc32(&journal)
+        )?;
+        println!(rt; "  {} bytes, {:08x}", self.text.len(), crc32(&self.text))?;
+        Ok(())
+    }
+}

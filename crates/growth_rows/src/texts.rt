@@ -1,0 +1,205 @@
+//! The field, searches, packets and recovery slices, over the file `a` in slices of 4 bytes.
+
+use crate::scene::{Refusal, Scene};
+use anyhow::{Error, Result};
+use par2_folder::{Folder, Name};
+use par2_gf16::Gf;
+use par2_packets::{
+    FileRecord, Pair, append_creator, append_desc, append_ifsc, append_main, append_recoveries,
+};
+use par2_recovery::{SetRecord, Survivors, file_records, rank, recovery_slices_over};
+use par2_slices::{Rolling, Spot, Wanted, crc32, find_among, pairs_of};
+use recovery_calls::{
+    folder_of, lost_rebuilt, rebuilt, recovery_slice_of, recovery_slices_of, set_of,
+};
+use std::alloc::{AllocError, Global};
+use std::slice::from_ref;
+
+const BYTES: &[u8] = b"abcdefgh";
+
+// The second slice, and the sum of both.
+const SECOND: &[u8] = b"efgh";
+
+const SUM: &[u8] = b"\x04\x04\x04\x0c";
+
+const SET_ID: &[u8; 16] = b"0123456789abcdef";
+
+/// What the calls need: the field, the file and what a set says of it, the checksums of its slices and nine recovery
+/// slices. Then what they answer.
+#[derive(Drop)]
+pub struct Texts {
+    gf: Gf,
+    folder: Folder,
+    set: SetRecord,
+    wanted: Wanted,
+    slices: Vec<Vec<u8>>,
+    records: Vec<FileRecord>,
+    pairs: Vec<Pair>,
+    spots: Vec<Option<Spot>>,
+    texts: Vec<Vec<u8>>,
+    text: Vec<u8>,
+    number: usize,
+}
+
+fn set_over(alloc: Global, folder: &Folder) -> Result<SetRecord> {
+    match set_of(alloc, folder, &["a"], 4)? {
+        Some(Ok(set)) => Ok(set),
+        _ => Err(Error::msg("no set")),
+    }
+}
+
+fn slices_over(alloc: Global, gf: &Gf, set: &SetRecord, folder: &Folder) -> Result<Vec<Vec<u8>>> {
+    match recovery_slices_of(alloc, gf, set, folder, 0, 9)? {
+        Some(slices) => Ok(slices),
+        None => Err(Error::msg("no recovery slices")),
+    }
+}
+
+// What survives where the first slice is lost.
+fn survivors(alloc: Global) -> Result<Survivors<'static>, AllocError> {
+    Ok(Survivors {
+        slice_size: 4,
+        known: vec![in alloc; None, Some(SECOND)]?,
+        recovery: vec![in alloc; (0, SUM)]?,
+    })
+}
+
+impl Texts {
+    /// Before the first call.
+    pub fn new(alloc: Global) -> Result<Texts> {
+        let gf = Gf::new(alloc)?;
+        let folder = folder_of(alloc, &[("a", BYTES)])?;
+        let set = set_over(alloc, &folder)?;
+        let slices = slices_over(alloc, &gf, &set, &folder)?;
+        let pairs = pairs_of(alloc, BYTES, 4)?;
+        Ok(Texts {
+            gf,
+            folder,
+            set,
+            wanted: Wanted::new(alloc, &pairs)?,
+            slices,
+            records: Vec::new(alloc),
+            pairs,
+            spots: Vec::new(alloc),
+            texts: Vec::new(alloc),
+            text: Vec::new(alloc),
+            number: 0,
+        })
+    }
+
+    fn field(&mut self, alloc: Global) -> Result<(), Refusal> {
+        self.gf = Gf::new(alloc)?;
+        self.number = usize::from(self.gf.mul(0x8000, 2));
+        Ok(())
+    }
+
+    // The checksum of a window that was moved on by one byte.
+    fn slide(&mut self, alloc: Global) -> Result<(), Refusal> {
+        let mut rolling = Rolling::new(alloc, 4)?;
+        rolling.start(b"abcd");
+        rolling.slide(b'a', b'e');
+        self.number = rolling.value() as usize;
+        Ok(())
+    }
+
+    fn search(&mut self, alloc: Global, name: &str) -> Result<(), Refusal> {
+        match name {
+            "Wanted::new" => self.wanted = Wanted::new(alloc, &self.pairs)?,
+            "pairs_of" => self.pairs = pairs_of(alloc, b"abcd", 4)?,
+            _ => self.spots = find_among(alloc, &[b"xyz", b"abcabcdefgh"], 4, &self.wanted)?,
+        }
+        Ok(())
+    }
+
+    fn append(&mut self, alloc: Global, name: &str) -> Result<(), Refusal> {
+        let Some(file) = self.set.files.first() else {
+            return Err(Refusal::Other);
+        };
+        match name {
+            "append_main" => append_main(alloc, &mut self.text, 4, from_ref(file))?,
+            "append_desc" => append_desc(alloc, &mut self.text, SET_ID, file)?,
+            "append_ifsc" => append_ifsc(alloc, &mut self.text, SET_ID, file)?,
+            _ => append_creator(alloc, &mut self.text, SET_ID)?,
+        }
+        Ok(())
+    }
+
+    fn append_slices(&mut self, alloc: Global) -> Result<(), Refusal> {
+        let slices = self.slices.get(..9).unwrap_or(&[]);
+        append_recoveries(alloc, &mut self.text, SET_ID, 0, slices)?;
+        Ok(())
+    }
+
+    fn record(&mut self, alloc: Global) -> Result<(), Refusal> {
+        let name = Name::new("a").map_err(|_| Refusal::Other)?;
+        self.records = file_records(alloc, &self.folder, from_ref(&name), 4)?;
+        Ok(())
+    }
+
+    fn recovery_slice(&mut self, alloc: Global) -> Result<(), Refusal> {
+        let slice = recovery_slice_of(alloc, &self.gf, &self.set, &self.folder, 1)?;
+        self.text = slice.ok_or(Refusal::Other)?;
+        Ok(())
+    }
+
+    fn recovery_slices(&mut self, alloc: Global) -> Result<(), Refusal> {
+        let slices = recovery_slices_of(alloc, &self.gf, &self.set, &self.folder, 0, 2)?;
+        self.texts = slices.ok_or(Refusal::Other)?;
+        Ok(())
+    }
+
+    fn rebuild(&mut self, alloc: Global, name: &str) -> Result<(), Refusal> {
+        let survivors = survivors(alloc)?;
+        let answer = match name {
+            "rebuild" => rebuilt(alloc, &self.gf, &survivors),
+            _ => lost_rebuilt(alloc, &survivors),
+        };
+        self.texts = answer.ok_or(Refusal::Other)??;
+        Ok(())
+    }
+
+    fn recover(&mut self, alloc: Global, name: &str) -> Result<(), Refusal> {
+        match name {
+            "recovery_slice" => self.recovery_slice(alloc),
+            "recovery_slices" => self.recovery_slices(alloc),
+            "recovery_slices_over" => {
+                self.texts = recovery_slices_over(alloc, &self.gf, &[b"abcd", b"efg"], 4, 0, 2)?;
+                Ok(())
+            }
+            "rank" => {
+                self.number = rank(alloc, &self.gf, &[0, 2], &[0, 21845, 21847])?;
+                Ok(())
+            }
+            _ => self.rebuild(alloc, name),
+        }
+    }
+}
+
+impl Scene for Texts {
+    fn call(&mut self, alloc: Global, name: &str) -> Result<(), Refusal> {
+        match name {
+            "Gf::new" => self.field(alloc),
+            "Rolling::new" => self.slide(alloc),
+            "Wanted::new" | "pairs_of" | "find_among" => self.search(alloc, name),
+            "append_recoveries" => self.append_slices(alloc),
+            "append_main" | "append_desc" | "append_ifsc" | "append_creator" => {
+                self.append(alloc, name)
+            }
+            "file_records" => self.record(alloc),
+            _ => self.recover(alloc, name),
+        }
+    }
+
+    fn show(&mut self, rt: &HostRuntime) -> Result<()> {
+        println!(rt;
+            "  {}, {} records, {:?}, {:?}",
+            self.number,
+            self.records.len(),
+            self.pairs,
+            self.spots
+        )?;
+        println!(rt; "  {:?}", self.texts)?;
+        println!(rt; "  {} bytes, {:08x}", self.text.len(), crc32(&self.text))?;
+        Ok(())
+    }
+}

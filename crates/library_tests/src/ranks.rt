@@ -1,0 +1,87 @@
+//! The rank of lost slices and exponents, beside a plain elimination: where runs of exponents tell it, and where not.
+
+use crate::field::field;
+use crate::plain_elimination::{Equation, eliminated};
+use crate::plain_field::power;
+use par2_gf16::Gf;
+use recovery_calls::rank_of;
+use std::process::Abort;
+
+// The constants of the first four slices, as the format's specification lists them.
+const CONSTANTS: [u16; 4] = [2, 4, 16, 128];
+
+// At most four lost slices, and the exponents of the surviving recovery slices.
+type Row = (&'static [u32], &'static [u32]);
+
+const ROWS: &[Row] = &[
+    // no slice is lost, or no recovery slice survives
+    (&[], &[]),
+    (&[], &[3, 5]),
+    (&[0, 1], &[]),
+    // close together, also where they begin far from 0
+    (&[0, 1, 2, 3], &[5, 7, 8]),
+    (&[0, 3], &[65533, 65534]),
+    (&[1, 2, 3], &[65533, 65535]),
+    // a run of as many as are lost, before a gap and after one
+    (&[0, 2, 3], &[1, 2, 3, 40]),
+    (&[0, 2, 3], &[1, 9, 10, 11]),
+    (&[2], &[7, 21]),
+    // more exponents than lost slices
+    (&[0, 1], &[0, 1, 2, 3, 4, 5, 6]),
+    (&[0, 1, 2], &[0, 2, 3, 5, 7, 9]),
+    // each second exponent, and pairs with gaps
+    (&[0, 1, 2, 3], &[0, 2, 4, 6, 8]),
+    (&[0, 1, 2, 3], &[0, 2, 4]),
+    (&[0, 1, 2, 3], &[0, 1, 40, 41, 80, 81]),
+    (&[0, 1, 2, 3], &[0, 1, 40]),
+    // a run of one too few, beside an exponent that says nothing more
+    (&[0, 1, 2, 3], &[0, 1, 2, 65535]),
+    (&[0, 1], &[0, 65535]),
+    // the constants 2 and 16 have the same power of 21,845
+    (&[0, 2], &[0, 21845]),
+    (&[0, 2], &[0, 21845, 43690]),
+    (&[0, 2], &[0, 21845, 21846]),
+    (&[0, 1, 2, 3], &[0, 1, 21845, 21846, 43690, 43691]),
+    // lost slices that aren't in order, and one that is told twice
+    (&[3, 0, 1], &[4, 5, 6]),
+    (&[2, 2], &[0, 1]),
+];
+
+// What an exponent multiplies each of the lost slices by.
+fn equation(lost: &[u32], exponent: u32) -> Equation {
+    let mut equation = [0; 6];
+    for (factor, k) in equation.iter_mut().zip(lost.iter()) {
+        let constant = CONSTANTS.get(*k as usize).copied().unwrap_or(0);
+        *factor = power(constant, exponent);
+    }
+    equation
+}
+
+fn plain_rank(rt: &(impl Abort + AllocGlobal), row: &Row) -> usize {
+    let mut equations = Vec::new(rt.alloc());
+    for exponent in row.1 {
+        equations
+            .push(equation(row.0, *exponent))
+            .expect(rt, "memory");
+    }
+    eliminated(rt, equations).len()
+}
+
+fn found_rank(rt: &(impl Abort + AllocGlobal), gf: &Gf, row: &Row) -> usize {
+    let rank = rank_of(rt.alloc(), gf, row.0, row.1).expect(
+        rt,
+        "numbers of slices and rising exponents",
+    );
+    rank.expect(rt, "memory")
+}
+
+#[test]
+fn ranks_are_those_of_a_plain_elimination(rt: HostRuntime) {
+    let gf = field(&rt);
+    for (k, row) in ROWS.iter().enumerate() {
+        assert!(rt;
+            found_rank(&rt, &gf, row) == plain_rank(&rt, row),
+            "row {k}"
+        );
+    }
+}

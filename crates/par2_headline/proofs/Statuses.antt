@@ -1,0 +1,92 @@
+-- What the status of a run tells.
+use Rattle.std.proofs.Common.{◌≡◌, ◌≢◌, ◌⊎◌, inl, inr, ℕ, false, refl, arith}
+use Rattle.par2_spec.specs.Texts.{status_of, status_of_fault, status_of_failure}
+use Rattle.par2_spec.specs.declared.Failure.{Failure}
+use Rattle.par2_spec.specs.declared.Failure.TheVariants.{Refused, Store, Arguments, JournalInvalid, FolderChanged, NothingToUndo, NothingToRedo}
+use Rattle.par2_spec.specs.declared.Fault.{Fault}
+use Rattle.par2_spec.specs.declared.Fault.TheVariants.{BadSliceSize, BadCount, BadBase, NoInput, BadName, DuplicateInput, NoSuchFile, EmptyFile, TooManySlices, DuplicateId, NameTooLong, Exists, NoPackets, NoMain, NoDescription, NoChecksums, BadSet, NotRepairable, RepairFailed, NotComplete, Memory}
+use Rattle.std.specs.Prelude.{List, Option}
+use Rattle.par2_origins.specs.Creates.{may_refuse}
+use Rattle.par2_printing.specs.declared.printer.Printer.{Printer}
+use Rattle.par2_tool.specs.Telling.{Telling, Answered, Failed, IsShown}
+
+-- a fault with this status: it isn't 0; 2 and 5 have one fault alone; and a repair of what a create left has no fault
+-- of status 4
+pub record Tells (fault : Fault) (status : ℕ) : Type 0 where
+  pub failed : status ≢ 0
+  pub few_left : status ≡ 2 → (missing rank : ℕ) × (fault ≡ NotRepairable missing rank)
+  pub unread : status ≡ 4 → may_refuse fault ≡ false
+  pub wrong : status ≡ 5 → fault ≡ RepairFailed
+
+other : (fault : Fault) (status : ℕ) → status ≢ 0 → status ≢ 2 → status ≢ 4 → status ≢ 5 → Tells fault status
+other fault status zero two four five = record { failed = zero; few_left = λ e. absurd (two e); unread = λ e. absurd (four e); wrong = λ e. absurd (five e) }
+
+one : (fault : Fault) → Tells fault 1
+one fault = other fault 1 (λ e. omega (arith, e)) (λ e. omega (arith, e)) (λ e. omega (arith, e)) (λ e. omega (arith, e))
+
+three : (fault : Fault) → Tells fault 3
+three fault = other fault 3 (λ e. omega (arith, e)) (λ e. omega (arith, e)) (λ e. omega (arith, e)) (λ e. omega (arith, e))
+
+eight : (fault : Fault) → Tells fault 8
+eight fault = other fault 8 (λ e. omega (arith, e)) (λ e. omega (arith, e)) (λ e. omega (arith, e)) (λ e. omega (arith, e))
+
+four : (fault : Fault) → may_refuse fault ≡ false → Tells fault 4
+four fault not_one = record { failed = λ e. omega (arith, e); few_left = λ e. absurd (omega (arith, e)); unread = λ _. not_one; wrong = λ e. absurd (omega (arith, e)) }
+
+two : (missing rank : ℕ) → Tells (NotRepairable missing rank) 2
+two missing rank = record { failed = λ e. omega (arith, e); few_left = λ _. (missing, rank, refl); unread = λ e. absurd (omega (arith, e)); wrong = λ e. absurd (omega (arith, e)) }
+
+five : Tells RepairFailed 5
+five = record { failed = λ e. omega (arith, e); few_left = λ e. absurd (omega (arith, e)); unread = λ e. absurd (omega (arith, e)); wrong = λ _. refl }
+
+pub told_of : (fault : Fault) → Tells fault (status_of_fault fault)
+unfolding status_of_fault
+told_of BadSliceSize = three BadSliceSize
+told_of BadCount = three BadCount
+told_of BadBase = three BadBase
+told_of NoInput = three NoInput
+told_of (BadName place) = three (BadName place)
+told_of (DuplicateInput place) = three (DuplicateInput place)
+told_of (NoSuchFile place) = three (NoSuchFile place)
+told_of (EmptyFile place) = three (EmptyFile place)
+told_of TooManySlices = three TooManySlices
+told_of DuplicateId = three DuplicateId
+told_of NameTooLong = three NameTooLong
+told_of Exists = three Exists
+told_of NoPackets = four NoPackets refl
+told_of NoMain = four NoMain refl
+told_of NoDescription = four NoDescription refl
+told_of NoChecksums = four NoChecksums refl
+told_of BadSet = four BadSet refl
+told_of (NotRepairable missing rank) = two missing rank
+told_of RepairFailed = five
+told_of NotComplete = one NotComplete
+told_of Memory = eight Memory
+
+-- no failure has status 0
+pub failure_is_told : (reason : Failure) → status_of_failure reason ≢ 0
+unfolding status_of_failure
+failure_is_told (Refused fault) e = (told_of fault).failed e
+failure_is_told Store e = omega (arith, e)
+failure_is_told Arguments e = omega (arith, e)
+failure_is_told JournalInvalid e = omega (arith, e)
+failure_is_told FolderChanged e = omega (arith, e)
+failure_is_told NothingToUndo e = omega (arith, e)
+failure_is_told NothingToRedo e = omega (arith, e)
+
+-- the status of what is told
+abbrev pub own_status : Telling → ℕ
+own_status (Answered dropped outcome) = status_of outcome
+own_status (Failed spoken reason) = status_of_failure reason
+
+-- a run ends with it, or with 6, where a writer failed
+pub shown_status : {O E : Type 0} (told : Telling) (held : O → Option (List ℕ)) (out out_after : Printer O) (tells : E → Option (List ℕ)) (err err_after : Printer E) (status : ℕ)
+    → IsShown told held out out_after tells err err_after status → (status ≡ own_status told) ⊎ (status ≡ 6)
+shown_status (Answered dropped outcome) held out out_after tells err err_after status shown = elim shown.0 [
+  | inl all ↦ inl all.1
+  | inr part ↦ inr part.1
+]
+shown_status (Failed spoken reason) held out out_after tells err err_after status shown = elim shown.0 [
+  | inl all ↦ inl all.1
+  | inr part ↦ inr part.1
+]

@@ -1,0 +1,83 @@
+-- As many undos as commands took effect lead back.
+use Rattle.std.proofs.Common.{◌≡◌, ℕ, zero, suc, ◌≤◌, List, [], ◌∷◌, length, drop, replicate, Ok, refl, sym, ap, subst, ◌∙◌, arith}
+use Rattle.std.proofs.lemmas.List.{length-replicate}
+use Rattle.std.specs.List.{AllByRecursion}
+use Rattle.par2_spec.specs.Commands.{Action, Undo}
+use Rattle.par2_spec.specs.Folders.{Folder}
+use Rattle.par2_spec.specs.History.{History, Run, Ended, Accepted, Passed, IsChanging, folders, history_after}
+use Rattle.par2_spec.specs.History as history
+use Rattle.par2_spec.specs.Opening.{Started}
+use Rattle.par2_spec.specs.Sessions.{history_of}
+use Rattle.par2_spec.specs.Stores.{Contents}
+use Rattle.par2_sessions.proofs.UndoRuns.{one_fewer}
+use Rattle.par2_tool.specs.Holding.{IsOpening, IsSettled}
+use Rattle.par2_tool.specs.Runs.{Runs, TakesEffect, Effective}
+use Rattle.par2_tool.specs.Runs as runs
+use Rattle.par2_headline.proofs.Answers.{OneWay}
+
+-- of some actions at most all are accepted
+at_most : {h end : History} {actions : List Action} {n : ℕ} → Run h actions n end → n ≤ length actions
+at_most Ended = omega arith
+at_most (Accepted step run) = let fewer = at_most run in omega (arith, fewer)
+at_most (Passed may run) = let fewer = at_most run in omega (arith, fewer)
+
+-- n undos, each accepted, leave n folders fewer
+undos_drop : (n : ℕ) (h end : History) → Run h (replicate n Undo) n end → drop n (folders h) ≡ folders end
+unfolding history_after
+undos_drop zero h end Ended = refl
+undos_drop (suc n) h end (Accepted {next = next} step run) =
+    sym (one_fewer n h.now h.older h.newer (drop (suc n) (folders h)) next step refl) ∙ undos_drop n next end run
+undos_drop (suc n) h end (Passed may run) =
+    let most = at_most run in
+    let count = length-replicate n Undo in
+    absurd (omega (arith, most, count))
+
+-- the law that runs go through one history
+abbrev pub KeepHistory : Type 0
+KeepHistory = (old new : Contents) (started : Started) (asked done : List Action) → IsOpening old (Ok started) → Runs old asked done new
+    → (end : Started) × Run (history_of started.session) done (length done) (history_of end.session) × IsOpening new (Ok end)
+
+-- the law that the folders but the first n are those before n accepted commands
+abbrev pub LeavesOlder : Type 0
+LeavesOlder = (start end : History) (actions : List Action) (n : ℕ) → Run start actions n end → AllByRecursion IsChanging actions → drop n (folders end) ≡ folders start
+
+module _ (keep : KeepHistory) where
+  pub lead_back : LeavesOlder → (old mid new : Contents) (started : Started) (asked done more : List Action) → IsOpening old (Ok started) → Runs old asked done mid → AllByRecursion IsChanging done → Runs mid more (replicate (length done) Undo) new
+      → (end : Started) × IsOpening new (Ok end) × (folders (history_of end.session) ≡ folders (history_of started.session))
+  lead_back older old mid new started asked done more opens commands changing undos =
+      let middle = keep old mid started asked done opens commands in
+      let end = keep mid new middle.0 more (replicate (length done) Undo) middle.2 undos in
+      let undone = subst (λ n. Run (history_of middle.0.session) (replicate (length done) Undo) n (history_of end.0.session)) (length-replicate (length done) Undo) end.1 in
+      (end.0, end.2, sym (undos_drop (length done) (history_of middle.0.session) (history_of end.0.session) undone) ∙ older (history_of started.session) (history_of middle.0.session) done (length done) middle.1 changing)
+
+  -- the first of the folders is the one that stands
+  same_first : (a b : History) → folders a ≡ folders b → a.now ≡ b.now
+  same_first a b same = let first : a.now ≡ b.now = cc in first
+
+  -- where no command is halfway, the files are those of the session
+  pub leave_files : OneWay → LeavesOlder → (old mid new : Contents) (asked done more : List Action) → IsSettled old → Runs old asked done mid → AllByRecursion IsChanging done → Runs mid more (replicate (length done) Undo) new → IsSettled new
+      → new.files ≡ old.files
+  unfolding history_of
+  leave_files one older old mid new asked done more before commands changing undos after =
+      let back = lead_back older old mid new before.0 asked done more before.1.opens commands changing undos in
+      after.1.files ∙ ap (λ (x : Started). x.session.folder) (one new after.0 back.0 after.1.opens back.1)
+      ∙ same_first (history_of back.0.session) (history_of before.0.session) back.2 ∙ sym before.1.files
+
+  -- an undo that takes effect leaves the first of the older folders
+  older_of : (h next : History) → Run h (Undo ∷ []) 1 next → (rest : List Folder) × (h.older ≡ next.now ∷ rest)
+  unfolding history_after
+  older_of h next (Accepted step Ended) = by_older h.older step
+    where
+      by_older : (older : List Folder) → history.after_undo h.now older h.newer ≡ Ok next → (rest : List Folder) × (older ≡ next.now ∷ rest)
+      by_older [] step = absurd (cc)
+      by_older (folder ∷ older) step = (older, let same : folder ≡ next.now = cc in ap (λ f. f ∷ older) same)
+  older_of h next (Passed may run) = let most = at_most run in absurd (omega (arith, most))
+
+  pub leaves_older : OneWay → (old new : Contents) (started : Started) → IsOpening old (Ok started) → TakesEffect Undo old new → IsSettled new
+      → (rest : List Folder) × ((history_of started.session).older ≡ new.files ∷ rest)
+  unfolding history_of
+  leaves_older one old new started opens effect after =
+      let end = keep old new started (Undo ∷ []) (Undo ∷ []) opens (Effective effect runs.Ended) in
+      let older = older_of (history_of started.session) (history_of end.0.session) end.1 in
+      let same = after.1.files ∙ ap (λ (x : Started). x.session.folder) (one new after.0 end.0 after.1.opens end.2) in
+      (older.0, older.1 ∙ ap (λ f. f ∷ older.0) (sym same))

@@ -1,0 +1,109 @@
+use Rattle.std.proofs.Common.{◌≡◌, ◌≢◌, ◌⊎◌, ◌<◌, inl, ℕ, List, Some, sym, ap, subst, ◌∙◌, map, arith}
+use Rattle.std.specs.Prelude.{string_bytes}
+use Rattle.std.specs.List.{AllByRecursion}
+use Rattle.std.specs.FinMap as map_of
+use Rattle.std.proofs.lemmas.Bool.{false≢true}
+use Rattle.par2_spec.specs.Commands.{Repair, Undo}
+use Rattle.par2_spec.specs.Folders.{Folder}
+use Rattle.par2_origins.specs.Creates.{may_refuse}
+use Rattle.par2_tool.specs.Runs.{TakesEffect}
+use Rattle.par2_headline.specs.Repairs.{AskForRepair}
+use Rattle.par2_headline.proofs.Answers.{IsRefused, accepted_with_zero, effect_of, repair_refused, repaired}
+use Rattle.par2_headline.proofs.Statuses.{own_status, shown_status, told_of}
+use Rattle.par2_headline.proofs.UndoneRuns.{leaves_older}
+use Rattle.par2_headline.proofs.running.run.Goals.{After-run}
+use Rattle.par2_headline.proofs.running.run.Goals as goal
+
+-- the status of what was told, or that of a writer that failed
+status_of_run : (g : _) (c : After-run g) → (c.run.result ≡ own_status c.run.ensures.told.0) ⊎ (c.run.result ≡ 6)
+status_of_run g c =
+    shown_status c.run.ensures.told.0 g.O.Write.contents c.args.out.now c.run.new.out g.E.Write.contents c.args.err.now c.run.new.err c.run.result c.run.ensures.told.2
+
+-- ---- a repair
+
+-- one that ends with a status below 6 other than 0 and 3 is refused
+refused_repair : (g : _) (c : After-run g) (folder : Folder) (base : List ℕ) (extras : List (List ℕ)) → g.S.FolderStore.honest c.args.store.now
+    → (asks : AskForRepair (map string_bytes c.args.words.now) (g.S.FolderStore.contents c.args.store.now) folder base extras) → (n : ℕ) → c.run.result ≡ n → n ≢ 0 → n ≢ 3 → n < 6
+    → IsRefused folder (g.S.FolderStore.contents c.args.store.now) (g.S.FolderStore.contents c.run.new.store) (Repair base extras asks.purge) n
+refused_repair g c folder base extras honest asks n is zero three low =
+    let words = map string_bytes c.args.words.now in
+    let old = g.S.FolderStore.contents c.args.store.now in
+    let new = g.S.FolderStore.contents c.run.new.store in
+    let told = c.run.ensures.told in
+    subst (IsRefused folder old new (Repair base extras asks.purge)) is
+    (repair_refused c.stores_open_in_one_way.ensures words old new folder base extras asks told.0 c.run.result (status_of_run g c) (told.3 honest)
+    (λ e. zero (sym is ∙ e)) (λ e. three (sym is ∙ e)) (omega (arith, is, low)))
+
+pub returns-clause-restored : goal.returns-clause-restored
+returns-clause-restored g c folder base extras originals s honest asks original zero =
+    let told = c.run.ensures.told in
+    let is = repaired c.stores_open_in_one_way.ensures (map string_bytes c.args.words.now) (g.S.FolderStore.contents c.args.store.now) (g.S.FolderStore.contents c.run.new.store)
+    folder base extras asks told.0 c.run.result (status_of_run g c) (told.3 honest) zero in
+    subst (λ (left : Folder). AllByRecursion (λ file. map_of.get left file.0 ≡ Some file.1) originals) (sym is.left)
+    (c.accepted_repair_leaves_the_files.ensures folder base extras asks.purge originals s original is.accepted)
+
+pub returns-clause-right : goal.returns-clause-right
+returns-clause-right g c folder base extras originals s honest asks original five =
+    let is = refused_repair g c folder base extras honest asks 5 five (λ e. omega (arith, e)) (λ e. omega (arith, e)) (omega arith) in
+    c.repair_never_fails.ensures folder base extras asks.purge originals s original (is.refused ∙ ap Some ((told_of is.fault).wrong is.told))
+
+pub returns-clause-undetermined : goal.returns-clause-undetermined
+returns-clause-undetermined g c folder base extras originals s honest asks original two =
+    let is = refused_repair g c folder base extras honest asks 2 two (λ e. omega (arith, e)) (λ e. omega (arith, e)) (omega arith) in
+    let few = (told_of is.fault).few_left is.told in
+    c.refused_repair_leaves_a_choice.ensures folder base extras asks.purge originals s few.0 few.1 original (is.refused ∙ ap Some few.2)
+
+pub returns-clause-unchanged : goal.returns-clause-unchanged
+returns-clause-unchanged g c folder base extras honest asks two =
+    let is = refused_repair g c folder base extras honest asks 2 two (λ e. omega (arith, e)) (λ e. omega (arith, e)) (omega arith) in
+    (is.files, is.left)
+
+pub returns-clause-inputs_restored : goal.returns-clause-inputs_restored
+returns-clause-inputs_restored g c before damaged a base extras honest asks follows zero =
+    let told = c.run.ensures.told in
+    let is = repaired c.stores_open_in_one_way.ensures (map string_bytes c.args.words.now) (g.S.FolderStore.contents c.args.store.now) (g.S.FolderStore.contents c.run.new.store)
+    damaged base extras asks told.0 c.run.result (status_of_run g c) (told.3 honest) zero in
+    subst (λ (left : Folder). AllByRecursion (λ name. map_of.get left name ≡ map_of.get before name) a.inputs) (sym is.left)
+    (c.repair_gives_the_created_files_back.ensures before damaged a base extras asks.purge follows is.accepted)
+
+pub returns-clause-inputs_right : goal.returns-clause-inputs_right
+returns-clause-inputs_right g c before damaged a base extras honest asks follows = (
+  λ four.
+      let is = refused_repair g c damaged base extras honest asks 4 four (λ e. omega (arith, e)) (λ e. omega (arith, e)) (omega arith) in
+      let few = c.repair_of_created_files_is_refused_for_few_causes.ensures before damaged a base extras asks.purge is.fault follows is.refused in
+      false≢true (sym ((told_of is.fault).unread is.told) ∙ few),
+  λ five.
+      let is = refused_repair g c damaged base extras honest asks 5 five (λ e. omega (arith, e)) (λ e. omega (arith, e)) (omega arith) in
+      let few = c.repair_of_created_files_is_refused_for_few_causes.ensures before damaged a base extras asks.purge is.fault follows is.refused in
+      false≢true (ap may_refuse (sym ((told_of is.fault).wrong is.told)) ∙ few),
+)
+
+pub returns-clause-inputs_undetermined : goal.returns-clause-inputs_undetermined
+returns-clause-inputs_undetermined g c before damaged a base extras honest asks follows two =
+    let is = refused_repair g c damaged base extras honest asks 2 two (λ e. omega (arith, e)) (λ e. omega (arith, e)) (omega arith) in
+    let few = (told_of is.fault).few_left is.told in
+    c.created_files_not_repairable_have_a_choice.ensures before damaged a base extras asks.purge few.0 few.1 follows (is.refused ∙ ap Some few.2)
+
+-- ---- any action
+
+pub returns-clause-undone : goal.returns-clause-undone
+returns-clause-undone g c started honest asked opens zero =
+    let old = g.S.FolderStore.contents c.args.store.now in
+    let new = g.S.FolderStore.contents c.run.new.store in
+    let told = c.run.ensures.told in
+    let effect : TakesEffect Undo old new = inl (accepted_with_zero (map string_bytes c.args.words.now) old new Undo asked told.0 c.run.result (status_of_run g c) (told.3 honest) zero) in
+    let laws = c.runs_keep_one_history.ensures in
+    leaves_older laws.kept c.stores_open_in_one_way.ensures old new started opens effect (laws.settled old new Undo effect)
+
+pub returns-clause-done : goal.returns-clause-done
+returns-clause-done g c action honest asked zero =
+    let old = g.S.FolderStore.contents c.args.store.now in
+    let new = g.S.FolderStore.contents c.run.new.store in
+    let told = c.run.ensures.told in
+    let effect : TakesEffect action old new = inl (accepted_with_zero (map string_bytes c.args.words.now) old new action asked told.0 c.run.result (status_of_run g c) (told.3 honest) zero) in
+    (effect, c.runs_keep_one_history.ensures.settled old new action effect)
+
+pub returns-clause-effect : goal.returns-clause-effect
+returns-clause-effect g c action honest asked apart =
+    let told = c.run.ensures.told in
+    effect_of (map string_bytes c.args.words.now) (g.S.FolderStore.contents c.args.store.now) (g.S.FolderStore.contents c.run.new.store) action asked told.0 (told.3 honest) apart

@@ -1,0 +1,125 @@
+//! A run of the program.
+ghost use Rattle.std.specs.Prelude.{◌≡◌, ◌≢◌, ◌⊎◌, ◌≤◌, ◌∷◌, ℕ, List, Some, Ok, map, string_bytes};
+ghost use Rattle.std.specs.List.{AllByRecursion};
+ghost use Rattle.std.specs.FinMap as map_of;
+ghost use Rattle.par2_spec.specs.Commands.{Action, CreateArgs, Undo};
+ghost use Rattle.par2_spec.specs.Folders.{Folder, File};
+ghost use Rattle.par2_spec.specs.Opening.{Started};
+ghost use Rattle.par2_spec.specs.Rank.{AnotherAgrees};
+ghost use Rattle.par2_spec.specs.Search.{candidates, known};
+ghost use Rattle.par2_spec.specs.Sessions.{history_of};
+ghost use Rattle.par2_spec.specs.Volumes.{all_slices};
+ghost use Rattle.par2_promises.specs.Premises.{IsTrueTo};
+ghost use Rattle.par2_origins.specs.Creates.{FollowsCreate, HaveAChoice};
+ghost use Rattle.par2_tool.specs.Asking.{AskFor};
+ghost use Rattle.par2_tool.specs.Holding.{IsOpening, IsSettled, TellsApartInRun};
+ghost use Rattle.par2_tool.specs.Opening.{OnlyTakesBack};
+ghost use Rattle.par2_tool.specs.Runs.{HasNoEffect, TakesEffect};
+ghost use Rattle.par2_tool.specs.Telling.{Telling, IsTold, IsShown, Leaves};
+ghost use Rattle.par2_headline.specs.Repairs.{AskForRepair};
+
+use par2_folder::FolderStore;
+use par2_origins::creates::{
+    created_files_not_repairable_have_a_choice, repair_gives_the_created_files_back,
+    repair_of_created_files_is_refused_for_few_causes,
+};
+use par2_printing::Printer;
+use par2_promises::restored_files::{
+    accepted_repair_leaves_the_files, refused_repair_leaves_a_choice, repair_never_fails,
+};
+use par2_tool::{runs_keep_one_history, stores_open_in_one_way};
+use std::alloc::Global;
+use std::io::Write;
+
+/// A run of the program: the words are read, the store is opened, what they ask for is performed on it, and what
+/// comes of it is printed on one of the two writers. Answers the status. What is said of the store's contents holds
+/// where it is honest.
+pub fn run<S: FolderStore, O: Write, E: Write>(
+    alloc: Global,
+    words: &[String],
+    store: &mut S,
+    out: &mut Printer<O>,
+    err: &mut Printer<E>,
+) -> u8
+    // What is printed is what was done to the store; and what can't be done is never asked of it.
+    ensures honest { S.honest store.old → S.honest store.new }
+    ensures told { (told : Telling)
+        × IsTold (map string_bytes words.now) (S.failures store.old) (S.failures store.new) told
+        × IsShown told O.contents out.old out.new E.contents err.old err.new result
+        × (S.honest store.old → Leaves (map string_bytes words.now) told
+        (S.contents store.old) (S.contents store.new)) }
+    ensures later { S.failures store.old ≤ S.failures store.new }
+    ensures possible { S.honest store.old → S.impossible store.new ≡ S.impossible store.old }
+    // A repair, where the set was made from certain files, and what is found of them is true: with
+    // status 0 each of them is in the store afterwards, with its bytes;
+    ensures restored { (folder : Folder) (base : List ℕ) (extras : List (List ℕ))
+        (originals : List File) (s : ℕ) → S.honest store.old
+        → AskForRepair (map string_bytes words.now) (S.contents store.old) folder base extras
+        → IsTrueTo folder base extras originals s → result ≡ 0 → AllByRecursion
+        (λ file. map_of.get (S.contents store.new).files file.0 ≡ Some file.1) originals }
+    // no rebuilt file has another digest, which is status 5;
+    ensures right { (folder : Folder) (base : List ℕ) (extras : List (List ℕ))
+        (originals : List File) (s : ℕ) → S.honest store.old
+        → AskForRepair (map string_bytes words.now) (S.contents store.old) folder base extras
+        → IsTrueTo folder base extras originals s → result ≢ 5 }
+    // and status 2, that too few slices are left, comes only where other slices, too, agree with
+    // all that is found.
+    ensures undetermined { (folder : Folder) (base : List ℕ) (extras : List (List ℕ))
+        (originals : List File) (s : ℕ) → S.honest store.old
+        → AskForRepair (map string_bytes words.now) (S.contents store.old) folder base extras
+        → (original : IsTrueTo folder base extras originals s) → result ≡ 2
+        → let set = original.made.set in
+        AnotherAgrees s (known folder set (candidates folder set extras))
+        (map_of.entries set.recovery) (all_slices s originals) }
+    // Then, whatever the set, the store is left as it was opened.
+    ensures unchanged { (folder : Folder) (base : List ℕ) (extras : List (List ℕ))
+        → S.honest store.old
+        → AskForRepair (map string_bytes words.now) (S.contents store.old) folder base extras
+        → result ≡ 2 → ((S.contents store.new).files ≡ folder)
+        × OnlyTakesBack (S.contents store.old) (S.contents store.new) }
+    // A repair where a create left the folder, and another hand damaged it since: with status 0
+    // each input is as it was;
+    ensures inputs_restored { (before damaged : Folder) (a : CreateArgs) (base : List ℕ)
+        (extras : List (List ℕ)) → S.honest store.old
+        → AskForRepair (map string_bytes words.now) (S.contents store.old) damaged base extras
+        → FollowsCreate before damaged a base extras → result ≡ 0 → AllByRecursion
+        (λ name. map_of.get (S.contents store.new).files name ≡ map_of.get before name) a.inputs }
+    // the set is read, and no rebuilt file has another digest, which are status 4 and 5;
+    ensures inputs_right { (before damaged : Folder) (a : CreateArgs) (base : List ℕ)
+        (extras : List (List ℕ)) → S.honest store.old
+        → AskForRepair (map string_bytes words.now) (S.contents store.old) damaged base extras
+        → FollowsCreate before damaged a base extras → (result ≢ 4) × (result ≢ 5) }
+    // and status 2 comes only where other slices, too, agree with all that is found.
+    ensures inputs_undetermined { (before damaged : Folder) (a : CreateArgs) (base : List ℕ)
+        (extras : List (List ℕ)) → S.honest store.old
+        → AskForRepair (map string_bytes words.now) (S.contents store.old) damaged base extras
+        → FollowsCreate before damaged a base extras → result ≡ 2
+        → HaveAChoice before damaged a base extras }
+    // An undo: status 0 leaves the folder that the newest command found, names and bytes.
+    ensures undone { (started : Started) → S.honest store.old
+        → AskFor (map string_bytes words.now) Undo → IsOpening (S.contents store.old) (Ok started)
+        → result ≡ 0 → (older : List Folder)
+        × ((history_of started.session).older ≡ (S.contents store.new).files ∷ older) }
+    // Any action: with status 0 the run takes effect, so that no command is halfway afterwards;
+    ensures done { (action : Action) → S.honest store.old
+        → AskFor (map string_bytes words.now) action → result ≡ 0
+        → TakesEffect action (S.contents store.old) (S.contents store.new)
+        × IsSettled (S.contents store.new) }
+    // and each run takes effect or has none, also one that is stopped anywhere, where fingerprints
+    // tell apart the folders that are passed through.
+    ensures effect { (action : Action) → S.honest store.old
+        → AskFor (map string_bytes words.now) action
+        → TellsApartInRun action (S.contents store.old)
+        → TakesEffect action (S.contents store.old) (S.contents store.new)
+        ⊎ HasNoEffect (S.contents store.old) (S.contents store.new) }
+{
+    accepted_repair_leaves_the_files();
+    repair_never_fails();
+    refused_repair_leaves_a_choice();
+    repair_gives_the_created_files_back();
+    repair_of_created_files_is_refused_for_few_causes();
+    created_files_not_repairable_have_a_choice();
+    stores_open_in_one_way();
+    runs_keep_one_history();
+    par2_tool::run(alloc, words, store, out, err)
+}

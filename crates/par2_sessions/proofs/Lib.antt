@@ -1,0 +1,2 @@
+pub mod RepairAnswers
+pub mod UndoRuns

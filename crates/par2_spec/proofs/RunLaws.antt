@@ -1,0 +1,303 @@
+-- Exponents that are close are kept, and a run of as many as slices are lost determines these.
+use Rattle.std.proofs.Common.{◌≡◌, ◌≢◌, ℕ, zero, suc, ◌+◌, ◌-◌, ◌^◌, ◌<◌, ◌≤◌, List, [], ◌∷◌, length, map, take, get_or, refl, sym, ap, ap₂, ◌∙◌, subst, cond, true, false, Bool, eqb, inl, inr, arith, bit_xor}
+use Rattle.std.specs.Prelude.{filter}
+use Rattle.std.specs.List.{AllByRecursion, Contains, range_with_len}
+use Rattle.std.specs.List.Sorted.{IsStrictlyIncreasing}
+use Rattle.std.proofs.lemmas.Bool.Decides.{Decides-eqb}
+use Rattle.std.proofs.lemmas.Bool.{cases_lt, eq-eqb, ne_eqb}
+use Rattle.std.proofs.lemmas.List.{length-map, get_or-map, get_or-take, get_or_default}
+use Rattle.std.proofs.lemmas.List.Elements.{Contains-get_or}
+use Rattle.std.proofs.lemmas.List.FromFn.{length-range_with_len, get_or-range_with_len}
+use Rattle.std.proofs.lemmas.List.Kept.{AllPairs-from_increasing}
+use Rattle.std.proofs.lemmas.Map.Made.{IsDistinct-from_AllPairs}
+use Rattle.par2_spec.specs.Field.{mul, pow, constant, coefficient}
+use Rattle.par2_spec.specs.Recovery.{dot, coefficients}
+use Rattle.par2_spec.specs.Rank.{kept, rank, smaller, is_independent, IsVector, Kills, IsKept, IsRepairable}
+use Rattle.par2_spec.specs.Polynomials.{value, AreElements, ArePoints, Interpolates}
+use Rattle.par2_spec.specs.Runs.{AreSlices, AreClose, HasRun}
+use Rattle.par2_spec.proofs.FieldBits.{xor_middle}
+use Rattle.par2_spec.proofs.FieldProducts.{product_linear_left, product_linear_right, product_assoc, product_comm, product-one}
+use Rattle.par2_spec.proofs.FieldOrder.{product-zero, zero-product, no_zero_divisor, power-lt}
+use Rattle.par2_spec.proofs.FieldConstants.{constant-lt, constant-nonzero, constant-injective}
+use Rattle.par2_spec.proofs.SumLaws.{dot_sum, field_sum_one, product_at}
+use Rattle.par2_spec.proofs.ListsLaws.{all-each, all_from, all_get, of_contained}
+use Rattle.par2_spec.proofs.RankLaws.{independent-iff}
+use Rattle.par2_spec.proofs.UniqueLaws.{all_from_contains}
+use Rattle.par2_spec.proofs.FullRank.{full-iff}
+use Rattle.par2_spec.proofs.PolynomialLaws.{value-lt, some_polynomial}
+
+-- ---- rows that a function gives
+
+row_same : (g h : ℕ → ℕ) → ((k : ℕ) → g k ≡ h k) → (ks v : List ℕ) → dot (map g ks) v ≡ dot (map h ks) v
+unfolding dot
+row_same g h same [] v = refl
+row_same g h same (k ∷ ks) [] = refl
+row_same g h same (k ∷ ks) (x ∷ v) = ap₂ bit_xor (ap (λ c. mul c x) (same k)) (row_same g h same ks v)
+
+row_none : (g : ℕ → ℕ) → ((k : ℕ) → g k ≡ 0) → (ks v : List ℕ) → dot (map g ks) v ≡ 0
+unfolding dot
+row_none g none [] v = refl
+row_none g none (k ∷ ks) [] = refl
+row_none g none (k ∷ ks) (x ∷ v) = ap₂ bit_xor (ap (λ c. mul c x) (none k) ∙ zero-product x) (row_none g none ks v)
+
+row_xor : (g h : ℕ → ℕ) (ks v : List ℕ) → dot (map (λ k. bit_xor (g k) (h k)) ks) v ≡ bit_xor (dot (map g ks) v) (dot (map h ks) v)
+unfolding dot
+row_xor g h [] v = refl
+row_xor g h (k ∷ ks) [] = refl
+row_xor g h (k ∷ ks) (x ∷ v) =
+    ap₂ bit_xor ((product_linear_left x).on_xor (g k) (h k)) (row_xor g h ks v)
+    ∙ xor_middle (mul (g k) x) (mul (h k) x) (dot (map g ks) v) (dot (map h ks) v)
+
+row_times : (a : ℕ) (g : ℕ → ℕ) → a < 2 ^ 16 → ((k : ℕ) → g k < 2 ^ 16) → (ks v : List ℕ) → AreElements v → dot (map (λ k. mul a (g k)) ks) v ≡ mul a (dot (map g ks) v)
+unfolding dot
+row_times a g small fits [] v h = sym (product-zero a)
+row_times a g small fits (k ∷ ks) [] h = sym (product-zero a)
+row_times a g small fits (k ∷ ks) (x ∷ v) h =
+    ap₂ bit_xor (product_assoc a (g k) x small (fits k) h.0) (row_times a g small fits ks v h.1)
+    ∙ sym ((product_linear_right a).on_xor (mul (g k) x) (dot (map g ks) v))
+
+-- ---- what kills a vector together
+
+-- coefficient k of exponent u times the value of a polynomial at its constant
+weighted : ℕ → List ℕ → ℕ → ℕ
+weighted u p k = mul (coefficient u k) (value p (constant k))
+
+coefficient-lt : (u k : ℕ) → coefficient u k < 2 ^ 16
+unfolding coefficient
+coefficient-lt u k = power-lt (constant k) u (constant-lt k)
+
+one_more : (u a : ℕ) (p : List ℕ) → a < 2 ^ 16 → AreElements p → (k : ℕ) → weighted u (a ∷ p) k ≡ bit_xor (mul a (coefficient u k)) (weighted (suc u) p k)
+unfolding weighted coefficient value pow
+one_more u a p small h k =
+    let c = constant k in
+    let hc = constant-lt k in
+    let power = pow c u in
+    let hp = power-lt c u hc in
+    let v = value p c in
+    (product_linear_right power).on_xor a (mul c v)
+    ∙ ap₂ bit_xor (product_comm power a hp small)
+    (sym (product_assoc power c v hp hc (value-lt p c h hc)) ∙ ap (λ x. mul x v) (product_comm power c hp hc))
+
+-- a vector that a run of exponents kills is killed by the combinations of their rows: those of the values of polynomials
+killed_by_polynomial : (ks v : List ℕ) → AreElements v → (p : List ℕ) → AreElements p → (u : ℕ) → ((i : ℕ) → i < length p → Kills ks (u + i) v) → dot (map (weighted u p) ks) v ≡ 0
+unfolding weighted value
+killed_by_polynomial ks v is [] h u kills = row_none (weighted u []) (λ k. product-zero (coefficient u k)) ks v
+killed_by_polynomial ks v is (a ∷ p) h u kills =
+    let at_first : u + 0 ≡ u = omega arith in
+    let later : (i : ℕ) → i < length p → Kills ks (suc u + i) v = λ i low.
+    (let e : u + suc i ≡ suc u + i = omega arith in subst (λ n. Kills ks n v) e (kills (suc i) (omega (arith, low)))) in
+    row_same (weighted u (a ∷ p)) (λ k. bit_xor (mul a (coefficient u k)) (weighted (suc u) p k)) (one_more u a p h.0 h.1) ks v
+    ∙ row_xor (λ k. mul a (coefficient u k)) (weighted (suc u) p) ks v
+    ∙ ap₂ bit_xor (row_times a (coefficient u) h.0 (coefficient-lt u) ks v is ∙ ap (mul a) (subst (λ n. Kills ks n v) at_first (kills 0 (omega arith))) ∙ product-zero a)
+    (killed_by_polynomial ks v is p h.1 (suc u) later)
+
+-- ---- a polynomial that is 1 at one of the points and 0 at the others
+
+is_one_at : ℕ → ℕ → ℕ
+is_one_at c z = cond (eqb z c) 1 0
+
+all_ones : (c : ℕ) (points : List ℕ) → AreElements (map (is_one_at c) points)
+unfolding is_one_at
+all_ones c [] = tt
+all_ones c (z ∷ points) = (step (eqb z c), all_ones c points)
+  where
+    step : (b : Bool) → cond b 1 0 < 2 ^ 16
+    step true = omega arith
+    step false = omega arith
+
+unit : (points : List ℕ) → ArePoints points → (c : ℕ) → (p : List ℕ) × Interpolates points (map (is_one_at c) points) p
+unit points are c = some_polynomial points (map (is_one_at c) points) are (length-map points (is_one_at c), all_ones c points)
+
+-- ---- points
+
+power_nonzero : (a n : ℕ) → 0 < a → a < 2 ^ 16 → pow a n ≢ 0
+unfolding pow
+power_nonzero a zero h small e = omega (arith, e)
+power_nonzero a (suc n) h small e = power_nonzero a n h small (no_zero_divisor a (pow a n) h small (power-lt a n small) e)
+
+coefficient-nonzero : (e k : ℕ) → k < 32768 → coefficient e k ≢ 0
+unfolding coefficient
+coefficient-nonzero e k h = power_nonzero (constant k) e (let other = constant-nonzero k h in omega (arith, other)) (constant-lt k)
+
+constants_differ : (ks : List ℕ) → AreSlices ks → (i j : ℕ) → i < j → j < length ks → constant (get_or ks i 0) ≢ constant (get_or ks j 0)
+constants_differ ks are i j h low =
+    constant-injective (get_or ks i 0) (get_or ks j 0) (AllPairs-from_increasing ks are.rise i j 0 h low) (all_get (λ k. k < 32768) ks j 0 low are.below)
+
+points_are : (ks : List ℕ) → AreSlices ks → ArePoints (map constant ks)
+points_are ks are = record {
+  elements = all-each (λ c. c < 2 ^ 16) constant constant-lt ks;
+  distinct = IsDistinct-from_AllPairs Decides-eqb (map constant ks) (λ i j d low within.
+      let long = length-map ks constant in
+      let second : j < length ks = omega (arith, long, within) in
+      let first : i < length ks = omega (arith, low, second) in
+      λ same. constants_differ ks are i j low second
+      (sym (get_or-map constant ks i 0 d first) ∙ same ∙ get_or-map constant ks j 0 d second));
+}
+
+-- the constants of the slices at two places
+apart : (ks : List ℕ) → AreSlices ks → (i q : ℕ) → i < length ks → q < length ks → i ≢ q → constant (get_or ks i 0) ≢ constant (get_or ks q 0)
+apart ks are i q hi hq other = elim (cases_lt i q) [
+  | inl low ↦ constants_differ ks are i q low hq
+  | inr high ↦ (λ same. constants_differ ks are q i (omega (arith, high, other)) hi (sym same))
+]
+
+-- ---- a whole run
+
+-- what a run of as many exponents as slices are lost kills is 0 at each place
+zero_at : (ks v : List ℕ) (f q : ℕ) → AreSlices ks → IsVector (length ks) v → ((i : ℕ) → i < length ks → Kills ks (f + i) v) → q < length ks → get_or v q 0 ≡ 0
+unfolding weighted is_one_at
+zero_at ks v f q are is kills hq =
+    let k = get_or ks q 0 in
+    let c = constant k in
+    let p = unit (map constant ks) (points_are ks are) c in
+    let long : length p.0 ≡ length ks = p.1.vector.0 ∙ length-map ks constant in
+    let n = length ks in
+    let row = map (weighted f p.0) ks in
+    let values_at : (i : ℕ) → i < n → value p.0 (constant (get_or ks i 0)) ≡ is_one_at c (constant (get_or ks i 0)) = λ i low.
+    (let low_points : i < length (map constant ks) = omega (arith, low, length-map ks constant) in
+    let at = get_or-map constant ks i 0 0 low in
+    sym (ap (value p.0) at) ∙ sym (get_or-map (value p.0) (map constant ks) i 0 0 low_points)
+    ∙ ap (λ xs. get_or xs i 0) p.1.at_points
+    ∙ get_or-map (is_one_at c) (map constant ks) i 0 0 low_points ∙ ap (is_one_at c) at) in
+    let others : (i : ℕ) → i < n → i ≢ q → product_at row v i ≡ 0 = λ i low other.
+    ap (λ x. mul x (get_or v i 0))
+    (get_or-map (weighted f p.0) ks i 0 0 low
+    ∙ ap (mul (coefficient f (get_or ks i 0))) (values_at i low ∙ ap (λ b. cond b 1 0) (ne_eqb _ c (apart ks are i q low hq other)))
+    ∙ product-zero (coefficient f (get_or ks i 0)))
+    ∙ zero-product (get_or v i 0) in
+    let itself : get_or row q 0 ≡ coefficient f k =
+    get_or-map (weighted f p.0) ks q 0 0 hq
+    ∙ ap (mul (coefficient f k)) (values_at q hq ∙ ap (λ b. cond b 1 0) (eq-eqb c c refl))
+    ∙ product-one (coefficient f k) (coefficient-lt f k) in
+    let none : mul (coefficient f k) (get_or v q 0) ≡ 0 =
+    ap (λ x. mul x (get_or v q 0)) (sym itself)
+    ∙ sym (field_sum_one n q (product_at row v) hq others)
+    ∙ sym (dot_sum n row v (let e = length-map ks (weighted f p.0) in omega (arith, e)))
+    ∙ killed_by_polynomial ks v is.1 p.0 p.1.vector.1 f (λ i low. kills i (omega (arith, low, long))) in
+    let other = coefficient-nonzero f k (all_get (λ j. j < 32768) ks q 0 hq are.below) in
+    no_zero_divisor (coefficient f k) (get_or v q 0) (omega (arith, other)) (coefficient-lt f k)
+    (all_get (λ x. x < 2 ^ 16) v q 0 (let e = is.0 in omega (arith, e, hq)) is.1) none
+
+pub run_determines : (ks exponents : List ℕ) (f : ℕ) → AreSlices ks → HasRun f (length ks) exponents → IsRepairable ks exponents
+run_determines ks exponents f are run v is killed =
+    all_from (λ x. x ≡ 0) 0 v (λ q low.
+    zero_at ks v f q are is (λ i h. of_contained (λ e. Kills ks e v) exponents (f + i) killed (run i h)) (let e = is.0 in omega (arith, e, low)))
+
+pub run_rank : (ks exponents : List ℕ) (f : ℕ) → AreSlices ks → IsStrictlyIncreasing exponents → HasRun f (length ks) exponents → rank ks exponents ≡ length ks
+run_rank ks exponents f are rise run = (full-iff ks exponents rise).1 (run_determines ks exponents f are run)
+
+-- ---- of a whole run each is kept
+
+range_has : (f n e : ℕ) → f ≤ e → e < f + n → Contains (range_with_len f n) e
+range_has f n e low high =
+    let i : e - f < n = omega (arith, low, high) in
+    let e_is : f + (e - f) ≡ e = omega (arith, low) in
+    subst (Contains (range_with_len f n)) (get_or-range_with_len f n (e - f) 0 i ∙ e_is)
+    (Contains-get_or (range_with_len f n) (e - f) 0 (let l = length-range_with_len f n in omega (arith, l, i)))
+
+range_rises : (f n : ℕ) → IsStrictlyIncreasing (range_with_len f n)
+range_rises f n k within =
+    let l = length-range_with_len f n in
+    let first = get_or-range_with_len f n k 0 (omega (arith, l, within)) in
+    let second = get_or-range_with_len f n (k + 1) 0 (omega (arith, l, within)) in
+    omega (arith, first, second)
+
+filter-le : (p : ℕ → Bool) (xs : List ℕ) → length (filter p xs) ≤ length xs
+filter-le p [] = omega arith
+filter-le p (x ∷ xs) = step (p x) (filter p xs) (filter-le p xs)
+  where
+    step : (b : Bool) (ys : List ℕ) → length ys ≤ length xs → length (cond b (x ∷ ys) ys) ≤ suc (length xs)
+    step true ys h = omega (arith, h)
+    step false ys h = omega (arith, h)
+
+-- where a filter leaves as many, each passes
+all_pass : (p : ℕ → Bool) (xs : List ℕ) → length (filter p xs) ≡ length xs → AllByRecursion (λ x. p x ≡ true) xs
+all_pass p [] h = tt
+all_pass p (x ∷ xs) h = step (p x) refl (filter p xs) (filter-le p xs) h (all_pass p xs)
+  where
+    step : (b : Bool) → p x ≡ b → (ys : List ℕ) → length ys ≤ length xs → length (cond b (x ∷ ys) ys) ≡ suc (length xs)
+        → (length ys ≡ length xs → AllByRecursion (λ y. p y ≡ true) xs) → AllByRecursion (λ y. p y ≡ true) (x ∷ xs)
+    step true e ys le same later = (e, later (omega (arith, same)))
+    step false e ys le same later = absurd (omega (arith, same, le))
+
+run_kept : (ks : List ℕ) (f e : ℕ) → AreSlices ks → f ≤ e → e < f + length ks → IsKept ks (range_with_len f (length ks)) e
+run_kept ks f e are low high =
+    let n = length ks in
+    let run = range_with_len f n in
+    let full = run_rank ks run f are (range_rises f n) (λ i h. range_has f n (f + i) (omega arith) (omega (arith, h))) in
+    (independent-iff ks run e).0
+    (of_contained (λ x. is_independent n (map (coefficients ks) (smaller x run)) (coefficients ks x) ≡ true) run e
+    (all_pass (λ x. is_independent n (map (coefficients ks) (smaller x run)) (coefficients ks x)) run (full ∙ sym (length-range_with_len f n)))
+    (range_has f n e low high))
+
+-- ---- exponents that are close
+
+-- an exponent is kept where each smaller one is close to it
+near_kept : (ks exponents : List ℕ) (e : ℕ) → AreSlices ks → e < e + length ks → ((other : ℕ) → Contains exponents other → other < e → e < other + length ks) → IsKept ks exponents e
+near_kept ks exponents e are some near =
+    let n = length ks in
+    let f = e + 1 - n in
+    let before = run_kept ks f e are (omega (arith, some)) (omega (arith, some)) in (
+      before.0,
+      before.1,
+      all_from_contains (λ other. other < e → Kills ks other before.0) exponents (λ other among lower.
+          of_contained (λ x. x < e → Kills ks x before.0) (range_with_len f n) other before.2
+          (range_has f n other (let h = near other among lower in omega (arith, h, some)) (omega (arith, lower, some))) lower),
+      before.3,
+    )
+
+near_passes : (ks exponents : List ℕ) (e : ℕ) → AreSlices ks → e < e + length ks → ((other : ℕ) → Contains exponents other → other < e → e < other + length ks)
+    → is_independent (length ks) (map (coefficients ks) (smaller e exponents)) (coefficients ks e) ≡ true
+near_passes ks exponents e are some near = (independent-iff ks exponents e).1 (near_kept ks exponents e are some near)
+
+filter_passing : (p : ℕ → Bool) (n : ℕ) (xs : List ℕ) → AllByRecursion (λ x. p x ≡ true) (take n xs) → take n (filter p xs) ≡ take n xs
+filter_passing p zero xs h = refl
+filter_passing p (suc n) [] h = refl
+filter_passing p (suc n) (x ∷ xs) h = ap (λ b. take (suc n) (cond b (x ∷ filter p xs) (filter p xs))) h.0 ∙ ap (λ ys. x ∷ ys) (filter_passing p n xs h.1)
+
+filter_all : (p : ℕ → Bool) (xs : List ℕ) → AllByRecursion (λ x. p x ≡ true) xs → filter p xs ≡ xs
+filter_all p [] h = refl
+filter_all p (x ∷ xs) h = ap (λ b. cond b (x ∷ filter p xs) (filter p xs)) h.0 ∙ ap (λ ys. x ∷ ys) (filter_all p xs h.1)
+
+pub close_kept : (ks exponents : List ℕ) → AreSlices ks → AreClose (length ks) exponents → kept ks exponents ≡ exponents
+close_kept ks exponents are close =
+    filter_all (λ e. is_independent (length ks) (map (coefficients ks) (smaller e exponents)) (coefficients ks e)) exponents
+    (all_from_contains (λ e. is_independent (length ks) (map (coefficients ks) (smaller e exponents)) (coefficients ks e) ≡ true) exponents
+    (λ e among. near_passes ks exponents e are (close e e among among) (λ other second lower. close other e second among)))
+
+-- a place of the first n is below n
+place-lt : (i n : ℕ) (xs : List ℕ) → i < length (take n xs) → (i < n) × (i < length xs)
+place-lt i zero xs h = absurd (omega (arith, h))
+place-lt i (suc n) [] h = absurd (omega (arith, h))
+place-lt zero (suc n) (x ∷ xs) h = (omega arith, omega arith)
+place-lt (suc i) (suc n) (x ∷ xs) h = let r = place-lt i n xs (omega (arith, h)) in (omega (arith, r.0), omega (arith, r.1))
+
+lt-place : (j n : ℕ) (xs : List ℕ) → j < n → j < length xs → j < length (take n xs)
+lt-place j zero xs h k = absurd (omega (arith, h))
+lt-place j (suc n) [] h k = absurd (omega (arith, k))
+lt-place zero (suc n) (x ∷ xs) h k = omega arith
+lt-place (suc j) (suc n) (x ∷ xs) h k = let r = lt-place j n xs (omega (arith, h)) (omega (arith, k)) in omega (arith, r)
+
+-- a smaller exponent stands before
+stands_before : (exponents : List ℕ) (n e other : ℕ) → IsStrictlyIncreasing exponents → Contains (take n exponents) e → Contains exponents other → other < e → Contains (take n exponents) other
+stands_before exponents n e other rise first second lower =
+    let i = first.0 in
+    let j = second.0 in
+    let at = place-lt i n exponents first.1 in
+    elim (cases_lt j n) [
+      | inl low ↦
+          let place = lt-place j n exponents low second.1 in
+          subst (Contains (take n exponents)) (get_or-take n exponents j other low ∙ second.2) (Contains-get_or (take n exponents) j other place)
+      | inr high ↦
+          let more : get_or exponents i e < get_or exponents j e = AllPairs-from_increasing exponents rise i j e (omega (arith, at.0, high)) second.1 in
+          let is_e = sym (get_or-take n exponents i e at.0) ∙ first.2 in
+          let is_other = get_or_default exponents j e other second.1 ∙ second.2 in
+          absurd (omega (arith, more, is_e, is_other, lower))
+    ]
+
+pub first_kept : (ks exponents : List ℕ) (n : ℕ) → AreSlices ks → IsStrictlyIncreasing exponents → AreClose (length ks) (take n exponents) → take n (kept ks exponents) ≡ take n exponents
+first_kept ks exponents n are rise close =
+    filter_passing (λ e. is_independent (length ks) (map (coefficients ks) (smaller e exponents)) (coefficients ks e)) n exponents
+    (all_from_contains (λ e. is_independent (length ks) (map (coefficients ks) (smaller e exponents)) (coefficients ks e) ≡ true) (take n exponents)
+    (λ e among. near_passes ks exponents e are (close e e among among)
+    (λ other second lower. close other e (stands_before exponents n e other rise among second lower) among)))

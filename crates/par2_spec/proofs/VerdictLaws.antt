@@ -1,0 +1,228 @@
+-- The verdict on what a verify reports, by the words.
+use Rattle.std.proofs.Common.{Ordering, Less, Equal, Greater, ◌≡◌, ◌+◌, ℕ, List, [], ◌∷◌, T, length, map, refl, sym, ap, ◌∙◌, subst, Bool, true, false, not, cond, ◌&&◌}
+use Rattle.std.specs.Prelude.{◌↔◌, ◌==◌, nat_lt, Option, Some, None, Result, Ok, Err, filter, is_some, is_none, if◌then◌else◌}
+use Rattle.std.specs.Str.{bytes_eq}
+use Rattle.md5.specs.Md5.{md5}
+use Rattle.std.specs.Ordering.{nat_cmp, is_lt}
+use Rattle.std.specs.FinMap as map_of
+use Rattle.std.specs.FinMap.{entries_sorted}
+use Rattle.std.specs.FinMap.Entries.{is_sorted, below_all}
+use Rattle.std.specs.List.{list_all, list_any, enumerate_from, AllByRecursion}
+use Rattle.std.specs.List.Sorted.{IsStrictlyIncreasing, IsStrictlySortedBy}
+use Rattle.std.proofs.lemmas.Bool.{eqb-true, eq-eqb, false≢true, not-true, false_from_ne_true}
+use Rattle.std.proofs.lemmas.Map.Keys.{IsStrictlyIncreasing-from_sorted}
+use Rattle.par2_spec.specs.declared.Fault.{Fault}
+use Rattle.par2_spec.specs.declared.Fault.TheVariants.{NotRepairable, NameTooLong, RepairFailed}
+use Rattle.par2_spec.specs.declared.Verdict.{Verdict}
+use Rattle.par2_spec.specs.declared.Verdict.TheVariants.{Complete, Repairable}
+use Rattle.par2_spec.specs.declared.Verdict.TheVariants as verdict
+use Rattle.par2_spec.specs.Faults.{first_fault, fault_where, then_fault}
+use Rattle.par2_spec.specs.Folders.{Folder, has, bytes_of}
+use Rattle.par2_spec.specs.Sets.{ParSet, Target, set_of, all_pairs, ◌>>=◌}
+use Rattle.par2_spec.specs.Windows.{found}
+use Rattle.par2_spec.specs.Search.{is_needing, needing, matches, match_of, known, lost, survivors, candidates}
+use Rattle.par2_spec.specs.Rank.{is_repairable, IsRepairable, rank}
+use Rattle.par2_spec.specs.Repairs.{aside, put_aside, rebuilt_targets}
+use Rattle.par2_spec.specs.Commands.{Repair}
+use Rattle.par2_spec.specs.Refusals.{set_in, refusal, repair_refusal}
+use Rattle.par2_spec.specs.Reports as reports
+use Rattle.par2_spec.specs.Reports.{State, Report, is_complete, needing_state, state_of, report_of_target, report_of, report_in, found_of, verdict_of, IsFound, IsVerdict, IsVerdictIn, RefusedAsReported}
+use Rattle.par2_spec.proofs.TestLaws.{T-parts}
+use Rattle.par2_spec.proofs.RankLaws.{repairable-iff, none_kept}
+use Rattle.par2_spec.proofs.FullRank.{full-iff}
+use Rattle.par2_spec.proofs.FoundLaws.{all_by_test}
+use Rattle.par2_spec.proofs.RefusedLaws.{first_cause}
+use Rattle.par2_spec.proofs.SessionLaws.{same_ok}
+use Rattle.par2_spec.proofs.ReadLaws.{came_out}
+use Rattle.par2_spec.proofs.AcceptedCommands.{set_in_reads}
+use Rattle.par2_spec.proofs.ListsLaws.{all-map, all-flat_map}
+use Rattle.par2_spec.proofs.ReportLaws.{by_target, intact_are_found}
+
+-- ---- the exponents of a map rise
+
+below_keys : {X : Type 0} (k : ℕ) (es : List (ℕ × X)) → T (below_all nat_cmp k es) → AllByRecursion (λ y. nat_cmp k y ≡ Less) (map (λ e. e.0) es)
+below_keys k [] h = tt
+below_keys k (e ∷ es) h = let r = T-parts _ _ h in (less (nat_cmp k e.0) r.0, below_keys k es r.1)
+  where
+    less : (o : Ordering) → T (is_lt o) → o ≡ Less
+    less Less t = refl
+    less Equal t = absurd t
+    less Greater t = absurd t
+
+sorted_keys : {X : Type 0} (es : List (ℕ × X)) → T (is_sorted nat_cmp es) → IsStrictlySortedBy nat_cmp (map (λ e. e.0) es)
+unfolding IsStrictlySortedBy
+sorted_keys [] h = tt
+sorted_keys (e ∷ es) h = let r = T-parts _ _ h in (below_keys e.0 es r.0, sorted_keys es r.1)
+
+pub survivors_rise : (set : ParSet) → IsStrictlyIncreasing (survivors set)
+survivors_rise set = IsStrictlyIncreasing-from_sorted (survivors set) (sorted_keys (map_of.entries set.recovery) (entries_sorted set.recovery))
+
+-- ---- complete where no target is needing
+
+abbrev is_nil : {A : Type 0} → List A → Bool
+is_nil [] = true
+is_nil (x ∷ xs) = false
+
+nil-iff : {A : Type 0} (xs : List A) → (is_nil xs ≡ true) ↔ (xs ≡ [])
+nil-iff xs = (to_nil xs, λ e. ap is_nil e)
+  where
+    to_nil : {A : Type 0} (ys : List A) → is_nil ys ≡ true → ys ≡ []
+    to_nil [] h = refl
+    to_nil (y ∷ ys) h = absurd (false≢true h)
+
+needing_is_not_complete : (is_there : Bool) (o : Option (List ℕ)) → is_complete (needing_state is_there o) ≡ false
+needing_is_not_complete is_there (Some name) = refl
+needing_is_not_complete true None = refl
+needing_is_not_complete false None = refl
+
+complete_by_target : (folder : Folder) (set : ParSet) (searched : List (List ℕ)) (ts : List Target)
+    → list_all (λ r. is_complete r.state) (map (λ t. report_of_target folder set searched (t, found_of folder set searched t)) ts) ≡ is_nil (filter (is_needing folder set) ts)
+unfolding report_of_target state_of
+complete_by_target folder set searched [] = refl
+complete_by_target folder set searched (t ∷ ts) = step (is_needing folder set t) (complete_by_target folder set searched ts)
+  where
+    rest : Bool
+    rest = list_all (λ r. is_complete r.state) (map (λ t. report_of_target folder set searched (t, found_of folder set searched t)) ts)
+
+    needs : List Target
+    needs = filter (is_needing folder set) ts
+
+    there : Bool
+    there = has folder t.name
+
+    match : Option (List ℕ)
+    match = match_of (matches folder set searched) t.name
+
+    step : (b : Bool) → rest ≡ is_nil needs → (is_complete (cond b (needing_state there match) reports.Complete) && rest) ≡ is_nil (cond b (t ∷ needs) needs)
+    step true e = ap (λ c. c && rest) (needing_is_not_complete there match)
+    step false e = e
+
+is_all_complete : (folder : Folder) (set : ParSet) (searched : List (List ℕ))
+    → list_all (λ r. is_complete r.state) (report_of folder set searched).targets ≡ is_nil (needing folder set)
+is_all_complete folder set searched = ap (list_all (λ r. is_complete r.state)) (by_target folder set searched) ∙ complete_by_target folder set searched set.targets
+
+-- ---- nothing is lost where no target is needing
+
+none_lost : (n : ℕ) (slices : List (Option (List ℕ))) → AllByRecursion (λ slice. is_some slice ≡ true) slices → filter (λ z. is_none z.1) (enumerate_from n slices) ≡ []
+none_lost n [] h = refl
+none_lost n (None ∷ slices) h = absurd (false≢true h.0)
+none_lost n (Some slice ∷ slices) h = none_lost (n + 1) slices h.1
+
+lost_of_complete : (folder : Folder) (base : List ℕ) (set : ParSet) (extras : List (List ℕ)) → set_of folder base ≡ Ok set → needing folder set ≡ [] → lost (known folder set (candidates folder set extras)) ≡ []
+unfolding known
+lost_of_complete folder base set extras reads none =
+    let searched = candidates folder set extras in
+    let f = found set.slice_size (map (bytes_of folder) searched) in
+    let all = all_by_test (IsFound folder set.slice_size searched) (is_needing folder set) set.targets (intact_are_found folder base set extras reads) (subst (AllByRecursion (IsFound folder set.slice_size searched)) (sym none) tt) in
+    ap (map (λ z. z.0)) (none_lost 0 (map f (all_pairs set)) (all-map (λ pair. is_some (f pair) ≡ true) (λ slice. is_some slice ≡ true) f (λ pair h. h) (all_pairs set)
+    (all-flat_map (IsFound folder set.slice_size searched) (λ pair. is_some (f pair) ≡ true) (λ t. t.pairs) (λ t h. h) set.targets all)))
+
+-- ---- the verdict by its two tests
+
+said : Bool → Bool → Verdict
+said a b = if a then verdict.Complete else if b then verdict.Repairable else verdict.NotRepairable
+
+said-complete : (a b : Bool) → (said a b ≡ verdict.Complete) ↔ (a ≡ true)
+unfolding said
+said-complete true b = (λ e. refl, λ e. refl)
+said-complete false true = (λ e. cc, λ e. absurd (false≢true e))
+said-complete false false = (λ e. cc, λ e. absurd (false≢true e))
+
+said-repairable : (b : Bool) → (said false b ≡ verdict.Repairable) ↔ (b ≡ true)
+unfolding said
+said-repairable true = (λ e. refl, λ e. refl)
+said-repairable false = (λ e. cc, λ e. absurd (false≢true e))
+
+said-not_repairable : (a b : Bool) → (said a b ≡ verdict.NotRepairable) ↔ ((a ≡ false) × (b ≡ false))
+unfolding said
+said-not_repairable true b = (λ e. cc, λ e. absurd (false≢true (sym e.0)))
+said-not_repairable false true = (λ e. cc, λ e. absurd (false≢true (sym e.1)))
+said-not_repairable false false = (λ e. (refl, refl), λ e. refl)
+
+module _ (folder : Folder) (base : List ℕ) (extras : List (List ℕ)) (set : ParSet) (reads : set_in folder base extras ≡ Ok set) where
+  abbrev searched : List (List ℕ)
+  searched = candidates folder set extras
+
+  abbrev missing : List ℕ
+  missing = lost (known folder set searched)
+
+  abbrev is_full : Bool
+  is_full = rank missing (survivors set) == length missing
+
+  verdict_is : verdict_of (report_of folder set searched) ≡ said (is_nil (needing folder set)) is_full
+  unfolding said report_of
+  verdict_is = ap (λ a. said a is_full) (is_all_complete folder set searched)
+
+  repairable_if_full : (is_full ≡ true) ↔ IsRepairable missing (survivors set)
+  repairable_if_full =
+      let law = full-iff missing (survivors set) (survivors_rise set) in
+      (λ e. law.0 (eqb-true _ _ e), λ h. eq-eqb _ _ (law.1 h))
+
+  by_words : IsVerdict folder set searched (verdict_of (report_of folder set searched))
+  by_words = subst (IsVerdict folder set searched) (sym verdict_is) (record {
+    complete = let law = said-complete (is_nil (needing folder set)) is_full in (λ e. (nil-iff _).0 (law.0 e), λ e. law.1 ((nil-iff _).1 e));
+    repairable = λ some.
+        let law = said-repairable is_full in
+        let none : is_nil (needing folder set) ≡ false = false_from_ne_true _ (λ e. some ((nil-iff _).0 e)) in
+        subst (λ a. (said a is_full ≡ verdict.Repairable) ↔ IsRepairable missing (survivors set)) (sym none) (λ e. repairable_if_full.0 (law.0 e), λ h. law.1 (repairable_if_full.1 h));
+  })
+
+  is_unrepairable : is_full ≡ false → is_repairable missing (survivors set) ≡ false
+  is_unrepairable less = false_from_ne_true _ (λ yes. false≢true (sym less ∙ repairable_if_full.1 ((repairable-iff missing (survivors set)).0 yes)))
+
+  is_less : is_repairable missing (survivors set) ≡ false → is_full ≡ false
+  is_less short = false_from_ne_true _ (λ full. false≢true (sym short ∙ (repairable-iff missing (survivors set)).1 (repairable_if_full.0 full)))
+
+  -- where no target is needing, as many exponents are kept as slices are lost: none
+  some_needing : is_full ≡ false → is_nil (needing folder set) ≡ false
+  some_needing less = false_from_ne_true _ (λ none.
+      let nothing : missing ≡ [] = lost_of_complete folder base set extras (set_in_reads folder base extras set reads).0 ((nil-iff _).0 none) in
+      false≢true (sym less ∙ ap (λ xs. rank xs (survivors set) == length xs) nothing ∙ ap (λ n. n == 0) (ap length (none_kept (survivors set)))))
+
+  -- the refusal, by whether the lost slices are determined, whether an aside's name is too long and whether all digests
+  -- are right
+  refusal_by : Bool → Bool → Bool → Option Fault
+  refusal_by determined long right =
+      first_fault (fault_where (not determined) (NotRepairable (length missing) (rank missing (survivors set))) ∷ fault_where long NameTooLong ∷ fault_where (not right) RepairFailed ∷ [])
+
+  abbrev is_long : Bool
+  is_long = list_any (λ name. nat_lt 255 (length (aside folder set name))) (put_aside folder set)
+
+  abbrev are_right : Bool
+  are_right = list_all (λ c. bytes_eq (md5 c.1) c.0.digest) (rebuilt_targets folder set searched)
+
+  refused : (purge : Bool) → refusal folder (Repair base extras purge) ≡ refusal_by (is_repairable missing (survivors set)) is_long are_right
+  unfolding refusal repair_refusal refusal_by
+  refused purge = ap (λ r. then_fault r (λ (set : ParSet). repair_refusal folder set (candidates folder set extras))) reads
+
+  as_refused : RefusedAsReported folder base extras (report_of folder set searched)
+  unfolding report_of refusal_by
+  as_refused purge =
+      let law = said-not_repairable (is_nil (needing folder set)) is_full in (
+        λ e. refused purge ∙ ap (λ b. refusal_by b is_long are_right) (is_unrepairable (law.0 (sym verdict_is ∙ e)).1),
+        λ e. let less = is_less (not-true _ (first_cause _ is_long (not are_right) (length missing) (rank missing (survivors set)) _ _ (sym (refused purge) ∙ e))) in verdict_is ∙ law.1 (some_needing less, less),
+      )
+
+-- ---- of a report
+
+-- what is read is reported
+reported_set : (P : Report → Type 0) (folder : Folder) (base : List ℕ) (extras : List (List ℕ)) (report : Report) → report_in folder base extras ≡ Ok report
+    → ((set : ParSet) → set_in folder base extras ≡ Ok set → P (report_of folder set (candidates folder set extras))) → P report
+unfolding report_in
+reported_set P folder base extras report h holds = step (set_in folder base extras) refl h
+  where
+    value : Result Report Fault → Report
+    value (Ok x) = x
+    value (Err fault) = report
+
+    step : (r : Result ParSet Fault) → set_in folder base extras ≡ r → (r >>= (λ set. Ok (report_of folder set (candidates folder set extras)))) ≡ Ok report → P report
+    step (Ok set) e k = subst P (ap value k) (holds set e)
+    step (Err fault) e k = absurd (false≢true (ap came_out k))
+
+pub verdict_by_words : (folder : Folder) (base : List ℕ) (extras : List (List ℕ)) (report : Report) → report_in folder base extras ≡ Ok report → IsVerdictIn folder base extras (verdict_of report)
+verdict_by_words folder base extras report h =
+    reported_set (λ r. IsVerdictIn folder base extras (verdict_of r)) folder base extras report h (λ set reads other e.
+    subst (λ s. IsVerdict folder s (candidates folder s extras) (verdict_of (report_of folder set (candidates folder set extras)))) (same_ok set other (sym reads ∙ e)) (by_words folder base extras set reads))
+
+pub refused_as_reported : (folder : Folder) (base : List ℕ) (extras : List (List ℕ)) (report : Report) → report_in folder base extras ≡ Ok report → RefusedAsReported folder base extras report
+refused_as_reported folder base extras report h = reported_set (λ r. RefusedAsReported folder base extras r) folder base extras report h (λ set reads. as_refused folder base extras set reads)

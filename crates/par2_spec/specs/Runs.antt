@@ -1,0 +1,17 @@
+-- Exponents that lie close together, and runs of them: they give the rank without the equations.
+use Rattle.std.specs.Prelude.{ℕ, ◌+◌, ◌<◌, List}
+use Rattle.std.specs.List.{AllByRecursion, Contains}
+use Rattle.std.specs.List.Sorted.{IsStrictlyIncreasing}
+
+-- numbers of input slices in order, each of them with a constant
+pub record AreSlices (numbers : List ℕ) : Type 0 where
+  pub rise : IsStrictlyIncreasing numbers
+  pub below : AllByRecursion (λ k. k < 32768) numbers
+
+-- any two of the exponents differ by less than n
+abbrev pub AreClose : ℕ → List ℕ → Type 0
+AreClose n exponents = (e f : ℕ) → Contains exponents e → Contains exponents f → f < e + n
+
+-- the n exponents from f on are among these
+abbrev pub HasRun : ℕ → ℕ → List ℕ → Type 0
+HasRun f n exponents = (i : ℕ) → i < n → Contains exponents (f + i)

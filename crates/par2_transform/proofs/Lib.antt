@@ -1,0 +1,7 @@
+mod Sums
+mod Subspaces
+mod PowerSums
+mod Levels
+mod Chirps
+mod SparedSums
+mod Transforms

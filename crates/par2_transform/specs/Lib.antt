@@ -1,0 +1,6 @@
+pub mod Subspaces
+pub mod PowerSums
+pub mod Evaluations
+pub mod Levels
+pub mod Chirps
+pub mod Transforms

@@ -1,0 +1,5 @@
+//! How recovery slices follow from values of polynomials on subspaces of the field: laws, each the contract of a function
+//! that does nothing. By them a sum over n slices costs some n log n products and not one for each exponent.
+#![tactic(auto)]
+
+pub mod laws;
