@@ -21,28 +21,28 @@ export PREFIX NAME DESTDIR ZSH_FUNCTIONS
 
 # Proves what the program stands on and builds it, unless it was built from the same sources.
 build:
-	sh scripts/build "$(or $(CPU),$(DEFAULT))"
+	sh tools/build.sh "$(or $(CPU),$(DEFAULT))"
 
 demo: build
-	sh scripts/demo "$(CURDIR)/crates/par2/out/par2$(filter-out %-$(DEFAULT),$(CPU:%=-%))"
+	sh tools/demo.sh "$(CURDIR)/crates/par2/out/par2$(filter-out %-$(DEFAULT),$(CPU:%=-%))"
 
 test:
-	sh scripts/test
+	sh tests/run.sh
 
 edits: build
-	python3 scripts/each_change --together
+	python3 checks/wrong_bodies.py --together
 
 bench:
-	sh scripts/bench "$(or $(CPU),$(DEFAULT))"
+	sh bench/run.sh "$(or $(CPU),$(DEFAULT))"
 
 install:
-	sh scripts/install "$(CPU)"
+	sh tools/install.sh "$(CPU)"
 
 uninstall:
-	sh scripts/install --remove
+	sh tools/install.sh --remove
 
 deb:
-	sh scripts/package "$(or $(CPU),$(DEFAULT))" $(if $(filter command,$(firstword $(origin NAME))),"$(NAME)")
+	sh tools/package.sh "$(or $(CPU),$(DEFAULT))" $(if $(filter command,$(firstword $(origin NAME))),"$(NAME)")
 
 pictures:
-	sh scripts/pictures
+	sh tools/pictures.sh

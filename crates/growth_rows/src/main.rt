@@ -1,7 +1,7 @@
 //! Makes the calls of the libraries that can answer out of memory, each on a small input of its own, and prints what
 //! stands before and after it. With the words of one call it makes that one, and without any all of them.
 //!
-//! `scripts/growths` refuses each growth between a line that begins with `>` and the next one. A call that answers out of
+//! `tests/calls_out_of_memory.py` refuses each growth between a line that begins with `>` and the next one. A call that answers out of
 //! memory is made once more.
 #![tactic(auto)]
 

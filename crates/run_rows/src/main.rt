@@ -1,9 +1,9 @@
 //! Carries out the lines of its input and prints what comes of them: words that are read, words that are run on stores
 //! in memory (with the files, their lengths and the journal's length), on stores that fail or want memory at the first
 //! of their calls, at the second, and so on until none is refused, actions on one session, and calls on real folders.
-//! What whole commands answer in any folder is carried out by `scripts/folder_rows`.
+//! What whole commands answer in any folder is carried out by `tests/commands/run.py`.
 //!
-//! `scripts/growths` has it make calls of which it refuses a growth.
+//! `tests/calls_out_of_memory.py` has it make calls of which it refuses a growth.
 //!
 //! Memory is ample but where a store answers otherwise, so the stored output also refuses a `run` that always
 //! answers out of memory. `rt run` builds the program; `rt try` takes minutes and can't go into real folders.

@@ -1,0 +1,148 @@
+#!/bin/sh
+# Whole commands beside par2cmdline on one thread (-t1 -T1), over the same folders: the two take turns, and a line has the
+# least time of three runs of each, in milliseconds, and their ratio. Both programs must end as is said for the scene.
+# usage: against_par2cmdline.sh PROGRAM [TABLE]     TABLE is a file that gets a line for each scene too: ratio, ours, theirs, scene
+set -eu
+program=$1
+table=${2:-}
+. "$(dirname "$0")/timing.sh"
+rounds=3
+
+# line NAME: what the two took.
+line() {
+    ours=$(least ours)
+    theirs=$(least theirs)
+    ratio=$(awk "BEGIN { printf \"%.2f\", $ours / $theirs }")
+    printf '%-66s %6s ms  %6s ms  %s\n' "$1" "$ours" "$theirs" "$ratio"
+    [ -z "$table" ] || printf '%s\t%s\t%s\t%s\n' "$ratio" "$ours" "$theirs" "$1" >> "$table"
+    rm "$room/ours" "$room/theirs"
+}
+
+# verify NAME STATUS THEIRS: verifies `set.par2` in the present folder. Par2cmdline ends with the status THEIRS.
+verify() {
+    for round in $(seq "$rounds"); do
+        timed ours "$2" "$program" verify set.par2
+        timed theirs "$3" par2verify -q -q -t1 -T1 set.par2
+    done
+    line "verify: $1"
+}
+
+# restore FILE..: the files of the present folder are those that `keep` kept, and there is no history.
+restore() {
+    find . -mindepth 1 -delete
+    cp -R "$room/kept/." .
+}
+
+# keep: keeps the files of the present folder, without a history.
+keep() {
+    rm -rf "$room/kept" .par2undo
+    cp -R . "$room/kept"
+}
+
+# repair NAME FILE..: repairs the folder that was kept, by `set.par2` and further files; then takes our repair back and
+# does it again.
+repair() {
+    name=$1
+    shift
+    for round in $(seq "$rounds"); do
+        restore
+        timed theirs 0 par2repair -q -q -t1 -T1 set.par2 "$@"
+        restore
+        timed ours 0 "$program" repair set.par2 "$@"
+        timed undo 0 "$program" undo
+        timed redo 0 "$program" redo
+    done
+    repaired=$(least ours)
+    line "repair: $name"
+    for back in undo redo; do
+        own=$(least "$back")
+        printf '%-66s %6s ms             %s of the repair\n' "  its $back" "$own" \
+            "$(awk "BEGIN { printf \"%.2f\", $own / $repaired }")"
+        rm "$room/$back"
+    done
+}
+
+# create NAME SIZE COUNT FILE..: creates sets of these files in the present folder.
+create() {
+    name=$1
+    size=$2
+    count=$3
+    shift 3
+    for round in $(seq "$rounds"); do
+        rm -f set.*par2 .par2undo
+        timed theirs 0 par2create -q -q -t1 -T1 "-s$size" "-c$count" set.par2 "$@"
+        rm -f set.*par2
+        timed ours 0 "$program" create "-s$size" "-c$count" set.par2 "$@"
+    done
+    line "create: $name"
+}
+
+# folder NAME: an empty one, where what follows goes on.
+folder() {
+    mkdir "$room/$1"
+    cd "$room/$1"
+}
+
+printf '%-66s %6s     %6s     %s\n' "" ours theirs ratio
+folder one
+head -c 67108864 /dev/urandom > data
+create "64 MiB in one file, 100 slices of 64 KiB" 65536 100 data
+verify "an intact file of 64 MiB, slices of 64 KiB" 0 0
+cp data "$room/whole"
+for slice in $(seq 0 20 999); do
+    dd if=/dev/zero of=data bs=65536 seek="$slice" count=1 conv=notrunc status=none
+done
+verify "the same with 50 slices overwritten" 1 1
+keep
+repair "50 of 1,024 slices lost" data
+# What a scene's repairs have put aside is no part of the next one's folder.
+rm -f data*
+cp "$room/whole" moved
+keep
+repair "a file of 64 MiB renamed" moved
+rm -f moved data*
+{
+    printf 'x'
+    cat "$room/whole"
+} > data
+verify "the same with one byte inserted at the front" 1 1
+keep
+repair "one byte inserted at the front of 64 MiB" data
+cd "$room"
+rm -rf one whole
+
+folder small
+head -c 16777216 /dev/urandom > data
+create "16 MiB in one file, 400 slices of 4 KiB" 4096 400 data
+for slice in $(seq 0 13 3890); do
+    dd if=/dev/zero of=data bs=4096 seek="$slice" count=1 conv=notrunc status=none
+done
+keep
+repair "300 of 4,096 slices lost" data
+cd "$room"
+rm -rf small
+
+folder many
+for file in $(seq -w 200); do
+    head -c 327680 /dev/urandom > "data$file"
+done
+create "200 files of 320 KiB, 200 slices of 16 KiB" 16384 200 data*
+verify "200 intact files of 320 KiB, slices of 16 KiB" 0 0
+for file in $(seq -w 1 2 200); do
+    dd if=/dev/zero of="data$file" bs=16384 seek=3 count=1 conv=notrunc status=none
+done
+keep
+repair "100 of 200 files damaged" data*
+cd "$room"
+rm -rf many
+
+folder zeros
+head -c 8388608 /dev/zero > data
+create "8 MiB of zeros, 100 slices of 512" 512 100 data
+verify "8 MiB of zeros, slices of 512" 0 0
+cd "$room"
+rm -rf zeros
+
+folder little
+head -c 4194304 /dev/zero > data
+create "4 MiB of zeros, 20 slices of 4 KiB" 4096 20 data

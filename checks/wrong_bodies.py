@@ -1,0 +1,296 @@
+#!/usr/bin/env python3
+"""Shows of the must-fail edits that each function that they change is refused by a goal of its own. The gate tries an
+edit as a whole, and stops at the first goal that is refused: what no clause refuses any more would go unseen beside it.
+
+usage: wrong_bodies.py [--together] [--anew] [CRATE [EDIT..]]
+       (without CRATE each crate; EDIT: the name of a file in crates/CRATE/must-fail, without .edit; else all of them)
+
+Of an edit, the lines under one comment are a change. A copy of the crate is checked over a copy of what earlier checks
+kept in out/, if anything; where nothing is kept and there is more than one check to do, the crate as it stands is
+checked first.
+
+Together, each edit is checked once, which takes one to five minutes. A line says of each function that the edit changes
+which of its own goals are refused; that it calls a function which is refused shows nothing of itself. A change with a
+name (`NAME: ` begins its comment) is then checked by itself where another one changes the same function. `limit` is told
+of a goal at which the search for a proof has ended at a limit, which is dear. Crates stand side by side, one a processor,
+as many as memory holds (RT_JOBS sets another number). The last line counts, and the status is 1 where a function has no
+such goal. What an edit came to is kept beside the
+toolchain, by a sum of all that it hangs on, for later runs on this machine; --anew takes nothing from there.
+
+Otherwise each change is checked by itself, which takes 10 to 70 seconds: a line says whether it is refused, and by
+which goal. The status is 1 where one is proved.
+"""
+import collections
+import difflib
+import hashlib
+import json
+import os
+import re
+import sys
+import tempfile
+import time
+from concurrent.futures import ThreadPoolExecutor
+
+TOP = os.path.join(os.path.dirname(os.path.abspath(__file__)), "..")
+sys.path.insert(0, f"{TOP}/tools")
+import rt_module  # noqa: E402
+
+# The memory that a check may take.
+EACH = 5_000_000_000
+# A proof file that names what an edit took away, and what cites that proof: it tells nothing of a contract.
+TAKEN_AWAY = re.compile(r"has no field|is not in scope|has no `|was not admitted")
+HEAD = re.compile(r"( *)(?:pub(?:\([^)]*\))? )?(?:const )?fn (\w+)")
+# What begins the comment of a change that has a name.
+NAME = re.compile(r"[a-z]\w*_\w+(?=: )")
+PLACE = re.compile(r"(?:note: )?(?:\./)?(\S+?):(\d+):\d+: (?:error: |it is not proved)")
+
+# What edits came to: what to print, how many functions they change, and how many checks showed a fault.
+Told = collections.namedtuple("Told", "lines functions faults")
+
+
+def toolchain():
+    """Returns the toolchain's command as a module."""
+    module = rt_module.loaded()
+    # (its signals are set by the main thread)
+    module.rtlib.guarded()
+    # What other checkouts on this machine have built of the same libraries is taken from there.
+    module.share_work(False)
+    built = module.rtlib.Crate.is_built
+    # A library without a stamp is one that the gate took from what it keeps.
+    is_gates = lambda it: os.path.isfile(f"{it.rlib}/format") and not os.path.exists(f"{it.folder}/out/rlib/stamp")
+    module.rtlib.Crate.is_built = lambda it: built(it) or is_gates(it)
+    return module
+
+
+def text_of(path):
+    with open(path, encoding="utf-8") as file:
+        return file.read()
+
+
+def changes_of(text):
+    """Returns the changes of an edit, each by what its comment says and as an edit of its own."""
+    changes, path, is_done = [["", ""]], "", False
+    for line in text.splitlines(keepends=True):
+        if line.startswith("#") and is_done:
+            changes.append(["", path])
+        if line.startswith("#"):
+            changes[-1][0] += line.strip("# \n") + " "
+        path = line if line.startswith("file: ") else path
+        is_done = line.startswith("new:") or is_done and not line.startswith("#")
+        changes[-1][1] += line
+    return changes
+
+
+def first_goal(said):
+    """Returns the first line that names what isn't proved."""
+    lines = [it for it in said.splitlines() if re.match(r"(note: )?\S+:\d+:\d+: (error|it is not proved)", it)]
+    return lines[0].removeprefix("note: ")[:160] if lines else "no goal is named"
+
+
+def functions_of(text):
+    """Returns each function of a text: the type and trait of its impl, its name, its first line and its last."""
+    lines, impl, found = text.splitlines(), "", []
+    for at, line in enumerate(lines):
+        if line.startswith("impl"):
+            impl = impl_of(line)
+        if head := HEAD.match(line):
+            end = next((i for i in range(at, len(lines)) if lines[i] == head[1] + "}"), len(lines) - 1)
+            first = next(i for i in range(at, -1, -1) if i == 0 or not lines[i - 1].startswith(head[1] + "#["))
+            found.append((impl if head[1] else "", head[2], first + 1, end + 1))
+    return found
+
+
+def impl_of(line):
+    """Returns the name by which the toolchain calls an impl, as far as its trait's parameters."""
+    names = re.sub(r"<[^<>]*>", "", re.sub(r"<[^<>]*>", "", line)).removeprefix("impl").split("{")[0].split()
+    return names[2] + names[0] if len(names) == 3 else names[0]
+
+
+def changed(old, new):
+    """Returns the functions of the new text that the old one has too, with other lines than in other spaces."""
+    lines = [[it.split() for it in text.splitlines()] for text in (old, new)]
+    lines = [[" ".join(it) for it in part] for part in lines]
+    parts = difflib.SequenceMatcher(None, *lines, autojunk=False).get_opcodes()
+    others = {at + 1 for kind, _, _, first, end in parts if kind != "equal" for at in range(first, max(end, first + 1))}
+    known = {it[:2] for it in functions_of(old)}
+    found = functions_of(new)
+    holder = {at: it for it in found for at in range(it[2], it[3] + 1)}
+    return [it for it in found if it[:2] in known and any(holder.get(at) == it for at in others)]
+
+
+def goals_of(path, function, said):
+    """Returns the goals of a function that are refused, by what the check said."""
+    impl, name, first, last = function
+    # What a method is answered by stands below its type, which may be another file's.
+    place = f"(.*/)?{impl}[^/]*" if impl else re.sub(r"^src|(/lib|/main)?\.rt$", "", path).removeprefix("/")
+    answers = re.compile(rf"proofs/{place + '/' * bool(place)}{name}/")
+    goals = []
+    for line in said.splitlines():
+        at = PLACE.match(line)
+        if at and at[1] == path and first <= int(at[2]) <= last:
+            goals.append("".join(re.findall(r"\(`([^`]*)`\)", line)[-1:]) + " limit" * ("its limits" in line))
+        elif at and answers.match(at[1]) and not TAKEN_AWAY.search(line):
+            goals.append("".join(re.findall(r"error: `([^`]*)`", line)[:1]))
+    return list(dict.fromkeys(filter(None, goals)))
+
+
+def changed_in(crate, texts):
+    """Returns the functions that these texts change, each by its file, its type and its name."""
+    found = {path: changed(text_of(f"{crate.folder}/{path}"), text) for path, text in texts.items()}
+    return {(path, *it[:2]): it for path, functions in found.items() for it in functions}
+
+
+def check(rt, crate, texts, kept):
+    """Checks the crate with these texts in place of its own, once more where it is killed, most likely for memory."""
+    ran = rt.checked(crate, texts, ["--jobs", "1"], kept)
+    return ran if ran.returncode >= 0 else rt.checked(crate, texts, ["--jobs", "1"], kept)
+
+
+def told_of(rt, crate, title, text, kept):
+    """Tells of each function that an edit changes which of its goals are refused."""
+    texts, why = rt.edited(text, crate.folder)
+    if why:
+        return Told([f"{title} cannot be applied: {why}"], 0, 1)
+    begun, functions = time.monotonic(), changed_in(crate, texts)
+    said = check(rt, crate, texts, kept).stdout
+    unread = [it for it in said.splitlines() if rt.unread(it, texts)]
+    if "\nlogic=not-proved" not in said:
+        unread = said.splitlines()[:3]
+    lines = [f"{title}: {time.monotonic() - begun:.0f} s"] + [f"  not tried: {it[:160]}" for it in unread]
+    faults = bool(unread) or not functions
+    for (path, *names), function in functions.items():
+        goals = goals_of(path, function, said)
+        faults += not goals
+        lines.append(f"  {path} {'::'.join(filter(None, names))}: {', '.join(goals) or 'NO GOAL OF ITS OWN'}")
+    return Told(lines, len(functions), int(faults))
+
+
+def in_one_function(rt, crate, text):
+    """Returns the changes of an edit that have a name, and change a function which another of its changes changes too."""
+    changes = changes_of(text)
+    each = [set(changed_in(crate, rt.edited(it, crate.folder)[0] or {})) for _, it in changes]
+    count = collections.Counter(it for names in each for it in names)
+    return [it for it, names in zip(changes, each) if NAME.match(it[0]) and any(count[it] > 1 for it in names)]
+
+
+def told_together(rt, crate, edits, kept):
+    """Tells of a crate's edits, each as a whole, and of changes of one function one by one."""
+    tries, alone = [], []
+    for edit in edits:
+        text, name = text_of(edit), f"{crate.name}/{os.path.basename(edit)}"
+        tries.append((name, text))
+        alone += [(f"{name}, {NAME.match(title)[0]} alone", it) for title, it in in_one_function(rt, crate, text)]
+    if len(tries + alone) > 1 and not os.listdir(kept):
+        check(rt, crate, {}, kept)
+    whole = [told_of(rt, crate, *it, kept) for it in tries]
+    each = [told_of(rt, crate, *it, kept) for it in alone]
+    lines = [line for told in whole + each for line in told.lines]
+    return Told(lines, sum(it.functions for it in whole), sum(it.faults for it in whole + each))
+
+
+def told_alone(rt, crate, edits, kept):
+    """Tells of each change of a crate's edits by itself."""
+    lines, faults = [], 0
+    for title, text in [it for edit in edits for it in changes_of(text_of(edit))]:
+        texts, why = rt.edited(text, crate.folder)
+        ran = None if why else check(rt, crate, texts, kept)
+        if not ran or not ran.returncode:
+            said, faults = f"cannot be applied: {why}" if why else "PROVED", faults + 1
+        elif any(rt.unread(it, texts) for it in ran.stdout.splitlines()):
+            said = "not read"
+        else:
+            said = f"refused: {first_goal(ran.stdout)}"
+        lines += [f"  {title[:90]}", f"    {said}"]
+    return Told([crate.name, *lines], 0, faults)
+
+
+def told(rt, crate, edits, tell):
+    """Tells of a crate's edits, over a copy of what earlier checks of the crate kept."""
+    with tempfile.TemporaryDirectory() as room:
+        rt.adopt(crate, is_alone=False)
+        if os.path.isdir(f"{crate.folder}/out/incremental"):
+            rt.linked(f"{crate.folder}/out/incremental", f"{room}/kept")
+        os.makedirs(f"{room}/kept", exist_ok=True)
+        return tell(rt, crate, edits, f"{room}/kept")
+
+
+class Earlier:
+    """What edits came to in earlier runs on this machine, by a sum of the toolchain, this script, the crate, those
+    below it and its edits."""
+
+    def __init__(self, rt, crates, anew):
+        self.rt, self.kept = rt, rt.Kept(crates, anew)
+
+    def name(self, crate, edits):
+        texts = [text_of(it) for it in [__file__, *edits]]
+        return hashlib.sha256(repr((self.rt.stamp_of(crate, {}), edits, texts)).encode()).hexdigest()
+
+    def told(self, name):
+        found = self.kept.tried(name)
+        return found and Told(*json.loads(found[1]))
+
+    def keep(self, name, crate, told):
+        if not told.faults and all(map(self.kept.is_untouched, [crate, *crate.below()])):
+            self.kept.keep_tried(name, self.rt.REFUSED, json.dumps(told))
+
+
+def edits_of(rt, crate, names):
+    edits = [os.path.relpath(it) for it in rt.edits_of(crate)[0]]
+    return [it for it in edits if not names or os.path.basename(it).removesuffix(".edit") in names]
+
+
+def in_lanes(rt, work, tell):
+    """Tells of each crate's edits, as many crates at a time as there are processors and memory for, the longest
+    first."""
+    lanes = int(os.environ.get("RT_JOBS") or min(rt.processors(), rt.free() // EACH))
+    work = sorted(work, key=lambda it: -it[0].count(rb"\n"))
+    with ThreadPoolExecutor(max(lanes, 1)) as pool:
+        yield from zip(work, pool.map(lambda it: told(rt, *it, tell), work))
+
+
+def tell_all(rt, work, crates, is_anew):
+    """Prints of each crate's edits, together, what they come to, and returns whether nothing is amiss."""
+    earlier, sums, functions, faults = Earlier(rt, crates, is_anew), {}, 0, 0
+    for crate, edits in work:
+        sums[crate.name] = earlier.name(crate, edits)
+        if found := earlier.told(sums[crate.name]):
+            print(*found.lines, f"{crate.name}: an earlier run on this machine came to that", sep="\n")
+            functions += found.functions
+    left = [it for it in work if not earlier.told(sums[it[0].name])]
+    if not built(left):
+        return False
+    for (crate, _), found in in_lanes(rt, left, told_together):
+        print(*found.lines, sep="\n", flush=True)
+        functions, faults = functions + found.functions, faults + found.faults
+        earlier.keep(sums[crate.name], crate, found)
+    whole = f"wrong bodies: {functions} functions of {sum(len(it) for _, it in work)} edits"
+    print(f"{whole}, {f'{faults} FAULTS' if faults else 'each refused by a goal of its own'}")
+    return not faults
+
+
+def built(work):
+    """Builds the libraries below the crates that are to be checked, and returns whether all are built."""
+    return not any(below.build_rlib(["--jobs", "1"], anew=False) for crate, _ in work for below in crate.below())
+
+
+def main(words):
+    flags, names = [it for it in words if it.startswith("--")], [it for it in words if not it.startswith("--")]
+    rt = toolchain()
+    crates = rt.rtlib.crates_below(os.getcwd())
+    asked = [(it, edits_of(rt, it, names[1:])) for it in crates if not names or it.name == names[0]]
+    work = [it for it in asked if it[1]]
+    if not work or set(flags) - {"--together", "--anew"}:
+        print(__doc__)
+        return 2
+    if "--together" in flags:
+        return 0 if tell_all(rt, work, crates, "--anew" in flags) else 1
+    faults = 0
+    for _, found in in_lanes(rt, work, told_alone) if built(work) else ():
+        print(*found.lines, sep="\n", flush=True)
+        faults += found.faults
+    return 1 if faults else 0
+
+
+if __name__ == "__main__":
+    os.chdir(TOP)
+    sys.exit(main(sys.argv[1:]))

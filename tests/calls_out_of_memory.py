@@ -1,0 +1,152 @@
+#!/usr/bin/env python3
+"""Has programs make calls on small inputs, each with its first growth of memory refused, then with its second, and so on
+until none is refused.
+
+A call of a library (`growth_rows`) answers as without a refusal, or that it is out of memory. Then all that it was given
+is as before, and the same call made once more answers as without a refusal. A call of the whole program (`run_rows`) on
+a store in memory is out of memory and leaves the store as before, or fails at a growth of the store itself: then the
+store opens as before or as after.
+"""
+import os
+import re
+import subprocess
+import sys
+import tempfile
+
+ROOT = os.path.join(os.path.dirname(os.path.realpath(__file__)), "..")
+
+# The descriptor on which the allocator tells of growths.
+REACHED = 9
+# What one refused growth never makes fail: of two actions the other is done, and an opening tries a second way.
+NEVER_TOLD = ("Session::play of two", "Session::open", "Session::open halfway")
+
+# The file `a` was cut after a create.
+DAMAGED = "new\nput a abcdefgh\nrun create -s4 -c1 t.par2 a\nput a abcdef\n"
+CREATED = "new\nput a abcdefgh\nrun create -s4 -c1 t.par2 a\n"
+UNDONE = CREATED + "run undo\n"
+FRESH = "new\nput a abcdefgh\n"
+# The calls of an opening over three files, of the halfway journal and of the two changes are eight.
+HALFWAY = DAMAGED + "stop 8 repair t.par2\n"
+OVER_STORES = [
+    (FRESH, "create -s4 -c1 t.par2 a"),
+    (DAMAGED, "repair t.par2"),
+    (DAMAGED, "repair -p t.par2"),
+    (CREATED, "purge t.par2"),
+    (DAMAGED, "verify t.par2"),
+    (CREATED, "undo"),
+    (UNDONE, "redo"),
+]
+OPENED = [FRESH, CREATED, DAMAGED, HALFWAY]
+READ = ["create -s4 -c1 -f2 --overwrite t.par2 a b", "repair -p t.par2 x", "verify t.par2 x y", "undo"]
+
+# What a run and a command on an open session answer where memory is out, and where the store fails.
+MEMORY = ("8", "Session(Plan(Memory))")
+STORE = ("6", "Store")
+
+
+class Programs:
+    """Runs of the built programs, under an allocator that refuses one growth."""
+
+    def __init__(self, room):
+        self.room = room
+        self.shim = os.path.join(room, "refuse.so")
+        kit = os.path.dirname(subprocess.check_output(["rt", "doc"], text=True).strip())
+        build = ["-shared", "-fPIC", "-O2", "-nostdlib", "-o", self.shim, os.path.join(ROOT, "tests/preload/refuse_memory.c")]
+        subprocess.run([os.path.join(kit, "toolchain/bin/clang"), *build], check=True)
+
+    def said(self, name, words, lines="", **variables):
+        """Returns what a program writes. Where growths are shown, they stand there too, each as an exclamation mark."""
+        program = os.path.join(ROOT, "crates", name, "out", name)
+        with open(os.path.join(self.room, "told"), "w+b") as told, open(os.devnull, "wb") as nowhere:
+            os.dup2((told if "SHOWN" in variables else nowhere).fileno(), REACHED)
+            env = {**os.environ, **variables, "LD_PRELOAD": self.shim}
+            how = {"cwd": self.room, "env": env, "input": lines.encode(), "stdout": told, "pass_fds": [REACHED]}
+            ended = subprocess.run([os.path.realpath(program), *words], check=False, **how)
+            told.seek(0)
+            text = told.read().decode()
+        if ended.returncode:
+            sys.exit(f"growths: {name} {words} {lines}: status {ended.returncode}: {text}")
+        return text
+
+    def refused_each(self, name, words, lines=""):
+        """Returns what the program writes, and what it writes with each growth of its call refused in turn."""
+        shown = self.said(name, words, lines, REFUSED="0", SHOWN="yes")
+        # The line of the call, and its growths behind it.
+        call = re.search(r"^!*>.*\n(!*)", shown, re.MULTILINE)
+        earlier = shown[: call.start(1)].count("!")
+        numbers = range(earlier + 1, earlier + len(call[1]) + 1)
+        return shown.replace("!", ""), [self.said(name, words, lines, REFUSED=str(n)) for n in numbers]
+
+
+def library_calls(programs):
+    """Refuses the growths of each call of a library."""
+    told = programs.said("growth_rows", [])
+    calls = [line.split(": ") for line in told.splitlines() if ": " in line and not line.startswith(" ")]
+    growths = 0
+    for words in calls:
+        whole, refused = programs.refused_each("growth_rows", words)
+        before, line, behind = whole.partition(f"> {words[1]}\n")
+        wanting = before + line + "out of memory\n" + before + line + behind
+        wrong = [text for text in refused if text not in (whole, wanting)]
+        is_told = wanting in refused or words[1] in NEVER_TOLD
+        if wrong or not behind.startswith("answered\n") or not refused or not is_told:
+            sys.exit(f"growths of {words[1]}: {whole}\nand with a growth refused {wrong or refused}")
+        growths += len(refused)
+    print(f"growths: {len(calls)} calls of libraries, {growths} growths refused one by one", flush=True)
+
+
+def is_right(text, whole, stood):
+    """Whether this may be said of a call over a store, where a session stood at first as the last line tells."""
+    before, _, answer, after, *_, stands = text.splitlines()
+    if answer in MEMORY:
+        return after == before and stands == stood
+    return text == whole or (answer in STORE and stands in (stood, whole.splitlines()[-1]))
+
+
+def calls_over_stores(programs):
+    """Refuses the growths of runs, and of commands on an open session."""
+    growths, told = 0, set()
+    for files, line in OVER_STORES:
+        stood = programs.said("run_rows", [], files + "grow open_store\n").splitlines()[-2]
+        for call in ("run", "perform"):
+            whole, refused = programs.refused_each("run_rows", [], f"{files}grow {call} {line}\n")
+            wrong = [text for text in refused if not is_right(text, whole, stood)]
+            if wrong or not refused:
+                sys.exit(f"growths of {call} {line}: {whole}\nand with a growth refused {wrong}")
+            growths += len(refused)
+            told.update(text.splitlines()[2] for text in refused)
+    if not told.issuperset(MEMORY + STORE):
+        sys.exit(f"growths of runs: all that was told is {told}")
+    print(f"growths: {2 * len(OVER_STORES)} runs and commands over stores in memory, {growths} refused one by one", flush=True)
+
+
+def calls_made_again(programs):
+    """Refuses the growths of openings and of calls that read words, which are made once more then."""
+    calls = [(files, "open_store") for files in OPENED] + [("", f"read_words {line}") for line in READ]
+    growths = 0
+    for files, call in calls:
+        whole, refused = programs.refused_each("run_rows", [], f"{files}grow {call}\n")
+        before, line, behind = whole.partition(">\n")
+        wanting = before + line + "Memory\n" + before + line + behind
+        failing = before + line + "Store\n", line + behind
+        wrong = [
+            text
+            for text in refused
+            if text not in (whole, wanting) and not (text.startswith(failing[0]) and text.endswith(failing[1]))
+        ]
+        if wrong or wanting not in refused:
+            sys.exit(f"growths of {call}: {whole}\nand with a growth refused {wrong or refused}")
+        growths += len(refused)
+    print(f"growths: {len(calls)} openings and lists of words, {growths} refused one by one", flush=True)
+
+
+def main():
+    with tempfile.TemporaryDirectory() as room:
+        programs = Programs(room)
+        library_calls(programs)
+        calls_made_again(programs)
+        calls_over_stores(programs)
+
+
+if __name__ == "__main__":
+    main()

@@ -1,0 +1,302 @@
+#!/bin/sh
+# What a real folder has beside files. A link, a folder, a pipe or a device stands where the program looks for a file or
+# would put one; a file or the folder can't be read or written; a name is as long as names can be, or longer; a file
+# grows or vanishes while the folder is read. Each run says so, and all stays as it was; and once that is over, the same
+# run ends as if it had never been.
+set -eu
+cd "$(dirname "$0")/.."
+clang=$(dirname "$(rt doc)")/toolchain/bin/clang
+room=$(mktemp -d)
+trap 'chmod -R u+rwx "$room"; rm -rf "$room"' EXIT
+cp crates/par2/out/par2 "$room/par2"
+"$clang" -shared -fPIC -O2 -nostdlib -o "$room/meddle.so" tests/preload/obstruct.c
+chmod 755 "$room" "$room/par2"
+mkdir "$room/outside" "$room/whole" "$room/found"
+printf 'of another folder' > "$room/outside/kept"
+failed='par2: a file could not be read or written'
+rows=0
+
+# par2 WORD..: a run in the folder `here`. What it prints goes to `told`, and its status is kept.
+par2() {
+    status=0
+    (cd "$room/here" && "$room/par2" "$@") > "$room/told" 2>&1 || status=$?
+}
+
+# The same by a user whom the modes of files bind, and to whom the folder belongs.
+bound() {
+    if [ "$(id -u)" -ne 0 ]; then
+        par2 "$@"
+        return
+    fi
+    chown -R 65534:65534 "$room/here"
+    status=0
+    (cd "$room/here" && setpriv --reuid=65534 --regid=65534 --clear-groups "$room/par2" "$@") \
+        > "$room/told" 2>&1 || status=$?
+}
+
+# The same while the variable, which says how, meddles with the folder.
+meddled() {
+    variable=$1
+    shift
+    status=0
+    (cd "$room/here" && env "$variable" WHEN="$when" LD_PRELOAD="$room/meddle.so" "$room/par2" "$@") \
+        > "$room/told" 2>&1 || status=$?
+}
+
+# here FOLDER: a fresh copy of this one.
+here() {
+    rm -rf "$room/here"
+    cp -R "$room/$1" "$room/here"
+}
+
+# What stands in the folder and outside of it: names, kinds and where links lead, and the sums of the files. The
+# journal may be another one, where it is a file.
+stands() {
+    (
+        cd "$room"
+        find here outside ! \( -type f -name '.par2undo*' \) -printf '%p %y %l\n'
+        find here outside -type f ! -name '.par2undo*' -exec cksum {} +
+    ) | LC_ALL=C sort > "$1"
+}
+
+# fail WORD..: says what was tried and what it printed, and ends.
+fail() {
+    echo "places: $*: not as it must be, status $status"
+    cat "$room/told"
+    ls -la "$room/here"
+    exit 1
+}
+
+# is_told NAME STATUS TEXT: whether the last run ended like that.
+is_told() {
+    rows=$((rows + 1))
+    [ "$status" -eq "$2" ] || fail "$1"
+    printf '%s\n' "$3" | cmp -s - "$room/told" || fail "$1"
+}
+
+# is_kept NAME: whether all stands as it stood `before`.
+is_kept() {
+    stands "$room/after"
+    cmp "$room/before" "$room/after" || fail "$1, afterwards"
+}
+
+# same_as_ever NAME WORD..: a run as it would be if nothing had ever stood in its way.
+same_as_ever() {
+    name=$1
+    shift
+    par2 "$@"
+    stands "$room/after"
+    ever=$status
+    mv "$room/told" "$room/told.ever"
+    mv "$room/here" "$room/here.ever"
+    here found
+    par2 "$@"
+    stands "$room/before"
+    [ "$ever" -eq "$status" ] || fail "$name, once it is over: $ever"
+    cmp "$room/told.ever" "$room/told" || fail "$name, once it is over"
+    cmp "$room/before" "$room/after" || fail "$name, once it is over"
+    rm -rf "$room/here.ever"
+}
+
+# The things that are no files. Where this user may make no device, none is tried.
+kinds='link inner dangling folder pipe device'
+if ! mknod "$room/device" c 1 3 2> /dev/null; then
+    kinds='link inner dangling folder pipe'
+fi
+
+# thing KIND PATH: puts such a thing there, in a fresh copy of the folder. A file that has its place waits `aside`.
+thing() {
+    here found
+    rm -f "$room/aside"
+    [ ! -f "$room/here/$2" ] || mv "$room/here/$2" "$room/aside"
+    case $1 in
+        link) ln -s ../outside/kept "$room/here/$2" ;;
+        inner) ln -s aa "$room/here/$2" ;;
+        dangling) ln -s nowhere "$room/here/$2" ;;
+        folder) mkdir "$room/here/$2" && printf 'in the folder' > "$room/here/$2/inner" ;;
+        pipe) mkfifo "$room/here/$2" ;;
+        device) mknod "$room/here/$2" c 1 3 ;;
+    esac
+    stands "$room/before"
+}
+
+# in_place PATH WORD..: each thing in turn in the way of a run. What the run leaves halfway, the next one takes back.
+in_place() {
+    path=$1
+    shift
+    for kind in $kinds; do
+        thing "$kind" "$path"
+        par2 "$@"
+        is_told "a $kind at $path, $*" 6 "$failed"
+        par2 verify none.par2
+        is_kept "a $kind at $path, $*"
+        rm -r "$room/here/$path"
+        [ ! -f "$room/aside" ] || mv "$room/aside" "$room/here/$path"
+        same_as_ever "a $kind at $path, $*" "$@"
+    done
+}
+
+# passed_by PATH STATUS TEXT WORD..: each thing in turn where a run looks and writes nothing.
+passed_by() {
+    path=$1
+    wanted=$2
+    text=$3
+    shift 3
+    for kind in $kinds; do
+        thing "$kind" "$path"
+        par2 "$@"
+        is_told "a $kind at $path, $*" "$wanted" "$text"
+        is_kept "a $kind at $path, $*"
+    done
+}
+
+# without_mode NAME MODE PATH WORD..: a run that may not do what the mode forbids.
+without_mode() {
+    name=$1
+    mode=$2
+    path=$3
+    shift 3
+    here found
+    kept=$(stat -c %a "$room/here/$path")
+    stands "$room/before"
+    chmod "$mode" "$room/here/$path"
+    bound "$@"
+    is_told "$name, $*" 6 "$failed"
+    chmod "$kept" "$room/here/$path"
+    is_kept "$name, $*"
+    same_as_ever "$name, $*" "$@"
+}
+
+# ---- without a set
+printf 'abcdefgh' > "$room/whole/aa"
+printf 'ijklmnopqrst' > "$room/whole/bb"
+cp "$room"/whole/* "$room/found"
+in_place t.par2 create -s4 -c5 t.par2 aa bb
+in_place t.par2 create -s4 -c5 --overwrite t.par2 aa bb
+in_place t.vol00001+00002.par2 create -s4 -c5 t.par2 aa bb
+in_place .par2undo create -s4 -c5 t.par2 aa bb
+in_place .par2undo.tmp create -s4 -c5 t.par2 aa bb
+in_place .par2undo undo
+passed_by cc 3 'par2: no such file: cc' create -s4 -c5 t.par2 aa cc
+passed_by t.par2 3 'par2: no such file: t.par2' verify t.par2
+without_mode "a file that can't be read" 000 aa create -s4 -c5 t.par2 aa bb
+without_mode "another file that can't be read" 000 bb create -s4 -c5 t.par2 aa
+without_mode "a folder that can't be written" 555 . create -s4 -c5 t.par2 aa bb
+without_mode "a folder that can't be listed" 311 . create -s4 -c5 t.par2 aa bb
+
+# ---- with a set
+here found
+par2 create -s4 -c5 t.par2 aa bb
+is_told "a create" 0 "$(printf 'write %s\n' t.par2 t.vol00000+00001.par2 t.vol00001+00002.par2 t.vol00003+00002.par2
+    echo 'done: 4')"
+rm -rf "$room/found"
+mv "$room/here" "$room/found"
+set_id=$(cd "$room/found" && "$room/par2" verify t.par2 | head -n 1)
+# Targets stand in the order of their File IDs.
+complete=$(printf '%s\n' "$set_id" 'complete bb' 'complete aa' 'result: complete')
+missing=$(printf '%s\n' "$set_id" 'complete bb' 'missing aa 0/2' 'result: repairable, lost 2, rank 2')
+in_place .par2undo verify t.par2
+in_place .par2undo.tmp undo
+passed_by .par2undo.tmp 0 "$complete" verify t.par2
+passed_by t.par2.1 0 "$complete" verify t.par2
+without_mode "a journal that can't be read" 000 .par2undo undo
+without_mode "a journal that can't be read" 000 .par2undo verify t.par2
+without_mode "a volume that can't be read" 000 t.vol00000+00001.par2 verify t.par2
+without_mode "a folder that can't be written" 555 . undo
+
+# A target is gone. What another hand changes is the begin of a new history.
+rm "$room/found/aa" "$room/found/.par2undo"
+passed_by aa 1 "$missing" verify t.par2
+in_place aa repair t.par2
+without_mode "a folder that can't be written" 555 . repair t.par2
+
+# It has another name.
+printf 'abcdefgh' > "$room/found/cc"
+in_place aa repair t.par2 cc
+rm "$room/found/cc"
+
+# It is damaged.
+printf 'abcdxfgh' > "$room/found/aa"
+in_place aa.1 repair t.par2
+in_place .par2undo.tmp repair t.par2
+printf 'abcdefgh' > "$room/found/aa"
+
+# Its volumes were purged.
+(cd "$room/found" && "$room/par2" purge t.par2) > /dev/null
+in_place t.par2 undo
+in_place t.vol00001+00002.par2 undo
+
+# Their create was undone.
+rm -rf "$room/found"
+cp -R "$room/whole" "$room/found"
+(cd "$room/found" && "$room/par2" create -s4 -c5 t.par2 aa bb && "$room/par2" undo) > /dev/null
+in_place t.par2 redo
+in_place t.vol00001+00002.par2 redo
+(cd "$room/found" && "$room/par2" redo) > /dev/null
+rm "$room/found/.par2undo"
+
+# ---- while the folder is read
+for when in listed opened; do
+    here found
+    rm "$room/here/bb"
+    stands "$room/before"
+    printf 'ijklmnopqrst' > "$room/here/bb"
+    meddled VANISHES=bb verify t.par2
+    is_told "a file that vanishes when it is $when" 6 "$failed"
+    is_kept "a file that vanishes when it is $when"
+    printf 'ijklmnopqrst' > "$room/here/bb"
+    meddled VANISHES=bb create -s4 -c5 u.par2 aa bb
+    is_told "a file that vanishes when it is $when, a create" 6 "$failed"
+    is_kept "a file that vanishes when it is $when, a create"
+
+    # What it has grown to counts: a repair puts that aside.
+    here found
+    meddled GROWS=bb repair t.par2
+    is_told "a file that grows when it is $when" 0 "$(printf '%s\n' 'rename bb to bb.1' 'write bb' 'done: 2')"
+    [ "$(cat "$room/here/bb")" = ijklmnopqrst ] || fail "a file that grows when it is $when"
+    [ "$(cat "$room/here/bb.1")" = ijklmnopqrst+ ] || fail "a file that grows when it is $when"
+done
+when=never
+for words in 'verify t.par2' 'create -s4 -c5 u.par2 aa' undo; do
+    here found
+    stands "$room/before"
+    # shellcheck disable=SC2086
+    meddled LONG=aa $words
+    is_told "a name of more bytes than names have, $words" 6 "$failed"
+    is_kept "a name of more bytes than names have, $words"
+done
+
+# ---- a name of as many bytes as names have
+long=$(printf '%0255d' 0)
+here whole
+mv "$room/here/bb" "$room/here/$long"
+rm -rf "$room/found"
+cp -R "$room/here" "$room/found"
+par2 create -s4 -c3 t.par2 aa "$long"
+[ "$status" -eq 0 ] || fail "a file with the longest name, a create"
+stands "$room/before"
+rm "$room/here/$long"
+par2 repair t.par2
+is_told "a file with the longest name, a repair" 0 \
+    "$(printf '%s\n' 'note: history dropped' "write $long" 'done: 1')"
+is_kept "a file with the longest name, a repair"
+printf 'ijklmnopqrsT' > "$room/here/$long"
+stands "$room/before"
+par2 repair t.par2
+is_told "a damaged file with the longest name" 3 'par2: a file name would be longer than 255 bytes'
+is_kept "a damaged file with the longest name"
+here found
+stands "$room/before"
+par2 create -s4 -c1 "$(printf '%0250d' 0).par2" aa
+is_told "a base with the longest name" 3 'par2: a file name would be longer than 255 bytes'
+is_kept "a base with the longest name"
+
+# ---- names that are kept for the history
+here found
+printf 'of the user' > "$room/here/.par2undo.old"
+mkdir "$room/here/.par2undo.d"
+par2 create -s4 -c1 t.par2 aa
+[ "$status" -eq 0 ] || fail "names that are kept for the history"
+[ "$(cat "$room/here/.par2undo.old")" = 'of the user' ] || fail "names that are kept for the history"
+
+echo "places: $rows runs, each told as it must be, and nothing was lost"

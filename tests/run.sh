@@ -1,0 +1,51 @@
+#!/bin/sh
+# The whole test command: the gate, then what else must hold. The last line is 'N passed, M failed'.
+set -eu
+cd "$(dirname "$0")/.."
+sh checks/memory_faults.sh
+python3 checks/duplicate_lemmas.py
+log=$(mktemp)
+trap 'rm -f "$log"' EXIT
+
+# Each check takes one processor, and there are as many at a time as processors, and as memory holds at 5 GB each: a
+# check that several processors share takes more of them together.
+room=$(awk '/^MemAvailable/ { print int($2 / 5000000) }' /proc/meminfo)
+lanes=$(nproc)
+[ "$lanes" -le "$room" ] || lanes=$room
+[ "$lanes" -ge 1 ] || lanes=1
+
+status=0
+RT_JOBS=$lanes rt ci > "$log" 2>&1 || status=$?
+if [ "$status" -ne 0 ]; then
+    cat "$log"
+    exit "$status"
+fi
+sed '$d' "$log"
+# The gate has left the programs that it built, so `make demo` and `make install` need not build again.
+sh tools/sources.sh > crates/par2/out/par2.sources
+# The gate has tried each edit as a whole, and stops at the first goal that is refused.
+RT_JOBS=$lanes python3 checks/wrong_bodies.py --together
+# What follows needs one processor at a time, so the rows for wider lanes are built and run beside it.
+wide=$(mktemp)
+trap 'rm -f "$log" "$wide"' EXIT
+python3 tests/avx2.py > "$wide" 2>&1 &
+rows=$!
+sh tests/odd_folders.sh
+python3 tests/commands/run.py
+# The same over the program as the toolchain's own compiler makes it, where it does.
+[ ! -x crates/par2/out/par2.by-rattle ] || python3 tests/commands/run.py crates/par2/out/par2.by-rattle
+python3 tests/out_of_memory.py
+python3 tests/calls_out_of_memory.py
+python3 tests/forged_claims.py
+sh tests/obstacles.sh
+sh tests/stops.sh
+sh tests/interop.sh
+sh tests/installed.sh
+wait "$rows" || status=$?
+cat "$wide"
+[ "$status" -eq 0 ]
+# That program is left for `make install` too.
+[ ! -x crates/par2/out/par2-x86-64-v3 ] || cp crates/par2/out/par2.sources crates/par2/out/par2-x86-64-v3.sources
+# The gate's own count stands last, and there is one.
+tail -n 1 "$log"
+tail -n 1 "$log" | grep -qE '^[0-9]+ passed, 0 failed$'

@@ -1,0 +1,235 @@
+#!/usr/bin/env python3
+"""Proves a program of crates.txt with the libraries below it and builds it, as soon as the processors allow.
+
+usage: prove.py PROGRAM CPU TO     CPU is a level of x86-64, and TO the file that becomes the program
+
+It does what the gate (`rt ci`) does with these crates alone, on a copy of their files without must-fail edits: each is
+proved from nothing, a crate above a library reads its statements alone, the program is built and run, and what passes
+is kept for later runs on this machine, of the gate too. What an earlier run kept is taken. With PROVE_ANEW=1 nothing is
+taken and nothing is kept, which is how to measure.
+
+The gate's own order fits many proofs, tests and edits; here one chain of libraries decides when the program is there.
+So this loads the command rt as a module and has it use another order (`in_lanes`): a crate on the longest chain, or on
+one that is nearly as long, has up to four processes, the others have one, and where both want a processor the chain
+comes first (nice). RT_JOBS says how many processors there are to use. A line of progress says which crate was proved,
+how many are left, and about how long they take, by tools/seconds.txt and by how fast this run has been so far.
+"""
+import contextlib
+import os
+import re
+import shutil
+import sys
+import tempfile
+import threading
+import time
+
+import rt_module
+
+DEFAULT = "x86-64-v2"
+# The most processes that share a proof, what sharing costs, and the part of a proof that can't be shared.
+SHARERS, SHARING, ALONE = 4, 1.1, 0.3
+# A chain of this part of the longest is as urgent, and what isn't urgent is as nice as this.
+NEARLY, NICE = 0.9, 5
+TOP = os.path.join(os.path.dirname(os.path.realpath(__file__)), "..")
+
+
+def seconds_of_crates():
+    """Returns the seconds of each crate that tools/seconds.txt names."""
+    with open(f"{TOP}/tools/seconds.txt") as lines:
+        rows = [line.split("#")[0].split() for line in lines]
+    return {row[0]: int(row[1]) for row in rows if row}
+
+
+def lines_of_crates():
+    """Returns the line of crates.txt for each crate, and the repository's libraries that it names."""
+    with open(f"{TOP}/crates.txt") as file:
+        lines = [line.split("#")[0].strip() for line in file]
+    lines = {line.split(":")[0].split()[0]: line for line in lines if line}
+    return lines, {name: [it for it in line.partition(":")[2].split() if it in lines] for name, line in lines.items()}
+
+
+def wanted(program, below):
+    """Returns the program and each library that it reaches, lowest first."""
+    found = []
+    for name in below[program]:
+        found += [it for it in wanted(name, below) if it not in found]
+    return [*found, program]
+
+
+def copied(program, to):
+    """Makes a repository of the program and the libraries below it, and returns their names."""
+    lines, below = lines_of_crates()
+    if program not in lines:
+        sys.exit(f"crates.txt names no crate {program}")
+    names = wanted(program, below)
+    for name in names:
+        leave = lambda folder, found, at=f"{TOP}/crates/{name}": {"out", "must-fail"} & {*found} if folder == at else ()
+        shutil.copytree(f"{TOP}/crates/{name}", f"{to}/crates/{name}", symlinks=True, ignore=leave)
+    shutil.copy(f"{TOP}/HANDLES", to)
+    with open(f"{to}/crates.txt", "w") as file:
+        file.write("".join(f"{lines[it]}\n" for it in names))
+    # (the top of a repository)
+    os.mkdir(f"{to}/.git")
+    return names
+
+
+class Clock:
+    """What is left to prove, by the seconds of each crate and by how fast the run has been."""
+
+    def __init__(self, names, below, processors):
+        known = seconds_of_crates()
+        self.seconds = {it: known.get(it, 30) for it in names}
+        self.below, self.processors = below, processors
+        self.left, self.begun, self.start, self.planned = {*names}, {}, time.time(), 0
+        self.planned = self.least()
+
+    def chains(self):
+        """Returns for each crate the seconds of the longest chain of crates that waits for it, its own included."""
+        chains = dict(self.seconds)
+        for name in reversed([*self.seconds]):
+            for it in self.below[name]:
+                chains[it] = max(chains[it], self.seconds[it] + chains[name])
+        return chains
+
+    def least(self):
+        """Returns the least seconds by the table until nothing is left: those of the work or of the longest chain."""
+        sharers = min(SHARERS, self.processors)
+        pace = ALONE + (1 - ALONE) * SHARING / sharers if sharers > 1 else 1
+        still, chains = {}, {}
+        for name in self.seconds:
+            done = (time.time() - self.begun[name]) / pace if name in self.begun else 0
+            still[name] = max(self.seconds[name] - done, 0) if name in self.left else 0
+            chains[name] = still[name] + max((chains[it] for it in self.below[name]), default=0)
+        return max(sum(still.values()) / self.processors, pace * max(chains.values()))
+
+    def ends(self, name):
+        self.left.discard(name)
+
+    def words(self):
+        """Says how many crates are left and about how long they take."""
+        least, spent = self.least(), time.time() - self.start
+        slower = spent / max(self.planned - least, 1) if spent > 20 else 1
+        minutes = least * min(max(slower, 0.2), 5) / 60
+        about = "less than a minute" if minutes < 1 else f"about {minutes:.0f} minute{'s' * (minutes >= 1.5)}"
+        return f"{len(self.left)} left, {about}"
+
+
+def in_lanes(clock, memory, say):
+    """Returns what takes the place of rt's function of this name, which runs tasks side by side: a task is the tasks that
+    it waits for, its work in lines, its memory, and a call that gets what the others gave and how many jobs it may use."""
+    chains = clock.chains()
+
+    def lanes(tasks):
+        given, running, turn = {}, {}, threading.Condition()
+
+        def work(key, jobs, is_first):
+            with contextlib.suppress(OSError):
+                os.setpriority(os.PRIO_PROCESS, threading.get_native_id(), 0 if is_first else NICE)
+            result = False
+            try:
+                result = tasks[key][3](dict(given), jobs)
+            finally:
+                with turn:
+                    given[key] = result
+                    del running[key]
+                    if key[1] == "proof":
+                        clock.ends(key[0])
+                        rest = f"; {clock.words()}" if clock.left else ""
+                        say(f"  {key[0]} is {'' if result else 'NOT '}proved{rest}")
+                    turn.notify_all()
+
+        def next_one():
+            """Returns a task that can begin, and how many jobs it gets, or None."""
+            waiting = [it for it in tasks if it not in given and it not in running]
+            ready = [it for it in waiting if all(below in given for below in tasks[it][0])]
+            ready.sort(key=lambda it: (it[1] == "proof", -chains[it[0]]))
+            proofs = [it for it in running if it[1] == "proof"]
+            longest = max([chains[it[0]] for it in [*ready, *running]], default=0)
+            room = memory - sum(running.values())
+            for key in ready:
+                if key[1] != "proof":
+                    return key, 1, False
+                is_first = chains[key[0]] >= NEARLY * longest
+                jobs = min(SHARERS, clock.processors) if is_first else 1
+                while jobs > 1 and tasks[key][2] * (1 + 0.6 * (jobs - 1)) > room:
+                    jobs -= 1
+                # (the chain's proof and one for each processor, where the chain's waits for its own processes)
+                if not proofs or (len(proofs) < clock.processors and tasks[key][2] <= room):
+                    return key, jobs, is_first
+                break
+            return None
+
+        with turn:
+            while len(given) < len(tasks):
+                begins = next_one()
+                if not begins:
+                    turn.wait()
+                    continue
+                key, jobs, is_first = begins
+                running[key] = tasks[key][2] * (1 + 0.6 * (jobs - 1)) if key[1] == "proof" else 0
+                if key[1] == "proof":
+                    clock.begun[key[0]] = time.time()
+                threading.Thread(target=work, args=(key, jobs, is_first), daemon=True).start()
+        return given
+
+    return lanes
+
+
+def for_processor(rt, cpu):
+    """Has rt build the program for the processor."""
+    crates_of = rt.crates_of
+
+    def crates(root):
+        found = crates_of(root)
+        for it in found:
+            if it.is_program and cpu != DEFAULT:
+                it.said = {**it.said, "cpu": cpu}
+        return found
+
+    rt.crates_of = crates
+
+
+def what_failed(log):
+    """Returns what the gate printed of the crates that are not proved, and its own lines."""
+    parts = re.split(r"(?m)^(?=== )", log)
+    kept = [part if "NOT PROVED" in part else "" for part in parts[1:]]
+    own = [line for line in log.split("\n") if line.startswith("rt: ") and not line.endswith(" proved")]
+    return "".join(kept) + "\n".join(own)
+
+
+def main(program, cpu, to):
+    rt = rt_module.loaded()
+    number = os.environ.get("RT_JOBS", "")
+    processors = int(number) if number.isdigit() and int(number) else rt.processors()
+    anew = os.environ.get("PROVE_ANEW") == "1"
+    shown = sys.stdout
+    say = lambda text: print(text, file=shown, flush=True)
+    with tempfile.TemporaryDirectory(prefix="par2-build-") as room:
+        names = copied(program, f"{room}/repo")
+        clock = Clock(names, lines_of_crates()[1], processors)
+        rt.in_lanes = in_lanes(clock, 0.85 * rt.free(), say)
+        for_processor(rt, cpu)
+        if anew:
+            rt.STORE = f"{room}/kept"
+        os.chdir(f"{room}/repo")
+        say(f"{clock.words()}, on {processors} processor{'s' * (processors > 1)}".replace(" left", " crates", 1))
+        with open(f"{room}/log", "w") as log, contextlib.redirect_stdout(log), contextlib.redirect_stderr(log):
+            status = rt.main(["ci"])
+        os.chdir(TOP)
+        if status:
+            with open(f"{room}/log", errors="replace") as log:
+                say(what_failed(log.read()))
+            return 1
+        os.makedirs(os.path.dirname(os.path.abspath(to)), exist_ok=True)
+        shutil.copy(f"{room}/repo/crates/{program}/out/{program}", f"{to}.new")
+        os.replace(f"{to}.new", to)
+    return 0
+
+
+if __name__ == "__main__":
+    if len(sys.argv) != 4:
+        sys.exit("usage: prove.py PROGRAM CPU TO")
+    try:
+        sys.exit(main(*sys.argv[1:]))
+    except KeyboardInterrupt:
+        sys.exit(130)
