@@ -64,7 +64,7 @@ impl Session {
     ghost use Rattle.par2_folder.specs.Views.{change_of};
     ghost use Rattle.par2_journal.specs.Ahead.{next_changes};
     ghost use Rattle.par2_journal.specs.Opening.{session_at};
-    ghost use Rattle.par2_journal.specs.Ready.{Fits, IsReady, changes_by_kind, after_commit, next_of};
+    ghost use Rattle.par2_journal.specs.Ready.{Fits, IsReady, changes_by_kind, after_commit, journals_for, next_of};
     ghost use Rattle.par2_journal.specs.Spelling.{AreSpelled};
 
     /// The session on this folder, without a history.
@@ -283,6 +283,8 @@ impl Session {
         requires { Fits prepared.old self.old }
         ensures unchanged { self.new ≡ self.old }
         ensures prepared { prepared.new ≡ prepared.old }
+        ensures spelled { IfOk result
+            (λ journals. AreSpelled journals (journals_for prepared.old.kind self.old)) }
         ensures journals { let changes = changes_by_kind prepared.old.kind self.old in
             IfOk result (λ journals. (action : Asked) (before : KeptSession)
             → OnlyGrew before self.old → IsReady action before prepared.old self.old
