@@ -36,8 +36,8 @@ fn folder_of(alloc: Global, store: &mut MemoryStore) -> Result<Folder, ReadFault
     read_folder(alloc, store)
 }
 
-fn names_in(alloc: Global, folder: &Folder) -> Result<Vec<Name>, AllocError> {
-    folder.names(alloc)
+fn names_in(folder: &Folder) -> Result<Vec<Name>, AllocError> {
+    folder.names()
 }
 
 fn is_there(folder: &Folder, name: &Name) -> bool {
@@ -52,8 +52,8 @@ fn reserve(folder: &mut Folder) -> Result<(), AllocError> {
     folder.reserve(1)
 }
 
-fn first_of_fingerprint(alloc: Global, folder: &Folder) -> Result<u8, AllocError> {
-    Ok(folder.fingerprint(alloc)?[0])
+fn first_of_fingerprint(folder: &Folder) -> Result<u8, AllocError> {
+    Ok(folder.fingerprint()?[0])
 }
 
 fn bytes_on_disk(rt: &HostRuntime, name: &Name) -> Result<Vec<u8>, ReadFault> {
@@ -139,7 +139,7 @@ fn measure_names(rt: &HostRuntime, count: usize) -> Result<()> {
     println!(rt; "{count} names")?;
     let mut store = measure_put(rt, count)?;
     let mut folder = measure_read(rt, &mut store, count)?;
-    let names = names_in(rt.alloc(), &folder)?;
+    let names = names_in(&folder)?;
     look_up_and_change(rt, &mut folder, &names)
 }
 
@@ -156,7 +156,7 @@ fn folder_with(alloc: Global, bytes: Vec<u8>) -> Result<Folder> {
 
 fn measure_fingerprint(rt: &HostRuntime, folder: &Folder) -> io::Result<()> {
     let start = start(rt)?;
-    let first = first_of_fingerprint(rt.alloc(), folder)?;
+    let first = first_of_fingerprint(folder)?;
     let rate = megabytes_a_second(SIZE, nanos_since(rt, start)?);
     println!(rt; "fingerprint: {rate} MB/s (first byte {first})")
 }

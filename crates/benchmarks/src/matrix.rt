@@ -36,19 +36,13 @@ fn coefficients(
 }
 
 // takes an equation in, and keeps the size of the system alone
-fn offer(
-    alloc: Global,
-    gf: &Gf,
-    system: &mut System,
-    row: &[u16],
-    right: Vec<u8>,
-) -> Result<(), AllocError>
+fn offer(gf: &Gf, system: &mut System, row: &[u16], right: Vec<u8>) -> Result<(), AllocError>
     requires row { length row.now ≡ system.old.columns }
     requires right { length right.items ≡ system.old.bytes }
     ensures columns { system.new.columns ≡ system.old.columns }
     ensures bytes { system.new.bytes ≡ system.old.bytes }
 {
-    let _offer = system.offer(alloc, gf, row, right)?;
+    let _offer = system.offer(gf, row, right)?;
     Ok(())
 }
 
@@ -72,7 +66,7 @@ fn offer_nanos(
     let row = coefficients(rt.alloc(), gf, columns, exponent)?;
     let right = random_bytes(rt.alloc(), BYTES, u64::from(exponent))?;
     let start = start(rt)?;
-    offer(rt.alloc(), gf, system, &row, right)?;
+    offer(gf, system, &row, right)?;
     nanos_since(rt, start)
 }
 

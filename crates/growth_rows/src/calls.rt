@@ -41,43 +41,35 @@ pub fn folder_in(alloc: Global, store: &mut MemoryStore) -> Result<Folder, ReadF
     read_folder(alloc, store)
 }
 
-pub fn create(session: &mut Session, alloc: Global, args: &CreateArgs) -> Result<Steps, Fault> {
-    session.create(alloc, args)
+pub fn create(session: &mut Session, args: &CreateArgs) -> Result<Steps, Fault> {
+    session.create(args)
 }
 
 /// Repairs by `t.par2` alone.
-pub fn repair(session: &mut Session, alloc: Global, purge: bool) -> Result<Steps, Fault> {
-    session.repair(alloc, "t.par2", &[], purge)
+pub fn repair(session: &mut Session, purge: bool) -> Result<Steps, Fault> {
+    session.repair("t.par2", &[], purge)
 }
 
 /// Purges the set of `u.par2`, which is complete.
-pub fn purge(session: &mut Session, alloc: Global) -> Result<Steps, Fault> {
-    session.purge(alloc, "u.par2")
+pub fn purge(session: &mut Session) -> Result<Steps, Fault> {
+    session.purge("u.par2")
 }
 
-pub fn verify(session: &Session, alloc: Global) -> Result<Report, Fault> {
-    session.verify(alloc, "t.par2", &[])
+pub fn verify(session: &Session) -> Result<Report, Fault> {
+    session.verify("t.par2", &[])
 }
 
-pub fn prepare(
-    session: &mut Session,
-    alloc: Global,
-    action: &Action,
-) -> Result<Prepared, SessionFault>
+pub fn prepare(session: &mut Session, action: &Action) -> Result<Prepared, SessionFault>
     ensures { IfOk result (λ prepared. Fits prepared session.new) }
 {
-    session.prepare(alloc, action)
+    session.prepare(action)
 }
 
-pub fn journals_of(
-    session: &mut Session,
-    alloc: Global,
-    prepared: &mut Prepared,
-) -> Result<Journals, AllocError>
+pub fn journals_of(session: &mut Session, prepared: &mut Prepared) -> Result<Journals, AllocError>
     requires { Fits prepared.old session.old }
     ensures { Fits prepared.new session.new }
 {
-    session.journals(alloc, prepared)
+    session.journals(prepared)
 }
 
 /// How many steps were done.
@@ -88,18 +80,18 @@ pub fn commit(session: &mut Session, prepared: Prepared) -> usize
 }
 
 /// How many of the actions were done.
-pub fn play(session: &mut Session, alloc: Global, actions: &[Action]) -> usize {
-    session.play(alloc, actions)
+pub fn play(session: &mut Session, actions: &[Action]) -> usize {
+    session.play(actions)
 }
 
-pub fn encode(session: &Session, alloc: Global) -> Result<Vec<u8>, AllocError> {
-    session.encode(alloc)
+pub fn encode(session: &Session) -> Result<Vec<u8>, AllocError> {
+    session.encode()
 }
 
 pub fn open(alloc: Global, folder: Folder, text: &[u8]) -> Result<Opened, (JournalFault, Folder)> {
     Session::open(alloc, folder, text)
 }
 
-pub fn settled(halfway: &Halfway, alloc: Global) -> Result<Vec<u8>, AllocError> {
-    halfway.settled(alloc)
+pub fn settled(halfway: &Halfway) -> Result<Vec<u8>, AllocError> {
+    halfway.settled()
 }

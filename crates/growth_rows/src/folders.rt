@@ -66,10 +66,10 @@ impl Folders {
     }
 
     // Calls of a folder.
-    fn look(&mut self, alloc: Global, name: &str) -> Result<(), Refusal> {
+    fn look(&mut self, name: &str) -> Result<(), Refusal> {
         match name {
-            "Folder::names" => self.names = self.folder.names(alloc)?,
-            "Folder::fingerprint" => self.print = self.folder.fingerprint(alloc)?,
+            "Folder::names" => self.names = self.folder.names()?,
+            "Folder::fingerprint" => self.print = self.folder.fingerprint()?,
             _ => {
                 self.folder.reserve(100)?;
                 self.number = usize::from(self.folder.vacant() >= 100);
@@ -119,7 +119,7 @@ impl Folders {
 impl Scene for Folders {
     fn call(&mut self, alloc: Global, name: &str) -> Result<(), Refusal> {
         match name {
-            "Folder::names" | "Folder::fingerprint" | "Folder::reserve" => self.look(alloc, name),
+            "Folder::names" | "Folder::fingerprint" | "Folder::reserve" => self.look(name),
             "MemoryStore::put" | "MemoryStore::put_journal" => self.write(name),
             "plan_create" | "plan_repair" | "plan_purge" => self.plan(alloc, name),
             "check" => self.check(alloc),

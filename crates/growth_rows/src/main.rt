@@ -30,6 +30,7 @@ const CALLS: &[(&str, &[&str])] = &[
         &[
             "Gf::new",
             "Wanted::new",
+            "find",
             "find_among",
             "Rolling::new",
             "pairs_of",
@@ -37,8 +38,10 @@ const CALLS: &[(&str, &[&str])] = &[
             "append_desc",
             "append_ifsc",
             "append_creator",
+            "append_recovery",
             "append_recoveries",
             "file_records",
+            "SetRecord::of_files",
             "recovery_slice",
             "recovery_slices",
             "recovery_slices_over",

@@ -36,10 +36,10 @@ fn folder_with_a(alloc: Global) -> Result<Folder, AllocError> {
 // The journal once a create was done and taken back.
 fn journal_of(alloc: Global) -> Result<Vec<u8>> {
     let mut session = Session::new(alloc, folder_with_a(alloc)?);
-    if create(&mut session, alloc, &args_of(alloc, "t.par2")?).is_err() || session.undo().is_err() {
+    if create(&mut session, &args_of(alloc, "t.par2")?).is_err() || session.undo().is_err() {
         return Err(Error::msg("no create"));
     }
-    Ok(encode(&session, alloc)?)
+    Ok(encode(&session)?)
 }
 
 fn halfway_of(alloc: Global) -> Result<Halfway> {
@@ -85,7 +85,7 @@ impl Scene for Openings {
     fn call(&mut self, alloc: Global, name: &str) -> Result<(), Refusal> {
         match name {
             "Halfway::settled" => {
-                self.text = settled(&self.halfway, alloc)?;
+                self.text = settled(&self.halfway)?;
                 Ok(())
             }
             _ => self.open(alloc, name == "Session::open halfway"),
@@ -93,7 +93,7 @@ impl Scene for Openings {
     }
 
     fn show(&mut self, rt: &HostRuntime) -> Result<()> {
-        let print = self.folder.fingerprint(rt.alloc())?;
+        let print = self.folder.fingerprint()?;
         println!(rt; "  {}, {:032x}", self.number, u128::from_be_bytes(print))?;
         println!(rt; "  {} bytes, {:08x}", self.text.len(), crc32(&self.text))?;
         Ok(())

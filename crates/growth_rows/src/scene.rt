@@ -3,7 +3,7 @@
 use anyhow::Result;
 use par2_folder::{ReadFault, StoreFault};
 use par2_journal::{Fault, SessionFault};
-use par2_recovery::RebuildFault;
+use par2_recovery::{RebuildFault, RecordFault};
 use par2_spec::JournalFault;
 use std::alloc::{AllocError, Global};
 
@@ -25,6 +25,15 @@ impl From<RebuildFault> for Refusal {
         match fault {
             RebuildFault::Memory => Refusal::Memory,
             RebuildFault::NotRepairable { .. } => Refusal::Other,
+        }
+    }
+}
+
+impl From<RecordFault> for Refusal {
+    fn from(fault: RecordFault) -> Refusal {
+        match fault {
+            RecordFault::Memory => Refusal::Memory,
+            RecordFault::DuplicateId => Refusal::Other,
         }
     }
 }

@@ -34,7 +34,7 @@ fn create_of(alloc: Global) -> Result<Action, AllocError> {
 
 fn session_of(alloc: Global) -> Result<Session> {
     let mut session = Session::new(alloc, damaged(alloc)?);
-    match calls::create(&mut session, alloc, &args_of(alloc, "u.par2")?) {
+    match calls::create(&mut session, &args_of(alloc, "u.par2")?) {
         Ok(_) => Ok(session),
         Err(_) => Err(Error::msg("a create is refused")),
     }
@@ -54,45 +54,41 @@ impl Sessions {
     }
 
     // Commands.
-    fn act(&mut self, alloc: Global, name: &str) -> Result<(), Refusal> {
+    fn act(&mut self, name: &str) -> Result<(), Refusal> {
         let steps = match name {
-            "Session::create" => calls::create(&mut self.session, alloc, &self.args)?,
-            "Session::purge" => calls::purge(&mut self.session, alloc)?,
-            _ => calls::repair(
-                &mut self.session,
-                alloc,
-                name == "Session::repair with a purge",
-            )?,
+            "Session::create" => calls::create(&mut self.session, &self.args)?,
+            "Session::purge" => calls::purge(&mut self.session)?,
+            _ => calls::repair(&mut self.session, name == "Session::repair with a purge")?,
         };
         self.number = steps.len();
         Ok(())
     }
 
-    fn verify(&mut self, alloc: Global) -> Result<(), Refusal> {
-        let report = calls::verify(&self.session, alloc)?;
+    fn verify(&mut self) -> Result<(), Refusal> {
+        let report = calls::verify(&self.session)?;
         self.number = report.lost;
         Ok(())
     }
 
-    fn prepare(&mut self, alloc: Global) -> Result<(), Refusal> {
-        let prepared = calls::prepare(&mut self.session, alloc, &self.repair)?;
+    fn prepare(&mut self) -> Result<(), Refusal> {
+        let prepared = calls::prepare(&mut self.session, &self.repair)?;
         self.number = prepared.steps().len();
         Ok(())
     }
 
     // Makes a repair ready, with its journals, and does it.
-    fn commit(&mut self, alloc: Global) -> Result<(), Refusal> {
-        let mut prepared = calls::prepare(&mut self.session, alloc, &self.repair)?;
-        let journals = calls::journals_of(&mut self.session, alloc, &mut prepared)?;
+    fn commit(&mut self) -> Result<(), Refusal> {
+        let mut prepared = calls::prepare(&mut self.session, &self.repair)?;
+        let journals = calls::journals_of(&mut self.session, &mut prepared)?;
         self.number = calls::commit(&mut self.session, prepared);
         self.text = journals.after;
         Ok(())
     }
 
     // Of one create, or of two of one index: where memory is out for one of these, the other is done.
-    fn play(&mut self, alloc: Global, count: usize) -> Result<(), Refusal> {
+    fn play(&mut self, count: usize) -> Result<(), Refusal> {
         let actions = self.creates.get(..count).unwrap_or(&[]);
-        self.number = calls::play(&mut self.session, alloc, actions);
+        self.number = calls::play(&mut self.session, actions);
         if self.number == 0 {
             return Err(Refusal::Memory);
         }
@@ -101,24 +97,24 @@ impl Sessions {
 }
 
 impl Scene for Sessions {
-    fn call(&mut self, alloc: Global, name: &str) -> Result<(), Refusal> {
+    fn call(&mut self, _alloc: Global, name: &str) -> Result<(), Refusal> {
         match name {
-            "Session::verify" => self.verify(alloc),
-            "Session::prepare" => self.prepare(alloc),
-            "Session::journals" => self.commit(alloc),
-            "Session::play" => self.play(alloc, 1),
-            "Session::play of two" => self.play(alloc, 2),
+            "Session::verify" => self.verify(),
+            "Session::prepare" => self.prepare(),
+            "Session::journals" => self.commit(),
+            "Session::play" => self.play(1),
+            "Session::play of two" => self.play(2),
             "Session::encode" => {
-                self.text = calls::encode(&self.session, alloc)?;
+                self.text = calls::encode(&self.session)?;
                 Ok(())
             }
-            _ => self.act(alloc, name),
+            _ => self.act(name),
         }
     }
 
     fn show(&mut self, rt: &HostRuntime) -> Result<()> {
         let (undos, redos) = (self.session.undo_depth(), self.session.redo_depth());
-        let journal = calls::encode(&self.session, rt.alloc())?;
+        let journal = calls::encode(&self.session)?;
         println!(rt; "  {undos} undos, {redos} redos, {}", self.number)?;
         println!(rt;
             "  a journal of {} bytes, {:08x}",

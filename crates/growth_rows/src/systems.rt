@@ -32,7 +32,7 @@ impl Systems {
 
     fn offer(&mut self, alloc: Global) -> Result<(), Refusal> {
         let right = Vec::from_slice(alloc, b"\x22\0")?;
-        self.system.offer(alloc, &self.gf, &[2, 16], right)?;
+        self.system.offer(&self.gf, &[2, 16], right)?;
         Ok(())
     }
 }

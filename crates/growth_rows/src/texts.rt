@@ -6,9 +6,10 @@ use par2_folder::{Folder, Name};
 use par2_gf16::Gf;
 use par2_packets::{
     FileRecord, Pair, append_creator, append_desc, append_ifsc, append_main, append_recoveries,
+    append_recovery,
 };
 use par2_recovery::{SetRecord, Survivors, file_records, rank, recovery_slices_over};
-use par2_slices::{Rolling, Spot, Wanted, crc32, find_among, pairs_of};
+use par2_slices::{Rolling, Spot, Wanted, crc32, find, find_among, pairs_of};
 use recovery_calls::{
     folder_of, lost_rebuilt, rebuilt, recovery_slice_of, recovery_slices_of, set_of,
 };
@@ -106,6 +107,10 @@ impl Texts {
         match name {
             "Wanted::new" => self.wanted = Wanted::new(alloc, &self.pairs)?,
             "pairs_of" => self.pairs = pairs_of(alloc, b"abcd", 4)?,
+            "find" => {
+                let offsets = find(alloc, b"xyzabcdefgh", 4, &self.wanted)?;
+                self.number = usize::from(matches!(offsets.as_slice(), [Some(3), Some(7)]));
+            }
             _ => self.spots = find_among(alloc, &[b"xyz", b"abcabcdefgh"], 4, &self.wanted)?,
         }
         Ok(())
@@ -119,6 +124,7 @@ impl Texts {
             "append_main" => append_main(alloc, &mut self.text, 4, from_ref(file))?,
             "append_desc" => append_desc(alloc, &mut self.text, SET_ID, file)?,
             "append_ifsc" => append_ifsc(alloc, &mut self.text, SET_ID, file)?,
+            "append_recovery" => append_recovery(alloc, &mut self.text, SET_ID, 1, SECOND)?,
             _ => append_creator(alloc, &mut self.text, SET_ID)?,
         }
         Ok(())
@@ -130,9 +136,12 @@ impl Texts {
         Ok(())
     }
 
-    fn record(&mut self, alloc: Global) -> Result<(), Refusal> {
-        let name = Name::new("a").map_err(|_| Refusal::Other)?;
-        self.records = file_records(alloc, &self.folder, from_ref(&name), 4)?;
+    fn record(&mut self, alloc: Global, name: &str) -> Result<(), Refusal> {
+        let file = Name::new("a").map_err(|_| Refusal::Other)?;
+        self.records = match name {
+            "file_records" => file_records(alloc, &self.folder, from_ref(&file), 4)?,
+            _ => SetRecord::of_files(alloc, &self.folder, from_ref(&file), 4)?.files,
+        };
         Ok(())
     }
 
@@ -180,12 +189,11 @@ impl Scene for Texts {
         match name {
             "Gf::new" => self.field(alloc),
             "Rolling::new" => self.slide(alloc),
-            "Wanted::new" | "pairs_of" | "find_among" => self.search(alloc, name),
+            "Wanted::new" | "pairs_of" | "find" | "find_among" => self.search(alloc, name),
             "append_recoveries" => self.append_slices(alloc),
-            "append_main" | "append_desc" | "append_ifsc" | "append_creator" => {
-                self.append(alloc, name)
-            }
-            "file_records" => self.record(alloc),
+            "append_main" | "append_desc" | "append_ifsc" | "append_recovery" | "append_creator" =>
+                { self.append(alloc, name) }
+            "file_records" | "SetRecord::of_files" => self.record(alloc, name),
             _ => self.recover(alloc, name),
         }
     }

@@ -14,11 +14,11 @@ pub fn bytes_in<'a>(folder: &'a Folder, name: &Name) -> Option<&'a [u8]> {
 }
 
 pub fn fingerprint(rt: &(impl Abort + AllocGlobal), folder: &Folder) -> [u8; 16] {
-    folder.fingerprint(rt.alloc()).expect(rt, "memory")
+    folder.fingerprint().expect(rt, "memory")
 }
 
 fn names_in(rt: &(impl Abort + AllocGlobal), folder: &Folder) -> Vec<Name> {
-    folder.names(rt.alloc()).expect(rt, "memory")
+    folder.names().expect(rt, "memory")
 }
 
 /// Whether these are the names, in this order.

@@ -107,9 +107,7 @@ fn offered(
     ensures bytes { system.new.bytes ≡ system.old.bytes }
 {
     let right = right.to_vec(rt.alloc()).expect(rt, "memory");
-    system
-        .offer(rt.alloc(), gf, row, right)
-        .expect(rt, "memory")
+    system.offer(gf, row, right).expect(rt, "memory")
 }
 
 fn solution(system: System) -> Result<Vec<Vec<u8>>, System>

@@ -74,7 +74,7 @@ pub fn par_files(alloc: Global, folder: &Folder, set: &ParSet) -> Result<Vec<Nam
         IfOk result (λ names. names.items ≡ files) }
 {
     let targets = target_names(alloc, set)?;
-    let mut names = folder.names(alloc)?;
+    let mut names = folder.names()?;
     names.retain(|name| is_par_file(folder, set, &targets, name));
     Ok(names)
 }

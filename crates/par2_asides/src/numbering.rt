@@ -83,12 +83,12 @@ fn aside(
 }
 
 // How many numbers to try for an aside: one more than there are names to keep away from.
-fn tries(alloc: Global, folder: &Folder, set: &ParSet) -> Result<usize, Fault>
+fn tries(folder: &Folder, set: &ParSet) -> Result<usize, Fault>
     ensures refused { IfErr result (λ fault. fault ≡ Fault.Memory) }
     ensures count { let taken = taken_for folder.now.files set.now in
         IfOk result (λ most. most ≡ length taken + 1) }
 {
-    let files = folder.names(alloc)?.len();
+    let files = folder.names()?.len();
     Ok(files + set.targets().len() + 1)
 }
 
@@ -108,7 +108,7 @@ pub fn asides(
     ensures few { IfOk result (λ _. AreFew folder.now.files set.now) }
 {
     let targets = target_names(alloc, set)?;
-    let most = tries(alloc, folder, set)?;
+    let most = tries(folder, set)?;
     let mut asides = Vec::with_capacity(alloc, names.len())?;
     for name in names {
         let other = aside(alloc, folder, set, &targets, most, name)?;

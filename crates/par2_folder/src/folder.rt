@@ -89,9 +89,10 @@ impl Folder {
     }
 
     /// The names of the files, in order.
-    pub fn names(&self, alloc: Global) -> Result<Vec<Name>, AllocError>
+    pub fn names(&self) -> Result<Vec<Name>, AllocError>
         ensures { IfOk result (λ list. list.items ≡ names self.now.files) }
     {
+        let alloc = *self.files.allocator();
         let mut names = Vec::with_capacity(alloc, self.files.len())?;
         for file in &self.files {
             names.push(file.0.copied())?;
@@ -101,18 +102,19 @@ impl Folder {
 
     /// What tells folders apart: the MD5 of names and bytes, in the order of the names, each after its length as
     /// eight bytes.
-    pub fn fingerprint(&self, alloc: Global) -> Result<[u8; 16], AllocError>
+    pub fn fingerprint(&self) -> Result<[u8; 16], AllocError>
         ensures { IfOk result (λ digest. digest ≡ fingerprint self.now.files) }
     {
+        let alloc = *self.files.allocator();
         Ok(digests_along(alloc, &Landmarks::none(alloc), self, &[])?[0])
     }
 
     // The files where they lie.
-    pub(crate) fn snapshot(&self, alloc: Global) -> Result<Snapshot<'_>, AllocError>
+    pub(crate) fn snapshot(&self) -> Result<Snapshot<'_>, AllocError>
         ensures kept { IfOk result (λ snapshot. IsKept (files_in snapshot)) }
         ensures folder { IfOk result (λ snapshot. folder_in snapshot ≡ self.now.files) }
     {
-        Snapshot::of(alloc, &self.files)
+        Snapshot::of(*self.files.allocator(), &self.files)
     }
 
     /// Does the change, and leaves in its place the change that takes it back. It takes no memory.

@@ -128,8 +128,8 @@ impl FolderStore for MemoryStore {
 
     ghost impossible = { memory_impossible };
 
-    fn names(&mut self, alloc: Global) -> Result<Vec<Name>, ReadFault> {
-        match self.folder.names(alloc) {
+    fn names(&mut self, _alloc: Global) -> Result<Vec<Name>, ReadFault> {
+        match self.folder.names() {
             Ok(names) => Ok(names),
             Err(AllocError) => Err(ReadFault::Memory),
         }

@@ -107,7 +107,7 @@ pub fn survey_folder<'a>(
     ensures landmarks { IfOk result
         (λ found. AreLandmarksOf folder.now.files found.landmarks) }
 {
-    let snapshot = folder.snapshot(alloc)?;
+    let snapshot = folder.snapshot()?;
     let names = landmark_names(alloc, &snapshot)?;
     let mut landmarks = Landmarks::none(alloc);
     let mut border = Border::Beginning;

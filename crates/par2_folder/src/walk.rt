@@ -198,7 +198,7 @@ fn runs_before<'a>(
     ensures texts { let texts = run_texts to.now folder.now.files (map change_of changes.now) in
         IfOk result (λ runs. AreTo runs texts) }
 {
-    let snapshot = folder.snapshot(alloc)?;
+    let snapshot = folder.snapshot()?;
     let mut runs = Runs::new(alloc);
     add_run(alloc, &mut runs, states[0], &snapshot, from, to)?;
     runs_behind(alloc, runs, snapshot, changes, states, from, to)

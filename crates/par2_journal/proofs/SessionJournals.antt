@@ -12,7 +12,7 @@ use Rattle.par2_spec.specs.Journals.{Journal, Spells}
 use Rattle.par2_spec.specs.Opening.{settled_journal, halfway_journal, halfway_where, journals_of}
 use Rattle.par2_spec.specs.declared.Version.TheVariants.{Two}
 use Rattle.par2_journal.proofs.Readiness.{same_changes}
-use Rattle.par2_journal.specs.Ready.{Kind, Changing, Undoing, Redoing, Ready, IsReady, CanBe, next_of, changes_by_kind, after_commit}
+use Rattle.par2_journal.specs.Ready.{Kind, Changing, Undoing, Redoing, Ready, IsReady, CanBe, next_of, changes_by_kind, after_commit, journals_for}
 use Rattle.par2_journal.specs.Ahead.{next_changes}
 use Rattle.par2_journal.specs.declared.ahead.Next.{Next}
 use Rattle.par2_journal.specs.declared.ahead.Next.TheVariants as ahead
@@ -122,7 +122,7 @@ asked_session action before s ready grew is =
     let same = same_ok (session_with (session_of_kept before) action (changes_by_kind ready.kind before)) (session_of_kept (after_commit ready.kind s)) (sym (ap (session_unless (session_of_kept before) action) is.asked) ∙ is.leads) in
     sym same ∙ (λ i. session_with (sym (same_session before s grew) i) action (sym (same_changes ready.kind before s grew) i))
 
-pub both_spelled : (journals : Journals) (action : Action) (s : KeptSession) (ready : Ready) (before : KeptSession) → OnlyGrew before s → IsReady action before ready s
+both_spelled : (journals : Journals) (action : Action) (s : KeptSession) (ready : Ready) (before : KeptSession) → OnlyGrew before s → IsReady action before ready s
     → SpellsWhere journals.halfway (halfway_where Two (session_of_kept s) (changes_by_kind ready.kind s))
     → Spells journals.after.items (settled_journal Two (session_of_kept (after_commit ready.kind s)))
     → AreSpelled journals (journals_of Two (session_of_kept s) action (changes_by_kind ready.kind s))
@@ -150,22 +150,28 @@ pub ahead_taken : (next : Next) (s : KeptSession) → CanWalk s → takes_all s.
 ahead_taken ahead.Undo s h = next_entry s.folder s.undos h.back
 ahead_taken ahead.Redo s h = next_entry s.folder s.redos h.forth
 
-action_spelled : {E : Type 0} (r : Result Journals E) (xs entries : List (List Change)) (n : ℕ) → n ≤ length xs → (folder : FolderState) (room : ℕ) (turn : Turn) (ready : Ready) (cs : List Change)
+fit_spelled : {E : Type 0} (r : Result Journals E) (xs entries : List (List Change)) (n : ℕ) → n ≤ length xs → (folder : FolderState) (room : ℕ) (turn : Turn) (ready : Ready) (cs : List Change)
     → turn ≡ turn_of ready.kind → entries ≡ xs → cs ≡ changes_by_kind ready.kind (at folder xs n room) → CanBe ready.kind (at folder xs n room)
     → IfOk r (λ j. SpellsWhere j.halfway (halfway_with (fingerprint folder.files) n entries (map fingerprint (folders_after folder.files cs)) (way_back folder.files cs)))
     → IfOk r (λ j. Spells j.after.items (settled_with (fingerprint (effects folder.files cs)) (entries_with turn n entries (way_back folder.files cs))))
-    → IfOk r (λ j. (action : Action) (before : KeptSession) → OnlyGrew before (at folder xs n room) → IsReady action before ready (at folder xs n room) → AreSpelled j (journals_of Two (session_of_kept (at folder xs n room)) action (changes_by_kind ready.kind (at folder xs n room))))
-action_spelled (Err e) xs entries n within folder room turn ready cs te ee ce can half after = tt
-action_spelled (Ok j) xs entries n within folder room turn ready cs te ee ce can half after = λ action before grew is.
-    both_spelled j action (at folder xs n room) ready before grew is
-    (halfway_at xs n within folder room j.halfway (changes_by_kind ready.kind (at folder xs n room)) (way_back folder.files (changes_by_kind ready.kind (at folder xs n room))) refl
-    (subst (λ d. SpellsWhere j.halfway (halfway_with (fingerprint folder.files) n xs (map fingerprint (folders_after folder.files d)) (way_back folder.files d))) ce
-    (subst (λ es. SpellsWhere j.halfway (halfway_with (fingerprint folder.files) n es (map fingerprint (folders_after folder.files cs)) (way_back folder.files cs))) ee half)))
-    (subst (λ (t : Journal). Spells j.after.items t)
-    (ap (λ f. settled_with (fingerprint f) (entries_with turn n entries (way_back folder.files cs))) (sym (state_files folder cs))
-    ∙ (λ i. settled_with (fingerprint (state_after_all folder (ce i)).files) (entries_with (te i) n (ee i) (way_back folder.files (ce i))))
-    ∙ after_at xs n folder room ready.kind (has_next xs n folder room ready.kind within can))
-    after)
+    → IfOk r (λ j. AreSpelled j (journals_for ready.kind (at folder xs n room)))
+fit_spelled (Err e) xs entries n within folder room turn ready cs te ee ce can half after = tt
+fit_spelled (Ok j) xs entries n within folder room turn ready cs te ee ce can half after = (
+  halfway_at xs n within folder room j.halfway (changes_by_kind ready.kind (at folder xs n room)) (way_back folder.files (changes_by_kind ready.kind (at folder xs n room))) refl
+      (subst (λ d. SpellsWhere j.halfway (halfway_with (fingerprint folder.files) n xs (map fingerprint (folders_after folder.files d)) (way_back folder.files d))) ce
+      (subst (λ es. SpellsWhere j.halfway (halfway_with (fingerprint folder.files) n es (map fingerprint (folders_after folder.files cs)) (way_back folder.files cs))) ee half)),
+  subst (λ (t : Journal). Spells j.after.items t)
+      (ap (λ f. settled_with (fingerprint f) (entries_with turn n entries (way_back folder.files cs))) (sym (state_files folder cs))
+      ∙ (λ i. settled_with (fingerprint (state_after_all folder (ce i)).files) (entries_with (te i) n (ee i) (way_back folder.files (ce i))))
+      ∙ after_at xs n folder room ready.kind (has_next xs n folder room ready.kind within can))
+      after,
+)
+
+-- they are those of the action for which it was made ready
+pub spelled_for : {E : Type 0} (r : Result Journals E) (s : KeptSession) (ready : Ready) → IfOk r (λ j. AreSpelled j (journals_for ready.kind s))
+    → IfOk r (λ j. (action : Action) (before : KeptSession) → OnlyGrew before s → IsReady action before ready s → AreSpelled j (journals_of Two (session_of_kept s) action (changes_by_kind ready.kind s)))
+spelled_for (Err e) s ready h = tt
+spelled_for (Ok j) s ready h = λ action before grew is. both_spelled j action s ready before grew is h.0 h.1
 
 -- of a session by its fields, for which something is ready
 module _ (xs : List (List Change)) (n : ℕ) (within : n ≤ length xs) (folder : FolderState) (room : ℕ) (s : KeptSession) (same : at folder xs n room ≡ s) (ready : Ready) (can : CanBe ready.kind s) where
@@ -198,8 +204,8 @@ module _ (xs : List (List Change)) (n : ℕ) (within : n ≤ length xs) (folder 
     pub ready_spelled : {E : Type 0} (r q : Result Journals E) → q ≡ r → (cs : List Change) → cs ≡ changes_by_kind ready.kind s
         → IfOk r (λ j. SpellsWhere j.halfway (halfway_with (fingerprint folder.files) n entries (map fingerprint (folders_after folder.files cs)) (way_back folder.files cs)))
         → IfOk r (λ j. Spells j.after.items (settled_with (fingerprint (effects folder.files cs)) (entries_with turn n entries (way_back folder.files cs))))
-        → IfOk q (λ j. (action : Action) (before : KeptSession) → OnlyGrew before s → IsReady action before ready s → AreSpelled j (journals_of Two (session_of_kept s) action (changes_by_kind ready.kind s)))
+        → IfOk q (λ j. AreSpelled j (journals_for ready.kind s))
     ready_spelled r q is cs are half after =
-        let told = λ (o : Result Journals _) (t : KeptSession). IfOk o (λ j. (action : Action) (before : KeptSession) → OnlyGrew before t → IsReady action before ready t → AreSpelled j (journals_of Two (session_of_kept t) action (changes_by_kind ready.kind t))) in
+        let told = λ (o : Result Journals _) (t : KeptSession). IfOk o (λ j. AreSpelled j (journals_for ready.kind t)) in
         subst (λ o. told o s) (sym is)
-        (subst (told r) same (action_spelled r xs entries n within folder room turn ready cs does lent (are ∙ ap (changes_by_kind ready.kind) (sym same)) can_here half after))
+        (subst (told r) same (fit_spelled r xs entries n within folder room turn ready cs does lent (are ∙ ap (changes_by_kind ready.kind) (sym same)) can_here half after))

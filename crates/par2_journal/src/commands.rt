@@ -4,7 +4,6 @@ use crate::preparation::Task;
 use crate::{Changes, CreateArgs, Prepared, Session, SessionFault, Steps};
 use par2_plan::{Fault, Report, check, plan_create, plan_purge, plan_repair};
 use par2_spec::Action;
-use std::alloc::Global;
 
 impl Session {
     ghost use Rattle.std.specs.Prelude.{◌≡◌, [], map, string_bytes, IfOk, IfErr, IsErrOf, IsTrue, ◌⊎◌, Some, Ok, Err, drop, OnOk, OnErr};
@@ -24,14 +23,14 @@ impl Session {
     ghost use Rattle.par2_journal.specs.Ready.{Changing, Fits, IsReady};
 
     // Steps and room for what a command is planned as.
-    fn prepare_changes(&mut self, alloc: Global, changes: Changes) -> Result<Prepared, Fault>
+    fn prepare_changes(&mut self, changes: Changes) -> Result<Prepared, Fault>
         requires { IsTrue (are_applicable self.old.folder.files changes) }
         ensures kept { OnlyGrew self.old self.new }
         ensures kind { IfOk result (λ prepared. prepared.kind ≡ Changing changes) }
         ensures fits { IfOk result (λ prepared. Fits prepared self.new) }
         ensures refused { IfErr result (λ fault. fault ≡ Fault.Memory) }
     {
-        let steps = Steps::of(alloc, changes.as_slice())?;
+        let steps = Steps::of(self.allocator(), changes.as_slice())?;
         self.make_room(changes.len())?;
         Ok(Prepared {
             task: Task::Change(changes),
@@ -39,11 +38,7 @@ impl Session {
         })
     }
 
-    pub(crate) fn prepare_create(
-        &mut self,
-        alloc: Global,
-        args: &CreateArgs,
-    ) -> Result<Prepared, Fault>
+    pub(crate) fn prepare_create(&mut self, args: &CreateArgs) -> Result<Prepared, Fault>
         ensures kept { OnlyGrew self.old self.new }
         ensures ready { let action = Do (Create (create_args_of args.now)) in
             IfOk result (λ prepared. IsReady action self.old prepared self.new) }
@@ -54,13 +49,12 @@ impl Session {
             (fault : Fault) → early_refusal self.old.folder.files command ≡ Some fault
             → IsErrOf result fault }
     {
-        let changes = plan_create(alloc, self.folder(), args)?;
-        self.prepare_changes(alloc, changes)
+        let changes = plan_create(self.allocator(), self.folder(), args)?;
+        self.prepare_changes(changes)
     }
 
     pub(crate) fn prepare_repair(
         &mut self,
-        alloc: Global,
         base: &str,
         extras: &[String],
         purge: bool,
@@ -80,11 +74,11 @@ impl Session {
         ensures few { let command = Repair base.now (map string_bytes extras.now) purge in
             IfOk result (λ _. AreFewFor self.old.folder.files command) }
     {
-        let changes = plan_repair(alloc, self.folder(), base, extras, purge)?;
-        self.prepare_changes(alloc, changes)
+        let changes = plan_repair(self.allocator(), self.folder(), base, extras, purge)?;
+        self.prepare_changes(changes)
     }
 
-    pub(crate) fn prepare_purge(&mut self, alloc: Global, base: &str) -> Result<Prepared, Fault>
+    pub(crate) fn prepare_purge(&mut self, base: &str) -> Result<Prepared, Fault>
         ensures kept { OnlyGrew self.old self.new }
         ensures ready { IfOk result (λ prepared.
             IsReady (Do (Purge base.now)) self.old prepared self.new) }
@@ -95,11 +89,11 @@ impl Session {
             → early_refusal self.old.folder.files (Purge base.now) ≡ Some fault
             → IsErrOf result fault }
     {
-        let changes = plan_purge(alloc, self.folder(), base)?;
-        self.prepare_changes(alloc, changes)
+        let changes = plan_purge(self.allocator(), self.folder(), base)?;
+        self.prepare_changes(changes)
     }
 
-    fn prepare_undo(&self, alloc: Global) -> Result<Prepared, SessionFault>
+    fn prepare_undo(&self) -> Result<Prepared, SessionFault>
         ensures ready { IfOk result (λ prepared. IsReady Undo self.now prepared self.now) }
         ensures refused { IfErr result (MayRefuse Undo self.now) }
         ensures at_the_end { self.now.undos ≡ [] → IsErrOf result SessionFault.NothingToUndo }
@@ -107,14 +101,14 @@ impl Session {
         if self.undo_depth() == 0 {
             return Err(SessionFault::NothingToUndo);
         }
-        let steps = Steps::of(alloc, self.next_undo())?;
+        let steps = Steps::of(self.allocator(), self.next_undo())?;
         Ok(Prepared {
             task: Task::Undo,
             steps,
         })
     }
 
-    fn prepare_redo(&self, alloc: Global) -> Result<Prepared, SessionFault>
+    fn prepare_redo(&self) -> Result<Prepared, SessionFault>
         ensures ready { IfOk result (λ prepared. IsReady Redo self.now prepared self.now) }
         ensures refused { IfErr result (MayRefuse Redo self.now) }
         ensures at_the_end { self.now.redos ≡ [] → IsErrOf result SessionFault.NothingToRedo }
@@ -122,7 +116,7 @@ impl Session {
         if self.redo_depth() == 0 {
             return Err(SessionFault::NothingToRedo);
         }
-        let steps = Steps::of(alloc, self.next_redo())?;
+        let steps = Steps::of(self.allocator(), self.next_redo())?;
         Ok(Prepared {
             task: Task::Redo,
             steps,
@@ -130,7 +124,7 @@ impl Session {
     }
 
     /// Makes ready what committing an action will need, memory included. Names, bytes and history stay as they are.
-    pub fn prepare(&mut self, alloc: Global, action: &Action) -> Result<Prepared, SessionFault>
+    pub fn prepare(&mut self, action: &Action) -> Result<Prepared, SessionFault>
         ensures kept { OnlyGrew self.old self.new }
         ensures ready { IfOk result (λ prepared.
             IsReady (action_of action.now) self.old prepared self.new) }
@@ -146,20 +140,20 @@ impl Session {
             → IsErrOf result SessionFault.NothingToRedo }
     {
         match action {
-            Action::Create(args) => Ok(self.prepare_create(alloc, args)?),
+            Action::Create(args) => Ok(self.prepare_create(args)?),
             Action::Repair {
                 base,
                 extras,
                 purge,
-            } => Ok(self.prepare_repair(alloc, base, extras, *purge)?),
-            Action::Purge { base } => Ok(self.prepare_purge(alloc, base)?),
-            Action::Undo => self.prepare_undo(alloc),
-            Action::Redo => self.prepare_redo(alloc),
+            } => Ok(self.prepare_repair(base, extras, *purge)?),
+            Action::Purge { base } => Ok(self.prepare_purge(base)?),
+            Action::Undo => self.prepare_undo(),
+            Action::Redo => self.prepare_redo(),
         }
     }
 
     /// What a verify of this base, with further files, reports.
-    pub fn verify(&self, alloc: Global, base: &str, extras: &[String]) -> Result<Report, Fault>
+    pub fn verify(&self, base: &str, extras: &[String]) -> Result<Report, Fault>
         ensures refused { IfErr result (λ fault. (fault ≡ Fault.Memory) ⊎ (report_in
             self.now.folder.files base.now (map string_bytes extras.now) ≡ Err fault)) }
         ensures early { let command = Verify base.now (map string_bytes extras.now) in
@@ -169,11 +163,11 @@ impl Session {
             self.now.folder.files base.now (map string_bytes extras.now)
             ≡ Ok (report_of report)) }
     {
-        check(alloc, self.folder(), base, extras)
+        check(self.allocator(), self.folder(), base, extras)
     }
 
     /// Creates, and answers the steps. After a refusal names, bytes and history are as before.
-    pub fn create(&mut self, alloc: Global, args: &CreateArgs) -> Result<Steps, Fault>
+    pub fn create(&mut self, args: &CreateArgs) -> Result<Steps, Fault>
         ensures done { OnOk result (session_after (session_of_kept self.old)
             (Do (Create (create_args_of args.now))) ≡ Ok (session_of_kept self.new)) }
         ensures leads { OnOk result (LeadsToAfterAsked
@@ -187,20 +181,14 @@ impl Session {
             (fault : Fault) → early_refusal self.old.folder.files command ≡ Some fault
             → IsErrOf result fault }
     {
-        let prepared = self.prepare_create(alloc, args)?;
+        let prepared = self.prepare_create(args)?;
         Ok(self.commit(prepared))
     }
 
     /// Repairs, with further files to search, and answers the steps. Where asked to it purges in the same command. Each
     /// file that it writes from slices has the length and the MD5 that the set describes. After a refusal names, bytes
     /// and history are as before.
-    pub fn repair(
-        &mut self,
-        alloc: Global,
-        base: &str,
-        extras: &[String],
-        purge: bool,
-    ) -> Result<Steps, Fault>
+    pub fn repair(&mut self, base: &str, extras: &[String], purge: bool) -> Result<Steps, Fault>
         // The session is the one from after the action, whose changes lead to its folder; the steps
         // are theirs.
         ensures done { let action = Do (Repair base.now (map string_bytes extras.now) purge) in
@@ -225,12 +213,12 @@ impl Session {
             (fault : Fault) → early_refusal self.old.folder.files command ≡ Some fault
             → IsErrOf result fault }
     {
-        let prepared = self.prepare_repair(alloc, base, extras, purge)?;
+        let prepared = self.prepare_repair(base, extras, purge)?;
         Ok(self.commit(prepared))
     }
 
     /// Removes the set's par files, and answers the steps. After a refusal names, bytes and history are as before.
-    pub fn purge(&mut self, alloc: Global, base: &str) -> Result<Steps, Fault>
+    pub fn purge(&mut self, base: &str) -> Result<Steps, Fault>
         ensures done { OnOk result (session_after (session_of_kept self.old)
             (Do (Purge base.now)) ≡ Ok (session_of_kept self.new)) }
         ensures leads { OnOk result (LeadsToAfterAsked
@@ -244,12 +232,12 @@ impl Session {
             → early_refusal self.old.folder.files (Purge base.now) ≡ Some fault
             → IsErrOf result fault }
     {
-        let prepared = self.prepare_purge(alloc, base)?;
+        let prepared = self.prepare_purge(base)?;
         Ok(self.commit(prepared))
     }
 
     // One action. Undo and redo take no memory.
-    fn act(&mut self, alloc: Global, action: &Action) -> Result<(), SessionFault>
+    fn act(&mut self, action: &Action) -> Result<(), SessionFault>
         ensures done { OnOk result (session_after (session_of_kept self.old)
             (action_of action.now) ≡ Ok (session_of_kept self.new)) }
         ensures leads { OnOk result (LeadsToAfterAsked
@@ -262,17 +250,17 @@ impl Session {
         let _folder = self.folder();
         match action {
             Action::Create(args) => {
-                let _steps = self.create(alloc, args)?;
+                let _steps = self.create(args)?;
             }
             Action::Repair {
                 base,
                 extras,
                 purge,
             } => {
-                let _steps = self.repair(alloc, base, extras, *purge)?;
+                let _steps = self.repair(base, extras, *purge)?;
             }
             Action::Purge { base } => {
-                let _steps = self.purge(alloc, base)?;
+                let _steps = self.purge(base)?;
             }
             Action::Undo => self.undo()?,
             Action::Redo => self.redo()?,
@@ -282,7 +270,7 @@ impl Session {
 
     /// Performs the actions in order, goes on after a refused one, and answers how many were accepted. As many
     /// undos as commands were accepted lead back.
-    pub fn play(&mut self, alloc: Global, actions: &[Action]) -> usize
+    pub fn play(&mut self, actions: &[Action]) -> usize
         ensures run { Run (history_of (session_of_kept self.old)) (map action_of actions.now)
             result (history_of (session_of_kept self.new)) }
         ensures undos { AllByRecursion IsChanging (map action_of actions.now)
@@ -291,7 +279,7 @@ impl Session {
     {
         let mut accepted = 0;
         for action in actions {
-            match self.act(alloc, action) {
+            match self.act(action) {
                 Ok(()) => accepted += 1,
                 Err(_) => continue,
             }

@@ -231,18 +231,14 @@ pub enum Opened {
 }
 
 // The session, where its folder has this fingerprint.
-fn unless_changed(
-    alloc: Global,
-    session: Session,
-    wanted: [u8; 16],
-) -> Result<Session, (JournalFault, Folder)>
+fn unless_changed(session: Session, wanted: [u8; 16]) -> Result<Session, (JournalFault, Folder)>
     ensures session { IfOk result (λ kept. kept ≡ session) }
     ensures same { IfOk result (λ _. IsTrue (bytes_eq (fingerprint session.folder.files) wanted)) }
     ensures refused { IfErr result (λ e. (e.0 ≡ Memory) ⊎ ((e.0 ≡ FolderChanged false)
         × IsFalse (bytes_eq (fingerprint session.folder.files) wanted))) }
     ensures files { IfErr result (λ e. e.1.files ≡ session.folder.files) }
 {
-    let print = match session.fingerprint(alloc) {
+    let print = match session.fingerprint() {
         Ok(print) => print,
         Err(AllocError) => return Err((JournalFault::Memory, session.into_folder())),
     };
@@ -260,7 +256,7 @@ fn invalid_unless_changed(alloc: Global, folder: Folder, wanted: [u8; 16]) -> (J
         else FolderChanged false)) }
     ensures files { result.1.files ≡ folder.files }
 {
-    match unless_changed(alloc, Session::new(alloc, folder), wanted) {
+    match unless_changed(Session::new(alloc, folder), wanted) {
         Ok(session) => (JournalFault::JournalInvalid, session.into_folder()),
         Err(refused) => refused,
     }
@@ -283,7 +279,7 @@ fn open_settled(
     ensures files { IfErr result (λ e. e.1.files ≡ folder.files) }
 {
     match session_from(alloc, folder, entries, cursor) {
-        Ok(session) => unless_changed(alloc, session, fingerprint),
+        Ok(session) => unless_changed(session, fingerprint),
         Err((JournalFault::JournalInvalid, folder)) => {
             Err(invalid_unless_changed(alloc, folder, fingerprint))
         }
@@ -408,7 +404,7 @@ fn open_untested(
         Ok(session) => session,
         Err((_, folder)) => return Err(folder),
     };
-    match session.digests_before(alloc, next, body) {
+    match session.digests_before(next, body) {
         Ok(found) => Ok(answer_of(session, &found, fingerprint, digest)),
         Err(AllocError) => Err(session.into_folder()),
     }

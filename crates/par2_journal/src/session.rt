@@ -64,7 +64,7 @@ impl Session {
     ghost use Rattle.par2_folder.specs.Views.{change_of};
     ghost use Rattle.par2_journal.specs.Ahead.{next_changes};
     ghost use Rattle.par2_journal.specs.Opening.{session_at};
-    ghost use Rattle.par2_journal.specs.Ready.{Fits, IsReady, changes_by_kind, after_commit, next_of};
+    ghost use Rattle.par2_journal.specs.Ready.{Fits, IsReady, changes_by_kind, after_commit, journals_for, next_of};
     ghost use Rattle.par2_journal.specs.Spelling.{AreSpelled};
 
     /// The session on this folder, without a history.
@@ -94,6 +94,11 @@ impl Session {
             cursor,
             ahead: None,
         }
+    }
+
+    // Where the memory of its entries comes from, and of all that it makes.
+    pub(crate) fn allocator(&self) -> Global {
+        *self.entries.allocator()
     }
 
     // The folder by itself.
@@ -160,20 +165,21 @@ impl Session {
     }
 
     // The folder's fingerprint.
-    pub(crate) fn fingerprint(&self, alloc: Global) -> Result<[u8; 16], AllocError>
+    pub(crate) fn fingerprint(&self) -> Result<[u8; 16], AllocError>
         ensures { IfOk result (λ print. print ≡ fingerprint self.now.folder.files) }
     {
+        let alloc = self.allocator();
         let landmarks = landmarks_in(&self.ahead);
         Ok(Fingerprints::of(alloc, landmarks, &self.folder, &[])?.before)
     }
 
     /// The bytes of the session's journal. Nothing but the result is made of the bytes of its changes.
-    pub fn encode(&self, alloc: Global) -> Result<Vec<u8>, AllocError>
+    pub fn encode(&self) -> Result<Vec<u8>, AllocError>
         ensures { IfOk result
             (λ bytes. Spells bytes.items (settled_journal Two (session_of_kept self.now))) }
     {
-        let fingerprint = self.fingerprint(alloc)?;
-        spell_settled(alloc, &self.entries, self.cursor, fingerprint)
+        let fingerprint = self.fingerprint()?;
+        spell_settled(self.allocator(), &self.entries, self.cursor, fingerprint)
     }
 
     // Room for as many files and one more entry.
@@ -236,7 +242,6 @@ impl Session {
     // changes, side by side with these, take little longer, and are kept for its journals; else landmarks are kept.
     pub(crate) fn digests_before(
         &mut self,
-        alloc: Global,
         next: Option<Next>,
         text: &[u8],
     ) -> Result<Digests, AllocError>
@@ -245,6 +250,7 @@ impl Session {
             (λ found. found.folder ≡ fingerprint self.old.folder.files) }
         ensures text { IfOk result (λ found. found.text ≡ md5 text.now) }
     {
+        let alloc = self.allocator();
         let Some(next) = next else {
             let found = survey_folder(alloc, &self.folder, text)?;
             let (folder, text) = (found.fingerprint, found.digest);
@@ -273,19 +279,18 @@ impl Session {
     /// The journals of what was prepared for an action. The folder makes the changes and is turned back, also where
     /// memory runs out. Of the changes no bytes are copied but into the journals. Fingerprints that stand ready are
     /// used once.
-    pub fn journals(
-        &mut self,
-        alloc: Global,
-        prepared: &mut Prepared,
-    ) -> Result<Journals, AllocError>
+    pub fn journals(&mut self, prepared: &mut Prepared) -> Result<Journals, AllocError>
         requires { Fits prepared.old self.old }
         ensures unchanged { self.new ≡ self.old }
         ensures prepared { prepared.new ≡ prepared.old }
+        ensures spelled { IfOk result
+            (λ journals. AreSpelled journals (journals_for prepared.old.kind self.old)) }
         ensures journals { let changes = changes_by_kind prepared.old.kind self.old in
             IfOk result (λ journals. (action : Asked) (before : KeptSession)
             → OnlyGrew before self.old → IsReady action before prepared.old self.old
             → AreSpelled journals (journals_of Two (session_of_kept self.old) action changes)) }
     {
+        let alloc = self.allocator();
         let cursor = self.cursor;
         let folder = &mut self.folder;
         match &mut prepared.task {

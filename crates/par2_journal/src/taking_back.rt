@@ -43,11 +43,11 @@ impl Halfway {
     }
 
     /// The journal that is to stand then.
-    pub fn settled(&self, alloc: Global) -> Result<Vec<u8>, AllocError>
+    pub fn settled(&self) -> Result<Vec<u8>, AllocError>
         ensures { IfOk result (λ bytes.
             Spells bytes.items (settled_journal Two (session_of_kept (session_before self.now)))) }
     {
-        self.session.encode(alloc)
+        self.session.encode()
     }
 }
 
@@ -191,7 +191,7 @@ fn fingerprints_back(
     ensures within { IfOk result
         (λ found. IfSome found (λ list. length list.items ≤ length others.now)) }
 {
-    let print = folder.fingerprint(alloc)?;
+    let print = folder.fingerprint()?;
     let mut known = with_first(alloc, first, others)?;
     let Some(done) = find_fingerprint(&known, &print) else {
         return Ok(None);

@@ -57,13 +57,7 @@ impl System {
     /// its row is independent of the rows kept before. After an error the system is as before, and `right` is gone.
     ///
     /// The memory that it asks for is a copy of the row: the text stays where it is.
-    pub fn offer(
-        &mut self,
-        alloc: Global,
-        gf: &Gf,
-        row: &[u16],
-        right: Vec<u8>,
-    ) -> Result<Offer, AllocError>
+    pub fn offer(&mut self, gf: &Gf, row: &[u16], right: Vec<u8>) -> Result<Offer, AllocError>
         requires row { length row.now ≡ self.old.columns }
         requires right { length right.items ≡ self.old.bytes }
         ensures kept { result ≡ Ok Offer.Kept → CutDown self.old self.new row.now right.items }
@@ -73,7 +67,7 @@ impl System {
         ensures bytes { self.new.bytes ≡ self.old.bytes }
         ensures unchanged { result ≢ Ok Offer.Kept → self.new ≡ self.old }
     {
-        let mut row = bytes_of_row(alloc, row)?;
+        let mut row = bytes_of_row(*self.rows.allocator(), row)?;
         let mut right = right;
         let Some(pivot) = prepare(
             gf,

@@ -64,7 +64,7 @@ pub(crate) fn offer(
         return Ok(Offer::Dependent);
     }
     let row = coefficients(alloc, gf, lost, e)?;
-    system.offer(alloc, gf, &row, right)
+    system.offer(gf, &row, right)
 }
 
 // Whether the numbers rise.

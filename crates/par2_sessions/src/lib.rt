@@ -38,10 +38,9 @@ use par2_spec::repair_laws::{candidates_fit, repaired_folder_holds};
 use par2_spec::session_laws::{
     kept_session_is_a_session, kept_session_keeps_its_room, session_is_a_history,
 };
-use std::alloc::Global;
 
 /// Performs the actions in order, then undoes as often as one was accepted, and answers how often.
-pub fn play_and_take_back(session: &mut Session, alloc: Global, actions: &[Action]) -> usize
+pub fn play_and_take_back(session: &mut Session, actions: &[Action]) -> usize
     // so many of the actions were accepted
     ensures played { (end : History) × Run (history_of (session_of_kept session.old))
         (map action_of actions.now) result end }
@@ -57,7 +56,7 @@ pub fn play_and_take_back(session: &mut Session, alloc: Global, actions: &[Actio
     kept_session_is_a_session();
     kept_session_keeps_its_room();
     session_is_a_history();
-    let accepted = session.play(alloc, actions);
+    let accepted = session.play(actions);
     // A session can walk each way of its history.
     let _folder = session.folder();
     for _ in 0..accepted {
@@ -74,7 +73,6 @@ pub fn play_and_take_back(session: &mut Session, alloc: Global, actions: &[Actio
 /// The fault for which the definitions refuse the repair, or that memory ran out.
 pub fn repair(
     session: &mut Session,
-    alloc: Global,
     base: &str,
     extras: &[String],
     purge: bool,
@@ -156,5 +154,5 @@ pub fn repair(
     kept_session_keeps_its_room();
     // A session can walk each way of its history.
     let _folder = session.folder();
-    session.repair(alloc, base, extras, purge)
+    session.repair(base, extras, purge)
 }

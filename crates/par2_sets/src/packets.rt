@@ -65,11 +65,11 @@ fn is_other(name: &Name, base: &Name) -> bool
 }
 
 // The names of the other `.par2` files, in order.
-fn other_par_names(alloc: Global, folder: &Folder, base: &Name) -> Result<Vec<Name>, AllocError>
+fn other_par_names(folder: &Folder, base: &Name) -> Result<Vec<Name>, AllocError>
     ensures { let all = other_par_names folder.now.files base.now in
         IfOk result (λ names. names.items ≡ all) }
 {
-    let mut names = folder.names(alloc)?;
+    let mut names = folder.names()?;
     names.retain(|name| is_other(name, base));
     Ok(names)
 }
@@ -87,7 +87,7 @@ pub(crate) fn packets_of<'a>(
 {
     let mut packets = Vec::new(alloc);
     add_packets(&mut packets, id, bytes_of(folder, base))?;
-    for name in &other_par_names(alloc, folder, base)? {
+    for name in &other_par_names(folder, base)? {
         add_packets(&mut packets, id, bytes_of(folder, name))?;
     }
     Ok(packets)

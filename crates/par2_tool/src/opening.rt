@@ -109,7 +109,7 @@ fn read_store<S: FolderStore>(
 
 // Takes a halfway command back in the store, and settles its journal.
 fn take_back<S: FolderStore>(
-    alloc: Global,
+    _alloc: Global,
     store: &mut S,
     halfway: Halfway,
 ) -> Result<Session, OpenFault>
@@ -130,7 +130,7 @@ fn take_back<S: FolderStore>(
         → IsTrue (are_applicable (S.contents store.old).files (way_left halfway))
         → S.impossible store.new ≡ S.impossible store.old }
 {
-    let after = halfway.settled(alloc)?;
+    let after = halfway.settled()?;
     let journals = Journals {
         halfway: None,
         after,

@@ -68,7 +68,7 @@ impl From<PerformFault> for Failure {
 /// the steps are answered. After a refusal store and session are as before. After Store the session is to be dropped
 /// and the store opened again: it opens as the session from before the command or as the one from afterwards.
 pub fn perform<S: FolderStore>(
-    alloc: Global,
+    _alloc: Global,
     store: &mut S,
     session: &mut Session,
     command: &Command,
@@ -116,18 +116,18 @@ pub fn perform<S: FolderStore>(
     ready_changes_apply();
     let action = match command {
         Command::Verify { base, extras } => {
-            return match session.verify(alloc, base.as_str(), extras.as_slice()) {
+            return match session.verify(base.as_str(), extras.as_slice()) {
                 Ok(report) => Ok(Outcome::Report(report)),
                 Err(fault) => Err(PerformFault::Session(SessionFault::Plan(fault))),
             };
         }
         Command::Act(action) => action,
     };
-    let mut prepared = match session.prepare(alloc, action) {
+    let mut prepared = match session.prepare(action) {
         Ok(prepared) => prepared,
         Err(fault) => return Err(PerformFault::Session(fault)),
     };
-    let journals = session.journals(alloc, &mut prepared)?;
+    let journals = session.journals(&mut prepared)?;
     match write_down(store, &journals, session.changes(&prepared)) {
         Ok(()) => Ok(Outcome::Done(session.commit(prepared))),
         Err(_) => Err(PerformFault::Store),

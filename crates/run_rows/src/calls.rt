@@ -60,6 +60,6 @@ pub fn folder_of<S: FolderStore>(alloc: Global, store: &mut S) -> Result<Folder,
 }
 
 /// The fingerprint of a folder.
-pub fn print_of(alloc: Global, folder: &Folder) -> Result<[u8; 16], AllocError> {
-    folder.fingerprint(alloc)
+pub fn print_of(folder: &Folder) -> Result<[u8; 16], AllocError> {
+    folder.fingerprint()
 }

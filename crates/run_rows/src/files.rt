@@ -63,5 +63,5 @@ pub fn copy_of(alloc: Global, store: &mut MemoryStore) -> Result<MemoryStore> {
 
 /// The fingerprint of a store's folder.
 pub fn fingerprint_of(alloc: Global, store: &mut MemoryStore) -> Result<[u8; 16]> {
-    Ok(print_of(alloc, &folder_of(alloc, store)?)?)
+    Ok(print_of(&folder_of(alloc, store)?)?)
 }

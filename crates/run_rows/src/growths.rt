@@ -19,7 +19,7 @@ fn hold(rt: &HostRuntime, store: &mut MemoryStore) -> Result<()> {
 
 // Prints where a session stands.
 fn stand(rt: &HostRuntime, session: &Session) -> Result<()> {
-    let files = u128::from_be_bytes(print_of(rt.alloc(), session.folder())?);
+    let files = u128::from_be_bytes(print_of(session.folder())?);
     let (undos, redos) = (session.undo_depth(), session.redo_depth());
     println!(rt; "  {files:032x} {undos} {redos}")?;
     Ok(())

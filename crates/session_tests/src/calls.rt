@@ -25,8 +25,8 @@ pub fn bytes_in<'a>(folder: &'a Folder, name: &Name) -> Option<&'a [u8]> {
     folder.get(name)
 }
 
-pub fn fingerprint(alloc: Global, folder: &Folder) -> Result<[u8; 16], AllocError> {
-    folder.fingerprint(alloc)
+pub fn fingerprint(folder: &Folder) -> Result<[u8; 16], AllocError> {
+    folder.fingerprint()
 }
 
 pub fn plan_of(alloc: Global, folder: &Folder, args: &CreateArgs) -> Result<Changes, Fault> {
@@ -37,27 +37,23 @@ pub fn new_session(alloc: Global, folder: Folder) -> Session {
     Session::new(alloc, folder)
 }
 
-pub fn create(session: &mut Session, alloc: Global, args: &CreateArgs) -> Result<Steps, Fault> {
-    session.create(alloc, args)
+pub fn create(session: &mut Session, args: &CreateArgs) -> Result<Steps, Fault> {
+    session.create(args)
 }
 
 // Repairs by the index `t.par2` alone.
-pub fn repair(session: &mut Session, alloc: Global, purge: bool) -> Result<Steps, Fault> {
-    session.repair(alloc, "t.par2", &[], purge)
+pub fn repair(session: &mut Session, purge: bool) -> Result<Steps, Fault> {
+    session.repair("t.par2", &[], purge)
 }
 
-pub fn purge(session: &mut Session, alloc: Global) -> Result<Steps, Fault> {
-    session.purge(alloc, "t.par2")
+pub fn purge(session: &mut Session) -> Result<Steps, Fault> {
+    session.purge("t.par2")
 }
 
-pub fn prepare(
-    session: &mut Session,
-    alloc: Global,
-    action: &Action,
-) -> Result<Prepared, SessionFault>
+pub fn prepare(session: &mut Session, action: &Action) -> Result<Prepared, SessionFault>
     ensures { IfOk result (λ prepared. Fits prepared session.new) }
 {
-    session.prepare(alloc, action)
+    session.prepare(action)
 }
 
 // Whether one change was made ready, with one step.
@@ -67,15 +63,11 @@ pub fn is_one_change(session: &Session, prepared: &Prepared) -> bool
     session.changes(prepared).len() == 1 && prepared.steps().len() == 1
 }
 
-pub fn journals_of(
-    session: &mut Session,
-    alloc: Global,
-    prepared: &mut Prepared,
-) -> Result<Journals, AllocError>
+pub fn journals_of(session: &mut Session, prepared: &mut Prepared) -> Result<Journals, AllocError>
     requires { Fits prepared.old session.old }
     ensures { Fits prepared.new session.new }
 {
-    session.journals(alloc, prepared)
+    session.journals(prepared)
 }
 
 // How many steps were done.
@@ -95,8 +87,8 @@ pub fn redo(session: &mut Session) -> bool {
 }
 
 // How many of the actions were done.
-pub fn play(session: &mut Session, alloc: Global, actions: &[Action]) -> usize {
-    session.play(alloc, actions)
+pub fn play(session: &mut Session, actions: &[Action]) -> usize {
+    session.play(actions)
 }
 
 // How many commands a session can undo and redo.
@@ -113,8 +105,8 @@ pub fn vacant_in(session: &Session) -> usize {
     session.folder().vacant()
 }
 
-pub fn encode(session: &Session, alloc: Global) -> Result<Vec<u8>, AllocError> {
-    session.encode(alloc)
+pub fn encode(session: &Session) -> Result<Vec<u8>, AllocError> {
+    session.encode()
 }
 
 pub fn open(alloc: Global, folder: Folder, text: &[u8]) -> Result<Opened, (JournalFault, Folder)> {
@@ -133,8 +125,8 @@ pub fn changes_back(halfway: &Halfway) -> &[Change] {
     halfway.changes()
 }
 
-pub fn settled_text(halfway: &Halfway, alloc: Global) -> Result<Vec<u8>, AllocError> {
-    halfway.settled(alloc)
+pub fn settled_text(halfway: &Halfway) -> Result<Vec<u8>, AllocError> {
+    halfway.settled()
 }
 
 pub fn taken_back(halfway: Halfway) -> Session {

@@ -52,13 +52,12 @@ pub const UNDONE_JOURNAL: &[u8] = b"P2UNDO2\n\
     \xd3\x68\x83\xb6\x33\x05\xc2\x0b\x65\xe4\x20\x6a\x90\x61\x28\xc1\
     \0\0\0\0\0\0\0\0\x01\0\0\0\0\0\0\0\x01\0\0\0\0\0\0\0\x01\x06t.par2\xa4\x01\0\0\0\0\0\0PAR2\0PKT";
 
-fn is_journal_of(alloc: Global, session: &Session, text: &[u8]) -> Result<bool, AllocError> {
-    Ok(encode(session, alloc)?.as_slice() == text)
+fn is_journal_of(session: &Session, text: &[u8]) -> Result<bool, AllocError> {
+    Ok(encode(session)?.as_slice() == text)
 }
 
 // The journals of what was made ready, one change of one step. The session has this journal, as before.
 fn spelled(
-    alloc: Global,
     session: &mut Session,
     prepared: &mut Prepared,
     before: &[u8],
@@ -69,8 +68,8 @@ fn spelled(
     if !is_one_change(session, prepared) {
         return Err(Trouble::Refused);
     }
-    let journals = journals_of(session, alloc, prepared)?;
-    if is_journal_of(alloc, session, before)? {
+    let journals = journals_of(session, prepared)?;
+    if is_journal_of(session, before)? {
         Ok(journals)
     } else {
         Err(Trouble::Refused)
@@ -78,12 +77,12 @@ fn spelled(
 }
 
 // Makes an action ready, with its journals, by which the session stays as it is, and does it.
-fn committed(alloc: Global, session: &mut Session, action: &Action) -> Result<Journals, Trouble> {
-    let before = encode(session, alloc)?;
-    let Ok(mut prepared) = prepare(session, alloc, action) else {
+fn committed(session: &mut Session, action: &Action) -> Result<Journals, Trouble> {
+    let before = encode(session)?;
+    let Ok(mut prepared) = prepare(session, action) else {
         return Err(Trouble::Refused);
     };
-    let journals = spelled(alloc, session, &mut prepared, &before)?;
+    let journals = spelled(session, &mut prepared, &before)?;
     if calls::commit(session, prepared) == 1 {
         Ok(journals)
     } else {
@@ -105,7 +104,7 @@ pub fn commits(
     halfway: &Text,
 ) -> Result<bool, Trouble> {
     let action = action_of(alloc, task)?;
-    let journals = committed(alloc, session, &action)?;
-    let after = encode(session, alloc)?;
+    let journals = committed(session, &action)?;
+    let after = encode(session)?;
     Ok(are_spelled(&journals, halfway, &after))
 }

@@ -13,7 +13,7 @@ use std::test::Fail;
 
 // The session that the file `a` alone is opened as, with the journal of another.
 pub fn reopened(alloc: Global, session: &Session, is_redo_next: bool) -> Result<Session, Trouble> {
-    let text = encode(session, alloc)?;
+    let text = encode(session)?;
     let folder = folder_of(alloc, A)?;
     let opened = if is_redo_next {
         open_before_redo(alloc, folder, &text)
@@ -40,14 +40,14 @@ fn is_removal_of(changes: &[Change], text: &str) -> bool {
 }
 
 // Whether the halfway command is to be taken back by removing the index, and this journal stands then.
-fn is_as_told(alloc: Global, halfway: &Halfway, settled: &[u8]) -> Result<bool, Trouble> {
-    let text = settled_text(halfway, alloc)?;
+fn is_as_told(halfway: &Halfway, settled: &[u8]) -> Result<bool, Trouble> {
+    let text = settled_text(halfway)?;
     Ok(text.as_slice() == settled && is_removal_of(changes_back(halfway), "t.par2"))
 }
 
 // Whether that is told and done.
-fn is_removed(alloc: Global, halfway: Halfway, settled: &[u8]) -> Result<bool, Trouble> {
-    let is_told = is_as_told(alloc, &halfway, settled)?;
+fn is_removed(halfway: Halfway, settled: &[u8]) -> Result<bool, Trouble> {
+    let is_told = is_as_told(&halfway, settled)?;
     let session = taken_back(halfway);
     Ok(is_told && stands(&session, &("t.par2", 0, 0, None)))
 }
@@ -63,7 +63,7 @@ pub fn is_taken_back(
         return Ok(false);
     };
     let halfway = halfway_of(alloc, &[("a", b"abcdefgh"), ("t.par2", index)], text)?;
-    is_removed(alloc, halfway, settled)
+    is_removed(halfway, settled)
 }
 
 // A journal after whose undo the file `t.par2` of one byte can be written again, made by another program from the
@@ -118,7 +118,7 @@ fn given_back(
 // Whether the folder is given back as it was.
 fn is_refused(alloc: Global, row: &Foreign) -> Result<bool, Trouble> {
     let folder = given_back(alloc, folder_of(alloc, row.0)?, row.2, row.3)?;
-    Ok(fingerprint(alloc, &folder)? == row.1)
+    Ok(fingerprint(&folder)? == row.1)
 }
 
 #[test]

@@ -11,13 +11,13 @@ const INDEX: &str = "t.par2";
 
 const VOLUME: &str = "t.vol00000+00001.par2";
 
-fn repaired(session: &mut Session, alloc: Global) -> bool {
-    par2_sessions::repair(session, alloc, INDEX, &[], false).is_ok()
+fn repaired(session: &mut Session) -> bool {
+    par2_sessions::repair(session, INDEX, &[], false).is_ok()
 }
 
 // How many of the actions were accepted and taken back.
-fn taken_back(session: &mut Session, alloc: Global, actions: &[Action]) -> usize {
-    par2_sessions::play_and_take_back(session, alloc, actions)
+fn taken_back(session: &mut Session, actions: &[Action]) -> usize {
+    par2_sessions::play_and_take_back(session, actions)
 }
 
 // A session on the file `a`, for which one recovery slice was created.
@@ -25,7 +25,7 @@ fn protected(alloc: Global) -> Result<Session, Trouble> {
     let mut session = Session::new(alloc, folder_of(alloc, A)?);
     let mut args = args_of(alloc, 4, INDEX, &["a"])?;
     args.count = 1;
-    match calls::create(&mut session, alloc, &args) {
+    match calls::create(&mut session, &args) {
         Ok(_) => Ok(session),
         Err(_) => Err(Trouble::Refused),
     }
@@ -47,7 +47,7 @@ fn damaged(alloc: Global, session: &Session) -> Result<Session, Trouble> {
 fn is_given_back(alloc: Global) -> Result<bool, Trouble> {
     let before = protected(alloc)?;
     let mut session = damaged(alloc, &before)?;
-    Ok(repaired(&mut session, alloc) && file_in(&session, "a") == Some(b"abcdefgh"))
+    Ok(repaired(&mut session) && file_in(&session, "a") == Some(b"abcdefgh"))
 }
 
 #[test]
@@ -75,7 +75,7 @@ fn actions_of(alloc: Global, tasks: &[Task]) -> Result<Vec<Action>, AllocError> 
 fn are_taken_back(alloc: Global) -> Result<bool, Trouble> {
     let actions = actions_of(alloc, CREATES)?;
     let mut session = Session::new(alloc, folder_of(alloc, A)?);
-    let is_count = taken_back(&mut session, alloc, &actions) == 2;
+    let is_count = taken_back(&mut session, &actions) == 2;
     Ok(is_count && stands(&session, &("a", 0, 2, Some(8))) && file_in(&session, "u.par2").is_none())
 }
 

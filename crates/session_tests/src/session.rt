@@ -82,7 +82,7 @@ fn actions_of(alloc: Global, tasks: &[Task]) -> Result<Vec<Action>, AllocError> 
 // How many of the tasks are done.
 fn played(alloc: Global, session: &mut Session, tasks: &[Task]) -> Result<usize, Trouble> {
     let actions = actions_of(alloc, tasks)?;
-    Ok(calls::play(session, alloc, &actions))
+    Ok(calls::play(session, &actions))
 }
 
 // The steps of a command, which the session's own call of it does.
@@ -90,10 +90,10 @@ fn steps_of(alloc: Global, session: &mut Session, task: &Task) -> Result<Steps, 
     let steps = match task {
         Task::Create(base) => {
             let args = args_of(alloc, 4, base, &["a"])?;
-            calls::create(session, alloc, &args)
+            calls::create(session, &args)
         }
-        Task::Repair { purge } => calls::repair(session, alloc, *purge),
-        Task::Purge => calls::purge(session, alloc),
+        Task::Repair { purge } => calls::repair(session, *purge),
+        Task::Purge => calls::purge(session),
         Task::Undo | Task::Redo => return Err(Trouble::Refused),
     };
     steps.map_err(|_| Trouble::Refused)
@@ -127,16 +127,16 @@ fn refuses(
     wanted: SessionFault,
 ) -> Result<bool, Trouble> {
     let action = action_of(alloc, task)?;
-    let prepared = prepare(session, alloc, &action);
+    let prepared = prepare(session, &action);
     Ok(matches!(&prepared, Err(fault) if *fault == wanted))
 }
 
-fn has_fingerprint(alloc: Global, session: &Session, wanted: &[u8; 16]) -> Result<bool, Trouble> {
-    Ok(fingerprint(alloc, folder_in(session))? == *wanted)
+fn has_fingerprint(session: &Session, wanted: &[u8; 16]) -> Result<bool, Trouble> {
+    Ok(fingerprint(folder_in(session))? == *wanted)
 }
 
-fn has_journal(alloc: Global, session: &Session, wanted: &Text) -> Result<bool, Trouble> {
-    Ok(is_text(&encode(session, alloc)?, wanted))
+fn has_journal(session: &Session, wanted: &Text) -> Result<bool, Trouble> {
+    Ok(is_text(&encode(session)?, wanted))
 }
 
 /// What is done with a session, and what holds of it then.
@@ -173,8 +173,8 @@ fn is_met(alloc: Global, session: &mut Session, row: &Row) -> Result<bool, Troub
         Row::Undo(wanted) => Ok(calls::undo(session) == *wanted),
         Row::Redo(wanted) => Ok(calls::redo(session) == *wanted),
         Row::Stands(wanted) => Ok(stands(session, wanted)),
-        Row::Fingerprint(wanted) => has_fingerprint(alloc, session, wanted),
-        Row::Journal(wanted) => has_journal(alloc, session, wanted),
+        Row::Fingerprint(wanted) => has_fingerprint(session, wanted),
+        Row::Journal(wanted) => has_journal(session, wanted),
         Row::Reopen(is_redo_next) => {
             *session = reopened(alloc, session, *is_redo_next)?;
             Ok(true)

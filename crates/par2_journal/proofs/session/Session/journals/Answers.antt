@@ -2,7 +2,7 @@ use Rattle.std.proofs.Common.{◌-◌, sym, ap, ◌∙◌, vec_len, vec_capacity
 use Rattle.par2_journal.specs.Kinds.{kind_of}
 use Rattle.par2_journal.specs.Ready.{Kind, Ready, changes_by_kind}
 use Rattle.par2_journal.specs.Spelling.{Add, Undo, Redo, turn_of}
-use Rattle.par2_journal.proofs.SessionJournals.{ready_applies, ready_spelled, undo_entry, redo_entry}
+use Rattle.par2_journal.proofs.SessionJournals.{ready_applies, ready_spelled, spelled_for, undo_entry, redo_entry}
 use Rattle.par2_journal.proofs.session.Session.journals.Goals.{in-Change, in-Undo, in-Redo}
 use Rattle.par2_journal.proofs.session.Session.journals.Goals as goal
 
@@ -22,8 +22,8 @@ spell_entry-requires-in-Redo-clause-applies c =
     let are = redo_entry s.entries.items s.cursor c.self.invariant.within s.folder room c.args.self.now c.self.view_is c.args.prepared.now c.requires.can kind c.deref_mut-in-Redo.result.now c.deref_mut-in-Redo.ensures.value in
     ready_applies s.entries.items s.cursor c.self.invariant.within s.folder room c.args.self.now c.self.view_is c.args.prepared.now c.requires.can c.self.invariant.walks _ are
 
-pub returns-clause-journals : goal.returns-clause-journals
-returns-clause-journals c =
+pub returns-clause-spelled : goal.returns-clause-spelled
+returns-clause-spelled c =
     let s = c.self.inside in
     let room = vec_capacity s.entries - vec_len s.entries in
     elim c.match-prepared.branch [
@@ -46,3 +46,6 @@ returns-clause-journals c =
           Redo (sym (ap turn_of is)) w.deref_mut-in-Redo.result.now w.deref_mut-in-Redo.ensures.value w.spell_entry-in-Redo.result c.match-prepared.result w.result-is
           _ are w.spell_entry-in-Redo.ensures.halfway w.spell_entry-in-Redo.ensures.after
     ]
+
+pub returns-clause-journals : goal.returns-clause-journals
+returns-clause-journals c = spelled_for _ c.args.self.now c.args.prepared.now (returns-clause-spelled c)
