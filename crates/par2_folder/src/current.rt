@@ -13,7 +13,7 @@ use std::io::{Error, ErrorKind};
 use std::{fs, io};
 
 /// The current directory, by a runtime that reaches it. Of what it holds nothing is promised, so each call of the
-/// store is one call of the runtime here, and what is made of the answers is said beside it.
+/// store is a call or two of the runtime here, and what is made of the answers is said beside it.
 #[derive(Drop)]
 pub struct CurrentDirectory<'r, R: Files + AllocGlobal> {
     rt: &'r R,
