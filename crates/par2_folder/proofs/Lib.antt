@@ -5,7 +5,6 @@ mod Ends
 pub mod Steps
 pub mod Filling
 pub mod Below
-mod Disks
 mod LentChanges
 pub mod Snapshots
 pub mod Borders

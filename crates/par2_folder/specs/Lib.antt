@@ -1,6 +1,7 @@
 pub mod Sorting
 pub mod Views
 pub mod Memory
+pub mod Cuts
 pub mod Directories
 pub mod Disk
 pub mod Fuse

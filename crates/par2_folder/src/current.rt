@@ -5,6 +5,7 @@ ghost use Rattle.par2_folder.specs.Directories.{IsFoundBy};
 
 use crate::directory::{Directory, Found, Place};
 use crate::reading::{fault_of, read_opened};
+use crate::waiting::{wait_for, written_to};
 use crate::{BadName, Name, ReadFault, StoreFault};
 use std::alloc::Global;
 use std::fs::{DirEntry, Files, Metadata};
@@ -12,10 +13,12 @@ use std::io::{Error, ErrorKind};
 use std::{fs, io};
 
 /// The current directory, by a runtime that reaches it. Of what it holds nothing is promised, so each call of the
-/// store is one call of the runtime here, and what is made of the answers is said beside it.
+/// store is a call or two of the runtime here, and what is made of the answers is said beside it.
 #[derive(Drop)]
 pub struct CurrentDirectory<'r, R: Files + AllocGlobal> {
     rt: &'r R,
+    // The temporary file, from when it is written until it is waited for.
+    written: Option<R::File>,
 }
 
 // What was found by what the runtime says of a path.
@@ -76,7 +79,7 @@ fn list<R: Files + AllocGlobal>(rt: &R, alloc: Global) -> io::Result<Vec<Name>> 
 
 impl<'r, R: Files + AllocGlobal> CurrentDirectory<'r, R> {
     pub fn new(rt: &'r R) -> CurrentDirectory<'r, R> {
-        CurrentDirectory { rt }
+        CurrentDirectory { rt, written: None }
     }
 }
 
@@ -89,6 +92,10 @@ impl<'r, R: Files + AllocGlobal> Directory for CurrentDirectory<'r, R> {
     ghost contents = { λ _. record { files = empty; journal = None } };
 
     ghost temporary = { λ _. None };
+
+    ghost may_remain = { λ _ _. ⊥ };
+
+    ghost bytes_may_remain = { λ _ _. ⊥ };
 
     ghost barred = { λ _ _. ⊥ };
 
@@ -108,7 +115,21 @@ impl<'r, R: Files + AllocGlobal> Directory for CurrentDirectory<'r, R> {
     }
 
     fn write_temporary(&mut self, bytes: &[u8]) -> Result<(), StoreFault> {
-        made(fs::write(self.rt, Place::Temporary.path(), bytes))
+        let opened = fs::create(self.rt, Place::Temporary.path());
+        match written_to(opened, bytes) {
+            Ok(file) => {
+                self.written = Some(file);
+                Ok(())
+            }
+            Err(_) => Err(StoreFault),
+        }
+    }
+
+    fn wait_for_temporary(&mut self) -> Result<(), StoreFault> {
+        match self.written.take() {
+            Some(file) => made(wait_for(Ok(file))),
+            None => Err(StoreFault),
+        }
     }
 
     fn put_temporary(&mut self, place: Place<'_>) -> Result<(), StoreFault> {
@@ -121,5 +142,9 @@ impl<'r, R: Files + AllocGlobal> Directory for CurrentDirectory<'r, R> {
 
     fn remove(&mut self, name: &Name) -> Result<(), StoreFault> {
         made(fs::remove_file(self.rt, name.as_str()))
+    }
+
+    fn wait(&mut self) -> Result<(), StoreFault> {
+        made(wait_for(fs::open(self.rt, ".")))
     }
 }

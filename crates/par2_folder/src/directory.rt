@@ -3,6 +3,7 @@ ghost use Rattle.std.specs.Prelude.{◌≡◌, ◌⊎◌, ℕ, List, Option, Som
 ghost use Rattle.par2_spec.specs.Folders.{names};
 ghost use Rattle.par2_spec.specs.Changes.{Rename, Remove, is_applicable};
 ghost use Rattle.par2_spec.specs.Stores.{Contents, with_change};
+ghost use Rattle.par2_folder.specs.Cuts.{AreKept, Lasts, MayBeCutOff, MayBeMade, NoMoreRemains};
 ghost use Rattle.par2_folder.specs.Directories.{path_of, bytes_at, put_at, StandsAs};
 
 use crate::{Name, ReadFault, StoreFault};
@@ -40,7 +41,8 @@ pub enum Found {
 }
 
 /// A flat directory, with what else stands there beside files. What is said of it holds where it is honest: nobody
-/// else writes it, and what is read is what was written.
+/// else writes it, and what is read is what was written. Of a power cut a call that writes says what it may leave, and
+/// a call that waits takes that away, so that what is there may remain alone.
 pub trait Directory {
     /// Whether nobody else writes, and what is read is what was written.
     ghost honest: { Self → Type 0 };
@@ -50,6 +52,12 @@ pub trait Directory {
 
     /// The bytes of the temporary file, if there is one.
     ghost temporary: { Self → Option (List ℕ) };
+
+    /// What a power cut now may leave of the files and the journal.
+    ghost may_remain: { Self → Contents → Type 0 };
+
+    /// What it may leave of the bytes of the temporary file.
+    ghost bytes_may_remain: { Self → List ℕ → Type 0 };
 
     /// Whether something stands at a path that is no file.
     ghost barred: { Self → List ℕ → Type 0 };
@@ -78,7 +86,23 @@ pub trait Directory {
         ensures same { honest self.old → (barred self.old (path_of Place.Temporary) → ⊥)
             → contents self.new ≡ contents self.old }
         ensures barred { honest self.old
-            → (path : List ℕ) → barred self.new path → barred self.old path };
+            → (path : List ℕ) → barred self.new path → barred self.old path }
+        ensures remains { honest self.old → (barred self.old (path_of Place.Temporary) → ⊥)
+            → NoMoreRemains (may_remain self.old) (may_remain self.new) }
+        ensures cut_off { honest self.old → (barred self.old (path_of Place.Temporary) → ⊥)
+            → OnOk result (MayBeCutOff (bytes_may_remain self.new) bytes.now) };
+
+    /// Waits until the bytes of the temporary file, which was just written, are kept.
+    fn wait_for_temporary(&mut self) -> Result<(), StoreFault>
+        ensures honest { honest self.old → honest self.new }
+        ensures contents { honest self.old → contents self.new ≡ contents self.old }
+        ensures temporary { honest self.old → temporary self.new ≡ temporary self.old }
+        ensures barred { honest self.old
+            → (path : List ℕ) → barred self.new path → barred self.old path }
+        ensures remains { honest self.old
+            → NoMoreRemains (may_remain self.old) (may_remain self.new) }
+        ensures kept { honest self.old
+            → OnOk result (AreKept (bytes_may_remain self.new) (temporary self.new)) };
 
     /// Gives the temporary file a place, over the file that is there. What is there and is no file would be lost.
     fn put_temporary(&mut self, place: Place<'_>) -> Result<(), StoreFault>
@@ -89,7 +113,11 @@ pub trait Directory {
         ensures all_or_none { honest self.old → (barred self.old (path_of place.entry) → ⊥)
             → OnErr result ((contents self.new ≡ contents self.old)
             ⊎ IfSome (temporary self.old) (λ bytes.
-            contents self.new ≡ put_at (contents self.old) place.entry bytes)) };
+            contents self.new ≡ put_at (contents self.old) place.entry bytes)) }
+        ensures remains { honest self.old → (barred self.old (path_of place.entry) → ⊥)
+            → MayBeMade (λ before after. (bytes : List ℕ) × bytes_may_remain self.old bytes
+            × (after ≡ put_at before place.entry bytes))
+            (may_remain self.old) (may_remain self.new) };
 
     /// Gives a file another name, which nothing has.
     fn rename(&mut self, from: &Name, to: &Name) -> Result<(), StoreFault>
@@ -101,7 +129,11 @@ pub trait Directory {
         ensures all_or_none { honest self.old → (barred self.old to.now → ⊥)
             → IsTrue (is_applicable (contents self.old).files (Rename from.now to.now))
             → OnErr result ((contents self.new ≡ contents self.old)
-            ⊎ (contents self.new ≡ with_change (contents self.old) (Rename from.now to.now))) };
+            ⊎ (contents self.new ≡ with_change (contents self.old) (Rename from.now to.now))) }
+        ensures remains { honest self.old → (barred self.old to.now → ⊥)
+            → IsTrue (is_applicable (contents self.old).files (Rename from.now to.now))
+            → MayBeMade (λ before after. after ≡ with_change before (Rename from.now to.now))
+            (may_remain self.old) (may_remain self.new) };
 
     /// Removes a file.
     fn remove(&mut self, name: &Name) -> Result<(), StoreFault>
@@ -112,5 +144,18 @@ pub trait Directory {
         ensures all_or_none { honest self.old
             → IsTrue (is_applicable (contents self.old).files (Remove name.now))
             → OnErr result ((contents self.new ≡ contents self.old)
-            ⊎ (contents self.new ≡ with_change (contents self.old) (Remove name.now))) };
+            ⊎ (contents self.new ≡ with_change (contents self.old) (Remove name.now))) }
+        ensures remains { honest self.old
+            → IsTrue (is_applicable (contents self.old).files (Remove name.now))
+            → MayBeMade (λ before after. after ≡ with_change before (Remove name.now))
+            (may_remain self.old) (may_remain self.new) };
+
+    /// Waits until the names that the files and the journal have are kept.
+    fn wait(&mut self) -> Result<(), StoreFault>
+        ensures honest { honest self.old → honest self.new }
+        ensures contents { honest self.old → contents self.new ≡ contents self.old }
+        ensures remains { honest self.old
+            → NoMoreRemains (may_remain self.old) (may_remain self.new) }
+        ensures lasts { honest self.old
+            → OnOk result (Lasts (may_remain self.new) (contents self.new)) };
 }

@@ -3,6 +3,7 @@ ghost use Rattle.std.specs.Prelude.{◌≡◌, ◌+◌, ◌⊎◌, ◌<◌, ◌�
 ghost use Rattle.par2_spec.specs.Changes.{Rename, Remove, is_applicable};
 ghost use Rattle.par2_spec.specs.Folders.{has};
 ghost use Rattle.par2_spec.specs.Stores.{with_change};
+ghost use Rattle.par2_folder.specs.Cuts.{Lasts, RemainsEither};
 ghost use Rattle.par2_folder.specs.Directories.{path_of, put_at};
 ghost use Rattle.par2_folder.specs.Disk.{directory_of, disk_failures, disk_impossible};
 
@@ -96,7 +97,8 @@ impl<D: Directory> DiskStore<D> {
         )
     }
 
-    // Writes the file at a place by way of the temporary one.
+    // Writes the file at a place by way of the temporary one. Its bytes are kept before it gets the name, and the name is
+    // kept before the answer is Ok.
     fn write_at(&mut self, place: Place<'_>, bytes: &[u8]) -> Result<(), StoreFault>
         ensures honest { D.honest (directory_of self.old) → D.honest (directory_of self.new) }
         ensures done { D.honest (directory_of self.old) → OnOk result
@@ -109,6 +111,12 @@ impl<D: Directory> DiskStore<D> {
         ensures barred { let directory = directory_of self.old in
             D.honest directory → D.barred directory (path_of place.entry) ⊎ D.barred directory
             (path_of Place.Temporary) → IsErr result × (directory_of self.new ≡ directory) }
+        ensures lasts { D.honest (directory_of self.old) → OnOk result
+            (Lasts (D.may_remain (directory_of self.new)) (D.contents (directory_of self.new))) }
+        ensures remains { let directory = directory_of self.old in D.honest directory
+            → Lasts (D.may_remain directory) (D.contents directory)
+            → RemainsEither (D.may_remain (directory_of self.new))
+            (D.contents directory) (put_at (D.contents directory) place.entry bytes.now) }
         ensures failures { disk_failures self.new ≡ disk_failures self.old }
         ensures possible { disk_impossible self.new ≡ disk_impossible self.old }
     {
@@ -116,7 +124,9 @@ impl<D: Directory> DiskStore<D> {
             return Err(StoreFault);
         }
         self.directory.write_temporary(bytes)?;
-        self.directory.put_temporary(place)
+        self.directory.wait_for_temporary()?;
+        self.directory.put_temporary(place)?;
+        self.directory.wait()
     }
 
     // Gives a file a name that nothing has.
@@ -134,6 +144,12 @@ impl<D: Directory> DiskStore<D> {
             ((D.contents (directory_of self.new) ≡ D.contents (directory_of self.old))
             ⊎ (D.contents (directory_of self.new)
             ≡ with_change (D.contents (directory_of self.old)) (Rename from.now to.now))) }
+        ensures lasts { D.honest (directory_of self.old) → OnOk result
+            (Lasts (D.may_remain (directory_of self.new)) (D.contents (directory_of self.new))) }
+        ensures remains { let directory = directory_of self.old in D.honest directory
+            → Lasts (D.may_remain directory) (D.contents directory)
+            → RemainsEither (D.may_remain (directory_of self.new))
+            (D.contents directory) (with_change (D.contents directory) (Rename from.now to.now)) }
         ensures failures { disk_failures self.new ≡ disk_failures self.old }
         ensures possible { let directory = directory_of self.old in D.honest directory
             → IsTrue (is_applicable (D.contents directory).files (Rename from.now to.now))
@@ -142,7 +158,10 @@ impl<D: Directory> DiskStore<D> {
     {
         let _size = self.find_file(from)?;
         match self.directory.find(Place::File(to))? {
-            Found::Nothing => self.directory.rename(from, to),
+            Found::Nothing => {
+                self.directory.rename(from, to)?;
+                self.directory.wait()
+            }
             Found::File(_) => Err(self.refuse()),
             // No file has the name, and yet it can't be given.
             Found::Other => Err(StoreFault),
@@ -163,6 +182,12 @@ impl<D: Directory> DiskStore<D> {
             ((D.contents (directory_of self.new) ≡ D.contents (directory_of self.old))
             ⊎ (D.contents (directory_of self.new)
             ≡ with_change (D.contents (directory_of self.old)) (Remove name.now))) }
+        ensures lasts { D.honest (directory_of self.old) → OnOk result
+            (Lasts (D.may_remain (directory_of self.new)) (D.contents (directory_of self.new))) }
+        ensures remains { let directory = directory_of self.old in D.honest directory
+            → Lasts (D.may_remain directory) (D.contents directory)
+            → RemainsEither (D.may_remain (directory_of self.new))
+            (D.contents directory) (with_change (D.contents directory) (Remove name.now)) }
         ensures failures { disk_failures self.new ≡ disk_failures self.old }
         ensures possible { let directory = directory_of self.old in D.honest directory
             → IsTrue (is_applicable (D.contents directory).files (Remove name.now))
@@ -170,7 +195,8 @@ impl<D: Directory> DiskStore<D> {
         ensures grows { disk_impossible self.old ≤ disk_impossible self.new }
     {
         let _size = self.find_file(name)?;
-        self.directory.remove(name)
+        self.directory.remove(name)?;
+        self.directory.wait()
     }
 
     // Counts the failures among the answers of reading calls.
@@ -213,6 +239,8 @@ impl<D: Directory> FolderStore for DiskStore<D> {
     ghost honest = { λ store. D.honest (directory_of store) };
 
     ghost contents = { λ store. D.contents (directory_of store) };
+
+    ghost may_remain = { λ store. D.may_remain (directory_of store) };
 
     ghost failures = { disk_failures };
 

@@ -72,11 +72,14 @@ impl<S: FolderStore> FolderStore for FuseStore<S> {
     ghost use Rattle.par2_spec.specs.Folders.{has, names};
     ghost use Rattle.par2_spec.specs.Changes.{Replace, Rename, Remove, is_applicable};
     ghost use Rattle.par2_spec.specs.Stores.{with_change, with_journal};
+    ghost use Rattle.par2_folder.specs.Cuts.{Lasts, NoMoreRemains, RemainsEither};
     ghost use Rattle.par2_folder.specs.Fuse.{inner_store, fuse_failures, calls_left, HasPassed, IsBlown, WorksNext};
 
     ghost honest = { λ store. S.honest (inner_store store) };
 
     ghost contents = { λ store. S.contents (inner_store store) };
+
+    ghost may_remain = { λ store. S.may_remain (inner_store store) };
 
     ghost failures = { λ store. S.failures (inner_store store) + fuse_failures store };
 
@@ -88,6 +91,8 @@ impl<S: FolderStore> FolderStore for FuseStore<S> {
             → IfOk result (λ list. list.items ≡ names (S.contents (inner_store self.old)).files) }
         ensures same { S.honest (inner_store self.old)
             → S.contents (inner_store self.new) ≡ S.contents (inner_store self.old) }
+        ensures remains { S.honest (inner_store self.old) → NoMoreRemains
+            (S.may_remain (inner_store self.old)) (S.may_remain (inner_store self.new)) }
         ensures later { S.failures (inner_store self.old) + fuse_failures self.old
             ≤ S.failures (inner_store self.new) + fuse_failures self.new }
         ensures cause { IsErrOf result ReadFault.Store → S.failures (inner_store self.old)
@@ -118,6 +123,8 @@ impl<S: FolderStore> FolderStore for FuseStore<S> {
             → IsErrOf result ReadFault.Store }
         ensures same { S.honest (inner_store self.old)
             → S.contents (inner_store self.new) ≡ S.contents (inner_store self.old) }
+        ensures remains { S.honest (inner_store self.old) → NoMoreRemains
+            (S.may_remain (inner_store self.old)) (S.may_remain (inner_store self.new)) }
         ensures later { S.failures (inner_store self.old) + fuse_failures self.old
             ≤ S.failures (inner_store self.new) + fuse_failures self.new }
         ensures cause { IsErrOf result ReadFault.Store → S.failures (inner_store self.old)
@@ -148,6 +155,8 @@ impl<S: FolderStore> FolderStore for FuseStore<S> {
             (λ bytes. bytes.items) journal ≡ (S.contents (inner_store self.old)).journal) }
         ensures same { S.honest (inner_store self.old)
             → S.contents (inner_store self.new) ≡ S.contents (inner_store self.old) }
+        ensures remains { S.honest (inner_store self.old) → NoMoreRemains
+            (S.may_remain (inner_store self.old)) (S.may_remain (inner_store self.new)) }
         ensures later { S.failures (inner_store self.old) + fuse_failures self.old
             ≤ S.failures (inner_store self.new) + fuse_failures self.new }
         ensures cause { IsErrOf result ReadFault.Store → S.failures (inner_store self.old)
@@ -178,6 +187,12 @@ impl<S: FolderStore> FolderStore for FuseStore<S> {
             → OnErr result ((S.contents (inner_store self.new) ≡ S.contents (inner_store self.old))
             ⊎ (S.contents (inner_store self.new)
             ≡ with_change (S.contents (inner_store self.old)) (Replace name.now bytes.now))) }
+        ensures lasts { S.honest (inner_store self.old) → OnOk result
+            (Lasts (S.may_remain (inner_store self.new)) (S.contents (inner_store self.new))) }
+        ensures remains { S.honest (inner_store self.old)
+            → Lasts (S.may_remain (inner_store self.old)) (S.contents (inner_store self.old))
+            → RemainsEither (S.may_remain (inner_store self.new))
+            (S.contents (inner_store self.old)) (with_change (S.contents (inner_store self.old)) (Replace name.now bytes.now)) }
         ensures later { S.failures (inner_store self.old) + fuse_failures self.old
             ≤ S.failures (inner_store self.new) + fuse_failures self.new }
         ensures cause { OnErr result (S.failures (inner_store self.old) + fuse_failures self.old
@@ -214,6 +229,12 @@ impl<S: FolderStore> FolderStore for FuseStore<S> {
             → OnErr result ((S.contents (inner_store self.new) ≡ S.contents (inner_store self.old))
             ⊎ (S.contents (inner_store self.new)
             ≡ with_change (S.contents (inner_store self.old)) (Rename from.now to.now))) }
+        ensures lasts { S.honest (inner_store self.old) → OnOk result
+            (Lasts (S.may_remain (inner_store self.new)) (S.contents (inner_store self.new))) }
+        ensures remains { S.honest (inner_store self.old)
+            → Lasts (S.may_remain (inner_store self.old)) (S.contents (inner_store self.old))
+            → RemainsEither (S.may_remain (inner_store self.new))
+            (S.contents (inner_store self.old)) (with_change (S.contents (inner_store self.old)) (Rename from.now to.now)) }
         ensures later { S.failures (inner_store self.old) + fuse_failures self.old
             ≤ S.failures (inner_store self.new) + fuse_failures self.new }
         ensures cause { OnErr result (S.failures (inner_store self.old) + fuse_failures self.old
@@ -254,6 +275,12 @@ impl<S: FolderStore> FolderStore for FuseStore<S> {
             → OnErr result ((S.contents (inner_store self.new) ≡ S.contents (inner_store self.old))
             ⊎ (S.contents (inner_store self.new)
             ≡ with_change (S.contents (inner_store self.old)) (Remove name.now))) }
+        ensures lasts { S.honest (inner_store self.old) → OnOk result
+            (Lasts (S.may_remain (inner_store self.new)) (S.contents (inner_store self.new))) }
+        ensures remains { S.honest (inner_store self.old)
+            → Lasts (S.may_remain (inner_store self.old)) (S.contents (inner_store self.old))
+            → RemainsEither (S.may_remain (inner_store self.new))
+            (S.contents (inner_store self.old)) (with_change (S.contents (inner_store self.old)) (Remove name.now)) }
         ensures later { S.failures (inner_store self.old) + fuse_failures self.old
             ≤ S.failures (inner_store self.new) + fuse_failures self.new }
         ensures cause { OnErr result (S.failures (inner_store self.old) + fuse_failures self.old
@@ -289,6 +316,12 @@ impl<S: FolderStore> FolderStore for FuseStore<S> {
             → OnErr result ((S.contents (inner_store self.new) ≡ S.contents (inner_store self.old))
             ⊎ (S.contents (inner_store self.new)
             ≡ with_journal (S.contents (inner_store self.old)) bytes.now)) }
+        ensures lasts { S.honest (inner_store self.old) → OnOk result
+            (Lasts (S.may_remain (inner_store self.new)) (S.contents (inner_store self.new))) }
+        ensures remains { S.honest (inner_store self.old)
+            → Lasts (S.may_remain (inner_store self.old)) (S.contents (inner_store self.old))
+            → RemainsEither (S.may_remain (inner_store self.new))
+            (S.contents (inner_store self.old)) (with_journal (S.contents (inner_store self.old)) bytes.now) }
         ensures later { S.failures (inner_store self.old) + fuse_failures self.old
             ≤ S.failures (inner_store self.new) + fuse_failures self.new }
         ensures cause { OnErr result (S.failures (inner_store self.old) + fuse_failures self.old

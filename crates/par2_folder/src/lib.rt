@@ -22,6 +22,7 @@ mod runs;
 mod snapshot;
 mod store;
 mod survey;
+mod waiting;
 mod walk;
 
 pub use bytes::Bytes;

@@ -2,6 +2,7 @@
 ghost use Rattle.std.specs.Prelude.{◌≡◌, ◌<◌, ◌≤◌, List, ℕ, Some, IfOk, OnOk, IsErrOf, IsTrue};
 ghost use Rattle.std.specs.FinMap.{get};
 ghost use Rattle.par2_spec.specs.Folders.{has};
+ghost use Rattle.par2_folder.specs.Cuts.{NoMoreRemains};
 ghost use Rattle.par2_folder.specs.Filling.{IsTried};
 
 use crate::{Bytes, Change, Folder, FolderStore, Name, ReadFault};
@@ -26,6 +27,8 @@ fn load_file<S: FolderStore>(
     ensures tried { OnOk result ((bytes : List ℕ) × (IsTried folder.old folder.new name.now bytes
         × (S.honest store.old → get (S.contents store.old).files name.now ≡ Some bytes))) }
     ensures same { S.honest store.old → S.contents store.new ≡ S.contents store.old }
+    ensures remains { S.honest store.old
+        → NoMoreRemains (S.may_remain store.old) (S.may_remain store.new) }
     ensures later { S.failures store.old ≤ S.failures store.new }
     ensures cause { IsErrOf result ReadFault.Store → S.failures store.old < S.failures store.new }
     ensures steady { OnOk result (S.failures store.new ≡ S.failures store.old) }
@@ -51,6 +54,8 @@ pub fn read_folder<S: FolderStore>(alloc: Global, store: &mut S) -> Result<Folde
     ensures files { S.honest store.old
         → IfOk result (λ folder. folder.files ≡ (S.contents store.old).files) }
     ensures same { S.honest store.old → S.contents store.new ≡ S.contents store.old }
+    ensures remains { S.honest store.old
+        → NoMoreRemains (S.may_remain store.old) (S.may_remain store.new) }
     ensures later { S.failures store.old ≤ S.failures store.new }
     ensures cause { IsErrOf result ReadFault.Store → S.failures store.old < S.failures store.new }
     ensures steady { OnOk result (S.failures store.new ≡ S.failures store.old) }

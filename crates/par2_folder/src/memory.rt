@@ -2,7 +2,8 @@
 use crate::{Bytes, Change, Failures, Folder, FolderStore, Name, ReadFault, StoreFault};
 use std::alloc::{AllocError, Global};
 
-/// A folder and a journal in memory. It is honest, and where a growth is refused in a writing call it fails.
+/// A folder and a journal in memory. It is honest, and where a growth is refused in a writing call it fails. It has no
+/// power to lose: what may remain is what is there.
 #[derive(Debug, Drop)]
 pub struct MemoryStore {
     alloc: Global,
@@ -118,11 +119,14 @@ impl MemoryStore {
 }
 
 impl FolderStore for MemoryStore {
+    ghost use Rattle.std.specs.Prelude.{◌≡◌};
     ghost use Rattle.par2_folder.specs.Memory.{memory_contents, memory_failures, memory_impossible};
 
     ghost honest = { λ _. Unit {0} };
 
     ghost contents = { memory_contents };
+
+    ghost may_remain = { λ store left. left ≡ memory_contents store };
 
     ghost failures = { memory_failures };
 

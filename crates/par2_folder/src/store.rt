@@ -4,6 +4,7 @@ ghost use Rattle.std.specs.FinMap.{get};
 ghost use Rattle.par2_spec.specs.Folders.{has, names};
 ghost use Rattle.par2_spec.specs.Changes.{Replace, Rename, Remove, is_applicable};
 ghost use Rattle.par2_spec.specs.Stores.{Contents, with_change, with_journal};
+ghost use Rattle.par2_folder.specs.Cuts.{Lasts, NoMoreRemains, RemainsEither};
 
 use crate::Name;
 use std::alloc::Global;
@@ -25,12 +26,17 @@ pub struct StoreFault;
 
 /// A flat folder of files, and a journal beside it. What is said of its contents holds where it is honest: nobody
 /// else writes it, and what is read is what was written. A writing call that fails has done its whole work or none.
+/// So it is with a power cut: behind a writing call that answers Ok it leaves what the call made, and behind one that
+/// fails, or in the middle of one, what was there before it or what the call makes.
 pub trait FolderStore {
     /// Whether nobody else writes, and what is read is what was written.
     ghost honest: { Self → Type 0 };
 
     /// The files and the journal.
     ghost contents: { Self → Contents };
+
+    /// What a power cut now may leave of them.
+    ghost may_remain: { Self → Contents → Type 0 };
 
     /// How often it has failed.
     ghost failures: { Self → ℕ };
@@ -45,6 +51,8 @@ pub trait FolderStore {
         ensures names { honest self.old
             → IfOk result (λ list. list.items ≡ names (contents self.old).files) }
         ensures same { honest self.old → contents self.new ≡ contents self.old }
+        ensures remains { honest self.old
+            → NoMoreRemains (may_remain self.old) (may_remain self.new) }
         ensures later { failures self.old ≤ failures self.new }
         ensures cause { IsErrOf result ReadFault.Store → failures self.old < failures self.new }
         ensures steady { OnOk result (failures self.new ≡ failures self.old) }
@@ -60,6 +68,8 @@ pub trait FolderStore {
         ensures absent { honest self.old
             → get (contents self.old).files name.now ≡ None → IsErrOf result ReadFault.Store }
         ensures same { honest self.old → contents self.new ≡ contents self.old }
+        ensures remains { honest self.old
+            → NoMoreRemains (may_remain self.old) (may_remain self.new) }
         ensures later { failures self.old ≤ failures self.new }
         ensures cause { IsErrOf result ReadFault.Store → failures self.old < failures self.new }
         ensures steady { OnOk result (failures self.new ≡ failures self.old) }
@@ -76,6 +86,8 @@ pub trait FolderStore {
         ensures journal { honest self.old → IfOk result
             (λ journal. option_map (λ bytes. bytes.items) journal ≡ (contents self.old).journal) }
         ensures same { honest self.old → contents self.new ≡ contents self.old }
+        ensures remains { honest self.old
+            → NoMoreRemains (may_remain self.old) (may_remain self.new) }
         ensures later { failures self.old ≤ failures self.new }
         ensures cause { IsErrOf result ReadFault.Store → failures self.old < failures self.new }
         ensures steady { OnOk result (failures self.new ≡ failures self.old) }
@@ -91,6 +103,11 @@ pub trait FolderStore {
         ensures all_or_none { honest self.old
             → OnErr result ((contents self.new ≡ contents self.old)
             ⊎ (contents self.new ≡ with_change (contents self.old) (Replace name.now bytes.now))) }
+        ensures lasts { honest self.old
+            → OnOk result (Lasts (may_remain self.new) (contents self.new)) }
+        ensures remains { honest self.old → Lasts (may_remain self.old) (contents self.old)
+            → RemainsEither (may_remain self.new) (contents self.old)
+            (with_change (contents self.old) (Replace name.now bytes.now)) }
         ensures later { failures self.old ≤ failures self.new }
         ensures cause { OnErr result (failures self.old < failures self.new) }
         ensures steady { OnOk result (failures self.new ≡ failures self.old) }
@@ -107,6 +124,11 @@ pub trait FolderStore {
         ensures all_or_none { honest self.old
             → OnErr result ((contents self.new ≡ contents self.old)
             ⊎ (contents self.new ≡ with_change (contents self.old) (Rename from.now to.now))) }
+        ensures lasts { honest self.old
+            → OnOk result (Lasts (may_remain self.new) (contents self.new)) }
+        ensures remains { honest self.old → Lasts (may_remain self.old) (contents self.old)
+            → RemainsEither (may_remain self.new) (contents self.old)
+            (with_change (contents self.old) (Rename from.now to.now)) }
         ensures later { failures self.old ≤ failures self.new }
         ensures cause { OnErr result (failures self.old < failures self.new) }
         ensures steady { OnOk result (failures self.new ≡ failures self.old) }
@@ -126,6 +148,11 @@ pub trait FolderStore {
         ensures all_or_none { honest self.old
             → OnErr result ((contents self.new ≡ contents self.old)
             ⊎ (contents self.new ≡ with_change (contents self.old) (Remove name.now))) }
+        ensures lasts { honest self.old
+            → OnOk result (Lasts (may_remain self.new) (contents self.new)) }
+        ensures remains { honest self.old → Lasts (may_remain self.old) (contents self.old)
+            → RemainsEither (may_remain self.new) (contents self.old)
+            (with_change (contents self.old) (Remove name.now)) }
         ensures later { failures self.old ≤ failures self.new }
         ensures cause { OnErr result (failures self.old < failures self.new) }
         ensures steady { OnOk result (failures self.new ≡ failures self.old) }
@@ -142,6 +169,11 @@ pub trait FolderStore {
         ensures all_or_none { honest self.old → OnErr result ((contents self.new
             ≡ contents self.old) ⊎ (contents self.new ≡ with_journal (contents self.old)
             bytes.now)) }
+        ensures lasts { honest self.old
+            → OnOk result (Lasts (may_remain self.new) (contents self.new)) }
+        ensures remains { honest self.old → Lasts (may_remain self.old) (contents self.old)
+            → RemainsEither (may_remain self.new) (contents self.old)
+            (with_journal (contents self.old) bytes.now) }
         ensures later { failures self.old ≤ failures self.new }
         ensures cause { OnErr result (failures self.old < failures self.new) }
         ensures steady { OnOk result (failures self.new ≡ failures self.old) }

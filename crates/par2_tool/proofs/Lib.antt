@@ -2,6 +2,7 @@ mod MadeChanges
 mod VerifyRuns
 mod Openings
 mod Stops
+mod Remains
 mod Outcomes
 mod AsIs
 mod History

@@ -4,8 +4,10 @@ ghost use Rattle.par2_journal.specs.Opening.{session_before, way_left};
 ghost use Rattle.par2_spec.specs.Changes.{are_applicable};
 ghost use Rattle.par2_spec.specs.Opening.{Started as Opening, new_session};
 ghost use Rattle.par2_spec.specs.Sessions.{session_of_kept};
+ghost use Rattle.par2_spec.specs.Stores.{Contents};
 ghost use Rattle.par2_spec.specs.Views.{command_of};
-ghost use Rattle.par2_tool.specs.Holding.{with_history};
+ghost use Rattle.par2_folder.specs.Cuts.{Lasts, NoMoreRemains};
+ghost use Rattle.par2_tool.specs.Holding.{with_history, OpensAsBefore, TellsApartBack};
 ghost use Rattle.par2_tool.specs.Opening.{started_of, CountsFailures, IsOpened, IsRead, IsStillHalfway, IsTakenBack, LeavesUnopened, StandsFor};
 
 use crate::writing::write_down;
@@ -97,6 +99,8 @@ fn read_store<S: FolderStore>(
     ensures read { S.honest store.old → IfOk result (λ read. IsRead (S.contents store.old)
         read.0.files (option_map (λ text. text.items) read.1)) }
     ensures same { S.honest store.old → S.contents store.new ≡ S.contents store.old }
+    ensures remains { S.honest store.old
+        → NoMoreRemains (S.may_remain store.old) (S.may_remain store.new) }
     ensures unopened { S.honest store.old
         → LeavesUnopened (S.contents store.old) (S.contents store.new) result }
     ensures failures { CountsFailures (S.failures store.old) (S.failures store.new) result }
@@ -121,6 +125,11 @@ fn take_back<S: FolderStore>(
     ensures stopped { S.honest store.old → OnErr result (IsStillHalfway
         (session_of_kept (session_before halfway)) (way_left halfway)
         (S.contents store.old) (S.contents store.new)) }
+    ensures lasts { S.honest store.old
+        → OnOk result (Lasts (S.may_remain store.new) (S.contents store.new)) }
+    ensures remains { S.honest store.old → Lasts (S.may_remain store.old) (S.contents store.old)
+        → (left : Contents) → S.may_remain store.new left → IsStillHalfway
+        (session_of_kept (session_before halfway)) (way_left halfway) (S.contents store.old) left }
     ensures memory { IsErrOf result OpenFault.Memory
         → S.honest store.old → S.contents store.new ≡ S.contents store.old }
     ensures no_journal { (IsErrOf result OpenFault.JournalInvalid → ⊥)
@@ -156,6 +165,12 @@ fn open_with<S: FolderStore>(
     ensures unopened { S.honest store.old
         → IsRead (S.contents store.old) folder.files (Some text.now)
         → LeavesUnopened (S.contents store.old) (S.contents store.new) result }
+    ensures lasts { S.honest store.old → Lasts (S.may_remain store.old) (S.contents store.old)
+        → OnOk result (Lasts (S.may_remain store.new) (S.contents store.new)) }
+    ensures cut { S.honest store.old → Lasts (S.may_remain store.old) (S.contents store.old)
+        → IsRead (S.contents store.old) folder.files (Some text.now)
+        → TellsApartBack (S.contents store.old) → (left : Contents) → S.may_remain store.new left
+        → OpensAsBefore (S.contents store.old) left }
     ensures failures { CountsFailures (S.failures store.old) (S.failures store.new) result }
     ensures possible { S.honest store.old
         → IsRead (S.contents store.old) folder.files (Some text.now)
@@ -194,6 +209,11 @@ fn open_session<S: FolderStore>(
         (λ started. IsOpened (S.contents store.old) (S.contents store.new) (started_of started)) }
     ensures unopened { S.honest store.old
         → LeavesUnopened (S.contents store.old) (S.contents store.new) result }
+    ensures lasts { S.honest store.old → Lasts (S.may_remain store.old) (S.contents store.old)
+        → OnOk result (Lasts (S.may_remain store.new) (S.contents store.new)) }
+    ensures cut { S.honest store.old → Lasts (S.may_remain store.old) (S.contents store.old)
+        → TellsApartBack (S.contents store.old) → (left : Contents) → S.may_remain store.new left
+        → OpensAsBefore (S.contents store.old) left }
     ensures failures { CountsFailures (S.failures store.old) (S.failures store.new) result }
     ensures possible { S.honest store.old → S.impossible store.new ≡ S.impossible store.old }
 {
@@ -206,13 +226,18 @@ fn open_session<S: FolderStore>(
 
 /// Opens a store as a session: its names, files and journal are read, and a halfway command is taken back.
 /// Where the folder isn't as the journal of a finished command left it, the session is a new one. Nothing else is done
-/// to the store. After Store and Memory it opens as it did.
+/// to the store. After Store and Memory it opens as it did, and so does what a power cut leaves at any moment.
 pub fn open_store<S: FolderStore>(alloc: Global, store: &mut S) -> Result<Started, OpenFault>
     ensures honest { S.honest store.old → S.honest store.new }
     ensures opened { S.honest store.old → IfOk result
         (λ started. IsOpened (S.contents store.old) (S.contents store.new) (started_of started)) }
     ensures unopened { S.honest store.old
         → LeavesUnopened (S.contents store.old) (S.contents store.new) result }
+    ensures lasts { S.honest store.old → Lasts (S.may_remain store.old) (S.contents store.old)
+        → OnOk result (Lasts (S.may_remain store.new) (S.contents store.new)) }
+    ensures cut { S.honest store.old → Lasts (S.may_remain store.old) (S.contents store.old)
+        → TellsApartBack (S.contents store.old) → (left : Contents) → S.may_remain store.new left
+        → OpensAsBefore (S.contents store.old) left }
     ensures failures { CountsFailures (S.failures store.old) (S.failures store.new) result }
     ensures possible { S.honest store.old → S.impossible store.new ≡ S.impossible store.old }
 {
@@ -228,6 +253,11 @@ fn open_for_verify<S: FolderStore>(alloc: Global, store: &mut S) -> Result<Start
         × (S.honest store.old → IsOpened (S.contents store.old) (S.contents store.new) opened)) }
     ensures unopened { S.honest store.old
         → LeavesUnopened (S.contents store.old) (S.contents store.new) result }
+    ensures lasts { S.honest store.old → Lasts (S.may_remain store.old) (S.contents store.old)
+        → OnOk result (Lasts (S.may_remain store.new) (S.contents store.new)) }
+    ensures cut { S.honest store.old → Lasts (S.may_remain store.old) (S.contents store.old)
+        → TellsApartBack (S.contents store.old) → (left : Contents) → S.may_remain store.new left
+        → OpensAsBefore (S.contents store.old) left }
     ensures failures { CountsFailures (S.failures store.old) (S.failures store.new) result }
     ensures possible { S.honest store.old → S.impossible store.new ≡ S.impossible store.old }
 {
@@ -263,6 +293,11 @@ pub(crate) fn open_for<S: FolderStore>(
         × (S.honest store.old → IsOpened (S.contents store.old) (S.contents store.new) opened)) }
     ensures unopened { S.honest store.old
         → LeavesUnopened (S.contents store.old) (S.contents store.new) result }
+    ensures lasts { S.honest store.old → Lasts (S.may_remain store.old) (S.contents store.old)
+        → OnOk result (Lasts (S.may_remain store.new) (S.contents store.new)) }
+    ensures cut { S.honest store.old → Lasts (S.may_remain store.old) (S.contents store.old)
+        → TellsApartBack (S.contents store.old) → (left : Contents) → S.may_remain store.new left
+        → OpensAsBefore (S.contents store.old) left }
     ensures failures { CountsFailures (S.failures store.old) (S.failures store.new) result }
     ensures possible { S.honest store.old → S.impossible store.new ≡ S.impossible store.old }
 {

@@ -4,7 +4,9 @@ ghost use Rattle.par2_spec.specs.Commands.{Undo, Redo};
 ghost use Rattle.par2_spec.specs.Plans.{LeadsToAfterAsked};
 ghost use Rattle.par2_spec.specs.Refusals.{early_refusal_of};
 ghost use Rattle.par2_spec.specs.Sessions.{session_of_kept, session_after, changes_asked};
+ghost use Rattle.par2_spec.specs.Stores.{Contents};
 ghost use Rattle.par2_spec.specs.Views.{command_of};
+ghost use Rattle.par2_folder.specs.Cuts.{Lasts};
 ghost use Rattle.par2_tool.specs.Holding.{TellsApartAlong, OpensAsBeforeOrAfter};
 ghost use Rattle.par2_tool.specs.Performing.{outcome_of, AreSomeMade, IsAnswer, IsVerify, IsWritten};
 ghost use Rattle.par2_tool.specs.Refusals.{IsRefused, IsSession};
@@ -66,7 +68,8 @@ impl From<PerformFault> for Failure {
 /// Performs a command. A verify answers its report, and leaves store and session alone. Of any other command what it
 /// wants is made ready in memory, its changes are made in the store between two journals, the session goes along, and
 /// the steps are answered. After a refusal store and session are as before. After Store the session is to be dropped
-/// and the store opened again: it opens as the session from before the command or as the one from afterwards.
+/// and the store opened again: it opens as the session from before the command or as the one from afterwards. So does
+/// what a power cut leaves at any moment.
 pub fn perform<S: FolderStore>(
     _alloc: Global,
     store: &mut S,
@@ -97,6 +100,14 @@ pub fn perform<S: FolderStore>(
         → TellsApartAlong (session_of_kept session.old) (command_of command.now)
         → OnErr result (OpensAsBeforeOrAfter (session_of_kept session.old)
         (command_of command.now) (S.contents store.old) (S.contents store.new)) }
+    ensures lasts { S.honest store.old → Lasts (S.may_remain store.old) (S.contents store.old)
+        → OnOk result (Lasts (S.may_remain store.new) (S.contents store.new)) }
+    ensures cut { S.honest store.old → Lasts (S.may_remain store.old) (S.contents store.old)
+        → (S.contents store.old).files ≡ session.old.folder.files
+        → TellsApartAlong (session_of_kept session.old) (command_of command.now)
+        → (left : Contents) → S.may_remain store.new left
+        → OpensAsBeforeOrAfter (session_of_kept session.old)
+        (command_of command.now) (S.contents store.old) left }
     ensures in_order { S.honest store.old → OnErr result (AreSomeMade
         (changes_asked (session_of_kept session.old) (command_of command.now))
         (S.contents store.old).files (S.contents store.new).files) }

@@ -1,7 +1,8 @@
 //! Changes are written down in a store, between two journals.
 ghost use Rattle.std.specs.Prelude.{◌≡◌, ◌⊎◌, ◌<◌, ◌≤◌, ℕ, map, length, take, OnOk, OnErr, IsTrue};
 ghost use Rattle.par2_spec.specs.Changes.{is_applicable, are_applicable};
-ghost use Rattle.par2_spec.specs.Stores.{with_change};
+ghost use Rattle.par2_spec.specs.Stores.{Contents, with_change};
+ghost use Rattle.par2_folder.specs.Cuts.{Lasts, RemainsEither};
 ghost use Rattle.par2_folder.specs.Views.{change_of};
 ghost use Rattle.par2_tool.specs.Performing.{with_all_changes, with_halfway, after_write_down, IsStoppedAt};
 
@@ -17,6 +18,11 @@ fn write_change<S: FolderStore>(store: &mut S, change: &Change) -> Result<(), St
     ensures stopped { S.honest store.old
         → OnErr result ((S.contents store.new ≡ S.contents store.old)
         ⊎ (S.contents store.new ≡ with_change (S.contents store.old) (change_of change.now))) }
+    ensures lasts { S.honest store.old
+        → OnOk result (Lasts (S.may_remain store.new) (S.contents store.new)) }
+    ensures remains { S.honest store.old → Lasts (S.may_remain store.old) (S.contents store.old)
+        → RemainsEither (S.may_remain store.new) (S.contents store.old)
+        (with_change (S.contents store.old) (change_of change.now)) }
     ensures later { S.failures store.old ≤ S.failures store.new }
     ensures cause { OnErr result (S.failures store.old < S.failures store.new) }
     ensures steady { OnOk result (S.failures store.new ≡ S.failures store.old) }
@@ -40,6 +46,12 @@ fn write_changes<S: FolderStore>(store: &mut S, changes: &[Change]) -> Result<()
     ensures stopped { S.honest store.old
         → OnErr result ((n : ℕ) × (n ≤ length changes.now) × (S.contents store.new
         ≡ with_all_changes (S.contents store.old) (take n (map change_of changes.now)))) }
+    ensures lasts { S.honest store.old → Lasts (S.may_remain store.old) (S.contents store.old)
+        → OnOk result (Lasts (S.may_remain store.new) (S.contents store.new)) }
+    ensures remains { S.honest store.old → Lasts (S.may_remain store.old) (S.contents store.old)
+        → (left : Contents) → S.may_remain store.new left
+        → (n : ℕ) × (n ≤ length changes.now) × (left
+        ≡ with_all_changes (S.contents store.old) (take n (map change_of changes.now))) }
     ensures later { S.failures store.old ≤ S.failures store.new }
     ensures cause { OnErr result (S.failures store.old < S.failures store.new) }
     ensures steady { OnOk result (S.failures store.new ≡ S.failures store.old) }
@@ -64,6 +76,11 @@ fn begin<S: FolderStore>(store: &mut S, halfway: &Option<Vec<u8>>) -> Result<(),
     ensures stopped { S.honest store.old
         → OnErr result ((S.contents store.new ≡ S.contents store.old)
         ⊎ (S.contents store.new ≡ with_halfway (S.contents store.old) halfway.now)) }
+    ensures lasts { S.honest store.old → Lasts (S.may_remain store.old) (S.contents store.old)
+        → OnOk result (Lasts (S.may_remain store.new) (S.contents store.new)) }
+    ensures remains { S.honest store.old → Lasts (S.may_remain store.old) (S.contents store.old)
+        → RemainsEither (S.may_remain store.new) (S.contents store.old)
+        (with_halfway (S.contents store.old) halfway.now) }
     ensures later { S.failures store.old ≤ S.failures store.new }
     ensures cause { OnErr result (S.failures store.old < S.failures store.new) }
     ensures steady { OnOk result (S.failures store.new ≡ S.failures store.old) }
@@ -87,6 +104,11 @@ pub fn write_down<S: FolderStore>(
         ≡ after_write_down (S.contents store.old) journals.now (map change_of changes.now)) }
     ensures stopped { S.honest store.old → OnErr result (IsStoppedAt
         (S.contents store.old) journals.now (map change_of changes.now) (S.contents store.new)) }
+    ensures lasts { S.honest store.old
+        → OnOk result (Lasts (S.may_remain store.new) (S.contents store.new)) }
+    ensures remains { S.honest store.old → Lasts (S.may_remain store.old) (S.contents store.old)
+        → (left : Contents) → S.may_remain store.new left → IsStoppedAt
+        (S.contents store.old) journals.now (map change_of changes.now) left }
     ensures later { S.failures store.old ≤ S.failures store.new }
     ensures cause { OnErr result (S.failures store.old < S.failures store.new) }
     ensures steady { OnOk result (S.failures store.new ≡ S.failures store.old) }

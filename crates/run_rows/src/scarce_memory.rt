@@ -52,6 +52,8 @@ impl FolderStore for WantingStore {
 
     ghost contents = { λ _. record { files = empty; journal = None } };
 
+    ghost may_remain = { λ _ _. ⊥ };
+
     ghost failures = { λ store. memory_failures store.inner };
 
     ghost impossible = { λ store. memory_impossible store.inner };

@@ -10,6 +10,7 @@ pub loop-name-init : goal.loop-name-init
 loop-name-init g c = record {
   honest = c.in-Ok.ensures.honest;
   same = c.in-Ok.ensures.same;
+  remains = c.in-Ok.ensures.remains;
   later = c.in-Ok.ensures.later;
   steady = c.in-Ok.ensures.steady;
   possible = λ _. c.in-Ok.ensures.possible;
@@ -25,6 +26,7 @@ loop-name-preserved g c =
     record {
       honest = λ h. c.in_ok-load_file.ensures.honest (so_far.honest h);
       same = λ h. c.in_ok-load_file.ensures.same (so_far.honest h) ∙ so_far.same h;
+      remains = λ h left may. so_far.remains h left (c.in_ok-load_file.ensures.remains (so_far.honest h) left may);
       later = omega (arith, so_far.later, c.in_ok-load_file.ensures.later);
       steady = c.in_ok-load_file.ensures.steady ∙ so_far.steady;
       possible = λ h.

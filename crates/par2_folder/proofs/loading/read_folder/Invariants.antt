@@ -1,6 +1,7 @@
 use Rattle.std.proofs.Common.{◌≡◌, ◌+◌, ◌≤◌, length, take}
 use Rattle.std.specs.FinMap.{entries}
 use Rattle.par2_spec.specs.Folders.{names}
+use Rattle.par2_folder.specs.Cuts.{NoMoreRemains}
 use Rattle.par2_folder.proofs.loading.read_folder.Given as goal
 
 abbrev pub invariant-loop-name : goal.invariant-loop-name
@@ -9,6 +10,7 @@ invariant-loop-name g l =
     record {
       honest : S.honest l.fn.store → S.honest l.store;
       same : S.honest l.fn.store → S.contents l.store ≡ S.contents l.fn.store;
+      remains : S.honest l.fn.store → NoMoreRemains (S.may_remain l.fn.store) (S.may_remain l.store);
       later : S.failures l.fn.store ≤ S.failures l.store;
       steady : S.failures l.store ≡ S.failures l.fn.store;
       possible : S.honest l.fn.store → S.impossible l.store ≡ S.impossible l.fn.store;

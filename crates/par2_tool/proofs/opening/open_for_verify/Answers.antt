@@ -2,7 +2,8 @@ use Rattle.std.proofs.Common.{Some, Ok, sym, ap, subst, ◌∙◌}
 use Rattle.std.specs.Prelude.{IfOk, Vec, ℕ, option_map}
 use Rattle.std.specs.declared.alloc.Global.{Global}
 use Rattle.par2_spec.specs.Opening.{Started, new_session}
-use Rattle.par2_tool.specs.Holding.{with_history}
+use Rattle.par2_folder.specs.Cuts.{Lasts}
+use Rattle.par2_tool.specs.Holding.{with_history, OpensAsBefore, TellsApartBack}
 use Rattle.par2_tool.specs.Opening.{started_of, IsOpened, IsRead, LeavesUnopened}
 use Rattle.par2_tool.proofs.AsIs.{opened_as_is, opened_new, stands_on}
 use Rattle.par2_tool.proofs.Openings.{text_read}
@@ -60,3 +61,13 @@ returns-clause-unopened g c honest =
     c.in-Some.is c.deref-2.ensures.value in
     subst (λ k. IsRead k files (Some bytes) → LeavesUnopened k new c.open_with.result) (c.read_store.ensures.same honest)
     (c.open_with.ensures.unopened (c.read_store.ensures.honest honest)) read
+
+pub returns-clause-cut : goal.returns-clause-cut
+returns-clause-cut g c honest lasts apart left may =
+    let files = c.opens_as_is.new.folder.files in
+    let bytes = c.deref-2.result.now in
+    let read = text_read (g.S.FolderStore.contents c.args.store.now) files c.in_ok-folder.journal c.in-Some.text bytes
+    (subst (λ f. IsRead (g.S.FolderStore.contents c.args.store.now) f (option_map (λ (bytes : Vec ℕ Global). bytes.items) c.in_ok-folder.journal)) (sym c.opens_as_is.ensures.files) (c.in_ok-folder.ensures.read honest))
+    c.in-Some.is c.deref-2.ensures.value in
+    subst (λ k. Lasts (g.S.FolderStore.may_remain c.read_store.new.store) k → IsRead k files (Some bytes) → TellsApartBack k → OpensAsBefore k left) (c.read_store.ensures.same honest)
+    (λ still is tells. c.open_with.ensures.cut (c.read_store.ensures.honest honest) still is tells left may) (λ other may_be. lasts other (c.read_store.ensures.remains honest other may_be)) read apart

@@ -2,6 +2,8 @@ use Rattle.std.proofs.Common.{Some, sym, subst}
 use Rattle.std.specs.Prelude.{IfOk, Vec, ℕ, option_map}
 use Rattle.std.specs.declared.alloc.Global.{Global}
 use Rattle.par2_spec.specs.Opening.{Started}
+use Rattle.par2_folder.specs.Cuts.{Lasts}
+use Rattle.par2_tool.specs.Holding.{OpensAsBefore, TellsApartBack}
 use Rattle.par2_tool.specs.Opening.{started_of, IsOpened, IsRead, LeavesUnopened}
 use Rattle.par2_tool.proofs.AsIs.{opened_new}
 use Rattle.par2_tool.proofs.Openings.{text_read}
@@ -34,3 +36,11 @@ returns-in-None-clause-opened g c honest =
     let read = subst (λ journal. IsRead old files (option_map (λ (bytes : Vec ℕ Global). bytes.items) journal)) c.in-None.is (c.in_ok-folder.ensures.read honest) in
     subst (λ k. IsOpened old k (started_of c.without_history.result)) (sym (c.read_store.ensures.same honest))
     (subst (λ (s : Started). IsOpened old old s) (sym c.without_history.ensures) (opened_new old files read))
+
+pub returns-in-Some-clause-cut : goal.returns-in-Some-clause-cut
+returns-in-Some-clause-cut g c honest lasts apart left may =
+    let files = c.in_ok-folder.folder.files in
+    let bytes = c.deref.result.now in
+    let read = text_read (g.S.FolderStore.contents c.args.store.now) files c.in_ok-folder.journal c.in-Some.text bytes (c.in_ok-folder.ensures.read honest) c.in-Some.is c.deref.ensures.value in
+    subst (λ k. Lasts (g.S.FolderStore.may_remain c.read_store.new.store) k → IsRead k files (Some bytes) → TellsApartBack k → OpensAsBefore k left) (c.read_store.ensures.same honest)
+    (λ still is tells. c.open_with.ensures.cut (c.read_store.ensures.honest honest) still is tells left may) (λ other may_be. lasts other (c.read_store.ensures.remains honest other may_be)) read apart

@@ -102,3 +102,16 @@ returns-in_ok-session-in-Ok-Halfway-clause-possible g c honest read =
     let halfway = c.in-Ok-Halfway.halfway in
     let opens = opens_so g (goal.at.returns-in_ok-session-in-Ok-Halfway-clause-possible g c).In-Ok-Halfway in
     c.take_back.ensures.possible honest (way_applies (g.S.FolderStore.contents c.args.store.now) _ _ (session_of_kept (session_before halfway)) (way_left halfway) read opens)
+
+-- a cut on the way back
+pub returns-in_err-session-in-Ok-Halfway-clause-cut : goal.returns-in_err-session-in-Ok-Halfway-clause-cut
+returns-in_err-session-in-Ok-Halfway-clause-cut g c honest lasts read apart left may =
+    let halfway = c.in-Ok-Halfway.halfway in
+    let opens = opens_so g (goal.at.returns-in_err-session-in-Ok-Halfway-clause-cut g c).In-Ok-Halfway in
+    opens_still (g.S.FolderStore.contents c.args.store.now) left c.args.folder.files c.args.text.now (session_of_kept (session_before halfway)) (way_left halfway) read opens apart (c.take_back.ensures.remains honest lasts left may)
+
+pub returns-in_ok-session-in-Ok-Halfway-clause-cut : goal.returns-in_ok-session-in-Ok-Halfway-clause-cut
+returns-in_ok-session-in-Ok-Halfway-clause-cut g c honest lasts read apart left may =
+    let halfway = c.in-Ok-Halfway.halfway in
+    let opens = opens_so g (goal.at.returns-in_ok-session-in-Ok-Halfway-clause-cut g c).In-Ok-Halfway in
+    opens_still (g.S.FolderStore.contents c.args.store.now) left c.args.folder.files c.args.text.now (session_of_kept (session_before halfway)) (way_left halfway) read opens apart (c.take_back.ensures.remains honest lasts left may)

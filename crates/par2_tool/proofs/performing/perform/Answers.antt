@@ -10,6 +10,7 @@ use Rattle.par2_spec.proofs.AcceptedCommands.{command_leads}
 use Rattle.par2_plan.specs.Views.{report_of}
 use Rattle.par2_journal.specs.Refusals.{MayRefuse}
 use Rattle.par2_journal.specs.declared.preparation.SessionFault.TheVariants.{Plan}
+use Rattle.par2_folder.specs.Cuts.{Lasts}
 use Rattle.par2_folder.specs.Views.{change_of}
 use Rattle.par2_journal.specs.Ready.{changes_by_kind, after_commit}
 use Rattle.par2_tool.specs.Holding.{TellsApartAlong, OpensAsBeforeOrAfter}
@@ -127,3 +128,26 @@ returns-in-Err-write_down-clause-possible g c honest files =
     let at = (goal.at.returns-in-Err-write_down-clause-possible g c).After-write_down in
     c.write_down.ensures.possible honest
     (ready_applies (action_of c.in-Act.action) c.args.session.now c.in-Ok-prepare.prepared c.prepare.new.self (made_of g at) (g.S.FolderStore.contents c.args.store.now) files _ (changed_so g at))
+
+-- whatever a cut leaves while the changes are written, or behind it
+cut_opens : (g : _) (c : After-write_down g) → g.S.FolderStore.honest c.args.store.now → Lasts (g.S.FolderStore.may_remain c.args.store.now) (g.S.FolderStore.contents c.args.store.now)
+    → (g.S.FolderStore.contents c.args.store.now).files ≡ c.args.session.now.folder.files → TellsApartAlong (session_of_kept c.args.session.now) (command_of c.args.command.now) → (left : Contents) → g.S.FolderStore.may_remain c.write_down.new.store left
+    → OpensAsBeforeOrAfter (session_of_kept c.args.session.now) (command_of c.args.command.now) (g.S.FolderStore.contents c.args.store.now) left
+cut_opens g c honest lasts files apart left may =
+    let ready = c.in-Ok-prepare.prepared in
+    let old = c.args.session.now in
+    let mid = c.prepare.new.self in
+    let made = made_of g c in
+    let journals = c.in_ok-journals.journals in
+    let action = action_of c.in-Act.action in
+    let start = g.S.FolderStore.contents c.args.store.now in
+    let stop = subst (λ (cs : List defined.Change). IsStoppedAt start journals cs left) (changed_so g c) (c.write_down.ensures.remains honest lasts left may) in
+    let apart_from : TellsApartAlong (session_of_kept old) action = subst (λ (x : Command). TellsApartAlong (session_of_kept old) (command_of x)) c.in-Act.is apart in
+    subst (λ (x : Command). OpensAsBeforeOrAfter (session_of_kept old) (command_of x) start left) (sym c.in-Act.is)
+    (stopped_opens action old ready mid made journals (c.in_ok-journals.ensures.journals action old made.grew made.is) start files left stop apart_from c.in-Ok-prepare.ensures.leads)
+
+pub returns-in-Ok-write_down-clause-cut : goal.returns-in-Ok-write_down-clause-cut
+returns-in-Ok-write_down-clause-cut g c honest lasts files apart left may = cut_opens g (goal.at.returns-in-Ok-write_down-clause-cut g c).After-write_down honest lasts files apart left may
+
+pub returns-in-Err-write_down-clause-cut : goal.returns-in-Err-write_down-clause-cut
+returns-in-Err-write_down-clause-cut g c honest lasts files apart left may = cut_opens g (goal.at.returns-in-Err-write_down-clause-cut g c).After-write_down honest lasts files apart left may
