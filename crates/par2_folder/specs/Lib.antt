@@ -11,4 +11,5 @@ pub mod Snapshots
 pub mod Borders
 pub mod Runs
 pub mod Landmarks
+pub mod Listings
 pub mod Surveys
