@@ -11,5 +11,6 @@ pub mod Snapshots
 pub mod Borders
 pub mod Runs
 pub mod Landmarks
+pub mod Reading
 pub mod Listings
 pub mod Surveys

@@ -4,8 +4,8 @@ ghost use Rattle.std.specs.IoError.{error_kind};
 ghost use Rattle.par2_folder.specs.Directories.{IsFoundBy};
 
 use crate::directory::{Directory, Found, Place};
-use crate::listing::list;
-use crate::reading::{fault_of, read_opened};
+use crate::listing::names_listed;
+use crate::reading::read_opened;
 use crate::{Name, ReadFault, StoreFault};
 use std::alloc::Global;
 use std::fs::{Files, Metadata};
@@ -62,10 +62,7 @@ impl<'r, R: Files + AllocGlobal> Directory for CurrentDirectory<'r, R> {
     ghost barred = { λ _ _. ⊥ };
 
     fn names(&self, alloc: Global) -> Result<Vec<Name>, ReadFault> {
-        match list(self.rt, alloc) {
-            Ok(names) => Ok(names),
-            Err(error) => Err(fault_of(&error)),
-        }
+        names_listed(fs::read_dir(&self.rt, "."), alloc)
     }
 
     fn find(&self, place: Place<'_>) -> Result<Found, StoreFault> {

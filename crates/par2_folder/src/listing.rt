@@ -1,5 +1,5 @@
 //! The listing of a folder.
-ghost use Rattle.std.specs.Prelude.{◌≡◌, ◌⊎◌, List, ℕ, [], Result, IfOk, IfErr, IsPermutation};
+ghost use Rattle.std.specs.Prelude.{◌≡◌, ◌⊎◌, List, ℕ, [], Result, IfOk, IfErr, IsErrOf, IsPermutation};
 ghost use Rattle.std.specs.Cmp.Lexicographic.{slice_cmp};
 ghost use Rattle.std.specs.IoError.{error_kind};
 ghost use Rattle.std.specs.Iterator.{IsFinite};
@@ -8,12 +8,14 @@ ghost use Rattle.std.specs.Ordering.{nat_cmp};
 ghost use Rattle.std.specs.declared.fs.attrs.FileType.{FileType};
 ghost use Rattle.std.specs.declared.io.Error.{Error};
 ghost use Rattle.par2_folder.specs.Listings.{Adds, AreNamesOf, CountsAs, FailsAtItem, FailsBy, IsCounted, IsMisnamed};
+ghost use Rattle.par2_folder.specs.Reading.{IsToldAs};
 
-use crate::{BadName, Name};
+use crate::reading::fault_of;
+use crate::{BadName, Name, ReadFault};
 use std::alloc::Global;
 use std::fs::{DirEntry, FileType, Files};
+use std::io;
 use std::io::{Error, ErrorKind};
-use std::{fs, io};
 
 /// An entry of a folder.
 pub trait Entry {
@@ -105,26 +107,48 @@ fn names_given<I: Iterator<Item = io::Result<E>> + Drop, E: Entry + Drop>(
     Ok(names)
 }
 
-/// The names of the regular files of a listing, in order, without those that are kept for the history.
-pub fn names_in<I: Iterator<Item = io::Result<E>> + Drop, E: Entry + Drop>(
+// The names that a listing gives, in order.
+fn sorted_names<I: Iterator<Item = io::Result<E>> + Drop, E: Entry + Drop>(
     listing: I,
     alloc: Global,
-) -> io::Result<Vec<Name>>
+) -> Result<Vec<Name>, ReadFault>
     requires can { I.can_next listing }
     requires ends { IsFinite (I.remaining listing) }
     ensures names { IfOk result (λ names. (given : List (List ℕ))
         × AreNamesOf E.kind_gives E.text_of I.next_gives listing given
         × IsPermutation given names.items) }
     ensures sorted { IfOk result (λ names. IsSorted (slice_cmp nat_cmp) names.items) }
-    ensures failed { IfErr result (λ error. error_kind error ≡ ErrorKind.OutOfMemory
-        ⊎ FailsAtItem E.kind_gives E.text_of I.next_gives listing error) }
+    ensures store { IsErrOf result ReadFault.Store → (error : Error)
+        × IsToldAs error ReadFault.Store
+        × FailsAtItem E.kind_gives E.text_of I.next_gives listing error }
 {
-    let mut names = names_given(listing, alloc)?;
+    let mut names = match names_given(listing, alloc) {
+        Ok(names) => names,
+        Err(error) => return Err(fault_of(&error)),
+    };
     names.sort_unstable();
     Ok(names)
 }
 
-/// The names of the regular files in the current directory.
-pub fn list<R: Files + AllocGlobal>(rt: &R, alloc: Global) -> io::Result<Vec<Name>> {
-    names_in(fs::read_dir(&rt, ".")?, alloc)
+/// The names of the regular files of a listing that was opened, if it was: in order, and without those that are kept
+/// for the history.
+pub fn names_listed<I: Iterator<Item = io::Result<E>> + Drop, E: Entry + Drop>(
+    opened: io::Result<I>,
+    alloc: Global,
+) -> Result<Vec<Name>, ReadFault>
+    requires can { IfOk opened I.can_next }
+    requires ends { IfOk opened (λ listing. IsFinite (I.remaining listing)) }
+    ensures names { IfOk result (λ names. IfOk opened (λ listing. (given : List (List ℕ))
+        × AreNamesOf E.kind_gives E.text_of I.next_gives listing given
+        × IsPermutation given names.items)) }
+    ensures sorted { IfOk result (λ names. IsSorted (slice_cmp nat_cmp) names.items) }
+    ensures unopened { IfErr opened (λ error. IfErr result (IsToldAs error)) }
+    ensures store { IsErrOf result ReadFault.Store → IfOk opened (λ listing.
+        (error : Error) × IsToldAs error ReadFault.Store
+        × FailsAtItem E.kind_gives E.text_of I.next_gives listing error) }
+{
+    match opened {
+        Ok(listing) => sorted_names(listing, alloc),
+        Err(error) => Err(fault_of(&error)),
+    }
 }
