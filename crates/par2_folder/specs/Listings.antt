@@ -1,10 +1,12 @@
 -- What a listing of a folder answers, by what its entries are.
 use Rattle.std.specs.Prelude.{◌≡◌, ◌⊎◌, ℕ, Bool, List, [], ◌++◌, Option, Some, None, option_to_list, Result, Ok, Err, IsTrue, IsFalse, IsPermutation, nat_eq, codes}
 use Rattle.std.specs.Fs.{IsFile}
+use Rattle.std.specs.IoError.{error_kind}
 use Rattle.std.specs.Iterator.{Drains, YieldsThen}
 use Rattle.std.specs.List.{FoldsTo, starts_with}
 use Rattle.std.specs.declared.fs.attrs.FileType.{FileType}
 use Rattle.std.specs.declared.io.Error.{Error}
+use Rattle.std.specs.declared.io.ErrorKind.TheVariants.{InvalidFilename}
 use Rattle.par2_spec.specs.Names.{is_name}
 
 -- whether a file with this name is kept for the history
@@ -17,9 +19,9 @@ abbrev pub CountsAs : FileType → List ℕ → Option (List ℕ) → Type 0
 CountsAs kind text (Some name) = IsFile kind × IsTrue (is_name text) × (name ≡ text)
 CountsAs kind text None = IsFile kind → IsFalse (is_name text) × IsTrue (is_of_history text)
 
--- an entry that can't be listed: a file whose text is no name, and which isn't of the history
-abbrev pub IsMisnamed : FileType → List ℕ → Type 0
-IsMisnamed kind text = IsFile kind × IsFalse (is_name text) × IsFalse (is_of_history text)
+-- an entry that can't be listed: a file whose text is no name, and which isn't of the history. It is told as such
+abbrev pub IsMisnamed : FileType → List ℕ → Error → Type 0
+IsMisnamed kind text error = IsFile kind × IsFalse (is_name text) × IsFalse (is_of_history text) × (error_kind error ≡ InvalidFilename)
 
 -- what may be answered when the kind of an entry is asked for, and its text
 module _ {E : Type 0} (kind_gives : E → Result FileType Error → Type 0) (text_of : E → List ℕ) where
@@ -30,7 +32,7 @@ module _ {E : Type 0} (kind_gives : E → Result FileType Error → Type 0) (tex
 
   -- why an item of the listing counts as nothing
   abbrev pub FailsBy : Result E Error → Error → Type 0
-  FailsBy (Ok entry) error = kind_gives entry (Err error) ⊎ ((kind : FileType) × kind_gives entry (Ok kind) × IsMisnamed kind (text_of entry))
+  FailsBy (Ok entry) error = kind_gives entry (Err error) ⊎ ((kind : FileType) × kind_gives entry (Ok kind) × IsMisnamed kind (text_of entry) error)
   FailsBy (Err e) error = error ≡ e
 
   -- the names before an item of the listing, and behind it

@@ -55,7 +55,7 @@ impl<R: Files + AllocGlobal> Entry for DirEntry<R> {
 // What an entry of this kind counts as.
 fn name_of(kind: FileType, text: &str) -> io::Result<Option<Name>>
     ensures name { IfOk result (CountsAs kind text.now) }
-    ensures failed { IfErr result (λ _. IsMisnamed kind text.now) }
+    ensures failed { IfErr result (IsMisnamed kind text.now) }
 {
     if !kind.is_file() {
         return Ok(None);
