@@ -266,6 +266,58 @@ for words in 'verify t.par2' 'create -s4 -c5 u.par2 aa' undo; do
     is_kept "a name of more bytes than names have, $words"
 done
 
+# A folder that can't be read to its end, and a file of which can't be told that it is one. What isn't listed would be
+# written over.
+printf 'abcdxfgh' > "$room/found/aa"
+seq -f "$room/found/beside%03.0f" 300 | xargs touch
+for words in 'verify t.par2' 'create -s4 -c5 u.par2 aa' 'repair t.par2' undo; do
+    for number in 1 2 3; do
+        here found
+        stands "$room/before"
+        # shellcheck disable=SC2086
+        meddled FAILS=$number $words
+        is_told "a folder that can't be read on at call $number, $words" 6 "$failed"
+        is_kept "a folder that can't be read on at call $number, $words"
+    done
+    here found
+    # shellcheck disable=SC2086
+    meddled UNTOLD=aa $words
+    is_told "a file whose kind can't be told, $words" 6 "$failed"
+    is_kept "a file whose kind can't be told, $words"
+done
+printf 'abcdefgh' > "$room/found/aa"
+find "$room/found" -name 'beside*' -delete
+
+# ---- names that begin with a point
+here whole
+mv "$room/here/aa" "$room/here/.a"
+par2 create -s4 -c5 .t.par2 .a bb
+is_told "names that begin with a point, a create" 0 "$(printf 'write %s\n' .t.par2 .t.vol00000+00001.par2 \
+    .t.vol00001+00002.par2 .t.vol00003+00002.par2; echo 'done: 4')"
+printf 'abcd' > "$room/here/.a"
+rm "$room/here/.par2undo"
+stands "$room/before"
+par2 repair .t.par2
+is_told "names that begin with a point, a repair" 0 "$(printf '%s\n' 'rename .a to .a.1' 'write .a' 'done: 2')"
+[ "$(cat "$room/here/.a")" = abcdefgh ] || fail "names that begin with a point"
+[ "$(cat "$room/here/.a.1")" = abcd ] || fail "names that begin with a point"
+par2 undo
+is_told "names that begin with a point, an undo" 0 "$(printf '%s\n' 'remove .a' 'rename .a.1 to .a' 'done: 2')"
+is_kept "names that begin with a point, an undo"
+
+# ---- many files: each of them is listed
+here whole
+(cd "$room/here" && "$room/par2" create -s4 -c0 t.par2 aa) > /dev/null
+many=$(seq -f "f%05.0f" 70000)
+(cd "$room/here" && echo "$many" | xargs touch)
+# shellcheck disable=SC2086
+par2 verify t.par2 $many
+[ "$status" -eq 0 ] || fail "many files, each named"
+[ "$(tail -n 1 "$room/told")" = 'result: complete' ] || fail "many files, each named"
+# shellcheck disable=SC2086
+par2 verify t.par2 $many f70001
+is_told "many files, and one that isn't there" 3 'par2: no such file: f70001'
+
 # ---- a name of as many bytes as names have
 long=$(printf '%0255d' 0)
 here whole

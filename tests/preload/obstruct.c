@@ -1,13 +1,17 @@
 // Meddles with the folder while the program reads it: the file that the variable VANISHES names is removed, or the one
 // that GROWS names gets a byte more, once the folder is `listed` or before the file is `opened`, as WHEN says. With LONG
 // the folder lists one name more, of 256 bytes of UTF-8, as some file systems do; what is asked of it is asked of the
-// file that LONG names. For LD_PRELOAD.
+// file that LONG names. With FAILS the folder can't be read on: of the calls that read it, the one whose number FAILS
+// gives fails, counted from 1. The kind of the entry that UNTOLD names isn't told by the folder, and can't be found when
+// it is asked for by the path of the listing. For LD_PRELOAD.
 typedef unsigned long size;
 extern char *getenv(const char *name);
 extern long syscall(long number, ...);
+extern long atol(const char *text);
+extern int *__errno_location(void);
 
 enum { WRITE = 1, CLOSE = 3, UNLINK = 87, GETDENTS64 = 217, OPENAT = 257, STATX = 332 };
-enum { AT_FDCWD = -100, ACCESS = 3, WRONLY = 1, APPEND = 02000, REGULAR = 8 };
+enum { AT_FDCWD = -100, ACCESS = 3, WRONLY = 1, APPEND = 02000, UNKNOWN = 0, REGULAR = 8, EIO = 5 };
 
 // An entry: its number, the next one's place, its length, its type, and its name behind these 19 bytes, which ends
 // with a zero.
@@ -82,8 +86,32 @@ static long put_long(char *entry) {
     return ENTRY;
 }
 
+static int fail(void) {
+    *__errno_location() = EIO;
+    return -1;
+}
+
+// Whether this call, which reads the folder, is the one that fails.
+static int is_failing(void) {
+    static long seen = 0;
+    const char *number = getenv("FAILS");
+    return number != 0 && ++seen == atol(number);
+}
+
+// Takes the kind of the entry that UNTOLD names out of these entries.
+static void forget_kind(char *entries, long count) {
+    for (long at = 0; at < count; at += *(unsigned short *)(entries + at + 16)) {
+        if (is_meant(entries + at + HEAD, "UNTOLD")) {
+            entries[at + 18] = UNKNOWN;
+        }
+    }
+}
+
 long getdents64(int folder, void *entries, size room) {
     static int is_listed = 0;
+    if (is_failing()) {
+        return fail();
+    }
     long count = syscall(GETDENTS64, (long)folder, entries, room);
     if (count == 0) {
         meddle("listed");
@@ -92,11 +120,15 @@ long getdents64(int folder, void *entries, size room) {
         is_listed = 1;
         count += put_long((char *)entries + count);
     }
+    forget_kind((char *)entries, count);
     return count;
 }
 
 int statx(int folder, const char *path, int flags, unsigned mask, void *found) {
     const char *file = getenv("LONG");
+    if (path[0] == '.' && path[1] == '/' && is_meant(path + 2, "UNTOLD")) {
+        return fail();
+    }
     const char *asked = file != 0 && length(path) >= LONGEST ? file : path;
     return syscall(STATX, (long)folder, asked, (long)flags, (long)mask, found);
 }

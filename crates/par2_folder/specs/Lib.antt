@@ -12,4 +12,6 @@ pub mod Snapshots
 pub mod Borders
 pub mod Runs
 pub mod Landmarks
+pub mod Reading
+pub mod Listings
 pub mod Surveys

@@ -4,12 +4,13 @@ ghost use Rattle.std.specs.IoError.{error_kind};
 ghost use Rattle.par2_folder.specs.Directories.{IsFoundBy};
 
 use crate::directory::{Directory, Found, Place};
-use crate::reading::{fault_of, read_opened};
+use crate::listing::names_listed;
+use crate::reading::read_opened;
 use crate::waiting::{wait_for, written_to};
-use crate::{BadName, Name, ReadFault, StoreFault};
+use crate::{Name, ReadFault, StoreFault};
 use std::alloc::Global;
-use std::fs::{DirEntry, Files, Metadata};
-use std::io::{Error, ErrorKind};
+use std::fs::{Files, Metadata};
+use std::io::ErrorKind;
 use std::{fs, io};
 
 /// The current directory, by a runtime that reaches it. Of what it holds nothing is promised, so each call of the
@@ -45,38 +46,6 @@ fn made(answer: io::Result<()>) -> Result<(), StoreFault>
     }
 }
 
-// The name of a regular file. None is for anything else, and for what is kept for the history.
-fn name_in<R: Files + AllocGlobal>(entry: &DirEntry<&R>) -> io::Result<Option<Name>> {
-    if !entry.file_type()?.is_file() {
-        return Ok(None);
-    }
-    match Name::listed(entry.file_name()) {
-        Ok(name) => Ok(name),
-        Err(BadName) => Err(Error::from(ErrorKind::InvalidFilename)),
-    }
-}
-
-// Adds the name of a regular file.
-fn add_name<R: Files + AllocGlobal>(
-    names: &mut Vec<Name>,
-    entry: io::Result<DirEntry<&R>>,
-) -> io::Result<()> {
-    if let Some(name) = name_in(&entry?)? {
-        names.push(name)?;
-    }
-    Ok(())
-}
-
-// The names of the regular files, in order, without those that are kept for the history.
-fn list<R: Files + AllocGlobal>(rt: &R, alloc: Global) -> io::Result<Vec<Name>> {
-    let mut names = Vec::new(alloc);
-    for entry in fs::read_dir(&rt, ".")? {
-        add_name(&mut names, entry)?;
-    }
-    names.sort_unstable();
-    Ok(names)
-}
-
 impl<'r, R: Files + AllocGlobal> CurrentDirectory<'r, R> {
     pub fn new(rt: &'r R) -> CurrentDirectory<'r, R> {
         CurrentDirectory { rt, written: None }
@@ -100,10 +69,7 @@ impl<'r, R: Files + AllocGlobal> Directory for CurrentDirectory<'r, R> {
     ghost barred = { λ _ _. ⊥ };
 
     fn names(&self, alloc: Global) -> Result<Vec<Name>, ReadFault> {
-        match list(self.rt, alloc) {
-            Ok(names) => Ok(names),
-            Err(error) => Err(fault_of(&error)),
-        }
+        names_listed(fs::read_dir(&self.rt, "."), alloc)
     }
 
     fn find(&self, place: Place<'_>) -> Result<Found, StoreFault> {

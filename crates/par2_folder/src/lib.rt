@@ -13,6 +13,7 @@ mod fingerprint;
 mod folder;
 mod fuse;
 mod landmarks;
+mod listing;
 mod loading;
 mod memory;
 mod name;

@@ -1,5 +1,6 @@
 //! Reading a file to its end.
 ghost use Rattle.std.specs.Prelude.{◌≡◌, IfOk, IfSome, IsErr};
+ghost use Rattle.par2_folder.specs.Reading.{IsToldAs};
 
 use crate::ReadFault;
 use std::alloc::{AllocError, Global};
@@ -12,7 +13,9 @@ const BLOCK: usize = 1 << 16;
 const READS: u64 = 1 << 32;
 
 /// Want of memory, or a failure.
-pub fn fault_of(error: &Error) -> ReadFault {
+pub fn fault_of(error: &Error) -> ReadFault
+    ensures { IsToldAs error.now result }
+{
     match error.kind() {
         ErrorKind::OutOfMemory => ReadFault::Memory,
         _ => ReadFault::Store,
