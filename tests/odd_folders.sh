@@ -1,6 +1,7 @@
 #!/bin/sh
 # Runs the built programs where no program of the gate can put itself: in a folder with a name that isn't UTF-8, with
-# a file for which memory is refused, where no room is left for what is written, and where a journal is deleted by hand.
+# a file for which memory is refused, where no room is left for what is written, where a journal is deleted by hand, and with
+# words that aren't UTF-8.
 # Prints a line for each run, and ends with status 1 at the first that answers otherwise.
 set -eu
 cd "$(dirname "$0")/.."
@@ -130,3 +131,17 @@ row "a journal that is none, afterwards" 0 '  file small: 4000\n  file t.par2: 2
 rm "$here/.par2undo"
 row "a journal that was deleted, an undo" 9 '' 'par2: nothing to undo\n' par2 undo
 row "a journal that was deleted, afterwards" 0 '  file small: 4000\n  file t.par2: 20384\n  no journal\n' '' show
+
+# Words that aren't UTF-8, and an error output that takes nothing.
+unspoken() {
+    "$@" 2> /dev/full
+}
+latin=$(printf 'caf\351')
+usage='par2: usage: par2 create -sN -cN [-fN] [--overwrite] BASE.par2 FILE.. | verify BASE [FILE..] | repair [-p] BASE [FILE..] | purge BASE | undo | redo\n'
+for words in "$latin" "verify $latin" "create -s4 -c0 u.par2 small $latin" "undo $latin"; do
+    # shellcheck disable=SC2086
+    row "a word that isn't UTF-8, as one of $(echo "$words" | wc -w)" 3 '' "$usage" par2 $words
+    # shellcheck disable=SC2086
+    row "the same with the error output full" 6 '' '' unspoken par2 $words
+done
+row "a refusal with the error output full" 6 '' '' unspoken par2 verify none.par2

@@ -1,5 +1,5 @@
 //! The listing of a folder.
-ghost use Rattle.std.specs.Prelude.{◌≡◌, ◌⊎◌, List, ℕ, [], Result, IfOk, IfErr, IsErrOf, IsPermutation};
+ghost use Rattle.std.specs.Prelude.{◌≡◌, ◌⊎◌, List, ℕ, [], Result, IfOk, IfErr, IsErr, IsErrOf, IsPermutation};
 ghost use Rattle.std.specs.Cmp.Lexicographic.{slice_cmp};
 ghost use Rattle.std.specs.IoError.{error_kind};
 ghost use Rattle.std.specs.Iterator.{IsFinite};
@@ -142,7 +142,8 @@ pub fn names_listed<I: Iterator<Item = io::Result<E>> + Drop, E: Entry + Drop>(
         × AreNamesOf E.kind_gives E.text_of I.next_gives listing given
         × IsPermutation given names.items)) }
     ensures sorted { IfOk result (λ names. IsSorted (slice_cmp nat_cmp) names.items) }
-    ensures unopened { IfErr opened (λ error. IfErr result (IsToldAs error)) }
+    ensures unopened { IsErr opened → IsErr result }
+    ensures told { IfErr opened (λ error. IfErr result (IsToldAs error)) }
     ensures store { IsErrOf result ReadFault.Store → IfOk opened (λ listing.
         (error : Error) × IsToldAs error ReadFault.Store
         × FailsAtItem E.kind_gives E.text_of I.next_gives listing error) }
