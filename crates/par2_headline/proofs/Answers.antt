@@ -38,7 +38,7 @@ opened_alike : (old new : Contents) (started : Started) → IsOpened old new sta
 opened_alike old new started opened = inr (started, started, opened.opens, opened.holds.opens, refl)
 
 module _ (old new : Contents) (action : Action) where
-  stopped_effect : OpensAsBeforeOrAfterRun action old new → TakesEffect action old new ⊎ HasNoEffect old new
+  pub stopped_effect : OpensAsBeforeOrAfterRun action old new → TakesEffect action old new ⊎ HasNoEffect old new
   stopped_effect (inl same) = inr (inl same)
   stopped_effect (inr (started, opens, inl again)) = inr (inr (started, started, opens, again, refl))
   stopped_effect (inr (started, opens, inr (inl again))) = inr (inr (started, with_history started.session, opens, again, refl))

@@ -9,6 +9,8 @@ ghost use Rattle.par2_spec.specs.Rank.{AnotherAgrees};
 ghost use Rattle.par2_spec.specs.Search.{candidates, known};
 ghost use Rattle.par2_spec.specs.Sessions.{history_of};
 ghost use Rattle.par2_spec.specs.Volumes.{all_slices};
+ghost use Rattle.par2_spec.specs.Stores.{Contents};
+ghost use Rattle.par2_folder.specs.Cuts.{Lasts};
 ghost use Rattle.par2_promises.specs.Premises.{IsTrueTo};
 ghost use Rattle.par2_origins.specs.Creates.{FollowsCreate, HaveAChoice};
 ghost use Rattle.par2_tool.specs.Asking.{AskFor};
@@ -112,6 +114,15 @@ pub fn run<S: FolderStore, O: Write, E: Write>(
         → TellsApartInRun action (S.contents store.old)
         → TakesEffect action (S.contents store.old) (S.contents store.new)
         ⊎ HasNoEffect (S.contents store.old) (S.contents store.new) }
+    // So it is with whatever a power cut leaves at any moment, where all that the folder held before
+    // the run was kept.
+    ensures cut { (action : Action) → S.honest store.old
+        → Lasts (S.may_remain store.old) (S.contents store.old)
+        → AskFor (map string_bytes words.now) action
+        → TellsApartInRun action (S.contents store.old)
+        → (left : Contents) → S.may_remain store.new left
+        → TakesEffect action (S.contents store.old) left
+        ⊎ HasNoEffect (S.contents store.old) left }
 {
     accepted_repair_leaves_the_files();
     repair_never_fails();

@@ -13,9 +13,10 @@ use Rattle.par2_spec.specs.declared.Fault.TheVariants.{Memory}
 use Rattle.par2_journal.specs.declared.preparation.SessionFault.{SessionFault}
 use Rattle.par2_journal.specs.declared.preparation.SessionFault.TheVariants.{Plan, NothingToUndo, NothingToRedo}
 use Rattle.par2_tool.specs.Holding.{TellsApartAlong, TellsApartBack, OpensAsBefore, OpensAsBeforeOrAfter}
-use Rattle.par2_tool.specs.Opening.{IsOpened, IsUnopened}
+use Rattle.par2_tool.specs.Opening.{IsOpened, IsUnopened, StandsFor}
+use Rattle.par2_tool.specs.Performing.{IsVerify}
 use Rattle.par2_tool.specs.Refusals.{IsRefused, IsSession, failure_for, unopened_as}
-use Rattle.par2_tool.specs.Telling.{IsBack, IsCause, IsFailed, IsAtTheEnd, OpensAsBeforeOrAfterRun}
+use Rattle.par2_tool.specs.Telling.{IsBack, IsCause, IsFailed, IsAtTheEnd, IsStopped, OpensAsBeforeOrAfterRun}
 use Rattle.par2_tool.specs.declared.opening.OpenFault.{OpenFault}
 use Rattle.par2_tool.specs.declared.opening.OpenFault.TheVariants as unopened
 use Rattle.par2_tool.specs.declared.performing.PerformFault.{PerformFault}
@@ -39,6 +40,32 @@ unfolding changes_asked
 at_an_end s (Do command) end is e = absurd (false≢true (sym is ∙ ap is_plan (sym e) ∙ planned_is_plan (refusal s.folder command) _))
 at_an_end s Undo end is e = tt
 at_an_end s Redo end is e = tt
+
+-- ---- stops
+
+-- a stop of a command, or what a cut leaves of it, is one of the whole run
+pub stopped_command : (action : Action) (old mid new : Contents) (start : Started) → IsOpened old mid start → (TellsApartAlong start.session action → OpensAsBeforeOrAfter start.session action mid new) → IsStopped action old new
+stopped_command action old mid new start opened stopped = λ _ along. all_stops (stopped (along start opened.opens))
+  where
+    all_stops : OpensAsBeforeOrAfter start.session action mid new → OpensAsBeforeOrAfterRun action old new
+    all_stops (inl e) = inr (start, opened.opens, inl (subst (λ (k : Contents). IsOpened old k start) (sym e) opened).holds.opens)
+    all_stops (inr stop) = inr (start, opened.opens, inr stop)
+
+-- so is one of the opening
+pub stopped_opening : (action : Action) (old new : Contents) → (TellsApartBack old → OpensAsBefore old new) → IsStopped action old new
+stopped_opening action old new stopped = λ back _. all_stops (stopped back)
+  where
+    all_stops : OpensAsBefore old new → OpensAsBeforeOrAfterRun action old new
+    all_stops (inl e) = inl e
+    all_stops (inr s) = inr (s.0, s.1, inl s.2)
+
+-- whatever a cut leaves while a command is performed, where a verify leaves all as it was
+pub cut_of_command : (Honest : Type 0) (action : Action) (old mid left : Contents) (opened started : Started) → Honest → StandsFor action opened started → (Honest → IsOpened old mid opened)
+    → (mid.files ≡ started.session.folder → TellsApartAlong started.session action → OpensAsBeforeOrAfter started.session action mid left) → (IsVerify action → left ≡ mid) → IsStopped action old left
+cut_of_command Honest action old mid left opened started honest (inl same) found cut verified =
+    let there : IsOpened old mid started = subst (λ (t : Started). IsOpened old mid t) same (found honest) in
+    stopped_command action old mid left started there (cut there.holds.files)
+cut_of_command Honest action old mid left opened started honest (inr verify) found cut verified = stopped_command action old mid left opened (found honest) (λ _. inl (verified verify.0))
 
 -- ---- faults of a session
 
@@ -85,21 +112,13 @@ module _ (action : Action) (old mid new : Contents) (s later : KeptSession) (dro
         | inl memory ↦ absurd (false≢true (ap is_plan_fault memory))
         | inr asked ↦ ended history.NothingToRedo refl asked (same tt)
       ]
-  perform_failed before after Store refused same stopped = λ _ along. all_stops (stopped (along start opened.opens))
-    where
-      all_stops : OpensAsBeforeOrAfter (session_of_kept s) action mid new → OpensAsBeforeOrAfterRun action old new
-      all_stops (inl e) = inr (start, opened.opens, inl (unchanged e).holds.opens)
-      all_stops (inr stop) = inr (start, opened.opens, inr stop)
+  perform_failed before after Store refused same stopped = stopped_command action old mid new start opened stopped
 
 pub opening_failed : (action : Action) (old new : Contents) (fault : OpenFault) → IsUnopened old new fault → (TellsApartBack old → OpensAsBefore old new) → IsFailed action old new (unopened_as fault)
 opening_failed action old new unopened.JournalInvalid is stopped = is
 opening_failed action old new unopened.FolderChanged is stopped = inl is
 opening_failed action old new unopened.Memory is stopped = inl (refl, inl is)
-opening_failed action old new unopened.Store is stopped = λ back _. all_stops (stopped back)
-  where
-    all_stops : OpensAsBefore old new → OpensAsBeforeOrAfterRun action old new
-    all_stops (inl e) = inl e
-    all_stops (inr s) = inr (s.0, s.1, inl s.2)
+opening_failed action old new unopened.Store is stopped = stopped_opening action old new stopped
 
 -- ---- why, whatever the store does
 

@@ -1,6 +1,6 @@
 -- What a power cut may leave of changes that are written down between two journals.
 use Rattle.std.proofs.Common.{◌≡◌, ◌⊎◌, inl, inr, ℕ, ◌≤◌, List, length, map, take, sym, ap, subst, ◌∙◌, arith}
-use Rattle.std.proofs.lemmas.List.{take_all, take-map}
+use Rattle.std.proofs.lemmas.List.{length-map, take_all, take-map}
 use Rattle.par2_spec.specs.Changes as defined
 use Rattle.par2_spec.specs.Stores.{Contents, with_journal}
 use Rattle.par2_folder.specs.declared.change.Change.{Change}
@@ -25,6 +25,12 @@ module _ (old : Contents) (journals : Journals) where
   pub begun_remains : (cs : List defined.Change) (left : Contents) → (left ≡ old) ⊎ (left ≡ with_halfway old journals.halfway) → IsStoppedAt old journals cs left
   begun_remains cs left (inl none) = inl none
   begun_remains cs left (inr begun) = inr (inl (0, omega arith, begun))
+
+  -- when the changes were made, or some of them
+  pub some_remain : (changes : List Change) (mid left : Contents) → mid ≡ with_halfway old journals.halfway → (n : ℕ) × (n ≤ length changes) × (left ≡ with_all_changes mid (take n (map change_of changes)))
+      → IsStoppedAt old journals (map change_of changes) left
+  some_remain changes mid left begun some =
+      inr (inl (some.0, omega (arith, some.1, length-map changes change_of), some.2 ∙ ap (λ k. with_all_changes k (take some.0 (map change_of changes))) begun))
 
   -- when the journal of afterwards was put
   pub ended_remains : (cs : List defined.Change) (mid done left : Contents) → mid ≡ with_halfway old journals.halfway → done ≡ with_all_changes mid cs → (left ≡ done) ⊎ (left ≡ with_journal done journals.after.items)

@@ -1,9 +1,13 @@
 //! A run of the program.
 ghost use Rattle.std.specs.Prelude.{◌≡◌, ◌≤◌, Bool, IfOk, IfErr, OnOk, IsTrue, map, string_bytes};
+ghost use Rattle.par2_spec.specs.Commands.{Action as Asked};
 ghost use Rattle.par2_spec.specs.Sessions.{Session};
+ghost use Rattle.par2_spec.specs.Stores.{Contents};
 ghost use Rattle.par2_spec.specs.Views.{command_of};
+ghost use Rattle.par2_folder.specs.Cuts.{Lasts};
+ghost use Rattle.par2_tool.specs.Asking.{AskFor};
 ghost use Rattle.par2_tool.specs.Performing.{outcome_of, IsAnswer};
-ghost use Rattle.par2_tool.specs.Telling.{Telling, IsBack, IsCause, IsDone, IsFailed, IsTold, Leaves, SameOutput, IsShown};
+ghost use Rattle.par2_tool.specs.Telling.{Telling, IsBack, IsCause, IsDone, IsFailed, IsStopped, IsTold, Leaves, SameOutput, IsShown};
 
 use crate::opening::{Started, open_for};
 use crate::performing::{Outcome, perform};
@@ -48,6 +52,11 @@ fn carry_out<S: FolderStore>(
         (S.contents store.old) (S.contents store.new) dropped (outcome_of accepted.outcome))) }
     ensures failed { S.honest store.old → IfErr result (IsFailed (command_of command.now)
         (S.contents store.old) (S.contents store.new)) }
+    ensures lasts { S.honest store.old → Lasts (S.may_remain store.old) (S.contents store.old)
+        → OnOk result (Lasts (S.may_remain store.new) (S.contents store.new)) }
+    ensures cut { S.honest store.old → Lasts (S.may_remain store.old) (S.contents store.old)
+        → (left : Contents) → S.may_remain store.new left
+        → IsStopped (command_of command.now) (S.contents store.old) left }
     ensures later { S.failures store.old ≤ S.failures store.new }
     ensures steady { OnOk result (S.failures store.new ≡ S.failures store.old) }
     ensures possible { S.honest store.old → S.impossible store.new ≡ S.impossible store.old }
@@ -65,7 +74,7 @@ fn carry_out<S: FolderStore>(
 
 /// A run of the program: the words are read, the store is opened, what they ask for is performed on it, and what
 /// comes of it is printed on one of the two writers. Answers the status. What is said of the store's contents holds
-/// where it is honest.
+/// where it is honest. What a power cut leaves at any moment opens as before the run or as after it.
 pub fn run<S: FolderStore, O: Write, E: Write>(
     alloc: Global,
     words: &[String],
@@ -79,6 +88,11 @@ pub fn run<S: FolderStore, O: Write, E: Write>(
         × IsShown told O.contents out.old out.new E.contents err.old err.new result
         × (S.honest store.old → Leaves (map string_bytes words.now) told
         (S.contents store.old) (S.contents store.new)) }
+    ensures cut { (action : Asked) → S.honest store.old
+        → Lasts (S.may_remain store.old) (S.contents store.old)
+        → AskFor (map string_bytes words.now) action
+        → (left : Contents) → S.may_remain store.new left
+        → IsStopped action (S.contents store.old) left }
     ensures later { S.failures store.old ≤ S.failures store.new }
     ensures possible { S.honest store.old → S.impossible store.new ≡ S.impossible store.old }
 {

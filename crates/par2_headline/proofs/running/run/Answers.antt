@@ -8,7 +8,7 @@ use Rattle.par2_spec.specs.Folders.{Folder}
 use Rattle.par2_origins.specs.Creates.{may_refuse}
 use Rattle.par2_tool.specs.Runs.{TakesEffect}
 use Rattle.par2_headline.specs.Repairs.{AskForRepair}
-use Rattle.par2_headline.proofs.Answers.{IsRefused, accepted_with_zero, effect_of, repair_refused, repaired}
+use Rattle.par2_headline.proofs.Answers.{IsRefused, accepted_with_zero, effect_of, repair_refused, repaired, stopped_effect}
 use Rattle.par2_headline.proofs.Statuses.{own_status, shown_status, told_of}
 use Rattle.par2_headline.proofs.UndoneRuns.{leaves_older}
 use Rattle.par2_headline.proofs.running.run.Goals.{After-run}
@@ -107,3 +107,7 @@ pub returns-clause-effect : goal.returns-clause-effect
 returns-clause-effect g c action honest asked apart =
     let told = c.run.ensures.told in
     effect_of (map string_bytes c.args.words.now) (g.S.FolderStore.contents c.args.store.now) (g.S.FolderStore.contents c.run.new.store) action asked told.0 (told.3 honest) apart
+
+pub returns-clause-cut : goal.returns-clause-cut
+returns-clause-cut g c action honest lasts asked apart left may =
+    stopped_effect (g.S.FolderStore.contents c.args.store.now) left action (c.run.ensures.cut action honest lasts asked left may apart.back apart.along)

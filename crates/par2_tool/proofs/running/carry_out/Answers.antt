@@ -10,7 +10,7 @@ use Rattle.par2_tool.specs.Performing.{outcome_of}
 use Rattle.par2_tool.specs.Refusals.{failure_for}
 use Rattle.par2_tool.specs.Telling.{IsBack, IsCause, IsFailed}
 use Rattle.par2_tool.proofs.AsIs.{done_for, no_way_back, verify_failed}
-use Rattle.par2_tool.proofs.Outcomes.{opening_failed, perform_cause, perform_failed}
+use Rattle.par2_tool.proofs.Outcomes.{opening_failed, perform_cause, perform_failed, cut_of_command, stopped_opening}
 use Rattle.par2_tool.proofs.running.carry_out.Goals as goal
 use Rattle.par2_tool.proofs.running.carry_out.Goals.{else-dropped-via-then-dropped+else-is_back, else-dropped-via-else-dropped}
 
@@ -83,3 +83,28 @@ returns-in_err-outcome-clause-failed g c honest =
     ]) in
     let told = err_from_is_err_and c.from_residual-in_err-outcome.result c.from_residual-in_err-outcome.ensures.1 in
     rw told.1 (subst (λ (failure : Failure). IsFailed action old new failure) (sym told.2) failing)
+
+-- whatever a cut leaves, of the opening or of the command
+pub returns-in_err-session-clause-cut : goal.returns-in_err-session-clause-cut
+returns-in_err-session-clause-cut g c honest lasts left may =
+    stopped_opening (command_of c.args.command.now) (g.S.FolderStore.contents c.args.store.now) left (λ back. c.open_for.ensures.cut honest lasts back left may)
+
+pub returns-then-is_back-clause-cut : goal.returns-then-is_back-clause-cut
+returns-then-is_back-clause-cut g c honest lasts left may =
+    stopped_opening (command_of c.args.command.now) (g.S.FolderStore.contents c.args.store.now) left (λ back. c.open_for.ensures.cut honest lasts back left may)
+
+pub returns-clause-cut : goal.returns-clause-cut
+returns-clause-cut g c honest lasts left may =
+    let found = c.in_ok-session.ensures.opened in
+    cut_of_command (g.S.FolderStore.honest c.args.store.now) (command_of c.args.command.now) (g.S.FolderStore.contents c.args.store.now) (g.S.FolderStore.contents c.open_for.new.store) left found.0 (started_of c.in_ok-session.field-0)
+    honest found.1 found.2
+    (λ files along. c.perform.ensures.cut (c.open_for.ensures.honest honest) (c.in_ok-session.ensures.lasts honest lasts) files along left may)
+    (λ verify. c.in_ok-session.ensures.lasts honest lasts left (subst (λ store. g.S.FolderStore.may_remain store left) (c.perform.ensures.verify verify).0 may))
+
+pub returns-in_err-outcome-clause-cut : goal.returns-in_err-outcome-clause-cut
+returns-in_err-outcome-clause-cut g c honest lasts left may =
+    let found = c.in_ok-session.ensures.opened in
+    cut_of_command (g.S.FolderStore.honest c.args.store.now) (command_of c.args.command.now) (g.S.FolderStore.contents c.args.store.now) (g.S.FolderStore.contents c.open_for.new.store) left found.0 (started_of c.in_ok-session.field-0)
+    honest found.1 found.2
+    (λ files along. c.perform.ensures.cut (c.open_for.ensures.honest honest) (c.in_ok-session.ensures.lasts honest lasts) files along left may)
+    (λ verify. c.in_ok-session.ensures.lasts honest lasts left (subst (λ store. g.S.FolderStore.may_remain store left) (c.perform.ensures.verify verify).0 may))

@@ -1,12 +1,14 @@
 use Rattle.std.specs.Prelude.{map, string_bytes}
-use Rattle.std.proofs.Common.{inl, inr, [], refl, sym, subst}
+use Rattle.std.proofs.Common.{inl, inr, [], refl, sym, subst, ◌∙◌}
+use Rattle.std.proofs.lemmas.Option.{same_Some}
+use Rattle.par2_spec.specs.Commands.{Action}
 use Rattle.par2_spec.specs.Views.{command_of}
 use Rattle.par2_spec.specs.declared.Failure.{Failure}
 use Rattle.par2_spec.specs.Texts.{status_of}
 use Rattle.par2_printing.specs.Views.{words_asked}
 use Rattle.par2_tool.specs.Asking.{AskFor}
 use Rattle.par2_tool.specs.Performing.{outcome_of}
-use Rattle.par2_tool.specs.Telling.{Answered, Failed, IsUnread, IsPrinted}
+use Rattle.par2_tool.specs.Telling.{Answered, Failed, IsUnread, IsPrinted, IsStopped}
 use Rattle.par2_tool.proofs.UnreadWords.{unread_words}
 use Rattle.par2_tool.proofs.running.run.Goals as goal
 
@@ -45,3 +47,14 @@ returns-clause-told g c =
       (c.fail-in-Err-carry_out.ensures, refl {a = c.args.out.now}),
       λ honest. inr (action, asked, c.in-Err-carry_out.ensures.failed honest),
     )
+
+pub returns-in-Err-clause-cut : goal.returns-in-Err-clause-cut
+returns-in-Err-clause-cut g c action honest lasts asked left may = λ _ _. inl (lasts left may)
+
+pub returns-in-Ok-carry_out-clause-cut : goal.returns-in-Ok-carry_out-clause-cut
+returns-in-Ok-carry_out-clause-cut g c action honest lasts asked left may =
+    subst (λ (a : Action). IsStopped a (g.S.FolderStore.contents c.args.store.now) left) (same_Some (command_of c.in-Ok.command) action (sym c.in-Ok.ensures.command ∙ asked.asked)) (c.carry_out.ensures.cut honest lasts left may)
+
+pub returns-clause-cut : goal.returns-clause-cut
+returns-clause-cut g c action honest lasts asked left may =
+    subst (λ (a : Action). IsStopped a (g.S.FolderStore.contents c.args.store.now) left) (same_Some (command_of c.in-Ok.command) action (sym c.in-Ok.ensures.command ∙ asked.asked)) (c.carry_out.ensures.cut honest lasts left may)
