@@ -8,6 +8,7 @@ ghost use Rattle.par2_recovery.specs.Survivors.{recovered_of};
 ghost use Rattle.par2_recovery.specs.Syndromes.{window, AreSyndromes, AreSolved, AreExtended};
 ghost use Rattle.par2_recovery.specs.Views.{texts_of, AreBlank};
 
+use crate::elements::text_at;
 use crate::exponents::coefficients;
 use crate::inverse::recovery_at;
 use crate::products::{source_at, with_products};
@@ -104,15 +105,15 @@ fn syndromes(
     with_products(alloc, gf, coefficients, known, slices, words)
 }
 
-// So many words of the lost slices: the inverse times the syndromes.
-fn solved_words(
+// The lost slices of these: the inverse times the syndromes.
+fn solved_block(
     alloc: Global,
     gf: &Gf,
     inverse: &[Vec<u16>],
     coefficients: &[Vec<u16>],
     slices: &[&[u8]],
     known: &[&[u8]],
-    words: usize,
+    size: usize,
 ) -> Result<Vec<Vec<u8>>, AllocError>
     requires inverse { (r : ℕ) → r < length inverse.now
         → length slices.now ≤ length (list_at (lists_of inverse.now) r) }
@@ -120,15 +121,16 @@ fn solved_words(
     requires coefficients { (j : ℕ) → j < length coefficients.now
         → length known.now ≤ length (list_at (lists_of coefficients.now) j) }
     requires slices { (j : ℕ)
-        → j < length slices.now → 2 * words ≤ length (list_at (texts_of slices.now) j) }
-    ensures { IfOk result (λ texts. AreSolved (2 * words) (lists_of inverse.now)
+        → j < length slices.now → size ≤ length (list_at (texts_of slices.now) j) }
+    requires even { size % 2 ≡ 0 }
+    ensures { IfOk result (λ texts. AreSolved size (lists_of inverse.now)
         (lists_of coefficients.now) (texts_of known.now) (texts_of slices.now)
         (lists_of texts.items)) }
 {
-    let syndromes = syndromes(alloc, gf, coefficients, slices, known, words)?;
+    let syndromes = syndromes(alloc, gf, coefficients, slices, known, size / 2)?;
     let sources = borrowed(alloc, &syndromes)?;
-    let zeros = blank(alloc, inverse.len(), 2 * words)?;
-    with_products(alloc, gf, inverse, &sources, zeros, words)
+    let zeros = blank(alloc, inverse.len(), size)?;
+    with_products(alloc, gf, inverse, &sources, zeros, size / 2)
 }
 
 // Empty texts, with room for so many bytes each.
@@ -145,11 +147,12 @@ fn reserved(alloc: Global, count: usize, size: usize) -> Result<Vec<Vec<u8>>, Al
 // Puts the block behind text r.
 fn extend_at(texts: &mut [Vec<u8>], r: usize, block: &[u8]) -> Result<(), AllocError>
     requires { r < length texts.old }
-    ensures changed { IfOk result (λ _. OneChanged (lists_of texts.old) (lists_of texts.new) r) }
+    ensures changed { OneChanged (lists_of texts.old) (lists_of texts.new) r }
     ensures here { IfOk result (λ _. list_at (lists_of texts.new) r
         ≡ list_at (lists_of texts.old) r ++ block.now) }
 {
-    texts[r].extend_from_slice(block)
+    texts[r].extend_from_slice(block)?;
+    Ok(())
 }
 
 // Puts each block behind the text at its place.
@@ -159,7 +162,7 @@ fn extend(texts: &mut [Vec<u8>], blocks: &[Vec<u8>]) -> Result<(), AllocError>
         (lists_of texts.new) (length blocks.now)) }
 {
     for r in 0..blocks.len() {
-        extend_at(texts, r, blocks[r].as_slice())?;
+        extend_at(texts, r, text_at(blocks, r))?;
     }
     Ok(())
 }
@@ -192,8 +195,8 @@ pub(crate) fn solved(
         let count = BLOCK.min(size - from);
         let slices = windows(alloc, slices, from, count)?;
         let known = windows(alloc, known, from, count)?;
-        let words = solved_words(alloc, gf, inverse, coefficients, &slices, &known, count / 2)?;
-        extend(texts.as_mut_slice(), &words)?;
+        let lost = solved_block(alloc, gf, inverse, coefficients, &slices, &known, count)?;
+        extend(texts.as_mut_slice(), &lost)?;
     }
     Ok(texts)
 }
