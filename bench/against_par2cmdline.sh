@@ -1,7 +1,9 @@
 #!/bin/sh
 # Whole commands beside par2cmdline on one thread (-t1 -T1), over the same folders: the two take turns, and a line has the
 # least time of three runs of each, in milliseconds, and their ratio. Both programs must end as is said for the scene.
-# usage: against_par2cmdline.sh PROGRAM [TABLE]     TABLE is a file that gets a line for each scene too: ratio, ours, theirs, scene
+# With LARGE=1 there are scenes with 3,277 recovery slices over 32,768 more, which take minutes to make.
+# usage: against_par2cmdline.sh PROGRAM [TABLE]
+#     TABLE is a file that gets a line for each scene too: ratio, ours, theirs, scene
 set -eu
 program=$1
 table=${2:-}
@@ -77,6 +79,42 @@ create() {
     line "create: $name"
 }
 
+# made SIZE COUNT FILE: a set of this file, made by our program, is in the present folder, and the file is not.
+made() {
+    "$program" create "-s$1" "-c$2" set.par2 "$3" > "$room/said"
+    rm -f .par2undo "$3"
+}
+
+# lost NAME: verifies the set whose one file is gone, and whose recovery slices are too few.
+lost() {
+    verify "$1" 2 2
+}
+
+# thinned KEPT: of the recovery slices in the present folder those stay whose exponent `e` fulfils this condition of
+# python.
+thinned() {
+    python3 - "$1" <<'END'
+import glob, os, sys
+
+def packets(data):
+    at = 0
+    while at < len(data):
+        length = int.from_bytes(data[at + 8 : at + 16], "little")
+        yield data[at : at + length]
+        at += length
+
+def stays(packet):
+    e = int.from_bytes(packet[64:68], "little")
+    return packet[48:64] != b"PAR 2.0\0RecvSlic" or eval(sys.argv[1], {"e": e})
+
+for path in glob.glob("set.vol*.par2"):
+    with open(path, "rb") as volume:
+        left = [it for it in packets(volume.read()) if stays(it)]
+    with open(path, "wb") as volume:
+        volume.write(b"".join(left))
+END
+}
+
 # folder NAME: an empty one, where what follows goes on.
 folder() {
     mkdir "$room/$1"
@@ -119,8 +157,30 @@ for slice in $(seq 0 13 3890); do
 done
 keep
 repair "300 of 4,096 slices lost" data
+rm -f data*
+lost "the file of 4,096 slices is gone, 400 recovery slices"
 cd "$room"
 rm -rf small
+
+folder short
+head -c 8388608 /dev/urandom > data
+made 512 50 data
+lost "the file of 16,384 slices of 512 bytes is gone, 50 recovery slices"
+cd "$room"
+rm -rf short
+
+# Exponents in many short runs are what the rank costs most by.
+folder runs
+head -c 131072 /dev/urandom > data
+made 4 256 data
+keep
+thinned "e % 2 == 0"
+lost "the file of 32,768 slices is gone, each second of 256 exponents"
+restore
+thinned "e % 3 != 2"
+lost "the same with pairs of exponents"
+cd "$room"
+rm -rf runs
 
 folder many
 for file in $(seq -w 200); do
@@ -146,3 +206,23 @@ rm -rf zeros
 folder little
 head -c 4194304 /dev/zero > data
 create "4 MiB of zeros, 20 slices of 4 KiB" 4096 20 data
+cd "$room"
+rm -rf little
+
+[ -n "${LARGE:-}" ] || exit 0
+folder large
+head -c 134217728 /dev/urandom > data
+cp data "$room/whole"
+made 4096 3277 data
+lost "the file of 32,768 slices is gone, 3,277 recovery slices"
+keep
+rm set.vol01023+*
+lost "the same with a volume in the middle gone too"
+restore
+cp "$room/whole" data
+for slice in $(seq 0 32 31968); do
+    dd if=/dev/zero of=data bs=4096 seek="$slice" count=1 conv=notrunc status=none
+done
+keep
+rounds=1
+repair "1,000 of 32,768 slices lost" data

@@ -8,5 +8,6 @@ pub mod Rebuilding
 pub mod Inverting
 pub mod Standing
 pub mod Finishing
+pub mod Solving
 pub mod Records
 pub mod KnownSlices

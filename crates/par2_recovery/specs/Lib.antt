@@ -3,4 +3,5 @@ pub mod Products
 pub mod Elements
 pub mod Survivors
 pub mod Inverses
+pub mod Syndromes
 pub mod Rebuilding

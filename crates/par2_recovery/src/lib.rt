@@ -9,6 +9,7 @@ mod products;
 mod rebuild_slices;
 mod recovery;
 mod set_record;
+mod syndromes;
 
 pub use exponents::rank;
 pub use file_record::file_record_by_md5;
