@@ -4,3 +4,4 @@ pub mod Elements
 pub mod Survivors
 pub mod Inverses
 pub mod Rebuilding
+pub mod RunInverses

@@ -8,6 +8,7 @@ mod inverse;
 mod products;
 mod rebuild_slices;
 mod recovery;
+mod run_inverse;
 mod set_record;
 
 pub use exponents::rank;
