@@ -10,3 +10,5 @@ pub mod Standing
 pub mod Finishing
 pub mod Records
 pub mod KnownSlices
+pub mod Quotients
+pub mod RunInverses

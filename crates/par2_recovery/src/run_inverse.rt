@@ -3,7 +3,7 @@
 //! constants of the lost slices: the quotient on its division by `z - c` is 0 at the other ones and not at `c`, so that
 //! its coefficients, scaled, are row `j` of the inverse.
 
-ghost use Rattle.std.specs.Prelude.{◌≡◌, ◌≢◌, ◌<◌, ℕ, map, slice_index, IfOk};
+ghost use Rattle.std.specs.Prelude.{◌≡◌, ◌≢◌, ◌<◌, ◌^◌, ℕ, map, slice_index, IfOk};
 ghost use Rattle.par2_spec.specs.Field.{mul, pow, constant};
 ghost use Rattle.par2_spec.specs.Polynomials.{value, times, times_root, with_roots, quotient};
 ghost use Rattle.par2_spec.specs.Runs.{AreSlices};
@@ -59,7 +59,7 @@ fn with_roots(alloc: Global, gf: &Gf, points: &[u16]) -> Result<Vec<u16>, AllocE
 
 // The quotient of a polynomial on division by `z - c`.
 fn quotient(alloc: Global, gf: &Gf, c: u16, p: &[u16]) -> Result<Vec<u16>, AllocError>
-    ensures { IfOk result (λ quotient. quotient.items ≡ quotient c p.now) }
+    ensures { IfOk result (λ q. q.items ≡ quotient c p.now) }
 {
     let count = p.len().saturating_sub(1);
     let mut quotient = vec![in alloc; 0u16; count]?;
@@ -93,6 +93,14 @@ fn scaled(alloc: Global, gf: &Gf, k: u16, p: &[u16]) -> Result<Vec<u16>, AllocEr
     Ok(multiple)
 }
 
+fn inverse_of(gf: &Gf, a: u16) -> u16
+    requires { a ≢ 0 }
+    ensures product { mul a result ≡ 1 }
+    ensures small { result < 2 ^ 16 }
+{
+    gf.inv(a).unwrap()
+}
+
 // The row of the inverse for the constant `c`, by the polynomial of all constants, for the exponents from `first` on.
 fn inverse_row(
     alloc: Global,
@@ -106,7 +114,7 @@ fn inverse_row(
 {
     let quotient = quotient(alloc, gf, c, p)?;
     let at_c = gf.mul(gf.pow(c, first), value(gf, &quotient, c));
-    scaled(alloc, gf, gf.inv(at_c).unwrap(), &quotient)
+    scaled(alloc, gf, inverse_of(gf, at_c), &quotient)
 }
 
 /// The inverse of the equations of the exponents from `first` on, as many as slices are lost. It takes some

@@ -4,7 +4,7 @@ use Rattle.par2_recovery.proofs.run_inverse.quotient.Given as goal
 
 abbrev pub invariant-loop-t : goal.invariant-loop-t
 invariant-loop-t l = record {
-  length : length l.quotient.items ≡ l.count;
-  value : l.value ≡ value (drop (l.t + 1) l.p) l.c;
+  count : length l.quotient.items ≡ l.count;
+  so_far : l.value ≡ value (drop (l.t + 1) l.p) l.c;
   each : (i : ℕ) → l.t ≤ i → i < l.count → get_or l.quotient.items i 0 ≡ value (drop (i + 1) l.p) l.c;
 }
