@@ -12,3 +12,4 @@ pub mod Records
 pub mod KnownSlices
 pub mod Quotients
 pub mod RunInverses
+pub mod Beginnings

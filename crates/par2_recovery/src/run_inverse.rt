@@ -3,15 +3,43 @@
 //! constants of the lost slices: the quotient on its division by `z - c` is 0 at the other ones and not at `c`, so that
 //! its coefficients, scaled, are row `j` of the inverse.
 
-ghost use Rattle.std.specs.Prelude.{◌≡◌, ◌≢◌, ◌<◌, ◌^◌, ℕ, map, slice_index, IfOk};
+ghost use Rattle.std.specs.Prelude.{◌≡◌, ◌≢◌, ◌<◌, ◌^◌, ℕ, length, map, slice_index, IfOk, IfSome};
+ghost use Rattle.std.specs.List.Sorted.{IsStrictlyIncreasing};
 ghost use Rattle.par2_spec.specs.Field.{mul, pow, constant};
 ghost use Rattle.par2_spec.specs.Polynomials.{value, times, times_root, with_roots, quotient};
 ghost use Rattle.par2_spec.specs.Runs.{AreSlices};
 ghost use Rattle.par2_spec.specs.Sums.{lists_of};
-ghost use Rattle.par2_recovery.specs.RunInverses.{IsInverse, IsScaledQuotient};
+ghost use Rattle.par2_recovery.specs.RunInverses.{BeginsWithRun, IsInverse, IsScaledQuotient};
+ghost use Rattle.par2_recovery.specs.Survivors.{exponents_of};
 
 use par2_gf16::Gf;
 use std::alloc::{AllocError, Global};
+
+fn exponent_at(recovery: &[(u32, &[u8])], i: usize) -> u32
+    requires { i < length recovery.now }
+    ensures { result ≡ slice_index (exponents_of recovery.now) i }
+{
+    recovery[i].0
+}
+
+/// The first of `count` exponents, where these are the first of the recovery slices and follow one another without a
+/// gap: in rising order, the last of as many without a gap is the nearest to the first.
+pub(crate) fn run_at_front(recovery: &[(u32, &[u8])], count: usize) -> Option<u32>
+    requires { IsStrictlyIncreasing (exponents_of recovery.now) }
+    ensures { IfSome result
+        (λ first. BeginsWithRun first count (exponents_of recovery.now)) }
+{
+    if count == 0 || recovery.len() < count {
+        return None;
+    }
+    let first = exponent_at(recovery, 0);
+    let last = exponent_at(recovery, count - 1);
+    if (last - first) as usize == count - 1 {
+        Some(first)
+    } else {
+        None
+    }
+}
 
 fn constant(gf: &Gf, k: u32) -> u16
     requires { k < 32768 }
@@ -128,8 +156,9 @@ pub(crate) fn run_inverse(
     requires { AreSlices lost.now }
     ensures { IfOk result (λ rows. IsInverse first lost.now (lists_of rows.items)) }
 {
-    let points = constants(alloc, gf, lost)?;
-    let p = with_roots(alloc, gf, &points)?;
+    let constants = constants(alloc, gf, lost)?;
+    let points = constants.as_slice();
+    let p = with_roots(alloc, gf, points)?;
     let mut rows = Vec::with_capacity(alloc, points.len())?;
     for j in 0..points.len() {
         rows.push(inverse_row(alloc, gf, &p, points[j], first)?)?;

@@ -12,13 +12,13 @@ inverse_row-requires c =
     let lost = c.args.lost.now in
     let f = c.args.first in
     let j = c.loop-j.j in
-    let points_are : c.in_ok-points.points.items ≡ map constant lost = c.in_ok-points.ensures in
-    let p_is : c.deref-in-loop-j.result.now ≡ with_roots (map constant lost) = c.deref-in-loop-j.ensures.value ∙ c.in_ok-p.ensures ∙ ap with_roots (c.deref.ensures.value ∙ points_are) in
-    let index : c.index.result.now ≡ get_or c.in_ok-points.points.items j 0 = search rules in
-    let at : c.index.result.now ≡ get_or (map constant lost) j 0 = index ∙ ap (λ xs. get_or xs j 0) points_are in
-    let within : j < length c.in_ok-points.points.items = search rules in
+    let points = c.as_slice-points.result.now in
+    let points_are : points ≡ map constant lost = c.as_slice-points.ensures.value ∙ c.in_ok-constants.ensures in
+    let p_is : c.deref.result.now ≡ with_roots (map constant lost) = c.deref.ensures.value ∙ c.in_ok-p.ensures ∙ ap with_roots points_are in
+    let at : get_or points j 0 ≡ get_or (map constant lost) j 0 = ap (λ xs. get_or xs j 0) points_are in
+    let within : j < length points = search rules in
     let low : j < length lost = (let long = length-map lost constant in let same = ap length points_are in omega (arith, within, long, same)) in
-    subst (λ x. mul (pow x f) (value (quotient x c.deref-in-loop-j.result.now) x) ≢ 0) (sym at)
+    subst (λ x. mul (pow x f) (value (quotient x c.deref.result.now) x) ≢ 0) (sym at)
     (subst (λ p. mul (pow (get_or (map constant lost) j 0) f) (value (quotient (get_or (map constant lost) j 0) p) (get_or (map constant lost) j 0)) ≢ 0) (sym p_is) (at_itself lost f j c.requires low))
 
 pub loop-j-preserved : goal.loop-j-preserved
@@ -26,12 +26,10 @@ loop-j-preserved c =
     let j = c.loop-j.j in
     let f = c.args.first in
     let p = c.in_ok-p.p.items in
-    let points = c.in_ok-points.points.items in
+    let points = c.as_slice-points.result.now in
     let row = c.in_ok-inverse_row.field-0 in
-    let index : c.index.result.now ≡ get_or points j 0 = search rules in
     let pushed : c.push.new.self.items ≡ c.loop-j.rows.items ++ row ∷ [] = search rules in
-    let is : IsScaledQuotient f (get_or points j 0) p row.items =
-    subst (λ x. IsScaledQuotient f x p row.items) index (subst (λ q. IsScaledQuotient f c.index.result.now q row.items) c.deref-in-loop-j.ensures.value c.in_ok-inverse_row.ensures) in
+    let is : IsScaledQuotient f (get_or points j 0) p row.items = subst (λ q. IsScaledQuotient f (get_or points j 0) q row.items) c.deref.ensures.value c.in_ok-inverse_row.ensures in
     subst (λ xs. AreScaledQuotients f p points (lists_of xs) (j + 1)) (sym pushed) (scaled_push f p points c.loop-j.rows.items row j c.loop-j.invariant is)
 
 pub returns : goal.returns
@@ -39,11 +37,12 @@ returns c =
     let lost = c.args.lost.now in
     let f = c.args.first in
     let rows = lists_of c.loop-j.rows.items in
-    let points_are : c.in_ok-points.points.items ≡ map constant lost = c.in_ok-points.ensures in
-    let p_is : c.in_ok-p.p.items ≡ with_roots (map constant lost) = c.in_ok-p.ensures ∙ ap with_roots (c.deref.ensures.value ∙ points_are) in
-    let at_end : c.loop-j.j ≡ length c.in_ok-points.points.items = search rules in
+    let points = c.as_slice-points.result.now in
+    let points_are : points ≡ map constant lost = c.as_slice-points.ensures.value ∙ c.in_ok-constants.ensures in
+    let p_is : c.in_ok-p.p.items ≡ with_roots (map constant lost) = c.in_ok-p.ensures ∙ ap with_roots points_are in
+    let at_end : c.loop-j.j ≡ length points = search rules in
     let all : c.loop-j.j ≡ length lost = at_end ∙ ap length points_are ∙ length-map lost constant in
     is_inverse lost f rows c.requires
     (subst (λ n. AreScaledQuotients f (with_roots (map constant lost)) (map constant lost) rows n) all
     (subst (λ ps. AreScaledQuotients f (with_roots (map constant lost)) ps rows c.loop-j.j) points_are
-    (subst (λ q. AreScaledQuotients f q c.in_ok-points.points.items rows c.loop-j.j) p_is c.loop-j.invariant)))
+    (subst (λ q. AreScaledQuotients f q points rows c.loop-j.j) p_is c.loop-j.invariant)))
