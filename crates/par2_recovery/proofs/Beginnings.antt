@@ -3,7 +3,7 @@ use Rattle.std.proofs.Common.{ℕ, zero, suc, ◌+◌, ◌-◌, ◌<◌, ◌≤�
 use Rattle.std.specs.Prelude.{filter, Option, Some, None}
 use Rattle.std.specs.List.{AllByRecursion, Contains, range_with_len}
 use Rattle.std.specs.List.Sorted.{IsStrictlyIncreasing}
-use Rattle.std.proofs.lemmas.List.{length-map, ext_get_or, get_or-take, get_or_default, length-take-le, take_all, take-map}
+use Rattle.std.proofs.lemmas.List.{length-map, length-take, get_or-map, ext_get_or, get_or-take, get_or_default, length-take-le, take_all, take-map}
 use Rattle.std.proofs.lemmas.List.Elements.{Contains-get_or}
 use Rattle.std.proofs.lemmas.List.FromFn.{length-range_with_len, get_or-range_with_len}
 use Rattle.par2_spec.specs.Rank.{kept, rank, kept_slices, IsRepairable}
@@ -30,6 +30,13 @@ begins xs n rise some within near =
     f : ℕ
     f = get_or xs 0 0
 
+exponents_at : (recs : List (ℕ × List ℕ)) (n : ℕ) → 0 < n → n ≤ length recs
+    → (get_or (map (λ r. r.0) recs) 0 0 ≡ (get_or recs 0 (0, [])).0) × (get_or (map (λ r. r.0) recs) (n - 1) 0 ≡ (get_or recs (n - 1) (0, [])).0)
+exponents_at recs n some within = (
+  get_or-map (λ (r : ℕ × List ℕ). r.0) recs 0 (0, []) 0 (omega (arith, some, within)),
+  get_or-map (λ (r : ℕ × List ℕ). r.0) recs (n - 1) (0, []) 0 (omega (arith, some, within)),
+)
+
 -- an exponent of the run
 in_run : (f n e : ℕ) → Contains (range_with_len f n) e → (f ≤ e) × (e < f + n)
 in_run f n e among =
@@ -44,22 +51,29 @@ close_front xs f n front e g first second =
     let b = in_run f n g (subst (λ ys. Contains ys g) front second) in
     omega (arith, a.0, b.1)
 
--- what stands among the first is among all
-taken : (xs : List ℕ) (n e : ℕ) → Contains (take n xs) e → Contains xs e
-taken [] zero e among = among
-taken [] (suc n) e among = among
-taken (x ∷ xs) zero e among = absurd (let h = among.1 in omega (arith, h))
-taken (x ∷ xs) (suc n) e among = step among.0 among.1 among.2
-  where
-    step : (i : ℕ) → i < length (x ∷ take n xs) → get_or (x ∷ take n xs) i e ≡ e → Contains (x ∷ xs) e
-    step zero h is = (0, omega arith, is)
-    step (suc i) h is = let rest = taken xs n e (i, omega (arith, h), is) in (suc rest.0, (let k = rest.1 in omega (arith, k)), rest.2)
-
 pub has_run_front : (xs : List ℕ) (f n : ℕ) → BeginsWithRun f n xs → HasRun f n xs
 has_run_front xs f n front i low =
-    let long = length-range_with_len f n in
-    taken xs n (f + i) (subst (λ ys. Contains ys (f + i)) (sym front)
-    (subst (Contains (range_with_len f n)) (get_or-range_with_len f n i 0 low) (Contains-get_or (range_with_len f n) i 0 (omega (arith, long, low)))))
+    let long : length (take n xs) ≡ n = ap length front ∙ length-range_with_len f n in
+    let within : i < length xs = (let least = length-take n xs in omega (arith, long, least, low)) in
+    let at : get_or xs i 0 ≡ f + i = sym (get_or-take n xs i 0 low) ∙ ap (λ ys. get_or ys i 0) front ∙ get_or-range_with_len f n i 0 low in
+    subst (Contains xs) at (Contains-get_or xs i 0 within)
+
+-- the same by the recovery slices at the first place and at the last
+pub begins_at : (recs : List (ℕ × List ℕ)) (n first last : ℕ) → IsStrictlyIncreasing (map (λ r. r.0) recs) → 0 < n → n ≤ length recs
+    → first ≡ (get_or recs 0 (0, [])).0 → last ≡ (get_or recs (n - 1) (0, [])).0 → last - first ≡ n - 1 → BeginsWithRun first n (map (λ r. r.0) recs)
+begins_at recs n first last rise some within is_first is_last near =
+    let ends = exponents_at recs n some within in
+    let start = is_first ∙ sym ends.0 in
+    let near_here : get_or (map (λ r. r.0) recs) (n - 1) 0 - get_or (map (λ r. r.0) recs) 0 0 ≡ n - 1 = ap₂ (λ a b. a - b) (ends.1 ∙ sym is_last) (sym start) ∙ near in
+    subst (λ f. BeginsWithRun f n (map (λ r. r.0) recs)) (sym start)
+    (begins (map (λ r. r.0) recs) n rise some (let long = length-map recs (λ (r : ℕ × List ℕ). r.0) in omega (arith, long, within)) near_here)
+
+pub in_order : (recs : List (ℕ × List ℕ)) (n first last : ℕ) → IsStrictlyIncreasing (map (λ r. r.0) recs) → 0 < n → n ≤ length recs
+    → first ≡ (get_or recs 0 (0, [])).0 → last ≡ (get_or recs (n - 1) (0, [])).0 → first ≤ last
+in_order recs n first last rise some within is_first is_last =
+    let ends = exponents_at recs n some within in
+    let order = rises_between (map (λ r. r.0) recs) rise 0 (n - 1) (omega arith) (let long = length-map recs (λ (r : ℕ × List ℕ). r.0) in omega (arith, long, some, within)) in
+    omega (arith, order, is_first, is_last, ends.0, ends.1)
 
 -- ---- the kept exponents
 
@@ -128,5 +142,11 @@ lost_above a (None ∷ known) (suc i) h = let rest = lost_above (a + 1) known i 
 pub lost_rise : {A : Type 0} (a : ℕ) (known : List (Option A)) → IsStrictlyIncreasing (lost_from a known)
 lost_rise a [] k h = absurd (omega (arith, h))
 lost_rise a (Some x ∷ known) k h = lost_rise (a + 1) known k h
-lost_rise a (None ∷ known) zero h = let rest = lost_above (a + 1) known 0 (omega (arith, h)) in omega (arith, rest)
-lost_rise a (None ∷ known) (suc k) h = lost_rise (a + 1) known k (omega (arith, h))
+lost_rise a (None ∷ known) zero h =
+    let e : 0 + 1 ≡ suc 0 = omega arith in
+    let rest = lost_above (a + 1) known 0 (omega (arith, h)) in
+    subst (λ n. a < get_or (a ∷ lost_from (a + 1) known) n 0) (sym e) (omega (arith, rest))
+lost_rise a (None ∷ known) (suc k) h =
+    let e : suc k + 1 ≡ suc (k + 1) = omega arith in
+    let more = lost_rise (a + 1) known k (omega (arith, h)) in
+    subst (λ n. get_or (lost_from (a + 1) known) k 0 < get_or (a ∷ lost_from (a + 1) known) n 0) (sym e) more

@@ -3,21 +3,21 @@
 //! constants of the lost slices: the quotient on its division by `z - c` is 0 at the other ones and not at `c`, so that
 //! its coefficients, scaled, are row `j` of the inverse.
 
-ghost use Rattle.std.specs.Prelude.{◌≡◌, ◌≢◌, ◌<◌, ◌^◌, ℕ, length, map, slice_index, IfOk, IfSome};
+ghost use Rattle.std.specs.Prelude.{◌≡◌, ◌≢◌, ◌<◌, ◌^◌, ℕ, length, map, slice_index, slice_index_or, [], IfOk, IfSome};
 ghost use Rattle.std.specs.List.Sorted.{IsStrictlyIncreasing};
 ghost use Rattle.par2_spec.specs.Field.{mul, pow, constant};
 ghost use Rattle.par2_spec.specs.Polynomials.{value, times, times_root, with_roots, quotient};
 ghost use Rattle.par2_spec.specs.Runs.{AreSlices};
 ghost use Rattle.par2_spec.specs.Sums.{lists_of};
 ghost use Rattle.par2_recovery.specs.RunInverses.{BeginsWithRun, IsInverse, IsScaledQuotient};
-ghost use Rattle.par2_recovery.specs.Survivors.{exponents_of};
+ghost use Rattle.par2_recovery.specs.Survivors.{exponents_of, recovered_of};
 
 use par2_gf16::Gf;
 use std::alloc::{AllocError, Global};
 
 fn exponent_at(recovery: &[(u32, &[u8])], i: usize) -> u32
     requires { i < length recovery.now }
-    ensures { result ≡ slice_index (exponents_of recovery.now) i }
+    ensures { result ≡ (slice_index_or (recovered_of recovery.now) i (0, [])).0 }
 {
     recovery[i].0
 }
