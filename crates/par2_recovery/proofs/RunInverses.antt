@@ -1,13 +1,14 @@
 -- The scaled quotients by the constants of the lost slices are the inverse of the equations of a run.
-use Rattle.std.proofs.Common.{ℕ, zero, suc, ◌+◌, ◌-◌, ◌*◌, ◌^◌, ◌<◌, ◌≤◌, ◌≡◌, ◌≢◌, refl, sym, ap, ap₂, ◌∙◌, subst, arith, List, [], ◌∷◌, ◌++◌, length, length-append, get_or, Vec, Global, map, bit_xor, inl, inr}
-use Rattle.std.proofs.lemmas.Bool.{cases_lt, cases_eq}
+use Rattle.std.proofs.Common.{ℕ, zero, suc, ◌+◌, ◌-◌, ◌*◌, ◌^◌, ◌<◌, ◌≤◌, ◌≡◌, ◌≢◌, refl, sym, ap, ap₂, ◌∙◌, subst, arith, List, [], ◌∷◌, ◌++◌, length, length-append, get_or, Vec, Global, map, bit_xor, cond, inl, inr}
+use Rattle.std.proofs.lemmas.Bool.{cases_lt, cases_eq, eq-eqb, ne_eqb}
+use Rattle.std.proofs.lemmas.List.FromFn.{length-range_with_len, get_or-range_with_len}
 use Rattle.std.proofs.lemmas.Bool.Decides.{Decides-eqb}
 use Rattle.std.proofs.lemmas.List.{length-map, get_or-map, get_or_append_left, map-append}
 use Rattle.std.proofs.Math.Seq.{get_or-append_seam}
 use Rattle.std.proofs.lemmas.List.Elements.{Contains-get_or}
 use Rattle.std.proofs.lemmas.List.Kept.{AllPairs-from_increasing}
 use Rattle.std.proofs.lemmas.Map.Made.{IsDistinct-from_AllPairs}
-use Rattle.std.specs.List.{Contains, AllByRecursion}
+use Rattle.std.specs.List.{Contains, range_with_len}
 use Rattle.par2_spec.specs.Field.{mul, pow, constant, coefficient}
 use Rattle.par2_spec.specs.Rank.{IsVector}
 use Rattle.par2_spec.specs.Runs.{AreSlices}
@@ -20,14 +21,16 @@ use Rattle.par2_spec.proofs.ListsLaws.{all_get, all-each}
 use Rattle.par2_spec.proofs.PolynomialLaws.{value-lt, value_times, with_roots_elements, length-with_roots, quotient_elements, length-quotient, times_elements, quotient_others, quotient_itself}
 use Rattle.par2_spec.proofs.SumLaws.{field_sum_same, field_sum_head}
 use Rattle.par2_spec.proofs.WordLaws.{length-lists_of}
-use Rattle.par2_recovery.specs.RunInverses.{run_sum, IsInverse, IsScaledQuotient, AreScaledQuotients}
+use Rattle.par2_recovery.specs.Inverses.{identity, IsInverse}
+use Rattle.par2_recovery.specs.RunInverses.{IsScaledQuotient, AreScaledQuotients}
 
 -- ---- the sum over a run is a value
 
-term : ℕ → List ℕ → ℕ → ℕ → ℕ
-term f row k t = mul (get_or row t 0) (coefficient (f + t) k)
+-- what a row gives with the coefficients of slice k at the exponents from f on: the sum of the products
+abbrev run_sum : ℕ → List ℕ → ℕ → ℕ
+run_sum f row k = field_sum (length row) (λ t. mul (get_or row t 0) (coefficient (f + t) k))
 
-pub run_sum_is : (row : List ℕ) (f k : ℕ) → AreElements row → run_sum f row k ≡ mul (pow (constant k) f) (value row (constant k))
+run_sum_is : (row : List ℕ) (f k : ℕ) → AreElements row → run_sum f row k ≡ mul (pow (constant k) f) (value row (constant k))
 unfolding field_sum value coefficient pow
 run_sum_is [] f k h = sym (product-zero (pow (constant k) f))
 run_sum_is (a ∷ row) f k h =
@@ -145,12 +148,23 @@ length-row c factor points =
     let count = length-with_roots points in
     length-map (quotient c (with_roots points)) (mul factor) ∙ omega (arith, long, count)
 
-pub is_inverse : (ks : List ℕ) (f : ℕ) (rows : List (List ℕ)) → AreSlices ks → AreScaledQuotients f (with_roots (map constant ks)) (map constant ks) rows (length ks) → IsInverse f ks rows
+pub is_inverse : (ks : List ℕ) (f : ℕ) (rows : List (List ℕ)) → AreSlices ks → AreScaledQuotients f (with_roots (map constant ks)) (map constant ks) rows (length ks)
+    → IsInverse ks (range_with_len f (length ks)) rows
 is_inverse ks f rows are rows_are = record {
+  square = length-range_with_len f (length ks);
   count = rows_are.count;
-  vectors = λ j h. (long j h, elements j h);
-  itself = λ j h. sum_is j j h h ∙ is_one j h;
-  others = λ i j hi hj other. sum_is i j hi hj ∙ ap (mul (pow (constant (get_or ks i 0)) f)) (none i j hi hj other) ∙ product-zero (pow (constant (get_or ks i 0)) f);
+  vectors = λ i h. (long i h, elements i h);
+  product = λ i k hi hk.
+      field_sum_same (length ks) (λ t. mul (get_or (list_at rows i) t 0) (coefficient (get_or (range_with_len f (length ks)) t 0) (get_or ks k 0))) (λ t. mul (get_or (list_at rows i) t 0) (coefficient (f + t) (get_or ks k 0)))
+      (λ t low. ap (λ e. mul (get_or (list_at rows i) t 0) (coefficient e (get_or ks k 0))) (get_or-range_with_len f (length ks) t 0 low))
+      ∙ ap (λ n. field_sum n (λ t. mul (get_or (list_at rows i) t 0) (coefficient (f + t) (get_or ks k 0)))) (sym (long i hi))
+      ∙ sum_is k i hk hi
+      ∙ (elim (cases_eq i k) [
+        | inl same ↦ subst (λ m. mul (pow (point m) f) (value (list_at rows i) (point m)) ≡ 1) same (is_one i hi) ∙ sym (ap (λ b. cond b 1 0) (eq-eqb i k same))
+        | inr other ↦
+            ap (mul (pow (point k) f)) (none k i hk hi (λ e. other (sym e))) ∙ product-zero (pow (point k) f)
+            ∙ sym (ap (λ b. cond b 1 0) (ne_eqb i k other))
+      ]);
 }
   where
     points : List ℕ

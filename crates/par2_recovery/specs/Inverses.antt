@@ -1,7 +1,7 @@
 -- The equations of the kept exponents, and the lost slices by their inverse.
-use Rattle.std.specs.Prelude.{◌≡◌, ◌↔◌, ◌+◌, ◌*◌, ◌<◌, ℕ, List, [], length, map, slice_index, slice_index_or, bit_xor}
+use Rattle.std.specs.Prelude.{◌≡◌, ◌↔◌, ◌+◌, ◌*◌, ◌<◌, ◌==◌, if◌then◌else◌, ℕ, List, [], length, map, slice_index, slice_index_or, bit_xor}
 use Rattle.std.specs.List.{AllByRecursion}
-use Rattle.par2_spec.specs.Field.{mul}
+use Rattle.par2_spec.specs.Field.{mul, coefficient}
 use Rattle.par2_spec.specs.Slices.{word}
 use Rattle.par2_spec.specs.Recovery.{dot, coefficients, combination}
 use Rattle.par2_spec.specs.Rank as ranks
@@ -65,3 +65,16 @@ pub record AreCombined (s : ℕ) (inverse : List (List ℕ)) (numbers : List ℕ
   pub bytes : AreBytes texts
   pub words : (r w : ℕ) → r < length inverse → 2 * w + 1 < s
       → word w (list_at texts r) ≡ field_sum (length kept) (λ j. mul (word j (list_at inverse r)) (lack numbers known kept w j))
+
+-- 1 where two places are one, else 0
+abbrev pub identity : ℕ → ℕ → ℕ
+identity i k = if i == k then 1 else 0
+
+-- The inverse of what the exponents, as many as slices are lost, multiply the lost slices by: the product of the two is
+-- the identity.
+pub record IsInverse (lost exponents : List ℕ) (inverse : List (List ℕ)) : Type 0 where
+  pub square : length exponents ≡ length lost
+  pub count : length inverse ≡ length lost
+  pub vectors : (i : ℕ) → i < length lost → IsVector (length lost) (list_at inverse i)
+  pub product : (i k : ℕ) → i < length lost → k < length lost
+      → field_sum (length lost) (λ j. mul (slice_index (list_at inverse i) j) (coefficient (slice_index exponents j) (slice_index lost k))) ≡ identity i k

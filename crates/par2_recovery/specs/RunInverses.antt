@@ -1,21 +1,9 @@
 -- The inverse of the equations of a run of exponents.
-use Rattle.std.specs.Prelude.{◌≡◌, ◌≢◌, ◌+◌, ◌<◌, ◌≤◌, ◌^◌, ℕ, List, length, slice_index, take}
+use Rattle.std.specs.Prelude.{◌≡◌, ◌<◌, ◌^◌, ℕ, List, length, slice_index, take}
 use Rattle.std.specs.List.{range_with_len}
-use Rattle.par2_spec.specs.Field.{mul, pow, coefficient}
+use Rattle.par2_spec.specs.Field.{mul, pow}
 use Rattle.par2_spec.specs.Polynomials.{value, times, quotient}
-use Rattle.par2_spec.specs.Rank.{IsVector}
-use Rattle.par2_spec.specs.Sums.{field_sum, list_at}
-
--- what a row gives with the coefficients of slice k at the exponents from f on: the sum of the products
-abbrev pub run_sum : ℕ → List ℕ → ℕ → ℕ
-run_sum f row k = field_sum (length row) (λ t. mul (slice_index row t) (coefficient (f + t) k))
-
--- With the exponents from f on, as many as slices are lost, row j gives 1 at lost slice j and 0 at the others.
-pub record IsInverse (f : ℕ) (lost : List ℕ) (rows : List (List ℕ)) : Type 0 where
-  pub count : length rows ≡ length lost
-  pub vectors : (j : ℕ) → j < length lost → IsVector (length lost) (list_at rows j)
-  pub itself : (j : ℕ) → j < length lost → run_sum f (list_at rows j) (slice_index lost j) ≡ 1
-  pub others : (i j : ℕ) → i < length lost → j < length lost → i ≢ j → run_sum f (list_at rows j) (slice_index lost i) ≡ 0
+use Rattle.par2_spec.specs.Sums.{list_at}
 
 -- the quotient of p on division by z - c, scaled so that its value at c times c ^ f is 1
 pub record IsScaledQuotient (f c : ℕ) (p row : List ℕ) : Type 0 where

@@ -4,12 +4,14 @@
 //! its coefficients, scaled, are row `j` of the inverse.
 
 ghost use Rattle.std.specs.Prelude.{◌≡◌, ◌≢◌, ◌<◌, ◌^◌, ℕ, length, map, slice_index, slice_index_or, [], IfOk, IfSome};
+ghost use Rattle.std.specs.List.{range_with_len};
 ghost use Rattle.std.specs.List.Sorted.{IsStrictlyIncreasing};
 ghost use Rattle.par2_spec.specs.Field.{mul, pow, constant};
 ghost use Rattle.par2_spec.specs.Polynomials.{value, times, times_root, with_roots, quotient};
 ghost use Rattle.par2_spec.specs.Runs.{AreSlices};
 ghost use Rattle.par2_spec.specs.Sums.{lists_of};
-ghost use Rattle.par2_recovery.specs.RunInverses.{BeginsWithRun, IsInverse, IsScaledQuotient};
+ghost use Rattle.par2_recovery.specs.Inverses.{IsInverse};
+ghost use Rattle.par2_recovery.specs.RunInverses.{BeginsWithRun, IsScaledQuotient};
 ghost use Rattle.par2_recovery.specs.Survivors.{exponents_of, recovered_of};
 
 use par2_gf16::Gf;
@@ -154,7 +156,8 @@ pub(crate) fn run_inverse(
     first: u32,
 ) -> Result<Vec<Vec<u16>>, AllocError>
     requires { AreSlices lost.now }
-    ensures { IfOk result (λ rows. IsInverse first lost.now (lists_of rows.items)) }
+    ensures { IfOk result (λ rows. IsInverse
+        lost.now (range_with_len first (length lost.now)) (lists_of rows.items)) }
 {
     let constants = constants(alloc, gf, lost)?;
     let points = constants.as_slice();
