@@ -1,31 +1,35 @@
--- The lost slices by the inverse of the kept equations.
-use Rattle.std.proofs.Common.{inl, inr, ℕ, zero, suc, ◌+◌, ◌*◌, ◌/◌, ◌%◌, ◌<◌, ◌≤◌, ◌≡◌, refl, sym, ap, ap₂, ◌∙◌, arith, List, [], ◌∷◌, ◌++◌, length, length-append, get_or, Global, map, subst, Vec, bit_xor}
-use Rattle.std.proofs.Math.Seq.{get_or-append_seam}
-use Rattle.std.proofs.lemmas.Bool.{cases_eq, cases_lt}
-use Rattle.std.proofs.lemmas.List.{get_or_append_left, get_or-map, length-map, length-replicate, map-append}
-use Rattle.std.proofs.lemmas.Nat.{xor_comm, xor_lt}
-use Rattle.std.specs.Int.Bits.{xor_zero_l}
-use Rattle.std.specs.List.{AllByRecursion}
+-- The inverse of the equations of the kept exponents.
+use Rattle.std.proofs.Common.{inl, inr, ℕ, zero, suc, ◌+◌, ◌*◌, ◌/◌, ◌%◌, ◌<◌, ◌≤◌, ◌≡◌, ◌≢◌, refl, sym, ap, ap₂, ◌∙◌, arith, Bool, true, false, cond, eqb, List, [], ◌∷◌, length, get_or, map, subst, bit_xor, zero-add}
 use Rattle.std.specs.Borrow.{Bor}
+use Rattle.std.specs.Int.Bits.{xor_self, xor_zero_l}
+use Rattle.std.specs.List.{AllByRecursion, Contains, range_with_len}
+use Rattle.std.proofs.lemmas.Bool.{cases_eq, cases_lt, eq-eqb, ne_eqb}
+use Rattle.std.proofs.lemmas.List.{get_or-map, get_or_past, length-map, length-replicate}
+use Rattle.std.proofs.lemmas.List.FromFn.{get_or-map-range_with_len, length-map-range_with_len}
+use Rattle.std.proofs.lemmas.List.Sums.{get_or-le-sum_by}
+use Rattle.std.specs.List.{sum_by}
+use Rattle.std.proofs.lemmas.Nat.{xor_lt}
 use Rattle.par2_spec.specs.Field.{mul, coefficient}
 use Rattle.par2_spec.specs.Slices.{word}
 use Rattle.par2_spec.specs.Recovery.{dot, coefficients}
-use Rattle.par2_spec.specs.Rank.{IsVector}
-use Rattle.par2_spec.proofs.FieldBits.{xor_middle}
-use Rattle.par2_spec.proofs.FieldProducts.{product_linear_right}
-use Rattle.par2_matrix.specs.Echelon.{Spells}
-use Rattle.par2_spec.specs.Sums.{field_sum, list_at, lists_of, AreElements}
-use Rattle.par2_spec.proofs.SumLaws.{field_sum_same, field_sum_xor, row_sum_unit, dot_sum, product_at, xor_same}
-use Rattle.par2_spec.proofs.WordLaws.{byte_at, bytes_at, combination_words, length-lists_of, same_texts, word-lt}
+use Rattle.par2_spec.specs.Rank.{IsVector, kept}
+use Rattle.par2_spec.specs.Sums.{field_sum, list_at, AreElements}
+use Rattle.par2_spec.proofs.ExistLaws.{IsSolved, solved}
+use Rattle.par2_spec.proofs.FieldOrder.{product-zero, zero-product}
+use Rattle.par2_spec.proofs.FieldProducts.{product_linear_right, product_comm, product-one, product-lt}
+use Rattle.par2_spec.proofs.ListsLaws.{all_at, all_from, all_get}
+use Rattle.par2_spec.proofs.SumLaws.{field_sum_same, field_sum_xor, field_sum_one, field_sum-lt, dot_sum, product_at, xor_same}
+use Rattle.par2_spec.proofs.UniqueLaws.{coefficients_are, dot-lt, words_are}
+use Rattle.par2_spec.proofs.WordLaws.{bytes_at, combination_words, word-lt}
+use Rattle.par2_matrix.specs.Systems as systems
+use Rattle.par2_matrix.specs.Systems.{Equations, OnlyZeroIsKilled, IsTheSolution}
 use Rattle.par2_recovery.specs.Elements.{AreRows, IsUnit}
-use Rattle.par2_recovery.specs.Inverses.{recovery_at, GivesUnit, AreCoefficients, AreFactors, lack, AreCombined}
-use Rattle.par2_recovery.specs.Products.{AreBytes, Adds, products}
+use Rattle.par2_recovery.specs.Inverses.{recovery_at, GivesUnit, IsEliminated, IsInverse, identity}
+use Rattle.par2_recovery.specs.Products.{Adds, products}
 use Rattle.par2_recovery.specs.Survivors.{recovered_of}
 use Rattle.par2_recovery.specs.Views.{AreBlank}
 use Rattle.par2_recovery.proofs.Dots.{combined}
-use Rattle.par2_recovery.proofs.Combinations.{coefficients-lt, blank_word, blank_bytes}
-use Rattle.par2_recovery.proofs.Rebuilding.{AreSized}
-use Rattle.par2_spec.proofs.UniqueLaws.{coefficients_are, dot-lt, words_are}
+use Rattle.par2_recovery.proofs.Combinations.{coefficients-lt, blank_word}
 
 -- ---- recovery slices
 
@@ -35,7 +39,7 @@ length-recovered_of recovery = length-map recovery (λ (r : ℕ × Bor (List ℕ
 pub length-slices : (recovery : List (ℕ × List ℕ)) → length (map (λ r. r.1) recovery) ≡ length recovery
 length-slices recovery = length-map recovery (λ (r : ℕ × List ℕ). r.1)
 
--- ---- products of matrices
+-- ---- sums
 
 -- what was added to zeros
 pub from_zeros : (size n words k : ℕ) (factors sources zeros sums : List (List ℕ)) → AreBlank size n zeros → 2 * words ≤ size → Adds factors sources zeros sums 0 words k
@@ -46,111 +50,54 @@ from_zeros size n words k factors sources zeros sums blank room added r p low he
     ∙ ap (λ x. bit_xor x (products k factors sources r p)) (ap (λ xs. word p xs) (blank.each r low) ∙ blank_word size p)
     ∙ xor_zero_l (products k factors sources r p)
 
--- one more row
-pub coefficients_push : (numbers : List ℕ) (kept : List (ℕ × List ℕ)) (texts : List (Vec ℕ Global)) (text : Vec ℕ Global) (n : ℕ) → AreCoefficients numbers kept (lists_of texts) n
-    → Spells (coefficients numbers (recovery_at kept n).0) text.items (length numbers) → AreCoefficients numbers kept (lists_of (texts ++ text ∷ [])) (n + 1)
-coefficients_push numbers kept texts text n are spells = record {
-  count = length-lists_of (texts ++ text ∷ []) ∙ length-append texts (text ∷ []) ∙ ap (λ m. m + 1) old_count;
-  each = λ j h. elim (cases_lt j n) as (λ _. Spells (coefficients numbers (recovery_at kept j).0) (list_at (lists_of (texts ++ text ∷ [])) j) (length numbers)) [
-    | inl low ↦ subst (λ xs. Spells (coefficients numbers (recovery_at kept j).0) xs (length numbers))
-        (sym (ap (λ xs. list_at xs j) all ∙ get_or_append_left (lists_of texts) (text.items ∷ []) [] j (omega (arith, are.count)))) (are.each j low)
-    | inr high ↦
-        let last : n ≡ j = omega (arith, h, high) in
-        let there : length (lists_of texts) ≡ j = omega (arith, are.count, last) in
-        subst (λ xs. Spells (coefficients numbers (recovery_at kept j).0) xs (length numbers))
-        (sym (ap (λ xs. list_at xs j) all ∙ ap (λ k. list_at (lists_of texts ++ text.items ∷ []) k) (sym there) ∙ get_or-append_seam (lists_of texts) text.items [] []))
-        (subst (λ k. Spells (coefficients numbers (recovery_at kept k).0) text.items (length numbers)) last spells)
-  ];
-}
-  where
-    old_count : length texts ≡ n
-    old_count = sym (length-lists_of texts) ∙ are.count
+-- ---- the identity
 
-    all : lists_of (texts ++ text ∷ []) ≡ lists_of texts ++ text.items ∷ []
-    all = map-append (λ (x : Vec ℕ Global). x.items) texts (text ∷ [])
+identity-itself : (i : ℕ) → identity i i ≡ 1
+identity-itself i = ap (λ b. cond b 1 0) (eq-eqb i i refl)
 
-pub are_factors : (n : ℕ) (numbers : List ℕ) (kept : List (ℕ × List ℕ)) (inverse texts zeros sums factors : List (List ℕ)) → length inverse ≡ n
-    → AreCoefficients numbers kept texts (length kept) → AreBlank (2 * length numbers) n zeros → Adds inverse texts zeros sums 0 (length numbers) (length kept)
-    → AreRows factors sums n → AreFactors numbers kept inverse factors
-are_factors n numbers kept inverse texts zeros sums factors count are blank added rows = record {
-  count = rows.count ∙ sym count;
-  sizes = λ r h. sizes r (omega (arith, count));
-  each = λ r k h low.
-      let here : r < n = omega (arith, count) in
-      sym ((rows.each r here).each k (omega (arith, sizes r here)) (omega (arith, sizes r here)))
-      ∙ from_zeros (2 * length numbers) n (length numbers) (length kept) inverse texts zeros sums blank (omega arith) added r k here low
-      ∙ field_sum_same (length kept) (λ j. mul (get_or (list_at inverse r) j 0) (word k (list_at texts j))) (λ j. mul (get_or (list_at inverse r) j 0) (get_or (coefficients numbers (recovery_at kept j).0) k 0))
-      (λ j hj. ap (mul (get_or (list_at inverse r) j 0)) ((are.each j hj).each k low (omega (arith, length-map numbers (coefficient (recovery_at kept j).0)))));
-}
-  where
-    sizes : (r : ℕ) → r < n → length (list_at factors r) ≡ length numbers
-    sizes r h =
-        let size = (rows.each r h).size in
-        let e = added.sizes r ∙ ap length (blank.each r h) ∙ length-replicate {A = ℕ} (2 * length numbers) 0 in
-        omega (arith, size, e)
+identity-others : (i k : ℕ) → i ≢ k → identity i k ≡ 0
+identity-others i k other = ap (λ b. cond b 1 0) (ne_eqb i k other)
 
--- the two sums of a word: over the known slices, and over the recovery slices
-both_sums : (m n : ℕ) (x : ℕ → ℕ) (rows : ℕ → ℕ → ℕ) (v found : ℕ → ℕ) → AreElements x → ((j : ℕ) → AreElements (rows j)) → AreElements v
-    → bit_xor (field_sum n (λ k. mul (field_sum m (λ j. mul (x j) (rows j k))) (v k))) (field_sum m (λ j. mul (x j) (found j)))
-    ≡ field_sum m (λ j. mul (x j) (bit_xor (found j) (field_sum n (λ k. mul (rows j k) (v k)))))
-both_sums m n x rows v found are_x are_rows are_v =
-    let ours = λ (j : ℕ). field_sum n (λ k. mul (rows j k) (v k)) in
-    ap (λ s. bit_xor s (field_sum m (λ j. mul (x j) (found j)))) (sym (combined m n x rows v are_x are_rows are_v))
-    ∙ xor_comm (field_sum m (λ j. mul (x j) (ours j))) (field_sum m (λ j. mul (x j) (found j)))
-    ∙ sym (field_sum_xor m (λ j. mul (x j) (found j)) (λ j. mul (x j) (ours j)))
-    ∙ field_sum_same m (λ j. bit_xor (mul (x j) (found j)) (mul (x j) (ours j))) (λ j. mul (x j) (bit_xor (found j) (ours j)))
-    (λ j h. sym ((product_linear_right (x j)).on_xor (found j) (ours j)))
+identity-lt : (i k : ℕ) → identity i k < 65536
+identity-lt i k = elim (cases_eq i k) [
+  | inl same ↦ (let e : identity i k ≡ 1 = ap (λ m. identity i m) (sym same) ∙ identity-itself i in omega (arith, e))
+  | inr other ↦ (let e = identity-others i k other in omega (arith, e))
+]
 
-pub are_combined : (s n : ℕ) (numbers : List ℕ) (kept : List (ℕ × List ℕ)) (inverse rows factors known slices zeros sums new : List (List ℕ)) → s % 2 ≡ 0 → length inverse ≡ n
-    → ((r : ℕ) → r < n → length (list_at inverse r) ≡ 2 * length kept) → AreBytes inverse → AreRows rows inverse n → AreFactors numbers kept rows factors
-    → length known ≡ length numbers → AreBytes known → slices ≡ map (λ r. r.1) kept → AreBlank s n zeros
-    → Adds factors known zeros sums 0 (s / 2) (length known) → Adds rows slices sums new 0 (s / 2) (length kept) → AreCombined s inverse numbers known kept new
-are_combined s n numbers kept inverse rows factors known slices zeros sums new even count sizes bytes are factors_are fit known_bytes slices_are blank first second = record {
-  count = second.count ∙ first.count ∙ blank.count ∙ sym count;
-  sizes = λ r h. size r (omega (arith, count));
-  bytes = second.bytes (first.bytes (blank_bytes s n zeros blank));
-  words = λ r w h fits. words r w (omega (arith, count)) fits;
-}
-  where
-    mid_size : (r : ℕ) → r < n → length (list_at sums r) ≡ s
-    mid_size r h = first.sizes r ∙ ap length (blank.each r h) ∙ length-replicate {A = ℕ} s 0
+-- the row of the identity picks a value
+sum_of_row : (n i : ℕ) (f : ℕ → ℕ) → i < n → AreElements f → field_sum n (λ k. mul (identity i k) (f k)) ≡ f i
+sum_of_row n i f low are =
+    field_sum_one n i (λ k. mul (identity i k) (f k)) low (λ k h other. ap (λ x. mul x (f k)) (identity-others i k (λ e. other (sym e))) ∙ zero-product (f k))
+    ∙ ap (λ x. mul x (f i)) (identity-itself i) ∙ product_comm 1 (f i) (omega arith) (are i) ∙ product-one (f i) (are i)
 
-    size : (r : ℕ) → r < n → length (list_at new r) ≡ s
-    size r h = second.sizes r ∙ mid_size r h
+-- and so does its column
+sum_of_column : (n k : ℕ) (f : ℕ → ℕ) → k < n → AreElements f → field_sum n (λ i. mul (f i) (identity i k)) ≡ f k
+sum_of_column n k f low are =
+    field_sum_one n k (λ i. mul (f i) (identity i k)) low (λ i h other. ap (mul (f i)) (identity-others i k other) ∙ product-zero (f i))
+    ∙ ap (mul (f k)) (identity-itself k) ∙ product-one (f k) (are k)
 
-    m : ℕ
-    m = length kept
+-- ---- an inverse from the right is one from the left, where only zeros are sent to zeros
 
-    row_size : (r : ℕ) → r < n → length (list_at rows r) ≡ m
-    row_size r h = let a = (are.each r h).size in let b = sizes r h in omega (arith, a, b)
+other_side : (n : ℕ) (a x : ℕ → ℕ → ℕ) → ((j : ℕ) → AreElements (a j)) → ((i : ℕ) → AreElements (x i))
+    → ((j k : ℕ) → j < n → k < n → field_sum n (λ i. mul (a j i) (x i k)) ≡ identity j k)
+    → ((v : ℕ → ℕ) → AreElements v → ((j : ℕ) → j < n → field_sum n (λ i. mul (a j i) (v i)) ≡ 0) → (i : ℕ) → i < n → v i ≡ 0)
+    → (i k : ℕ) → i < n → k < n → field_sum n (λ j. mul (x i j) (a j k)) ≡ identity i k
+other_side n a x are_a are_x right only i k hi hk =
+    let t : ℕ → ℕ = λ p. field_sum n (λ j. mul (x p j) (a j k)) in
+    let v : ℕ → ℕ = λ p. bit_xor (t p) (identity p k) in
+    let small : AreElements v = λ p. xor_lt 16 (t p) (identity p k) (field_sum-lt n (λ j. mul (x p j) (a j k)) (λ j. product-lt (x p j) (a j k) (are_x p j) (are_a j k))) (identity-lt p k) in
+    let killed : (j : ℕ) → j < n → field_sum n (λ p. mul (a j p) (v p)) ≡ 0 = λ j hj.
+    field_sum_same n (λ p. mul (a j p) (v p)) (λ p. bit_xor (mul (a j p) (t p)) (mul (a j p) (identity p k))) (λ p h. (product_linear_right (a j p)).on_xor (t p) (identity p k))
+    ∙ field_sum_xor n (λ p. mul (a j p) (t p)) (λ p. mul (a j p) (identity p k))
+    ∙ ap₂ bit_xor
+    (combined n n (a j) x (λ m. a m k) (are_a j) are_x (λ m. are_a m k)
+    ∙ field_sum_same n (λ m. mul (field_sum n (λ p. mul (a j p) (x p m))) (a m k)) (λ m. mul (identity j m) (a m k)) (λ m hm. ap (λ y. mul y (a m k)) (right j m hj hm))
+    ∙ sum_of_row n j (λ m. a m k) hj (λ m. are_a m k))
+    (sum_of_column n k (a j) hk (are_a j))
+    ∙ xor_self (a j k) in
+    xor_same (t i) (identity i k) (only v small killed i hi)
 
-    read : (r j : ℕ) → r < n → j < m → get_or (list_at rows r) j 0 ≡ word j (list_at inverse r)
-    read r j h low = let e = row_size r h in sym ((are.each r h).each j (omega (arith, e)) (omega (arith, e)))
-
-    slice_at : (j : ℕ) → j < m → list_at slices j ≡ (recovery_at kept j).1
-    slice_at j low = ap (λ xs. list_at xs j) slices_are ∙ get_or-map (λ (r : ℕ × List ℕ). r.1) kept j (0, []) [] low
-
-    words : (r w : ℕ) → r < n → 2 * w + 1 < s → word w (list_at new r) ≡ field_sum m (λ j. mul (word j (list_at inverse r)) (lack numbers known kept w j))
-    words r w h fits =
-        let x : ℕ → ℕ = λ j. word j (list_at inverse r) in
-        let v : ℕ → ℕ = λ k. word w (list_at known k) in
-        let found : ℕ → ℕ = λ j. word w (recovery_at kept j).1 in
-        let coefs : ℕ → ℕ → ℕ = λ j k. get_or (coefficients numbers (recovery_at kept j).0) k 0 in
-        let here : w < s / 2 = omega arith in
-        let room : 2 * w + 1 < length (list_at sums r) = (let e = mid_size r h in omega (arith, e)) in
-        let low : r < length sums = omega (arith, first.count, blank.count) in
-        let rows_low : r < length rows = omega (arith, are.count) in
-        second.inside r w low (omega arith) here room
-        ∙ ap₂ bit_xor
-        (from_zeros s n (s / 2) (length known) factors known zeros sums blank (omega arith) first r w h here
-        ∙ field_sum_same (length known) (λ k. mul (get_or (list_at factors r) k 0) (v k)) (λ k. mul (field_sum m (λ j. mul (x j) (coefs j k))) (v k))
-        (λ k hk. ap (λ a. mul a (v k)) (factors_are.each r k rows_low (omega (arith, fit))
-        ∙ field_sum_same m (λ j. mul (get_or (list_at rows r) j 0) (coefs j k)) (λ j. mul (x j) (coefs j k)) (λ j hj. ap (λ a. mul a (coefs j k)) (read r j h hj)))))
-        (field_sum_same m (λ j. mul (get_or (list_at rows r) j 0) (word w (list_at slices j))) (λ j. mul (x j) (found j))
-        (λ j hj. ap₂ mul (read r j h hj) (ap (λ xs. word w xs) (slice_at j hj))))
-        ∙ both_sums m (length known) x coefs v found (λ j. word-lt (list_at inverse r) j (bytes r)) (λ j k. coefficients-lt numbers (recovery_at kept j).0 k) (λ k. word-lt (list_at known k) w (known_bytes k))
-
--- ---- the inverse
+-- ---- the solution for unit vectors is the inverse
 
 unit_bytes : (n i : ℕ) (text : List ℕ) → IsUnit n i text → (k : ℕ) → get_or text k 0 < 256
 unit_bytes n i text is k =
@@ -174,65 +121,164 @@ dot_at n row texts w h =
     dot_sum n row (map (word w) texts) h
     ∙ field_sum_same n (product_at row (map (word w) texts)) (λ i. mul (get_or row i 0) (word w (list_at texts i))) (λ i low. ap (mul (get_or row i 0)) (words_of texts w i))
 
--- The texts that the inverse makes of some elements are combined to them.
-pub inverted : (lost : List ℕ) (e j w : ℕ) (inverse texts : List (List ℕ)) (r : ℕ → ℕ) → j < length lost → AllByRecursion (λ text. AllByRecursion (λ b. b < 256) text) inverse
-    → GivesUnit (length lost) j (coefficients lost e) inverse → AreElements r
-    → ((i : ℕ) → i < length lost → word w (list_at texts i) ≡ field_sum (length lost) (λ k. mul (word k (list_at inverse i)) (r k)))
-    → dot (coefficients lost e) (map (word w) texts) ≡ r j
-inverted lost e j w inverse texts r low bytes gives are made =
-    let m : ℕ = length lost in
+unit_word : (n j : ℕ) (unit : List ℕ) (k : ℕ) → IsUnit n j unit → word k unit ≡ identity j k
+unit_word n j unit k is = elim (cases_eq k j) [
+  | inl same ↦ subst (λ m. word m unit ≡ identity j m) (sym same) (is.one ∙ sym (identity-itself j))
+  | inr other ↦ is.zeros k other ∙ sym (identity-others j k (λ e. other (sym e)))
+]
+
+-- what of a vector a row of coefficients gives, place by place
+row_sum_of : (lost : List ℕ) (e : ℕ) (v : ℕ → ℕ) → dot (coefficients lost e) (map v (range_with_len 0 (length lost))) ≡ field_sum (length lost) (λ i. mul (get_or (coefficients lost e) i 0) (v i))
+row_sum_of lost e v =
     let row : List ℕ = coefficients lost e in
-    let fit : length row ≤ m = (let n = length-map lost (coefficient e) in omega (arith, n)) in
-    let unit_word : (k : ℕ) → k < m → field_sum m (λ i. mul (get_or row i 0) (word k (list_at inverse i))) ≡ word k gives.unit = λ k hk.
-    sym (dot_at m row inverse k fit)
-    ∙ (combination_words (2 * m) row inverse gives.unit (omega arith) (λ p. dot-lt row (map (word p) inverse) (coefficients_are e lost) (words_are p inverse bytes)) gives.is_unit.size (unit_bytes m j gives.unit gives.is_unit)).0 gives.combined k (omega arith) in
-    let entry-lt : (i k : ℕ) → word k (list_at inverse i) < 65536 = λ i k.
-    word-lt (list_at inverse i) k (bytes_at inverse bytes i) in
-    dot_at m row texts w fit
-    ∙ field_sum_same m (λ i. mul (get_or row i 0) (word w (list_at texts i))) (λ i. mul (get_or row i 0) (field_sum m (λ k. mul (word k (list_at inverse i)) (r k)))) (λ i h. ap (mul (get_or row i 0)) (made i h))
-    ∙ combined m m (λ i. get_or row i 0) (λ i k. word k (list_at inverse i)) r (coefficients-lt lost e) entry-lt are
-    ∙ field_sum_same m (λ k. mul (field_sum m (λ i. mul (get_or row i 0) (word k (list_at inverse i)))) (r k)) (λ k. mul (word k gives.unit) (r k)) (λ k hk. ap (λ a. mul a (r k)) (unit_word k hk))
-    ∙ row_sum_unit m j gives.unit r low are gives.is_unit.one (λ i h other. gives.is_unit.zeros i other)
+    let vector : List ℕ = map v (range_with_len 0 (length lost)) in
+    dot_sum (length lost) row vector (let long = length-map lost (coefficient e) in omega (arith, long))
+    ∙ field_sum_same (length lost) (product_at row vector) (λ i. mul (get_or row i 0) (v i)) (λ i h. ap (mul (get_or row i 0)) (get_or-map-range_with_len v 0 (length lost) i i 0 h (zero-add i)))
 
--- ---- the only ones
+pub are_inverse : (lost : List ℕ) (recs kept_ones : List (ℕ × List ℕ)) (system : Equations) (texts rows : List (List ℕ)) → IsEliminated lost recs kept_ones system → IsTheSolution system texts
+    → systems.rank system ≡ system.columns → OnlyZeroIsKilled system → AreRows rows texts (length texts) → IsInverse lost (map (λ r. r.0) kept_ones) rows
+are_inverse lost recs kept_ones system texts rows found solution full only are = record {
+  square = length-map kept_ones (λ (r : ℕ × List ℕ). r.0) ∙ kept_count;
+  count = are.count ∙ count;
+  vectors = λ i h. (row_size i h, all_from (λ y. y < 65536) 0 (list_at rows i) (λ k low. x-lt i k));
+  product = λ i k hi hk.
+      field_sum_same n (λ j. mul (x i j) (coefficient (get_or (map (λ (r : ℕ × List ℕ). r.0) kept_ones) j 0) (get_or lost k 0))) (λ j. mul (x i j) (a j k))
+      (λ j hj. ap (mul (x i j)) (ap (λ e. coefficient e (get_or lost k 0)) (get_or-map (λ (r : ℕ × List ℕ). r.0) kept_ones j (0, []) 0 (omega (arith, hj, kept_count)))
+      ∙ sym (get_or-map (coefficient (recovery_at kept_ones j).0) lost k 0 0 hk)))
+      ∙ other_side n a x (λ j k. coefficients-lt lost (recovery_at kept_ones j).0 k) x-lt right alone i k hi hk;
+}
+  where
+    n : ℕ
+    n = length lost
 
--- at word w, what two lists of texts differ by
-pub differences : ℕ → List (List ℕ) → List (List ℕ) → List ℕ
-differences w [] ys = []
-differences w (x ∷ xs) [] = []
-differences w (x ∷ xs) (y ∷ ys) = bit_xor (word w x) (word w y) ∷ differences w xs ys
+    a : ℕ → ℕ → ℕ
+    a j k = get_or (coefficients lost (recovery_at kept_ones j).0) k 0
 
-pub dot_differences : (row : List ℕ) (w : ℕ) (xs ys : List (List ℕ)) → length xs ≡ length ys → dot row (differences w xs ys) ≡ bit_xor (dot row (map (word w) xs)) (dot row (map (word w) ys))
-unfolding dot differences
-dot_differences [] w xs ys e = refl
-dot_differences (c ∷ row) w [] [] e = refl
-dot_differences (c ∷ row) w [] (y ∷ ys) e = absurd (omega arith)
-dot_differences (c ∷ row) w (x ∷ xs) [] e = absurd (omega arith)
-dot_differences (c ∷ row) w (x ∷ xs) (y ∷ ys) e =
-    ap₂ bit_xor ((product_linear_right c).on_xor (word w x) (word w y)) (dot_differences row w xs ys (omega arith))
-    ∙ xor_middle (mul c (word w x)) (mul c (word w y)) (dot row (map (word w) xs)) (dot row (map (word w) ys))
+    x : ℕ → ℕ → ℕ
+    x i k = get_or (list_at rows i) k 0
 
-pub differences_vector : (w : ℕ) (xs ys : List (List ℕ)) → length xs ≡ length ys → AllByRecursion (λ text. AllByRecursion (λ b. b < 256) text) xs → AllByRecursion (λ text. AllByRecursion (λ b. b < 256) text) ys
-    → IsVector (length ys) (differences w xs ys)
-unfolding differences
-differences_vector w [] [] e hx hy = (refl, tt)
-differences_vector w [] (y ∷ ys) e hx hy = absurd (omega arith)
-differences_vector w (x ∷ xs) [] e hx hy = absurd (omega arith)
-differences_vector w (x ∷ xs) (y ∷ ys) e hx hy =
-    let rest = differences_vector w xs ys (omega arith) hx.1 hy.1 in (
-      ap suc rest.0,
-      (xor_lt 16 (word w x) (word w y) (word-lt x w (byte_at x hx.0)) (word-lt y w (byte_at y hy.0)), rest.1),
-    )
+    count : length texts ≡ n
+    count = solution.are_texts.count ∙ found.columns
 
-pub same_texts_by : (s : ℕ) (xs ys : List (List ℕ)) → s % 2 ≡ 0 → length xs ≡ length ys → AreSized s xs → AreSized s ys
-    → ((w : ℕ) → 2 * w + 1 < s → AllByRecursion (λ x. x ≡ 0) (differences w xs ys)) → xs ≡ ys
-unfolding differences
-same_texts_by s [] [] even e hx hy none = refl
-same_texts_by s [] (y ∷ ys) even e hx hy none = absurd (omega arith)
-same_texts_by s (x ∷ xs) [] even e hx hy none = absurd (omega arith)
-same_texts_by s (x ∷ xs) (y ∷ ys) even e hx hy none =
-    let first : x ≡ y =
-    same_texts s x y even hx.0.0 hy.0.0 (byte_at x hx.1.0) (byte_at y hy.1.0)
-    (λ w h. xor_same (word w x) (word w y) (none w h).0) in
-    let rest : xs ≡ ys = same_texts_by s xs ys even (omega arith) (hx.0.1, hx.1.1) (hy.0.1, hy.1.1) (λ w h. (none w h).1) in
-    ap₂ (λ a b. a ∷ b) first rest
+    kept_count : length kept_ones ≡ n
+    kept_count = sym found.count ∙ full ∙ found.columns
+
+    row_size : (i : ℕ) → i < n → length (list_at rows i) ≡ n
+    row_size i h =
+        let size = (are.each i (omega (arith, h, count))).size in
+        let all = all_get (λ (text : List ℕ). length text ≡ system.bytes) texts i [] (omega (arith, h, count)) solution.are_texts.sizes in
+        let bytes = found.bytes in
+        omega (arith, size, all, bytes)
+
+    read : (i k : ℕ) → i < n → k < n → word k (list_at texts i) ≡ x i k
+    read i k hi hk = let size = row_size i hi in (are.each i (omega (arith, hi, count))).each k (omega (arith, size, hk)) (omega (arith, size, hk))
+
+    x-lt : (i k : ℕ) → x i k < 65536
+    x-lt i k = elim (cases_lt i n) [
+      | inr past ↦ (let none = get_or_past rows i [] (let m = are.count in omega (arith, past, m, count)) in subst (λ xs. get_or xs k 0 < 65536) (sym none) (omega arith))
+      | inl hi ↦ elim (cases_lt k n) [
+        | inl hk ↦ subst (λ y. y < 65536) (read i k hi hk) (word-lt (list_at texts i) k (bytes_at texts solution.are_texts.bytes i))
+        | inr far ↦ (let none = get_or_past (list_at rows i) k 0 (let size = row_size i hi in omega (arith, far, size)) in omega (arith, none))
+      ]
+    ]
+
+    right : (j k : ℕ) → j < n → k < n → field_sum n (λ i. mul (a j i) (x i k)) ≡ identity j k
+    right j k hj hk =
+        let row : List ℕ = coefficients lost (recovery_at kept_ones j).0 in
+        let fit : length row ≤ n = (let long = length-map lost (coefficient (recovery_at kept_ones j).0) in omega (arith, long)) in
+        let gives = found.solves texts solution.are_texts solution.solves j (omega (arith, hj, kept_count)) in
+        field_sum_same n (λ i. mul (a j i) (x i k)) (λ i. mul (a j i) (word k (list_at texts i))) (λ i hi. ap (mul (a j i)) (sym (read i k hi hk)))
+        ∙ sym (dot_at n row texts k fit)
+        ∙ (combination_words (2 * n) row texts gives.unit (omega arith) (λ p. dot-lt row (map (word p) texts) (coefficients_are (recovery_at kept_ones j).0 lost) (words_are p texts solution.are_texts.bytes)) gives.is_unit.size (unit_bytes n j gives.unit gives.is_unit)).0 gives.combined k (omega (arith, hk))
+        ∙ unit_word n j gives.unit k gives.is_unit
+
+    alone : (v : ℕ → ℕ) → AreElements v → ((j : ℕ) → j < n → field_sum n (λ i. mul (a j i) (v i)) ≡ 0) → (i : ℕ) → i < n → v i ≡ 0
+    alone v small killed i hi =
+        let vector : List ℕ = map v (range_with_len 0 n) in
+        let at : (k : ℕ) → k < n → get_or vector k 0 ≡ v k = λ k h. get_or-map-range_with_len v 0 n k k 0 h (zero-add k) in
+        let long : length vector ≡ n = length-map-range_with_len v 0 n in
+        let is : IsVector n vector = (long, all_from (λ y. y < 65536) 0 vector (λ k h. subst (λ y. y < 65536) (sym (at k (omega (arith, h, long)))) (small k))) in
+        let kills : AllByRecursion (λ (r : ℕ × List ℕ). dot (coefficients lost r.0) vector ≡ 0) kept_ones =
+        all_from (λ (r : ℕ × List ℕ). dot (coefficients lost r.0) vector ≡ 0) (0, []) kept_ones (λ j h. row_sum_of lost (recovery_at kept_ones j).0 v ∙ killed j (omega (arith, h, kept_count))) in
+        sym (at i hi) ∙ all_get (λ y. y ≡ 0) vector i 0 (omega (arith, hi, long)) (only vector (subst (λ m. IsVector m vector) (sym found.columns) is) (found.kills vector is kills))
+
+-- ---- the inverse times what a vector gives is the vector
+
+applied : (n i : ℕ) (row : ℕ → ℕ) (a : ℕ → ℕ → ℕ) (s y : ℕ → ℕ) → i < n → AreElements row → ((j : ℕ) → AreElements (a j)) → AreElements y
+    → ((k : ℕ) → k < n → field_sum n (λ j. mul (row j) (a j k)) ≡ identity i k) → ((j : ℕ) → j < n → field_sum n (λ k. mul (a j k) (y k)) ≡ s j)
+    → field_sum n (λ j. mul (row j) (s j)) ≡ y i
+applied n i row a s y low are_row are_a are_y is gives =
+    field_sum_same n (λ j. mul (row j) (s j)) (λ j. mul (row j) (field_sum n (λ k. mul (a j k) (y k)))) (λ j h. ap (mul (row j)) (sym (gives j h)))
+    ∙ combined n n row a y are_row are_a are_y
+    ∙ field_sum_same n (λ k. mul (field_sum n (λ j. mul (row j) (a j k))) (y k)) (λ k. mul (identity i k) (y k)) (λ k h. ap (λ z. mul z (y k)) (is k h))
+    ∙ sum_of_row n i y low are_y
+
+-- what f has at the place of an exponent among these
+at_exponent : List ℕ → (ℕ → ℕ) → ℕ → ℕ
+at_exponent [] f e = 0
+at_exponent (x ∷ es) f e = cond (eqb x e) (f 0) (at_exponent es (λ j. f (suc j)) e)
+
+at_exponent-lt : (es : List ℕ) (f : ℕ → ℕ) (e : ℕ) → AreElements f → at_exponent es f e < 65536
+unfolding at_exponent
+at_exponent-lt [] f e are = omega arith
+at_exponent-lt (x ∷ es) f e are = either (eqb x e) (at_exponent es (λ j. f (suc j)) e) (at_exponent-lt es (λ j. f (suc j)) e (λ j. are (suc j)))
+  where
+    either : (b : Bool) (y : ℕ) → y < 65536 → cond b (f 0) y < 65536
+    either true y h = are 0
+    either false y h = h
+
+-- exponents that rise
+abbrev pub Rise : List ℕ → Type 0
+Rise es = (i k : ℕ) → i < k → k < length es → get_or es i 0 < get_or es k 0
+
+at_exponent-is : (es : List ℕ) (f : ℕ → ℕ) (j : ℕ) → Rise es → j < length es → at_exponent es f (get_or es j 0) ≡ f j
+unfolding at_exponent
+at_exponent-is [] f j up h = absurd (omega (arith, h))
+at_exponent-is (x ∷ es) f zero up h = ap (λ b. cond b (f 0) (at_exponent es (λ i. f (suc i)) x)) (eq-eqb x x refl)
+at_exponent-is (x ∷ es) f (suc j) up h =
+    ap (λ b. cond b (f 0) (at_exponent es (λ i. f (suc i)) (get_or es j 0))) (ne_eqb x (get_or es j 0) (λ e. let low = up 0 (suc j) (omega arith) h in omega (arith, e, low)))
+    ∙ at_exponent-is es (λ i. f (suc i)) j (λ i k low here. up (suc i) (suc k) (omega (arith, low)) (omega (arith, here))) (omega (arith, h))
+
+-- The kept exponents give for the inverse times some elements these elements: they give them for some vector.
+pub gives_back : (lost all es : List ℕ) (inverse made : List (List ℕ)) (w : ℕ) (s : ℕ → ℕ) → IsInverse lost es inverse → AreElements s → Rise es → ((j : ℕ) → j < length es → Contains (kept lost all) (get_or es j 0))
+    → ((i : ℕ) → i < length lost → word w (list_at made i) ≡ field_sum (length lost) (λ j. mul (get_or (list_at inverse i) j 0) (s j)))
+    → (j : ℕ) → j < length lost → dot (coefficients lost (get_or es j 0)) (map (word w) made) ≡ s j
+gives_back lost all es inverse made w s is are up kept_are made_is j low =
+    dot_at n (row j) made w (fit j)
+    ∙ field_sum_same n (λ i. mul (a j i) (word w (list_at made i))) (λ i. mul (a j i) (y i))
+    (λ i hi. ap (mul (a j i)) (made_is i hi ∙ applied n i (λ m. get_or (list_at inverse i) m 0) a s y hi (λ m. all_at (λ z. z < 65536) 0 (omega arith) (list_at inverse i) (is.vectors i hi).1 m) a-lt
+    (λ k. all_at (λ z. z < 65536) 0 (omega arith) found.vector found.is_vector.1 k) (λ k hk. product i k hi hk) gives))
+    ∙ gives j low
+  where
+    n : ℕ
+    n = length lost
+
+    row : ℕ → List ℕ
+    row m = coefficients lost (get_or es m 0)
+
+    fit : (m : ℕ) → length (row m) ≤ n
+    fit m = let long = length-map lost (coefficient (get_or es m 0)) in omega (arith, long)
+
+    a : ℕ → ℕ → ℕ
+    a m k = get_or (row m) k 0
+
+    a-lt : (m k : ℕ) → a m k < 65536
+    a-lt m k = coefficients-lt lost (get_or es m 0) k
+
+    found : IsSolved lost all (at_exponent es s) (suc (sum_by (λ (e : ℕ). e) es))
+    found = solved lost all (at_exponent es s) (λ e. at_exponent-lt es s e are) (suc (sum_by (λ (e : ℕ). e) es))
+
+    y : ℕ → ℕ
+    y k = get_or found.vector k 0
+
+    gives : (m : ℕ) → m < n → field_sum n (λ k. mul (a m k) (y k)) ≡ s m
+    gives m h =
+        let here : m < length es = (let square = is.square in omega (arith, h, square)) in
+        let least = get_or-le-sum_by (λ (e : ℕ). e) es m 0 here in
+        sym (dot_sum n (row m) found.vector (fit m)) ∙ found.gives (get_or es m 0) (omega (arith, least)) (kept_are m here) ∙ at_exponent-is es s m up here
+
+    product : (i k : ℕ) → i < n → k < n → field_sum n (λ m. mul (get_or (list_at inverse i) m 0) (a m k)) ≡ identity i k
+    product i k hi hk =
+        field_sum_same n (λ m. mul (get_or (list_at inverse i) m 0) (a m k)) (λ m. mul (get_or (list_at inverse i) m 0) (coefficient (get_or es m 0) (get_or lost k 0)))
+        (λ m hm. ap (mul (get_or (list_at inverse i) m 0)) (get_or-map (coefficient (get_or es m 0)) lost k 0 0 hk))
+        ∙ is.product i k hi hk

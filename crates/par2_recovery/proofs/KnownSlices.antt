@@ -2,19 +2,19 @@
 use Rattle.std.proofs.Common.{◌≡◌, ◌∙◌, ℕ, zero, suc, ◌+◌, List, [], ◌∷◌, length, refl, sym, ap, subst, arith, ◌==◌}
 use Rattle.std.specs.Prelude.{Option, Some, None}
 use Rattle.std.specs.List.{All, list_any}
-use Rattle.std.proofs.lemmas.List.{nil_from_length}
 use Rattle.std.proofs.lemmas.List.Elements.{All-head, All-tail}
-use Rattle.par2_spec.specs.Rank.{IsRebuilt, IsRepairable, kept_slices}
+use Rattle.par2_spec.specs.Rank.{Agrees, IsRepairable, kept_slices}
 use Rattle.par2_spec.specs.Search.{lost}
 use Rattle.par2_recovery.specs.Products.{AreBytes}
 use Rattle.par2_recovery.specs.Survivors.{known_alone, with_lost_slices, lost_from, recovered_of, exponents_of}
 use Rattle.par2_recovery.specs.Views.{texts_of}
 use Rattle.par2_recovery.specs.declared.rebuild_slices.Survivors as code
-use Rattle.par2_recovery.proofs.Rebuilding.{lost_is, lost_of_map, rebuilt_from}
+use Rattle.par2_recovery.proofs.Rebuilding.{lost_is, lost_of_map, agrees_from}
 use Rattle.par2_recovery.proofs.Standing.{are_known}
 use Rattle.par2_spec.specs.Slices.{padded}
 use Rattle.par2_spec.proofs.ListsLaws.{filter-none}
 use Rattle.par2_spec.proofs.RankLaws.{none_kept}
+use Rattle.par2_spec.proofs.UniqueLaws.{agreeing_are_one}
 use Rattle.std.specs.Borrow.{Bor}
 use Rattle.par2_recovery.specs.Rebuilding.{CanRebuild, AreRebuilt, AreEnough, known_among}
 use Rattle.par2_recovery.specs.Rebuilding.{IsKnown}
@@ -37,6 +37,13 @@ pub nothing_lost : (survivors : code.Survivors) → All IsKnown survivors.known.
 nothing_lost survivors all =
     lost_is (known_among survivors) ∙ lost_of_map (λ slice. padded survivors.slice_size slice.now) 0 survivors.known.items ∙ none_lost 0 survivors.known.items all
 
+pub known_are_enough : (survivors : code.Survivors) → All IsKnown survivors.known.items → AreEnough survivors
+known_are_enough survivors all = subst (λ l. IsRepairable l (exponents_of survivors.recovery.items)) (sym (nothing_lost survivors all)) none_unknown
+  where
+    none_unknown : IsRepairable [] (exponents_of survivors.recovery.items)
+    none_unknown [] is killed = tt
+    none_unknown (x ∷ v) is killed = absurd (omega (arith, is.0))
+
 pub known_are_rebuilt : (survivors : code.Survivors) → CanRebuild survivors → All IsKnown survivors.known.items → AreRebuilt survivors (with_lost_slices (known_among survivors) [])
 known_are_rebuilt survivors can all =
     let s = survivors.slice_size in
@@ -47,14 +54,9 @@ known_are_rebuilt survivors can all =
     let nothing : lost known ≡ [] = nothing_lost survivors all in
     let kept_none : kept_slices (lost known) exponents recovery ≡ [] = ap (λ l. kept_slices l exponents recovery) nothing ∙ no_slice_kept exponents recovery in
     let count : 0 ≡ length (lost_from 0 known) = sym (ap length (sym (lost_is known) ∙ nothing)) in
-    let alone : IsRebuilt s known [] (with_lost_slices known []) =
-    rebuilt_from s known [] [] can.even (are_known s slices (known_alone slices) can.known refl (known_bytes slices all)) (tt, tt) count tt tt
-    (λ others sized number met. nil_from_length others (number ∙ sym count)) in
-    subst (λ found. IsRebuilt s known found (with_lost_slices known [])) (sym kept_none) alone
-
-pub known_are_enough : (survivors : code.Survivors) → All IsKnown survivors.known.items → AreEnough survivors
-known_are_enough survivors all = subst (λ l. IsRepairable l (exponents_of survivors.recovery.items)) (sym (nothing_lost survivors all)) none_unknown
-  where
-    none_unknown : IsRepairable [] (exponents_of survivors.recovery.items)
-    none_unknown [] is killed = tt
-    none_unknown (x ∷ v) is killed = absurd (omega (arith, is.0))
+    let agrees : Agrees s known (kept_slices (lost known) exponents recovery) (with_lost_slices known []) =
+    subst (λ found. Agrees s known found (with_lost_slices known [])) (sym kept_none)
+    (agrees_from s known [] [] can.even (are_known s slices (known_alone slices) can.known refl (known_bytes slices all)) (tt, tt) count tt tt) in record {
+      agrees = agrees;
+      only = λ others more. agreeing_are_one s known recovery others (with_lost_slices known []) can.even (known_are_enough survivors all) more agrees;
+    }

@@ -8,6 +8,7 @@ pub mod Rebuilding
 pub mod Inverting
 pub mod Standing
 pub mod Finishing
+pub mod Solving
 pub mod Records
 pub mod KnownSlices
 pub mod Quotients

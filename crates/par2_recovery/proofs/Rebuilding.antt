@@ -8,7 +8,7 @@ use Rattle.std.proofs.lemmas.Nat.{xor_comm}
 use Rattle.par2_spec.specs.Field.{mul, coefficient}
 use Rattle.par2_spec.specs.Slices.{word}
 use Rattle.par2_spec.specs.Recovery.{dot, coefficients, combination, recovery}
-use Rattle.par2_spec.specs.Rank.{IsRebuilt}
+use Rattle.par2_spec.specs.Rank.{Agrees}
 use Rattle.par2_spec.specs.Search.{lost}
 use Rattle.par2_spec.proofs.SumLaws.{xor_off}
 use Rattle.par2_spec.proofs.UniqueLaws.{coefficients_are, dot-lt, words_are}
@@ -123,9 +123,6 @@ sized_filled s a (None ∷ known) (x ∷ texts) k t h =
 
 -- ---- an equation of the lost slices and the recovery slice that it comes from
 
-moved : (a b d : ℕ) → bit_xor a b ≡ d → b ≡ bit_xor d a
-moved a b d e = sym (xor_off b a) ∙ ap (λ x. bit_xor x a) (xor_comm b a ∙ e)
-
 moved_back : (a b d : ℕ) → b ≡ bit_xor d a → bit_xor a b ≡ d
 moved_back a b d e = ap (bit_xor a) e ∙ xor_comm a (bit_xor d a) ∙ xor_off d a
 
@@ -140,12 +137,9 @@ Meets s known texts r = (w : ℕ) → 2 * w + 1 < s → dot (coefficients (lost_
     ≡ bit_xor (word w r.1) (dot (coefficients (known_from 0 known) r.0) (map (word w) (known_alone known)))
 
 equation : (s e : ℕ) (known : List (Option (List ℕ))) (found : List ℕ) (texts : List (List ℕ)) → s % 2 ≡ 0 → AreKnown s known → AreSized s texts → length texts ≡ length (lost_from 0 known)
-    → IsFound s found → Meets s known texts (e, found) ↔ (recovery s (with_lost_slices known texts) e ≡ found)
+    → IsFound s found → Meets s known texts (e, found) → recovery s (with_lost_slices known texts) e ≡ found
 unfolding recovery
-equation s e known found texts even are_known sized count is = (
-  λ h. whole ∙ all_words.1 (λ w low. parts w ∙ moved_back (ours w) (others w) (word w found) (h w low)),
-  λ h. λ w low. moved (ours w) (others w) (word w found) (sym (parts w) ∙ all_words.0 (sym whole ∙ h) w low),
-)
+equation s e known found texts even are_known sized count is h = whole ∙ all_words.1 (λ w low. parts w ∙ moved_back (ours w) (others w) (word w found) (h w low))
   where
     ours : ℕ → ℕ
     ours w = dot (coefficients (known_from 0 known) e) (map (word w) (known_alone known))
@@ -168,21 +162,12 @@ equation s e known found texts even are_known sized count is = (
         is.size is.bytes
 
 equations : (s : ℕ) (known : List (Option (List ℕ))) (texts : List (List ℕ)) (found : List (ℕ × List ℕ)) → s % 2 ≡ 0 → AreKnown s known → AreSized s texts → length texts ≡ length (lost_from 0 known)
-    → AllByRecursion (λ r. IsFound s r.1) found → AllByRecursion (λ r. Meets s known texts r) found ↔ AllByRecursion (λ r. recovery s (with_lost_slices known texts) r.0 ≡ r.1) found
-equations s known texts [] even are_known sized count are = ((λ h. tt), (λ h. tt))
-equations s known texts (r ∷ found) even are_known sized count are =
-    let here = equation s r.0 known r.1 texts even are_known sized count are.0 in
-    let rest = equations s known texts found even are_known sized count are.1 in
-    ((λ h. (here.0 h.0, rest.0 h.1)), (λ h. (here.1 h.0, rest.1 h.1)))
+    → AllByRecursion (λ r. IsFound s r.1) found → AllByRecursion (λ r. Meets s known texts r) found → AllByRecursion (λ r. recovery s (with_lost_slices known texts) r.0 ≡ r.1) found
+equations s known texts [] even are_known sized count are h = tt
+equations s known texts (r ∷ found) even are_known sized count are h =
+    (equation s r.0 known r.1 texts even are_known sized count are.0 h.0, equations s known texts found even are_known sized count are.1 h.1)
 
--- ---- the one list that agrees
-
--- the texts at the places of the lost slices
-picked : List (Option (List ℕ)) → List (List ℕ) → List (List ℕ)
-picked [] texts = []
-picked (k ∷ known) [] = []
-picked (None ∷ known) (t ∷ texts) = t ∷ picked known texts
-picked (Some x ∷ known) (t ∷ texts) = picked known texts
+-- ---- the slices that agree
 
 AsKnown : List (Option (List ℕ)) → List (List ℕ) → Type 0
 AsKnown known texts = AllZip (λ slice text. ForSome slice (λ found. text ≡ found)) known texts
@@ -194,46 +179,13 @@ filled_known a (Some x ∷ known) texts h = ((λ y e. (cc)), filled_known (a + 1
 filled_known a (None ∷ known) [] h = absurd (omega arith)
 filled_known a (None ∷ known) (t ∷ texts) h = ((λ y e. (cc)), filled_known (a + 1) known texts (omega arith))
 
-picked_count : (a : ℕ) (known : List (Option (List ℕ))) (texts : List (List ℕ)) → AsKnown known texts → length (picked known texts) ≡ length (lost_from a known)
-unfolding AsKnown picked
-picked_count a [] [] h = refl
-picked_count a [] (t ∷ texts) h = absurd h
-picked_count a (k ∷ known) [] h = absurd h
-picked_count a (None ∷ known) (t ∷ texts) h = ap suc (picked_count (a + 1) known texts h.1)
-picked_count a (Some x ∷ known) (t ∷ texts) h = picked_count (a + 1) known texts h.1
-
-picked_sized : (s : ℕ) (known : List (Option (List ℕ))) (texts : List (List ℕ)) → AreSized s texts → AreSized s (picked known texts)
-unfolding picked
-picked_sized s [] texts h = (tt, tt)
-picked_sized s (k ∷ known) [] h = (tt, tt)
-picked_sized s (None ∷ known) (t ∷ texts) h = let rest = picked_sized s known texts (h.0.1, h.1.1) in ((h.0.0, rest.0), (h.1.0, rest.1))
-picked_sized s (Some x ∷ known) (t ∷ texts) h = picked_sized s known texts (h.0.1, h.1.1)
-
-filled_picked : (known : List (Option (List ℕ))) (texts : List (List ℕ)) → AsKnown known texts → with_lost_slices known (picked known texts) ≡ texts
-unfolding AsKnown picked
-filled_picked [] [] h = refl
-filled_picked [] (t ∷ texts) h = absurd h
-filled_picked (k ∷ known) [] h = absurd h
-filled_picked (None ∷ known) (t ∷ texts) h = ap (λ ts. t ∷ ts) (filled_picked known texts h.1)
-filled_picked (Some x ∷ known) (t ∷ texts) h = ap₂ (λ a b. a ∷ b) (sym (h.0 x refl)) (filled_picked known texts h.1)
-
-pub rebuilt_from : (s : ℕ) (known : List (Option (List ℕ))) (found : List (ℕ × List ℕ)) (texts : List (List ℕ)) → s % 2 ≡ 0 → AreKnown s known → AreSized s texts → length texts ≡ length (lost_from 0 known)
-    → AllByRecursion (λ r. IsFound s r.1) found → AllByRecursion (λ r. Meets s known texts r) found
-    → ((others : List (List ℕ)) → AreSized s others → length others ≡ length (lost_from 0 known) → AllByRecursion (λ r. Meets s known others r) found → others ≡ texts)
-    → IsRebuilt s known found (with_lost_slices known texts)
+pub agrees_from : (s : ℕ) (known : List (Option (List ℕ))) (found : List (ℕ × List ℕ)) (texts : List (List ℕ)) → s % 2 ≡ 0 → AreKnown s known → AreSized s texts → length texts ≡ length (lost_from 0 known)
+    → AllByRecursion (λ r. IsFound s r.1) found → AllByRecursion (λ r. Meets s known texts r) found → Agrees s known found (with_lost_slices known texts)
 unfolding AsKnown
-rebuilt_from s known found texts even are_known sized count are meets only = record {
-  agrees = record {
-    sizes = (sized_filled s 0 known texts are_known sized count).0;
-    bytes = (sized_filled s 0 known texts are_known sized count).1;
-    as_known = filled_known 0 known texts count;
-    as_recovered = (equations s known texts found even are_known sized count are).0 meets;
-  };
-  only = λ others agrees.
-      let lost_ones = picked known others in
-      let whole : with_lost_slices known lost_ones ≡ others = filled_picked known others agrees.as_known in
-      let ours : AreSized s lost_ones = picked_sized s known others (agrees.sizes, agrees.bytes) in
-      let number : length lost_ones ≡ length (lost_from 0 known) = picked_count 0 known others agrees.as_known in
-      let met = (equations s known lost_ones found even are_known ours number are).1 (subst (λ slices. AllByRecursion (λ r. recovery s slices r.0 ≡ r.1) found) (sym whole) agrees.as_recovered) in
-      sym whole ∙ ap (with_lost_slices known) (only lost_ones ours number met);
-}
+agrees_from s known found texts even are_known sized count are meets =
+    let filled = sized_filled s 0 known texts are_known sized count in record {
+      sizes = filled.0;
+      bytes = filled.1;
+      as_known = filled_known 0 known texts count;
+      as_recovered = equations s known texts found even are_known sized count are meets;
+    }

@@ -1,17 +1,13 @@
--- The equations of the kept exponents, and the lost slices by their inverse.
-use Rattle.std.specs.Prelude.{◌≡◌, ◌↔◌, ◌+◌, ◌*◌, ◌<◌, ◌==◌, if◌then◌else◌, ℕ, List, [], length, map, slice_index, slice_index_or, bit_xor}
+-- The equations of the kept exponents, and their inverse.
+use Rattle.std.specs.Prelude.{◌≡◌, ◌↔◌, ◌*◌, ◌<◌, ◌==◌, if◌then◌else◌, ℕ, List, [], length, map, slice_index, slice_index_or}
 use Rattle.std.specs.List.{AllByRecursion}
 use Rattle.par2_spec.specs.Field.{mul, coefficient}
-use Rattle.par2_spec.specs.Slices.{word}
 use Rattle.par2_spec.specs.Recovery.{dot, coefficients, combination}
 use Rattle.par2_spec.specs.Rank as ranks
 use Rattle.par2_spec.specs.Rank.{IsVector, IsRepairable, kept_slices}
-use Rattle.par2_matrix.specs.Echelon.{Spells}
 use Rattle.par2_spec.specs.Sums.{field_sum, list_at}
 use Rattle.par2_matrix.specs.Systems.{Equations, CutDown, AreTexts, Solves, IsKilled, OnlyZeroIsKilled, rank}
 use Rattle.par2_recovery.specs.Elements.{IsUnit}
-use Rattle.par2_recovery.specs.Products.{AreBytes}
-use Rattle.par2_recovery.specs.Survivors.{sum_at}
 
 -- recovery slice j with its exponent
 abbrev pub recovery_at : List (ℕ × List ℕ) → ℕ → ℕ × List ℕ
@@ -41,30 +37,6 @@ pub record IsEliminated (lost : List ℕ) (recovery kept : List (ℕ × List ℕ
   pub kills : (v : List ℕ) → IsVector (length lost) v → AllByRecursion (λ r. dot (coefficients lost r.0) v ≡ 0) kept → IsKilled system v
   pub solves : (texts : List (List ℕ)) → AreTexts system texts → Solves system texts
       → (j : ℕ) → j < length kept → GivesUnit (length lost) j (coefficients lost (recovery_at kept j).0) texts
-
--- the first n texts are the rows of the exponents
-pub record AreCoefficients (numbers : List ℕ) (kept : List (ℕ × List ℕ)) (texts : List (List ℕ)) (n : ℕ) : Type 0 where
-  pub count : length texts ≡ n
-  pub each : (j : ℕ) → j < n → Spells (coefficients numbers (recovery_at kept j).0) (list_at texts j) (length numbers)
-
--- the product of the inverse and the rows of the exponents
-pub record AreFactors (numbers : List ℕ) (kept : List (ℕ × List ℕ)) (inverse factors : List (List ℕ)) : Type 0 where
-  pub count : length factors ≡ length inverse
-  pub sizes : (r : ℕ) → r < length inverse → length (list_at factors r) ≡ length numbers
-  pub each : (r k : ℕ) → r < length inverse → k < length numbers → slice_index (list_at factors r) k
-      ≡ field_sum (length kept) (λ j. mul (slice_index (list_at inverse r) j) (slice_index (coefficients numbers (recovery_at kept j).0) k))
-
--- a word of recovery slice j without what the known slices give to it
-abbrev pub lack : List ℕ → List (List ℕ) → List (ℕ × List ℕ) → ℕ → ℕ → ℕ
-lack numbers known kept w j = bit_xor (word w (recovery_at kept j).1) (sum_at (coefficients numbers (recovery_at kept j).0) known w)
-
--- texts of s bytes, made by the inverse of what the recovery slices lack
-pub record AreCombined (s : ℕ) (inverse : List (List ℕ)) (numbers : List ℕ) (known : List (List ℕ)) (kept : List (ℕ × List ℕ)) (texts : List (List ℕ)) : Type 0 where
-  pub count : length texts ≡ length inverse
-  pub sizes : (r : ℕ) → r < length inverse → length (list_at texts r) ≡ s
-  pub bytes : AreBytes texts
-  pub words : (r w : ℕ) → r < length inverse → 2 * w + 1 < s
-      → word w (list_at texts r) ≡ field_sum (length kept) (λ j. mul (word j (list_at inverse r)) (lack numbers known kept w j))
 
 -- 1 where two places are one, else 0
 abbrev pub identity : ℕ → ℕ → ℕ

@@ -3,5 +3,6 @@ pub mod Products
 pub mod Elements
 pub mod Survivors
 pub mod Inverses
+pub mod Syndromes
 pub mod Rebuilding
 pub mod RunInverses

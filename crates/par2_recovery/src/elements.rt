@@ -22,7 +22,7 @@ fn row_of(alloc: Global, text: &[u8]) -> Result<Vec<u16>, AllocError>
 }
 
 #[inline(always)]
-fn text_at(texts: &[Vec<u8>], r: usize) -> &[u8]
+pub(crate) fn text_at(texts: &[Vec<u8>], r: usize) -> &[u8]
     requires { r < length texts.now }
     ensures { result.now ≡ list_at (lists_of texts.now) r }
 {

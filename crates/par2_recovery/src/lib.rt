@@ -10,6 +10,7 @@ mod rebuild_slices;
 mod recovery;
 mod run_inverse;
 mod set_record;
+mod syndromes;
 
 pub use exponents::rank;
 pub use file_record::file_record_by_md5;

@@ -4,16 +4,17 @@ ghost use Rattle.std.specs.Prelude.{◌≡◌, ℕ, ◌*◌, ◌%◌, ◌<◌, �
 ghost use Rattle.std.specs.List.{All, AllByRecursion};
 ghost use Rattle.std.specs.List.Sorted.{IsStrictlyIncreasing};
 ghost use Rattle.par2_spec.specs.Search.{lost};
-ghost use Rattle.par2_spec.specs.Rank.{IsRepairable, IsRebuilt, kept_slices};
+ghost use Rattle.par2_spec.specs.Recovery.{coefficients};
 ghost use Rattle.par2_spec.specs.Sums.{list_at, lists_of};
 ghost use Rattle.par2_recovery.specs.Products.{AreBytes};
 ghost use Rattle.par2_recovery.specs.Views.{texts_of};
 ghost use Rattle.par2_recovery.specs.Survivors.{known_of, recovered_of, exponents_of, with_lost_slices, lost_from, known_from, known_alone, IsTrueFault};
-ghost use Rattle.par2_recovery.specs.Inverses.{AreCombined};
+ghost use Rattle.par2_recovery.specs.Syndromes.{AreSolved};
 ghost use Rattle.par2_recovery.specs.Rebuilding.{IsKnown, CanRebuild, known_among, AreRebuilt, AreEnough};
 
-use crate::inverse::{Elimination, combined, eliminate};
+use crate::inverse::{Inversion, bytes_of, invert};
 use crate::products::{fit_bytes, fit_texts};
+use crate::syndromes::{coefficient_rows, solved};
 use par2_gf16::Gf;
 use std::alloc::{AllocError, Global};
 use thiserror::Error;
@@ -99,68 +100,44 @@ fn known_slices<'a>(alloc: Global, known: &[Option<&'a [u8]>]) -> Result<Vec<&'a
     Ok(slices)
 }
 
-// The lost slices by the inverse of the kept equations.
+// The lost slices by the recovery slices of the kept exponents and their inverse.
 fn lost_slices(
     alloc: Global,
     gf: &Gf,
     survivors: &Survivors,
     kept: &[(u32, &[u8])],
-    inverse: &[Vec<u8>],
+    inverse: &[Vec<u16>],
 ) -> Result<Vec<Vec<u8>>, AllocError>
     requires count { length survivors.now.known.items ≤ 32768 }
     requires even { survivors.now.slice_size % 2 ≡ 0 }
     requires inverse { (r : ℕ)
-        → r < length inverse.now → length (list_at (lists_of inverse.now) r) ≡ 2 * length kept.now }
-    requires inverse_bytes { AreBytes (lists_of inverse.now) }
-    ensures made { IfOk result (λ texts. AreCombined
-        survivors.now.slice_size (lists_of inverse.now) (known_from 0 survivors.now.known.items) (texts_of (known_alone survivors.now.known.items))
-        (recovered_of kept.now) (lists_of texts.items)) }
+        → r < length inverse.now → length kept.now ≤ length (list_at (lists_of inverse.now) r) }
+    requires kept { AllByRecursion (λ r. length r.1
+        ≡ survivors.now.slice_size) (recovered_of kept.now) }
+    ensures solved { let known = survivors.now.known.items in
+        IfOk result (λ texts. AreSolved survivors.now.slice_size (lists_of inverse.now)
+        (map (λ r. coefficients (known_from 0 known) r.0) (recovered_of kept.now))
+        (texts_of (known_alone known)) (map (λ r. r.1) (recovered_of kept.now))
+        (lists_of texts.items)) }
     ensures known { IfOk result
         (λ _. AreBytes (texts_of (known_alone survivors.now.known.items))) }
     ensures found { IfOk result (λ _. AreBytes (map (λ r. r.1) (recovered_of kept.now))) }
 {
     let numbers = known_numbers(alloc, &survivors.known)?;
+    let coefficients = coefficient_rows(alloc, gf, kept, &numbers)?;
+    let slices = bytes_of(alloc, kept)?;
+    fit_texts(&slices);
     let known = known_slices(alloc, &survivors.known)?;
     fit_texts(&known);
-    combined(
+    solved(
         alloc,
         gf,
         inverse,
-        kept,
-        &numbers,
+        &coefficients,
+        &slices,
         &known,
         survivors.slice_size,
     )
-}
-
-// What `rebuild` answers, but for want of memory.
-fn solve(
-    alloc: Global,
-    gf: &Gf,
-    survivors: &Survivors,
-) -> Result<Result<Vec<Vec<u8>>, RebuildFault>, AllocError>
-    requires count { length survivors.now.known.items ≤ 32768 }
-    requires even { survivors.now.slice_size % 2 ≡ 0 }
-    requires known { AllByRecursion (λ slice. length slice.now
-        ≤ survivors.now.slice_size) (known_alone survivors.now.known.items) }
-    requires recovery { AllByRecursion (λ r. length r.1
-        ≡ survivors.now.slice_size) (recovered_of survivors.now.recovery.items) }
-    requires exponents { IsStrictlyIncreasing (exponents_of survivors.now.recovery.items) }
-    ensures { let known = known_of survivors.now.slice_size survivors.now.known.items in
-        let exponents = exponents_of survivors.now.recovery.items in
-        IfOk result (λ answer. MatchResult answer (λ texts. IsRebuilt survivors.now.slice_size known
-        (kept_slices (lost known) exponents (recovered_of survivors.now.recovery.items))
-        (with_lost_slices known (lists_of texts.items)) × (length texts.items ≡ length (lost known))
-        × IsRepairable (lost known) exponents) (IsTrueFault (lost known) exponents)) }
-{
-    let lost = lost_numbers(alloc, &survivors.known)?;
-    let Elimination { kept, system } = eliminate(alloc, gf, &lost, &survivors.recovery)?;
-    let rank = system.rank();
-    let missing = lost.len();
-    match system.into_solution() {
-        Ok(inverse) => Ok(Ok(lost_slices(alloc, gf, survivors, &kept, &inverse)?)),
-        Err(_) => Ok(Err(RebuildFault::NotRepairable { missing, rank })),
-    }
 }
 
 /// The lost slices in order, with their padding. NotRepairable is answered where the recovery slices don't determine
@@ -176,7 +153,9 @@ pub fn rebuild(alloc: Global, gf: &Gf, survivors: &Survivors) -> Result<Vec<Vec<
     ensures refused { let exponents = exponents_of survivors.now.recovery.items in
         IfErr result (IsTrueFault (lost (known_among survivors.now)) exponents) }
 {
-    solve(alloc, gf, survivors)?
+    let lost = lost_numbers(alloc, &survivors.known)?;
+    let Inversion { kept, inverse } = invert(alloc, gf, &lost, &survivors.recovery)?;
+    Ok(lost_slices(alloc, gf, survivors, &kept, &inverse)?)
 }
 
 // Whether no slice is lost.

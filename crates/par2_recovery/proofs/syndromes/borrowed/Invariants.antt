@@ -1,7 +1,7 @@
 use Rattle.std.proofs.Common.{◌≡◌, take}
 use Rattle.par2_spec.specs.Sums.{lists_of}
 use Rattle.par2_recovery.specs.Views.{texts_of}
-use Rattle.par2_recovery.proofs.inverse.borrowed.Given as goal
+use Rattle.par2_recovery.proofs.syndromes.borrowed.Given as goal
 
 abbrev pub invariant-loop-text : goal.invariant-loop-text
 invariant-loop-text l = texts_of l.slices.items ≡ lists_of (take l.text-index l.texts)

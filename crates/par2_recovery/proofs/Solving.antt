@@ -1,0 +1,155 @@
+-- The lost slices by their syndromes, one block of columns behind the other.
+use Rattle.std.proofs.Common.{inl, inr, ℕ, ◌+◌, ◌-◌, ◌*◌, ◌/◌, ◌%◌, ◌<◌, ◌≤◌, ◌≡◌, refl, sym, ap, ap₂, ◌∙◌, subst, arith, List, [], ◌∷◌, ◌++◌, length, length-append, get_or, map, bit_xor}
+use Rattle.std.specs.Prelude.{take, drop}
+use Rattle.std.proofs.lemmas.Bool.{cases_eq, cases_lt}
+use Rattle.std.proofs.lemmas.List.{get_or-take, get_or-drop, get_or-map, get_or_append_left, get_or-append_right, length-map, length-replicate, length-take-le, length-drop}
+use Rattle.par2_spec.specs.Field.{mul}
+use Rattle.par2_spec.specs.Slices.{word}
+use Rattle.par2_spec.specs.Sums.{field_sum, list_at, OneChanged}
+use Rattle.par2_spec.proofs.SumLaws.{field_sum_same}
+use Rattle.par2_recovery.specs.Products.{AreBytes, Adds}
+use Rattle.par2_recovery.specs.Syndromes.{window, syndrome, AreSyndromes, AreSolved, AreExtended}
+use Rattle.par2_recovery.specs.Views.{AreBlank}
+use Rattle.par2_recovery.proofs.Combinations.{blank_bytes}
+use Rattle.par2_recovery.proofs.Inverting.{from_zeros}
+
+-- ---- windows
+
+window_at : (from n : ℕ) (texts : List (List ℕ)) (k : ℕ) → k < length texts → list_at (map (window from n) texts) k ≡ window from n (list_at texts k)
+window_at from n texts k low = get_or-map (window from n) texts k [] [] low
+
+pub word-window : (from n p : ℕ) (t : List ℕ) (q : ℕ) → from ≡ 2 * p → 2 * q + 1 < n → word q (window from n t) ≡ word (p + q) t
+word-window from n p t q e low =
+    ap₂ (λ x y. x + 256 * y) (byte (2 * q) (2 * (p + q)) (omega arith) (omega (arith, e))) (byte (2 * q + 1) (2 * (p + q) + 1) low (omega (arith, e)))
+  where
+    byte : (k m : ℕ) → k < n → from + k ≡ m → get_or (window from n t) k 0 ≡ get_or t m 0
+    byte k m here same = get_or-take n (drop from t) k 0 here ∙ get_or-drop from t k 0 ∙ ap (λ i. get_or t i 0) same
+
+pub window_room : (from n size : ℕ) (texts windows : List (List ℕ)) → windows ≡ map (window from n) texts → ((j : ℕ) → j < length texts → length (list_at texts j) ≡ size) → from + n ≤ size
+    → (j : ℕ) → j < length windows → n ≤ length (list_at windows j)
+window_room from n size texts windows are sizes fits j low =
+    let here : j < length texts = (let many = ap length are ∙ length-map texts (window from n) in omega (arith, low, many)) in
+    let t : List ℕ = list_at texts j in
+    let rest : n ≤ length (drop from t) = (let e = length-drop from t in let whole = sizes j here in omega (arith, e, whole, fits)) in
+    let long : length (list_at windows j) ≡ n = ap (λ ws. length (list_at ws j)) are ∙ ap length (window_at from n texts j here) ∙ length-take-le n (drop from t) rest in
+    omega (arith, long)
+
+-- a syndrome of windows is one of the whole texts
+syndrome-window : (from n p : ℕ) (coefficients known slices : List (List ℕ)) (q j : ℕ) → from ≡ 2 * p → 2 * q + 1 < n → j < length slices
+    → syndrome coefficients (map (window from n) known) (map (window from n) slices) q j ≡ syndrome coefficients known slices (p + q) j
+syndrome-window from n p coefficients known slices q j e low here =
+    let factor : ℕ → ℕ = λ k. get_or (list_at coefficients j) k 0 in
+    ap₂ bit_xor
+    (ap (λ xs. word q xs) (window_at from n slices j here) ∙ word-window from n p (list_at slices j) q e low)
+    (ap (λ m. field_sum m (λ k. mul (factor k) (word q (list_at (map (window from n) known) k)))) (length-map known (window from n))
+    ∙ field_sum_same (length known) (λ k. mul (factor k) (word q (list_at (map (window from n) known) k))) (λ k. mul (factor k) (word (p + q) (list_at known k)))
+    (λ k is. ap (mul (factor k)) (ap (λ xs. word q xs) (window_at from n known k is) ∙ word-window from n p (list_at known k) q e low)))
+
+-- ---- texts behind texts
+
+word_before : (p : ℕ) (xs ys : List ℕ) (w : ℕ) → length xs ≡ 2 * p → w < p → word w (xs ++ ys) ≡ word w xs
+word_before p xs ys w e low = ap₂ (λ x y. x + 256 * y) (get_or_append_left xs ys 0 (2 * w) (omega (arith, e))) (get_or_append_left xs ys 0 (2 * w + 1) (omega (arith, e)))
+
+word_after : (p : ℕ) (xs ys : List ℕ) (w : ℕ) → length xs ≡ 2 * p → p ≤ w → word w (xs ++ ys) ≡ word (w - p) ys
+word_after p xs ys w e high = ap₂ (λ x y. x + 256 * y) (byte (2 * w) (2 * (w - p)) (omega arith) (omega (arith, high))) (byte (2 * w + 1) (2 * (w - p) + 1) (omega arith) (omega (arith, high)))
+  where
+    byte : (i m : ℕ) → 2 * p ≤ i → i - 2 * p ≡ m → get_or (xs ++ ys) i 0 ≡ get_or ys m 0
+    byte i m behind same = get_or-append_right xs ys (2 * p) i 0 e behind ∙ ap (λ k. get_or ys k 0) same
+
+bytes_behind : (xs ys : List ℕ) → ((k : ℕ) → get_or xs k 0 < 256) → ((k : ℕ) → get_or ys k 0 < 256) → (k : ℕ) → get_or (xs ++ ys) k 0 < 256
+bytes_behind xs ys hx hy k = elim (cases_lt k (length xs)) [
+  | inl low ↦ subst (λ x. x < 256) (sym (get_or_append_left xs ys 0 k low)) (hx k)
+  | inr high ↦ subst (λ x. x < 256) (sym (get_or-append_right xs ys (length xs) k 0 refl high)) (hy (k - length xs))
+]
+
+pub no_extended : (old blocks : List (List ℕ)) → AreExtended old blocks old 0
+no_extended old blocks = record { count = refl; each = λ r h. absurd (omega arith); rest = λ r h. refl }
+
+pub next_extended : (old blocks mid new : List (List ℕ)) (n : ℕ) → AreExtended old blocks mid n → OneChanged mid new n → list_at new n ≡ list_at mid n ++ list_at blocks n → AreExtended old blocks new (n + 1)
+next_extended old blocks mid new n so_far changed here = record {
+  count = changed.count ∙ so_far.count;
+  each = λ r h. elim (cases_eq r n) [
+    | inl same ↦ subst (λ x. list_at new x ≡ list_at old x ++ list_at blocks x) (sym same) (here ∙ ap (λ xs. xs ++ list_at blocks n) (so_far.rest n (omega arith)))
+    | inr other ↦ changed.others r other ∙ so_far.each r (omega arith)
+  ];
+  rest = λ r h. changed.others r (λ e. omega arith) ∙ so_far.rest r (omega arith);
+}
+
+-- ---- the words of a block
+
+pub syndromes_added : (n : ℕ) (coefficients known slices new : List (List ℕ)) → ((j : ℕ) → j < length slices → 2 * n ≤ length (list_at slices j))
+    → Adds coefficients known slices new 0 n (length known) → AreSyndromes n coefficients known slices new
+syndromes_added n coefficients known slices new room added = record {
+  count = added.count;
+  words = λ j w here low. added.inside j w here (omega arith) low (let fits = room j here in omega (arith, fits, low));
+}
+
+pub words_solved : (n m : ℕ) (inverse coefficients known slices syndromes zeros new : List (List ℕ)) → m ≡ length inverse → AreSyndromes n coefficients known slices syndromes
+    → AreBlank (2 * n) m zeros → Adds inverse syndromes zeros new 0 n (length syndromes) → AreSolved (2 * n) inverse coefficients known slices new
+words_solved n m inverse coefficients known slices syndromes zeros new e are blank added = record {
+  count = added.count ∙ blank.count ∙ e;
+  sizes = λ r h. added.sizes r ∙ ap length (blank.each r (omega (arith, e))) ∙ length-replicate {A = ℕ} (2 * n) 0;
+  bytes = added.bytes (blank_bytes (2 * n) m zeros blank);
+  words = λ r w h low.
+      from_zeros (2 * n) m n (length syndromes) inverse syndromes zeros new blank (omega arith) added r w (omega (arith, e)) (omega (arith, low))
+      ∙ ap (λ k. field_sum k (λ j. mul (get_or (list_at inverse r) j 0) (word w (list_at syndromes j)))) are.count
+      ∙ field_sum_same (length slices) (λ j. mul (get_or (list_at inverse r) j 0) (word w (list_at syndromes j))) (λ j. mul (get_or (list_at inverse r) j 0) (syndrome coefficients known slices w j))
+      (λ j here. ap (mul (get_or (list_at inverse r) j 0)) (are.words j w here (omega (arith, low))));
+}
+
+-- ---- block by block
+
+pub none_solved : (m : ℕ) (inverse coefficients known slices texts : List (List ℕ)) → m ≡ length inverse → AreBlank 0 m texts → AreSolved 0 inverse coefficients known slices texts
+none_solved m inverse coefficients known slices texts e blank = record {
+  count = blank.count ∙ e;
+  sizes = λ r h. ap length (blank.each r (omega (arith, e)));
+  bytes = blank_bytes 0 m texts blank;
+  words = λ r w h low. absurd (omega (arith, low));
+}
+
+-- a block more, of n bytes
+pub more_solved : (from n : ℕ) (inverse coefficients known slices old blocks new : List (List ℕ)) → from % 2 ≡ 0 → AreSolved from inverse coefficients known slices old
+    → AreSolved n inverse coefficients (map (window from n) known) (map (window from n) slices) blocks → AreExtended old blocks new (length blocks)
+    → AreSolved (from + n) inverse coefficients known slices new
+more_solved from n inverse coefficients known slices old blocks new even before more extended = record {
+  count = extended.count ∙ before.count;
+  sizes = λ r h. ap length (here r h) ∙ length-append (list_at old r) (list_at blocks r) ∙ ap₂ (λ a b. a + b) (before.sizes r h) (more.sizes r h);
+  bytes = λ r k. elim (cases_lt r (length blocks)) [
+    | inl low ↦ subst (λ xs. get_or xs k 0 < 256) (sym (extended.each r low)) (bytes_behind (list_at old r) (list_at blocks r) (before.bytes r) (more.bytes r) k)
+    | inr high ↦ subst (λ xs. get_or xs k 0 < 256) (sym (extended.rest r high)) (before.bytes r k)
+  ];
+  words = λ r w h low. elim (cases_lt w p) [
+    | inl early ↦ ap (λ xs. word w xs) (here r h) ∙ word_before p (list_at old r) (list_at blocks r) w (before.sizes r h ∙ half) early ∙ before.words r w h (omega (arith, half, early))
+    | inr late ↦
+        let q = w - p in
+        let fits : 2 * q + 1 < n = omega (arith, half, low, late) in
+        let same : p + q ≡ w = omega (arith, late) in
+        ap (λ xs. word w xs) (here r h)
+        ∙ word_after p (list_at old r) (list_at blocks r) w (before.sizes r h ∙ half) late
+        ∙ more.words r q h fits
+        ∙ ap (λ m. field_sum m (λ j. mul (get_or (list_at inverse r) j 0) (syndrome coefficients (map (window from n) known) (map (window from n) slices) q j))) (length-map slices (window from n))
+        ∙ field_sum_same (length slices) (λ j. mul (get_or (list_at inverse r) j 0) (syndrome coefficients (map (window from n) known) (map (window from n) slices) q j))
+        (λ j. mul (get_or (list_at inverse r) j 0) (syndrome coefficients known slices w j))
+        (λ j at. ap (mul (get_or (list_at inverse r) j 0)) (syndrome-window from n p coefficients known slices q j half fits at ∙ ap (λ x. syndrome coefficients known slices x j) same))
+  ];
+}
+  where
+    p : ℕ
+    p = from / 2
+
+    half : from ≡ 2 * p
+    half = omega (arith, even)
+
+    here : (r : ℕ) → r < length inverse → list_at new r ≡ list_at old r ++ list_at blocks r
+    here r h = extended.each r (let n = more.count in omega (arith, n, h))
+
+-- the same, from block to block
+pub next_solved : (from n at next : ℕ) (inverse coefficients known slices old blocks new windows_known windows : List (List ℕ)) → from % 2 ≡ 0 → from ≡ at → from + n ≡ next
+    → windows_known ≡ map (window from n) known → windows ≡ map (window from n) slices → AreSolved at inverse coefficients known slices old
+    → AreSolved n inverse coefficients windows_known windows blocks → AreExtended old blocks new (length blocks) → AreSolved next inverse coefficients known slices new
+next_solved from n at next inverse coefficients known slices old blocks new windows_known windows even e f known_are slices_are before more extended =
+    subst (λ m. AreSolved m inverse coefficients known slices new) f
+    (more_solved from n inverse coefficients known slices old blocks new even
+    (subst (λ m. AreSolved m inverse coefficients known slices old) (sym e) before)
+    (subst (λ ws. AreSolved n inverse coefficients (map (window from n) known) ws blocks) slices_are (subst (λ ws. AreSolved n inverse coefficients ws windows blocks) known_are more))
+    extended)

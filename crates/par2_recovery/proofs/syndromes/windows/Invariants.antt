@@ -1,0 +1,7 @@
+use Rattle.std.proofs.Common.{◌≡◌, map, take}
+use Rattle.par2_recovery.specs.Syndromes.{window}
+use Rattle.par2_recovery.specs.Views.{texts_of}
+use Rattle.par2_recovery.proofs.syndromes.windows.Given as goal
+
+abbrev pub invariant-loop-k : goal.invariant-loop-k
+invariant-loop-k l = texts_of l.windows.items ≡ map (window l.from l.count) (take l.k (texts_of l.texts))

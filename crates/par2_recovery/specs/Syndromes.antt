@@ -1,0 +1,36 @@
+-- The lost slices by their syndromes. With the slices that are known taken off, the equation of an exponent is one of
+-- the lost slices alone (Parity Volume Set Specification 2.0, "Description of the algorithm").
+use Rattle.std.specs.Prelude.{◌≡◌, ◌+◌, ◌*◌, ◌<◌, ◌≤◌, ◌++◌, ℕ, List, length, take, drop, slice_index, bit_xor}
+use Rattle.par2_spec.specs.Field.{mul}
+use Rattle.par2_spec.specs.Slices.{word}
+use Rattle.par2_spec.specs.Sums.{field_sum, list_at}
+use Rattle.par2_recovery.specs.Products.{AreBytes}
+use Rattle.par2_recovery.specs.Survivors.{sum_at}
+
+-- at most n bytes of a text, from `from` on
+abbrev pub window : ℕ → ℕ → List ℕ → List ℕ
+window from n text = take n (drop from text)
+
+-- word w of syndrome j: that of recovery slice j and what the known slices give to it, each times its coefficient in
+-- row j; so it is what the lost slices give to it
+abbrev pub syndrome : (coefficients known slices : List (List ℕ)) → ℕ → ℕ → ℕ
+syndrome coefficients known slices w j = bit_xor (word w (list_at slices j)) (sum_at (list_at coefficients j) known w)
+
+-- the first n words of the texts are those of the syndromes
+pub record AreSyndromes (n : ℕ) (coefficients known slices texts : List (List ℕ)) : Type 0 where
+  pub count : length texts ≡ length slices
+  pub words : (j w : ℕ) → j < length slices → w < n → word w (list_at texts j) ≡ syndrome coefficients known slices w j
+
+-- texts of s bytes: the inverse times the syndromes
+pub record AreSolved (s : ℕ) (inverse coefficients known slices texts : List (List ℕ)) : Type 0 where
+  pub count : length texts ≡ length inverse
+  pub sizes : (r : ℕ) → r < length inverse → length (list_at texts r) ≡ s
+  pub bytes : AreBytes texts
+  pub words : (r w : ℕ) → r < length inverse → 2 * w + 1 < s
+      → word w (list_at texts r) ≡ field_sum (length slices) (λ j. mul (slice_index (list_at inverse r) j) (syndrome coefficients known slices w j))
+
+-- behind each of the first n texts there is the block at its place
+pub record AreExtended (old blocks new : List (List ℕ)) (n : ℕ) : Type 0 where
+  pub count : length new ≡ length old
+  pub each : (r : ℕ) → r < n → list_at new r ≡ list_at old r ++ list_at blocks r
+  pub rest : (r : ℕ) → n ≤ r → list_at new r ≡ list_at old r
