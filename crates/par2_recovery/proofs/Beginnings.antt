@@ -1,9 +1,9 @@
 -- Where the first exponents are a run of as many as slices are lost, these are the kept ones.
-use Rattle.std.proofs.Common.{ℕ, zero, suc, ◌+◌, ◌-◌, ◌<◌, ◌≤◌, ◌≡◌, refl, sym, ap, ap₂, ◌∙◌, subst, arith, Bool, true, false, cond, List, [], ◌∷◌, length, get_or, map, take}
+use Rattle.std.proofs.Common.{ℕ, zero, suc, ◌+◌, ◌-◌, ◌<◌, ◌≤◌, ◌≡◌, refl, sym, ap, ap₂, ◌∙◌, subst, arith, Bool, true, false, cond, List, [], ◌∷◌, ◌++◌, length, get_or, map, take}
 use Rattle.std.specs.Prelude.{filter, Option, Some, None}
 use Rattle.std.specs.List.{AllByRecursion, Contains, range_with_len}
 use Rattle.std.specs.List.Sorted.{IsStrictlyIncreasing}
-use Rattle.std.proofs.lemmas.List.{length-map, length-take, get_or-map, ext_get_or, get_or-take, get_or_default, length-take-le, take_all, take-map}
+use Rattle.std.proofs.lemmas.List.{length-map, length-take, get_or-map, ext_get_or, get_or-take, get_or_default, length-take-le, take_all, take-map, take_more, map-append}
 use Rattle.std.proofs.lemmas.List.Elements.{Contains-get_or}
 use Rattle.std.proofs.lemmas.List.FromFn.{length-range_with_len, get_or-range_with_len}
 use Rattle.par2_spec.specs.Rank.{kept, rank, kept_slices, IsRepairable}
@@ -11,7 +11,8 @@ use Rattle.par2_spec.specs.Runs.{AreSlices, AreClose, HasRun}
 use Rattle.par2_spec.proofs.ListsLaws.{all_unmap, all-passing, filter-map}
 use Rattle.par2_spec.proofs.RunLaws.{first_kept, run_rank, run_determines}
 use Rattle.par2_recovery.specs.RunInverses.{BeginsWithRun}
-use Rattle.par2_recovery.specs.Survivors.{lost_from}
+use Rattle.par2_recovery.specs.Survivors.{lost_from, recovered_of, exponents_of}
+use Rattle.std.specs.Borrow.{Bor}
 use Rattle.par2_recovery.proofs.Ranks.{is_kept}
 use Rattle.par2_recovery.proofs.Runs.{rises_between}
 use Rattle.par2_recovery.proofs.Standing.{kept_slices_are}
@@ -51,10 +52,15 @@ close_front xs f n front e g first second =
     let b = in_run f n g (subst (λ ys. Contains ys g) front second) in
     omega (arith, a.0, b.1)
 
+pub front_within : (xs : List ℕ) (f n : ℕ) → BeginsWithRun f n xs → n ≤ length xs
+front_within xs f n front =
+    let long : length (take n xs) ≡ n = ap length front ∙ length-range_with_len f n in
+    let least = length-take n xs in
+    omega (arith, long, least)
+
 pub has_run_front : (xs : List ℕ) (f n : ℕ) → BeginsWithRun f n xs → HasRun f n xs
 has_run_front xs f n front i low =
-    let long : length (take n xs) ≡ n = ap length front ∙ length-range_with_len f n in
-    let within : i < length xs = (let least = length-take n xs in omega (arith, long, least, low)) in
+    let within : i < length xs = (let most = front_within xs f n front in omega (arith, most, low)) in
     let at : get_or xs i 0 ≡ f + i = sym (get_or-take n xs i 0 low) ∙ ap (λ ys. get_or ys i 0) front ∙ get_or-range_with_len f n i 0 low in
     subst (Contains xs) at (Contains-get_or xs i 0 within)
 
@@ -67,6 +73,17 @@ begins_at recs n first last rise some within is_first is_last near =
     let near_here : get_or (map (λ r. r.0) recs) (n - 1) 0 - get_or (map (λ r. r.0) recs) 0 0 ≡ n - 1 = ap₂ (λ a b. a - b) (ends.1 ∙ sym is_last) (sym start) ∙ near in
     subst (λ f. BeginsWithRun f n (map (λ r. r.0) recs)) (sym start)
     (begins (map (λ r. r.0) recs) n rise some (let long = length-map recs (λ (r : ℕ × List ℕ). r.0) in omega (arith, long, within)) near_here)
+
+pub near_front : (recs : List (ℕ × List ℕ)) (n first last f : ℕ) → 0 < n → BeginsWithRun f n (map (λ r. r.0) recs)
+    → first ≡ (get_or recs 0 (0, [])).0 → last ≡ (get_or recs (n - 1) (0, [])).0 → last - first ≡ n - 1
+near_front recs n first last f some front is_first is_last =
+    let xs = map (λ (r : ℕ × List ℕ). r.0) recs in
+    let within : n ≤ length recs = (let most = front_within xs f n front in let long = length-map recs (λ (r : ℕ × List ℕ). r.0) in omega (arith, most, long)) in
+    let ends = exponents_at recs n some within in
+    let at : (i : ℕ) → i < n → get_or xs i 0 ≡ f + i = λ i low. sym (get_or-take n xs i 0 low) ∙ ap (λ ys. get_or ys i 0) front ∙ get_or-range_with_len f n i 0 low in
+    let start = at 0 some in
+    let end = at (n - 1) (omega (arith, some)) in
+    omega (arith, is_first, is_last, ends.0, ends.1, start, end)
 
 pub in_order : (recs : List (ℕ × List ℕ)) (n first last : ℕ) → IsStrictlyIncreasing (map (λ r. r.0) recs) → 0 < n → n ≤ length recs
     → first ≡ (get_or recs 0 (0, [])).0 → last ≡ (get_or recs (n - 1) (0, [])).0 → first ≤ last
@@ -150,3 +167,17 @@ lost_rise a (None ∷ known) (suc k) h =
     let e : suc k + 1 ≡ suc (k + 1) = omega arith in
     let more = lost_rise (a + 1) known k (omega (arith, h)) in
     subst (λ n. get_or (lost_from (a + 1) known) k 0 < get_or (a ∷ lost_from (a + 1) known) n 0) (sym e) more
+
+-- ---- the recovery slices of the run
+
+pub first_push : (recovery kept : List (ℕ × Bor (List ℕ))) (slice : ℕ × Bor (List ℕ)) (i : ℕ) → i < length recovery → recovered_of kept ≡ take i (recovered_of recovery)
+    → slice.0 ≡ (get_or (recovered_of recovery) i (0, [])).0 → slice.1.now ≡ (get_or (recovered_of recovery) i (0, [])).1 → recovered_of (kept ++ slice ∷ []) ≡ take (i + 1) (recovered_of recovery)
+first_push recovery kept slice i low is exponent bytes =
+    let recs = recovered_of recovery in
+    map-append (λ (r : ℕ × Bor (List ℕ)). (r.0, r.1.now)) kept (slice ∷ [])
+    ∙ ap₂ (λ xs x. xs ++ x ∷ []) is (ap₂ (λ a b. (a, b)) exponent bytes)
+    ∙ sym (take_more recs i (0, []) (let long = length-map recovery (λ (r : ℕ × Bor (List ℕ)). (r.0, r.1.now)) in omega (arith, long, low)))
+
+-- the exponents of the first ones are the run
+pub exponents_front : (recovery kept : List (ℕ × Bor (List ℕ))) (f n : ℕ) → BeginsWithRun f n (exponents_of recovery) → recovered_of kept ≡ take n (recovered_of recovery) → exponents_of kept ≡ range_with_len f n
+exponents_front recovery kept f n front is = ap (map (λ r. r.0)) is ∙ sym (take-map (λ (r : ℕ × List ℕ). r.0) n (recovered_of recovery)) ∙ front

@@ -13,7 +13,7 @@ overflow_sub-last c =
     let long : length recs ≡ length c.args.recovery.now = length-map c.args.recovery.now (λ (r : ℕ × Bor (List ℕ)). (r.0, r.1.now)) in
     let some : 0 < n = search rules in
     let within : n ≤ length c.args.recovery.now = search rules in
-    in_order recs n c.exponent_at-first.result c.exponent_at-last.result c.requires some (omega (arith, long, within)) c.exponent_at-first.ensures c.exponent_at-last.ensures
+    in_order recs n c.recovery_at.result.0 c.exponent_at-last.result c.requires some (omega (arith, long, within)) c.exponent_at-first.ensures c.exponent_at-last.ensures
 
 pub returns-then-last-first : goal.returns-then-last-first
 returns-then-last-first c =
@@ -22,4 +22,4 @@ returns-then-last-first c =
     let long : length recs ≡ length c.args.recovery.now = length-map c.args.recovery.now (λ (r : ℕ × Bor (List ℕ)). (r.0, r.1.now)) in
     let some : 0 < n = search rules in
     let within : n ≤ length c.args.recovery.now = search rules in
-    begins_at recs n c.exponent_at-first.result c.exponent_at-last.result c.requires some (omega (arith, long, within)) c.exponent_at-first.ensures c.exponent_at-last.ensures (search rules)
+    begins_at recs n c.recovery_at.result.0 c.exponent_at-last.result c.requires some (omega (arith, long, within)) c.exponent_at-first.ensures c.exponent_at-last.ensures (search rules)
