@@ -21,11 +21,16 @@ use Rattle.par2_spec.proofs.UniqueLaws.{agreeing_are_one}
 use Rattle.par2_spec.proofs.WordLaws.{word-lt}
 use Rattle.par2_recovery.specs.Inverses.{recovery_at, IsInverse}
 use Rattle.par2_recovery.specs.Products.{AreBytes}
-use Rattle.par2_recovery.specs.Survivors.{with_lost_slices, lost_from, known_from, known_alone, sum_at}
+use Rattle.par2_recovery.specs.Rebuilding.{CanRebuild, AreRebuilt, known_among}
+use Rattle.par2_recovery.specs.Survivors.{with_lost_slices, lost_from, known_from, known_alone, sum_at, recovered_of, exponents_of}
 use Rattle.par2_recovery.specs.Syndromes.{syndrome, AreSolved}
-use Rattle.par2_recovery.proofs.Combinations.{coefficients-lt, dot_padded}
+use Rattle.par2_recovery.specs.Views.{texts_of}
+use Rattle.par2_recovery.specs.declared.rebuild_slices.Survivors as code
+use Rattle.std.specs.Borrow.{Bor}
+use Rattle.par2_recovery.proofs.Combinations.{coefficients-lt, dot_padded, length-texts_of}
 use Rattle.par2_recovery.proofs.Inverting.{Rise, gives_back, length-slices}
-use Rattle.par2_recovery.proofs.Rebuilding.{AreSized, AreKnown, IsFound, Meets, lost_is, agrees_from}
+use Rattle.par2_recovery.proofs.Rebuilding.{AreSized, AreKnown, IsFound, Meets, lost_is, lost_of_map, known_of_map, length-present, agrees_from}
+use Rattle.par2_recovery.proofs.Standing.{are_known, slices_are}
 use Rattle.par2_spec.proofs.FoundLaws.{all-filter}
 
 -- a word of recovery slice j without what the known slices give to it
@@ -72,7 +77,7 @@ kept_rise lost_ones all recs up i k low here =
 -- ---- the answers
 
 -- what goes by the inverse into the lost slices are the lost slices
-pub are_rebuilt : (s : ℕ) (known : List (Option (List ℕ))) (recs kept_ones : List (ℕ × List ℕ)) (texts inverse made : List (List ℕ)) → s % 2 ≡ 0 → AreKnown s known
+are_rebuilt : (s : ℕ) (known : List (Option (List ℕ))) (recs kept_ones : List (ℕ × List ℕ)) (texts inverse made : List (List ℕ)) → s % 2 ≡ 0 → AreKnown s known
     → map (padded s) texts ≡ known_alone known → length texts ≡ length (known_from 0 known) → AreBytes texts
     → AllByRecursion (λ r. length r.1 ≡ s) recs → IsStrictlyIncreasing (map (λ r. r.0) recs) → AreBytes (map (λ r. r.1) kept_ones)
     → kept_ones ≡ kept_slices (lost_from 0 known) (map (λ r. r.0) recs) recs → IsInverse (lost_from 0 known) (map (λ r. r.0) kept_ones) inverse → IsRepairable (lost_from 0 known) (map (λ r. r.0) recs)
@@ -150,3 +155,29 @@ are_rebuilt s known recs kept_ones texts inverse made even are_known same fit by
 
     found : Agrees s known kept_ones slices
     found = agrees_from s known kept_ones made even are_known sized count are meets
+
+pub lost_among : (survivors : code.Survivors) → lost (known_among survivors) ≡ lost_from 0 survivors.known.items
+lost_among survivors = lost_is (known_among survivors) ∙ lost_of_map (λ slice. padded survivors.slice_size slice.now) 0 survivors.known.items
+
+-- what `rebuild` answers, by what it found of the kept exponents
+pub answer : (survivors : code.Survivors) → CanRebuild survivors → (missing : List ℕ) (found kept_ones : List (ℕ × Bor (List ℕ))) (rows inverse made : List (List ℕ)) → missing ≡ lost_from 0 survivors.known.items
+    → kept_ones ≡ found → inverse ≡ rows
+    → recovered_of found ≡ kept_slices missing (exponents_of survivors.recovery.items) (recovered_of survivors.recovery.items) → IsInverse missing (exponents_of found) rows
+    → IsRepairable missing (exponents_of survivors.recovery.items) → AreBytes (texts_of (known_alone survivors.known.items)) → AreBytes (map (λ r. r.1) (recovered_of kept_ones))
+    → AreSolved survivors.slice_size inverse (map (λ r. coefficients (known_from 0 survivors.known.items) r.0) (recovered_of kept_ones)) (texts_of (known_alone survivors.known.items)) (map (λ r. r.1) (recovered_of kept_ones)) made
+    → AreRebuilt survivors (with_lost_slices (known_among survivors) made) × (length made ≡ length (lost (known_among survivors)))
+answer survivors can missing found kept_ones rows inverse made lost_are same_kept same_rows chosen is enough bytes kept_bytes solved =
+    let s : ℕ = survivors.slice_size in
+    let raw : List (Option (Bor (List ℕ))) = survivors.known.items in
+    let known : List (Option (List ℕ)) = known_among survivors in
+    let texts : List (List ℕ) = texts_of (known_alone raw) in
+    let recs : List (ℕ × List ℕ) = recovered_of survivors.recovery.items in
+    let exponents : List ℕ = exponents_of survivors.recovery.items in
+    let here : missing ≡ lost_from 0 known = lost_are ∙ sym (lost_of_map (λ slice. padded s slice.now) 0 raw) in
+    let numbers : known_from 0 raw ≡ known_from 0 known = sym (known_of_map (λ slice. padded s slice.now) 0 raw) in
+    are_rebuilt s known recs (recovered_of kept_ones) texts inverse made can.even (are_known s raw (known_alone raw) can.known refl bytes) (slices_are s raw (known_alone raw) refl)
+    (length-texts_of (known_alone raw) ∙ length-present 0 raw ∙ ap length numbers) bytes can.recovery can.exponents kept_bytes
+    (ap recovered_of same_kept ∙ chosen ∙ ap (λ ls. kept_slices ls exponents recs) here)
+    (subst (λ ls. IsInverse ls (exponents_of kept_ones) inverse) here (subst (λ ks. IsInverse missing (exponents_of ks) inverse) (sym same_kept) (subst (λ xs. IsInverse missing (exponents_of found) xs) (sym same_rows) is)))
+    (subst (λ ls. IsRepairable ls exponents) here enough)
+    (subst (λ ns. AreSolved s inverse (map (λ (r : ℕ × List ℕ). coefficients ns r.0) (recovered_of kept_ones)) texts (map (λ (r : ℕ × List ℕ). r.1) (recovered_of kept_ones)) made) numbers solved)
