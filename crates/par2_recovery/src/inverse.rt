@@ -96,7 +96,7 @@ fn eliminate<'a>(
 }
 
 /// The kept exponents and their inverse, where they determine the lost slices.
-pub(crate) fn invert<'a>(
+pub(crate) fn invert_by_elimination<'a>(
     alloc: Global,
     gf: &Gf,
     lost: &[u32],
@@ -127,7 +127,10 @@ pub(crate) fn invert<'a>(
 }
 
 /// The bytes of the recovery slices.
-pub(crate) fn bytes_of<'a>(alloc: Global, kept: &[(u32, &'a [u8])]) -> Result<Vec<&'a [u8]>, AllocError>
+pub(crate) fn bytes_of<'a>(
+    alloc: Global,
+    kept: &[(u32, &'a [u8])],
+) -> Result<Vec<&'a [u8]>, AllocError>
     ensures { IfOk result (λ slices. texts_of slices.items
         ≡ map (λ r. r.1) (recovered_of kept.now)) }
 {

@@ -4,6 +4,7 @@
 mod elements;
 mod exponents;
 mod file_record;
+mod front_run;
 mod inverse;
 mod products;
 mod rebuild_slices;

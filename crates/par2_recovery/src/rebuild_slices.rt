@@ -12,9 +12,9 @@ ghost use Rattle.par2_recovery.specs.Survivors.{known_of, recovered_of, exponent
 ghost use Rattle.par2_recovery.specs.Syndromes.{AreSolved};
 ghost use Rattle.par2_recovery.specs.Rebuilding.{IsKnown, CanRebuild, known_among, AreRebuilt, AreEnough};
 
+use crate::front_run::invert;
 use crate::inverse::{Inversion, bytes_of};
 use crate::products::{fit_bytes, fit_texts};
-use crate::run_inverse::invert_kept;
 use crate::syndromes::{coefficient_rows, solved};
 use par2_gf16::Gf;
 use std::alloc::{AllocError, Global};
@@ -155,7 +155,7 @@ pub fn rebuild(alloc: Global, gf: &Gf, survivors: &Survivors) -> Result<Vec<Vec<
         IfErr result (IsTrueFault (lost (known_among survivors.now)) exponents) }
 {
     let lost = lost_numbers(alloc, &survivors.known)?;
-    let Inversion { kept, inverse } = invert_kept(alloc, gf, &lost, &survivors.recovery)?;
+    let Inversion { kept, inverse } = invert(alloc, gf, &lost, &survivors.recovery)?;
     Ok(lost_slices(alloc, gf, survivors, &kept, &inverse)?)
 }
 

@@ -3,43 +3,17 @@
 //! constants of the lost slices: the quotient on its division by `z - c` is 0 at the other ones and not at `c`, so that
 //! its coefficients, scaled, are row `j` of the inverse.
 
-ghost use Rattle.std.specs.Prelude.{◌≡◌, ◌≢◌, ◌<◌, ◌≤◌, ◌^◌, ℕ, length, map, take, slice_index, IfErr, IfOk, IfSome, IsNone, IsOk};
+ghost use Rattle.std.specs.Prelude.{◌≡◌, ◌≢◌, ◌<◌, ◌^◌, ℕ, length, map, slice_index, IfOk};
 ghost use Rattle.std.specs.List.{range_with_len};
-ghost use Rattle.std.specs.List.Sorted.{IsStrictlyIncreasing};
 ghost use Rattle.par2_spec.specs.Field.{mul, pow, constant};
 ghost use Rattle.par2_spec.specs.Polynomials.{value, times, times_root, with_roots, quotient};
-ghost use Rattle.par2_spec.specs.Rank.{IsRepairable, kept_slices};
 ghost use Rattle.par2_spec.specs.Runs.{AreSlices};
 ghost use Rattle.par2_spec.specs.Sums.{lists_of};
 ghost use Rattle.par2_recovery.specs.Inverses.{IsInverse};
-ghost use Rattle.par2_recovery.specs.RunInverses.{BeginsWithRun, IsScaledQuotient};
-ghost use Rattle.par2_recovery.specs.Survivors.{exponents_of, recovered_of, IsTrueFault};
+ghost use Rattle.par2_recovery.specs.RunInverses.{IsScaledQuotient};
 
-use crate::inverse::{Inversion, invert, recovery_at};
-use crate::rebuild_slices::RebuildFault;
 use par2_gf16::Gf;
 use std::alloc::{AllocError, Global};
-
-// The first of `count` exponents, where these are the first of the recovery slices and follow one another without a gap:
-// as they rise, the last one is then as near to the first as it can be.
-fn run_at_front(recovery: &[(u32, &[u8])], count: usize) -> Option<u32>
-    requires { IsStrictlyIncreasing (exponents_of recovery.now) }
-    ensures run { IfSome result
-        (λ first. BeginsWithRun first count (exponents_of recovery.now)) }
-    ensures none { IsNone result → (first : ℕ) → 0 < count
-        → BeginsWithRun first count (exponents_of recovery.now) → ⊥ }
-{
-    if count == 0 || recovery.len() < count {
-        return None;
-    }
-    let first = recovery_at(recovery, 0).0;
-    let last = recovery_at(recovery, count - 1).0;
-    if (last - first) as usize == count - 1 {
-        Some(first)
-    } else {
-        None
-    }
-}
 
 fn constant(gf: &Gf, k: u32) -> u16
     requires { k < 32768 }
@@ -145,8 +119,8 @@ fn inverse_row(
     scaled(alloc, gf, inverse_of(gf, at_c), &quotient)
 }
 
-// The inverse for the exponents from `first` on, as many as slices are lost.
-fn run_inverse(
+/// The inverse for the exponents from `first` on, as many as slices are lost.
+pub(crate) fn run_inverse(
     alloc: Global,
     gf: &Gf,
     lost: &[u32],
@@ -164,67 +138,4 @@ fn run_inverse(
         rows.push(inverse_row(alloc, gf, &p, points[j], first)?)?;
     }
     Ok(rows)
-}
-
-// The first recovery slices.
-fn first_of<'a>(
-    alloc: Global,
-    recovery: &[(u32, &'a [u8])],
-    count: usize,
-) -> Result<Vec<(u32, &'a [u8])>, AllocError>
-    requires { count ≤ length recovery.now }
-    ensures { IfOk result (λ kept. recovered_of kept.items ≡ take count (recovered_of recovery.now)) }
-{
-    let mut kept = Vec::with_capacity(alloc, count)?;
-    for i in 0..count {
-        kept.push(recovery_at(recovery, i))?;
-    }
-    Ok(kept)
-}
-
-// The kept exponents and their inverse, where the first ones are a run of as many as slices are lost: these are kept.
-fn invert_run<'a>(
-    alloc: Global,
-    gf: &Gf,
-    lost: &[u32],
-    recovery: &[(u32, &'a [u8])],
-    first: u32,
-) -> Result<Inversion<'a>, AllocError>
-    requires lost { AreSlices lost.now }
-    requires exponents { IsStrictlyIncreasing (exponents_of recovery.now) }
-    requires run { BeginsWithRun first (length lost.now) (exponents_of recovery.now) }
-    ensures kept { IfOk result (λ found. recovered_of found.kept.items
-        ≡ kept_slices lost.now (exponents_of recovery.now) (recovered_of recovery.now)) }
-    ensures inverse { IfOk result (λ found.
-        IsInverse lost.now (exponents_of found.kept.items) (lists_of found.inverse.items)) }
-    ensures enough { IsRepairable lost.now (exponents_of recovery.now) }
-{
-    let kept = first_of(alloc, recovery, lost.len())?;
-    let inverse = run_inverse(alloc, gf, lost, first)?;
-    Ok(Inversion { kept, inverse })
-}
-
-/// The kept exponents and their inverse, where they determine the lost slices: at a run by its polynomial, else by
-/// elimination.
-pub(crate) fn invert_kept<'a>(
-    alloc: Global,
-    gf: &Gf,
-    lost: &[u32],
-    recovery: &[(u32, &'a [u8])],
-) -> Result<Inversion<'a>, RebuildFault>
-    requires count { length lost.now ≤ 32768 }
-    requires lost { (i : ℕ) → slice_index lost.now i < 32768 }
-    requires rise { IsStrictlyIncreasing lost.now }
-    requires exponents { IsStrictlyIncreasing (exponents_of recovery.now) }
-    ensures kept { IfOk result (λ found. recovered_of found.kept.items
-        ≡ kept_slices lost.now (exponents_of recovery.now) (recovered_of recovery.now)) }
-    ensures inverse { IfOk result (λ found.
-        IsInverse lost.now (exponents_of found.kept.items) (lists_of found.inverse.items)) }
-    ensures enough { IsOk result → IsRepairable lost.now (exponents_of recovery.now) }
-    ensures refused { IfErr result (IsTrueFault lost.now (exponents_of recovery.now)) }
-{
-    match run_at_front(recovery, lost.len()) {
-        Some(first) => Ok(invert_run(alloc, gf, lost, recovery, first)?),
-        None => invert(alloc, gf, lost, recovery),
-    }
 }

@@ -1,7 +1,7 @@
 use Rattle.std.proofs.Common.{rules, ◌≡◌, ◌≤◌, ◌<◌, ◌∙◌, ◌++◌, ◌∷◌, [], sym, ap, subst, arith, length, List, ℕ, take}
 use Rattle.par2_recovery.specs.Survivors.{recovered_of}
 use Rattle.par2_recovery.proofs.Beginnings.{first_push}
-use Rattle.par2_recovery.proofs.run_inverse.first_of.Goals as goal
+use Rattle.par2_recovery.proofs.front_run.first_of.Goals as goal
 
 pub loop-i-preserved : goal.loop-i-preserved
 loop-i-preserved c =

@@ -7,7 +7,7 @@ use Rattle.par2_spec.proofs.RunLaws.{run_determines}
 use Rattle.par2_recovery.specs.Inverses.{IsInverse}
 use Rattle.par2_recovery.specs.Survivors.{recovered_of, exponents_of}
 use Rattle.par2_recovery.proofs.Beginnings.{front_within, has_run_front, kept_slices_front, exponents_front}
-use Rattle.par2_recovery.proofs.run_inverse.invert_run.Goals as goal
+use Rattle.par2_recovery.proofs.front_run.invert_run.Goals as goal
 
 pub first_of-requires : goal.first_of-requires
 first_of-requires c =
