@@ -85,6 +85,13 @@ near_front recs n first last f some front is_first is_last =
     let end = at (n - 1) (omega (arith, some)) in
     omega (arith, is_first, is_last, ends.0, ends.1, start, end)
 
+pub too_short : (recovery : List (ℕ × Bor (List ℕ))) (n f : ℕ) → length recovery < n → BeginsWithRun f n (exponents_of recovery) → ⊥
+too_short recovery n f short front =
+    let most = front_within (exponents_of recovery) f n front in
+    let inner = length-map recovery (λ (r : ℕ × Bor (List ℕ)). (r.0, r.1.now)) in
+    let outer = length-map (recovered_of recovery) (λ (r : ℕ × List ℕ). r.0) in
+    omega (arith, short, most, inner, outer)
+
 pub in_order : (recs : List (ℕ × List ℕ)) (n first last : ℕ) → IsStrictlyIncreasing (map (λ r. r.0) recs) → 0 < n → n ≤ length recs
     → first ≡ (get_or recs 0 (0, [])).0 → last ≡ (get_or recs (n - 1) (0, [])).0 → first ≤ last
 in_order recs n first last rise some within is_first is_last =

@@ -1,6 +1,6 @@
 //! The kept exponents and their inverse: of a run at the front by a polynomial, else by elimination.
 
-ghost use Rattle.std.specs.Prelude.{◌≡◌, ◌<◌, ◌≤◌, ℕ, length, take, slice_index, IfErr, IfOk, IfSome, IsNone, IsOk};
+ghost use Rattle.std.specs.Prelude.{◌≡◌, ◌<◌, ◌≤◌, ℕ, length, take, slice_index, slice_index_or, [], IfErr, IfOk, IfSome, IsNone, IsOk};
 ghost use Rattle.std.specs.List.Sorted.{IsStrictlyIncreasing};
 ghost use Rattle.par2_spec.specs.Rank.{IsRepairable, kept_slices};
 ghost use Rattle.par2_spec.specs.Runs.{AreSlices};
@@ -15,6 +15,13 @@ use crate::run_inverse::run_inverse;
 use par2_gf16::Gf;
 use std::alloc::{AllocError, Global};
 
+fn exponent_at(recovery: &[(u32, &[u8])], i: usize) -> u32
+    requires { i < length recovery.now }
+    ensures { result ≡ (slice_index_or (recovered_of recovery.now) i (0, [])).0 }
+{
+    recovery[i].0
+}
+
 // The first of `count` exponents, where these are the first of the recovery slices and follow one another without a gap:
 // as they rise, the last one is then as near to the first as it can be.
 fn run_at_front(recovery: &[(u32, &[u8])], count: usize) -> Option<u32>
@@ -27,8 +34,8 @@ fn run_at_front(recovery: &[(u32, &[u8])], count: usize) -> Option<u32>
     if count == 0 || recovery.len() < count {
         return None;
     }
-    let first = recovery_at(recovery, 0).0;
-    let last = recovery_at(recovery, count - 1).0;
+    let first = exponent_at(recovery, 0);
+    let last = exponent_at(recovery, count - 1);
     if (last - first) as usize == count - 1 {
         Some(first)
     } else {
@@ -67,7 +74,7 @@ fn invert_run<'a>(
         ≡ kept_slices lost.now (exponents_of recovery.now) (recovered_of recovery.now)) }
     ensures inverse { IfOk result (λ found.
         IsInverse lost.now (exponents_of found.kept.items) (lists_of found.inverse.items)) }
-    ensures enough { IsRepairable lost.now (exponents_of recovery.now) }
+    ensures enough { IsOk result → IsRepairable lost.now (exponents_of recovery.now) }
 {
     let kept = first_of(alloc, recovery, lost.len())?;
     let inverse = run_inverse(alloc, gf, lost, first)?;

@@ -28,5 +28,5 @@ returns-clause-inverse c =
     (sym (exponents_front c.args.recovery.now c.in_ok-kept.kept.items c.args.first (length lost) c.requires.run c.in_ok-kept.ensures)) c.in_ok-inverse.ensures
 
 pub returns-clause-enough : goal.returns-clause-enough
-returns-clause-enough c =
+returns-clause-enough c = λ _.
     run_determines c.args.lost.now (exponents_of c.args.recovery.now) c.args.first c.requires.lost (has_run_front (exponents_of c.args.recovery.now) c.args.first (length c.args.lost.now) c.requires.run)
