@@ -13,6 +13,7 @@ use Rattle.par2_spec.proofs.RunLaws.{first_kept, run_rank, run_determines}
 use Rattle.par2_recovery.specs.RunInverses.{BeginsWithRun}
 use Rattle.par2_recovery.specs.Survivors.{lost_from, recovered_of, exponents_of}
 use Rattle.std.specs.Borrow.{Bor}
+use Rattle.par2_recovery.proofs.Inverting.{length-recovered_of}
 use Rattle.par2_recovery.proofs.Ranks.{is_kept}
 use Rattle.par2_recovery.proofs.Runs.{rises_between}
 use Rattle.par2_recovery.proofs.Standing.{kept_slices_are}
@@ -88,7 +89,7 @@ near_front recs n first last f some front is_first is_last =
 pub too_short : (recovery : List (ℕ × Bor (List ℕ))) (n f : ℕ) → length recovery < n → BeginsWithRun f n (exponents_of recovery) → ⊥
 too_short recovery n f short front =
     let most = front_within (exponents_of recovery) f n front in
-    let inner = length-map recovery (λ (r : ℕ × Bor (List ℕ)). (r.0, r.1.now)) in
+    let inner = length-recovered_of recovery in
     let outer = length-map (recovered_of recovery) (λ (r : ℕ × List ℕ). r.0) in
     omega (arith, short, most, inner, outer)
 
@@ -177,14 +178,14 @@ lost_rise a (None ∷ known) (suc k) h =
 
 -- ---- the recovery slices of the run
 
-pub first_push : (recovery kept : List (ℕ × Bor (List ℕ))) (slice : ℕ × Bor (List ℕ)) (i : ℕ) → i < length recovery → recovered_of kept ≡ take i (recovered_of recovery)
-    → slice.0 ≡ (get_or (recovered_of recovery) i (0, [])).0 → slice.1.now ≡ (get_or (recovered_of recovery) i (0, [])).1 → recovered_of (kept ++ slice ∷ []) ≡ take (i + 1) (recovered_of recovery)
-first_push recovery kept slice i low is exponent bytes =
+pub first_push : (recovery before : List (ℕ × Bor (List ℕ))) (slice : ℕ × Bor (List ℕ)) (i : ℕ) → i < length recovery → recovered_of before ≡ take i (recovered_of recovery)
+    → slice.0 ≡ (get_or (recovered_of recovery) i (0, [])).0 → slice.1.now ≡ (get_or (recovered_of recovery) i (0, [])).1 → recovered_of (before ++ slice ∷ []) ≡ take (i + 1) (recovered_of recovery)
+first_push recovery before slice i low is exponent bytes =
     let recs = recovered_of recovery in
-    map-append (λ (r : ℕ × Bor (List ℕ)). (r.0, r.1.now)) kept (slice ∷ [])
+    map-append (λ (r : ℕ × Bor (List ℕ)). (r.0, r.1.now)) before (slice ∷ [])
     ∙ ap₂ (λ xs x. xs ++ x ∷ []) is (ap₂ (λ a b. (a, b)) exponent bytes)
-    ∙ sym (take_more recs i (0, []) (let long = length-map recovery (λ (r : ℕ × Bor (List ℕ)). (r.0, r.1.now)) in omega (arith, long, low)))
+    ∙ sym (take_more recs i (0, []) (let long = length-recovered_of recovery in omega (arith, long, low)))
 
 -- the exponents of the first ones are the run
-pub exponents_front : (recovery kept : List (ℕ × Bor (List ℕ))) (f n : ℕ) → BeginsWithRun f n (exponents_of recovery) → recovered_of kept ≡ take n (recovered_of recovery) → exponents_of kept ≡ range_with_len f n
-exponents_front recovery kept f n front is = ap (map (λ r. r.0)) is ∙ sym (take-map (λ (r : ℕ × List ℕ). r.0) n (recovered_of recovery)) ∙ front
+pub exponents_front : (recovery first : List (ℕ × Bor (List ℕ))) (f n : ℕ) → BeginsWithRun f n (exponents_of recovery) → recovered_of first ≡ take n (recovered_of recovery) → exponents_of first ≡ range_with_len f n
+exponents_front recovery first f n front is = ap (map (λ r. r.0)) is ∙ sym (take-map (λ (r : ℕ × List ℕ). r.0) n (recovered_of recovery)) ∙ front

@@ -11,7 +11,4 @@ invert_run-requires-clause-lost c = record { rise = c.requires.rise; below = all
 
 pub invert_run-requires-clause-run : goal.invert_run-requires-clause-run
 invert_run-requires-clause-run c =
-    let n = length c.args.lost.now in
-    let count : c.len.result ≡ n = search rules in
-    subst (λ m. BeginsWithRun c.in-Some.first m (exponents_of c.args.recovery.now)) count
-    (MatchOption-at_some _ (λ first. BeginsWithRun first c.len.result (exponents_of c.args.recovery.now)) c.in-Some.first c.in-Some.is c.run_at_front.ensures.run)
+    MatchOption-at_some _ (λ first. BeginsWithRun first (length c.args.lost.now) (exponents_of c.args.recovery.now)) c.in-Some.first c.in-Some.is c.run_at_front.ensures.run

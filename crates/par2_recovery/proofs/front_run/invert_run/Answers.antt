@@ -1,18 +1,18 @@
 use Rattle.std.proofs.Common.{rules, ◌≡◌, ◌≤◌, ◌∙◌, sym, ap, subst, arith, length, List, ℕ, take}
 use Rattle.std.specs.List.{range_with_len}
-use Rattle.std.specs.Borrow.{Bor}
 use Rattle.std.proofs.lemmas.List.{length-map}
 use Rattle.par2_spec.specs.Sums.{lists_of}
 use Rattle.par2_spec.proofs.RunLaws.{run_determines}
 use Rattle.par2_recovery.specs.Inverses.{IsInverse}
 use Rattle.par2_recovery.specs.Survivors.{recovered_of, exponents_of}
 use Rattle.par2_recovery.proofs.Beginnings.{front_within, has_run_front, kept_slices_front, exponents_front}
+use Rattle.par2_recovery.proofs.Inverting.{length-recovered_of}
 use Rattle.par2_recovery.proofs.front_run.invert_run.Goals as goal
 
 pub first_of-requires : goal.first_of-requires
 first_of-requires c =
     let recovery = c.args.recovery.now in
-    let inner = length-map recovery (λ (r : ℕ × Bor (List ℕ)). (r.0, r.1.now)) in
+    let inner = length-recovered_of recovery in
     let outer = length-map (recovered_of recovery) (λ (r : ℕ × List ℕ). r.0) in
     let most = front_within (exponents_of recovery) c.args.first (length c.args.lost.now) c.requires.run in
     omega (arith, inner, outer, most)
