@@ -11,3 +11,6 @@ pub mod Finishing
 pub mod Solving
 pub mod Records
 pub mod KnownSlices
+pub mod Quotients
+pub mod RunInverses
+pub mod Beginnings

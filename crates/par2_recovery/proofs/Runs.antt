@@ -16,7 +16,7 @@ rises_by xs rise i (suc k) h =
     let e : get_or xs (i + suc k) 0 ≡ get_or xs (i + k + 1) 0 = ap (λ n. get_or xs n 0) (let same : i + suc k ≡ i + k + 1 = omega arith in same) in
     omega (arith, before, step, e)
 
-rises_between : (xs : List ℕ) → IsStrictlyIncreasing xs → (i j : ℕ) → i ≤ j → j < length xs → get_or xs i 0 + (j - i) ≤ get_or xs j 0
+pub rises_between : (xs : List ℕ) → IsStrictlyIncreasing xs → (i j : ℕ) → i ≤ j → j < length xs → get_or xs i 0 + (j - i) ≤ get_or xs j 0
 rises_between xs rise i j low h =
     let e : i + (j - i) ≡ j = omega (arith, low) in
     subst (λ n. get_or xs i 0 + (j - i) ≤ get_or xs n 0) e (rises_by xs rise i (j - i) (omega (arith, e, h)))

@@ -5,3 +5,4 @@ pub mod Survivors
 pub mod Inverses
 pub mod Syndromes
 pub mod Rebuilding
+pub mod RunInverses

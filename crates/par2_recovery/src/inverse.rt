@@ -96,7 +96,7 @@ fn eliminate<'a>(
 }
 
 /// The kept exponents and their inverse, where they determine the lost slices.
-pub(crate) fn invert<'a>(
+pub(crate) fn invert_by_elimination<'a>(
     alloc: Global,
     gf: &Gf,
     lost: &[u32],

@@ -4,10 +4,12 @@
 mod elements;
 mod exponents;
 mod file_record;
+mod front_run;
 mod inverse;
 mod products;
 mod rebuild_slices;
 mod recovery;
+mod run_inverse;
 mod set_record;
 mod syndromes;
 

@@ -12,7 +12,8 @@ ghost use Rattle.par2_recovery.specs.Survivors.{known_of, recovered_of, exponent
 ghost use Rattle.par2_recovery.specs.Syndromes.{AreSolved};
 ghost use Rattle.par2_recovery.specs.Rebuilding.{IsKnown, CanRebuild, known_among, AreRebuilt, AreEnough};
 
-use crate::inverse::{Inversion, bytes_of, invert};
+use crate::front_run::invert;
+use crate::inverse::{Inversion, bytes_of};
 use crate::products::{fit_bytes, fit_texts};
 use crate::syndromes::{coefficient_rows, solved};
 use par2_gf16::Gf;

@@ -1,6 +1,7 @@
 use Rattle.std.proofs.Common.{◌≡◌, ◌<◌, ◌≤◌, ◌∙◌, refl, sym, ap, subst, get_or, length, map, rules}
 use Rattle.std.specs.Prelude.{IfErr}
 use Rattle.std.specs.List.{AllByRecursion}
+use Rattle.std.specs.List.Sorted.{IsStrictlyIncreasing}
 use Rattle.par2_spec.specs.Rank.{IsRepairable, kept_slices}
 use Rattle.par2_spec.specs.Search.{lost}
 use Rattle.par2_spec.specs.Sums.{lists_of}
@@ -10,6 +11,7 @@ use Rattle.par2_recovery.specs.Inverses.{IsInverse}
 use Rattle.par2_recovery.specs.Products.{AreBytes}
 use Rattle.par2_recovery.specs.Rebuilding.{known_among}
 use Rattle.par2_recovery.specs.Survivors.{recovered_of, exponents_of, lost_from, IsTrueFault}
+use Rattle.par2_recovery.proofs.Beginnings.{lost_rise}
 use Rattle.par2_recovery.proofs.Finishing.{lost_among, answer}
 use Rattle.par2_recovery.proofs.Rebuilding.{lost-lt, length-lost_from}
 use Rattle.par2_recovery.proofs.rebuild_slices.rebuild.Goals as goal
@@ -25,6 +27,12 @@ invert-requires-clause-lost c = λ i.
     let raw = c.args.survivors.now.known.items in
     let missing : c.deref-2.result.now ≡ lost_from 0 raw = c.deref-2.ensures.value ∙ c.in_ok-lost.ensures ∙ ap (lost_from 0) c.deref.ensures.value in
     subst (λ xs. get_or xs i 0 < 32768) (sym missing) (lost-lt raw c.requires.count i)
+
+pub invert-requires-clause-rise : goal.invert-requires-clause-rise
+invert-requires-clause-rise c =
+    let raw = c.args.survivors.now.known.items in
+    let missing : c.deref-2.result.now ≡ lost_from 0 raw = c.deref-2.ensures.value ∙ c.in_ok-lost.ensures ∙ ap (lost_from 0) c.deref.ensures.value in
+    subst IsStrictlyIncreasing (sym missing) (lost_rise 0 raw)
 
 pub returns-in_err-kept-clause-refused : goal.returns-in_err-kept-clause-refused
 returns-in_err-kept-clause-refused c =

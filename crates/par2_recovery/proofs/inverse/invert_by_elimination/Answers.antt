@@ -5,7 +5,7 @@ use Rattle.par2_spec.proofs.WordLaws.{length-lists_of}
 use Rattle.par2_recovery.specs.Elements.{AreRows}
 use Rattle.par2_recovery.specs.Survivors.{recovered_of}
 use Rattle.par2_recovery.proofs.Inverting.{are_inverse}
-use Rattle.par2_recovery.proofs.inverse.invert.Goals as goal
+use Rattle.par2_recovery.proofs.inverse.invert_by_elimination.Goals as goal
 
 pub returns-in-Ok-clause-inverse : goal.returns-in-Ok-clause-inverse
 returns-in-Ok-clause-inverse c =

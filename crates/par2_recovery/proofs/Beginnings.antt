@@ -1,0 +1,191 @@
+-- Where the first exponents are a run of as many as slices are lost, these are the kept ones.
+use Rattle.std.proofs.Common.{ℕ, zero, suc, ◌+◌, ◌-◌, ◌<◌, ◌≤◌, ◌≡◌, refl, sym, ap, ap₂, ◌∙◌, subst, arith, Bool, true, false, cond, List, [], ◌∷◌, ◌++◌, length, get_or, map, take}
+use Rattle.std.specs.Prelude.{filter, Option, Some, None}
+use Rattle.std.specs.List.{AllByRecursion, Contains, range_with_len}
+use Rattle.std.specs.List.Sorted.{IsStrictlyIncreasing}
+use Rattle.std.proofs.lemmas.List.{length-map, length-take, get_or-map, ext_get_or, get_or-take, get_or_default, length-take-le, take_all, take-map, take_more, map-append}
+use Rattle.std.proofs.lemmas.List.Elements.{Contains-get_or}
+use Rattle.std.proofs.lemmas.List.FromFn.{length-range_with_len, get_or-range_with_len}
+use Rattle.par2_spec.specs.Rank.{kept, rank, kept_slices, IsRepairable}
+use Rattle.par2_spec.specs.Runs.{AreSlices, AreClose, HasRun}
+use Rattle.par2_spec.proofs.ListsLaws.{all_unmap, all-passing, filter-map}
+use Rattle.par2_spec.proofs.RunLaws.{first_kept, run_rank, run_determines}
+use Rattle.par2_recovery.specs.RunInverses.{BeginsWithRun}
+use Rattle.par2_recovery.specs.Survivors.{lost_from, recovered_of, exponents_of}
+use Rattle.std.specs.Borrow.{Bor}
+use Rattle.par2_recovery.proofs.Inverting.{length-recovered_of}
+use Rattle.par2_recovery.proofs.Ranks.{is_kept}
+use Rattle.par2_recovery.proofs.Runs.{rises_between}
+use Rattle.par2_recovery.proofs.Standing.{kept_slices_are}
+
+-- ---- the first exponents
+
+pub begins : (xs : List ℕ) (n : ℕ) → IsStrictlyIncreasing xs → 0 < n → n ≤ length xs → get_or xs (n - 1) 0 - get_or xs 0 0 ≡ n - 1 → BeginsWithRun (get_or xs 0 0) n xs
+begins xs n rise some within near =
+    ext_get_or 0 (take n xs) (range_with_len f n) (length-take-le n xs within ∙ sym (length-range_with_len f n)) (λ k h.
+    let low : k < n = (let long = length-take-le n xs within in omega (arith, h, long)) in
+    let below = rises_between xs rise 0 k (omega arith) (omega (arith, low, within)) in
+    let above = rises_between xs rise k (n - 1) (omega (arith, low)) (omega (arith, some, within)) in
+    let at : get_or xs k 0 ≡ f + k = omega (arith, below, above, near, low) in
+    get_or-take n xs k 0 low ∙ at ∙ sym (get_or-range_with_len f n k 0 low))
+  where
+    f : ℕ
+    f = get_or xs 0 0
+
+exponents_at : (recs : List (ℕ × List ℕ)) (n : ℕ) → 0 < n → n ≤ length recs
+    → (get_or (map (λ r. r.0) recs) 0 0 ≡ (get_or recs 0 (0, [])).0) × (get_or (map (λ r. r.0) recs) (n - 1) 0 ≡ (get_or recs (n - 1) (0, [])).0)
+exponents_at recs n some within = (
+  get_or-map (λ (r : ℕ × List ℕ). r.0) recs 0 (0, []) 0 (omega (arith, some, within)),
+  get_or-map (λ (r : ℕ × List ℕ). r.0) recs (n - 1) (0, []) 0 (omega (arith, some, within)),
+)
+
+-- an exponent of the run
+in_run : (f n e : ℕ) → Contains (range_with_len f n) e → (f ≤ e) × (e < f + n)
+in_run f n e among =
+    let i = among.0 in
+    let low : i < n = (let long = length-range_with_len f n in let h = among.1 in omega (arith, long, h)) in
+    let is : f + i ≡ e = sym (get_or-range_with_len f n i e low) ∙ among.2 in
+    (omega (arith, is), omega (arith, is, low))
+
+close_front : (xs : List ℕ) (f n : ℕ) → BeginsWithRun f n xs → AreClose n (take n xs)
+close_front xs f n front e g first second =
+    let a = in_run f n e (subst (λ ys. Contains ys e) front first) in
+    let b = in_run f n g (subst (λ ys. Contains ys g) front second) in
+    omega (arith, a.0, b.1)
+
+pub front_within : (xs : List ℕ) (f n : ℕ) → BeginsWithRun f n xs → n ≤ length xs
+front_within xs f n front =
+    let long : length (take n xs) ≡ n = ap length front ∙ length-range_with_len f n in
+    let least = length-take n xs in
+    omega (arith, long, least)
+
+pub has_run_front : (xs : List ℕ) (f n : ℕ) → BeginsWithRun f n xs → HasRun f n xs
+has_run_front xs f n front i low =
+    let within : i < length xs = (let most = front_within xs f n front in omega (arith, most, low)) in
+    let at : get_or xs i 0 ≡ f + i = sym (get_or-take n xs i 0 low) ∙ ap (λ ys. get_or ys i 0) front ∙ get_or-range_with_len f n i 0 low in
+    subst (Contains xs) at (Contains-get_or xs i 0 within)
+
+-- the same by the recovery slices at the first place and at the last
+pub begins_at : (recs : List (ℕ × List ℕ)) (n first last : ℕ) → IsStrictlyIncreasing (map (λ r. r.0) recs) → 0 < n → n ≤ length recs
+    → first ≡ (get_or recs 0 (0, [])).0 → last ≡ (get_or recs (n - 1) (0, [])).0 → last - first ≡ n - 1 → BeginsWithRun first n (map (λ r. r.0) recs)
+begins_at recs n first last rise some within is_first is_last near =
+    let ends = exponents_at recs n some within in
+    let start = is_first ∙ sym ends.0 in
+    let near_here : get_or (map (λ r. r.0) recs) (n - 1) 0 - get_or (map (λ r. r.0) recs) 0 0 ≡ n - 1 = ap₂ (λ a b. a - b) (ends.1 ∙ sym is_last) (sym start) ∙ near in
+    subst (λ f. BeginsWithRun f n (map (λ r. r.0) recs)) (sym start)
+    (begins (map (λ r. r.0) recs) n rise some (let long = length-map recs (λ (r : ℕ × List ℕ). r.0) in omega (arith, long, within)) near_here)
+
+pub near_front : (recs : List (ℕ × List ℕ)) (n first last f : ℕ) → 0 < n → BeginsWithRun f n (map (λ r. r.0) recs)
+    → first ≡ (get_or recs 0 (0, [])).0 → last ≡ (get_or recs (n - 1) (0, [])).0 → last - first ≡ n - 1
+near_front recs n first last f some front is_first is_last =
+    let xs = map (λ (r : ℕ × List ℕ). r.0) recs in
+    let within : n ≤ length recs = (let most = front_within xs f n front in let long = length-map recs (λ (r : ℕ × List ℕ). r.0) in omega (arith, most, long)) in
+    let ends = exponents_at recs n some within in
+    let at : (i : ℕ) → i < n → get_or xs i 0 ≡ f + i = λ i low. sym (get_or-take n xs i 0 low) ∙ ap (λ ys. get_or ys i 0) front ∙ get_or-range_with_len f n i 0 low in
+    let start = at 0 some in
+    let end = at (n - 1) (omega (arith, some)) in
+    omega (arith, is_first, is_last, ends.0, ends.1, start, end)
+
+pub too_short : (recovery : List (ℕ × Bor (List ℕ))) (n f : ℕ) → length recovery < n → BeginsWithRun f n (exponents_of recovery) → ⊥
+too_short recovery n f short front =
+    let most = front_within (exponents_of recovery) f n front in
+    let inner = length-recovered_of recovery in
+    let outer = length-map (recovered_of recovery) (λ (r : ℕ × List ℕ). r.0) in
+    omega (arith, short, most, inner, outer)
+
+pub in_order : (recs : List (ℕ × List ℕ)) (n first last : ℕ) → IsStrictlyIncreasing (map (λ r. r.0) recs) → 0 < n → n ≤ length recs
+    → first ≡ (get_or recs 0 (0, [])).0 → last ≡ (get_or recs (n - 1) (0, [])).0 → first ≤ last
+in_order recs n first last rise some within is_first is_last =
+    let ends = exponents_at recs n some within in
+    let order = rises_between (map (λ r. r.0) recs) rise 0 (n - 1) (omega arith) (let long = length-map recs (λ (r : ℕ × List ℕ). r.0) in omega (arith, long, some, within)) in
+    omega (arith, order, is_first, is_last, ends.0, ends.1)
+
+-- ---- the kept exponents
+
+pub kept_front : (ks exponents : List ℕ) (f : ℕ) → AreSlices ks → IsStrictlyIncreasing exponents → BeginsWithRun f (length ks) exponents → kept ks exponents ≡ take (length ks) exponents
+kept_front ks exponents f are rise front =
+    let all : rank ks exponents ≡ length ks = run_rank ks exponents f are rise (has_run_front exponents f (length ks) front) in
+    sym (take_all (length ks) (kept ks exponents) (omega (arith, all)))
+    ∙ first_kept ks exponents (length ks) are rise (close_front exponents f (length ks) front)
+
+-- what a filter leaves, where it leaves n and the first n pass
+filter_first : {A : Type 0} (p : A → Bool) (n : ℕ) (xs : List A) → length (filter p xs) ≡ n → AllByRecursion (λ x. p x ≡ true) (take n xs) → filter p xs ≡ take n xs
+filter_first p zero xs count h = none xs (filter p xs) count
+  where
+    none : {A : Type 0} (xs ys : List A) → length ys ≡ 0 → ys ≡ take 0 xs
+    none [] [] e = refl
+    none (x ∷ xs) [] e = refl
+    none xs (y ∷ ys) e = absurd (omega (arith, e))
+filter_first p (suc n) [] count h = refl
+filter_first p (suc n) (x ∷ xs) count h =
+    let here = ap (λ b. cond b (x ∷ filter p xs) (filter p xs)) h.0 in
+    let more : suc (length (filter p xs)) ≡ suc n = sym (ap length here) ∙ count in
+    here ∙ ap (λ ys. x ∷ ys) (filter_first p n xs (omega (arith, more)) h.1)
+
+passing : (p : ℕ → Bool) (xs : List ℕ) → AllByRecursion (λ x. p x ≡ true) (filter p xs)
+passing p [] = tt
+passing p (x ∷ xs) = step (p x) refl (filter p xs) (passing p xs)
+  where
+    step : (b : Bool) → p x ≡ b → (ys : List ℕ) → AllByRecursion (λ y. p y ≡ true) ys → AllByRecursion (λ y. p y ≡ true) (cond b (x ∷ ys) ys)
+    step true e ys h = (e, h)
+    step false e ys h = h
+
+pub kept_slices_front : (ks : List ℕ) (recs : List (ℕ × List ℕ)) (f : ℕ) → AreSlices ks → IsStrictlyIncreasing (map (λ r. r.0) recs) → BeginsWithRun f (length ks) (map (λ r. r.0) recs)
+    → kept_slices ks (map (λ r. r.0) recs) recs ≡ take (length ks) recs
+kept_slices_front ks recs f are rise front =
+    kept_slices_are ks recs ∙ filter_first p n recs count (all_unmap (λ e. is_kept ks all e ≡ true) (λ (r : ℕ × List ℕ). r.0) (take n recs) passes)
+  where
+    all : List ℕ
+    all = map (λ (r : ℕ × List ℕ). r.0) recs
+
+    n : ℕ
+    n = length ks
+
+    p : ℕ × List ℕ → Bool
+    p r = is_kept ks all r.0
+
+    are_first : kept ks all ≡ take n all
+    are_first = kept_front ks all f are rise front
+
+    count : length (filter p recs) ≡ n
+    count =
+        sym (length-map (filter p recs) (λ (r : ℕ × List ℕ). r.0))
+        ∙ ap length (sym (filter-map (is_kept ks all) (λ (r : ℕ × List ℕ). r.0) recs))
+        ∙ run_rank ks all f are rise (has_run_front all f n front)
+
+    passes : AllByRecursion (λ e. is_kept ks all e ≡ true) (map (λ (r : ℕ × List ℕ). r.0) (take n recs))
+    passes = subst (λ es. AllByRecursion (λ e. is_kept ks all e ≡ true) es) (are_first ∙ take-map (λ (r : ℕ × List ℕ). r.0) n recs) (passing (is_kept ks all) all)
+
+-- ---- the numbers of the lost slices
+
+lost_above : {A : Type 0} (a : ℕ) (known : List (Option A)) (i : ℕ) → i < length (lost_from a known) → a ≤ get_or (lost_from a known) i 0
+lost_above a [] i h = absurd (omega (arith, h))
+lost_above a (Some x ∷ known) i h = let rest = lost_above (a + 1) known i h in omega (arith, rest)
+lost_above a (None ∷ known) zero h = omega arith
+lost_above a (None ∷ known) (suc i) h = let rest = lost_above (a + 1) known i (omega (arith, h)) in omega (arith, rest)
+
+pub lost_rise : {A : Type 0} (a : ℕ) (known : List (Option A)) → IsStrictlyIncreasing (lost_from a known)
+lost_rise a [] k h = absurd (omega (arith, h))
+lost_rise a (Some x ∷ known) k h = lost_rise (a + 1) known k h
+lost_rise a (None ∷ known) zero h =
+    let e : 0 + 1 ≡ suc 0 = omega arith in
+    let rest = lost_above (a + 1) known 0 (omega (arith, h)) in
+    subst (λ n. a < get_or (a ∷ lost_from (a + 1) known) n 0) (sym e) (omega (arith, rest))
+lost_rise a (None ∷ known) (suc k) h =
+    let e : suc k + 1 ≡ suc (k + 1) = omega arith in
+    let more = lost_rise (a + 1) known k (omega (arith, h)) in
+    subst (λ n. get_or (lost_from (a + 1) known) k 0 < get_or (a ∷ lost_from (a + 1) known) n 0) (sym e) more
+
+-- ---- the recovery slices of the run
+
+pub first_push : (recovery before : List (ℕ × Bor (List ℕ))) (slice : ℕ × Bor (List ℕ)) (i : ℕ) → i < length recovery → recovered_of before ≡ take i (recovered_of recovery)
+    → slice.0 ≡ (get_or (recovered_of recovery) i (0, [])).0 → slice.1.now ≡ (get_or (recovered_of recovery) i (0, [])).1 → recovered_of (before ++ slice ∷ []) ≡ take (i + 1) (recovered_of recovery)
+first_push recovery before slice i low is exponent bytes =
+    let recs = recovered_of recovery in
+    map-append (λ (r : ℕ × Bor (List ℕ)). (r.0, r.1.now)) before (slice ∷ [])
+    ∙ ap₂ (λ xs x. xs ++ x ∷ []) is (ap₂ (λ a b. (a, b)) exponent bytes)
+    ∙ sym (take_more recs i (0, []) (let long = length-recovered_of recovery in omega (arith, long, low)))
+
+-- the exponents of the first ones are the run
+pub exponents_front : (recovery first : List (ℕ × Bor (List ℕ))) (f n : ℕ) → BeginsWithRun f n (exponents_of recovery) → recovered_of first ≡ take n (recovered_of recovery) → exponents_of first ≡ range_with_len f n
+exponents_front recovery first f n front is = ap (map (λ r. r.0)) is ∙ sym (take-map (λ (r : ℕ × List ℕ). r.0) n (recovered_of recovery)) ∙ front

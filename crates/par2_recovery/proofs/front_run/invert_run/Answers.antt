@@ -1,0 +1,32 @@
+use Rattle.std.proofs.Common.{rules, ◌≡◌, ◌≤◌, ◌∙◌, sym, ap, subst, arith, length, List, ℕ, take}
+use Rattle.std.specs.List.{range_with_len}
+use Rattle.std.proofs.lemmas.List.{length-map}
+use Rattle.par2_spec.specs.Sums.{lists_of}
+use Rattle.par2_spec.proofs.RunLaws.{run_determines}
+use Rattle.par2_recovery.specs.Inverses.{IsInverse}
+use Rattle.par2_recovery.specs.Survivors.{recovered_of, exponents_of}
+use Rattle.par2_recovery.proofs.Beginnings.{front_within, has_run_front, kept_slices_front, exponents_front}
+use Rattle.par2_recovery.proofs.Inverting.{length-recovered_of}
+use Rattle.par2_recovery.proofs.front_run.invert_run.Goals as goal
+
+pub first_of-requires : goal.first_of-requires
+first_of-requires c =
+    let recovery = c.args.recovery.now in
+    let inner = length-recovered_of recovery in
+    let outer = length-map (recovered_of recovery) (λ (r : ℕ × List ℕ). r.0) in
+    let most = front_within (exponents_of recovery) c.args.first (length c.args.lost.now) c.requires.run in
+    omega (arith, inner, outer, most)
+
+pub returns-clause-kept : goal.returns-clause-kept
+returns-clause-kept c =
+    c.in_ok-kept.ensures ∙ sym (kept_slices_front c.args.lost.now (recovered_of c.args.recovery.now) c.args.first c.requires.lost c.requires.exponents c.requires.run)
+
+pub returns-clause-inverse : goal.returns-clause-inverse
+returns-clause-inverse c =
+    let lost = c.args.lost.now in
+    subst (λ es. IsInverse lost es (lists_of c.in_ok-inverse.inverse.items))
+    (sym (exponents_front c.args.recovery.now c.in_ok-kept.kept.items c.args.first (length lost) c.requires.run c.in_ok-kept.ensures)) c.in_ok-inverse.ensures
+
+pub returns-clause-enough : goal.returns-clause-enough
+returns-clause-enough c = λ _.
+    run_determines c.args.lost.now (exponents_of c.args.recovery.now) c.args.first c.requires.lost (has_run_front (exponents_of c.args.recovery.now) c.args.first (length c.args.lost.now) c.requires.run)

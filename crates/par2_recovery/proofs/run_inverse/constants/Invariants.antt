@@ -1,0 +1,7 @@
+use Rattle.std.proofs.Common.{◌≡◌, map}
+use Rattle.std.specs.Prelude.{take}
+use Rattle.par2_spec.specs.Field.{constant}
+use Rattle.par2_recovery.proofs.run_inverse.constants.Given as goal
+
+abbrev pub invariant-loop-k : goal.invariant-loop-k
+invariant-loop-k l = l.points.items ≡ map constant (take l.k-index l.numbers)

@@ -1,0 +1,6 @@
+use Rattle.par2_spec.specs.Sums.{lists_of}
+use Rattle.par2_recovery.specs.RunInverses.{AreScaledQuotients}
+use Rattle.par2_recovery.proofs.run_inverse.run_inverse.Given as goal
+
+abbrev pub invariant-loop-j : goal.invariant-loop-j
+invariant-loop-j l = AreScaledQuotients l.first l.p.items l.points (lists_of l.rows.items) l.j

@@ -1,0 +1,18 @@
+use Rattle.std.proofs.Common.{rules, ◌≡◌, ◌<◌, ◌+◌, ◌-◌, ◌∙◌, sym, ap, subst, arith, length, drop, get_or, bit_xor}
+use Rattle.std.proofs.lemmas.List.{drop_all}
+use Rattle.par2_spec.specs.Field.{mul}
+use Rattle.par2_spec.specs.Polynomials.{value}
+use Rattle.par2_recovery.proofs.Quotients.{value_from, value_at_end}
+use Rattle.par2_recovery.proofs.run_inverse.value.Goals as goal
+
+pub loop-t-init : goal.loop-t-init
+loop-t-init c = sym (value_at_end c.args.p.now c.args.z (length c.args.p.now) (omega arith))
+
+pub loop-t-preserved : goal.loop-t-preserved
+loop-t-preserved c =
+    let p = c.args.p.now in
+    let t = c.loop-t.t in
+    let low : 0 < t = search rules in
+    let next : t - 1 + 1 ≡ t = omega (arith, low) in
+    ap (bit_xor (get_or p (t - 1) 0)) (c.mul.ensures ∙ ap (mul c.args.z) (c.loop-t.invariant ∙ ap (λ n. value (drop n p) c.args.z) (sym next)))
+    ∙ sym (value_from p c.args.z (t - 1) (let within = c.loop-t.auto.t in omega (arith, low, within)))

@@ -1,0 +1,6 @@
+use Rattle.std.proofs.Common.{◌≡◌, drop}
+use Rattle.par2_spec.specs.Polynomials.{value}
+use Rattle.par2_recovery.proofs.run_inverse.value.Given as goal
+
+abbrev pub invariant-loop-t : goal.invariant-loop-t
+invariant-loop-t l = l.value ≡ value (drop l.t l.p) l.z

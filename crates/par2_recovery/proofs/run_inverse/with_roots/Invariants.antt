@@ -1,0 +1,6 @@
+use Rattle.std.proofs.Common.{◌≡◌, drop}
+use Rattle.par2_spec.specs.Polynomials.{with_roots}
+use Rattle.par2_recovery.proofs.run_inverse.with_roots.Given as goal
+
+abbrev pub invariant-loop-i : goal.invariant-loop-i
+invariant-loop-i l = l.p.items ≡ with_roots (drop l.i l.points)
