@@ -40,6 +40,9 @@ sh bench/profile.sh "$program"
 echo "== memory of whole commands: KiB of the folder's files, of what is written, and the most at once"
 sh bench/peak_memory.sh "$program"
 
+echo "== waiting for the disk: whole commands beside the same without their waits"
+python3 bench/waits.py "$program"
+
 echo "== many files: how the time of whole commands grows"
 sh bench/many_files.sh "$program"
 

@@ -39,6 +39,7 @@ python3 tests/calls_out_of_memory.py
 python3 tests/forged_claims.py
 sh tests/obstacles.sh
 sh tests/stops.sh
+python3 tests/cuts.py
 sh tests/interop.sh
 sh tests/installed.sh
 wait "$rows" || status=$?

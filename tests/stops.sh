@@ -1,7 +1,8 @@
 #!/bin/sh
-# Stops the program at its first call that changes the folder, then at its second, and so on until none is left: it ends
-# by SIGKILL before the call, behind it or in the middle of a write, or the call fails. What undos and redos then lead to
-# is what they lead to from the folder before the run, or from the folder after it, and nothing else is left over.
+# Stops the program at its first call that changes the folder or waits for the disk, then at its second, and so on until
+# none is left: it ends by SIGKILL before the call, behind it or in the middle of a write, or the call fails. What undos
+# and redos then lead to is what they lead to from the folder before the run, or from the folder after it, and nothing
+# else is left over.
 set -eu
 cd "$(dirname "$0")/.."
 par2=$PWD/crates/par2/out/par2
@@ -124,10 +125,13 @@ before purge t.par2
 stop_each "an undo of a purge" undo
 before undo
 stop_each "a redo of a purge" redo
-# A run that finds a stopped command takes it back first: it is stopped too. The fifth call of this redo is its second
-# change, behind those that put the journal.
-run 5 before redo 2> /dev/null
-if [ ! -s "$room/reached" ] || [ -e "$room/here/t.par2" ] || [ ! -e "$room/here/t.vol00001+00002.par2" ]; then
+# A run that finds a stopped command takes it back first: it is stopped too. This redo is stopped behind its first
+# removal.
+for number in $(seq "$most"); do
+    run "$number" before redo 2> /dev/null
+    [ -e "$room/here/t.par2" ] || break
+done
+if [ ! -s "$room/reached" ] || [ ! -e "$room/here/t.vol00001+00002.par2" ]; then
     echo "the redo was not stopped among its changes"
     exit 1
 fi

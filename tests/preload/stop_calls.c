@@ -1,14 +1,14 @@
-// Stops the program at one of its calls that change the folder: the one whose number the variable STOPPED gives, counted
-// from 1. The variable HOW says how: it ends by SIGKILL `before` the call, `behind` it, or in the `middle` of a write; or
-// the call fails by `EIO` or `ENOSPC`. A byte is then written on descriptor 9, so that who started the program sees that
-// there was such a call. For LD_PRELOAD.
+// Stops the program at one of its calls that change the folder or wait for the disk: the one whose number the variable
+// STOPPED gives, counted from 1. The variable HOW says how: it ends by SIGKILL `before` the call, `behind` it, or in the
+// `middle` of a write; or the call fails by `EIO` or `ENOSPC`. A byte is then written on descriptor 9, so that who started
+// the program sees that there was such a call. For LD_PRELOAD.
 typedef unsigned long size;
 extern char *getenv(const char *name);
 extern long atol(const char *text);
 extern long syscall(long number, ...);
 extern int *__errno_location(void);
 
-enum { WRITE = 1, GETPID = 39, KILL = 62, RENAME = 82, UNLINK = 87, OPENAT = 257 };
+enum { WRITE = 1, GETPID = 39, KILL = 62, FSYNC = 74, FDATASYNC = 75, RENAME = 82, UNLINK = 87, OPENAT = 257 };
 enum { AT_FDCWD = -100, ACCESS = 3, SIGKILL = 9, EIO = 5, ENOSPC = 28 };
 
 static long seen = 0;
@@ -32,7 +32,7 @@ static int is(const char *text, const char *word) {
     return *text == *word;
 }
 
-// A call that changes the folder.
+// A call that changes the folder or waits for the disk.
 static long change(long number, long first, long second, long third, long fourth) {
     const char *how = getenv("HOW");
     if (how == 0 || !is_stopped()) {
@@ -70,6 +70,10 @@ long write(int file, const void *bytes, size count) {
     }
     return change(WRITE, file, (long)bytes, count, 0);
 }
+
+int fsync(int file) { return change(FSYNC, file, 0, 0, 0); }
+
+int fdatasync(int file) { return change(FDATASYNC, file, 0, 0, 0); }
 
 int rename(const char *from, const char *to) { return change(RENAME, (long)from, (long)to, 0, 0); }
 
