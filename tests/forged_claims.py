@@ -1,10 +1,13 @@
 #!/usr/bin/env python3
 """Runs the program on forged journals and sets that claim more than they hold, with true digests, journals with false
 ones too, while each growth of memory beyond a bound is refused: what is claimed is never asked for before it is found.
-Then an undo and a redo, which may ask for twice the longest journal at once.
+Then creates, verifies, repairs, purges, undos and redos over folders of several kinds, whose growths are told: each is
+bounded by the bytes of the folder that the run finds and those that it writes, and so is what all of them come to.
 """
 import os
+import random
 import shutil
+import struct
 import subprocess
 import sys
 import tempfile
@@ -15,7 +18,13 @@ ROOT = os.path.join(os.path.dirname(os.path.realpath(__file__)), "..")
 PROGRAM = os.path.join(ROOT, "crates/par2/out/par2")
 # What a run over small files asks for at once, and some more.
 SMALL = 1 << 19
-NO_BOUND = 1 << 40
+# What each run may ask for at once and in all, whatever it finds; then how often the bytes that it finds and writes.
+# What all of a create's growths come to has the buffers of each slice, which are given up with it.
+AT_ONCE, IN_ALL = 1 << 18, 1 << 20
+TIMES_AT_ONCE = 2
+TIMES_IN_ALL = {"create": 10, "verify": 6, "repair": 7, "purge": 6, "undo": 4, "redo": 4}
+# The descriptor on which the allocator tells growths.
+TOLD = 9
 CLAIMS = [1 << 20, 1 << 30, 1 << 40, (1 << 63) - 1, (1 << 64) - 1]
 
 
@@ -103,19 +112,82 @@ def wrong(room):
     return found + wrong_growths(room)
 
 
-def wrong_growths(room):
-    """Returns which of an undo and a redo asks for more at once than twice the longest journal."""
-    here, found, lengths = fresh(room), [], []
-    put(here, {"a": bytes(1 << 20)})
-    steps = [["create", "-s16384", "-c100", "t.par2", "a"], ["undo"], ["redo"]]
-    for words in steps:
-        run(room, NO_BOUND, *words)
-        lengths.append(os.path.getsize(os.path.join(here, JOURNAL)))
-    for words in (["undo"], ["redo"]):
-        said, ended = run(room, 2 * max(lengths) + SMALL, *words)
-        if ended:
-            found.append(f"{words[0]}, with journals of {max(lengths)} bytes: {said}{ended}")
+def held(here):
+    """Returns the bytes of each file in the folder by its name, the journal among them."""
+    files = {}
+    for name in os.listdir(here):
+        with open(os.path.join(here, name), "rb") as file:
+            files[name] = file.read()
+    return files
+
+
+def total(files):
+    return sum(len(data) for data in files.values())
+
+
+def growths(room, words):
+    """Returns how many bytes each growth of a run asks for, and its status."""
+    shim = {"LD_PRELOAD": os.path.join(room, "refuse.so"), "SIZES": "1"}
+    with tempfile.TemporaryFile(dir=room) as told:
+        os.dup2(told.fileno(), TOLD)
+        ran = subprocess.run(
+            [PROGRAM, *words],
+            cwd=os.path.join(room, "here"),
+            env={**os.environ, **shim},
+            capture_output=True,
+            pass_fds=[TOLD],
+        )
+        told.seek(0)
+        return [size for size, in struct.iter_unpack("<Q", told.read())], ran.returncode
+
+
+def wrong_growths_of(room, name, wanted, words):
+    """Returns whether a run asks for more than what it finds and writes explains, or doesn't end as it should."""
+    here = os.path.join(room, "here")
+    before = held(here)
+    sizes, status = growths(room, words)
+    after = held(here)
+    count = total(before) + total({name: data for name, data in after.items() if before.get(name) != data})
+    found = []
+    if status != wanted or not sizes:
+        found.append(f"{name}, {words[0]}: status {status}, {len(sizes)} growths")
+    elif max(sizes) > AT_ONCE + TIMES_AT_ONCE * count:
+        found.append(f"{name}, {words[0]}: {max(sizes)} bytes at once, where {count} are found and written")
+    elif sum(sizes) > IN_ALL + TIMES_IN_ALL[words[0]] * count:
+        found.append(f"{name}, {words[0]}: {sum(sizes)} bytes in all, where {count} are found and written")
     return found
+
+
+def scene(room, name, files, options):
+    """Returns which runs over these files ask for too much. The first file is damaged before they are repaired."""
+    here = fresh(room)
+    put(here, files)
+    first, data = next(iter(files.items()))
+    steps = [(0, ["create", *options, "t.par2", *files]), (0, ["verify", "t.par2"]), (0, ["undo"]), (0, ["redo"])]
+    found = [line for wanted, words in steps for line in wrong_growths_of(room, name, wanted, words)]
+    put(here, {first: data[:1] + bytes([data[1] ^ 255]) + data[2:]})
+    os.remove(os.path.join(here, ".par2undo"))
+    steps = [(1, ["verify", "t.par2"])]
+    for command in ("repair", "purge"):
+        steps += [(0, [command, "t.par2"]), (0, ["undo"]), (0, ["redo"])]
+    return found + [line for wanted, words in steps for line in wrong_growths_of(room, name, wanted, words)]
+
+
+def bytes_of(seed, count):
+    return random.Random(seed).randbytes(count)
+
+
+def wrong_growths(room):
+    """Returns which runs ask for more than what they find and write explains."""
+    small = {"a": b"abcdefgh", "b": b"ijkl"}
+    large = {"a": bytes_of(1, 1 << 20), "b": bytes_of(2, 1 << 18)}
+    many = {f"f{number}": b"%d" % (10 + number) for number in range(2000)}
+    return (
+        scene(room, "small files", small, ["-s4", "-c2"])
+        + scene(room, "files of 1 MiB and less", large, ["-s16384", "-c20"])
+        + scene(room, "many files", many, ["-s4", "-c20"])
+        + scene(room, "many slices", {"a": bytes_of(3, 1 << 17)}, ["-s4", "-c20"])
+    )
 
 
 def main():
@@ -129,6 +201,7 @@ def main():
         print(line)
     if not found:
         print(f"claims: {2 * 2 * 5 * len(CLAIMS)} runs on journals, {len(SETS)} on sets, none asks for what is only claimed")
+        print("claims: 44 runs over four folders, none asks for more than what it finds and writes explains")
     return 1 if found else 0
 
 
