@@ -309,3 +309,54 @@ fn many_words(rt: HostRuntime) {
     let bytes = many_bytes(&rt);
     assert!(rt; are_many(&recovery_of_a(&rt, &bytes, SIZE as u64, 1, 2), &bytes));
 }
+
+// The recovery slices with the exponents 1 and 2.
+fn first_two<'a>(
+    rt: &(impl Abort + AllocGlobal),
+    slices: &'a [Vec<u8>],
+) -> Vec<(u32, &'a [u8])> {
+    let mut recovery = Vec::new(rt.alloc());
+    for (exponent, slice) in (1..3u32).zip(slices.iter()) {
+        recovery
+            .push((exponent, slice.as_slice()))
+            .expect(rt, "memory");
+    }
+    recovery
+}
+
+// The slices of the bytes, but for these two.
+fn known_but<'a>(
+    rt: &(impl Abort + AllocGlobal),
+    bytes: &'a [u8],
+    lost: [usize; 2],
+) -> Vec<Option<&'a [u8]>> {
+    let mut known = Vec::new(rt.alloc());
+    for (k, slice) in bytes.chunks(SIZE).enumerate() {
+        known
+            .push((!lost.contains(&k)).then_some(slice))
+            .expect(rt, "memory");
+    }
+    known
+}
+
+// The bytes of the two slices, as they are rebuilt.
+fn many_rebuilt(rt: &(impl Abort + AllocGlobal), bytes: &[u8], lost: [usize; 2]) -> Vec<u8> {
+    let slices = recovery_of_a(rt, bytes, SIZE as u64, 1, 2);
+    let survivors = Survivors {
+        slice_size: SIZE,
+        known: known_but(rt, bytes, lost),
+        recovery: first_two(rt, &slices),
+    };
+    let answer = rebuilt(rt.alloc(), &field(rt), &survivors).expect(rt, "fitting survivors");
+    let texts = answer.expect(rt, "two lost slices");
+    texts.concat(rt.alloc()).expect(rt, "memory")
+}
+
+// Each of them beside the others, the short one too: what is lost has its padding.
+#[test]
+fn many_words_come_back(rt: HostRuntime) {
+    let bytes = many_bytes(&rt);
+    assert!(rt; many_rebuilt(&rt, &bytes, [0, 1]).as_slice() == &bytes[..2 * SIZE]);
+    let last_two = many_rebuilt(&rt, &bytes, [1, 2]);
+    assert!(rt; last_two.as_slice() == [&bytes[SIZE..], &[0u8; 5]].concat(rt.alloc()).expect(&rt, "memory").as_slice());
+}
