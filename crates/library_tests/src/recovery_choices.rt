@@ -311,10 +311,7 @@ fn many_words(rt: HostRuntime) {
 }
 
 // The recovery slices with the exponents 1 and 2.
-fn first_two<'a>(
-    rt: &(impl Abort + AllocGlobal),
-    slices: &'a [Vec<u8>],
-) -> Vec<(u32, &'a [u8])> {
+fn first_two<'a>(rt: &(impl Abort + AllocGlobal), slices: &'a [Vec<u8>]) -> Vec<(u32, &'a [u8])> {
     let mut recovery = Vec::new(rt.alloc());
     for (exponent, slice) in (1..3u32).zip(slices.iter()) {
         recovery
@@ -358,5 +355,11 @@ fn many_words_come_back(rt: HostRuntime) {
     let bytes = many_bytes(&rt);
     assert!(rt; many_rebuilt(&rt, &bytes, [0, 1]).as_slice() == &bytes[..2 * SIZE]);
     let last_two = many_rebuilt(&rt, &bytes, [1, 2]);
-    assert!(rt; last_two.as_slice() == [&bytes[SIZE..], &[0u8; 5]].concat(rt.alloc()).expect(&rt, "memory").as_slice());
+    assert!(rt;
+        last_two.as_slice()
+            == [&bytes[SIZE..], &[0u8; 5]]
+                .concat(rt.alloc())
+                .expect(&rt, "memory")
+                .as_slice()
+    );
 }
