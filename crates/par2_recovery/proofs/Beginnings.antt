@@ -3,13 +3,13 @@ use Rattle.std.proofs.Common.{ℕ, zero, suc, ◌+◌, ◌-◌, ◌<◌, ◌≤�
 use Rattle.std.specs.Prelude.{filter, Option, Some, None}
 use Rattle.std.specs.List.{AllByRecursion, Contains, range_with_len}
 use Rattle.std.specs.List.Sorted.{IsStrictlyIncreasing}
-use Rattle.std.proofs.lemmas.List.{length-map, length-take, get_or-map, ext_get_or, get_or-take, get_or_default, length-take-le, take_all, take-map, take_more, map-append}
+use Rattle.std.proofs.lemmas.List.{length-map, length-take, get_or-map, ext_get_or, get_or-take, length-take-le, take_all, take-map, take_more, map-append}
 use Rattle.std.proofs.lemmas.List.Elements.{Contains-get_or}
 use Rattle.std.proofs.lemmas.List.FromFn.{length-range_with_len, get_or-range_with_len}
-use Rattle.par2_spec.specs.Rank.{kept, rank, kept_slices, IsRepairable}
+use Rattle.par2_spec.specs.Rank.{kept, rank, kept_slices}
 use Rattle.par2_spec.specs.Runs.{AreSlices, AreClose, HasRun}
-use Rattle.par2_spec.proofs.ListsLaws.{all_unmap, all-passing, filter-map}
-use Rattle.par2_spec.proofs.RunLaws.{first_kept, run_rank, run_determines}
+use Rattle.par2_spec.proofs.ListsLaws.{all_unmap, filter-map}
+use Rattle.par2_spec.proofs.RunLaws.{first_kept, run_rank}
 use Rattle.par2_recovery.specs.RunInverses.{BeginsWithRun}
 use Rattle.par2_recovery.specs.Survivors.{lost_from, recovered_of, exponents_of}
 use Rattle.std.specs.Borrow.{Bor}

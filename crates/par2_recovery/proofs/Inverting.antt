@@ -24,7 +24,7 @@ use Rattle.par2_spec.proofs.WordLaws.{bytes_at, combination_words, word-lt}
 use Rattle.par2_matrix.specs.Systems as systems
 use Rattle.par2_matrix.specs.Systems.{Equations, OnlyZeroIsKilled, IsTheSolution}
 use Rattle.par2_recovery.specs.Elements.{AreRows, IsUnit}
-use Rattle.par2_recovery.specs.Inverses.{recovery_at, GivesUnit, IsEliminated, IsInverse, identity}
+use Rattle.par2_recovery.specs.Inverses.{recovery_at, IsEliminated, IsInverse, identity}
 use Rattle.par2_recovery.specs.Products.{Adds, products}
 use Rattle.par2_recovery.specs.Survivors.{recovered_of}
 use Rattle.par2_recovery.specs.Views.{AreBlank}

@@ -1,5 +1,5 @@
 -- Coefficients of products and quotients, one after the other.
-use Rattle.std.proofs.Common.{ℕ, zero, suc, ◌+◌, ◌-◌, ◌<◌, ◌≤◌, ◌≡◌, set, refl, sym, ap, ap₂, ◌∙◌, subst, arith, List, [], ◌∷◌, ◌++◌, length, length-append, length-set, get_or, drop, bit_xor, inl, inr}
+use Rattle.std.proofs.Common.{ℕ, zero, suc, ◌+◌, ◌-◌, ◌<◌, ◌≤◌, ◌≡◌, set, refl, sym, ap, ap₂, ◌∙◌, arith, List, [], ◌∷◌, ◌++◌, length, length-append, get_or, drop, bit_xor, inl, inr}
 use Rattle.std.specs.Int.Bits.{xor_zero_l, xor_zero_r}
 use Rattle.std.proofs.lemmas.Bool.{cases_lt, cases_eq}
 use Rattle.std.proofs.lemmas.List.{ext_get_or, drop_more, get_or_append_left, get_or_at, get_or-set_same, get_or-set_other}

@@ -1,5 +1,5 @@
 -- What a list of all slices says of the lost ones among them.
-use Rattle.std.proofs.Common.{ℕ, zero, suc, ◌+◌, ◌*◌, ◌%◌, ◌<◌, ◌≤◌, ◌≡◌, ◌↔◌, refl, sym, ap, ap₂, ◌∙◌, subst, arith, List, [], ◌∷◌, length, get_or, map, bit_xor}
+use Rattle.std.proofs.Common.{ℕ, zero, suc, ◌+◌, ◌*◌, ◌%◌, ◌<◌, ◌≤◌, ◌≡◌, ◌↔◌, refl, sym, ap, ◌∙◌, arith, List, [], ◌∷◌, length, get_or, map, bit_xor}
 use Rattle.std.specs.Prelude.{Option, Some, None, option_map, is_none, filter}
 use Rattle.std.specs.List.{range_with_len, enumerate_from, AllByRecursion, AllZip}
 use Rattle.std.specs.Option.{ForSome}

@@ -1,5 +1,5 @@
 -- The scaled quotients by the constants of the lost slices are the inverse of the equations of a run.
-use Rattle.std.proofs.Common.{ℕ, zero, suc, ◌+◌, ◌-◌, ◌*◌, ◌^◌, ◌<◌, ◌≤◌, ◌≡◌, ◌≢◌, refl, sym, ap, ap₂, ◌∙◌, subst, arith, List, [], ◌∷◌, ◌++◌, length, length-append, get_or, Vec, Global, map, bit_xor, cond, inl, inr}
+use Rattle.std.proofs.Common.{ℕ, zero, suc, ◌+◌, ◌^◌, ◌<◌, ◌≡◌, ◌≢◌, sym, ap, ap₂, ◌∙◌, subst, arith, List, [], ◌∷◌, ◌++◌, length, length-append, get_or, Vec, Global, map, bit_xor, cond, inl, inr}
 use Rattle.std.proofs.lemmas.Bool.{cases_lt, cases_eq, eq-eqb, ne_eqb}
 use Rattle.std.proofs.lemmas.List.FromFn.{length-range_with_len, get_or-range_with_len}
 use Rattle.std.proofs.lemmas.Bool.Decides.{Decides-eqb}
@@ -10,7 +10,6 @@ use Rattle.std.proofs.lemmas.List.Kept.{AllPairs-from_increasing}
 use Rattle.std.proofs.lemmas.Map.Made.{IsDistinct-from_AllPairs}
 use Rattle.std.specs.List.{Contains, range_with_len}
 use Rattle.par2_spec.specs.Field.{mul, pow, constant, coefficient}
-use Rattle.par2_spec.specs.Rank.{IsVector}
 use Rattle.par2_spec.specs.Runs.{AreSlices}
 use Rattle.par2_spec.specs.Sums.{field_sum, list_at, lists_of}
 use Rattle.par2_spec.specs.Polynomials.{value, times, with_roots, quotient, AreElements, ArePoints}
@@ -21,7 +20,7 @@ use Rattle.par2_spec.proofs.ListsLaws.{all_get, all-each}
 use Rattle.par2_spec.proofs.PolynomialLaws.{value-lt, value_times, with_roots_elements, length-with_roots, quotient_elements, length-quotient, times_elements, quotient_others, quotient_itself}
 use Rattle.par2_spec.proofs.SumLaws.{field_sum_same, field_sum_head}
 use Rattle.par2_spec.proofs.WordLaws.{length-lists_of}
-use Rattle.par2_recovery.specs.Inverses.{identity, IsInverse}
+use Rattle.par2_recovery.specs.Inverses.{IsInverse}
 use Rattle.par2_recovery.specs.RunInverses.{IsScaledQuotient, AreScaledQuotients}
 
 -- ---- the sum over a run is a value

@@ -1,13 +1,13 @@
 -- The lost slices by their syndromes, one block of columns behind the other.
-use Rattle.std.proofs.Common.{inl, inr, ℕ, ◌+◌, ◌-◌, ◌*◌, ◌/◌, ◌%◌, ◌<◌, ◌≤◌, ◌≡◌, refl, sym, ap, ap₂, ◌∙◌, subst, arith, List, [], ◌∷◌, ◌++◌, length, length-append, get_or, map, bit_xor}
-use Rattle.std.specs.Prelude.{take, drop}
+use Rattle.std.proofs.Common.{inl, inr, ℕ, ◌+◌, ◌-◌, ◌*◌, ◌/◌, ◌%◌, ◌<◌, ◌≤◌, ◌≡◌, refl, sym, ap, ap₂, ◌∙◌, subst, arith, List, [], ◌++◌, length, length-append, get_or, map, bit_xor}
+use Rattle.std.specs.Prelude.{drop}
 use Rattle.std.proofs.lemmas.Bool.{cases_eq, cases_lt}
 use Rattle.std.proofs.lemmas.List.{get_or-take, get_or-drop, get_or-map, get_or_append_left, get_or-append_right, length-map, length-replicate, length-take-le, length-drop}
 use Rattle.par2_spec.specs.Field.{mul}
 use Rattle.par2_spec.specs.Slices.{word}
 use Rattle.par2_spec.specs.Sums.{field_sum, list_at, OneChanged}
 use Rattle.par2_spec.proofs.SumLaws.{field_sum_same}
-use Rattle.par2_recovery.specs.Products.{AreBytes, Adds}
+use Rattle.par2_recovery.specs.Products.{Adds}
 use Rattle.par2_recovery.specs.Syndromes.{window, syndrome, AreSyndromes, AreSolved, AreExtended}
 use Rattle.par2_recovery.specs.Views.{AreBlank}
 use Rattle.par2_recovery.proofs.Combinations.{blank_bytes}

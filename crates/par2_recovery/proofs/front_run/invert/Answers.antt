@@ -1,6 +1,5 @@
-use Rattle.std.proofs.Common.{rules, ◌≡◌, ◌<◌, ◌∙◌, sym, ap, subst, length, ℕ}
+use Rattle.std.proofs.Common.{◌<◌, length}
 use Rattle.std.proofs.lemmas.Option.{MatchOption-at_some}
-use Rattle.par2_spec.specs.Runs.{AreSlices}
 use Rattle.par2_spec.proofs.ListsLaws.{all_from}
 use Rattle.par2_recovery.specs.RunInverses.{BeginsWithRun}
 use Rattle.par2_recovery.specs.Survivors.{exponents_of}

@@ -1,5 +1,4 @@
-use Rattle.std.proofs.Common.{rules, ◌≡◌, ◌≤◌, ◌∙◌, sym, ap, subst, arith, length, List, ℕ, take}
-use Rattle.std.specs.List.{range_with_len}
+use Rattle.std.proofs.Common.{◌∙◌, sym, subst, arith, length, List, ℕ}
 use Rattle.std.proofs.lemmas.List.{length-map}
 use Rattle.par2_spec.specs.Sums.{lists_of}
 use Rattle.par2_spec.proofs.RunLaws.{run_determines}

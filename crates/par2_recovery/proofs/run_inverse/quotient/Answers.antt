@@ -1,4 +1,4 @@
-use Rattle.std.proofs.Common.{rules, ◌≡◌, ◌<◌, ◌≤◌, ◌+◌, ◌-◌, ◌∙◌, sym, ap, arith, length, drop, get_or, bit_xor, ℕ}
+use Rattle.std.proofs.Common.{rules, ◌≡◌, ◌<◌, ◌≤◌, ◌+◌, ◌-◌, ◌∙◌, sym, ap, arith, length, drop, get_or, bit_xor}
 use Rattle.std.proofs.lemmas.List.{length-set}
 use Rattle.par2_spec.specs.Field.{mul}
 use Rattle.par2_spec.specs.Polynomials.{value}

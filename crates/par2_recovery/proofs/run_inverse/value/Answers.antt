@@ -1,5 +1,4 @@
-use Rattle.std.proofs.Common.{rules, ◌≡◌, ◌<◌, ◌+◌, ◌-◌, ◌∙◌, sym, ap, subst, arith, length, drop, get_or, bit_xor}
-use Rattle.std.proofs.lemmas.List.{drop_all}
+use Rattle.std.proofs.Common.{rules, ◌≡◌, ◌<◌, ◌+◌, ◌-◌, ◌∙◌, sym, ap, arith, length, drop, get_or, bit_xor}
 use Rattle.par2_spec.specs.Field.{mul}
 use Rattle.par2_spec.specs.Polynomials.{value}
 use Rattle.par2_recovery.proofs.Quotients.{value_from, value_at_end}
