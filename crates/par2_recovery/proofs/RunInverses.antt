@@ -64,12 +64,6 @@ rising_differ : (ks : List ℕ) → AreSlices ks → (i j : ℕ) → i < j → j
 rising_differ ks are i j h low =
     constant-injective (get_or ks i 0) (get_or ks j 0) (AllPairs-from_increasing ks are.rise i j 0 h low) (all_get (λ k. k < 32768) ks j 0 low are.below)
 
-pub differ : (ks : List ℕ) → AreSlices ks → (i j : ℕ) → i < length ks → j < length ks → i ≢ j → constant (get_or ks i 0) ≢ constant (get_or ks j 0)
-differ ks are i j hi hj other same = elim (cases_lt i j) [
-  | inl low ↦ rising_differ ks are i j low hj same
-  | inr high ↦ rising_differ ks are j i (omega (arith, high, other)) hi (sym same)
-]
-
 pub are_points : (ks : List ℕ) → AreSlices ks → ArePoints (map constant ks)
 are_points ks are = record {
   elements = constants-lt ks;
@@ -193,5 +187,8 @@ is_inverse ks f rows are rows_are = record {
         let factor = (row j hj).factor in
         ap (λ p. value p (point i)) (row j hj).is_multiple
         ∙ value_times factor q (point i) (row j hj).small (quotient_elements (point j) (with_roots points) (constant-lt (get_or ks j 0)) (with_roots_elements points (constants-lt ks))) (constant-lt (get_or ks i 0))
-        ∙ ap (mul factor) (quotient_others points (point j) (point i) (constants-lt ks) (among_constants ks j hj) (among_constants ks i hi) (differ ks are i j hi hj other))
+        ∙ ap (mul factor) (quotient_others points (point j) (point i) (constants-lt ks) (among_constants ks j hj) (among_constants ks i hi) (λ same. elim (cases_lt i j) [
+          | inl low ↦ rising_differ ks are i j low hj same
+          | inr high ↦ rising_differ ks are j i (omega (arith, high, other)) hi (sym same)
+        ]))
         ∙ product-zero factor
