@@ -1,36 +1,73 @@
 //! `par2` in the current directory.
 #![tactic(auto)]
 
+ghost use Rattle.std.specs.Prelude.{◌≡◌, ◌⊎◌, drop, [], IfErr, IfOk, IsErrOf, IsOk};
+ghost use Rattle.std.specs.IoError.{error_kind};
+ghost use Rattle.std.specs.Vec.Iter.{into_iter_items};
+ghost use Rattle.par2_spec.specs.Texts.{error_of, status_of_failure};
+ghost use Rattle.par2_tool.specs.Telling.{IsPrinted};
+
 use par2_folder::DiskStore;
 use par2_headline::run;
 use par2_printing::{Printer, write_failure};
 use par2_spec::{Failure, Fault};
-use std::alloc::AllocError;
-use std::env;
+use std::alloc::{AllocError, Global};
+use std::env::Args;
 use std::io::{ErrorKind, Write};
 use std::process::ExitCode;
+use std::{env, io};
 
-// The words after the program's name, or why there are none.
-fn words_of<R: env::Env + AllocGlobal>(rt: &R) -> Result<Vec<String>, Failure> {
-    let mut args = match env::args(rt) {
-        Ok(args) => args,
-        Err(error) if error.kind() == ErrorKind::OutOfMemory => {
-            return Err(Failure::Refused(Fault::Memory));
-        }
-        Err(_) => return Err(Failure::Arguments),
-    };
+// The arguments after the program's name.
+fn after_name(mut args: Args) -> Args
+    ensures { into_iter_items result ≡ drop 1 (into_iter_items args) }
+{
     let _name = args.next();
-    match args.collect(rt.alloc()) {
-        Ok(words) => Ok(words),
-        Err(AllocError) => Err(Failure::Refused(Fault::Memory)),
+    args
+}
+
+// The arguments as a list.
+fn words_in(args: Args, alloc: Global) -> Result<Vec<String>, AllocError>
+    ensures { IfOk result (λ words. words.items ≡ into_iter_items args) }
+{
+    args.collect(alloc)
+}
+
+// The words after the program's name, or why there are none: memory is wanting, or a word isn't UTF-8.
+fn words_of(given: io::Result<Args>, alloc: Global) -> Result<Vec<String>, Failure>
+    ensures words { IfOk given (λ args. IfOk result (λ words.
+        words.items ≡ drop 1 (into_iter_items args))) }
+    ensures whole { IsOk given → IfErr result (λ failure. failure ≡ Failure.Refused Fault.Memory) }
+    ensures memory { IfErr given (λ error. error_kind error ≡ ErrorKind.OutOfMemory
+        → IsErrOf result (Failure.Refused Fault.Memory)) }
+    ensures arguments { IfErr given (λ error. (error_kind error ≡ ErrorKind.OutOfMemory → ⊥)
+        → IsErrOf result Failure.Arguments) }
+    ensures causes { IfErr result (λ failure. (failure ≡ Failure.Arguments)
+        ⊎ (failure ≡ Failure.Refused Fault.Memory)) }
+{
+    match given {
+        Ok(args) => match words_in(after_name(args), alloc) {
+            Ok(words) => Ok(words),
+            Err(AllocError) => Err(Failure::Refused(Fault::Memory)),
+        },
+        Err(error) if error.kind() == ErrorKind::OutOfMemory => {
+            Err(Failure::Refused(Fault::Memory))
+        }
+        Err(_) => Err(Failure::Arguments),
     }
 }
 
 // Prints why there are no words, and gives the status.
-fn fail<E: Write>(err: &mut Printer<E>, failure: Failure) -> u8 {
+#[tactic(auto, unfolding(par2_spec::specs::Texts::status_of_failure, par2_spec::specs::Texts::status_of_fault))]
+fn fail<E: Write>(err: &mut Printer<E>, failure: Failure) -> u8
+    requires { (failure ≡ Failure.Arguments) ⊎ (failure ≡ Failure.Refused Fault.Memory) }
+    ensures { IsPrinted E.contents err.old err.new (error_of [] failure)
+        (status_of_failure failure) result }
+{
     match write_failure(err, None, failure) {
-        Ok(()) if failure == Failure::Arguments => 3,
-        Ok(()) => 8,
+        Ok(()) => match failure {
+            Failure::Arguments => 3,
+            _ => 8,
+        },
         Err(_) => 6,
     }
 }
@@ -39,7 +76,7 @@ fn main(rt: HostRuntime) -> ExitCode {
     let mut out = Printer::new(rt.stdout());
     let mut err = Printer::new(rt.stderr());
     let mut store = DiskStore::new(&rt);
-    let status = match words_of(&rt) {
+    let status = match words_of(env::args(&rt), rt.alloc()) {
         Ok(words) => run(rt.alloc(), words.as_slice(), &mut store, &mut out, &mut err),
         Err(failure) => fail(&mut err, failure),
     };
