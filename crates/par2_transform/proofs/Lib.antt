@@ -1,7 +1,11 @@
 mod Sums
 mod Subspaces
 mod PowerSums
-mod Levels
+mod LevelLaws
 mod Chirps
 mod SparedSums
 mod Transforms
+mod TextLaws
+mod StepLaws
+mod Divisions
+mod GridLaws

@@ -17,6 +17,21 @@ field_sum_join m (suc n) f =
     ∙ ap (λ s. bit_xor s (f (m + n))) (field_sum_join m n f)
     ∙ xor_assoc (field_sum m f) (field_sum n (λ i. f (m + i))) (f (m + n))
 
+pub field_sum_next : (n : ℕ) (f : ℕ → ℕ) → field_sum (n + 1) f ≡ bit_xor (field_sum n f) (f n)
+unfolding field_sum
+field_sum_next n f = ap (λ k. field_sum k f) (let e : n + 1 ≡ suc n = omega arith in e)
+
+-- the sum with one more bit before a value
+pub field_sum_bit_set : (n x : ℕ) (f : ℕ → ℕ) → bit_at x n ≡ 1 → field_sum (n + 1) (λ j. bit_at x j * f j) ≡ bit_xor (field_sum n (λ j. bit_at x j * f j)) (f n)
+field_sum_bit_set n x f set =
+    field_sum_next n (λ j. bit_at x j * f j) ∙ ap (λ b. bit_xor (field_sum n (λ j. bit_at x j * f j)) (b * f n)) set ∙ ap (bit_xor (field_sum n (λ j. bit_at x j * f j))) (one-mul (f n))
+
+pub field_sum_bit_unset : (n x : ℕ) (f : ℕ → ℕ) → (bit_at x n ≡ 1 → ⊥) → field_sum (n + 1) (λ j. bit_at x j * f j) ≡ field_sum n (λ j. bit_at x j * f j)
+field_sum_bit_unset n x f unset =
+    let none : bit_at x n ≡ 0 = elim (bit_cases x n) [ inl e ↦ e | inr e ↦ absurd (unset e) ] in
+    field_sum_next n (λ j. bit_at x j * f j) ∙ ap (λ b. bit_xor (field_sum n (λ j. bit_at x j * f j)) (b * f n)) none
+    ∙ ap (bit_xor (field_sum n (λ j. bit_at x j * f j))) (zero-mul (f n)) ∙ xor_zero_r (field_sum n (λ j. bit_at x j * f j))
+
 -- sums of sums, in the other order
 pub field_sum_swap : (m n : ℕ) (f : ℕ → ℕ → ℕ) → field_sum m (λ i. field_sum n (f i)) ≡ field_sum n (λ j. field_sum m (λ i. f i j))
 unfolding field_sum

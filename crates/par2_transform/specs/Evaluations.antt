@@ -2,11 +2,15 @@
 use Rattle.std.specs.Prelude.{ℕ, suc, ◌≡◌, ◌<◌, ◌+◌, ◌^◌, bit_xor}
 use Rattle.par2_spec.specs.Field.{mul, pow}
 use Rattle.par2_spec.specs.Sums.{field_sum}
-use Rattle.par2_transform.specs.Subspaces.{vanishing}
+use Rattle.par2_transform.specs.Subspaces.{point, vanishing}
 
 -- the value at x of the polynomial with these first n coefficients
 abbrev pub value : ℕ → (ℕ → ℕ) → ℕ → ℕ
 value n coefficients x = field_sum n (λ m. mul (coefficients m) (pow x m))
+
+-- these are the values at the points of subspace k of the polynomial with as many coefficients
+abbrev pub AreValues : ℕ → (ℕ → ℕ) → (ℕ → ℕ) → Type 0
+AreValues k coefficients values = (u : ℕ) → u < 2 ^ k → values u ≡ value (2 ^ k) coefficients (point u)
 
 -- the values from place a on
 abbrev pub from : ℕ → (ℕ → ℕ) → ℕ → ℕ

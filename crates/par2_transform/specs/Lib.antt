@@ -4,3 +4,5 @@ pub mod Evaluations
 pub mod Levels
 pub mod Chirps
 pub mod Transforms
+pub mod Grids
+pub mod Steps

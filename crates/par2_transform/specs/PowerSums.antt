@@ -14,6 +14,10 @@ unfoldable pub power_sum : (ℕ → ℕ) → ℕ → ℕ → ℕ → ℕ
 unfolding field_sum mul pow point
 power_sum weight i q e = field_sum (2 ^ i) (λ u. mul (weight (member i q u)) (pow (point (member i q u)) e))
 
+-- these are the sums of the first 2 ^ k powers of the points of subspace k
+abbrev pub ArePowerSums : ℕ → (ℕ → ℕ) → (ℕ → ℕ) → Type 0
+ArePowerSums k weight sums = (e : ℕ) → e < 2 ^ k → sums e ≡ power_sum weight k 0 e
+
 -- the sum of the values behind place e, as far on as the powers below 2 ^ i of the vanishing polynomial
 abbrev pub sum_ahead : ℕ → (ℕ → ℕ) → ℕ → ℕ
 sum_ahead i values e = field_sum i (λ j. bit_at (powers_in i) j * values (e + 2 ^ j))

@@ -1,4 +1,4 @@
-use Rattle.par2_transform.proofs.Levels.{power_sums_begin, power_sums_on, power_sums_end}
+use Rattle.par2_transform.proofs.LevelLaws.{power_sums_begin, power_sums_on, power_sums_end}
 use Rattle.par2_transform.proofs.laws.power_sums_by_levels.Goals as goal
 
 pub returns-clause-begin : goal.returns-clause-begin

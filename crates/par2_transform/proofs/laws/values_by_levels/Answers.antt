@@ -1,4 +1,4 @@
-use Rattle.par2_transform.proofs.Levels.{polynomials_begin, polynomials_on, polynomials_end}
+use Rattle.par2_transform.proofs.LevelLaws.{polynomials_begin, polynomials_on, polynomials_end}
 use Rattle.par2_transform.proofs.laws.values_by_levels.Goals as goal
 
 pub returns-clause-begin : goal.returns-clause-begin

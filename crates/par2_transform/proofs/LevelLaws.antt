@@ -1,5 +1,5 @@
 -- From level to level of a transform.
-use Rattle.std.proofs.Common.{ℕ, suc, ◌+◌, ◌-◌, ◌*◌, ◌/◌, ◌%◌, ◌^◌, ◌<◌, ◌≤◌, ◌≡◌, sym, ap, subst, ◌∙◌, arith, bit_xor, pow_pos, pow-suc, inl, inr, add_assoc, zero-add, zero-mul, mul-le-mul_right, add-mul, one-mul, ◌⊎◌}
+use Rattle.std.proofs.Common.{ℕ, suc, ◌+◌, ◌-◌, ◌*◌, ◌/◌, ◌%◌, ◌^◌, ◌<◌, ◌≤◌, ◌≡◌, refl, sym, ap, subst, ◌∙◌, arith, bit_xor, pow_pos, pow-suc, inl, inr, add_assoc, zero-add, zero-mul, mul-le-mul_right, add-mul, one-mul, ◌⊎◌}
 use Rattle.std.proofs.lemmas.Bool.{cases_lt}
 use Rattle.std.proofs.lemmas.Nat.{pow-add, xor_comm, xor_lt}
 use Rattle.std.proofs.Math.Nat.{pow-le-pow_right}
@@ -13,6 +13,7 @@ use Rattle.par2_transform.specs.Subspaces.{point, vanishing}
 use Rattle.par2_transform.specs.PowerSums.{member, power_sum}
 use Rattle.par2_transform.specs.Evaluations.{value, from}
 use Rattle.par2_transform.specs.Levels.{HoldPowerSums, HoldPolynomials, IsMergedLevel, IsSplitLevel, ComeFrom}
+use Rattle.par2_transform.specs.Chirps.{AreWeights}
 use Rattle.par2_transform.proofs.Subspaces.{point-lt}
 use Rattle.par2_transform.proofs.PowerSums.{first_half, second_half, vanishing_on, point_odd, merged_power_sums}
 
@@ -176,3 +177,12 @@ polynomials_on whole old new elements k i hk hi level hold q u hq hu = elim (cas
         ∙ ap (λ v. bit_xor (low p x) (mul v (bit_xor (low p x) (high p x)))) one
         ∙ ap (bit_xor (low p x)) once ∙ sym (xor_assoc (low p x) (low p x) (high p x)) ∙ ap (λ v. bit_xor v (high p x)) (xor_self (low p x)) ∙ xor_zero_l (high p x))
         ∙ ap (λ n. value (2 ^ suc i) (from (place p) old) (point n)) (sym at) ∙ before p (2 ^ i + u) l inside ∙ ap (λ n. value (2 ^ k) whole (point n)) at
+
+-- weights that came from values have them as power sums
+pub are_weights : (k : ℕ) (sums weight : ℕ → ℕ) → AreElements weight → ComeFrom k 0 sums weight
+    → (sequence : ℕ → ℕ) (b : ℕ) → ((e : ℕ) → e < 2 ^ k → sums e ≡ sequence (b + e)) → AreWeights k sequence b weight
+unfolding power_sum
+are_weights k sums weight elements come sequence b same e h =
+    sym (same e h) ∙ come.back weight elements (power_sums_begin weight elements k weight (λ u l. refl)) e h
+    ∙ field_sum_same (2 ^ k) (λ u. mul (weight (member k 0 u)) (pow (point (member k 0 u)) e)) (λ u. mul (weight u) (pow (point u) e))
+    (λ u l. ap (λ n. mul (weight n) (pow (point n) e)) (zero-mul-add (2 ^ k) u))

@@ -1,0 +1,7 @@
+use Rattle.std.proofs.Common.{refl}
+use Rattle.par2_transform.specs.Subspaces.{basis}
+use Rattle.par2_transform.proofs.basis.element.Goals as goal
+
+pub returns : goal.returns
+unfolding basis
+returns c = refl

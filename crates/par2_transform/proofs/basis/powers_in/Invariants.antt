@@ -1,0 +1,6 @@
+use Rattle.std.proofs.Common.{◌≡◌}
+use Rattle.par2_transform.specs.Subspaces.{powers_in}
+use Rattle.par2_transform.proofs.basis.powers_in.Given as goal
+
+abbrev pub invariant-loop : goal.invariant-loop
+invariant-loop l = l.powers ≡ powers_in l.counter

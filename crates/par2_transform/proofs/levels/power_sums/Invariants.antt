@@ -1,0 +1,7 @@
+use Rattle.par2_spec.specs.Sums.{AreElements}
+use Rattle.par2_transform.specs.Levels.{HoldPowerSums}
+use Rattle.par2_transform.specs.Grids.{EachColumn}
+use Rattle.par2_transform.proofs.levels.power_sums.Given as goal
+
+abbrev pub invariant-loop-i : goal.invariant-loop-i
+invariant-loop-i l = EachColumn (λ old new. AreElements old → HoldPowerSums old l.initial.rows.levels l.i new) l.initial.rows l.rows

@@ -1,0 +1,9 @@
+use Rattle.std.proofs.Common.{suc, ◌*◌, ◌^◌}
+use Rattle.par2_transform.specs.Subspaces.{point}
+use Rattle.par2_transform.specs.Evaluations.{IsSplit}
+use Rattle.par2_transform.specs.Grids.{EachColumn}
+use Rattle.par2_transform.specs.Steps.{OnElements, FirstRuns}
+use Rattle.par2_transform.proofs.levels.split_level.Given as goal
+
+abbrev pub invariant-loop-q : goal.invariant-loop-q
+invariant-loop-q l = EachColumn (OnElements (FirstRuns (2 ^ suc l.i) (λ q. IsSplit l.i (point (2 * q))) l.q)) l.initial.rows l.rows

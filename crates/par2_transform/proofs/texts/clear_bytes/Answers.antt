@@ -1,0 +1,10 @@
+use Rattle.std.proofs.Common.{ℕ, ◌<◌, ◌≤◌, ◌≡◌, inl, inr, length, arith}
+use Rattle.std.proofs.lemmas.Bool.{cases_lt}
+use Rattle.std.proofs.lemmas.List.{get_or_past}
+use Rattle.par2_transform.proofs.texts.clear_bytes.Goals as goal
+
+pub returns-clause-zero : goal.returns-clause-zero
+returns-clause-zero c = λ k. elim (cases_lt k c.loop-k.k) [
+  | inl low ↦ c.loop-k.invariant k low
+  | inr high ↦ get_or_past c.loop-k.bytes k 0 (omega arith)
+]

@@ -1,0 +1,38 @@
+use Rattle.std.proofs.Common.{ℕ, suc, ◌+◌, ◌-◌, ◌*◌, ◌%◌, ◌^◌, ◌<◌, ◌≤◌, ◌≡◌, sym, subst, ap, ap₂, arith, length, rules, bit_xor}
+use Rattle.std.specs.Prelude.{slice_index}
+use Rattle.par2_spec.specs.Field.{mul}
+use Rattle.par2_transform.specs.PowerSums.{sum_ahead}
+use Rattle.par2_transform.specs.Steps.{IsLowered, IsOneAdded}
+use Rattle.par2_transform.proofs.StepLaws.{shifted, double_power, lower_start, lower_next, one_written, one_same}
+use Rattle.par2_transform.proofs.weights.lower.Goals as goal
+
+pub loop-e-init : goal.loop-e-init
+loop-e-init c =
+    let half : 1 * 2 ^ c.args.i % 18446744073709551616 ≡ 2 ^ c.args.i = shifted c.args.i (omega arith) in
+    lower_start c.args.i c.args.c c.args.start (1 * 2 ^ c.args.i % 18446744073709551616) (slice_index c.args.words.now) (omega arith)
+
+pub loop-e-preserved : goal.loop-e-preserved
+loop-e-preserved c =
+    let l = c.loop-e in
+    let i = c.args.i in
+    let k = c.args.c in
+    let start = c.args.start in
+    let m = l.e - 1 in
+    let half : 1 * 2 ^ i % 18446744073709551616 ≡ 2 ^ i = shifted i (omega arith) in
+    let double : 2 ^ suc i ≡ 2 ^ i + 2 ^ i = double_power i in
+    let low : m < 2 ^ i = omega arith in
+    let now : m + 1 ≡ l.e = omega arith in
+    let to = start + 1 * 2 ^ i % 18446744073709551616 + m in
+    let size : length l.words ≡ length c.args.words.now = l.auto.words in
+    let fits : to < length l.words = omega (arith, c.requires.fits) in
+    let before : ℕ → ℕ = slice_index l.words in
+    let besides = bit_xor c.mul.result c.sum_ahead.result in
+    lower_next i k start m (slice_index c.args.words.now) before _ low (subst (λ n. IsLowered i k start n (slice_index c.args.words.now) before) (sym now) l.invariant)
+    (one_same to (start + 2 ^ i + m) besides (bit_xor (mul k (before (start + m))) (sum_ahead i before (start + m))) before _ (ap (λ n. start + n + m) half)
+    (ap₂ bit_xor c.mul.ensures c.sum_ahead.ensures) (one_written l.words to besides fits))
+
+pub returns : goal.returns
+returns c =
+    let l = c.loop-e in
+    let end : l.e ≡ 0 = omega arith in
+    subst (λ n. IsLowered c.args.i c.args.c c.args.start n (slice_index c.args.words.now) (slice_index l.words)) end l.invariant

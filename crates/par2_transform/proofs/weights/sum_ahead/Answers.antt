@@ -1,0 +1,38 @@
+use Rattle.std.proofs.Common.{ℕ, ◌+◌, ◌*◌, ◌%◌, ◌^◌, ◌<◌, ◌≤◌, ◌≡◌, refl, sym, ap, ◌∙◌, subst, arith, bit_xor, length}
+use Rattle.std.specs.Prelude.{slice_index}
+use Rattle.par2_spec.specs.Sums.{field_sum}
+use Rattle.par2_transform.specs.Subspaces.{powers_in}
+use Rattle.par2_transform.proofs.Sums.{field_sum_bit_set, field_sum_bit_unset}
+use Rattle.par2_transform.proofs.StepLaws.{shifted, power_below, ahead_below}
+use Rattle.par2_transform.proofs.weights.sum_ahead.Goals.{then-powers-j-eq1, else-powers-j-eq1}
+use Rattle.par2_transform.proofs.weights.sum_ahead.Goals as goal
+
+pub loop-j-preserved : goal.loop-j-preserved
+loop-j-preserved c =
+    let l = c.loop-j in
+    let i = c.args.i in
+    let at = c.args.at in
+    let is = c.powers_in-powers.ensures in
+    let part : 1 * 2 ^ l.j % 18446744073709551616 ≡ 2 ^ l.j = shifted l.j (omega arith) in
+    let f : ℕ → ℕ = slice_index c.args.words.now in
+    elim c.if-powers-j-eq1.branch [
+      | then-powers-j-eq1 w ↦ w.sum-is ∙ ap (λ n. bit_xor l.sum (f (at + n))) part ∙ ap (λ s. bit_xor s (f (at + 2 ^ l.j))) l.invariant ∙ sym (field_sum_bit_set l.j (powers_in i) (λ j. f (at + 2 ^ j)) (rw (← is) w.if-powers-j-eq1.true))
+      | else-powers-j-eq1 w ↦ w.sum-is ∙ l.invariant ∙ sym (field_sum_bit_unset l.j (powers_in i) (λ j. f (at + 2 ^ j)) (rw (← is) w.if-powers-j-eq1.false))
+    ]
+
+pub returns : goal.returns
+returns c =
+    let l = c.loop-j in
+    let end : l.j ≡ c.args.i = omega arith in
+    l.invariant ∙ ap (λ n. ahead_below c.args.i c.args.at n (slice_index c.args.words.now)) end
+
+pub loop-j-init : goal.loop-j-init
+unfolding field_sum
+loop-j-init c = refl
+
+pub bounds-words-at : goal.bounds-words-at
+bounds-words-at c =
+    let l = c.loop-j in
+    let part : 1 * 2 ^ l.j % 18446744073709551616 ≡ 2 ^ l.j = shifted l.j (omega arith) in
+    let under : 2 ^ l.j + 2 ^ l.j ≤ 2 ^ c.args.i = power_below l.j c.args.i (omega arith) in
+    omega (arith, c.requires.fits)

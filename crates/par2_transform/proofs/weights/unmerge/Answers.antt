@@ -1,0 +1,52 @@
+use Rattle.std.proofs.Common.{ℕ, suc, ◌+◌, ◌*◌, ◌%◌, ◌^◌, ◌<◌, ◌≤◌, ◌≡◌, ap, ◌∙◌, arith, rules, length}
+use Rattle.std.specs.Prelude.{slice_index}
+use Rattle.par2_transform.specs.Subspaces.{point}
+use Rattle.par2_transform.specs.PowerSums.{IsMerged}
+use Rattle.par2_transform.specs.Steps.{OneRun, IsLowered}
+use Rattle.par2_transform.proofs.StepLaws.{shifted, double_power, run_starts, unmerged_runs, run_at, lowered_at}
+use Rattle.par2_transform.proofs.weights.unmerge.Goals as goal
+
+pub returns : goal.returns
+returns c =
+    let i = c.args.i in
+    let q = c.args.q in
+    let shift = 1 * 2 ^ i % 18446744073709551616 in
+    let half : shift ≡ 2 ^ i = shifted i (omega arith) in
+    let start = q * 2 ^ suc i in
+    let is : q * 2 * shift ≡ start = ap (λ n. q * 2 * n) half ∙ run_starts i q in
+    let old : ℕ → ℕ = slice_index c.args.words.now in
+    let mid : ℕ → ℕ = slice_index c.lower.new.words in
+    let new : ℕ → ℕ = slice_index c.add_run.new.words in
+    unmerged_runs i (point (2 * q)) start old mid new
+    (lowered_at i c.point.result (point (2 * q)) (q * 2 * shift) start 0 old mid c.point.ensures is c.lower.ensures)
+    (run_at (q * 2 * shift + shift) (start + 2 ^ i) (q * 2 * shift) start shift (2 ^ i) mid new (omega arith) is half c.add_run.ensures)
+
+pub overflow_mul-q : goal.overflow_mul-q
+overflow_mul-q c =
+    let i = c.args.i in
+    let q = c.args.q in
+    let shift = 1 * 2 ^ i % 18446744073709551616 in
+    let half : shift ≡ 2 ^ i = shifted i (omega arith) in
+    let is : q * 2 * shift ≡ q * 2 ^ suc i = ap (λ n. q * 2 * n) half ∙ run_starts i q in
+    let double : 2 ^ suc i ≡ 2 ^ i + 2 ^ i = double_power i in
+    omega (arith, c.requires.fits)
+
+pub lower-requires-clause-fits : goal.lower-requires-clause-fits
+lower-requires-clause-fits c =
+    let i = c.args.i in
+    let q = c.args.q in
+    let shift = 1 * 2 ^ i % 18446744073709551616 in
+    let half : shift ≡ 2 ^ i = shifted i (omega arith) in
+    let is : q * 2 * shift ≡ q * 2 ^ suc i = ap (λ n. q * 2 * n) half ∙ run_starts i q in
+    let double : 2 ^ suc i ≡ 2 ^ i + 2 ^ i = double_power i in
+    omega (arith, c.requires.fits)
+
+pub add_run-requires-clause-from : goal.add_run-requires-clause-from
+add_run-requires-clause-from c =
+    let i = c.args.i in
+    let q = c.args.q in
+    let shift = 1 * 2 ^ i % 18446744073709551616 in
+    let half : shift ≡ 2 ^ i = shifted i (omega arith) in
+    let is : q * 2 * shift ≡ q * 2 ^ suc i = ap (λ n. q * 2 * n) half ∙ run_starts i q in
+    let double : 2 ^ suc i ≡ 2 ^ i + 2 ^ i = double_power i in
+    let size : length c.lower.new.words ≡ length c.args.words.now = search rules in omega (arith, c.requires.fits)

@@ -1,0 +1,6 @@
+use Rattle.std.specs.Prelude.{slice_index}
+use Rattle.par2_transform.specs.Levels.{ComeFrom}
+use Rattle.par2_transform.proofs.weights.weights.Given as goal
+
+abbrev pub invariant-loop-i : goal.invariant-loop-i
+invariant-loop-i l = ComeFrom l.levels l.i (slice_index l.initial.words) (slice_index l.words)

@@ -1,0 +1,104 @@
+//! Weights of the points that have given power sums.
+
+ghost use Rattle.std.specs.Prelude.{◌≡◌, ◌<◌, ◌≤◌, ℕ, ◌+◌, ◌*◌, ◌^◌, suc, length, slice_index};
+ghost use Rattle.par2_spec.specs.Sums.{AreElements};
+ghost use Rattle.par2_transform.specs.Subspaces.{point};
+ghost use Rattle.par2_transform.specs.PowerSums.{IsMerged, sum_ahead};
+ghost use Rattle.par2_transform.specs.Levels.{IsMergedLevel};
+ghost use Rattle.par2_transform.specs.Chirps.{AreWeights};
+ghost use Rattle.par2_transform.specs.Steps.{OneRun, RunAdded, IsLowered};
+
+use crate::basis::{point, powers_in};
+use par2_gf16::Gf;
+
+// What the type says of each word, for proofs.
+#[inline(always)]
+fn fit_words(words: &[u16])
+    ensures { AreElements (slice_index words.now) }
+{
+    let _ = words.len();
+}
+
+/// From power sums, the weights of the points that have them.
+pub(crate) fn weights(gf: &Gf, words: &mut [u16], levels: u32)
+    requires few { levels ≤ 16 }
+    requires count { length words.old ≡ 2 ^ levels }
+    ensures count { length words.new ≡ length words.old }
+    ensures elements { AreElements (slice_index words.new) }
+    ensures are { (sequence : ℕ → ℕ) (b : ℕ)
+        → ((e : ℕ) → e < 2 ^ levels → slice_index words.old e ≡ sequence (b + e))
+        → AreWeights levels sequence b (slice_index words.new) }
+{
+    for i in (0..levels).rev() {
+        unmerge_level(gf, words, levels, i);
+    }
+    fit_words(words);
+}
+
+// Takes the pairs of runs of a level apart that were merged.
+fn unmerge_level(gf: &Gf, words: &mut [u16], levels: u32, i: u32)
+    requires few { levels ≤ 16 }
+    requires level { i < levels }
+    requires count { length words.old ≡ 2 ^ levels }
+    ensures count { length words.new ≡ length words.old }
+    ensures merged { IsMergedLevel levels i (slice_index words.new) (slice_index words.old) }
+{
+    for q in 0..1u16 << (levels - i - 1) {
+        unmerge(gf, words, i, q);
+    }
+}
+
+// Takes a pair of runs apart that was merged.
+fn unmerge(gf: &Gf, words: &mut [u16], i: u32, q: u16)
+    requires level { i < 16 }
+    requires pair { q < 2 ^ 15 }
+    requires fits { q * 2 ^ suc i + 2 ^ suc i ≤ length words.old }
+    ensures { OneRun (q * 2 ^ suc i) (2 ^ suc i) (λ old new. IsMerged i (point (2 * q)) new old)
+        (slice_index words.old) (slice_index words.new) }
+{
+    let half = 1usize << i;
+    let start = q as usize * 2 * half;
+    lower(gf, words, i, start, point(2 * q));
+    add_run(words, start + half, start, half);
+}
+
+// To each value of a run, adds the one of another run.
+fn add_run(words: &mut [u16], from: usize, to: usize, count: usize)
+    requires from { from + count ≤ length words.old }
+    requires to { to + count ≤ length words.old }
+    requires apart { to + count ≤ from }
+    ensures { RunAdded from to count (slice_index words.old) (slice_index words.new) }
+{
+    for e in 0..count {
+        words[to + e] ^= words[from + e];
+    }
+}
+
+// From each value of the upper half, takes what the higher power of its points has besides the vanishing polynomial.
+fn lower(gf: &Gf, words: &mut [u16], i: u32, start: usize, c: u16)
+    requires level { i < 16 }
+    requires fits { start + 2 ^ suc i ≤ length words.old }
+    ensures { IsLowered i c start 0 (slice_index words.old) (slice_index words.new) }
+{
+    let half = 1usize << i;
+    for e in (0..half).rev() {
+        let besides = gf.mul(c, words[start + e]) ^ sum_ahead(words, i, start + e);
+        words[start + half + e] ^= besides;
+    }
+}
+
+// The sum of the values that are the lower powers of the vanishing polynomial behind a place.
+fn sum_ahead(words: &[u16], i: u32, at: usize) -> u16
+    requires level { i < 16 }
+    requires fits { at + 2 ^ i < length words.now }
+    ensures { result ≡ sum_ahead i (slice_index words.now) at }
+{
+    let powers = powers_in(i);
+    let mut sum = 0;
+    for j in 0..i {
+        if (powers >> j) % 2 == 1 {
+            sum ^= words[at + (1 << j)];
+        }
+    }
+    sum
+}
