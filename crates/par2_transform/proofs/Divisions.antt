@@ -99,9 +99,6 @@ balance w s l d k =
     ∙ sym (xor_middle (bit_xor w k) l (bit_xor s k) d
     ∙ ap (λ v. bit_xor v (bit_xor l d)) (xor_middle w k s k ∙ ap (bit_xor (bit_xor w s)) (xor_self k) ∙ xor_zero_r (bit_xor w s)))
 
-turn : (e t p : ℕ) → e < 65536 → t < 65536 → p < 65536 → mul e (mul t p) ≡ mul t (mul e p)
-turn e t p he ht hp = sym (product_assoc e t p he ht hp) ∙ ap (λ v. mul v p) (product_comm e t he ht) ∙ product_assoc t e p ht he hp
-
 -- a multiple of the power of the highest coefficient
 leading : (i m x e : ℕ) → x < 65536 → e < 65536
     → mul e (pow x (2 ^ i + m)) ≡ bit_xor (mul (vanishing i x) (mul e (pow x m))) (field_sum i (λ j. bit_at (powers_in i) j * mul e (pow x (m + 2 ^ j))))
@@ -109,13 +106,15 @@ leading i m x e hx he =
     let p : ℕ = pow x m in
     let y : ℕ = mul e p in
     let hp : p < 65536 = power-lt x m hx in
-    ap (mul e) (power-add x (2 ^ i) m hx) ∙ turn e (pow x (2 ^ i)) p he (power-lt x (2 ^ i) hx) hp
+    let turn : (t : ℕ) → t < 65536 → mul e (mul t p) ≡ mul t y =
+        λ t ht. sym (product_assoc e t p he ht hp) ∙ ap (λ v. mul v p) (product_comm e t he ht) ∙ product_assoc t e p ht he hp in
+    ap (mul e) (power-add x (2 ^ i) m hx) ∙ turn (pow x (2 ^ i)) (power-lt x (2 ^ i) hx)
     ∙ ap (λ t. mul t y) (leading_power i x hx) ∙ (product_linear_left y).on_xor (vanishing i x) (lower_powers i x)
     ∙ ap (bit_xor (mul (vanishing i x) y))
     (sym (field_sum_linear i (λ t. mul t y) (λ j. bit_at (powers_in i) j * pow x (2 ^ j)) (product_linear_left y))
     ∙ field_sum_same i (λ j. mul (bit_at (powers_in i) j * pow x (2 ^ j)) y) (λ j. bit_at (powers_in i) j * mul e (pow x (m + 2 ^ j)))
     (λ j l. bit_product (powers_in i) j (pow x (2 ^ j)) y
-    ∙ ap (λ v. bit_at (powers_in i) j * v) (sym (turn e (pow x (2 ^ j)) p he (power-lt x (2 ^ j) hx) hp)
+    ∙ ap (λ v. bit_at (powers_in i) j * v) (sym (turn (pow x (2 ^ j)) (power-lt x (2 ^ j) hx))
     ∙ ap (mul e) (product_comm (pow x (2 ^ j)) p (power-lt x (2 ^ j) hx) hp ∙ sym (power-add x m (2 ^ j) hx)))))
 
 pub divide_next : (i c start m : ℕ) (f g k h : ℕ → ℕ) → c < 65536 → m < 2 ^ i → IsDivided i c start (m + 1) f g
