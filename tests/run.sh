@@ -23,8 +23,6 @@ fi
 sed '$d' "$log"
 # The gate has left the programs that it built, so `make demo` and `make install` need not build again.
 sh tools/sources.sh > crates/par2/out/par2.sources
-# The gate has tried each edit as a whole, and stops at the first goal that is refused.
-RT_JOBS=$lanes python3 checks/wrong_bodies.py --together
 # What follows needs one processor at a time, so the rows for wider lanes are built and run beside it.
 wide=$(mktemp)
 trap 'rm -f "$log" "$wide"' EXIT
