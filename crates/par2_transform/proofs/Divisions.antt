@@ -107,7 +107,7 @@ leading i m x e hx he =
     let y : ℕ = mul e p in
     let hp : p < 65536 = power-lt x m hx in
     let turn : (t : ℕ) → t < 65536 → mul e (mul t p) ≡ mul t y =
-        λ t ht. sym (product_assoc e t p he ht hp) ∙ ap (λ v. mul v p) (product_comm e t he ht) ∙ product_assoc t e p ht he hp in
+    λ t ht. sym (product_assoc e t p he ht hp) ∙ ap (λ v. mul v p) (product_comm e t he ht) ∙ product_assoc t e p ht he hp in
     ap (mul e) (power-add x (2 ^ i) m hx) ∙ turn (pow x (2 ^ i)) (power-lt x (2 ^ i) hx)
     ∙ ap (λ t. mul t y) (leading_power i x hx) ∙ (product_linear_left y).on_xor (vanishing i x) (lower_powers i x)
     ∙ ap (bit_xor (mul (vanishing i x) y))
