@@ -1,19 +1,19 @@
 -- The division of a run of coefficients by the vanishing polynomial less a constant.
-use Rattle.std.proofs.Common.{ℕ, zero, suc, ◌+◌, ◌-◌, ◌*◌, ◌^◌, ◌<◌, ◌≤◌, ◌≡◌, inl, inr, refl, sym, ap, ap₂, ◌∙◌, subst, arith, bit_xor, pow_pos, add_assoc, zero-add}
+use Rattle.std.proofs.Common.{ℕ, zero, suc, ◌+◌, ◌*◌, ◌^◌, ◌<◌, ◌≤◌, ◌≡◌, inl, inr, sym, ap, ap₂, ◌∙◌, subst, arith, bit_xor, pow_pos, add_assoc, zero-add}
 use Rattle.std.specs.Int.{bit_at}
 use Rattle.std.specs.Int.Bits.{xor_zero_l, xor_zero_r, xor_assoc, xor_self}
-use Rattle.std.proofs.lemmas.Bool.{cases_eq, cases_lt}
-use Rattle.std.proofs.lemmas.Nat.{xor_lt, xor_comm}
+use Rattle.std.proofs.lemmas.Bool.{cases_eq}
+use Rattle.std.proofs.lemmas.Nat.{xor_comm}
 use Rattle.par2_spec.specs.Field.{mul, pow}
 use Rattle.par2_spec.specs.Sums.{field_sum, AreElements}
 use Rattle.par2_spec.proofs.FieldBits.{xor_middle}
 use Rattle.par2_spec.proofs.FieldOrder.{power-lt, power-add, product-zero}
 use Rattle.par2_spec.proofs.FieldProducts.{product-lt, product_comm, product_assoc, product_linear_left, product_linear_right}
-use Rattle.par2_spec.proofs.SumLaws.{field_sum_same, field_sum_xor, field_sum_head, field_sum-lt}
+use Rattle.par2_spec.proofs.SumLaws.{field_sum_same, field_sum_xor, field_sum_head}
 use Rattle.par2_transform.specs.Subspaces.{vanishing, powers_in}
 use Rattle.par2_transform.specs.Evaluations.{value, from, IsSplit}
-use Rattle.par2_transform.specs.Steps.{IsOneAdded, SameOutside, OnElements, OneRun, RunAdded, IsSpread, IsDivided}
-use Rattle.par2_transform.proofs.Subspaces.{vanishing-lt, leading_power, lower_powers}
+use Rattle.par2_transform.specs.Steps.{IsOneAdded, OnElements, OneRun, RunAdded, IsSpread, IsDivided}
+use Rattle.par2_transform.proofs.Subspaces.{leading_power, lower_powers}
 use Rattle.par2_transform.proofs.Sums.{field_sum_linear, field_sum_next, field_sum_bit_set, field_sum_bit_unset, bit_product}
 use Rattle.par2_transform.proofs.StepLaws.{power_below, double_power, same_outside, outside_then, outside_one, one_fit, run_fit, IsOfFirst}
 

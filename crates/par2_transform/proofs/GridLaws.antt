@@ -1,8 +1,7 @@
 -- Rows and their columns.
-use Rattle.std.proofs.Common.{ℕ, ◌+◌, ◌*◌, ◌/◌, ◌%◌, ◌^◌, ◌<◌, ◌≤◌, ◌≡◌, ◌≢◌, inl, inr, refl, sym, ap, ap₂, ◌∙◌, subst, arith, List, length, bit_xor}
+use Rattle.std.proofs.Common.{ℕ, ◌<◌, ◌≡◌, inl, inr, refl, sym, ap, ◌∙◌, subst, List, length}
 use Rattle.std.proofs.lemmas.Bool.{cases_eq}
 use Rattle.par2_spec.specs.Field.{mul}
-use Rattle.par2_spec.specs.Slices.{word}
 use Rattle.par2_spec.specs.Sums.{list_at, OneChanged}
 use Rattle.par2_transform.specs.Grids.{Grid, column, AreRows, IsAdded, EachColumn}
 use Rattle.par2_transform.specs.Steps.{IsOneAdded}

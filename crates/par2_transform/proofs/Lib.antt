@@ -9,3 +9,12 @@ mod TextLaws
 mod StepLaws
 mod Divisions
 mod GridLaws
+mod Cycles
+mod NumberLaws
+mod AddingLaws
+mod BlockLaws
+mod WeightRows
+mod WindowLaws
+mod ClassLaws
+mod OutputLaws
+mod ColumnLaws

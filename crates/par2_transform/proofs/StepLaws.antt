@@ -1,12 +1,12 @@
 -- One column of values, through the loops of a level.
-use Rattle.std.proofs.Common.{ℕ, zero, suc, ◌+◌, ◌-◌, ◌*◌, ◌%◌, ◌^◌, ◌<◌, ◌≤◌, ◌≡◌, ◌≢◌, inl, inr, ◌⊎◌, refl, sym, ap, ap₂, ◌∙◌, subst, arith, bit_xor, pow_pos, pow-suc, add_assoc, mul_assoc, add-mul, one-mul, mul-le-mul_right, List, length, get_or, set}
+use Rattle.std.proofs.Common.{ℕ, suc, ◌+◌, ◌-◌, ◌*◌, ◌%◌, ◌^◌, ◌<◌, ◌≤◌, ◌≡◌, inl, inr, ◌⊎◌, refl, sym, ap, ap₂, ◌∙◌, subst, arith, bit_xor, pow_pos, pow-suc, add_assoc, mul_assoc, add-mul, one-mul, mul-le-mul_right, List, length, get_or, set}
 use Rattle.std.specs.Int.{bit_at}
-use Rattle.std.specs.Int.Bits.{xor_zero_l, xor_zero_r, xor_assoc, xor_self}
+use Rattle.std.specs.Int.Bits.{xor_zero_r, xor_assoc}
 use Rattle.std.proofs.Math.Nat.{pow-le-pow_right}
 use Rattle.std.proofs.lemmas.Bool.{cases_eq, cases_lt}
 use Rattle.std.proofs.lemmas.List.{get_or-set_same, get_or-set_other}
-use Rattle.std.proofs.lemmas.Nat.{pow-add, xor_lt, xor_comm}
-use Rattle.par2_spec.specs.Field.{mul, pow}
+use Rattle.std.proofs.lemmas.Nat.{pow-add, xor_lt}
+use Rattle.par2_spec.specs.Field.{mul}
 use Rattle.par2_spec.specs.Sums.{field_sum, AreElements}
 use Rattle.par2_spec.proofs.SumLaws.{field_sum_same, xor_off}
 use Rattle.par2_transform.specs.Subspaces.{powers_in}

@@ -1,6 +1,5 @@
 -- Vectors of texts, whole and in two parts, and their words.
-use Rattle.std.proofs.Common.{ℕ, ◌+◌, ◌-◌, ◌*◌, ◌/◌, ◌%◌, ◌^◌, ◌<◌, ◌≤◌, ◌≡◌, inl, inr, refl, sym, ap, ap₂, ◌∙◌, subst, arith, List, [], ◌++◌, length, get_or, set, map, Vec, Global, bit_xor}
-use Rattle.std.proofs.lemmas.Bool.{cases_eq}
+use Rattle.std.proofs.Common.{ℕ, ◌+◌, ◌*◌, ◌/◌, ◌%◌, ◌<◌, ◌≡◌, sym, ap, ap₂, ◌∙◌, subst, arith, List, [], ◌++◌, length, get_or, set, Vec, Global, bit_xor}
 use Rattle.std.proofs.lemmas.List.{set-append_left, get_or_append_left, get_or-append-add, length-map, map-append}
 use Rattle.par2_spec.specs.Slices.{word}
 use Rattle.par2_spec.specs.Sums.{list_at, lists_of, OneChanged}

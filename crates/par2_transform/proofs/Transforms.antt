@@ -7,6 +7,7 @@ use Rattle.par2_spec.proofs.FieldSteps.{power-mul}
 use Rattle.par2_spec.proofs.SumLaws.{field_sum_same}
 use Rattle.par2_transform.specs.Subspaces.{point}
 use Rattle.par2_transform.specs.Chirps.{chirp, chirp_inverse, word_at_power, AreFirst}
+use Rattle.par2_transform.specs.Blocks.{class_sum_at}
 use Rattle.par2_transform.specs.Transforms.{Cut, Reaches, coefficient_of, window_value, gathered, HasWeights, class_part}
 use Rattle.par2_transform.proofs.Chirps.{chirp_inverse-lt, hankel_sum, class_sum}
 use Rattle.par2_transform.proofs.SparedSums.{word_at_power-lt, sum_over_powers, sum_by_class, sum_by_window}
@@ -17,13 +18,19 @@ unfolding coefficient constant
 coefficient_power e i = power-mul 2 (get_or constant_powers i 0) e (omega arith)
 
 -- the sum over slices of each one's coefficient and word, by the classes
-pub sum_by_windows : (n : ℕ) (words : ℕ → ℕ) → AreFirst n words → (cut : Cut) → Reaches n cut → (e t : ℕ) (weights : ℕ → ℕ → ℕ) → HasWeights cut e weights → cut.window + t ≤ 2 ^ cut.levels
-    → field_sum n (λ i. mul (coefficient (e + t) i) (words i)) ≡ field_sum cut.classes (class_part cut weights words e t)
-sum_by_windows n words first cut reaches e t weights has fits =
-    field_sum_same n (λ i. mul (coefficient (e + t) i) (words i)) (λ i. mul (pow 2 ((e + t) * get_or constant_powers i 0)) (words i)) (λ i h. ap (λ c. mul c (words i)) (coefficient_power (e + t) i))
-    ∙ sym (sum_over_powers n words (λ m. pow 2 ((e + t) * m)) first (d * (cut.windows * b)) reaches)
-    ∙ sum_by_class d (cut.windows * b) (λ m. mul (pow 2 ((e + t) * m)) (word_at_power words m))
-    ∙ field_sum_same d (λ r. field_sum (cut.windows * b) (λ m. mul (pow 2 ((e + t) * (d * m + r))) (word_at_power words (d * m + r)))) (class_part cut weights words e t) (λ r h. class_of r)
+pub sum_by_classes : (n : ℕ) (words : ℕ → ℕ) → AreFirst n words → (cut : Cut) → Reaches n cut → (e : ℕ)
+    → field_sum n (λ i. mul (coefficient e i) (words i)) ≡ field_sum cut.classes (class_sum_at cut words e)
+sum_by_classes n words first cut reaches e =
+    field_sum_same n (λ i. mul (coefficient e i) (words i)) (λ i. mul (pow 2 (e * get_or constant_powers i 0)) (words i)) (λ i h. ap (λ c. mul c (words i)) (coefficient_power e i))
+    ∙ sym (sum_over_powers n words (λ m. pow 2 (e * m)) first (cut.classes * (cut.windows * cut.window)) reaches)
+    ∙ sum_by_class cut.classes (cut.windows * cut.window) (λ m. mul (pow 2 (e * m)) (word_at_power words m))
+
+-- what a class gives, by the windows
+pub class_by_windows : (n : ℕ) (words : ℕ → ℕ) → AreFirst n words → (cut : Cut) → (e t : ℕ) (weights : ℕ → ℕ → ℕ) → HasWeights cut e weights → cut.window + t ≤ 2 ^ cut.levels
+    → (r : ℕ) → class_sum_at cut words (e + t) r ≡ class_part cut weights words e t r
+class_by_windows n words first cut e t weights has fits r =
+    class_sum d r (e + t) (cut.windows * b) (λ m. word_at_power words (d * m + r)) (λ m. word_at_power-lt n words first (d * m + r))
+    ∙ ap (mul (mul (pow 2 ((e + t) * r)) (chirp_inverse d (e + t)))) (all_windows r)
   where
     d : ℕ
     d = cut.classes
@@ -53,7 +60,9 @@ sum_by_windows n words first cut reaches e t weights has fits =
         ∙ field_sum_same (2 ^ cut.levels) (λ u. field_sum cut.windows (λ a. mul (mul (weights a u) (window_value cut words r a u)) (pow (point u) t)))
         (λ u. mul (gathered cut weights words r u) (pow (point u) t)) (λ u l. field_sum_linear cut.windows (λ x. mul x (pow (point u) t)) (λ a. mul (weights a u) (window_value cut words r a u)) (product_linear_left (pow (point u) t)))
 
-    class_of : (r : ℕ) → field_sum (cut.windows * b) (λ m. mul (pow 2 ((e + t) * (d * m + r))) (word_at_power words (d * m + r))) ≡ class_part cut weights words e t r
-    class_of r =
-        class_sum d r (e + t) (cut.windows * b) (λ m. word_at_power words (d * m + r)) (λ m. word_at_power-lt n words first (d * m + r))
-        ∙ ap (mul (mul (pow 2 ((e + t) * r)) (chirp_inverse d (e + t)))) (all_windows r)
+-- the sum over slices of each one's coefficient and word, by the classes and the windows of each
+pub sum_by_windows : (n : ℕ) (words : ℕ → ℕ) → AreFirst n words → (cut : Cut) → Reaches n cut → (e t : ℕ) (weights : ℕ → ℕ → ℕ) → HasWeights cut e weights → cut.window + t ≤ 2 ^ cut.levels
+    → field_sum n (λ i. mul (coefficient (e + t) i) (words i)) ≡ field_sum cut.classes (class_part cut weights words e t)
+sum_by_windows n words first cut reaches e t weights has fits =
+    sum_by_classes n words first cut reaches (e + t)
+    ∙ field_sum_same cut.classes (class_sum_at cut words (e + t)) (class_part cut weights words e t) (λ r h. class_by_windows n words first cut e t weights has fits r)

@@ -6,3 +6,7 @@ pub mod Chirps
 pub mod Transforms
 pub mod Grids
 pub mod Steps
+pub mod Columns
+pub mod Plans
+pub mod Adding
+pub mod Blocks

@@ -1,10 +1,19 @@
-//! How recovery slices follow from values of polynomials on subspaces of the field: laws, each the contract of a function
-//! that does nothing. By them a sum over n slices costs some n log n products and not one for each exponent.
+//! Recovery slices over n slices in some n log n products, and not one for each slice and exponent: by values of polynomials
+//! and power sums on subspaces of the field. The laws that this rests on are contracts of functions that do nothing.
 #![tactic(auto)]
 
 mod basis;
+mod blocks;
+mod exponents;
 pub mod laws;
 mod levels;
+mod outputs;
+mod plan;
+mod powers;
+mod recovery;
 mod rows;
 mod texts;
 mod weights;
+mod windows;
+
+pub use recovery::add_recovery_slices;

@@ -1,8 +1,5 @@
-use Rattle.std.proofs.Common.{ℕ, ◌+◌, ◌*◌, ◌%◌, ◌^◌, ◌<◌, ◌≤◌, ◌≡◌, sym, ap, subst, arith, pow_pos}
-use Rattle.par2_transform.specs.Grids.{EachColumn}
+use Rattle.std.proofs.Common.{◌+◌, ◌*◌, ◌%◌, ◌^◌, ◌<◌, ◌≤◌, ◌≡◌, sym, ap, subst, arith, pow_pos}
 use Rattle.par2_transform.specs.Steps.{IsOneAdded}
-use Rattle.par2_transform.specs.Subspaces.{powers_in}
-use Rattle.std.specs.Int.{bit_at}
 use Rattle.par2_spec.specs.Sums.{field_sum}
 use Rattle.par2_transform.proofs.StepLaws.{power_below, shifted, one_none, ahead_below, ahead_set, ahead_unset}
 use Rattle.par2_transform.proofs.GridLaws.{each_start, each_then, each_so, each_row}

@@ -1,4 +1,4 @@
-use Rattle.std.proofs.Common.{ℕ, ◌+◌, ◌<◌, ◌≤◌, ◌≡◌, ◌⊎◌, inl, inr, refl, subst, arith}
+use Rattle.std.proofs.Common.{◌+◌, ◌<◌, ◌≤◌, ◌≡◌, ◌⊎◌, inl, inr, refl, subst, arith}
 use Rattle.par2_transform.specs.Grids.{EachColumn}
 use Rattle.par2_transform.specs.Steps.{IsOneAdded, RunAdded}
 use Rattle.par2_transform.proofs.StepLaws.{run_start, run_next}

@@ -1,4 +1,4 @@
-use Rattle.std.proofs.Common.{ℕ, ◌+◌, ◌-◌, ◌*◌, ◌%◌, ◌^◌, ◌<◌, ◌≤◌, ◌≡◌, refl, sym, ap, subst, arith}
+use Rattle.std.proofs.Common.{◌+◌, ◌-◌, ◌*◌, ◌%◌, ◌^◌, ◌<◌, ◌≡◌, refl, sym, ap, subst, arith}
 use Rattle.par2_spec.specs.Field.{mul}
 use Rattle.par2_transform.specs.Grids.{EachColumn}
 use Rattle.par2_transform.specs.Steps.{IsOneAdded, IsSpread, IsDivided}

@@ -1,4 +1,4 @@
-use Rattle.std.proofs.Common.{ℕ, ◌+◌, ◌*◌, ◌%◌, ◌^◌, ◌<◌, ◌≤◌, ◌≡◌, refl, ap, subst, arith}
+use Rattle.std.proofs.Common.{◌+◌, ◌*◌, ◌%◌, ◌^◌, ◌<◌, ◌≡◌, refl, ap, subst, arith}
 use Rattle.par2_spec.specs.Field.{mul}
 use Rattle.par2_transform.specs.PowerSums.{sum_ahead}
 use Rattle.par2_transform.specs.Grids.{EachColumn}

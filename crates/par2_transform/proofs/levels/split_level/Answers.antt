@@ -1,12 +1,10 @@
-use Rattle.std.proofs.Common.{ℕ, suc, ◌+◌, ◌*◌, ◌^◌, ◌-◌, ◌<◌, ◌≤◌, ◌≡◌, sym, subst, arith, rules}
+use Rattle.std.proofs.Common.{ℕ, suc, ◌+◌, ◌*◌, ◌^◌, ◌-◌, ◌<◌, ◌≡◌, sym, subst, rules}
 use Rattle.par2_transform.specs.Subspaces.{point}
 use Rattle.par2_transform.specs.Evaluations.{IsSplit}
-use Rattle.par2_transform.specs.Levels.{IsSplitLevel}
-use Rattle.par2_transform.specs.Grids.{EachColumn, column}
 use Rattle.par2_transform.specs.Steps.{OnElements, OneRun, FirstRuns}
 use Rattle.par2_transform.proofs.StepLaws.{runs_start, runs_next}
 use Rattle.par2_transform.proofs.Divisions.{split_of_first}
-use Rattle.par2_transform.proofs.GridLaws.{each_start, each_then, each_so}
+use Rattle.par2_transform.proofs.GridLaws.{each_start, each_then}
 use Rattle.par2_transform.proofs.levels.split_level.Goals as goal
 
 pub loop-q-init : goal.loop-q-init

@@ -1,7 +1,6 @@
-use Rattle.std.proofs.Common.{ℕ, suc, ◌+◌, ◌*◌, ◌^◌, ◌-◌, ◌<◌, ◌≤◌, ◌≡◌, refl, sym, ap, ◌∙◌, subst, arith, rules}
-use Rattle.par2_spec.specs.Sums.{AreElements}
+use Rattle.std.proofs.Common.{suc, ◌-◌, ◌<◌, ◌≤◌, ◌≡◌, refl, sym, ◌∙◌, subst, arith, rules}
 use Rattle.par2_transform.specs.Levels.{IsSplitLevel, HoldPolynomials}
-use Rattle.par2_transform.specs.Grids.{EachColumn, column}
+use Rattle.par2_transform.specs.Grids.{column}
 use Rattle.par2_transform.proofs.LevelLaws.{polynomials_begin, polynomials_on, polynomials_end}
 use Rattle.par2_transform.proofs.GridLaws.{each_start}
 use Rattle.par2_transform.proofs.levels.values_at_points.Goals as goal

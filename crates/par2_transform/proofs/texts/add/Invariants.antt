@@ -1,4 +1,4 @@
-use Rattle.std.proofs.Common.{◌≡◌, ◌<◌, ◌≤◌, ℕ, length, bit_xor}
+use Rattle.std.proofs.Common.{◌≡◌, ◌<◌, ◌≤◌, ℕ, bit_xor}
 use Rattle.std.specs.Prelude.{slice_index}
 use Rattle.par2_transform.proofs.texts.add.Given as goal
 

@@ -1,5 +1,5 @@
-use Rattle.std.proofs.Common.{◌≡◌, ◌<◌, ◌++◌, length, get_or, rules, sym, subst, ◌∙◌, ap, arith}
-use Rattle.std.proofs.lemmas.List.{with_items_is, length-map}
+use Rattle.std.proofs.Common.{◌≡◌, ◌++◌, length, get_or, rules, ◌∙◌, ap, arith}
+use Rattle.std.proofs.lemmas.List.{with_items_is}
 use Rattle.std.specs.Vec.{with_items}
 use Rattle.par2_spec.specs.Sums.{list_at, lists_of}
 use Rattle.par2_transform.proofs.TextLaws.{changed_front, front_is, front_was, back_is}

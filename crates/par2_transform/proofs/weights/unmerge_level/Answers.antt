@@ -1,9 +1,8 @@
-use Rattle.std.proofs.Common.{ℕ, suc, ◌+◌, ◌*◌, ◌^◌, ◌-◌, ◌<◌, ◌≤◌, ◌≡◌, sym, subst, arith, rules, length}
+use Rattle.std.proofs.Common.{suc, ◌+◌, ◌*◌, ◌^◌, ◌-◌, ◌<◌, ◌≤◌, ◌≡◌, sym, subst, arith, rules, length}
 use Rattle.std.proofs.Math.Nat.{pow-le-pow_right}
 use Rattle.std.specs.Prelude.{slice_index}
 use Rattle.par2_transform.specs.Subspaces.{point}
 use Rattle.par2_transform.specs.PowerSums.{IsMerged}
-use Rattle.par2_transform.specs.Steps.{OneRun, FirstRuns}
 use Rattle.par2_transform.proofs.StepLaws.{runs_start, runs_next, merged_of_first, pairs_fit}
 use Rattle.par2_transform.proofs.weights.unmerge_level.Goals as goal
 

@@ -1,7 +1,7 @@
-use Rattle.std.proofs.Common.{ℕ, suc, ◌+◌, ◌*◌, ◌^◌, ◌-◌, ◌<◌, ◌≤◌, ◌≡◌, sym, ◌∙◌, subst, arith, rules}
+use Rattle.std.proofs.Common.{suc, ◌-◌, ◌<◌, ◌≡◌, subst, arith}
 use Rattle.std.specs.Prelude.{slice_index}
 use Rattle.par2_transform.specs.Levels.{ComeFrom}
-use Rattle.par2_transform.proofs.LevelLaws.{come_from_themselves, come_from_split, power_sums_begin}
+use Rattle.par2_transform.proofs.LevelLaws.{come_from_themselves, come_from_split}
 use Rattle.par2_transform.proofs.LevelLaws.{are_weights}
 use Rattle.par2_transform.proofs.weights.weights.Goals as goal
 

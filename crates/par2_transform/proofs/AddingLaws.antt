@@ -1,0 +1,185 @@
+-- What is added to texts.
+use Rattle.std.proofs.Common.{inl, inr, ℕ, suc, ◌+◌, ◌-◌, ◌*◌, ◌<◌, ◌≤◌, ◌≡◌, ◌≢◌, refl, sym, ap, ap₂, subst, ◌∙◌, arith, Bool, true, false, List, ◌++◌, length, get_or, take, drop, bit_xor}
+use Rattle.std.specs.Prelude.{if◌then◌else◌, ◌&&◌, nat_le, nat_lt}
+use Rattle.std.proofs.lemmas.Bool.{cases_lt, cases_eq, lt-ltb, le-ltb, le-leb}
+use Rattle.std.proofs.lemmas.Bool.Decides.{leb_tells}
+use Rattle.std.proofs.lemmas.List.{get_or-append_right, get_or_append_left, get_or-take, get_or-drop, length-take-le}
+use Rattle.std.proofs.Math.Arith.{lt_of_le-ne}
+use Rattle.std.specs.Int.Bits.{xor_assoc, xor_zero_r, xor_zero_l}
+use borrow.Rule.Slice.PartMut.{put_mid, same_len_mid, mid_len}
+use Rattle.par2_spec.specs.Field.{mul}
+use Rattle.par2_spec.specs.Slices.{word}
+use Rattle.par2_spec.specs.Sums.{field_sum, list_at, OneChanged}
+use Rattle.par2_transform.specs.Adding.{within, AddsTo, AddsToEach}
+
+-- ---- within
+
+pub within-in : (from to p x : ℕ) → from ≤ p → p < to → within from to p x ≡ x
+within-in from to p x low high = ap₂ (λ a b. if a && b then x else 0) (leb-yes from p low) (lt-ltb p to high)
+  where
+    leb-yes : (a b : ℕ) → a ≤ b → nat_le a b ≡ true
+    leb-yes a b h = le-leb a b h
+
+pub within-below : (from to p x : ℕ) → p < from → within from to p x ≡ 0
+within-below from to p x low = ap (λ a. if a && nat_lt p to then x else 0) (leb-no from p low)
+  where
+    leb-no : (a b : ℕ) → b < a → nat_le a b ≡ false
+    leb-no a b h = elim (leb_tells a b) [ inl y ↦ absurd (let e : a ≤ b = y.1 in omega (arith, e)) | inr n ↦ n.0 ]
+
+pub within-above : (from to p x : ℕ) → to ≤ p → within from to p x ≡ 0
+within-above from to p x high = ap (λ b. if nat_le from p && b then x else 0) (le-ltb p to high) ∙ none (nat_le from p)
+  where
+    none : (a : Bool) → (if a && false then x else 0) ≡ 0
+    none true = refl
+    none false = refl
+
+-- two ranges, one behind the other
+pub within_joined : (a b d p x : ℕ) → a ≤ b → b ≤ d → bit_xor (within a b p x) (within b d p x) ≡ within a d p x
+within_joined a b d p x ab bd = elim (cases_lt p a) [
+  | inl below ↦
+      ap₂ bit_xor (within-below a b p x below) (within-below b d p x (omega arith)) ∙ sym (within-below a d p x below)
+  | inr from_a ↦ elim (cases_lt p b) [
+    | inl low ↦
+        ap₂ bit_xor (within-in a b p x from_a low) (within-below b d p x low) ∙ xor_zero_r x ∙ sym (within-in a d p x from_a (omega arith))
+    | inr from_b ↦ elim (cases_lt p d) [
+      | inl high ↦
+          ap₂ bit_xor (within-above a b p x from_b) (within-in b d p x from_b high) ∙ xor_zero_l x ∙ sym (within-in a d p x from_a high)
+      | inr above ↦
+          ap₂ bit_xor (within-above a b p x from_b) (within-above b d p x above) ∙ sym (within-above a d p x above)
+    ]
+  ]
+]
+
+pub within_same : (from to p x y : ℕ) → (from ≤ p → p < to → x ≡ y) → within from to p x ≡ within from to p y
+within_same from to p x y same = elim (cases_lt p from) [
+  | inl below ↦ within-below from to p x below ∙ sym (within-below from to p y below)
+  | inr from_here ↦ elim (cases_lt p to) [
+    | inl here ↦ ap (within from to p) (same from_here here)
+    | inr above ↦ within-above from to p x above ∙ sym (within-above from to p y above)
+  ]
+]
+
+-- ---- texts
+
+pub adds_none : (other : ℕ → ℕ → ℕ) (old : List (List ℕ)) → ((t p : ℕ) → other t p ≡ 0) → AddsToEach other old old
+adds_none other old none = record {
+  count = refl;
+  sizes = λ t. refl;
+  each = λ t p low fits. sym (ap (bit_xor (word p (list_at old t))) (none t p) ∙ xor_zero_r (word p (list_at old t)));
+}
+
+pub adds_more : (first second both : ℕ → ℕ → ℕ) (old mid new : List (List ℕ)) → AddsToEach first old mid → AddsToEach second mid new
+    → ((t p : ℕ) → t < length old → 2 * p + 1 < length (list_at old t) → bit_xor (first t p) (second t p) ≡ both t p) → AddsToEach both old new
+adds_more first second both old mid new a b joined = record {
+  count = b.count ∙ a.count;
+  sizes = λ t. b.sizes t ∙ a.sizes t;
+  each = λ t p low fits.
+      b.each t p (let e = a.count in omega (arith, e)) (let e = a.sizes t in omega (arith, e))
+      ∙ ap (λ x. bit_xor x (second t p)) (a.each t p low fits)
+      ∙ xor_assoc (word p (list_at old t)) (first t p) (second t p)
+      ∙ ap (bit_xor (word p (list_at old t))) (joined t p low fits);
+}
+
+pub adds_same : (first second : ℕ → ℕ → ℕ) (old new : List (List ℕ)) → AddsToEach first old new
+    → ((t p : ℕ) → t < length old → 2 * p + 1 < length (list_at old t) → first t p ≡ second t p) → AddsToEach second old new
+adds_same first second old new a same = record {
+  count = a.count;
+  sizes = a.sizes;
+  each = λ t p low fits. a.each t p low fits ∙ ap (bit_xor (word p (list_at old t))) (same t p low fits);
+}
+
+-- one more part of a sum
+pub adds_next : (n : ℕ) (part : ℕ → ℕ → ℕ → ℕ) (old mid new : List (List ℕ)) → AddsToEach (λ t p. field_sum n (λ j. part j t p)) old mid → AddsToEach (part n) mid new
+    → AddsToEach (λ t p. field_sum (n + 1) (λ j. part j t p)) old new
+unfolding field_sum
+adds_next n part old mid new a b =
+    adds_more (λ t p. field_sum n (λ j. part j t p)) (part n) (λ t p. field_sum (n + 1) (λ j. part j t p)) old mid new a b
+    (λ t p low fits. ap (λ k. field_sum k (λ j. part j t p)) (let e : suc n ≡ n + 1 = omega arith in e))
+
+-- one text alone
+pub adds_to_one : (i : ℕ) (other : ℕ → ℕ) (old new : List (List ℕ)) → OneChanged old new i → AddsTo other (list_at old i) (list_at new i)
+    → AddsToEach (λ t p. within i (i + 1) t (other p)) old new
+adds_to_one i other old new changed added = record {
+  count = changed.count;
+  sizes = λ t. elim (cases_eq t i) [
+    | inl same ↦ ap (λ k. length (list_at new k)) same ∙ added.same_length ∙ ap (λ k. length (list_at old k)) (sym same)
+    | inr another ↦ ap length (changed.others t another)
+  ];
+  each = λ t p low fits. elim (cases_eq t i) [
+    | inl same ↦
+        ap (λ k. word p (list_at new k)) same ∙ added.each p (subst (λ k. 2 * p + 1 < length (list_at old k)) same fits)
+        ∙ ap₂ bit_xor (ap (λ k. word p (list_at old k)) (sym same)) (sym (within-in i (i + 1) t (other p) (omega arith) (omega arith)))
+    | inr another ↦
+        ap (λ xs. word p xs) (changed.others t another)
+        ∙ sym (ap (bit_xor (word p (list_at old t))) (outside t p another) ∙ xor_zero_r (word p (list_at old t)))
+  ];
+}
+  where
+    outside : (t p : ℕ) → t ≢ i → within i (i + 1) t (other p) ≡ 0
+    outside t p another = elim (cases_lt t i) [
+      | inl below ↦ within-below i (i + 1) t (other p) below
+      | inr above ↦ within-above i (i + 1) t (other p) (let e : i < t = lt_of_le-ne above (λ e. another (sym e)) in omega (arith, e))
+    ]
+
+-- ---- a part of a text that is written
+
+part_below : (a k i : ℕ) (xs ys : List ℕ) → i < a → a ≤ length xs → get_or (put_mid a k xs ys) i 0 ≡ get_or xs i 0
+part_below a k i xs ys low fits =
+    get_or_append_left (take a xs) (ys ++ drop k (drop a xs)) 0 i (let e = length-take-le a xs fits in omega (arith, e)) ∙ get_or-take a xs i 0 low
+
+part_here : (a k i : ℕ) (xs ys : List ℕ) → i < k → a ≤ length xs → length ys ≡ k → get_or (put_mid a k xs ys) (a + i) 0 ≡ get_or ys i 0
+part_here a k i xs ys low fits size =
+    let long : length (take a xs) ≡ a = length-take-le a xs fits in
+    get_or-append_right (take a xs) (ys ++ drop k (drop a xs)) a (a + i) 0 long (omega arith)
+    ∙ ap (λ m. get_or (ys ++ drop k (drop a xs)) m 0) (let e : a + i - a ≡ i = omega arith in e)
+    ∙ get_or_append_left ys (drop k (drop a xs)) 0 i (omega (arith, size))
+
+part_above : (a k i : ℕ) (xs ys : List ℕ) → a + k ≤ i → a ≤ length xs → length ys ≡ k → get_or (put_mid a k xs ys) i 0 ≡ get_or xs i 0
+part_above a k i xs ys high fits size =
+    let long : length (take a xs) ≡ a = length-take-le a xs fits in
+    get_or-append_right (take a xs) (ys ++ drop k (drop a xs)) a i 0 long (omega arith)
+    ∙ get_or-append_right ys (drop k (drop a xs)) k (i - a) 0 size (omega arith)
+    ∙ get_or-drop k (drop a xs) (i - a - k) 0
+    ∙ get_or-drop a xs (k + (i - a - k)) 0
+    ∙ ap (λ m. get_or xs m 0) (let e : a + (k + (i - a - k)) ≡ i = omega arith in e)
+
+-- the words of a row's front, added to a part of a text
+pub adds_to_part : (c from to : ℕ) (row text new : List ℕ) → from ≤ to → 2 * to ≤ 2 * from + length row → 2 * to ≤ length text
+    → length new ≡ 2 * to - 2 * from
+    → ((p : ℕ) → 2 * p + 1 < 2 * to - 2 * from → word p new ≡ bit_xor (word p (take (2 * to - 2 * from) (drop (2 * from) text))) (mul c (word p (take (2 * (to - from)) row))))
+    → AddsTo (λ p. within from to p (mul c (word (p - from) row))) text (put_mid (2 * from) (2 * to - 2 * from) text new)
+adds_to_part c from to row text new order in_row in_text size each = record {
+  same_length = same_len_mid (2 * from) (2 * to - 2 * from) text new (size ∙ sym (mid_len (2 * from) (2 * to) text in_text));
+  each = λ p fits. elim (cases_lt p from) [
+    | inl below ↦
+        ap₂ (λ a b. a + 256 * b) (part_below (2 * from) k (2 * p) text new (omega arith) (omega arith)) (part_below (2 * from) k (2 * p + 1) text new (omega arith) (omega arith))
+        ∙ sym (ap (bit_xor (word p text)) (within-below from to p (mul c (word (p - from) row)) below) ∙ xor_zero_r (word p text))
+    | inr from_here ↦ elim (cases_lt p to) [
+      | inl here ↦ inside p (p - from) (omega arith) (omega arith)
+      | inr above ↦
+          ap₂ (λ a b. a + 256 * b) (part_above (2 * from) k (2 * p) text new (omega arith) (omega arith) size) (part_above (2 * from) k (2 * p + 1) text new (omega arith) (omega arith) size)
+          ∙ sym (ap (bit_xor (word p text)) (within-above from to p (mul c (word (p - from) row)) above) ∙ xor_zero_r (word p text))
+    ]
+  ];
+}
+  where
+    k : ℕ
+    k = 2 * to - 2 * from
+
+    inside : (p q : ℕ) → p ≡ from + q → p < to
+        → word p (put_mid (2 * from) k text new) ≡ bit_xor (word p text) (within from to p (mul c (word (p - from) row)))
+    inside p q place here =
+        let low : 2 * q + 1 < k = omega (arith, place) in
+        let back : p - from ≡ q = omega arith in
+        let written : word p (put_mid (2 * from) k text new) ≡ word q new =
+        ap₂ (λ a b. a + 256 * b)
+        (ap (λ m. get_or (put_mid (2 * from) k text new) m 0) (let e : 2 * p ≡ 2 * from + 2 * q = omega (arith, place) in e) ∙ part_here (2 * from) k (2 * q) text new (omega arith) (omega arith) size)
+        (ap (λ m. get_or (put_mid (2 * from) k text new) m 0) (let e : 2 * p + 1 ≡ 2 * from + (2 * q + 1) = omega (arith, place) in e) ∙ part_here (2 * from) k (2 * q + 1) text new (omega arith) (omega arith) size) in
+        let was : word q (take k (drop (2 * from) text)) ≡ word p text =
+        ap₂ (λ a b. a + 256 * b)
+        (get_or-take k (drop (2 * from) text) (2 * q) 0 (omega arith) ∙ get_or-drop (2 * from) text (2 * q) 0 ∙ ap (λ m. get_or text m 0) (let e : 2 * from + 2 * q ≡ 2 * p = omega (arith, place) in e))
+        (get_or-take k (drop (2 * from) text) (2 * q + 1) 0 low ∙ get_or-drop (2 * from) text (2 * q + 1) 0 ∙ ap (λ m. get_or text m 0) (let e : 2 * from + (2 * q + 1) ≡ 2 * p + 1 = omega (arith, place) in e)) in
+        let factor : word q (take (2 * (to - from)) row) ≡ word (p - from) row =
+        ap₂ (λ a b. a + 256 * b) (get_or-take (2 * (to - from)) row (2 * q) 0 (omega arith)) (get_or-take (2 * (to - from)) row (2 * q + 1) 0 (omega arith))
+        ∙ ap (λ m. word m row) (sym back) in
+        written ∙ each q low ∙ ap₂ (λ a b. bit_xor a (mul c b)) was factor ∙ ap (bit_xor (word p text)) (sym (within-in from to p (mul c (word (p - from) row)) (omega arith) here))

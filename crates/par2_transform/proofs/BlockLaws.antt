@@ -1,0 +1,121 @@
+-- Blocks of outputs, one after the other.
+use Rattle.std.proofs.Common.{inl, inr, ℕ, ◌+◌, ◌*◌, ◌<◌, ◌≡◌, ◌≢◌, refl, sym, ap, ap₂, subst, ◌∙◌, arith, bit_xor, List, [], ◌∷◌, ◌++◌, length, get_or, length-append}
+use Rattle.std.proofs.lemmas.List.{get_or_append_left, get_or_at}
+use Rattle.par2_spec.specs.Field.{mul}
+use Rattle.par2_transform.specs.Grids.{Grid, column, IsAdded}
+use Rattle.std.proofs.lemmas.Bool.{cases_eq, cases_lt}
+use Rattle.par2_spec.specs.Sums.{field_sum}
+use Rattle.par2_transform.specs.Adding.{AddsToEach}
+use Rattle.par2_transform.specs.Blocks.{Outputs, IsBlock, AreBlocks, RowsGathered, OneBecomes, BlocksBecome, Keeps, block_at, block_part}
+use Rattle.par2_transform.specs.Transforms.{Cut}
+use Rattle.par2_transform.proofs.AddingLaws.{adds_none, adds_next}
+
+pub none_becomes : (relation : Outputs → Outputs → Type 0) (blocks : List Outputs) → BlocksBecome relation 0 blocks blocks
+none_becomes relation blocks = record { count = refl; done = λ j h. absurd (omega arith); rest = λ j h. refl }
+
+pub next_becomes : (relation : Outputs → Outputs → Type 0) (n : ℕ) (old mid new : List Outputs) → BlocksBecome relation n old mid → OneBecomes relation n mid new
+    → BlocksBecome relation (n + 1) old new
+next_becomes relation n old mid new so_far one = record {
+  count = one.count ∙ so_far.count;
+  done = λ j h. elim (cases_eq j n) [
+    | inl same ↦ subst (λ i. relation (block_at old i) (block_at new i)) (sym same) (subst (λ b. relation b (block_at new n)) (so_far.rest n (omega arith)) one.here)
+    | inr other ↦ subst (λ b. relation (block_at old j) b) (sym (one.others j other)) (so_far.done j (omega arith))
+  ];
+  rest = λ j h. one.others j (λ e. omega arith) ∙ so_far.rest j (omega arith);
+}
+
+-- the first n blocks were added to the outputs
+pub record AddedSoFar (cut : Cut) (size r from to n : ℕ) (old blocks : List Outputs) (was texts : List (List ℕ)) : Type 0 where
+  pub kept : BlocksBecome Keeps n old blocks
+  pub added : AddsToEach (λ t p. field_sum n (λ j. block_part cut size r from to (block_at old j) j t p)) was texts
+
+pub none_added : (cut : Cut) (size r from to : ℕ) (blocks : List Outputs) (texts : List (List ℕ)) → AddedSoFar cut size r from to 0 blocks blocks texts texts
+unfolding field_sum
+none_added cut size r from to blocks texts = record {
+  kept = none_becomes Keeps blocks;
+  added = adds_none (λ t p. field_sum 0 (λ j. block_part cut size r from to (block_at blocks j) j t p)) texts (λ t p. refl);
+}
+
+pub next_added : (cut : Cut) (size r from to n : ℕ) (old mid blocks : List Outputs) (was before texts : List (List ℕ)) → AddedSoFar cut size r from to n old mid was before
+    → OneBecomes Keeps n mid blocks → AddsToEach (block_part cut size r from to (block_at mid n) n) before texts → AddedSoFar cut size r from to (n + 1) old blocks was texts
+next_added cut size r from to n old mid blocks was before texts so_far kept added = record {
+  kept = next_becomes Keeps n old mid blocks so_far.kept kept;
+  added = adds_next n (λ j t p. block_part cut size r from to (block_at old j) j t p) was before texts so_far.added
+      (subst (λ b. AddsToEach (block_part cut size r from to b n) before texts) (so_far.kept.rest n (omega arith)) added);
+}
+
+-- ---- rows
+
+pub no_row : (weights : ℕ → ℕ) (values sums : Grid) → RowsGathered weights values 0 sums sums
+no_row weights values sums = record { levels = refl; words = refl; done = λ c u h l. absurd (omega arith); rest = λ c u h. refl }
+
+pub next_row : (weights : ℕ → ℕ) (values old mid new : Grid) (n factor : ℕ) → RowsGathered weights values n old mid → factor ≡ weights n
+    → IsAdded mid new n (λ c. mul factor (column values c n)) → RowsGathered weights values (n + 1) old new
+next_row weights values old mid new n factor so_far is added = record {
+  levels = added.levels ∙ so_far.levels;
+  words = added.words ∙ so_far.words;
+  done = λ c u h l. elim (cases_eq u n) [
+    | inl same ↦
+        ap (column new c) same ∙ added.here c (let w = so_far.words in omega (arith, w))
+        ∙ ap₂ (λ x f. bit_xor x (mul f (column values c n))) (so_far.rest c n (omega arith)) is
+        ∙ ap (λ k. bit_xor (column old c k) (mul (weights k) (column values c k))) (sym same)
+    | inr other ↦ added.others c u other ∙ so_far.done c u h (below u l other)
+  ];
+  rest = λ c u h. added.others c u (λ e. omega arith) ∙ so_far.rest c u (omega arith);
+}
+  where
+    below : (u : ℕ) → u < n + 1 → u ≢ n → u < n
+    below u l other = elim (cases_lt u n) [ inl low ↦ low | inr high ↦ absurd (other (omega arith)) ]
+
+-- ---- tables
+
+-- a list of the first n values of f
+pub record Tabulates (f : ℕ → ℕ) (n : ℕ) (xs : List ℕ) : Type 0 where
+  pub count : length xs ≡ n
+  pub each : (i : ℕ) → i < n → get_or xs i 0 ≡ f i
+
+pub no_value : (f : ℕ → ℕ) → Tabulates f 0 []
+no_value f = record { count = refl; each = λ i h. absurd (omega arith) }
+
+pub next_value : (f : ℕ → ℕ) (n x : ℕ) (xs : List ℕ) → Tabulates f n xs → x ≡ f n → Tabulates f (n + 1) (xs ++ x ∷ [])
+next_value f n x xs so_far is = record {
+  count = length-append xs (x ∷ []) ∙ ap (λ k. k + 1) so_far.count;
+  each = λ i h. elim (cases_lt i n) [
+    | inl low ↦ get_or_append_left xs (x ∷ []) 0 i (let e = so_far.count in omega (arith, e)) ∙ so_far.each i low
+    | inr high ↦
+        (let same : i ≡ n = omega arith in
+        ap (λ k. get_or (xs ++ x ∷ []) k 0) same ∙ get_or_at xs x [] 0 n so_far.count ∙ is ∙ ap f (sym same))
+  ];
+}
+
+-- ---- blocks made
+
+-- the first n blocks of so many outputs
+pub record BlocksMade (cut : Cut) (columns first size n : ℕ) (blocks : List Outputs) : Type 0 where
+  pub count : length blocks ≡ n
+  pub are : AreBlocks cut columns first size blocks
+
+pub no_block : (cut : Cut) (columns first size : ℕ) → BlocksMade cut columns first size 0 []
+no_block cut columns first size = record { count = refl; are = λ j h. absurd (omega arith) }
+
+pub next_block : (cut : Cut) (columns first size n e : ℕ) (blocks : List Outputs) (block : Outputs) → BlocksMade cut columns first size n blocks → IsBlock cut columns e block → e ≡ first + n * size
+    → BlocksMade cut columns first size (n + 1) (blocks ++ block ∷ [])
+next_block cut columns first size n e blocks block so_far is place = record {
+  count = length-append blocks (block ∷ []) ∙ ap (λ k. k + 1) so_far.count;
+  are = λ j h. elim (cases_lt j n) [
+    | inl low ↦ subst (IsBlock cut columns (first + j * size)) (sym (before j low)) (so_far.are j (let c = so_far.count in omega (arith, c)))
+    | inr high ↦
+        (let same : j ≡ n = (let c = so_far.count in let l = length-append blocks (block ∷ []) in omega (arith, c, l)) in
+        subst (λ k. IsBlock cut columns (first + k * size) (block_at (blocks ++ block ∷ []) k)) (sym same)
+        (subst (IsBlock cut columns (first + n * size)) (sym here) (subst (λ k. IsBlock cut columns k block) place is)))
+  ];
+}
+  where
+    none : Outputs
+    none = record { exponent = 0; windows = 0; weights = []; sums = record { levels = 0; words = 0; texts = [] } }
+
+    before : (j : ℕ) → j < n → block_at (blocks ++ block ∷ []) j ≡ block_at blocks j
+    before j low = get_or_append_left blocks (block ∷ []) none j (let c = so_far.count in omega (arith, c))
+
+    here : block_at (blocks ++ block ∷ []) n ≡ block
+    here = get_or_at blocks block [] none n so_far.count

@@ -1,0 +1,194 @@
+-- From blocks of outputs to what a class gives, and from classes to recovery slices.
+use Rattle.std.proofs.Common.{inl, inr, ℕ, suc, ◌+◌, ◌-◌, ◌*◌, ◌/◌, ◌%◌, ◌^◌, ◌<◌, ◌≤◌, ◌≡◌, ◌≢◌, refl, sym, ap, ◌∙◌, arith, List, length}
+use Rattle.std.proofs.lemmas.Bool.{cases_lt}
+use Rattle.std.proofs.Math.Nat.{div-mul-le_self, mul-le-mul_right, mod-lt}
+use Rattle.std.proofs.Math.Arith.{lt_of_le-ne}
+use Rattle.std.proofs.lemmas.Nat.{div-add-mod'}
+use Rattle.std.specs.Prelude.{if◌then◌else◌, not, ◌==◌, ◌&&◌, false}
+use Rattle.par2_spec.specs.Field.{mul, pow, is_spared}
+use Rattle.par2_spec.proofs.FieldOrder.{product-zero}
+use Rattle.std.proofs.Common.{[]}
+use Rattle.std.proofs.lemmas.List.{get_or_past}
+use Rattle.par2_spec.specs.Slices.{word}
+use Rattle.par2_spec.specs.Sums.{field_sum, list_at}
+use Rattle.par2_spec.proofs.WordLaws.{word-lt}
+use Rattle.par2_spec.proofs.SumLaws.{field_sum_same, field_sum_one, field_sum_none}
+use Rattle.par2_transform.specs.Adding.{within, AddsToEach}
+use Rattle.par2_transform.specs.Blocks.{Outputs, IsBlock, IsGathered, Keeps, EachBlock, AreBlocks, block_at, block_part, from_gathered, class_sum_at, weight_at}
+use Rattle.par2_transform.specs.Chirps.{chirp_inverse, spared_below, word_at_power, AreFirst}
+use Rattle.par2_transform.specs.Columns.{words_at, AreBytes, recovered}
+use Rattle.par2_transform.specs.Grids.{Grid, column}
+use Rattle.par2_transform.specs.Subspaces.{point}
+use Rattle.par2_transform.specs.Transforms.{Cut, Reaches, gathered}
+use Rattle.par2_transform.proofs.AddingLaws.{adds_none, adds_next, adds_same, within-in, within-below, within-above, within_same}
+use Rattle.par2_transform.proofs.WindowLaws.{block_kept}
+use Rattle.par2_transform.proofs.Transforms.{class_by_windows, sum_by_classes}
+
+-- what a gathered block gives to one of its exponents is what the class gives
+pub gathered_gives : (n : ℕ) (cut : Cut) (slices : List (List ℕ)) (words r from p e t : ℕ) (was block : Outputs) → AreFirst n (words_at slices p) → IsBlock cut words e was
+    → IsGathered cut slices r from cut.windows was block → from ≤ p → p < from + words → cut.window + t ≤ 2 ^ cut.levels
+    → from_gathered cut (column block.sums (p - from)) e t r ≡ class_sum_at cut (words_at slices p) (e + t) r
+gathered_gives n cut slices words r from p e t was block first is all low high fits =
+    let place : from + (p - from) ≡ p = omega arith in
+    ap (mul (mul (pow 2 ((e + t) * r)) (chirp_inverse cut.classes (e + t))))
+    (field_sum_same (2 ^ cut.levels) (λ u. mul (column block.sums (p - from) u) (pow (point u) t)) (λ u. mul (gathered cut (weight_at was.weights) (words_at slices p) r u) (pow (point u) t))
+    (λ u h. ap (λ x. mul x (pow (point u) t))
+    (all.sums (p - from) u (let s = is.words in omega (arith, s)) h
+    ∙ ap (λ q. gathered cut (weight_at was.weights) (words_at slices q) r u) place)))
+    ∙ sym (class_by_windows n (words_at slices p) first cut e t (weight_at was.weights) is.has fits r)
+
+-- one block alone holds output t
+pub blocks_give : (n : ℕ) (cut : Cut) (slices : List (List ℕ)) (words size r from to first t p : ℕ) (old blocks : List Outputs) → AreFirst n (words_at slices p)
+    → AreBlocks cut words first size old → length blocks ≡ length old
+    → ((j : ℕ) → j < length old → IsGathered cut slices r from cut.windows (block_at old j) (block_at blocks j))
+    → cut.window + size ≤ 2 ^ cut.levels + 1 → 1 ≤ size → t < length old * size → to ≤ from + words
+    → field_sum (length blocks) (λ j. block_part cut size r from to (block_at blocks j) j t p) ≡ within from to p (class_sum_at cut (words_at slices p) (first + t) r)
+blocks_give n cut slices words size r from to first t p old blocks are_first are count all fits some covered narrow =
+    ap (λ m. field_sum m (λ j. block_part cut size r from to (block_at blocks j) j t p)) count
+    ∙ field_sum_one (length old) q (λ j. block_part cut size r from to (block_at blocks j) j t p) in_range others
+    ∙ within-in (q * size) (q * size + size) t (within from to p (from_gathered cut (column (block_at blocks q).sums (p - from)) (block_at blocks q).exponent (t - q * size) r)) q_low q_high
+    ∙ within_same from to p (from_gathered cut (column (block_at blocks q).sums (p - from)) (block_at blocks q).exponent (t - q * size) r) (class_sum_at cut (words_at slices p) (first + t) r)
+    (λ low high.
+    ap (λ e. from_gathered cut (column (block_at blocks q).sums (p - from)) e (t - q * size) r) ((all q in_range).kept.exponent ∙ (are q in_range).exponent)
+    ∙ gathered_gives n cut slices words r from p (first + q * size) (t - q * size) (block_at old q) (block_at blocks q) are_first (are q in_range) (all q in_range) low (omega arith) (omega (arith, q_low, q_high))
+    ∙ ap (λ e. class_sum_at cut (words_at slices p) e r) (let e : first + q * size + (t - q * size) ≡ first + t = omega (arith, q_low) in e))
+  where
+    q : ℕ
+    q = t / size
+
+    q_low : t / size * size ≤ t
+    q_low = div-mul-le_self t size
+
+    q_high : t < t / size * size + size
+    q_high = let e = div-add-mod' t size in let l = mod-lt t {m = size} some in omega (arith, e, l)
+
+    in_range : t / size < length old
+    in_range = elim (cases_lt (t / size) (length old)) [
+      | inl low ↦ low
+      | inr high ↦ (let more : length old * size ≤ t / size * size = mul-le-mul_right size high in absurd (omega (arith, q_low, more)))
+    ]
+
+    others : (j : ℕ) → j < length old → j ≢ q → block_part cut size r from to (block_at blocks j) j t p ≡ 0
+    others j h other = elim (cases_lt j q) [
+      | inl below ↦
+          (let more : suc j * size ≤ t / size * size = mul-le-mul_right size (let b : suc j ≤ t / size = omega (arith, below) in b) in
+          let next : suc j * size ≡ j * size + size = omega arith in
+          within-above (j * size) (j * size + size) t (within from to p (from_gathered cut (column (block_at blocks j).sums (p - from)) (block_at blocks j).exponent (t - j * size) r)) (omega (arith, q_low, more, next)))
+      | inr not_below ↦
+          (let beyond : t / size < j = lt_of_le-ne not_below (λ e. other (sym e)) in
+          let above : suc (t / size) ≤ j = omega (arith, beyond) in
+          let more : suc (t / size) * size ≤ j * size = mul-le-mul_right size above in
+          let next : suc (t / size) * size ≡ t / size * size + size = omega arith in
+          within-below (j * size) (j * size + size) t (within from to p (from_gathered cut (column (block_at blocks j).sums (p - from)) (block_at blocks j).exponent (t - j * size) r)) (omega (arith, q_high, more, next)))
+    ]
+
+-- no class that 3 divides holds a slice, where there are three
+pub first_class_gives : (cut : Cut) (words : ℕ → ℕ) (e : ℕ) → cut.classes ≡ 3 → class_sum_at cut words e 0 ≡ 0
+unfolding word_at_power
+first_class_gives cut words e three =
+    field_sum_none (cut.windows * cut.window) (λ m. mul (pow 2 (e * (cut.classes * m + 0))) (word_at_power words (cut.classes * m + 0)))
+    (λ m h. ap (λ n. mul (pow 2 (e * (cut.classes * m + 0))) (word_at_power words (n * m + 0))) three
+    ∙ ap (λ b. mul (pow 2 (e * (cut.classes * m + 0))) (if b then words (spared_below (3 * m + 0)) else 0)) (divided m)
+    ∙ product-zero (pow 2 (e * (cut.classes * m + 0))))
+  where
+    divided : (m : ℕ) → is_spared (3 * m + 0) ≡ false
+    divided m = ap (λ k. not (k == 0) && not ((3 * m + 0) % 5 == 0) && not ((3 * m + 0) % 17 == 0) && not ((3 * m + 0) % 257 == 0)) (let e : (3 * m + 0) % 3 ≡ 0 = omega arith in e)
+
+-- the words of slices at a place
+pub words_are_first : (slices : List (List ℕ)) (p : ℕ) → length slices ≤ 32768 → AreBytes slices → AreFirst (length slices) (words_at slices p)
+words_are_first slices p few bytes = record {
+  few = few;
+  none = λ i h. ap (word p) (get_or_past slices i [] h);
+  fit = λ i. word-lt (list_at slices i) p (bytes i);
+}
+
+-- the exponents of blocks are small
+pub exponent-le : (cut : Cut) (words first size : ℕ) (blocks : List Outputs) → AreBlocks cut words first size blocks → first + length blocks * size ≤ 2 ^ 34
+    → (j : ℕ) → j < length blocks → (block_at blocks j).exponent ≤ 2 ^ 34
+exponent-le cut words first size blocks are few j h =
+    let more : j * size ≤ length blocks * size = mul-le-mul_right size (let b : j ≤ length blocks = omega (arith, h) in b) in
+    let e = (are j h).exponent in omega (arith, e, more)
+
+-- ---- all classes
+
+within_sum : (n from to p : ℕ) (f : ℕ → ℕ) → field_sum n (λ r. within from to p (f r)) ≡ within from to p (field_sum n f)
+within_sum n from to p f = elim (cases_lt p from) [
+  | inl below ↦ field_sum_none n (λ r. within from to p (f r)) (λ r h. within-below from to p (f r) below) ∙ sym (within-below from to p (field_sum n f) below)
+  | inr at_least ↦ elim (cases_lt p to) [
+    | inl here ↦ field_sum_same n (λ r. within from to p (f r)) f (λ r h. within-in from to p (f r) at_least here) ∙ sym (within-in from to p (field_sum n f) at_least here)
+    | inr above ↦ field_sum_none n (λ r. within from to p (f r)) (λ r h. within-above from to p (f r) above) ∙ sym (within-above from to p (field_sum n f) above)
+  ]
+]
+
+-- the first n classes were added, in the columns from one place up to another
+pub record ClassesAdded (cut : Cut) (slices : List (List ℕ)) (words first size from to n : ℕ) (rows_were rows : Grid) (old blocks : List Outputs) (was texts : List (List ℕ)) : Type 0 where
+  pub levels : rows.levels ≡ rows_were.levels
+  pub words_kept : rows.words ≡ rows_were.words
+  pub count : length blocks ≡ length old
+  pub are : AreBlocks cut words first size blocks
+  pub added : AddsToEach (λ t p. field_sum n (λ r. within from to p (class_sum_at cut (words_at slices p) (first + t) r))) was texts
+
+pub no_class : (cut : Cut) (slices : List (List ℕ)) (words first size from to : ℕ) (rows : Grid) (blocks : List Outputs) (texts : List (List ℕ)) → AreBlocks cut words first size blocks
+    → ClassesAdded cut slices words first size from to 0 rows rows blocks blocks texts texts
+unfolding field_sum
+no_class cut slices words first size from to rows blocks texts are = record {
+  levels = refl;
+  words_kept = refl;
+  count = refl;
+  are = are;
+  added = adds_none (λ t p. field_sum 0 (λ r. within from to p (class_sum_at cut (words_at slices p) (first + t) r))) texts (λ t p. refl);
+}
+
+pub next_class : (cut : Cut) (slices : List (List ℕ)) (words first size from to n : ℕ) (rows_were mid rows : Grid) (old before blocks : List Outputs) (was half texts : List (List ℕ))
+    → ClassesAdded cut slices words first size from to n rows_were mid old before was half → rows.levels ≡ mid.levels → rows.words ≡ mid.words → length blocks ≡ length before
+    → AreBlocks cut words first size blocks → AddsToEach (λ t p. within from to p (class_sum_at cut (words_at slices p) (first + t) n)) half texts
+    → ClassesAdded cut slices words first size from to (n + 1) rows_were rows old blocks was texts
+next_class cut slices words first size from to n rows_were mid rows old before blocks was half texts so_far levels kept count are added = record {
+  levels = levels ∙ so_far.levels;
+  words_kept = kept ∙ so_far.words_kept;
+  count = count ∙ so_far.count;
+  are = are;
+  added = adds_next n (λ r t p. within from to p (class_sum_at cut (words_at slices p) (first + t) r)) was half texts so_far.added added;
+}
+
+-- all classes together give the recovery slices
+pub all_classes : (cut : Cut) (slices : List (List ℕ)) (words first size from to : ℕ) (rows_were rows : Grid) (old blocks : List Outputs) (was texts : List (List ℕ))
+    → length slices ≤ 32768 → AreBytes slices → Reaches (length slices) cut
+    → ClassesAdded cut slices words first size from to cut.classes rows_were rows old blocks was texts → AddsToEach (λ t p. within from to p (recovered slices (first + t) p)) was texts
+all_classes cut slices words first size from to rows_were rows old blocks was texts few bytes reaches all =
+    adds_same (λ t p. field_sum cut.classes (λ r. within from to p (class_sum_at cut (words_at slices p) (first + t) r))) (λ t p. within from to p (recovered slices (first + t) p)) was texts all.added
+    (λ t p low fits.
+    within_sum cut.classes from to p (class_sum_at cut (words_at slices p) (first + t))
+    ∙ ap (within from to p) (sym (sum_by_classes (length slices) (words_at slices p) (words_are_first slices p few bytes) cut reaches (first + t))))
+
+-- ---- one class
+
+pub class_added : (cut : Cut) (slices : List (List ℕ)) (words size r from to first : ℕ) (old blocks : List Outputs) (was texts : List (List ℕ))
+    → length slices ≤ 32768 → AreBytes slices → AreBlocks cut words first size old → EachBlock (IsGathered cut slices r from cut.windows) old blocks
+    → cut.window + size ≤ 2 ^ cut.levels + 1 → 1 ≤ size → length was ≤ length old * size → to ≤ from + words
+    → AddsToEach (λ t p. field_sum (length blocks) (λ j. block_part cut size r from to (block_at blocks j) j t p)) was texts
+    → AddsToEach (λ t p. within from to p (class_sum_at cut (words_at slices p) (first + t) r)) was texts
+class_added cut slices words size r from to first old blocks was texts few bytes are all fits some covered narrow added =
+    adds_same (λ t p. field_sum (length blocks) (λ j. block_part cut size r from to (block_at blocks j) j t p)) (λ t p. within from to p (class_sum_at cut (words_at slices p) (first + t) r)) was texts added
+    (λ t p low in_text. blocks_give (length slices) cut slices words size r from to first t p old blocks (words_are_first slices p few bytes) are all.count all.done fits some (omega arith) narrow)
+
+pub blocks_still : (cut : Cut) (slices : List (List ℕ)) (words size r from first n : ℕ) (old mid blocks : List Outputs) → AreBlocks cut words first size old
+    → EachBlock (IsGathered cut slices r from n) old mid → EachBlock Keeps mid blocks → AreBlocks cut words first size blocks
+blocks_still cut slices words size r from first n old mid blocks are gathered kept j h =
+    let in_old : j < length old = (let a = gathered.count in let b = kept.count in omega (arith, a, b)) in
+    let in_mid : j < length mid = (let a = gathered.count in omega (arith, a, in_old)) in
+    block_kept cut words (first + j * size) (block_at mid j) (block_at blocks j)
+    (block_kept cut words (first + j * size) (block_at old j) (block_at mid j) (are j in_old) (gathered.done j in_old).kept) (kept.done j in_mid)
+
+-- in the first of three classes there is nothing to add
+pub nothing_added : (cut : Cut) (slices : List (List ℕ)) (first from to : ℕ) (texts : List (List ℕ)) → cut.classes ≡ 3
+    → AddsToEach (λ t p. within from to p (class_sum_at cut (words_at slices p) (first + t) 0)) texts texts
+nothing_added cut slices first from to texts three =
+    adds_none (λ t p. within from to p (class_sum_at cut (words_at slices p) (first + t) 0)) texts
+    (λ t p. ap (within from to p) (first_class_gives cut (words_at slices p) (first + t) three) ∙ zero from to p)
+  where
+    zero : (from to p : ℕ) → within from to p 0 ≡ 0
+    zero from to p = elim (cases_lt p from) [
+      | inl below ↦ within-below from to p 0 below
+      | inr at_least ↦ elim (cases_lt p to) [ inl here ↦ within-in from to p 0 at_least here | inr above ↦ within-above from to p 0 above ]
+    ]

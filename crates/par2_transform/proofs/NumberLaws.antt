@@ -1,0 +1,123 @@
+-- The numbers of slices by the exponents of their constants.
+use Rattle.std.proofs.Common.{◌⊎◌, inl, inr, ℕ, suc, ◌+◌, ◌*◌, ◌<◌, ◌≤◌, ◌≡◌, refl, sym, ap, ap₂, subst, ◌∙◌, arith, Bool, true, false, List, [], ◌∷◌, ◌++◌, length, get_or, drop, length-append}
+use Rattle.std.specs.Prelude.{if◌then◌else◌}
+use Rattle.std.proofs.lemmas.Bool.{cases_lt}
+use Rattle.std.proofs.lemmas.List.{get_or_append_left, get_or_at, get_or_past, get_or-drop, get_or_default, length-map}
+use Rattle.std.specs.Borrow.{Bor}
+use Rattle.par2_spec.specs.Field.{is_spared}
+use Rattle.par2_spec.specs.Slices.{word}
+use Rattle.par2_spec.specs.Sums.{list_at}
+use Rattle.par2_transform.specs.Chirps.{spared_below, word_at_power}
+use Rattle.par2_transform.specs.Columns.{texts_of, words_at, AreNumbers}
+use Rattle.par2_transform.proofs.SparedSums.{spared_below_all, spared_below-mono}
+
+-- what is pushed for an exponent
+abbrev pub number_of : ℕ → ℕ
+number_of m = if is_spared m then spared_below m else 65535
+
+-- the numbers for the exponents below `exponent`, as long as fewer than n slices were found
+pub record AreFound (n : ℕ) (numbers : List ℕ) (found exponent : ℕ) : Type 0 where
+  pub few : length numbers ≤ exponent
+  pub so_far : found ≡ spared_below (length numbers)
+  pub at_most : found ≤ n
+  pub missing : found < n → length numbers ≡ exponent
+  pub each : (m : ℕ) → m < length numbers → get_or numbers m 0 ≡ number_of m
+
+pub none_found : (n : ℕ) → AreFound n [] 0 0
+unfolding spared_below
+none_found n = record {
+  few = omega arith;
+  so_far = refl;
+  at_most = omega arith;
+  missing = λ h. refl;
+  each = λ m h. absurd (omega arith);
+}
+
+pub enough_found : (n found exponent : ℕ) (numbers : List ℕ) → AreFound n numbers found exponent → n ≤ found → AreFound n numbers found (exponent + 1)
+enough_found n found exponent numbers so_far enough = record {
+  few = let e = so_far.few in omega (arith, e);
+  so_far = so_far.so_far;
+  at_most = so_far.at_most;
+  missing = λ h. absurd (omega arith);
+  each = so_far.each;
+}
+
+-- whether the number counts, as a number
+abbrev pub bit_of : Bool → ℕ
+bit_of b = if b then 1 else 0
+
+pub one_found : (n found exponent x next : ℕ) (numbers : List ℕ) → AreFound n numbers found exponent → found < n
+    → x ≡ (if is_spared exponent then found else 65535) → next ≡ found + bit_of (is_spared exponent)
+    → AreFound n (numbers ++ x ∷ []) next (exponent + 1)
+unfolding spared_below
+one_found n found exponent x next numbers so_far low pushed counted =
+    let place : length numbers ≡ exponent = so_far.missing low in
+    let count : found ≡ spared_below exponent = so_far.so_far ∙ ap spared_below place in
+    let longer : length (numbers ++ x ∷ []) ≡ length numbers + 1 = length-append numbers (x ∷ []) in
+    let here : spared_below (suc exponent) ≡ found + bit_of (is_spared exponent) = step (is_spared exponent) (spared_below exponent) ∙ ap (λ k. k + bit_of (is_spared exponent)) (sym count) in
+    record {
+      few = let e = so_far.few in omega (arith, e, longer);
+      so_far = counted ∙ sym here ∙ ap spared_below (let e : suc exponent ≡ length (numbers ++ x ∷ []) = omega (arith, place, longer) in e);
+      at_most = let b = small (is_spared exponent) in omega (arith, counted, b);
+      missing = λ h. omega (arith, place, longer);
+      each = λ m h. each m (omega (arith, longer, place)) place count;
+    }
+  where
+    step : (b : Bool) (k : ℕ) → (if b then suc k else k) ≡ k + bit_of b
+    step true k = omega arith
+    step false k = omega arith
+
+    small : (b : Bool) → bit_of b ≤ 1
+    small true = omega arith
+    small false = omega arith
+
+    each : (m : ℕ) → m < exponent + 1 → length numbers ≡ exponent → found ≡ spared_below exponent → get_or (numbers ++ x ∷ []) m 0 ≡ number_of m
+    each m h place count = elim (cases_lt m exponent) [
+      | inl l ↦ get_or_append_left numbers (x ∷ []) 0 m (omega (arith, place)) ∙ so_far.each m (omega (arith, place))
+      | inr high ↦
+          (let same : m ≡ exponent = omega arith in
+          ap (λ k. get_or (numbers ++ x ∷ []) k 0) same ∙ get_or_at numbers x [] 0 exponent place ∙ pushed
+          ∙ ap (λ k. if is_spared exponent then k else 65535) count ∙ ap number_of (sym same))
+    ]
+
+-- all constants' exponents are below 65,536, so all slices are found
+pub all_found : (n found : ℕ) (numbers : List ℕ) → n ≤ 32768 → AreFound n numbers found 65536 → AreNumbers n numbers
+all_found n found numbers few so_far = record {
+  few = so_far.few;
+  reach = elim (cases_lt found n) [
+    | inl low ↦
+        (let whole : found ≡ 32768 = so_far.so_far ∙ ap spared_below (so_far.missing low) ∙ spared_below_all in
+        absurd (omega arith))
+    | inr enough ↦ subst (λ k. n ≤ k) so_far.so_far enough
+  ];
+  each = so_far.each;
+}
+
+-- ---- a text from a word on
+
+pub word_from : (from p : ℕ) (xs : List ℕ) → word p (drop (2 * from) xs) ≡ word (from + p) xs
+word_from from p xs =
+    ap₂ (λ a b. a + 256 * b)
+    (get_or-drop (2 * from) xs (2 * p) 0 ∙ ap (λ i. get_or xs i 0) (let e : 2 * from + 2 * p ≡ 2 * (from + p) = omega arith in e))
+    (get_or-drop (2 * from) xs (2 * p + 1) 0 ∙ ap (λ i. get_or xs i 0) (let e : 2 * from + (2 * p + 1) ≡ 2 * (from + p) + 1 = omega arith in e))
+
+-- ---- the slice whose constant is a power of 2
+
+pub text_found : (texts : List (List ℕ)) (numbers : List ℕ) (power number p : ℕ) (text : List ℕ) → length texts ≤ 32768 → AreNumbers (length texts) numbers
+    → number ≡ get_or numbers power 65535 → text ≡ list_at texts number → word p text ≡ word_at_power (words_at texts p) power
+unfolding word_at_power
+text_found texts numbers power number p text few are is found = elim (cases_lt power (length numbers)) [
+  | inl known ↦
+      ap (word p) found ∙ ap (λ k. word p (list_at texts k)) (is ∙ get_or_default numbers power 65535 0 known ∙ are.each power known) ∙ by_bit (is_spared power)
+  | inr beyond ↦
+      ap (word p) (found ∙ ap (list_at texts) (is ∙ get_or_past numbers power 65535 beyond) ∙ get_or_past texts 65535 [] (omega arith))
+      ∙ sym (nothing (is_spared power) (words_at texts p (spared_below power)) (ap (word p) (get_or_past texts (spared_below power) [] (let m = spared_below-mono (length numbers) power beyond in let r = are.reach in omega (arith, m, r)))))
+]
+  where
+    by_bit : (b : Bool) → word p (list_at texts (if b then spared_below power else 65535)) ≡ (if b then words_at texts p (spared_below power) else 0)
+    by_bit true = refl
+    by_bit false = ap (word p) (get_or_past texts 65535 [] (omega arith))
+
+    nothing : (b : Bool) (x : ℕ) → x ≡ 0 → (if b then x else 0) ≡ 0
+    nothing true x none = none
+    nothing false x none = refl

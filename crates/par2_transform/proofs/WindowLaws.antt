@@ -1,0 +1,167 @@
+-- From coefficients in rows to what the windows of a class give.
+use Rattle.std.proofs.Common.{inl, inr, ℕ, suc, ◌+◌, ◌-◌, ◌*◌, ◌^◌, ◌<◌, ◌≤◌, ◌≡◌, ◌≢◌, refl, sym, ap, ap₂, subst, ◌∙◌, arith, List, length, bit_xor}
+use Rattle.std.proofs.lemmas.Bool.{cases_lt, cases_eq}
+use Rattle.std.specs.Int.Bits.{xor_zero_l, xor_zero_r}
+use Rattle.par2_spec.specs.Field.{mul, pow}
+use Rattle.par2_spec.specs.Sums.{field_sum}
+use Rattle.par2_spec.proofs.FieldOrder.{zero-product}
+use Rattle.par2_spec.proofs.SumLaws.{field_sum_same, field_sum_none}
+use Rattle.par2_transform.specs.Blocks.{Outputs, Keeps, IsCleared, Gathers, GathersWindow, IsGathered, EachBlock, block_at, weight_at, AreCoefficients, AreWindowValues, HaveShape, AreBlocks, IsBlock}
+use Rattle.par2_transform.specs.Columns.{words_at}
+use Rattle.par2_transform.specs.Evaluations.{value, AreValues}
+use Rattle.par2_transform.specs.Grids.{Grid, column, IsAdded, EachColumn}
+use Rattle.par2_transform.specs.Subspaces.{point}
+use Rattle.par2_transform.specs.Transforms.{Cut, coefficient_of, window_value}
+use Rattle.par2_transform.proofs.Sums.{field_sum_join}
+
+-- ---- coefficients
+
+pub no_coefficient : (cut : Cut) (slices : List (List ℕ)) (r a from : ℕ) (old new : Grid) → new.levels ≡ old.levels → new.words ≡ old.words
+    → ((c u : ℕ) → column new c u ≡ 0) → AreCoefficients cut slices r a from 0 old new
+no_coefficient cut slices r a from old new levels words zero = record {
+  levels = levels;
+  words = words;
+  first = λ c m h l. absurd (omega arith);
+  none = λ c m h. zero c m;
+}
+
+pub next_coefficient : (cut : Cut) (slices : List (List ℕ)) (r a from i : ℕ) (old mid new : Grid) → AreCoefficients cut slices r a from i old mid
+    → IsAdded mid new i (λ c. coefficient_of cut (words_at slices (from + c)) r (a * cut.window + i)) → AreCoefficients cut slices r a from (i + 1) old new
+next_coefficient cut slices r a from i old mid new so_far added = record {
+  levels = added.levels ∙ so_far.levels;
+  words = added.words ∙ so_far.words;
+  first = λ c m h l. elim (cases_eq m i) [
+    | inl same ↦
+        ap (column new c) same ∙ added.here c (let w = so_far.words in omega (arith, w))
+        ∙ ap (λ x. bit_xor x (coefficient_of cut (words_at slices (from + c)) r (a * cut.window + i))) (so_far.none c i (omega arith))
+        ∙ xor_zero_l (coefficient_of cut (words_at slices (from + c)) r (a * cut.window + i))
+        ∙ ap (λ k. coefficient_of cut (words_at slices (from + c)) r (a * cut.window + k)) (sym same)
+    | inr other ↦ added.others c m other ∙ so_far.first c m h (below m l other)
+  ];
+  none = λ c m h. added.others c m (λ e. omega arith) ∙ so_far.none c m (omega arith);
+}
+  where
+    below : (m : ℕ) → m < i + 1 → m ≢ i → m < i
+    below m l other = elim (cases_lt m i) [ inl low ↦ low | inr high ↦ absurd (other (omega arith)) ]
+
+-- ---- values
+
+field_sum_short : (n m : ℕ) (f : ℕ → ℕ) → n ≤ m → ((i : ℕ) → n ≤ i → f i ≡ 0) → field_sum m f ≡ field_sum n f
+field_sum_short n m f h none =
+    let parts : n + (m - n) ≡ m = omega arith in
+    ap (λ k. field_sum k f) (sym parts) ∙ field_sum_join n (m - n) f
+    ∙ ap (bit_xor (field_sum n f)) (field_sum_none (m - n) (λ i. f (n + i)) (λ i l. none (n + i) (omega arith))) ∙ xor_zero_r (field_sum n f)
+
+pub values_of_window : (cut : Cut) (slices : List (List ℕ)) (r a from : ℕ) (old mid new : Grid) → cut.window ≤ 2 ^ cut.levels → mid.levels ≡ cut.levels
+    → AreCoefficients cut slices r a from cut.window old mid → EachColumn (AreValues mid.levels) mid new → AreWindowValues cut slices r a from old new
+values_of_window cut slices r a from old mid new fits levels coefficients values = record {
+  levels = values.levels ∙ coefficients.levels;
+  words = values.words ∙ coefficients.words;
+  values = λ c u low here.
+      values.columns c (let w = coefficients.words in omega (arith, w)) u (subst (λ k. u < 2 ^ k) (sym levels) here)
+      ∙ ap (λ k. value (2 ^ k) (column mid c) (point u)) levels
+      ∙ field_sum_short cut.window (2 ^ cut.levels) (λ m. mul (column mid c m) (pow (point u) m)) fits
+      (λ m h. ap (λ x. mul x (pow (point u) m)) (coefficients.none c m h) ∙ zero-product (pow (point u) m))
+      ∙ field_sum_same cut.window (λ m. mul (column mid c m) (pow (point u) m)) (λ m. mul (coefficient_of cut (words_at slices (from + c)) r (a * cut.window + m)) (pow (point u) m))
+      (λ m h. ap (λ x. mul x (pow (point u) m)) (coefficients.first c m low h));
+}
+
+-- ---- windows
+
+pub gathers_values : (cut : Cut) (slices : List (List ℕ)) (r a from : ℕ) (old rows : Grid) (was block : Outputs) → was.sums.levels ≡ cut.levels → was.sums.words ≡ old.words
+    → AreWindowValues cut slices r a from old rows → Gathers a rows was block → GathersWindow cut slices r a from was block
+gathers_values cut slices r a from old rows was block levels words values gathers = record {
+  kept = gathers.kept;
+  added = λ c u low here.
+      gathers.added c u low (subst (λ k. u < 2 ^ k) (sym levels) here)
+      ∙ ap (λ x. bit_xor (column was.sums c u) (mul (weight_at was.weights a u) x)) (values.values c u (omega (arith, words)) here);
+}
+
+pub nothing_gathered : (cut : Cut) (slices : List (List ℕ)) (r from : ℕ) (was block : Outputs) → IsCleared was block → IsGathered cut slices r from 0 was block
+unfolding field_sum
+nothing_gathered cut slices r from was block cleared = record {
+  kept = cleared.kept;
+  sums = λ c u low here. cleared.zero c u;
+}
+
+pub keeps_on : (a b d : Outputs) → Keeps a b → Keeps b d → Keeps a d
+keeps_on a b d first second = record {
+  exponent = second.exponent ∙ first.exponent;
+  windows = second.windows ∙ first.windows;
+  weights = second.weights ∙ first.weights;
+  levels = second.levels ∙ first.levels;
+  words = second.words ∙ first.words;
+}
+
+pub next_gathered : (cut : Cut) (slices : List (List ℕ)) (r from n : ℕ) (was mid block : Outputs) → IsGathered cut slices r from n was mid
+    → GathersWindow cut slices r n from mid block → IsGathered cut slices r from (n + 1) was block
+unfolding field_sum
+next_gathered cut slices r from n was mid block so_far one = record {
+  kept = keeps_on was mid block so_far.kept one.kept;
+  sums = λ c u low here.
+      one.added c u (let w = so_far.kept.words in omega (arith, w)) here
+      ∙ ap₂ bit_xor (so_far.sums c u low here) (ap (λ ws. mul (weight_at ws n u) (window_value cut (words_at slices (from + c)) r n u)) so_far.kept.weights)
+      ∙ ap (λ k. field_sum k (λ a. mul (weight_at was.weights a u) (window_value cut (words_at slices (from + c)) r a u))) (let e : suc n ≡ n + 1 = omega arith in e);
+}
+
+pub block_kept : (cut : Cut) (words e : ℕ) (was block : Outputs) → IsBlock cut words e was → Keeps was block → IsBlock cut words e block
+block_kept cut words e was block is kept = record {
+  exponent = kept.exponent ∙ is.exponent;
+  windows = kept.windows ∙ is.windows;
+  has = rw kept.weights is.has;
+  levels = kept.levels ∙ is.levels;
+  words = kept.words ∙ is.words;
+}
+
+-- ---- all blocks
+
+-- the first n windows are gathered in all blocks
+pub record GatheredSoFar (cut : Cut) (slices : List (List ℕ)) (r from n : ℕ) (rows_were rows : Grid) (old blocks : List Outputs) : Type 0 where
+  pub levels : rows.levels ≡ rows_were.levels
+  pub words : rows.words ≡ rows_were.words
+  pub each : EachBlock (IsGathered cut slices r from n) old blocks
+
+all_become : (first second both : Outputs → Outputs → Type 0) (old mid new : List Outputs) → EachBlock first old mid → EachBlock second mid new
+    → ((j : ℕ) → j < length old → first (block_at old j) (block_at mid j) → second (block_at mid j) (block_at new j) → both (block_at old j) (block_at new j)) → EachBlock both old new
+all_become first second both old mid new a b join = record {
+  count = b.count ∙ a.count;
+  done = λ j h. join j h (a.done j h) (b.done j (let e = a.count in omega (arith, e)));
+  rest = λ j h. b.rest j (let e = a.count in omega (arith, e)) ∙ a.rest j h;
+}
+
+pub becomes_too : (first second : Outputs → Outputs → Type 0) (old new : List Outputs) → EachBlock first old new
+    → ((j : ℕ) → j < length old → first (block_at old j) (block_at new j) → second (block_at old j) (block_at new j)) → EachBlock second old new
+becomes_too first second old new a turn = record { count = a.count; done = λ j h. turn j h (a.done j h); rest = a.rest }
+
+pub nothing_so_far : (cut : Cut) (slices : List (List ℕ)) (r from : ℕ) (rows : Grid) (old blocks : List Outputs) → EachBlock IsCleared old blocks
+    → GatheredSoFar cut slices r from 0 rows rows old blocks
+nothing_so_far cut slices r from rows old blocks cleared = record {
+  levels = refl;
+  words = refl;
+  each = becomes_too IsCleared (IsGathered cut slices r from 0) old blocks cleared (λ j h c. nothing_gathered cut slices r from (block_at old j) (block_at blocks j) c);
+}
+
+pub one_window_more : (cut : Cut) (slices : List (List ℕ)) (r from n : ℕ) (rows_were mid rows : Grid) (old before blocks : List Outputs)
+    → GatheredSoFar cut slices r from n rows_were mid old before → rows.levels ≡ mid.levels → rows.words ≡ mid.words
+    → EachBlock (GathersWindow cut slices r n from) before blocks → GatheredSoFar cut slices r from (n + 1) rows_were rows old blocks
+one_window_more cut slices r from n rows_were mid rows old before blocks so_far levels words one = record {
+  levels = levels ∙ so_far.levels;
+  words = words ∙ so_far.words;
+  each = all_become (IsGathered cut slices r from n) (GathersWindow cut slices r n from) (IsGathered cut slices r from (n + 1)) old before blocks so_far.each one
+      (λ j h first second. next_gathered cut slices r from n (block_at old j) (block_at before j) (block_at blocks j) first second);
+}
+
+-- the blocks keep their shape
+pub shape_kept : (cut : Cut) (slices : List (List ℕ)) (r from n words : ℕ) (rows_were rows : Grid) (old blocks : List Outputs) → GatheredSoFar cut slices r from n rows_were rows old blocks
+    → HaveShape cut words old → HaveShape cut words blocks
+shape_kept cut slices r from n words rows_were rows old blocks so_far shape j h =
+    let low : j < length old = (let e = so_far.each.count in omega (arith, e)) in
+    let kept = (so_far.each.done j low).kept in
+    record {
+      windows = kept.windows ∙ (shape j low).windows;
+      levels = kept.levels ∙ (shape j low).levels;
+      words = kept.words ∙ (shape j low).words;
+    }
+
+pub blocks_have_shape : (cut : Cut) (words first size : ℕ) (blocks : List Outputs) → AreBlocks cut words first size blocks → HaveShape cut words blocks
+blocks_have_shape cut words first size blocks are j h = record { windows = (are j h).windows; levels = (are j h).levels; words = (are j h).words }

@@ -1,0 +1,7 @@
+use Rattle.par2_spec.specs.Sums.{lists_of}
+use Rattle.par2_transform.specs.Plans.{cut_of}
+use Rattle.par2_transform.proofs.BlockLaws.{AddedSoFar}
+use Rattle.par2_transform.proofs.blocks.add_all.Given as goal
+
+abbrev pub invariant-loop-j : goal.invariant-loop-j
+invariant-loop-j l = AddedSoFar (cut_of l.plan) l.plan.block l.r l.from l.to l.j l.initial.blocks l.blocks (lists_of l.initial.outputs) (lists_of l.outputs)

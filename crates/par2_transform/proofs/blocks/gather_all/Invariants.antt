@@ -1,0 +1,5 @@
+use Rattle.par2_transform.specs.Blocks.{BlocksBecome, Gathers}
+use Rattle.par2_transform.proofs.blocks.gather_all.Given as goal
+
+abbrev pub invariant-loop-j : goal.invariant-loop-j
+invariant-loop-j l = BlocksBecome (Gathers l.a l.values) l.j l.initial.blocks l.blocks

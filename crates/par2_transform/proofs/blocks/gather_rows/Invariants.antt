@@ -1,0 +1,6 @@
+use Rattle.std.proofs.Common.{get_or}
+use Rattle.par2_transform.specs.Blocks.{RowsGathered}
+use Rattle.par2_transform.proofs.blocks.gather_rows.Given as goal
+
+abbrev pub invariant-loop-u : goal.invariant-loop-u
+invariant-loop-u l = RowsGathered (λ u. get_or l.weights u 0) l.values l.u l.initial.sums l.sums

@@ -1,0 +1,41 @@
+use Rattle.std.proofs.Common.{rules, ◌≡◌, ◌∙◌, ◌+◌, ◌*◌, ◌^◌, ◌++◌, ◌∷◌, [], ℕ, List, sym, ap, subst, arith, length, get_or}
+use Rattle.std.proofs.lemmas.List.{map-append, with_items_is}
+use Rattle.std.specs.Vec.{with_items}
+use Rattle.par2_spec.specs.Sums.{lists_of}
+use Rattle.par2_spec.proofs.WordLaws.{length-lists_of}
+use Rattle.par2_transform.specs.Chirps.{chirp}
+use Rattle.par2_transform.specs.Plans.{cut_of}
+use Rattle.par2_transform.proofs.WeightRows.{WindowsWeighed, none_weighed, next_weighed, weight_rows, windows_weighed}
+use Rattle.par2_transform.proofs.blocks.window_weights.Goals as goal
+
+pub loop-a-init : goal.loop-a-init
+loop-a-init c = subst (λ xs. WindowsWeighed (cut_of c.args.plan.now) c.args.exponent 0 (lists_of xs)) (sym c.in_ok-all.ensures.items) (none_weighed (cut_of c.args.plan.now) c.args.exponent)
+
+pub loop-a-preserved : goal.loop-a-preserved
+loop-a-preserved c =
+    let cut = cut_of c.args.plan.now in
+    let a = c.loop-a.a in
+    let all = c.loop-a.all.items in
+    let words = c.weights.new.words in
+    let row = with_items c.in_ok-words.words words in
+    let size : length words ≡ c.in_ok-words.words.len = search rules in
+    let count : length words ≡ 2 ^ c.args.plan.now.levels = c.weights.ensures.count ∙ ap (λ (xs : List ℕ). length xs) c.as_mut_slice.ensures.value ∙ c.in_ok-words.ensures.count in
+    let items : lists_of c.push.new.self.items ≡ lists_of all ++ words ∷ [] =
+    ap lists_of c.in_ok-push.ensures.items ∙ map-append (λ v. v.items) all (row ∷ []) ∙ ap (λ xs. lists_of all ++ xs ∷ []) (with_items_is c.in_ok-words.words words size) in
+    subst (WindowsWeighed cut c.args.exponent (a + 1)) (sym items)
+    (next_weighed cut c.args.exponent a (lists_of all) words c.loop-a.invariant count c.weights.ensures.elements
+    (c.weights.ensures.are (chirp cut.classes) (a * cut.window + c.args.exponent) (λ e h. ap (λ xs. get_or xs e 0) c.as_mut_slice.ensures.value ∙ c.in_ok-words.ensures.each e h)))
+
+pub returns-clause-count : goal.returns-clause-count
+returns-clause-count c =
+    let end : c.loop-a.a ≡ c.args.plan.now.windows = omega (arith, c.loop-a-test.false, c.loop-a.auto.a-end) in
+    sym (length-lists_of c.loop-a.all.items) ∙ c.loop-a.invariant.count ∙ end
+
+pub returns-clause-rows : goal.returns-clause-rows
+returns-clause-rows c = weight_rows (cut_of c.args.plan.now) c.args.exponent c.loop-a.a (lists_of c.loop-a.all.items) c.loop-a.invariant
+
+pub returns-clause-has : goal.returns-clause-has
+returns-clause-has c =
+    let cut = cut_of c.args.plan.now in
+    let end : c.loop-a.a ≡ cut.windows = omega (arith, c.loop-a-test.false, c.loop-a.auto.a-end) in
+    windows_weighed cut c.args.exponent (lists_of c.loop-a.all.items) (subst (λ n. WindowsWeighed cut c.args.exponent n (lists_of c.loop-a.all.items)) end c.loop-a.invariant)

@@ -1,0 +1,20 @@
+use Rattle.std.proofs.Common.{suc, ◌*◌, ◌%◌, ◌≡◌, ◌≤◌, ◌^◌, ◌-◌, ◌+◌, ap, arith}
+use Rattle.std.proofs.Math.Pow.{pow_mono}
+use Rattle.par2_transform.proofs.StepLaws.{shifted, double_power}
+use Rattle.par2_transform.proofs.plan.half_of.Goals as goal
+
+pub returns-clause-half : goal.returns-clause-half
+returns-clause-half c =
+    let i = c.args.levels - 1 in
+    let half : 1 * 2 ^ i % 18446744073709551616 ≡ 2 ^ i = shifted i (let most = c.requires.1 in omega (arith, most)) in
+    let whole : 2 ^ suc i ≡ 2 ^ c.args.levels = ap (λ n. 2 ^ n) (let some = c.requires.0 in omega (arith, some)) in
+    let double : 2 ^ suc i ≡ 2 ^ i + 2 ^ i = double_power i in
+    omega (arith, half, whole, double)
+
+pub returns-clause-bounds : goal.returns-clause-bounds
+returns-clause-bounds c =
+    let i = c.args.levels - 1 in
+    let half : 1 * 2 ^ i % 18446744073709551616 ≡ 2 ^ i = shifted i (let most = c.requires.1 in omega (arith, most)) in
+    let low : 2 ^ 3 ≤ 2 ^ i = pow_mono {i = 3} {j = i} (let some = c.requires.0 in omega (arith, some)) in
+    let high : 2 ^ i ≤ 2 ^ 11 = pow_mono {i = i} {j = 11} (let most = c.requires.1 in omega (arith, most)) in
+    (omega (arith, half, low), omega (arith, half, high))

@@ -1,0 +1,7 @@
+use Rattle.std.proofs.Common.{◌∙◌, ◌*◌, ◌/◌, ◌%◌, ap}
+use Rattle.par2_spec.specs.Field.{pow}
+use Rattle.par2_transform.proofs.Cycles.{chirp_round}
+use Rattle.par2_transform.proofs.powers.chirp.Goals as goal
+
+pub returns : goal.returns
+returns c = c.power.ensures ∙ ap (λ x. pow 2 (c.args.d * (c.args.m % 65535 * x / 2))) c.saturating_sub.ensures ∙ chirp_round c.args.d c.args.m

@@ -1,0 +1,8 @@
+use Rattle.std.proofs.Common.{◌∙◌, ap}
+use Rattle.par2_spec.specs.Field.{pow}
+use Rattle.par2_transform.specs.Chirps.{chirp_inverse}
+use Rattle.par2_transform.proofs.powers.chirp_inverse.Goals as goal
+
+pub returns : goal.returns
+unfolding chirp_inverse
+returns c = c.pow.ensures ∙ ap (λ a. pow a 65534) c.chirp.ensures

@@ -1,0 +1,24 @@
+use Rattle.std.proofs.Common.{◌+◌, ◌*◌, ◌^◌, ◌<◌, ◌≤◌, refl, sym, subst, arith, length}
+use Rattle.std.proofs.Math.Nat.{mul-le-mul_right}
+use Rattle.std.proofs.Math.Pow.{pow_mono}
+use Rattle.std.proofs.lemmas.Grind.{div_ceil_times}
+use Rattle.par2_transform.specs.Plans.{cut_of}
+use Rattle.par2_transform.proofs.BlockLaws.{BlocksMade, next_block}
+use Rattle.par2_transform.proofs.recovery.blocks_of.Goals as goal
+
+pub loop-j-preserved : goal.loop-j-preserved
+loop-j-preserved c =
+    let plan = c.args.plan.now in
+    let j = c.loop-j.j in
+    subst (BlocksMade (cut_of plan) plan.columns c.args.first plan.block (j + 1)) (sym c.in_ok-push.ensures.items)
+    (next_block (cut_of plan) plan.columns c.args.first plan.block j (c.args.first + j * plan.block) c.loop-j.blocks.items c.in_ok-new.field-0 c.loop-j.invariant c.in_ok-new.ensures refl)
+
+pub returns-clause-few : goal.returns-clause-few
+returns-clause-few c =
+    let plan = c.args.plan.now in
+    let count = c.args.count in
+    let blocks = length c.loop-j.blocks.items in
+    let most : c.div_ceil-j-end.result * plan.block < count + plan.block = subst (λ k. k * plan.block < count + plan.block) (sym c.div_ceil-j-end.ensures) (div_ceil_times count plan.block (let some = plan.some.1.0 in omega (arith, some))).1 in
+    let more : blocks * plan.block ≤ c.div_ceil-j-end.result * plan.block = mul-le-mul_right plan.block (let end : blocks ≤ c.div_ceil-j-end.result = omega (arith, c.loop-j.invariant.count, c.loop-j.auto.j-end) in end) in
+    let points : 2 ^ plan.levels ≤ 2 ^ 16 = pow_mono {i = plan.levels} {j = 16} plan.few_levels in
+    omega (arith, most, more, points, plan.fit, c.requires)

@@ -1,0 +1,38 @@
+use Rattle.std.proofs.Common.{arith, ◌+◌, ◌≤◌, ◌<◌, ◌*◌, sym, subst, length}
+use Rattle.par2_spec.specs.Sums.{lists_of}
+use Rattle.par2_spec.proofs.WordLaws.{length-lists_of}
+use Rattle.par2_transform.specs.Adding.{within, AddsToEach}
+use Rattle.par2_transform.specs.Blocks.{class_sum_at}
+use Rattle.par2_transform.specs.Columns.{words_at}
+use Rattle.par2_transform.specs.Plans.{cut_of}
+use Rattle.par2_transform.proofs.WindowLaws.{blocks_have_shape}
+use Rattle.par2_transform.proofs.ClassLaws.{class_added, nothing_added, exponent-le}
+use Rattle.par2_transform.proofs.windows.Windows.add_class.Goals as goal
+
+pub gather-requires-clause-blocks : goal.gather-requires-clause-blocks
+gather-requires-clause-blocks c = let self = c.args.self.now in blocks_have_shape (cut_of self.plan) self.plan.columns self.first self.plan.block c.args.blocks.now c.requires.blocks
+
+pub returns-then-self-eq3-clause-added : goal.returns-then-self-eq3-clause-added
+returns-then-self-eq3-clause-added c =
+    let self = c.args.self.now in
+    let outputs = lists_of c.args.outputs.now in
+    subst (λ r. AddsToEach (λ t p. within c.args.from c.args.to p (class_sum_at (cut_of self.plan) (words_at self.slices p) (self.first + t) r)) outputs outputs) (sym c.if-r-eq0.true)
+    (nothing_added (cut_of self.plan) self.slices self.first c.args.from c.args.to outputs c.if-self-eq3.true)
+
+pub add_all-requires-clause-exponents : goal.add_all-requires-clause-exponents
+add_all-requires-clause-exponents c = λ j h.
+    let self = c.args.self.now in
+    let blocks = c.args.blocks.now in
+    let gathered = c.in_ok-gather.ensures.gathered in
+    let low : j < length blocks = (let count = gathered.count in omega (arith, count, h)) in
+    let same = (gathered.done j low).kept.exponent in
+    let small = exponent-le (cut_of self.plan) self.plan.columns self.first self.plan.block blocks c.requires.blocks c.requires.few j low in
+    omega (arith, same, small)
+
+pub returns-clause-added : goal.returns-clause-added
+returns-clause-added c =
+    let self = c.args.self.now in
+    let outputs = lists_of c.args.outputs.now in
+    let covered : length outputs ≤ length c.args.blocks.now * self.plan.block = (let size = length-lists_of c.args.outputs.now in omega (arith, size, c.requires.covered)) in
+    class_added (cut_of self.plan) self.slices self.plan.columns self.plan.block c.args.r c.args.from c.args.to self.first c.args.blocks.now c.gather.new.blocks outputs (lists_of c.add_all.new.outputs)
+    self.few self.bytes c.requires.blocks c.in_ok-gather.ensures.gathered self.plan.fit self.plan.some.1.0 covered c.requires.columns c.add_all.ensures.added

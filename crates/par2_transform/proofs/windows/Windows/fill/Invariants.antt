@@ -1,0 +1,6 @@
+use Rattle.par2_transform.specs.Blocks.{AreCoefficients}
+use Rattle.par2_transform.specs.Plans.{cut_of}
+use Rattle.par2_transform.proofs.windows.Windows.fill.Given as goal
+
+abbrev pub invariant-loop-i : goal.invariant-loop-i
+invariant-loop-i l = AreCoefficients (cut_of l.self.plan) l.self.slices l.r l.a l.from l.i l.fn.rows l.rows

@@ -1,0 +1,10 @@
+use Rattle.std.proofs.Common.{arith, ◌≤◌, ◌*◌}
+use Rattle.par2_transform.specs.Chirps.{spared_below}
+use Rattle.par2_transform.proofs.SparedSums.{spared_below-mono}
+use Rattle.par2_transform.proofs.windows.Windows.new.Goals as goal
+
+pub invariant_of-result : goal.invariant_of-result
+invariant_of-result c =
+    let plan = c.new-plan.result in
+    let more : spared_below c.exponents.result ≤ spared_below (plan.classes * (plan.windows * plan.window)) = spared_below-mono c.exponents.result (plan.classes * (plan.windows * plan.window)) c.new-plan.ensures in
+    record { few = c.in_ok-slices.ensures.few; bytes = c.in_ok-slices.ensures.bytes; reaches = omega (arith, more, c.exponents.ensures.reach) }

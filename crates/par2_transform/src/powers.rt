@@ -1,0 +1,34 @@
+//! Powers of 2, and chirps, which are powers of 2 whose exponents are sums of the numbers below a number.
+
+ghost use Rattle.std.specs.Prelude.{◌≡◌, ◌+◌, ◌*◌, ◌<◌, ◌≤◌};
+ghost use Rattle.par2_spec.specs.Field.{mul, pow};
+ghost use Rattle.par2_transform.specs.Chirps.{chirp, chirp_inverse};
+
+use par2_gf16::Gf;
+
+/// After as many powers of 2 they are the same again.
+const ORDER: u64 = 65535;
+
+/// 2 to a power.
+pub(crate) fn power(gf: &Gf, n: u64) -> u16
+    ensures { result ≡ pow 2 n }
+{
+    gf.pow(2, (n % ORDER) as u32)
+}
+
+/// Chirp m of step d.
+pub(crate) fn chirp(gf: &Gf, d: u64, m: u64) -> u16
+    requires { d ≤ 65536 }
+    ensures { result ≡ chirp d m }
+{
+    let m = m % ORDER;
+    power(gf, d * (m * m.saturating_sub(1) / 2))
+}
+
+/// The inverse of chirp m of step d.
+pub(crate) fn chirp_inverse(gf: &Gf, d: u64, m: u64) -> u16
+    requires { d ≤ 65536 }
+    ensures { result ≡ chirp_inverse d m }
+{
+    gf.pow(chirp(gf, d, m), 65534)
+}

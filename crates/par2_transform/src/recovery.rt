@@ -1,0 +1,82 @@
+//! Recovery slices, added to texts.
+
+ghost use Rattle.std.specs.Prelude.{◌≡◌, ℕ, ◌+◌, ◌*◌, ◌^◌, ◌<◌, ◌≤◌, length, IfOk};
+ghost use Rattle.par2_spec.specs.Sums.{lists_of};
+ghost use Rattle.par2_transform.specs.Adding.{AddsToEach, HaveWords};
+ghost use Rattle.par2_transform.specs.Blocks.{AreBlocks};
+ghost use Rattle.par2_transform.specs.Columns.{texts_of, recovered};
+ghost use Rattle.par2_transform.specs.Plans.{cut_of};
+
+use crate::blocks::Block;
+use crate::exponents::Slices;
+use crate::plan::Plan;
+use crate::rows::Rows;
+use crate::windows::Windows;
+use par2_gf16::Gf;
+use std::alloc::{AllocError, Global};
+
+// The blocks of so many outputs from an exponent on.
+fn blocks_of(
+    alloc: Global,
+    gf: &Gf,
+    plan: &Plan,
+    first: u32,
+    count: usize,
+) -> Result<Vec<Block>, AllocError>
+    requires { first + count ≤ 2 ^ 32 }
+    ensures are { IfOk result (λ blocks.
+        AreBlocks (cut_of plan.now) plan.now.columns first plan.now.block blocks.items) }
+    ensures covered { IfOk result (λ blocks. count ≤ length blocks.items * plan.now.block) }
+    ensures few { IfOk result (λ blocks. first + length blocks.items * plan.now.block ≤ 2 ^ 34) }
+{
+    let mut blocks = Vec::new(alloc);
+    for j in 0..count.div_ceil(plan.block) {
+        blocks.push(Block::new(alloc, gf, plan, first as u64 + (j * plan.block) as u64)?)?;
+    }
+    Ok(blocks)
+}
+
+impl<'a> Windows<'a> {
+    // To the first `words` words of the outputs, adds what all classes give, some columns at a time.
+    fn add_words(
+        &self,
+        alloc: Global,
+        words: usize,
+        outputs: &mut [Vec<u8>],
+    ) -> Result<(), AllocError>
+        requires exponents { self.now.first + length outputs.old ≤ 2 ^ 32 }
+        requires size { HaveWords words (lists_of outputs.old) }
+        ensures { IfOk result (λ _. AddsToEach (λ t p. recovered self.now.slices (self.now.first + t) p)
+            (lists_of outputs.old) (lists_of outputs.new)) }
+    {
+        let plan = self.plan;
+        let mut rows = Rows::new(alloc, plan.levels, plan.columns)?;
+        let mut blocks = blocks_of(alloc, self.gf, &plan, self.first, outputs.len())?;
+        for k in 0..words.div_ceil(plan.columns) {
+            let from = k * plan.columns;
+            let to = from + plan.columns.min(words - from);
+            self.add_classes(alloc, from, to, &mut rows, blocks.as_mut_slice(), outputs)?;
+        }
+        Ok(())
+    }
+}
+
+/// To text t, adds the recovery slice of exponent `first + t` over these slices. Zeros follow a slice that is shorter, so
+/// an empty one stands for a slice that is absent.
+pub fn add_recovery_slices(
+    alloc: Global,
+    gf: &Gf,
+    slices: &[&[u8]],
+    words: usize,
+    first: u32,
+    texts: &mut [Vec<u8>],
+) -> Result<(), AllocError>
+    requires slices { length slices.now ≤ 32768 }
+    requires exponents { first + length texts.old ≤ 2 ^ 32 }
+    requires size { HaveWords words (lists_of texts.old) }
+    ensures { IfOk result (λ _. AddsToEach (λ t p. recovered (texts_of slices.now) (first + t) p)
+        (lists_of texts.old) (lists_of texts.new)) }
+{
+    let windows = Windows::new(alloc, gf, slices, words, first, texts.len())?;
+    windows.add_words(alloc, words, texts)
+}
