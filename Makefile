@@ -1,6 +1,6 @@
 # make demo       builds the program and protects a real file in a fresh folder
 # make test       proves everything from nothing, tries the must-fail edits, runs tests and programs
-# make edits      shows that each function that a must-fail edit changes is refused by itself, 
+# make edits      shows that each function that a must-fail edit changes is refused by a goal of its own
 # make bench      measures the kernels and whole commands, as ratios within one run, and draws two of the tables
 # make install    builds for this machine's processor, and puts the program, its page and its completions below PREFIX
 # make uninstall  removes them

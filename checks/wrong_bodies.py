@@ -11,11 +11,11 @@ checked first.
 
 Together, each edit is checked once, which takes one to five minutes. A line says of each function that the edit changes
 which of its own goals are refused; that it calls a function which is refused shows nothing of itself. A change with a
-name (`NAME: ` begins its comment) is then checked by itself where another one changes the same function. `limit` is told
-of a goal at which the search for a proof has ended at a limit, which is dear. Crates stand side by side, one a processor,
-as many as memory holds (RT_JOBS sets another number). The last line counts, and the status is 1 where a function has no
-such goal. What an edit came to is kept beside the
-toolchain, by a sum of all that it hangs on, for later runs on this machine; --anew takes nothing from there.
+name (`NAME: ` begins its comment) is then checked by itself where another one changes the same function. `limit` marks a
+goal at which the search for a proof has ended at a limit, which is dear. Crates stand side by side, one a processor, as
+many as memory holds (RT_JOBS sets another number). The last line counts, and the status is 1 where a function has no such
+goal. What an edit came to is kept beside the toolchain, by a sum of all that it hangs on, for later runs on this machine;
+--anew takes nothing from there.
 
 Otherwise each change is checked by itself, which takes 10 to 70 seconds: a line says whether it is refused, and by
 which goal. The status is 1 where one is proved.

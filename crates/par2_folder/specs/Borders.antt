@@ -13,6 +13,12 @@ is_before Beginning name = false
 is_before (At next) name = is_below next.now name
 is_before End name = true
 
+-- whether the border comes before that at the name
+abbrev pub comes_before : Border → List ℕ → Bool
+comes_before Beginning name = true
+comes_before (At before) name = is_below name before.now
+comes_before End name = false
+
 -- each name before the first border comes before the second too
 abbrev pub IsFurther : Border → Border → Type 0
 IsFurther from to = (name : List ℕ) → is_before from name ≡ true → is_before to name ≡ true

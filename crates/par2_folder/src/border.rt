@@ -5,7 +5,7 @@ ghost use Rattle.par2_spec.specs.Folders.{behind_length};
 ghost use Rattle.par2_folder.specs.Sorting.{IsKept};
 ghost use Rattle.par2_folder.specs.Views.{change_of};
 ghost use Rattle.par2_folder.specs.Below.{IsFront, fingerprint_input};
-ghost use Rattle.par2_folder.specs.Borders.{IsFurther, is_before, text_before, touches};
+ghost use Rattle.par2_folder.specs.Borders.{IsFurther, comes_before, is_before, text_before, touches};
 ghost use Rattle.par2_folder.specs.Snapshots.{file_of, files_in, folder_in};
 ghost use Rattle.par2_folder.specs.declared.border.Border.TheVariants.{At};
 
@@ -35,7 +35,8 @@ fn is_before(border: &Border, name: &Name) -> bool
 
 /// Whether the border comes before that at the name.
 pub fn is_further(border: &Border, name: &Name) -> bool
-    ensures { IsTrue result → IsFurther border.now (At name.entry) }
+    ensures which { result ≡ comes_before border.now name.now }
+    ensures further { IsTrue result → IsFurther border.now (At name.entry) }
 {
     match border {
         Border::Beginning => true,

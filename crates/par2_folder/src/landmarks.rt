@@ -27,7 +27,8 @@ pub struct Landmarks {
 
 // Whether no change touches a name before the border.
 fn are_behind(border: &Border, changes: &[Change]) -> bool
-    ensures { IsTrue result → AreBehind border.now changes.now }
+    ensures behind { IsTrue result → AreBehind border.now changes.now }
+    ensures all { AreBehind border.now changes.now → IsTrue result }
 {
     for change in changes {
         if touches(border, change) {

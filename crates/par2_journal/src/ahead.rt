@@ -1,5 +1,7 @@
 //! What an opening finds of the fingerprints that the next action's journals name.
-ghost use Rattle.std.specs.Prelude.{◌≡◌, IfSome, Some};
+ghost use Rattle.std.specs.Prelude.{◌≡◌, is_some, IfSome, IsTrue, Some};
+ghost use Rattle.par2_folder.specs.declared.landmarks.Landmarks.{Landmarks as Marks};
+ghost use Rattle.par2_journal.specs.declared.spelling.Fingerprints.{Fingerprints as Prints};
 ghost use Rattle.par2_journal.specs.declared.ahead.Ahead.TheVariants as ahead;
 
 use crate::spelling::Fingerprints;
@@ -23,7 +25,9 @@ pub enum Ahead {
 
 // The fingerprints, where they were computed for this.
 pub(crate) fn fingerprints_for(found: Option<Ahead>, next: Next) -> Option<Fingerprints>
-    ensures { IfSome result (λ prints. found ≡ Some (ahead.Fingerprints next prints)) }
+    ensures known { IfSome result (λ prints. found ≡ Some (ahead.Fingerprints next prints)) }
+    ensures used { (prints : Prints) → found ≡ Some (ahead.Fingerprints next prints)
+        → result ≡ Some prints }
 {
     match found {
         Some(Ahead::Fingerprints(of, fingerprints)) => (of == next).then_some(fingerprints),
@@ -33,7 +37,9 @@ pub(crate) fn fingerprints_for(found: Option<Ahead>, next: Next) -> Option<Finge
 
 // The landmarks, where there are any.
 pub(crate) fn landmarks_in(found: &Option<Ahead>) -> Option<&Landmarks>
-    ensures { IfSome result (λ marks. found.now ≡ Some (ahead.Landmarks marks.now)) }
+    ensures known { IfSome result (λ marks. found.now ≡ Some (ahead.Landmarks marks.now)) }
+    ensures used { (marks : Marks) → found.now ≡ Some (ahead.Landmarks marks)
+        → IsTrue (is_some result) }
 {
     match found {
         Some(Ahead::Landmarks(landmarks)) => Some(landmarks),

@@ -1,5 +1,5 @@
 //! The journals of a session, and the fingerprints that stand in them.
-ghost use Rattle.std.specs.Prelude.{◌≡◌, ◌≤◌, ◌<◌, ◌∷◌, ◌++◌, ◌+◌, [], List, IfOk, IfSome, IsTrue, length, map, get_or, set, slice_get, take, Some, None};
+ghost use Rattle.std.specs.Prelude.{◌≡◌, ◌≤◌, ◌<◌, ◌∷◌, ◌++◌, ◌+◌, [], List, IfOk, IfSome, IsTrue, length, map, get_or, set, slice_get, take, Some, None, Ok};
 ghost use Rattle.md5.specs.Md5.{md5};
 ghost use Rattle.par2_spec.specs.Changes as defined;
 ghost use Rattle.par2_spec.specs.Changes.{effects, folders_after, state_after_all, takes_all, way_back};
@@ -98,8 +98,9 @@ impl Fingerprints {
         requires applies { IsTrue (takes_all folder.now (changes_in changes.now)) }
         requires known { IfSome known (λ prints.
             AreAlong prints folder.now.files (changes_in changes.now)) }
-        ensures { IfOk result (λ prints.
+        ensures along { IfOk result (λ prints.
             AreAlong prints folder.now.files (changes_in changes.now)) }
+        ensures used { IfSome known (λ prints. result ≡ Ok prints) }
     {
         match known {
             Some(fingerprints) => Ok(fingerprints),

@@ -12,4 +12,4 @@ loop-mark-preserved c = λ folder are.
     let behind : IsTrue c.are_behind.result = search rules in
     let is : mark ≡ get_or c.args.self.now.list.items c.loop-mark.mark-index mark = rw c.deref-mark-items.ensures.value at c.mark-item.is in
     let lt = rw c.deref-mark-items.ensures.value at c.loop-mark-test.true in
-    sets_out _ folder c.args.changes.now mark.state (c.are_behind.ensures behind) (subst (IsLandmarkOf folder) (sym is) (are c.loop-mark.mark-index mark lt))
+    sets_out _ folder c.args.changes.now mark.state (c.are_behind.ensures.behind behind) (subst (IsLandmarkOf folder) (sym is) (are c.loop-mark.mark-index mark lt))
