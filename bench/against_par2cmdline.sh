@@ -1,6 +1,7 @@
 #!/bin/sh
 # Whole commands beside par2cmdline on one thread (-t1 -T1), over the same folders: the two take turns, and a line has the
-# least time of three runs of each, in milliseconds, and their ratio. Both programs must end as is said for the scene.
+# least time of three runs of each, or of 15 short ones, in milliseconds, and their ratio. Both programs must end as is
+# said for the scene.
 # With LARGE=1 there are scenes with 3,277 recovery slices over 32,768 more, which take minutes to make.
 # usage: against_par2cmdline.sh PROGRAM [TABLE]
 #     TABLE is a file that gets a line for each scene too: ratio, ours, theirs, scene
@@ -85,9 +86,11 @@ made() {
     rm -f .par2undo "$3"
 }
 
-# lost NAME: verifies the set whose one file is gone, and whose recovery slices are too few.
+# lost NAME: verifies the set whose one file is gone, and whose recovery slices are too few. That takes some milliseconds.
 lost() {
+    rounds=15
     verify "$1" 2 2
+    rounds=3
 }
 
 # thinned KEPT: of the recovery slices in the present folder those stay whose exponent `e` fulfils this condition of

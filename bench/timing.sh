@@ -1,4 +1,5 @@
 # What the benchmarks here share, each of which reads it: a room in memory, and the least time of a few runs.
+clock=$(cd "$(dirname "$0")" && pwd)/clock.py
 shm=/dev/shm
 [ -d "$shm" ] || shm=${TMPDIR:-/var/tmp}
 room=$(mktemp -d -p "$shm")
@@ -9,16 +10,8 @@ timed() {
     times=$room/$1
     wanted=$2
     shift 2
-    begun=$(date +%s%N)
-    status=0
-    "$@" > "$room/said" 2>&1 || status=$?
-    echo $((($(date +%s%N) - begun) / 1000000)) >> "$times"
-    if [ "$status" -ne "$wanted" ]; then
-        cat "$room/said"
-        echo "$*: status $status, and not $wanted"
-        exit 1
-    fi
+    python3 "$clock" "$times" "$wanted" "$room/said" "$@"
 }
 
 # least NAME: the least time of this name.
-least() { sort -n "$room/$1" | head -n 1; }
+least() { sort -g "$room/$1" | head -n 1; }
