@@ -11,7 +11,7 @@ spell_turned-answer-requires-clause-each c =
     let turned = c.turn.ensures in
     omega (
       arith,
-      ap length c.in_ok-fingerprints.ensures.after_each,
+      ap length c.in_ok-fingerprints.ensures.along.after_each,
       folders_count c.args.folder.now.files (changes_in c.as_slice.result.now),
       ap length c.as_slice.ensures,
       ap length c.index-entries-at.is,
