@@ -18,6 +18,8 @@ use Rattle.par2_spec.proofs.SumLaws.{field_sum_same, field_sum-lt, dot_sum, prod
 use Rattle.par2_spec.proofs.UniqueLaws.{coefficients_are}
 use Rattle.par2_spec.proofs.WordLaws.{combination_words, word-lt}
 use Rattle.par2_recovery.specs.Products.{AreBytes, Adds, products}
+use Rattle.par2_transform.specs.Adding.{AddsToEach}
+use Rattle.par2_transform.specs.Columns.{recovered}
 use Rattle.par2_recovery.specs.Views.{texts_of, AreBlank}
 
 -- ---- padding
@@ -123,6 +125,37 @@ are_recovery s first count factors lists old new even bytes rows blank added =
         ∙ sym (added.inside r w (omega (arith, blank.count)) (omega arith) (omega arith) (let e = ap length (blank.each r low) ∙ length-replicate {A = ℕ} s 0 in omega (arith, e))
         ∙ ap (λ x. bit_xor x (products (length lists) factors lists r w)) (ap (λ xs. word w xs) (blank.each r low) ∙ blank_word s w)
         ∙ xor_zero_l (products (length lists) factors lists r w)))
+
+-- what was added to zeros, word by word, are the recovery slices
+pub are_recovered : (s first count : ℕ) (lists old new : List (List ℕ)) → s % 2 ≡ 0 → AreBytes lists → AreBytes new → AreBlank s count old
+    → AddsToEach (λ t p. recovered lists (first + t) p) old new → new ≡ map (recovery s (map (padded s) lists)) (range_with_len first count)
+unfolding recovery
+are_recovered s first count lists old new even bytes fits blank added =
+    ext_get_or [] new (map (recovery s (map (padded s) lists)) (range_with_len first count))
+    (added.count ∙ blank.count ∙ sym (length-map-range_with_len (recovery s (map (padded s) lists)) first count))
+    (λ r h.
+    let low : r < count = omega (arith, added.count, blank.count) in
+    let here = get_or-map-range_with_len (recovery s (map (padded s) lists)) first count r (first + r) [] low refl in
+    sym (one r low) ∙ sym here)
+  where
+    one : (r : ℕ) → r < count → recovery s (map (padded s) lists) (first + r) ≡ list_at new r
+    one r low =
+        let row = coefficients (range_with_len 0 (length lists)) (first + r) in
+        let long : length row ≡ length lists = length-map (range_with_len 0 (length lists)) (coefficient (first + r)) ∙ length-range_with_len 0 (length lists) in
+        let size : length (list_at old r) ≡ s = ap length (blank.each r low) ∙ length-replicate {A = ℕ} s 0 in
+        let entry : (k : ℕ) → k < length lists → get_or row k 0 ≡ coefficient (first + r) k =
+        λ k h. get_or-map-range_with_len (coefficient (first + r)) 0 (length lists) k k 0 h (zero-add k) in
+        ap (λ n. combination s (coefficients (range_with_len 0 n) (first + r)) (map (padded s) lists)) (length-map lists (padded s))
+        ∙ (combination_words s row (map (padded s) lists) (list_at new r) even
+        (λ w. dot_padded-lt s row lists w (omega (arith, long)) (coefficients-lt (range_with_len 0 (length lists)) (first + r)) bytes)
+        (added.sizes r ∙ size) (fits r)).1
+        (λ w fits.
+        dot_padded s row lists w (omega (arith, long))
+        ∙ field_sum_same (length lists) (λ k. mul (get_or row k 0) (word w (list_at lists k))) (λ k. mul (coefficient (first + r) k) (word w (list_at lists k)))
+        (λ k h. ap (λ c. mul c (word w (list_at lists k))) (entry k h))
+        ∙ sym (added.each r w (omega (arith, blank.count)) (omega (arith, size))
+        ∙ ap (λ x. bit_xor x (recovered lists (first + r) w)) (ap (λ xs. word w xs) (blank.each r low) ∙ blank_word s w)
+        ∙ xor_zero_l (recovered lists (first + r) w)))
 
 -- ---- rows of factors
 

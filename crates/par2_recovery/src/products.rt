@@ -6,6 +6,7 @@ ghost use Rattle.par2_spec.specs.Sums.{OneChanged, list_at, lists_of};
 ghost use Rattle.par2_recovery.specs.Products.{AddsSource, Adds, AreBytes};
 ghost use Rattle.par2_recovery.specs.Views.{texts_of};
 
+use crate::elements::text_at;
 use par2_gf16::{Columns, Factor, Gf};
 use std::alloc::{AllocError, Global};
 
@@ -157,6 +158,15 @@ pub(crate) fn fit_texts(texts: &[&[u8]])
 {
     for i in 0..texts.len() {
         fit_bytes(source_at(texts, i));
+    }
+}
+
+/// The same of lists of bytes.
+pub(crate) fn fit_lists(texts: &[Vec<u8>])
+    ensures { AreBytes (lists_of texts.now) }
+{
+    for i in 0..texts.len() {
+        fit_bytes(text_at(texts, i));
     }
 }
 

@@ -11,12 +11,16 @@ ghost use Rattle.par2_spec.specs.Sums.{lists_of};
 ghost use Rattle.par2_recovery.specs.Views.{texts_of, names_of, AreBlank};
 
 use crate::exponents::coefficients;
-use crate::products::{fit_texts, with_products};
+use crate::products::{fit_lists, fit_texts, with_products};
 use crate::set_record::SetRecord;
 use par2_folder::{Folder, Name};
 use par2_gf16::Gf;
 use par2_slices::{slice_bytes, slice_count};
+use par2_transform::add_recovery_slices;
 use std::alloc::{AllocError, Global};
+
+// From so many exponents on, recovery slices are computed together.
+const TOGETHER: u32 = 16;
 
 // The numbers below n.
 #[tactic(auto, using(crate::proofs::Combinations::range_more))]
@@ -63,9 +67,8 @@ pub(crate) fn blank(alloc: Global, count: usize, size: usize) -> Result<Vec<Vec<
     Ok(texts)
 }
 
-/// The recovery slices of `count` exponents from `first` on over slices of `size` bytes. Zeros follow a slice that is
-/// shorter, as [`input_slices`] answers the last ones of files.
-pub fn recovery_slices_over(
+// The recovery slices one by one: each is the sum of the products of its factors and the slices.
+fn sums_of_products(
     alloc: Global,
     gf: &Gf,
     slices: &[&[u8]],
@@ -83,6 +86,51 @@ pub fn recovery_slices_over(
     let factors = factors(alloc, gf, slices.len(), first, count)?;
     let zeros = blank(alloc, count as usize, size)?;
     with_products(alloc, gf, &factors, slices, zeros, size / 2)
+}
+
+// The recovery slices of all exponents together.
+fn sums_together(
+    alloc: Global,
+    gf: &Gf,
+    slices: &[&[u8]],
+    size: usize,
+    first: u32,
+    count: u32,
+) -> Result<Vec<Vec<u8>>, AllocError>
+    requires slices { length slices.now ≤ 32768 }
+    requires even { size % 2 ≡ 0 }
+    requires exponents { first + count ≤ 2 ^ 32 }
+    ensures { IfOk result (λ texts. lists_of texts.items ≡ map (recovery size
+        (map (spec.padded size) (texts_of slices.now))) (range_with_len first count)) }
+{
+    fit_texts(slices);
+    let mut texts = blank(alloc, count as usize, size)?;
+    add_recovery_slices(alloc, gf, slices, size / 2, first, texts.as_mut_slice())?;
+    fit_lists(&texts);
+    Ok(texts)
+}
+
+/// The recovery slices of `count` exponents from `first` on over slices of `size` bytes. Zeros follow a slice that is
+/// shorter, as [`input_slices`] answers the last ones of files.
+pub fn recovery_slices_over(
+    alloc: Global,
+    gf: &Gf,
+    slices: &[&[u8]],
+    size: usize,
+    first: u32,
+    count: u32,
+) -> Result<Vec<Vec<u8>>, AllocError>
+    requires slices { length slices.now ≤ 32768 }
+    requires even { size % 2 ≡ 0 }
+    requires exponents { first + count ≤ 2 ^ 32 }
+    ensures { IfOk result (λ texts. lists_of texts.items ≡ map (recovery size
+        (map (spec.padded size) (texts_of slices.now))) (range_with_len first count)) }
+{
+    if count < TOGETHER {
+        sums_of_products(alloc, gf, slices, size, first, count)
+    } else {
+        sums_together(alloc, gf, slices, size, first, count)
+    }
 }
 
 // The bytes of a file, none where it is absent.

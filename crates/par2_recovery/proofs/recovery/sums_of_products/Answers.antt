@@ -8,7 +8,7 @@ use Rattle.par2_spec.proofs.WordLaws.{length-lists_of}
 use Rattle.par2_recovery.specs.Products.{Adds}
 use Rattle.par2_recovery.specs.Views.{texts_of}
 use Rattle.par2_recovery.proofs.Combinations.{length-rows, rows_long, blank_room, are_recovery, length-texts_of}
-use Rattle.par2_recovery.proofs.recovery.recovery_slices_over.Goals as goal
+use Rattle.par2_recovery.proofs.recovery.sums_of_products.Goals as goal
 
 pub with_products-requires-clause-rows : goal.with_products-requires-clause-rows
 with_products-requires-clause-rows c =

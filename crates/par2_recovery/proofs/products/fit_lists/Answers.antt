@@ -1,0 +1,18 @@
+use Rattle.std.proofs.Common.{◌<◌, inl, inr, sym, subst, get_or, arith, []}
+use Rattle.std.proofs.lemmas.Bool.{cases_eq, cases_lt}
+use Rattle.std.proofs.lemmas.List.{get_or_past}
+use Rattle.par2_spec.specs.Sums.{list_at, lists_of}
+use Rattle.par2_spec.proofs.WordLaws.{length-lists_of}
+use Rattle.par2_recovery.proofs.products.fit_lists.Goals as goal
+
+pub loop-i-preserved : goal.loop-i-preserved
+loop-i-preserved c = λ r k h. elim (cases_eq r c.loop-i.i) [
+  | inl same ↦ subst (λ m. get_or (list_at (lists_of c.args.texts.now) m) k 0 < 256) (sym same) (subst (λ xs. get_or xs k 0 < 256) c.text_at.ensures (c.fit_bytes.ensures k))
+  | inr other ↦ c.loop-i.invariant r k (omega arith)
+]
+
+pub returns : goal.returns
+returns c = λ r k. elim (cases_lt r c.loop-i.i) [
+  | inl low ↦ c.loop-i.invariant r k low
+  | inr high ↦ subst (λ xs. get_or xs k 0 < 256) (sym (get_or_past (lists_of c.args.texts.now) r [] (omega (arith, length-lists_of c.args.texts.now)))) (omega arith)
+]

@@ -1,0 +1,6 @@
+use Rattle.std.proofs.Common.{ℕ, ◌<◌, get_or}
+use Rattle.par2_spec.specs.Sums.{list_at, lists_of}
+use Rattle.par2_recovery.proofs.products.fit_lists.Given as goal
+
+abbrev pub invariant-loop-i : goal.invariant-loop-i
+invariant-loop-i l = (r k : ℕ) → r < l.i → get_or (list_at (lists_of l.texts) r) k 0 < 256
