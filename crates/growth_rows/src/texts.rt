@@ -6,9 +6,11 @@ use par2_folder::{Folder, Name};
 use par2_gf16::Gf;
 use par2_packets::{
     FileRecord, Pair, append_creator, append_desc, append_ifsc, append_main, append_recoveries,
-    append_recovery,
+    append_recovery, digest_recoveries, with_undigested,
 };
-use par2_recovery::{SetRecord, Survivors, file_records, rank, recovery_slices_over};
+use par2_recovery::{
+    SetRecord, Survivors, file_records, rank, recovery_columns, recovery_slices_over,
+};
 use par2_slices::{Rolling, Spot, Wanted, crc32, find, find_among, pairs_of};
 use recovery_calls::{
     folder_of, lost_rebuilt, rebuilt, recovery_slice_of, recovery_slices_of, set_of,
@@ -136,6 +138,15 @@ impl Texts {
         Ok(())
     }
 
+    // The packets of nine recovery slices of zeros.
+    fn digest(&mut self, alloc: Global) -> Result<(), Refusal> {
+        let mut text = with_undigested(Vec::new(alloc), SET_ID, 0, 9, 4)?;
+        let count = text.len() / 72;
+        digest_recoveries(alloc, text.as_mut_slice(), 4, count)?;
+        self.text = text;
+        Ok(())
+    }
+
     fn record(&mut self, alloc: Global, name: &str) -> Result<(), Refusal> {
         let file = Name::new("a").map_err(|_| Refusal::Other)?;
         self.records = match name {
@@ -175,6 +186,10 @@ impl Texts {
                 self.texts = recovery_slices_over(alloc, &self.gf, &[b"abcd", b"efg"], 4, 0, 2)?;
                 Ok(())
             }
+            "recovery_columns" => {
+                self.texts = recovery_columns(alloc, &self.gf, &[b"abcd", b"efg"], 2, 2, 0, 2)?;
+                Ok(())
+            }
             "rank" => {
                 self.number = rank(alloc, &self.gf, &[0, 2], &[0, 21845, 21847])?;
                 Ok(())
@@ -191,6 +206,7 @@ impl Scene for Texts {
             "Rolling::new" => self.slide(alloc),
             "Wanted::new" | "pairs_of" | "find" | "find_among" => self.search(alloc, name),
             "append_recoveries" => self.append_slices(alloc),
+            "digest_recoveries" => self.digest(alloc),
             "append_main" | "append_desc" | "append_ifsc" | "append_recovery" | "append_creator" =>
                 { self.append(alloc, name) }
             "file_records" | "SetRecord::of_files" => self.record(alloc, name),

@@ -12,7 +12,7 @@ use Rattle.par2_spec.specs.Volumes as volumes
 use Rattle.par2_packets.specs.Views.{file_record_of}
 use Rattle.par2_packets.specs.declared.record.FileRecord.{FileRecord}
 
-regrouped : (text m l d s k a b : List ℕ)
+pub regrouped : (text m l d s k a b : List ℕ)
     → ((((text ++ m) ++ l) ++ (d ++ (s ++ (k ++ [])))) ++ a) ++ b ≡ text ++ (m ++ l ++ d ++ (s ++ k ++ (a ++ b)))
 regrouped text m l d s k a b = simp (append-nil, append_assoc)
 

@@ -1,3 +1,4 @@
 pub mod Views
 pub mod Bodies
+pub mod Pieces
 pub mod Recoveries

@@ -1,11 +1,47 @@
 -- The packets of recovery slices.
-use Rattle.std.specs.Prelude.{ℕ, List, map}
+use Rattle.std.specs.Prelude.{ℕ, ◌≡◌, ◌<◌, ◌≤◌, ◌+◌, List, ◌++◌, length, drop, map, replicate}
+use Rattle.std.specs.Int.{w64, to_le_bytes}
 use Rattle.std.specs.List.{enumerate_from}
-use Rattle.par2_spec.specs.Packets.{Packet}
+use Rattle.md5.specs.Md5.{md5}
+use Rattle.par2_spec.specs.Packets.{Packet, packet, magic, digest_input}
 use Rattle.par2_spec.specs.Volumes.{packet_of, recovery_bytes}
 use Rattle.par2_spec.specs.declared.Kind.TheVariants.{Recovery}
+use Rattle.par2_spec.specs.Sums.{list_at}
+use Rattle.par2_packets.specs.Pieces.{overwritten, ArePieces, changed_below}
 
 -- the packets of recovery slices whose exponents count up from the first one
 abbrev pub packets_from : List ℕ → ℕ → List (List ℕ) → List Packet
 packets_from set_id first slices =
     map (λ z. packet_of set_id Recovery (recovery_bytes z.0 z.1)) (enumerate_from first slices)
+
+-- the packet of a recovery slice
+abbrev pub recovery_packet : List ℕ → ℕ → List ℕ → Packet
+recovery_packet set_id e slice = packet_of set_id Recovery (recovery_bytes e slice)
+
+-- its bytes, with zeros where its MD5 stands
+unfoldable pub undigested : List ℕ → ℕ → List ℕ → List ℕ
+undigested set_id e slice =
+    magic ++ to_le_bytes w64 (68 + length slice) ++ replicate 16 0 ++ digest_input (recovery_packet set_id e slice)
+
+-- its bytes
+abbrev pub digested : List ℕ → ℕ → List ℕ → List ℕ
+digested set_id e slice = packet (recovery_packet set_id e slice)
+
+-- these columns, from `from` on, were written into the recovery slices of the packets of a text. The slices have s bytes
+abbrev pub AreWritten : (s from : ℕ) (columns : List (List ℕ)) (old new : List ℕ) → Type 0
+AreWritten s from columns old new =
+    (set_id : List ℕ) (first : ℕ) (was is : ℕ → List ℕ) → length set_id ≡ 16 → ((e : ℕ) → length (was e) ≡ s) → ((e : ℕ) → length (is e) ≡ s)
+    → ((k : ℕ) → k < length columns → overwritten from (list_at columns k) (was (first + k)) ≡ is (first + k))
+    → ArePieces (68 + s) (λ e. undigested set_id e (was e)) first (length columns) old
+    → ArePieces (68 + s) (λ e. undigested set_id e (is e)) first (length columns) new
+
+-- the bytes of a packet, with its MD5 put at its place
+abbrev pub digest_put : List ℕ → List ℕ
+digest_put text = overwritten 16 (md5 (drop 32 text)) text
+
+-- the packets of a text, of m bytes each, have their MD5s up to packet b where they had them up to packet a
+abbrev pub AreDigested : (m a b : ℕ) (old new : List ℕ) → Type 0
+AreDigested m a b old new =
+    (packet : ℕ → List ℕ) (e n : ℕ) → ((k : ℕ) → length (packet k) ≡ m) → b ≤ n
+    → ArePieces m (changed_below (e + a) (λ k. digest_put (packet k)) packet) e n old
+    → ArePieces m (changed_below (e + b) (λ k. digest_put (packet k)) packet) e n new

@@ -8,6 +8,7 @@ mod order;
 mod record;
 mod recoveries;
 mod scan;
+mod undigested;
 mod views;
 
 pub use append::{append_creator, append_desc, append_ifsc, append_main, append_recovery};
@@ -16,6 +17,7 @@ pub use par2_spec::Kind;
 pub use record::{FileRecord, Pair, file_id, main_id};
 pub use recoveries::append_recoveries;
 pub use scan::{Packet, Packets};
+pub use undigested::{digest_recoveries, with_undigested, write_columns};
 pub use views::{
     DescView, IfscView, MainView, RecoveryView, read_desc, read_ifsc, read_main, read_recovery,
 };

@@ -18,3 +18,4 @@ mod RepairParts
 mod Standings
 mod VolumeNames
 mod OutputChanges
+mod VolumeStages

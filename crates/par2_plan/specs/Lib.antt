@@ -6,3 +6,4 @@ pub mod Parts
 pub mod Readings
 pub mod Repairing
 pub mod Views
+pub mod Volumes

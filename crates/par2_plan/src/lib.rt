@@ -16,6 +16,7 @@ mod reading;
 mod repair;
 mod report;
 mod verify;
+mod volumes;
 mod words;
 
 pub use create::plan_create;

@@ -14,3 +14,4 @@ pub mod KnownSlices
 pub mod Quotients
 pub mod RunInverses
 pub mod Beginnings
+pub mod Windows

@@ -1,6 +1,7 @@
 //! Recovery slices are made of the slices of files, and lost slices are rebuilt from them.
 #![tactic(auto)]
 
+mod columns;
 mod elements;
 mod exponents;
 mod file_record;
@@ -13,6 +14,7 @@ mod run_inverse;
 mod set_record;
 mod syndromes;
 
+pub use columns::recovery_columns;
 pub use exponents::rank;
 pub use file_record::file_record_by_md5;
 pub use rebuild_slices::{RebuildFault, Survivors, rebuild, rebuild_lost};

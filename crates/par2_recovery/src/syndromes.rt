@@ -45,8 +45,8 @@ fn window_of(text: &[u8], from: usize, count: usize) -> &[u8]
     window_bytes(text, count as u64, from.min(text.len()))
 }
 
-// Those of each text.
-fn windows<'a>(
+/// The bytes of each text from `from` on, `count` of them where it doesn't end sooner.
+pub(crate) fn windows<'a>(
     alloc: Global,
     texts: &[&'a [u8]],
     from: usize,

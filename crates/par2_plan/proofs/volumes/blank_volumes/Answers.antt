@@ -2,12 +2,12 @@ use Rattle.std.proofs.Common.{◌∙◌, ◌≤◌, ◌+◌, ◌++◌, ◌∷◌
 use Rattle.std.proofs.lemmas.List.{map-append, map_more, take_all}
 use Rattle.std.proofs.lemmas.List.Elements.{All-from_recursion}
 use Rattle.par2_spec.specs.Sums.{lists_of}
-use Rattle.par2_plan.specs.Outputs.{volume_text}
+use Rattle.par2_plan.specs.Volumes.{volume_up_to}
 use Rattle.par2_plan.specs.declared.names.Volume.{Volume}
-use Rattle.par2_plan.proofs.outputs.texts_over.Goals as goal
+use Rattle.par2_plan.proofs.volumes.blank_volumes.Goals as goal
 
-pub volume_bytes-requires-clause-exponents : goal.volume_bytes-requires-clause-exponents
-volume_bytes-requires-clause-exponents c =
+pub blank_volume-requires-clause-exponents : goal.blank_volume-requires-clause-exponents
+blank_volume-requires-clause-exponents c =
     let fits = λ (volume : Volume). volume.first + volume.count ≤ 65536 in
     let volumes : List Volume = c.args.volumes.now in
     subst fits (sym c.volume-item.is) (All-from_recursion fits volumes c.requires.exponents c.loop-volume.volume-index _ c.loop-volume-test.true)
@@ -17,14 +17,14 @@ loop-volume-init c = ap (λ (texts : List (Vec ℕ Global)). lists_of texts) c.i
 
 pub loop-volume-preserved : goal.loop-volume-preserved
 loop-volume-preserved c =
-    let text = volume_text c.args.parts.now in
+    let text = volume_up_to c.args.parts.now 0 in
     let volumes : List Volume = c.args.volumes.now in
     let volume : Volume = c.volume-item.result in
     ap (λ (texts : List (Vec ℕ Global)). lists_of texts) c.in_ok-push.ensures.items
-    ∙ map-append (λ (bytes : Vec ℕ Global). bytes.items) c.loop-volume.texts.items (c.in_ok-volume_bytes.field-0 ∷ [])
-    ∙ ap₂ (λ (texts : List (List ℕ)) bytes. texts ++ bytes ∷ []) c.loop-volume.invariant (c.in_ok-volume_bytes.ensures ∙ ap text c.volume-item.is)
+    ∙ map-append (λ (bytes : Vec ℕ Global). bytes.items) c.loop-volume.texts.items (c.in_ok-blank_volume.field-0 ∷ [])
+    ∙ ap₂ (λ (texts : List (List ℕ)) bytes. texts ++ bytes ∷ []) c.loop-volume.invariant (c.in_ok-blank_volume.ensures ∙ ap text c.volume-item.is)
     ∙ sym (map_more text volumes c.loop-volume.volume-index volume c.loop-volume-test.true)
 
 pub returns : goal.returns
 returns c =
-    c.loop-volume.invariant ∙ ap (map (volume_text c.args.parts.now)) (take_all c.loop-volume.volume-index c.args.volumes.now c.loop-volume-test.false)
+    c.loop-volume.invariant ∙ ap (map (volume_up_to c.args.parts.now 0)) (take_all c.loop-volume.volume-index c.args.volumes.now c.loop-volume-test.false)

@@ -1,4 +1,4 @@
-use Rattle.par2_plan.proofs.outputs.volume_texts.Goals as goal
+use Rattle.par2_plan.proofs.volumes.volume_texts.Goals as goal
 
 pub input_slices-requires : goal.input_slices-requires
 input_slices-requires c = c.requires.parts.positive

@@ -1,0 +1,169 @@
+-- Pieces of equal length, one after the other: which bytes are those of a piece, and what is written into one.
+use Rattle.std.proofs.Common.{◌≡◌, ◌≢◌, ℕ, zero, suc, ◌+◌, ◌-◌, ◌*◌, ◌<◌, ◌≤◌, List, [], ◌∷◌, ◌++◌, length, take, drop, inl, inr, refl, sym, ap, ap₂, ◌∙◌, subst, arith, append_assoc, length-append, mul-le-mul_right}
+use Rattle.std.specs.Prelude.{flat_map}
+use Rattle.std.specs.List.{range_with_len}
+use Rattle.std.proofs.lemmas.Grind.{flat_map-append}
+use Rattle.std.proofs.lemmas.Bool.{cases_lt, cond_below, cond_above}
+use Rattle.std.proofs.lemmas.List.{take-append-le, drop-append-le, take_at, length-take-le, length-drop, flat_map_more}
+use Rattle.par2_spec.specs.Packets.{bytes_at}
+use Rattle.par2_spec.proofs.ListsLaws.{range-append}
+use Rattle.par2_packets.specs.Pieces.{overwritten, ArePieces, changed_below}
+
+-- ---- what is written into one of two texts
+
+take_behind : (a n : ℕ) (xs ys : List ℕ) → a ≡ length xs + n → take a (xs ++ ys) ≡ xs ++ take n ys
+take_behind a n [] ys e = ap (λ k. take k ys) (let f : a ≡ n = omega (arith, e) in f)
+take_behind zero n (x ∷ xs) ys e = absurd (omega (arith, e))
+take_behind (suc a) n (x ∷ xs) ys e = ap (λ zs. x ∷ zs) (take_behind a n xs ys (omega (arith, e)))
+
+pub drop_behind : (a n : ℕ) (xs ys : List ℕ) → a ≡ length xs + n → drop a (xs ++ ys) ≡ drop n ys
+drop_behind a n [] ys e = ap (λ k. drop k ys) (let f : a ≡ n = omega (arith, e) in f)
+drop_behind zero n (x ∷ xs) ys e = absurd (omega (arith, e))
+drop_behind (suc a) n (x ∷ xs) ys e = drop_behind a n xs ys (omega (arith, e))
+
+pub overwritten_front : (at : ℕ) (bytes xs ys : List ℕ) → at + length bytes ≤ length xs → overwritten at bytes (xs ++ ys) ≡ overwritten at bytes xs ++ ys
+overwritten_front at bytes xs ys fits =
+    ap₂ (λ (a b : List ℕ). a ++ bytes ++ b) (take-append-le at xs ys (omega (arith, fits))) (drop-append-le (at + length bytes) xs ys fits)
+    ∙ sym (append_assoc (take at xs ++ bytes) (drop (at + length bytes) xs) ys)
+
+pub overwritten_behind : (place at : ℕ) (bytes xs ys : List ℕ) → place ≡ length xs + at → overwritten place bytes (xs ++ ys) ≡ xs ++ overwritten at bytes ys
+overwritten_behind place at bytes xs ys e =
+    ap₂ (λ (a b : List ℕ). a ++ bytes ++ b) (take_behind place at xs ys e) (drop_behind (place + length bytes) (at + length bytes) xs ys (omega (arith, e)))
+    ∙ append_assoc (xs ++ take at ys) bytes (drop (at + length bytes) ys) ∙ append_assoc xs (take at ys) (bytes ++ drop (at + length bytes) ys)
+    ∙ ap (λ zs. xs ++ zs) (sym (append_assoc (take at ys) bytes (drop (at + length bytes) ys)))
+
+-- ---- pieces
+
+pub length-pieces : (m : ℕ) (f : ℕ → List ℕ) → ((k : ℕ) → length (f k) ≡ m) → (e n : ℕ) → length (flat_map f (range_with_len e n)) ≡ n * m
+length-pieces m f sizes e zero = let none : 0 ≡ 0 * m = omega arith in none
+length-pieces m f sizes e (suc n) =
+    let rest = length-pieces m f sizes (e + 1) n in
+    let here = sizes e in
+    length-append (f e) (flat_map f (range_with_len (e + 1) n)) ∙ omega (arith, rest, here)
+
+pub pieces_same : (f g : ℕ → List ℕ) (e n : ℕ) → ((k : ℕ) → e ≤ k → k < e + n → f k ≡ g k) → flat_map f (range_with_len e n) ≡ flat_map g (range_with_len e n)
+pieces_same f g e zero same = refl
+pieces_same f g e (suc n) same =
+    ap₂ (λ (a b : List ℕ). a ++ b) (same e (omega arith) (omega arith)) (pieces_same f g (e + 1) n (λ k low high. same k (omega (arith, low)) (omega (arith, high))))
+
+-- what is written into one piece changes this piece
+written_into : (m : ℕ) (f g : ℕ → List ℕ) → ((k : ℕ) → length (f k) ≡ m) → (at : ℕ) (bytes : List ℕ) → at + length bytes ≤ m
+    → (e n k j place : ℕ) → k < n → j ≡ e + k → place ≡ k * m + at → overwritten at bytes (f j) ≡ g j → ((i : ℕ) → i ≢ j → f i ≡ g i)
+    → overwritten place bytes (flat_map f (range_with_len e n)) ≡ flat_map g (range_with_len e n)
+written_into m f g sizes at bytes fits e zero k j place low is there here others = absurd (omega (arith, low))
+written_into m f g sizes at bytes fits e (suc n) zero j place low is there here others =
+    let same : j ≡ e = omega (arith, is) in
+    let room = sizes e in
+    ap (λ p. overwritten p bytes (f e ++ flat_map f (range_with_len (e + 1) n))) (let q : place ≡ at = omega (arith, there) in q)
+    ∙ overwritten_front at bytes (f e) (flat_map f (range_with_len (e + 1) n)) (omega (arith, room, fits))
+    ∙ ap₂ (λ (a b : List ℕ). a ++ b) (subst (λ i. overwritten at bytes (f i) ≡ g i) same here)
+    (pieces_same f g (e + 1) n (λ i above _. others i (λ x. omega (arith, above, x, same))))
+written_into m f g sizes at bytes fits e (suc n) (suc k) j place low is there here others =
+    let first = sizes e in
+    overwritten_behind place (k * m + at) bytes (f e) (flat_map f (range_with_len (e + 1) n)) (omega (arith, there, first))
+    ∙ ap₂ (λ (a b : List ℕ). a ++ b) (others e (λ x. omega (arith, is, x)))
+    (written_into m f g sizes at bytes fits (e + 1) n k j (k * m + at) (omega (arith, low)) (omega (arith, is)) refl here others)
+
+pub length-overwritten : (at : ℕ) (bytes text : List ℕ) → at + length bytes ≤ length text → length (overwritten at bytes text) ≡ length text
+length-overwritten at bytes text fits =
+    let front = length-take-le at text (omega (arith, fits)) in
+    let rest = length-drop (at + length bytes) text in
+    length-append (take at text ++ bytes) (drop (at + length bytes) text) ∙ (let a = length-append (take at text) bytes in omega (arith, a, front, rest, fits))
+
+-- the bytes of a piece
+piece_from : (m : ℕ) (f : ℕ → List ℕ) → ((k : ℕ) → length (f k) ≡ m) → (e n k j place : ℕ) → k < n → j ≡ e + k → place ≡ k * m → take m (drop place (flat_map f (range_with_len e n))) ≡ f j
+piece_from m f sizes e zero k j place low is there = absurd (omega (arith, low))
+piece_from m f sizes e (suc n) zero j place low is there =
+    ap (λ p. take m (drop p (f e ++ flat_map f (range_with_len (e + 1) n)))) (let q : place ≡ 0 = omega (arith, there) in q)
+    ∙ take_at (f e) (flat_map f (range_with_len (e + 1) n)) m (sizes e) ∙ ap f (let q : e ≡ j = omega (arith, is) in q)
+piece_from m f sizes e (suc n) (suc k) j place low is there =
+    let first = sizes e in
+    ap (take m) (drop_behind place (k * m) (f e) (flat_map f (range_with_len (e + 1) n)) (omega (arith, there, first)))
+    ∙ piece_from m f sizes (e + 1) n k j (k * m) (omega (arith, low)) (omega (arith, is)) refl
+
+pub piece_at : (m : ℕ) (f : ℕ → List ℕ) (e n k : ℕ) (text : List ℕ) → ArePieces m f e n text → k < n → bytes_at (k * m) m text ≡ f (e + k)
+piece_at m f e n k text pieces low = ap (λ (t : List ℕ). bytes_at (k * m) m t) pieces.is ∙ piece_from m f pieces.sizes e n k (e + k) (k * m) low refl refl
+
+pub same_pieces : (m : ℕ) (f g : ℕ → List ℕ) (e n : ℕ) (text : List ℕ) → ((k : ℕ) → f k ≡ g k) → ArePieces m f e n text → ArePieces m g e n text
+same_pieces m f g e n text same pieces = record {
+  sizes = λ k. ap length (sym (same k)) ∙ pieces.sizes k;
+  is = pieces.is ∙ pieces_same f g e n (λ k _ _. same k);
+}
+
+-- a piece more, behind others
+pub piece_more : (f : ℕ → List ℕ) (e k : ℕ) (text out new : List ℕ) → out ≡ text ++ flat_map f (range_with_len e k) → new ≡ out ++ f (e + k) → new ≡ text ++ flat_map f (range_with_len e (k + 1))
+piece_more f e k text out new so_far is =
+    is ∙ ap (λ (xs : List ℕ). xs ++ f (e + k)) so_far ∙ flat_map_more f text (range_with_len e k) (e + k)
+    ∙ ap (λ (ks : List ℕ). text ++ flat_map f ks) (sym (range-append e k 1))
+
+-- ---- pieces that are changed one after the other
+
+pub below : (b : ℕ) (g f : ℕ → List ℕ) (k : ℕ) → k < b → changed_below b g f k ≡ g k
+below b g f k low = sym (cond_below k b (g k) (f k) low)
+
+pub from_on : (b : ℕ) (g f : ℕ → List ℕ) (k : ℕ) → b ≤ k → changed_below b g f k ≡ f k
+from_on b g f k high = sym (cond_above k b (g k) (f k) (f k) high refl)
+
+changed_sizes : (m b : ℕ) (g f : ℕ → List ℕ) → ((k : ℕ) → length (g k) ≡ m) → ((k : ℕ) → length (f k) ≡ m) → (k : ℕ) → length (changed_below b g f k) ≡ m
+changed_sizes m b g f gs fs k = elim (cases_lt k b) [
+  | inl low ↦ ap length (below b g f k low) ∙ gs k
+  | inr high ↦ ap length (from_on b g f k high) ∙ fs k
+]
+
+pub none_changed : (m : ℕ) (g f : ℕ → List ℕ) (e n : ℕ) (text : List ℕ) → ((k : ℕ) → length (g k) ≡ m) → ArePieces m f e n text → ArePieces m (changed_below e g f) e n text
+none_changed m g f e n text sizes pieces = record {
+  sizes = changed_sizes m e g f sizes pieces.sizes;
+  is = pieces.is ∙ pieces_same f (changed_below e g f) e n (λ k low _. sym (from_on e g f k low));
+}
+
+pub all_changed : (m : ℕ) (g f : ℕ → List ℕ) (e n : ℕ) (text : List ℕ) → ((k : ℕ) → length (g k) ≡ m) → ArePieces m (changed_below (e + n) g f) e n text → ArePieces m g e n text
+all_changed m g f e n text sizes pieces = record {
+  sizes = sizes;
+  is = pieces.is ∙ pieces_same (changed_below (e + n) g f) g e n (λ k _ high. below (e + n) g f k high);
+}
+
+-- one piece more is changed by what is written into it
+pub next_changed : (m : ℕ) (g f : ℕ → List ℕ) (e n k at place : ℕ) (bytes text : List ℕ) → ((i : ℕ) → length (g i) ≡ m) → ((i : ℕ) → length (f i) ≡ m)
+    → k < n → place ≡ k * m + at → at + length bytes ≤ m → overwritten at bytes (f (e + k)) ≡ g (e + k)
+    → ArePieces m (changed_below (e + k) g f) e n text → ArePieces m (changed_below (e + (k + 1)) g f) e n (overwritten place bytes text)
+next_changed m g f e n k at place bytes text gs fs low there fits here pieces = record {
+  sizes = changed_sizes m (e + (k + 1)) g f gs fs;
+  is =
+      ap (overwritten place bytes) pieces.is
+      ∙ written_into m (changed_below (e + k) g f) (changed_below (e + (k + 1)) g f) pieces.sizes at bytes fits e n k (e + k) place low refl there
+      (ap (overwritten at bytes) (from_on (e + k) g f (e + k) (omega arith)) ∙ here ∙ sym (below (e + (k + 1)) g f (e + k) (omega arith)))
+      (λ i other. elim (cases_lt i (e + k)) [
+        | inl before ↦ below (e + k) g f i before ∙ sym (below (e + (k + 1)) g f i (omega (arith, before)))
+        | inr after ↦ from_on (e + k) g f i after ∙ sym (from_on (e + (k + 1)) g f i (apart i after other))
+      ]);
+}
+  where
+    apart : (i : ℕ) → e + k ≤ i → i ≢ e + k → e + (k + 1) ≤ i
+    apart i after other = omega (arith, after, other)
+
+-- a piece lies within the text of all of them
+pub room_for : (first k n m : ℕ) → k < n → (first + k) * m + m ≤ (first + n) * m
+room_for first k n m low = let e = mul-le-mul_right m (let f : (first + k) + 1 ≤ first + n = omega (arith, low) in f) in omega (arith, e)
+
+-- ---- some of the pieces
+
+-- the text of some pieces is a part of the text of all
+pub pieces_between : (m : ℕ) (f : ℕ → List ℕ) → ((k : ℕ) → length (f k) ≡ m) → (e n a b place size : ℕ) → a + b ≤ n → place ≡ a * m → size ≡ b * m
+    → take size (drop place (flat_map f (range_with_len e n))) ≡ flat_map f (range_with_len (e + a) b)
+pieces_between m f sizes e n a b place size within there long =
+    let c : ℕ = n - (a + b) in
+    let before = flat_map f (range_with_len e a) in
+    let here = flat_map f (range_with_len (e + a) b) in
+    let after = flat_map f (range_with_len (e + a + b) c) in
+    let parts : flat_map f (range_with_len e n) ≡ before ++ (here ++ after) =
+    ap (λ k. flat_map f (range_with_len e k)) (let whole : n ≡ a + (b + c) = omega (arith, within) in whole)
+    ∙ ap (flat_map f) (range-append e a (b + c)) ∙ flat_map-append f (range_with_len e a) (range_with_len (e + a) (b + c))
+    ∙ ap (λ (xs : List ℕ). before ++ xs) (ap (flat_map f) (range-append (e + a) b c) ∙ flat_map-append f (range_with_len (e + a) b) (range_with_len (e + a + b) c)) in
+    ap (λ (xs : List ℕ). take size (drop place xs)) parts
+    ∙ ap (take size) (drop_behind place 0 before (here ++ after) (let e₁ = length-pieces m f sizes e a in omega (arith, there, e₁)))
+    ∙ take_at here after size (length-pieces m f sizes (e + a) b ∙ sym long)
+
+-- pieces that are counted from another number on
+pub pieces_moved : (f : ℕ → List ℕ) (d e j n : ℕ) → j ≡ d + e → flat_map f (range_with_len j n) ≡ flat_map (λ k. f (d + k)) (range_with_len e n)
+pieces_moved f d e j zero is = refl
+pieces_moved f d e j (suc n) is = ap₂ (λ (a b : List ℕ). a ++ b) (ap f is) (pieces_moved f d (e + 1) (j + 1) n (omega (arith, is)))

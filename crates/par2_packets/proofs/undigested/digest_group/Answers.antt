@@ -1,0 +1,42 @@
+use Rattle.std.proofs.Common.{◌≡◌, ◌∙◌, ◌+◌, ◌*◌, ◌<◌, ℕ, List, [], length, refl, ap, subst, arith, rules, get_or}
+use Rattle.std.specs.Prelude.{drop}
+use Rattle.std.proofs.lemmas.List.{get_or_default}
+use Rattle.std.proofs.lemmas.List.FromFn.{length-map-range_with_len, get_or-map-range_with_len}
+use Rattle.md5.specs.Md5.{md5}
+use Rattle.par2_spec.specs.Packets.{bytes_at}
+use Rattle.par2_packets.specs.Recoveries.{AreDigested}
+use Rattle.par2_packets.proofs.Pieces.{room_for}
+use Rattle.par2_packets.proofs.LaterDigests.{none_digested, digested_next}
+use Rattle.par2_packets.proofs.undigested.digest_group.Goals as goal
+
+pub index-requires : goal.index-requires
+index-requires c =
+    let digest = λ (k : ℕ). md5 (drop 32 (bytes_at (k * c.args.len) c.args.len c.args.packets.now)) in
+    let count : length c.in_ok-digests.digests.items ≡ c.args.count = ap length c.in_ok-digests.ensures ∙ length-map-range_with_len digest c.args.first c.args.count in
+    let low : c.loop-k.k < length c.in_ok-digests.digests.items = omega (arith, count, c.loop-k-test.true) in
+    search (rules, low)
+
+pub overwrite-requires : goal.overwrite-requires
+overwrite-requires c =
+    let room = room_for c.args.first c.loop-k.k c.args.count c.args.len c.loop-k-test.true in
+    omega (arith, room, c.requires.packets, c.requires.head, c.loop-k.auto.packets)
+
+pub loop-k-init : goal.loop-k-init
+loop-k-init c =
+    subst (λ b. AreDigested c.args.len c.args.first b c.args.packets.now c.args.packets.now) (let e : c.args.first ≡ c.args.first + 0 = omega arith in e) (none_digested c.args.len c.args.first c.args.packets.now)
+
+pub loop-k-preserved : goal.loop-k-preserved
+loop-k-preserved c =
+    let len = c.args.len in
+    let first = c.args.first in
+    let k = c.loop-k.k in
+    let low = c.loop-k-test.true in
+    let all = c.args.packets.now in
+    let digests : List (List ℕ) = c.in_ok-digests.digests.items in
+    let digest = λ (j : ℕ). md5 (drop 32 (bytes_at (j * len) len all)) in
+    let d : List ℕ = c.index.result.now in
+    let count : length digests ≡ c.args.count = ap length c.in_ok-digests.ensures ∙ length-map-range_with_len digest first c.args.count in
+    let is : d ≡ digest (first + k) =
+    c.index.ensures ∙ get_or_default digests k d [] (omega (arith, count, low))
+    ∙ ap (λ (xs : List (List ℕ)). get_or xs k []) c.in_ok-digests.ensures ∙ get_or-map-range_with_len digest first c.args.count k (first + k) [] low refl in
+    digested_next len first k all c.loop-k.packets c.overwrite.new.text d c.requires.head c.loop-k.invariant is c.overwrite.ensures

@@ -1,0 +1,16 @@
+use Rattle.std.proofs.Common.{◌∙◌, ◌+◌, ◌*◌, ◌++◌, ◌∷◌, [], ℕ, List, sym, ap, ap₂, refl}
+use Rattle.std.specs.Prelude.{drop}
+use Rattle.std.specs.Borrow.{Bor}
+use Rattle.std.proofs.lemmas.List.{map-append}
+use Rattle.std.proofs.lemmas.List.FromFn.{map-range_with_len_more}
+use Rattle.par2_digests.specs.Texts.{texts_of}
+use Rattle.par2_spec.specs.Packets.{bytes_at}
+use Rattle.par2_packets.proofs.undigested.digest_inputs.Goals as goal
+
+pub loop-k-preserved : goal.loop-k-preserved
+loop-k-preserved c =
+    let input = λ (k : ℕ). drop 32 (bytes_at (k * c.args.len) c.args.len c.args.packets.now) in
+    ap (λ (xs : List (Bor (List ℕ))). texts_of xs) c.in_ok-push.ensures.items
+    ∙ map-append (λ (x : Bor (List ℕ)). x.now) c.loop-k.inputs.items (c.digest_input.result ∷ [])
+    ∙ ap₂ (λ (xs : List (List ℕ)) (x : List ℕ). xs ++ x ∷ []) c.loop-k.invariant c.digest_input.ensures
+    ∙ sym (map-range_with_len_more input c.args.first c.loop-k.k (c.args.first + c.loop-k.k) refl)

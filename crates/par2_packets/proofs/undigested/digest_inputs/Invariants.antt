@@ -1,0 +1,9 @@
+use Rattle.std.proofs.Common.{◌≡◌, ◌*◌, map}
+use Rattle.std.specs.Prelude.{drop}
+use Rattle.std.specs.List.{range_with_len}
+use Rattle.par2_digests.specs.Texts.{texts_of}
+use Rattle.par2_spec.specs.Packets.{bytes_at}
+use Rattle.par2_packets.proofs.undigested.digest_inputs.Given as goal
+
+abbrev pub invariant-loop-k : goal.invariant-loop-k
+invariant-loop-k l = texts_of l.inputs.items ≡ map (λ k. drop 32 (bytes_at (k * l.len) l.len l.packets)) (range_with_len l.first l.k)

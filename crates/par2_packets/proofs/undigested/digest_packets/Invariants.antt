@@ -1,0 +1,6 @@
+use Rattle.std.proofs.Common.{◌*◌, min}
+use Rattle.par2_packets.specs.Recoveries.{AreDigested}
+use Rattle.par2_packets.proofs.undigested.digest_packets.Given as goal
+
+abbrev pub invariant-loop-group : goal.invariant-loop-group
+invariant-loop-group l = AreDigested l.len 0 (min l.count (l.group * 1024)) l.initial.packets l.packets

@@ -1,0 +1,193 @@
+//! Recovery packets whose slices are written piece by piece. Zeros stand for what is still to come, and the MD5s are put
+//! in at the end.
+
+ghost use Rattle.std.specs.Prelude.{◌≡◌, ◌≤◌, ◌<◌, ◌+◌, ◌*◌, ◌^◌, ◌++◌, ℕ, List, length, map, drop, flat_map, replicate, OnOk, IfOk};
+ghost use Rattle.std.specs.List.{range_with_len};
+ghost use Rattle.md5.specs.Md5.{md5};
+ghost use Rattle.par2_digests.specs.Texts.{texts_of};
+ghost use Rattle.par2_spec.specs.Packets.{bytes_at};
+ghost use Rattle.par2_spec.specs.Sums.{list_at, lists_of};
+ghost use Rattle.par2_packets.specs.Pieces.{overwritten, ArePieces};
+ghost use Rattle.par2_packets.specs.Recoveries.{undigested, digested, AreWritten, AreDigested};
+
+use crate::bytes::{u32_bytes, u64_bytes};
+use crate::kind::type_of;
+use par2_digests::text_digests;
+use par2_spec::Kind;
+use std::alloc::{AllocError, Global};
+
+// How many packets are digested at a time.
+const GROUP: usize = 1024;
+
+// What a packet has beside the bytes of its recovery slice: the header, and the exponent.
+const HEAD: usize = 68;
+
+// Adds zeros.
+fn append_zeros(out: &mut Vec<u8>, count: usize) -> Result<(), AllocError>
+    ensures { OnOk result (out.new.items ≡ out.old.items ++ replicate count 0) }
+{
+    out.reserve(count)?;
+    out.resize(out.len() + count, 0)
+}
+
+// Adds the packet of exponent `e`, with zeros for the slice and for the MD5.
+fn append_undigested(
+    out: &mut Vec<u8>,
+    set_id: &[u8; 16],
+    e: u32,
+    size: usize,
+) -> Result<(), AllocError>
+    requires { 68 + size ≤ usize.MAX }
+    ensures { OnOk result
+        (out.new.items ≡ out.old.items ++ undigested set_id.now e (replicate size 0)) }
+{
+    out.extend_from_slice(b"PAR2\0PKT")?;
+    out.extend_from_slice(&u64_bytes((HEAD + size) as u64))?;
+    out.extend_from_slice([[0; 16], *set_id, type_of(Kind::Recovery)].as_flattened())?;
+    out.extend_from_slice(&u32_bytes(e))?;
+    append_zeros(out, size)
+}
+
+/// The text, and behind it the packets of `count` exponents from `first` on: their slices are zeros, and their MD5s are
+/// still to come.
+pub fn with_undigested(
+    text: Vec<u8>,
+    set_id: &[u8; 16],
+    first: u32,
+    count: u32,
+    size: usize,
+) -> Result<Vec<u8>, AllocError>
+    requires fits { 68 + size ≤ usize.MAX }
+    requires exponents { first + count ≤ 65536 }
+    ensures { let added = λ (e : ℕ). undigested set_id.now e (replicate size 0) in
+        IfOk result (λ all. all.items
+        ≡ text.items ++ flat_map added (range_with_len first count)) }
+{
+    let mut all = text;
+    for k in 0..count {
+        append_undigested(&mut all, set_id, first + k, size)?;
+    }
+    Ok(all)
+}
+
+// Writes over the bytes from `at` on.
+fn overwrite(text: &mut [u8], at: usize, bytes: &[u8])
+    requires { at + length bytes.now ≤ length text.old }
+    ensures { text.new ≡ overwritten at bytes.now text.old }
+{
+    text[at..at + bytes.len()].copy_from_slice(bytes);
+}
+
+/// Writes over the bytes from `from` on of the recovery slices of packets: at each the bytes at its place. The slices have
+/// `size` bytes.
+pub fn write_columns(packets: &mut [u8], size: usize, from: usize, columns: &[Vec<u8>])
+    requires fits { 68 + size ≤ usize.MAX }
+    requires packets { length columns.now * (68 + size) ≤ length packets.old }
+    requires columns { (k : ℕ) → k < length columns.now
+        → from + length (list_at (lists_of columns.now) k) ≤ size }
+    ensures { AreWritten size from (lists_of columns.now) packets.old packets.new }
+{
+    let len = HEAD + size;
+    for k in 0..columns.len() {
+        overwrite(packets, k * len + (HEAD + from), &columns[k]);
+    }
+}
+
+// What the MD5 of packet `k` is taken of.
+fn digest_input(packets: &[u8], len: usize, k: usize) -> &[u8]
+    requires packet { (k + 1) * len ≤ length packets.now }
+    requires head { 32 ≤ len }
+    ensures { result.now ≡ drop 32 (bytes_at (k * len) len packets.now) }
+{
+    &packets[k * len + 32..(k + 1) * len]
+}
+
+// What the MD5 of each packet is taken of, from packet `first` on.
+fn digest_inputs<'a>(
+    alloc: Global,
+    packets: &'a [u8],
+    len: usize,
+    first: usize,
+    count: usize,
+) -> Result<Vec<&'a [u8]>, AllocError>
+    requires packets { (first + count) * len ≤ length packets.now }
+    requires head { 32 ≤ len }
+    ensures { IfOk result (λ inputs. texts_of inputs.items
+        ≡ map (λ k. drop 32 (bytes_at (k * len) len packets.now)) (range_with_len first count)) }
+{
+    let mut inputs = Vec::with_capacity(alloc, count)?;
+    for k in 0..count {
+        inputs.push(digest_input(packets, len, first + k))?;
+    }
+    Ok(inputs)
+}
+
+// The MD5s of packets, from packet `first` on.
+fn digests(
+    alloc: Global,
+    packets: &[u8],
+    len: usize,
+    first: usize,
+    count: usize,
+) -> Result<Vec<[u8; 16]>, AllocError>
+    requires packets { (first + count) * len ≤ length packets.now }
+    requires head { 32 ≤ len }
+    ensures { IfOk result (λ digests. digests.items ≡ map
+        (λ k. md5 (drop 32 (bytes_at (k * len) len packets.now))) (range_with_len first count)) }
+{
+    let inputs = digest_inputs(alloc, packets, len, first, count)?;
+    text_digests(alloc, &inputs)
+}
+
+// Puts the MD5s of some packets at their places.
+fn digest_group(
+    alloc: Global,
+    packets: &mut [u8],
+    len: usize,
+    first: usize,
+    count: usize,
+) -> Result<(), AllocError>
+    requires packets { (first + count) * len ≤ length packets.old }
+    requires head { 32 ≤ len }
+    ensures { OnOk result (AreDigested len first (first + count) packets.old packets.new) }
+{
+    let digests = digests(alloc, packets, len, first, count)?;
+    for k in 0..count {
+        overwrite(packets, (first + k) * len + 16, &digests[k]);
+    }
+    Ok(())
+}
+
+// Puts the MD5 of each packet at its place.
+fn digest_packets(
+    alloc: Global,
+    packets: &mut [u8],
+    len: usize,
+    count: usize,
+) -> Result<(), AllocError>
+    requires packets { count * len ≤ length packets.old }
+    requires head { 32 ≤ len }
+    ensures { OnOk result (AreDigested len 0 count packets.old packets.new) }
+{
+    for group in 0..count.div_ceil(GROUP) {
+        let first = group * GROUP;
+        digest_group(alloc, packets, len, first, GROUP.min(count - first))?;
+    }
+    Ok(())
+}
+
+/// Puts the MD5 of each recovery packet at its place. The slices have `size` bytes.
+pub fn digest_recoveries(
+    alloc: Global,
+    packets: &mut [u8],
+    size: usize,
+    count: usize,
+) -> Result<(), AllocError>
+    requires fits { 68 + size ≤ usize.MAX }
+    requires packets { count * (68 + size) ≤ length packets.old }
+    ensures { OnOk result ((set_id : List ℕ) (first : ℕ) (slice : ℕ → List ℕ)
+        → ArePieces (68 + size) (λ e. undigested set_id e (slice e)) first count packets.old
+        → ArePieces (68 + size) (λ e. digested set_id e (slice e)) first count packets.new) }
+{
+    digest_packets(alloc, packets, HEAD + size, count)
+}

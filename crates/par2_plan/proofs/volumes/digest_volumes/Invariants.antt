@@ -1,0 +1,8 @@
+use Rattle.std.proofs.Common.{map}
+use Rattle.par2_spec.specs.Sums.{lists_of}
+use Rattle.par2_plan.specs.Outputs.{volume_text}
+use Rattle.par2_plan.proofs.VolumeStages.{ChangedTo}
+use Rattle.par2_plan.proofs.volumes.digest_volumes.Given as goal
+
+abbrev pub invariant-loop-i : goal.invariant-loop-i
+invariant-loop-i l = ChangedTo (map (volume_text l.parts) l.volumes) (lists_of l.initial.texts) (lists_of l.texts) l.i
