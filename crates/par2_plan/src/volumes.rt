@@ -15,8 +15,8 @@ use par2_packets::{digest_recoveries, with_undigested, write_columns};
 use par2_recovery::{input_slices, recovery_columns};
 use std::alloc::{AllocError, Global};
 
-// How much memory the columns of recovery slices may take, beside a 64th of the inputs.
-const ROOM: usize = 512 * 1024;
+// How much memory the columns of recovery slices may take, beside a 128th of the inputs. To compute them takes some more.
+const ROOM: usize = 256 * 1024;
 
 // What the columns of a recovery slice take beside their bytes.
 const OVERHEAD: usize = 64;
@@ -58,7 +58,7 @@ fn columns_at_once(inputs: &[&[u8]], exponents: Exponents) -> usize
     ensures some { 1 ≤ result }
     ensures even { result % 2 ≡ 0 }
 {
-    let room = (total_len(inputs) / 64).saturating_add(ROOM);
+    let room = (total_len(inputs) / 128).saturating_add(ROOM);
     let count = (exponents.end - exponents.first) as usize;
     let each = (room / count.max(1)).saturating_sub(OVERHEAD);
     (each / STEP).max(1) * STEP

@@ -8,7 +8,7 @@ ghost use Rattle.par2_spec.specs.Sums.{lists_of};
 ghost use Rattle.par2_recovery.specs.Syndromes.{AreColumns};
 ghost use Rattle.par2_recovery.specs.Views.{texts_of};
 
-use crate::recovery::recovery_slices_over;
+use crate::recovery::{are_together, recovery_slices_over, sums_together};
 use crate::syndromes::windows;
 use par2_gf16::Gf;
 use std::alloc::{AllocError, Global};
@@ -54,6 +54,28 @@ fn grouped(
     Ok(texts)
 }
 
+// The recovery slices, all together where they are many.
+fn together_or_grouped(
+    alloc: Global,
+    gf: &Gf,
+    slices: &[&[u8]],
+    size: usize,
+    first: u32,
+    count: u32,
+) -> Result<Vec<Vec<u8>>, AllocError>
+    requires slices { length slices.now ≤ 32768 }
+    requires even { size % 2 ≡ 0 }
+    requires exponents { first + count ≤ 2 ^ 32 }
+    ensures { IfOk result (λ texts. lists_of texts.items ≡ map (recovery size
+        (map (spec.padded size) (texts_of slices.now))) (range_with_len first count)) }
+{
+    if are_together(slices.len(), count) {
+        sums_together(alloc, gf, slices, size, first, count)
+    } else {
+        grouped(alloc, gf, slices, size, first, count)
+    }
+}
+
 /// The bytes from `from` on, `len` of them, of the recovery slices of `count` exponents from `first` on, over slices of
 /// any size that has these bytes. Zeros follow a slice that is shorter, as [`crate::input_slices`] answers the last ones
 /// of files.
@@ -74,5 +96,5 @@ pub fn recovery_columns(
         (lists_of columns.items)) }
 {
     let windows = windows(alloc, slices, from, len)?;
-    grouped(alloc, gf, &windows, len, first, count)
+    together_or_grouped(alloc, gf, &windows, len, first, count)
 }

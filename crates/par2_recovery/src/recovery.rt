@@ -19,8 +19,16 @@ use par2_slices::{slice_bytes, slice_count};
 use par2_transform::add_recovery_slices;
 use std::alloc::{AllocError, Global};
 
-// From so many exponents on, recovery slices are computed together.
-const TOGETHER: u32 = 16;
+// From so many exponents and slices on, recovery slices are computed together: below, each as the sum of its products is
+// faster.
+const MANY_EXPONENTS: u32 = 16;
+
+const MANY_SLICES: usize = 32;
+
+/// Whether the recovery slices of so many exponents over so many slices are computed together.
+pub(crate) fn are_together(slices: usize, count: u32) -> bool {
+    slices >= MANY_SLICES && count >= MANY_EXPONENTS
+}
 
 // The numbers below n.
 #[tactic(auto, using(crate::proofs::Combinations::range_more))]
@@ -88,8 +96,8 @@ fn sums_of_products(
     with_products(alloc, gf, &factors, slices, zeros, size / 2)
 }
 
-// The recovery slices of all exponents together.
-fn sums_together(
+/// The recovery slices of all exponents together.
+pub(crate) fn sums_together(
     alloc: Global,
     gf: &Gf,
     slices: &[&[u8]],
@@ -126,10 +134,10 @@ pub fn recovery_slices_over(
     ensures { IfOk result (λ texts. lists_of texts.items ≡ map (recovery size
         (map (spec.padded size) (texts_of slices.now))) (range_with_len first count)) }
 {
-    if count < TOGETHER {
-        sums_of_products(alloc, gf, slices, size, first, count)
-    } else {
+    if are_together(slices.len(), count) {
         sums_together(alloc, gf, slices, size, first, count)
+    } else {
+        sums_of_products(alloc, gf, slices, size, first, count)
     }
 }
 
