@@ -136,26 +136,24 @@ are_recovered s first count lists old new even bytes fits blank added =
     (λ r h.
     let low : r < count = omega (arith, added.count, blank.count) in
     let here = get_or-map-range_with_len (recovery s (map (padded s) lists)) first count r (first + r) [] low refl in
-    sym (one r low) ∙ sym here)
-  where
-    one : (r : ℕ) → r < count → recovery s (map (padded s) lists) (first + r) ≡ list_at new r
-    one r low =
-        let row = coefficients (range_with_len 0 (length lists)) (first + r) in
-        let long : length row ≡ length lists = length-map (range_with_len 0 (length lists)) (coefficient (first + r)) ∙ length-range_with_len 0 (length lists) in
-        let size : length (list_at old r) ≡ s = ap length (blank.each r low) ∙ length-replicate {A = ℕ} s 0 in
-        let entry : (k : ℕ) → k < length lists → get_or row k 0 ≡ coefficient (first + r) k =
-        λ k h. get_or-map-range_with_len (coefficient (first + r)) 0 (length lists) k k 0 h (zero-add k) in
-        ap (λ n. combination s (coefficients (range_with_len 0 n) (first + r)) (map (padded s) lists)) (length-map lists (padded s))
-        ∙ (combination_words s row (map (padded s) lists) (list_at new r) even
-        (λ w. dot_padded-lt s row lists w (omega (arith, long)) (coefficients-lt (range_with_len 0 (length lists)) (first + r)) bytes)
-        (added.sizes r ∙ size) (fits r)).1
-        (λ w fits.
-        dot_padded s row lists w (omega (arith, long))
-        ∙ field_sum_same (length lists) (λ k. mul (get_or row k 0) (word w (list_at lists k))) (λ k. mul (coefficient (first + r) k) (word w (list_at lists k)))
-        (λ k h. ap (λ c. mul c (word w (list_at lists k))) (entry k h))
-        ∙ sym (added.each r w (omega (arith, blank.count)) (omega (arith, size))
-        ∙ ap (λ x. bit_xor x (recovered lists (first + r) w)) (ap (λ xs. word w xs) (blank.each r low) ∙ blank_word s w)
-        ∙ xor_zero_l (recovered lists (first + r) w)))
+    let row = coefficients (range_with_len 0 (length lists)) (first + r) in
+    let long : length row ≡ length lists = length-map (range_with_len 0 (length lists)) (coefficient (first + r)) ∙ length-range_with_len 0 (length lists) in
+    let size : length (list_at old r) ≡ s = ap length (blank.each r low) ∙ length-replicate {A = ℕ} s 0 in
+    let entry : (k : ℕ) → k < length lists → get_or row k 0 ≡ coefficient (first + r) k =
+    λ k h. get_or-map-range_with_len (coefficient (first + r)) 0 (length lists) k k 0 h (zero-add k) in
+    let is : recovery s (map (padded s) lists) (first + r) ≡ list_at new r =
+    ap (λ n. combination s (coefficients (range_with_len 0 n) (first + r)) (map (padded s) lists)) (length-map lists (padded s))
+    ∙ (combination_words s row (map (padded s) lists) (list_at new r) even
+    (λ w. dot_padded-lt s row lists w (omega (arith, long)) (coefficients-lt (range_with_len 0 (length lists)) (first + r)) bytes)
+    (added.sizes r ∙ size) (fits r)).1
+    (λ w fits.
+    dot_padded s row lists w (omega (arith, long))
+    ∙ field_sum_same (length lists) (λ k. mul (get_or row k 0) (word w (list_at lists k))) (λ k. mul (coefficient (first + r) k) (word w (list_at lists k)))
+    (λ k h. ap (λ c. mul c (word w (list_at lists k))) (entry k h))
+    ∙ sym (added.each r w (omega (arith, blank.count)) (omega (arith, size))
+    ∙ ap (λ x. bit_xor x (recovered lists (first + r) w)) (ap (λ xs. word w xs) (blank.each r low) ∙ blank_word s w)
+    ∙ xor_zero_l (recovered lists (first + r) w))) in
+    sym is ∙ sym here)
 
 -- ---- rows of factors
 
