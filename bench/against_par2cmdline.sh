@@ -152,6 +152,14 @@ repair "one byte inserted at the front of 64 MiB" data
 cd "$room"
 rm -rf one whole
 
+folder middle
+head -c 67108864 /dev/urandom > data
+rounds=1
+create "64 MiB in one file, 410 slices of 16 KiB" 16384 410 data
+rounds=3
+cd "$room"
+rm -rf middle
+
 folder small
 head -c 16777216 /dev/urandom > data
 create "16 MiB in one file, 400 slices of 4 KiB" 4096 400 data
@@ -216,7 +224,9 @@ rm -rf little
 folder large
 head -c 134217728 /dev/urandom > data
 cp data "$room/whole"
-made 4096 3277 data
+rounds=1
+create "128 MiB in one file, 3,277 slices of 4 KiB" 4096 3277 data
+rm -f .par2undo data
 lost "the file of 32,768 slices is gone, 3,277 recovery slices"
 keep
 rm set.vol01023+*
@@ -229,3 +239,9 @@ done
 keep
 rounds=1
 repair "1,000 of 32,768 slices lost" data
+restore
+for slice in $(seq 0 10 32767); do
+    dd if=/dev/zero of=data bs=4096 seek="$slice" count=1 conv=notrunc status=none
+done
+keep
+repair "3,277 of 32,768 slices lost" data
