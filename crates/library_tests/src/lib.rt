@@ -1,6 +1,6 @@
 //! Tests of the libraries below the plan, through what their crates make public: of the digests, the field, the
-//! elimination, the slices, the search, the packets, sets, recovery slices and rebuilding, and of folders and their
-//! stores.
+//! elimination, the transform, the slices, the search, the packets, sets, recovery slices and rebuilding, and of folders
+//! and their stores.
 #![tactic(auto)]
 
 #[cfg(test)]
@@ -47,5 +47,7 @@ mod sets;
 mod slices;
 #[cfg(test)]
 mod stores;
+#[cfg(test)]
+mod transform;
 #[cfg(test)]
 mod windows;

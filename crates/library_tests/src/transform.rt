@@ -1,0 +1,203 @@
+//! Recovery slices by the transform beside the sum over the slices, product by product.
+
+ghost use Rattle.std.specs.Prelude.{◌≡◌, ◌<◌, ◌*◌, length, IsTrue};
+ghost use Rattle.par2_spec.specs.Sums.{list_at, lists_of};
+ghost use Rattle.par2_transform.specs.Adding.{HaveWords};
+
+use crate::field::field;
+use par2_gf16::Gf;
+use par2_transform::add_recovery_slices;
+use std::process::Abort;
+
+fn text_at(texts: &[Vec<u8>], i: usize) -> &[u8]
+    requires { i < length texts.now }
+    ensures { result.now ≡ list_at (lists_of texts.now) i }
+{
+    &texts[i]
+}
+
+fn has_words(text: &[u8], words: usize) -> bool
+    ensures { IsTrue result → length text.now ≡ 2 * words }
+{
+    text.len() % 2 == 0 && text.len() / 2 == words
+}
+
+fn have_words(texts: &[Vec<u8>], words: usize) -> bool
+    ensures { IsTrue result → HaveWords words (lists_of texts.now) }
+{
+    for t in 0..texts.len() {
+        if !has_words(text_at(texts, t), words) {
+            return false;
+        }
+    }
+    true
+}
+
+// Adds the recovery slices, and tells whether it could be asked for.
+fn are_added(
+    rt: &(impl Abort + AllocGlobal),
+    gf: &Gf,
+    slices: &[&[u8]],
+    words: usize,
+    first: u32,
+    texts: &mut [Vec<u8>],
+) -> bool {
+    if slices.len() > 32768 || texts.len() as u64 + first as u64 > 1 << 32 {
+        return false;
+    }
+    if !have_words(texts, words) {
+        return false;
+    }
+    add_recovery_slices(rt.alloc(), gf, slices, words, first, texts).expect(rt, "memory");
+    true
+}
+
+// Byte k of text i.
+fn mixed(i: usize, k: usize) -> u8 {
+    let number = i.wrapping_mul(31) ^ k.wrapping_mul(7919);
+    number.wrapping_mul(40503).to_le_bytes()[1]
+}
+
+fn text(rt: &(impl Abort + AllocGlobal), i: usize, size: usize) -> Vec<u8> {
+    let mut bytes = vec![in rt.alloc(); 0u8; size].expect(rt, "memory");
+    for (k, byte) in bytes.iter_mut().enumerate() {
+        *byte = mixed(i, k);
+    }
+    bytes
+}
+
+// Two of five slices are whole, one is absent, one ends within a word and one with a word.
+fn size_of(i: usize, words: usize) -> usize {
+    match i % 5 {
+        2 => 0,
+        3 => 3,
+        4 => 2,
+        _ => words.saturating_mul(2),
+    }
+}
+
+fn texts_of_slices(rt: &(impl Abort + AllocGlobal), n: usize, words: usize) -> Vec<Vec<u8>> {
+    let mut texts = Vec::new(rt.alloc());
+    for i in 0..n {
+        texts
+            .push(text(rt, i, size_of(i, words)))
+            .expect(rt, "memory");
+    }
+    texts
+}
+
+fn texts_before(rt: &(impl Abort + AllocGlobal), count: u32, words: usize) -> Vec<Vec<u8>> {
+    let mut texts = Vec::new(rt.alloc());
+    for t in 0..count {
+        texts
+            .push(text(rt, t as usize, words.saturating_mul(2)))
+            .expect(rt, "memory");
+    }
+    texts
+}
+
+fn views<'a>(rt: &(impl Abort + AllocGlobal), texts: &'a [Vec<u8>]) -> Vec<&'a [u8]> {
+    let mut views: Vec<&[u8]> = Vec::new(rt.alloc());
+    for text in texts {
+        views.push(text.as_slice()).expect(rt, "memory");
+    }
+    views
+}
+
+fn word(text: &[u8], p: usize) -> u16 {
+    let place = p.saturating_mul(2);
+    let low = text.get(place).copied().unwrap_or(0);
+    let high = text.get(place.saturating_add(1)).copied().unwrap_or(0);
+    u16::from_le_bytes([low, high])
+}
+
+// Word p of the recovery slice of exponent e.
+fn plain_word(gf: &Gf, slices: &[&[u8]], e: u32, p: usize) -> u16 {
+    let mut sum = 0;
+    for (i, slice) in slices.iter().enumerate() {
+        let constant = gf.constant(u32::try_from(i).unwrap_or(0)).unwrap_or(0);
+        sum ^= gf.mul(gf.pow(constant, e), word(slice, p));
+    }
+    sum
+}
+
+fn is_added(gf: &Gf, slices: &[&[u8]], e: u32, before: &[u8], after: &[u8]) -> bool {
+    for p in 0..before.len() / 2 {
+        if word(after, p) != word(before, p) ^ plain_word(gf, slices, e, p) {
+            return false;
+        }
+    }
+    true
+}
+
+fn each_is_added(
+    gf: &Gf,
+    slices: &[&[u8]],
+    first: u32,
+    before: &[Vec<u8>],
+    after: &[Vec<u8>],
+) -> bool {
+    let mut e = first;
+    for (old, new) in before.iter().zip(after.iter()) {
+        if !is_added(gf, slices, e, old, new) {
+            return false;
+        }
+        e = e.wrapping_add(1);
+    }
+    true
+}
+
+// Whether so many texts of so many words become what they are and the recovery slices from an exponent on.
+fn are_sums(
+    rt: &(impl Abort + AllocGlobal),
+    gf: &Gf,
+    n: usize,
+    count: u32,
+    first: u32,
+    words: usize,
+) -> bool {
+    let texts = texts_of_slices(rt, n, words);
+    let slices = views(rt, &texts);
+    let before = texts_before(rt, count, words);
+    let mut after = texts_before(rt, count, words);
+    are_added(rt, gf, &slices, words, first, after.as_mut_slice())
+        && each_is_added(gf, &slices, first, &before, &after)
+}
+
+fn are_sums_from_each(rt: &(impl Abort + AllocGlobal), gf: &Gf, n: usize, count: u32) -> bool {
+    for first in [0, 1, 1000, 65535u32.saturating_sub(count)] {
+        if !are_sums(rt, gf, n, count, first, 3) {
+            return false;
+        }
+    }
+    true
+}
+
+#[test]
+fn few_slices_and_exponents(rt: HostRuntime) {
+    let gf = field(&rt);
+    for n in 0..8 {
+        for count in 0..8 {
+            assert!(rt;
+                are_sums_from_each(&rt, &gf, n, count),
+                "{n} slices, {count} exponents"
+            );
+        }
+    }
+}
+
+// Slices, exponents, the first one, and words of each slice: several windows, blocks of outputs, and columns of words.
+const SUMS: &[(usize, u32, u32, usize)] = &[
+    (200, 33, 7, 3),
+    (60, 17, 65530, 2),
+    (12, 3, 4294967293, 1100),
+    (700, 20, 0, 2),
+];
+
+#[test]
+fn windows_blocks_and_columns(rt: HostRuntime) {
+    let gf = field(&rt);
+    for (k, (n, count, first, words)) in SUMS.iter().enumerate() {
+        assert!(rt; are_sums(&rt, &gf, *n, *count, *first, *words), "row {k}");
+    }
+}
