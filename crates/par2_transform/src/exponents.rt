@@ -7,6 +7,7 @@ ghost use Rattle.par2_spec.specs.Sums.{list_at};
 ghost use Rattle.par2_transform.specs.Chirps.{word_at_power, spared_below};
 ghost use Rattle.par2_transform.specs.Columns.{texts_of, words_at, AreNumbers, AreBytes};
 
+use crate::texts::fit_bytes;
 use std::alloc::{AllocError, Global};
 use std::marker::Model;
 
@@ -65,14 +66,6 @@ fn text_at<'a>(texts: &[&'a [u8]], i: usize) -> &'a [u8]
     ensures { result.now ≡ list_at (texts_of texts.now) i }
 {
     if i < texts.len() { texts[i] } else { &[] }
-}
-
-// What the type says of each byte, for proofs.
-#[inline(always)]
-fn fit_bytes(bytes: &[u8])
-    ensures { (k : ℕ) → slice_index bytes.now k < 2 ^ 8 }
-{
-    let _ = bytes.len();
 }
 
 // What the type says of each byte of each text, for proofs.
