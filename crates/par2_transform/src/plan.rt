@@ -43,7 +43,7 @@ fn half_of(levels: u32) -> usize
 // How many windows of so many numbers reach all exponents.
 fn windows_for(exponents: usize, window: usize) -> usize
     requires exponents { exponents ≤ 65536 }
-    requires window { (1 ≤ window) × (window ≤ 4096) }
+    requires window { (1 ≤ window) × (window ≤ 8192) }
     ensures reach { exponents ≤ 3 * (result * window) }
     ensures few { result * window ≤ 2 ^ 20 }
 {
