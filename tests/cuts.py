@@ -3,7 +3,7 @@
 then hold must open as the folder from before the run, or as the one after it.
 
 What was waited for lasts, and of the rest anything: the bytes of a file are there, half of them, none, or those that were
-waited for before; and each creation, rename and removal of a name has lasted or has not, by itself. A wait for a file is
+waited for before; and each creation, link, rename and removal of a name has lasted or has not, by itself. A wait for a file is
 for its bytes, one for the folder for its names. In each such folder undos are made until one is refused, then redos. What
 they say and which files they leave must be the same as from the folder before the run, or as from the one after it. Only
 the journal's temporary file may be left over.
@@ -66,6 +66,10 @@ class Call(namedtuple("Call", "word file number first second")):
     def matters(self):
         """Whether it changes the folder or waits for the disk."""
         return self.word != "open" or self.number & (os.O_CREAT | os.O_TRUNC) != 0
+
+    def gives_or_takes_name(self):
+        """Whether it gives a name, or takes one away that isn't the temporary file's."""
+        return self.word in ("rename", "link") or self.word == "unlink" and os.fsdecode(self.first) != TEMPORARY
 
     def __str__(self):
         texts = [] if self.word == "write" else [os.fsdecode(self.first), os.fsdecode(self.second)]
@@ -191,6 +195,9 @@ class Disk:
     def make_rename(self, call):
         gone, name = os.fsdecode(call.first), os.fsdecode(call.second)
         self.change(gone, name, self.names[gone])
+
+    def make_link(self, call):
+        self.change(None, os.fsdecode(call.second), self.names[os.fsdecode(call.first)])
 
     def make_unlink(self, call):
         self.change(os.fsdecode(call.first), None, None)
@@ -387,12 +394,13 @@ class Cuts:
         _, self.files = self.runs.recorded(self.files, line)
 
     def stopped(self, count, line):
-        """The same, but the run is stopped behind so many renames and removals. The first of them puts the journal."""
+        """The same, but the run is stopped behind so many calls that give or take names other than the temporary
+        file's. The first of them puts the journal."""
         calls, _ = self.runs.recorded(self.files, line)
         disk = Disk(self.files)
         for call in calls:
             disk.make(call)
-            count -= call.word in ("rename", "unlink")
+            count -= call.gives_or_takes_name()
             if count == 0:
                 break
         self.files = disk.files()

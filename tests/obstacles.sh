@@ -288,6 +288,42 @@ done
 printf 'abcdefgh' > "$room/found/aa"
 find "$room/found" -name 'beside*' -delete
 
+# ---- a file that appears where one is to be written, or to get its name: it stays, and the run goes no further
+# appears PATH WORD..: a run in which it does. Once it is gone the run ends as ever.
+appears() {
+    path=$1
+    shift
+    here found
+    printf '+' > "$room/here/$path"
+    stands "$room/before"
+    rm "$room/here/$path"
+    meddled APPEARS="$path" "$@"
+    is_told "a file that appears at $path, $when, $*" 6 "$failed"
+    is_kept "a file that appears at $path, $when, $*"
+    rm "$room/here/$path"
+    same_as_ever "a file that appears at $path, $when, $*" "$@"
+}
+rm "$room/found/bb"
+for when in listed named; do
+    appears bb repair t.par2
+    appears u.par2 create -s4 -c1 u.par2 aa
+done
+NOLINKS=yes
+export NOLINKS
+appears bb repair t.par2
+appears u.par2 create -s4 -c1 u.par2 aa
+here found
+meddled APPEARS=none repair t.par2
+is_told "a folder without hard links" 0 "$(printf '%s\n' 'write bb' 'done: 1')"
+[ "$(cat "$room/here/bb")" = ijklmnopqrst ] || fail "a folder without hard links"
+[ ! -e "$room/here/.par2undo.tmp" ] || fail "a folder without hard links, the temporary file"
+unset NOLINKS
+printf 'ijklmnopqrst' > "$room/found/bb"
+printf 'abcdxfgh' > "$room/found/aa"
+when=listed
+appears aa.1 repair t.par2
+printf 'abcdefgh' > "$room/found/aa"
+
 # ---- names that begin with a point
 here whole
 mv "$room/here/aa" "$room/here/.a"

@@ -3,15 +3,18 @@
 // the folder lists one name more, of 256 bytes of UTF-8, as some file systems do; what is asked of it is asked of the
 // file that LONG names. With FAILS the folder can't be read on: of the calls that read it, the one whose number FAILS
 // gives fails, counted from 1. The kind of the entry that UNTOLD names isn't told by the folder, and can't be found when
-// it is asked for by the path of the listing. For LD_PRELOAD.
+// it is asked for by the path of the listing. A file that the variable APPEARS names, with the byte `+`, is there once the
+// folder is `listed`, or before a file is `named` so. With NOLINKS the folder has no hard links, which is told once a file
+// may have appeared. For LD_PRELOAD.
 typedef unsigned long size;
 extern char *getenv(const char *name);
 extern long syscall(long number, ...);
 extern long atol(const char *text);
 extern int *__errno_location(void);
 
-enum { WRITE = 1, CLOSE = 3, UNLINK = 87, GETDENTS64 = 217, OPENAT = 257, STATX = 332 };
-enum { AT_FDCWD = -100, ACCESS = 3, WRONLY = 1, APPEND = 02000, UNKNOWN = 0, REGULAR = 8, EIO = 5 };
+enum { WRITE = 1, CLOSE = 3, LINK = 86, UNLINK = 87, GETDENTS64 = 217, OPENAT = 257, STATX = 332 };
+enum { AT_FDCWD = -100, ACCESS = 3, WRONLY = 1, CREATE = 0100, APPEND = 02000, MODE = 0644 };
+enum { UNKNOWN = 0, REGULAR = 8, EPERM = 1, EIO = 5 };
 
 // An entry: its number, the next one's place, its length, its type, and its name behind these 19 bytes, which ends
 // with a zero.
@@ -33,8 +36,9 @@ static size length(const char *text) {
     return count;
 }
 
-static void grow(const char *path) {
-    long file = syscall(OPENAT, (long)AT_FDCWD, path, (long)(WRONLY | APPEND), 0L);
+// Adds a byte to a file, which is made where there is none and `flags` say so.
+static void grow(const char *path, long flags) {
+    long file = syscall(OPENAT, (long)AT_FDCWD, path, WRONLY | APPEND | flags, (long)MODE);
     syscall(WRITE, file, "+", 1UL);
     syscall(CLOSE, file);
 }
@@ -43,6 +47,7 @@ static void meddle(const char *when) {
     const char *wanted = getenv("WHEN");
     const char *vanishes = getenv("VANISHES");
     const char *grows = getenv("GROWS");
+    const char *appears = getenv("APPEARS");
     if (wanted == 0 || !is(wanted, when)) {
         return;
     }
@@ -50,7 +55,10 @@ static void meddle(const char *when) {
         syscall(UNLINK, vanishes);
     }
     if (grows != 0) {
-        grow(grows);
+        grow(grows, 0);
+    }
+    if (appears != 0) {
+        grow(appears, CREATE);
     }
 }
 
@@ -96,6 +104,17 @@ static int is_failing(void) {
     static long seen = 0;
     const char *number = getenv("FAILS");
     return number != 0 && ++seen == atol(number);
+}
+
+int link(const char *from, const char *to) {
+    if (is_meant(to, "APPEARS")) {
+        meddle("named");
+    }
+    if (getenv("NOLINKS") != 0) {
+        *__errno_location() = EPERM;
+        return -1;
+    }
+    return syscall(LINK, from, to);
 }
 
 // Takes the kind of the entry that UNTOLD names out of these entries.

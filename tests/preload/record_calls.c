@@ -6,7 +6,7 @@ extern int dprintf(int file, const char *format, ...);
 extern long syscall(long number, ...);
 
 enum { WRITE = 1, LSEEK = 8, PWRITE64 = 18, WRITEV = 20, FSYNC = 74, FDATASYNC = 75, FTRUNCATE = 77 };
-enum { RENAME = 82, UNLINK = 87, OPENAT = 257 };
+enum { RENAME = 82, LINK = 86, UNLINK = 87, OPENAT = 257 };
 enum { AT_FDCWD = -100, CURRENT = 1, RECORD = 9 };
 
 // A part of what is written at once.
@@ -104,13 +104,18 @@ int fsync(int file) { return told("wait", FSYNC, file, 0); }
 
 int fdatasync(int file) { return told("wait", FDATASYNC, file, 0); }
 
-int rename(const char *from, const char *to) {
-    long answer = syscall(RENAME, from, to);
+// A call that gives a file another name, or one more.
+static int named(const char *word, long number, const char *from, const char *to) {
+    long answer = syscall(number, from, to);
     if (answer == 0) {
-        tell_both("rename", 0, 0, from, to);
+        tell_both(word, 0, 0, from, to);
     }
     return (int)answer;
 }
+
+int rename(const char *from, const char *to) { return named("rename", RENAME, from, to); }
+
+int link(const char *from, const char *to) { return named("link", LINK, from, to); }
 
 int unlink(const char *path) {
     long answer = syscall(UNLINK, path);

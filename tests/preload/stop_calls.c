@@ -8,7 +8,7 @@ extern long atol(const char *text);
 extern long syscall(long number, ...);
 extern int *__errno_location(void);
 
-enum { WRITE = 1, GETPID = 39, KILL = 62, FSYNC = 74, FDATASYNC = 75, RENAME = 82, UNLINK = 87, OPENAT = 257 };
+enum { WRITE = 1, GETPID = 39, KILL = 62, FSYNC = 74, FDATASYNC = 75, RENAME = 82, LINK = 86, UNLINK = 87, OPENAT = 257 };
 enum { AT_FDCWD = -100, ACCESS = 3, SIGKILL = 9, EIO = 5, ENOSPC = 28 };
 
 static long seen = 0;
@@ -76,5 +76,7 @@ int fsync(int file) { return change(FSYNC, file, 0, 0, 0); }
 int fdatasync(int file) { return change(FDATASYNC, file, 0, 0, 0); }
 
 int rename(const char *from, const char *to) { return change(RENAME, (long)from, (long)to, 0, 0); }
+
+int link(const char *from, const char *to) { return change(LINK, (long)from, (long)to, 0, 0); }
 
 int unlink(const char *path) { return change(UNLINK, (long)path, 0, 0, 0); }

@@ -29,7 +29,7 @@ fn named(alloc: Global, number: usize) -> Result<Name> {
 // Calls of stores and folders: they promise nothing, so that the prover sees their types alone.
 
 fn put(store: &mut MemoryStore, name: &Name) -> Result<(), StoreFault> {
-    store.put(name, b"bytes")
+    store.write(name, b"bytes")
 }
 
 fn folder_of(alloc: Global, store: &mut MemoryStore) -> Result<Folder, ReadFault> {

@@ -27,8 +27,13 @@ pub fn read_journal(alloc: Global, store: &mut MemoryStore) -> Result<Option<Vec
 }
 
 /// Writes a file.
-pub fn put(store: &mut MemoryStore, name: &Name, bytes: &[u8]) -> Result<(), StoreFault> {
-    store.put(name, bytes)
+pub fn write(store: &mut MemoryStore, name: &Name, bytes: &[u8]) -> Result<(), StoreFault> {
+    store.write(name, bytes)
+}
+
+/// Writes other bytes over those of a file.
+pub fn replace(store: &mut MemoryStore, name: &Name, bytes: &[u8]) -> Result<(), StoreFault> {
+    store.replace(name, bytes)
 }
 
 /// Puts a journal in place of the one that is there.

@@ -1,6 +1,6 @@
 //! Folders, stores in memory and plans.
 
-use crate::calls::{folder_in, names_of, put, put_journal, read, read_journal};
+use crate::calls::{folder_in, names_of, put_journal, read, read_journal, replace, write};
 use crate::inputs::{args_of, damaged, name_of, protected};
 use crate::scene::{Refusal, Scene};
 use anyhow::Result;
@@ -30,7 +30,7 @@ pub struct Folders {
 // A store with the file `a` and a journal.
 fn store_of(alloc: Global, name: &Name) -> Result<MemoryStore> {
     let mut store = MemoryStore::new(alloc);
-    put(&mut store, name, b"abcdefgh")?;
+    write(&mut store, name, b"abcdefgh")?;
     put_journal(&mut store, b"journal")?;
     Ok(store)
 }
@@ -94,7 +94,8 @@ impl Folders {
     // Writing calls of a store.
     fn write(&mut self, name: &str) -> Result<(), Refusal> {
         match name {
-            "MemoryStore::put" => put(&mut self.store, &self.other, b"new")?,
+            "MemoryStore::write" => write(&mut self.store, &self.other, b"new")?,
+            "MemoryStore::replace" => replace(&mut self.store, &self.name, b"new")?,
             _ => put_journal(&mut self.store, b"new journal")?,
         }
         Ok(())
@@ -120,7 +121,9 @@ impl Scene for Folders {
     fn call(&mut self, alloc: Global, name: &str) -> Result<(), Refusal> {
         match name {
             "Folder::names" | "Folder::fingerprint" | "Folder::reserve" => self.look(name),
-            "MemoryStore::put" | "MemoryStore::put_journal" => self.write(name),
+            "MemoryStore::write" | "MemoryStore::replace" | "MemoryStore::put_journal" => {
+                self.write(name)
+            }
             "plan_create" | "plan_repair" | "plan_purge" => self.plan(alloc, name),
             "check" => self.check(alloc),
             _ => self.read(alloc, name),

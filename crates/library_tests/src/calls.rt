@@ -69,8 +69,12 @@ pub fn read_journal<S: FolderStore>(
     store.read_journal(alloc)
 }
 
-pub fn put<S: FolderStore>(store: &mut S, name: &Name, bytes: &[u8]) -> Result<(), StoreFault> {
-    store.put(name, bytes)
+pub fn write<S: FolderStore>(store: &mut S, name: &Name, bytes: &[u8]) -> Result<(), StoreFault> {
+    store.write(name, bytes)
+}
+
+pub fn replace<S: FolderStore>(store: &mut S, name: &Name, bytes: &[u8]) -> Result<(), StoreFault> {
+    store.replace(name, bytes)
 }
 
 pub fn rename<S: FolderStore>(store: &mut S, from: &Name, to: &Name) -> Result<(), StoreFault> {

@@ -3,28 +3,30 @@
 ghost use Rattle.std.specs.Prelude.{◌<◌};
 
 use crate::calls::{
-    folder_of, lists, name, names_of, put, put_journal, read, read_journal, remove, rename,
+    folder_of, lists, name, names_of, put_journal, read, read_journal, remove, rename, replace,
+    write,
 };
 use par2_folder::{FolderStore, FuseStore, MemoryStore, ReadFault, StoreFault};
 use std::process::Abort;
 
-// Whether call k of seven has an answer, on a store with the file `a` and the journal `j` and after the calls before.
+// Whether call k of eight has an answer, on a store with the file `a` and the journal `j` and after the calls before.
 fn answers<S: FolderStore>(rt: &(impl Abort + AllocGlobal), store: &mut S, k: usize) -> bool {
     match k {
         0 => names_of(rt.alloc(), store).is_ok(),
         1 => read(rt.alloc(), store, &name(rt, "a")).is_ok(),
         2 => read_journal(rt.alloc(), store).is_ok(),
-        3 => put(store, &name(rt, "b"), b"2").is_ok(),
-        4 => rename(store, &name(rt, "a"), &name(rt, "c")).is_ok(),
-        5 => remove(store, &name(rt, "b")).is_ok(),
+        3 => write(store, &name(rt, "b"), b"2").is_ok(),
+        4 => replace(store, &name(rt, "a"), b"3").is_ok(),
+        5 => rename(store, &name(rt, "a"), &name(rt, "c")).is_ok(),
+        6 => remove(store, &name(rt, "b")).is_ok(),
         _ => put_journal(store, b"new").is_ok(),
     }
 }
 
-// Makes the seven calls. Whether the first `k` have an answer, and no other.
+// Makes the eight calls. Whether the first `k` have an answer, and no other.
 fn answers_first<S: FolderStore>(rt: &(impl Abort + AllocGlobal), store: &mut S, k: usize) -> bool {
     let mut as_told = true;
-    for call in 0..7usize {
+    for call in 0..8usize {
         as_told &= answers(rt, store, call) == (call < k);
     }
     as_told
@@ -44,7 +46,7 @@ fn takes<S: FolderStore>(
     text: &str,
     bytes: &[u8],
 ) -> bool {
-    put(store, &name(rt, text), bytes).is_ok()
+    write(store, &name(rt, text), bytes).is_ok()
 }
 
 // Whether the store gives these bytes for the name.
@@ -96,8 +98,8 @@ fn store_without_files(rt: HostRuntime) {
 fn store_in_memory(rt: HostRuntime) {
     let mut store = started(&rt);
     assert!(rt; holds(&rt, &mut store, &["a"], Some(b"j")));
-    assert!(rt; answers_first(&rt, &mut store, 7));
-    assert!(rt; holds(&rt, &mut store, &["c"], Some(b"new")) && reads(&rt, &mut store, "c", b"1"));
+    assert!(rt; answers_first(&rt, &mut store, 8));
+    assert!(rt; holds(&rt, &mut store, &["c"], Some(b"new")) && reads(&rt, &mut store, "c", b"3"));
 }
 
 // Whether the store keeps a journal of so many bytes.
@@ -134,15 +136,19 @@ fn impossible_calls_fail(rt: HostRuntime) {
         assert!(rt; renamed(&rt, &mut store, from, to) == Err(StoreFault));
     }
     assert!(rt; remove(&mut store, &name(&rt, "c")) == Err(StoreFault));
+    assert!(rt; write(&mut store, &name(&rt, "b"), b"3") == Err(StoreFault));
+    assert!(rt; replace(&mut store, &name(&rt, "c"), b"3") == Err(StoreFault));
+    assert!(rt; reads(&rt, &mut store, "b", b"2"));
     assert!(rt; holds(&rt, &mut store, &["a", "b"], Some(b"j")));
 }
 
 // The names and the journal that the store holds after so many of the calls.
-const AFTER: &[(&[&str], &[u8]); 8] = &[
+const AFTER: &[(&[&str], &[u8]); 9] = &[
     (&["a"], b"j"),
     (&["a"], b"j"),
     (&["a"], b"j"),
     (&["a"], b"j"),
+    (&["a", "b"], b"j"),
     (&["a", "b"], b"j"),
     (&["b", "c"], b"j"),
     (&["c"], b"j"),
@@ -160,7 +166,7 @@ fn without_fuse(store: FuseStore<MemoryStore>) -> MemoryStore {
 // Whether the calls before the k-th have an answer on a store whose fuse blows there, and whether it holds then what
 // it does after so many calls.
 fn is_fused(rt: &(impl Abort + AllocGlobal), k: usize, works: bool, done: usize) -> bool
-    requires { done < 8 }
+    requires { done < 9 }
 {
     let mut fuse = with_fuse(rt, k as u64, works);
     let are_first = answers_first(rt, &mut fuse, k);
@@ -170,8 +176,8 @@ fn is_fused(rt: &(impl Abort + AllocGlobal), k: usize, works: bool, done: usize)
 
 #[test]
 fn fuse_fails_before_or_after_its_work(rt: HostRuntime) {
-    for k in 0..8usize {
+    for k in 0..9usize {
         assert!(rt; is_fused(&rt, k, false, k), "{k} before");
-        assert!(rt; is_fused(&rt, k, true, (k + 1).min(7)), "{k} after");
+        assert!(rt; is_fused(&rt, k, true, (k + 1).min(8)), "{k} after");
     }
 }

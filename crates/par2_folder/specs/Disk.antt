@@ -1,6 +1,8 @@
 -- A store over a directory, how often it has failed, and how often it was asked for what can't be done.
-use Rattle.std.specs.Prelude.{ℕ}
+use Rattle.std.specs.Prelude.{◌⊎◌, ◌<◌, ℕ}
 use Rattle.par2_folder.specs.declared.disk.DiskStore.{DiskStore}
+use Rattle.par2_folder.specs.declared.store.ReadFault.{ReadFault}
+use Rattle.par2_folder.specs.declared.store.ReadFault.TheVariants.{Store}
 
 -- the directory that it goes by
 abbrev pub directory_of : {D : Type 0} → DiskStore D → D
@@ -11,3 +13,7 @@ disk_failures store = store.failures.count
 
 abbrev pub disk_impossible : {D : Type 0} → DiskStore D → ℕ
 disk_impossible store = store.impossible.count
+
+-- a directory has failed: it could not be read, or its count of failures rose
+abbrev pub HasFailed : (ReadFault → Type 0) → ℕ → ℕ → Type 0
+HasFailed may_fail before after = may_fail Store ⊎ (before < after)

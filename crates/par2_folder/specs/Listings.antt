@@ -1,5 +1,5 @@
 -- What a listing of a folder answers, by what its entries are.
-use Rattle.std.specs.Prelude.{◌≡◌, ◌⊎◌, ℕ, Bool, List, [], ◌++◌, Option, Some, None, option_to_list, Result, Ok, Err, IsTrue, IsFalse, IsPermutation, nat_eq, codes}
+use Rattle.std.specs.Prelude.{◌≡◌, ◌⊎◌, ℕ, Bool, List, [], ◌++◌, Option, Some, None, option_to_list, Result, Ok, Err, IsTrue, IsFalse, nat_eq, codes}
 use Rattle.std.specs.Fs.{IsFile}
 use Rattle.std.specs.IoError.{error_kind}
 use Rattle.std.specs.Iterator.{Drains, YieldsThen}

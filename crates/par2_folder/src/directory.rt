@@ -1,10 +1,11 @@
 //! A directory, by the few calls that a store on a disk makes of it.
-ghost use Rattle.std.specs.Prelude.{◌≡◌, ◌⊎◌, ℕ, List, Option, Some, IfOk, IfSome, OnOk, OnErr, IsTrue};
+ghost use Rattle.std.specs.Prelude.{◌≡◌, ◌⊎◌, ◌<◌, ℕ, List, Option, Some, IfOk, IfErr, IfSome, IsErr, IsSome, OnOk, OnErr, IsTrue};
 ghost use Rattle.par2_spec.specs.Folders.{names};
 ghost use Rattle.par2_spec.specs.Changes.{Rename, Remove, is_applicable};
 ghost use Rattle.par2_spec.specs.Stores.{Contents, with_change};
 ghost use Rattle.par2_folder.specs.Cuts.{AreKept, Lasts, MayBeCutOff, MayBeMade, NoMoreRemains};
 ghost use Rattle.par2_folder.specs.Directories.{path_of, bytes_at, put_at, StandsAs};
+ghost use Rattle.par2_folder.specs.declared.store.ReadFault.{ReadFault};
 
 use crate::{Name, ReadFault, StoreFault};
 use std::alloc::Global;
@@ -62,21 +63,32 @@ pub trait Directory {
     /// Whether something stands at a path that is no file.
     ghost barred: { Self → List ℕ → Type 0 };
 
+    /// With what a call that reads may fail now.
+    ghost may_fail: { Self → ReadFault → Type 0 };
+
+    /// How often a call that writes or waits has failed.
+    ghost failures: { Self → ℕ };
+
     /// The names of the files, in order.
     fn names(&self, alloc: Global) -> Result<Vec<Name>, ReadFault>
-        ensures { honest self.now
-            → IfOk result (λ list. list.items ≡ names (contents self.now).files) };
+        ensures names { honest self.now
+            → IfOk result (λ list. list.items ≡ names (contents self.now).files) }
+        ensures fault { IfErr result (may_fail self.now) };
 
     /// What stands at a place.
     fn find(&self, place: Place<'_>) -> Result<Found, StoreFault>
-        ensures { honest self.now → IfOk result (StandsAs
+        ensures found { honest self.now → IfOk result (StandsAs
             (bytes_at (contents self.now) (temporary self.now) place.entry)
-            (barred self.now (path_of place.entry))) };
+            (barred self.now (path_of place.entry))) }
+        ensures fault { IsErr result → may_fail self.now ReadFault.Store };
 
     /// The bytes of the file at a place, which is of about this size.
     fn read(&self, alloc: Global, place: Place<'_>, size: u64) -> Result<Vec<u8>, ReadFault>
-        ensures { honest self.now → IfOk result (λ bytes.
-            bytes_at (contents self.now) (temporary self.now) place.entry ≡ Some bytes.items) };
+        ensures bytes { honest self.now → IfOk result (λ bytes.
+            bytes_at (contents self.now) (temporary self.now) place.entry ≡ Some bytes.items) }
+        ensures fault { honest self.now
+            → IsSome (bytes_at (contents self.now) (temporary self.now) place.entry)
+            → IfErr result (may_fail self.now) };
 
     /// Writes the temporary file. What stands in its place and is no file, as a link, would lead elsewhere.
     fn write_temporary(&mut self, bytes: &[u8]) -> Result<(), StoreFault>
@@ -90,7 +102,9 @@ pub trait Directory {
         ensures remains { honest self.old → (barred self.old (path_of Place.Temporary) → ⊥)
             → NoMoreRemains (may_remain self.old) (may_remain self.new) }
         ensures cut_off { honest self.old → (barred self.old (path_of Place.Temporary) → ⊥)
-            → OnOk result (MayBeCutOff (bytes_may_remain self.new) bytes.now) };
+            → OnOk result (MayBeCutOff (bytes_may_remain self.new) bytes.now) }
+        ensures failed { OnErr result (failures self.old < failures self.new) }
+        ensures steady { OnOk result (failures self.new ≡ failures self.old) };
 
     /// Waits until the bytes of the temporary file, which was just written, are kept.
     fn wait_for_temporary(&mut self) -> Result<(), StoreFault>
@@ -102,7 +116,9 @@ pub trait Directory {
         ensures remains { honest self.old
             → NoMoreRemains (may_remain self.old) (may_remain self.new) }
         ensures kept { honest self.old
-            → OnOk result (AreKept (bytes_may_remain self.new) (temporary self.new)) };
+            → OnOk result (AreKept (bytes_may_remain self.new) (temporary self.new)) }
+        ensures failed { OnErr result (failures self.old < failures self.new) }
+        ensures steady { OnOk result (failures self.new ≡ failures self.old) };
 
     /// Gives the temporary file a place, over the file that is there. What is there and is no file would be lost.
     fn put_temporary(&mut self, place: Place<'_>) -> Result<(), StoreFault>
@@ -117,7 +133,29 @@ pub trait Directory {
         ensures remains { honest self.old → (barred self.old (path_of place.entry) → ⊥)
             → MayBeMade (λ before after. (bytes : List ℕ) × bytes_may_remain self.old bytes
             × (after ≡ put_at before place.entry bytes))
-            (may_remain self.old) (may_remain self.new) };
+            (may_remain self.old) (may_remain self.new) }
+        ensures failed { OnErr result (failures self.old < failures self.new) }
+        ensures steady { OnOk result (failures self.new ≡ failures self.old) };
+
+    /// Gives the temporary file a place that nothing has. Where something has it, it does nothing and fails.
+    fn name_temporary(&mut self, place: Place<'_>) -> Result<(), StoreFault>
+        ensures honest { honest self.old → honest self.new }
+        ensures taken { honest self.old
+            → IsSome (bytes_at (contents self.old) (temporary self.old) place.entry)
+            ⊎ barred self.old (path_of place.entry)
+            → IsErr result × (contents self.new ≡ contents self.old) }
+        ensures done { honest self.old → OnOk result (IfSome (temporary self.old) (λ bytes.
+            contents self.new ≡ put_at (contents self.old) place.entry bytes)) }
+        ensures all_or_none { honest self.old
+            → OnErr result ((contents self.new ≡ contents self.old)
+            ⊎ IfSome (temporary self.old) (λ bytes.
+            contents self.new ≡ put_at (contents self.old) place.entry bytes)) }
+        ensures remains { honest self.old
+            → MayBeMade (λ before after. (bytes : List ℕ) × bytes_may_remain self.old bytes
+            × (after ≡ put_at before place.entry bytes))
+            (may_remain self.old) (may_remain self.new) }
+        ensures failed { OnErr result (failures self.old < failures self.new) }
+        ensures steady { OnOk result (failures self.new ≡ failures self.old) };
 
     /// Gives a file another name, which nothing has.
     fn rename(&mut self, from: &Name, to: &Name) -> Result<(), StoreFault>
@@ -133,7 +171,9 @@ pub trait Directory {
         ensures remains { honest self.old → (barred self.old to.now → ⊥)
             → IsTrue (is_applicable (contents self.old).files (Rename from.now to.now))
             → MayBeMade (λ before after. after ≡ with_change before (Rename from.now to.now))
-            (may_remain self.old) (may_remain self.new) };
+            (may_remain self.old) (may_remain self.new) }
+        ensures failed { OnErr result (failures self.old < failures self.new) }
+        ensures steady { OnOk result (failures self.new ≡ failures self.old) };
 
     /// Removes a file.
     fn remove(&mut self, name: &Name) -> Result<(), StoreFault>
@@ -148,7 +188,9 @@ pub trait Directory {
         ensures remains { honest self.old
             → IsTrue (is_applicable (contents self.old).files (Remove name.now))
             → MayBeMade (λ before after. after ≡ with_change before (Remove name.now))
-            (may_remain self.old) (may_remain self.new) };
+            (may_remain self.old) (may_remain self.new) }
+        ensures failed { OnErr result (failures self.old < failures self.new) }
+        ensures steady { OnOk result (failures self.new ≡ failures self.old) };
 
     /// Waits until the names that the files and the journal have are kept.
     fn wait(&mut self) -> Result<(), StoreFault>
@@ -157,5 +199,7 @@ pub trait Directory {
         ensures remains { honest self.old
             → NoMoreRemains (may_remain self.old) (may_remain self.new) }
         ensures lasts { honest self.old
-            → OnOk result (Lasts (may_remain self.new) (contents self.new)) };
+            → OnOk result (Lasts (may_remain self.new) (contents self.new)) }
+        ensures failed { OnErr result (failures self.old < failures self.new) }
+        ensures steady { OnOk result (failures self.new ≡ failures self.old) };
 }

@@ -70,7 +70,7 @@ impl<S: FolderStore> FolderStore for FuseStore<S> {
     ghost use Rattle.std.specs.Prelude.{◌≡◌, ◌⊎◌, ◌+◌, ◌<◌, ◌≤◌, IfOk, OnOk, OnErr, IsErr, IsErrOf, IsTrue, IsFalse, Some, None, option_map};
     ghost use Rattle.std.specs.FinMap.{get};
     ghost use Rattle.par2_spec.specs.Folders.{has, names};
-    ghost use Rattle.par2_spec.specs.Changes.{Replace, Rename, Remove, is_applicable};
+    ghost use Rattle.par2_spec.specs.Changes.{Write, Replace, Rename, Remove, is_applicable};
     ghost use Rattle.par2_spec.specs.Stores.{with_change, with_journal};
     ghost use Rattle.par2_folder.specs.Cuts.{Lasts, NoMoreRemains, RemainsEither};
     ghost use Rattle.par2_folder.specs.Fuse.{inner_store, fuse_failures, calls_left, HasPassed, IsBlown, WorksNext};
@@ -178,8 +178,58 @@ impl<S: FolderStore> FolderStore for FuseStore<S> {
         Err(ReadFault::Store)
     }
 
-    fn put(&mut self, name: &Name, bytes: &[u8]) -> Result<(), StoreFault>
+    fn write(&mut self, name: &Name, bytes: &[u8]) -> Result<(), StoreFault>
         ensures honest { S.honest (inner_store self.old) → S.honest (inner_store self.new) }
+        ensures impossible { S.honest (inner_store self.old)
+            → IsFalse (is_applicable (S.contents (inner_store self.old)).files (Write name.now bytes.now))
+            → IsErr result
+            × (S.contents (inner_store self.new) ≡ S.contents (inner_store self.old)) }
+        ensures done { S.honest (inner_store self.old)
+            → OnOk result (S.contents (inner_store self.new)
+            ≡ with_change (S.contents (inner_store self.old)) (Write name.now bytes.now)) }
+        ensures all_or_none { S.honest (inner_store self.old)
+            → OnErr result ((S.contents (inner_store self.new) ≡ S.contents (inner_store self.old))
+            ⊎ (S.contents (inner_store self.new)
+            ≡ with_change (S.contents (inner_store self.old)) (Write name.now bytes.now))) }
+        ensures lasts { S.honest (inner_store self.old) → OnOk result
+            (Lasts (S.may_remain (inner_store self.new)) (S.contents (inner_store self.new))) }
+        ensures remains { S.honest (inner_store self.old)
+            → Lasts (S.may_remain (inner_store self.old)) (S.contents (inner_store self.old))
+            → RemainsEither (S.may_remain (inner_store self.new))
+            (S.contents (inner_store self.old)) (with_change (S.contents (inner_store self.old)) (Write name.now bytes.now)) }
+        ensures later { S.failures (inner_store self.old) + fuse_failures self.old
+            ≤ S.failures (inner_store self.new) + fuse_failures self.new }
+        ensures cause { OnErr result (S.failures (inner_store self.old) + fuse_failures self.old
+            < S.failures (inner_store self.new) + fuse_failures self.new) }
+        ensures steady { OnOk result (S.failures (inner_store self.new) + fuse_failures self.new
+            ≡ S.failures (inner_store self.old) + fuse_failures self.old) }
+        ensures possible { S.honest (inner_store self.old) → IsTrue (is_applicable
+            (S.contents (inner_store self.old)).files (Write name.now bytes.now))
+            → S.impossible (inner_store self.new) ≡ S.impossible (inner_store self.old) }
+        ensures grows { S.impossible (inner_store self.old)
+            ≤ S.impossible (inner_store self.new) }
+        ensures passed { 0 < calls_left self.old → HasPassed self.old self.new }
+        ensures worked { S.honest (inner_store self.old) → WorksNext self.old
+            → (S.failures (inner_store self.old) < S.failures (inner_store self.new))
+            ⊎ (S.contents (inner_store self.new)
+            ≡ with_change (S.contents (inner_store self.old)) (Write name.now bytes.now)) }
+        ensures blown { calls_left self.old ≡ 0 → IsErr result × IsBlown self.old self.new }
+    {
+        if self.passes() {
+            return self.inner.write(name, bytes);
+        }
+        if self.blows() {
+            let _answer = self.inner.write(name, bytes);
+        }
+        Err(StoreFault)
+    }
+
+    fn replace(&mut self, name: &Name, bytes: &[u8]) -> Result<(), StoreFault>
+        ensures honest { S.honest (inner_store self.old) → S.honest (inner_store self.new) }
+        ensures impossible { S.honest (inner_store self.old)
+            → IsFalse (is_applicable (S.contents (inner_store self.old)).files (Replace name.now bytes.now))
+            → IsErr result
+            × (S.contents (inner_store self.new) ≡ S.contents (inner_store self.old)) }
         ensures done { S.honest (inner_store self.old)
             → OnOk result (S.contents (inner_store self.new)
             ≡ with_change (S.contents (inner_store self.old)) (Replace name.now bytes.now)) }
@@ -199,8 +249,11 @@ impl<S: FolderStore> FolderStore for FuseStore<S> {
             < S.failures (inner_store self.new) + fuse_failures self.new) }
         ensures steady { OnOk result (S.failures (inner_store self.new) + fuse_failures self.new
             ≡ S.failures (inner_store self.old) + fuse_failures self.old) }
-        ensures possible { S.impossible (inner_store self.new)
-            ≡ S.impossible (inner_store self.old) }
+        ensures possible { S.honest (inner_store self.old) → IsTrue (is_applicable
+            (S.contents (inner_store self.old)).files (Replace name.now bytes.now))
+            → S.impossible (inner_store self.new) ≡ S.impossible (inner_store self.old) }
+        ensures grows { S.impossible (inner_store self.old)
+            ≤ S.impossible (inner_store self.new) }
         ensures passed { 0 < calls_left self.old → HasPassed self.old self.new }
         ensures worked { S.honest (inner_store self.old) → WorksNext self.old
             → (S.failures (inner_store self.old) < S.failures (inner_store self.new))
@@ -209,10 +262,10 @@ impl<S: FolderStore> FolderStore for FuseStore<S> {
         ensures blown { calls_left self.old ≡ 0 → IsErr result × IsBlown self.old self.new }
     {
         if self.passes() {
-            return self.inner.put(name, bytes);
+            return self.inner.replace(name, bytes);
         }
         if self.blows() {
-            let _answer = self.inner.put(name, bytes);
+            let _answer = self.inner.replace(name, bytes);
         }
         Err(StoreFault)
     }

@@ -17,7 +17,8 @@ pub struct MemoryStore {
 impl MemoryStore {
     ghost use Rattle.std.specs.Prelude.{◌≡◌, ◌+◌, ◌<◌, [], ◌∷◌, None, IsErr, IsOk, IsTrue, IsFalse, OnOk, OnErr, IfErr, Some};
     ghost use Rattle.std.specs.FinMap.{empty};
-    ghost use Rattle.par2_spec.specs.Changes.{Replace, is_applicable, places_taken};
+    ghost use Rattle.par2_spec.specs.Folders.{has};
+    ghost use Rattle.par2_spec.specs.Changes.{Write, is_applicable, places_taken};
     ghost use Rattle.par2_spec.specs.Stores.{Contents, with_change};
     ghost use Rattle.par2_folder.specs.Memory.{memory_contents, memory_failures, memory_impossible};
     ghost use Rattle.par2_folder.specs.Views.{change_of};
@@ -71,22 +72,19 @@ impl MemoryStore {
         Ok(())
     }
 
-    // Writes a file, or other bytes over those that it has. Without memory all stays as it is.
+    // Writes a file under a name that no file has. Without memory all stays as it is.
     #[tactic(auto, unfolding(par2_spec::specs::Changes::change_refusal, par2_spec::specs::Changes::effect))]
-    fn write(&mut self, name: &Name, bytes: &[u8]) -> Result<(), AllocError>
+    fn add(&mut self, name: &Name, bytes: &[u8]) -> Result<(), AllocError>
+        requires free { IsFalse (has (memory_contents self.old).files name.now) }
         ensures done { OnOk result (memory_contents self.new
-            ≡ with_change (memory_contents self.old) (Replace name.now bytes.now)) }
+            ≡ with_change (memory_contents self.old) (Write name.now bytes.now)) }
         ensures err { OnErr result (memory_contents self.new ≡ memory_contents self.old) }
         ensures failures { memory_failures self.new ≡ memory_failures self.old }
         ensures impossible { memory_impossible self.new ≡ memory_impossible self.old }
     {
         let copy = Bytes::copy_of(self.alloc, bytes)?;
-        let mut change = if self.folder.get(name).is_some() {
-            Change::Replace(name.copied(), copy)
-        } else {
-            self.make_place()?;
-            Change::Write(name.copied(), copy)
-        };
+        self.make_place()?;
+        let mut change = Change::Write(name.copied(), copy);
         match self.folder.apply(&mut change) {
             Ok(()) => Ok(()),
             Err(_) => unreachable!(),
@@ -162,9 +160,21 @@ impl FolderStore for MemoryStore {
         }
     }
 
-    fn put(&mut self, name: &Name, bytes: &[u8]) -> Result<(), StoreFault> {
-        match self.write(name, bytes) {
+    #[tactic(auto, unfolding(par2_spec::specs::Changes::is_applicable))]
+    fn write(&mut self, name: &Name, bytes: &[u8]) -> Result<(), StoreFault> {
+        if self.folder.get(name).is_some() {
+            return Err(self.refuse());
+        }
+        match self.add(name, bytes) {
             Ok(()) => Ok(()),
+            Err(AllocError) => Err(self.fault()),
+        }
+    }
+
+    #[tactic(auto, unfolding(par2_spec::specs::Changes::change_refusal, par2_spec::specs::Changes::is_applicable))]
+    fn replace(&mut self, name: &Name, bytes: &[u8]) -> Result<(), StoreFault> {
+        match Bytes::copy_of(self.alloc, bytes) {
+            Ok(copy) => self.change(Change::Replace(name.copied(), copy)),
             Err(AllocError) => Err(self.fault()),
         }
     }

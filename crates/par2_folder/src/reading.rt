@@ -1,5 +1,5 @@
 //! Reading a file to its end.
-ghost use Rattle.std.specs.Prelude.{◌≡◌, IfOk, IfSome, IsErr};
+ghost use Rattle.std.specs.Prelude.{◌≡◌, IfOk, IfErr, IfSome, IsErr};
 ghost use Rattle.par2_folder.specs.Reading.{IsToldAs};
 
 use crate::ReadFault;
@@ -64,6 +64,7 @@ pub fn read_opened<F: Read + Drop>(
     ensures bytes { IfOk result (λ bytes. IfOk opened (λ file.
         IfSome (F.remaining file) (λ left. bytes.items ≡ left))) }
     ensures unopened { IsErr opened → IsErr result }
+    ensures told { IfErr opened (λ error. IfErr result (IsToldAs error)) }
 {
     match opened {
         Ok(mut file) => read_within(&mut file, alloc, size as usize, READS),

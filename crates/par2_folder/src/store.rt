@@ -2,7 +2,7 @@
 ghost use Rattle.std.specs.Prelude.{◌≡◌, ◌⊎◌, ◌<◌, ◌≤◌, ℕ, IfOk, OnOk, OnErr, IsErr, IsErrOf, IsTrue, IsFalse, Some, None, option_map};
 ghost use Rattle.std.specs.FinMap.{get};
 ghost use Rattle.par2_spec.specs.Folders.{has, names};
-ghost use Rattle.par2_spec.specs.Changes.{Replace, Rename, Remove, is_applicable};
+ghost use Rattle.par2_spec.specs.Changes.{Write, Replace, Rename, Remove, is_applicable};
 ghost use Rattle.par2_spec.specs.Stores.{Contents, with_change, with_journal};
 ghost use Rattle.par2_folder.specs.Cuts.{Lasts, NoMoreRemains, RemainsEither};
 
@@ -41,8 +41,8 @@ pub trait FolderStore {
     /// How often it has failed.
     ghost failures: { Self → ℕ };
 
-    /// How often it was asked for what can't be done: to read or remove a name that no file has, or to rename one that
-    /// none has or to one that is taken.
+    /// How often it was asked for what can't be done: to read, replace or remove a name that no file has, to write one
+    /// that is taken, or to rename one that no file has or to one that is taken.
     ghost impossible: { Self → ℕ };
 
     /// The names of the files, in order.
@@ -95,9 +95,36 @@ pub trait FolderStore {
             → failures self.new ≡ failures self.old }
         ensures possible { impossible self.new ≡ impossible self.old };
 
-    /// Writes a file, or other bytes over those of the file that has the name.
-    fn put(&mut self, name: &Name, bytes: &[u8]) -> Result<(), StoreFault>
+    /// Writes a file, under a name that no file has. Where one has it, it does nothing and fails.
+    fn write(&mut self, name: &Name, bytes: &[u8]) -> Result<(), StoreFault>
         ensures honest { honest self.old → honest self.new }
+        ensures impossible { honest self.old
+            → IsFalse (is_applicable (contents self.old).files (Write name.now bytes.now))
+            → IsErr result × (contents self.new ≡ contents self.old) }
+        ensures done { honest self.old → OnOk result (contents self.new
+            ≡ with_change (contents self.old) (Write name.now bytes.now)) }
+        ensures all_or_none { honest self.old
+            → OnErr result ((contents self.new ≡ contents self.old)
+            ⊎ (contents self.new ≡ with_change (contents self.old) (Write name.now bytes.now))) }
+        ensures lasts { honest self.old
+            → OnOk result (Lasts (may_remain self.new) (contents self.new)) }
+        ensures remains { honest self.old → Lasts (may_remain self.old) (contents self.old)
+            → RemainsEither (may_remain self.new) (contents self.old)
+            (with_change (contents self.old) (Write name.now bytes.now)) }
+        ensures later { failures self.old ≤ failures self.new }
+        ensures cause { OnErr result (failures self.old < failures self.new) }
+        ensures steady { OnOk result (failures self.new ≡ failures self.old) }
+        ensures possible { honest self.old
+            → IsTrue (is_applicable (contents self.old).files (Write name.now bytes.now))
+            → impossible self.new ≡ impossible self.old }
+        ensures grows { impossible self.old ≤ impossible self.new };
+
+    /// Writes other bytes over those of a file. Where no file has the name, it does nothing and fails.
+    fn replace(&mut self, name: &Name, bytes: &[u8]) -> Result<(), StoreFault>
+        ensures honest { honest self.old → honest self.new }
+        ensures impossible { honest self.old
+            → IsFalse (is_applicable (contents self.old).files (Replace name.now bytes.now))
+            → IsErr result × (contents self.new ≡ contents self.old) }
         ensures done { honest self.old → OnOk result (contents self.new
             ≡ with_change (contents self.old) (Replace name.now bytes.now)) }
         ensures all_or_none { honest self.old
@@ -111,7 +138,10 @@ pub trait FolderStore {
         ensures later { failures self.old ≤ failures self.new }
         ensures cause { OnErr result (failures self.old < failures self.new) }
         ensures steady { OnOk result (failures self.new ≡ failures self.old) }
-        ensures possible { impossible self.new ≡ impossible self.old };
+        ensures possible { honest self.old
+            → IsTrue (is_applicable (contents self.old).files (Replace name.now bytes.now))
+            → impossible self.new ≡ impossible self.old }
+        ensures grows { impossible self.old ≤ impossible self.new };
 
     /// Gives a file another name. Where no file has the first name, or one has the second, it does nothing and fails.
     fn rename(&mut self, from: &Name, to: &Name) -> Result<(), StoreFault>

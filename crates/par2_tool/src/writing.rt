@@ -1,5 +1,5 @@
 //! Changes are written down in a store, between two journals.
-ghost use Rattle.std.specs.Prelude.{◌≡◌, ◌⊎◌, ◌<◌, ◌≤◌, ℕ, map, length, take, OnOk, OnErr, IsTrue};
+ghost use Rattle.std.specs.Prelude.{◌≡◌, ◌⊎◌, ◌<◌, ◌≤◌, ℕ, map, length, take, OnOk, OnErr, IsErr, IsTrue, IsFalse};
 ghost use Rattle.par2_spec.specs.Changes.{is_applicable, are_applicable};
 ghost use Rattle.par2_spec.specs.Stores.{Contents, with_change};
 ghost use Rattle.par2_folder.specs.Cuts.{Lasts, RemainsEither};
@@ -9,10 +9,13 @@ ghost use Rattle.par2_tool.specs.Performing.{with_all_changes, with_halfway, aft
 use par2_folder::{Change, FolderStore, StoreFault};
 use par2_journal::Journals;
 
-// Makes one change in a store, by one writing call.
+// Makes one change in a store, by one writing call. What can't be made fails, so a file that nobody listed stays.
 #[tactic(auto, unfolding(par2_spec::specs::Changes::effect))]
 fn write_change<S: FolderStore>(store: &mut S, change: &Change) -> Result<(), StoreFault>
     ensures honest { S.honest store.old → S.honest store.new }
+    ensures impossible { S.honest store.old
+        → IsFalse (is_applicable (S.contents store.old).files (change_of change.now))
+        → IsErr result × (S.contents store.new ≡ S.contents store.old) }
     ensures done { S.honest store.old → OnOk result (S.contents store.new
         ≡ with_change (S.contents store.old) (change_of change.now)) }
     ensures stopped { S.honest store.old
@@ -31,8 +34,8 @@ fn write_change<S: FolderStore>(store: &mut S, change: &Change) -> Result<(), St
         → S.impossible store.new ≡ S.impossible store.old }
 {
     match change {
-        Change::Write(name, bytes) => store.put(name, bytes.as_slice()),
-        Change::Replace(name, bytes) => store.put(name, bytes.as_slice()),
+        Change::Write(name, bytes) => store.write(name, bytes.as_slice()),
+        Change::Replace(name, bytes) => store.replace(name, bytes.as_slice()),
         Change::Rename(from, to) => store.rename(from, to),
         Change::Remove(name) => store.remove(name),
     }

@@ -26,13 +26,22 @@ pub fn journal_of<S: FolderStore>(
     store.read_journal(alloc)
 }
 
-/// Writes a file.
-pub fn put_file<S: FolderStore>(
+/// Writes a file under a name that no file has.
+pub fn write_file<S: FolderStore>(
     store: &mut S,
     name: &Name,
     bytes: &[u8],
 ) -> Result<(), StoreFault> {
-    store.put(name, bytes)
+    store.write(name, bytes)
+}
+
+/// Writes other bytes over those of a file.
+pub fn replace_file<S: FolderStore>(
+    store: &mut S,
+    name: &Name,
+    bytes: &[u8],
+) -> Result<(), StoreFault> {
+    store.replace(name, bytes)
 }
 
 /// Gives a file another name.

@@ -1,7 +1,7 @@
 //! Calls of a store in the folder where the program runs, and what comes of them. These show what a user meets whom the
 //! modes of files bind, so not the superuser.
 
-use crate::calls::{put_file, put_journal, read_file, remove_file, rename_file};
+use crate::calls::{put_journal, read_file, remove_file, rename_file, replace_file, write_file};
 use crate::files::name_of;
 use crate::rows::show;
 use anyhow::{Error, Result};
@@ -15,9 +15,20 @@ fn show_answer(rt: &HostRuntime, call: &str, answer: Result<(), StoreFault>) -> 
     Ok(())
 }
 
-fn put<S: FolderStore>(rt: &HostRuntime, store: &mut S, text: &str, bytes: &[u8]) -> Result<()> {
-    let answer = put_file(store, &name_of(text)?, bytes);
-    print!(rt; "put ")?;
+fn add<S: FolderStore>(rt: &HostRuntime, store: &mut S, text: &str, bytes: &[u8]) -> Result<()> {
+    let answer = write_file(store, &name_of(text)?, bytes);
+    print!(rt; "add ")?;
+    show_answer(rt, text, answer)
+}
+
+fn replace<S: FolderStore>(
+    rt: &HostRuntime,
+    store: &mut S,
+    text: &str,
+    bytes: &[u8],
+) -> Result<()> {
+    let answer = replace_file(store, &name_of(text)?, bytes);
+    print!(rt; "replace ")?;
     show_answer(rt, text, answer)
 }
 
@@ -65,7 +76,8 @@ fn call_on<S: FolderStore>(rt: &HostRuntime, store: &mut S, line: &str) -> Resul
     let (first, second) = rest.split_once(' ').unwrap_or((rest, ""));
     match word {
         "show" => show(rt, store),
-        "put" => put(rt, store, first, second.as_bytes()),
+        "add" => add(rt, store, first, second.as_bytes()),
+        "replace" => replace(rt, store, first, second.as_bytes()),
         "rename" => rename(rt, store, first, second),
         "remove" => remove(rt, store, first),
         "put-journal" => show_answer(rt, "put journal", put_journal(store, rest.as_bytes())),

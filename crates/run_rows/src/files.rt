@@ -1,10 +1,11 @@
 //! Changes of the files of a store, as another hand makes them, and copies of a store.
 
 use crate::calls::{
-    folder_of, journal_of, names_of, print_of, put_file, put_journal, read_file, remove_file,
+    folder_of, journal_of, names_of, print_of, put_journal, read_file, remove_file, replace_file,
+    write_file,
 };
 use anyhow::Result;
-use par2_folder::{MemoryStore, Name};
+use par2_folder::{MemoryStore, Name, StoreFault};
 use std::alloc::Global;
 
 /// The name of a text.
@@ -21,10 +22,14 @@ pub fn clear(alloc: Global, store: &mut MemoryStore) -> Result<()> {
     Ok(())
 }
 
-/// Writes a file of a text, before which its name stands.
+/// Writes a file of a text, before which its name stands, or replaces the one that is there.
 pub fn put_text(store: &mut MemoryStore, rest: &str) -> Result<()> {
     let (name, text) = rest.split_once(' ').unwrap_or((rest, ""));
-    Ok(put_file(store, &name_of(name)?, text.as_bytes())?)
+    let name = name_of(name)?;
+    match replace_file(store, &name, text.as_bytes()) {
+        Ok(()) => Ok(()),
+        Err(StoreFault) => Ok(write_file(store, &name, text.as_bytes())?),
+    }
 }
 
 /// Takes a file away.
@@ -40,7 +45,7 @@ fn copy_file(
     name: &Name,
 ) -> Result<()> {
     let bytes = read_file(alloc, store, name)?;
-    Ok(put_file(copy, name, &bytes)?)
+    Ok(write_file(copy, name, &bytes)?)
 }
 
 // A store with the same files.

@@ -79,8 +79,12 @@ impl FolderStore for WantingStore {
         Err(ReadFault::Memory)
     }
 
-    fn put(&mut self, name: &Name, bytes: &[u8]) -> Result<(), StoreFault> {
-        self.inner.put(name, bytes)
+    fn write(&mut self, name: &Name, bytes: &[u8]) -> Result<(), StoreFault> {
+        self.inner.write(name, bytes)
+    }
+
+    fn replace(&mut self, name: &Name, bytes: &[u8]) -> Result<(), StoreFault> {
+        self.inner.replace(name, bytes)
     }
 
     fn rename(&mut self, from: &Name, to: &Name) -> Result<(), StoreFault> {
