@@ -1,9 +1,9 @@
-use Rattle.std.proofs.Common.{◌≡◌, ◌∙◌, ◌+◌, List, ℕ, length, map, sym, ap, arith}
+use Rattle.std.proofs.Common.{◌≡◌, ◌∙◌, ◌+◌, List, length, map, sym, ap, arith}
 use Rattle.std.proofs.lemmas.List.{length-map}
 use Rattle.par2_spec.specs.Sums.{lists_of}
 use Rattle.par2_plan.specs.Volumes.{volume_up_to}
 use Rattle.par2_plan.specs.declared.names.Volume.{Volume}
-use Rattle.par2_plan.proofs.VolumeStages.{none_changed_to, next_changed_to, all_changed_to}
+use Rattle.par2_plan.proofs.VolumeStages.{none_changed_to, all_changed_to}
 use Rattle.par2_plan.proofs.volumes.fill_volumes.Goals as goal
 
 pub loop-i-init : goal.loop-i-init
