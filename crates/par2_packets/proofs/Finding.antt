@@ -83,6 +83,12 @@ passed_to text needle here k is first at =
     let before : Nowhere (OccursAt text magic) 0 k = subst (λ (n : List ℕ). Nowhere (OccursAt text n) 0 k) is first.before in
     ap accepted at ∙ passed_over text k before
 
+-- a magic that a search found lies within the text
+pub magic_within : (text needle : List ℕ) (k : ℕ) → needle ≡ magic → OccursAt text needle k → k + 8 ≤ length text
+magic_within text needle k is there =
+    let size : length needle ≡ 8 = ap length is in
+    omega (arith, size, there.fits)
+
 -- a text without the magic has none
 pub nothing : (text needle : List ℕ) → needle ≡ magic → Nowhere (OccursAt text needle) 0 (length text + 1) → accepted text ≡ []
 unfolding accepted_after

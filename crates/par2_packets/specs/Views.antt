@@ -3,6 +3,7 @@ use Rattle.std.specs.Prelude.{ℕ, List, string_bytes}
 use Rattle.std.specs.Int.{w128, from_le_bytes}
 use Rattle.par2_spec.specs.Packets as packets
 use Rattle.par2_spec.specs.Volumes as volumes
+use Rattle.par2_packets.specs.Cursors.{rest_of}
 use Rattle.par2_packets.specs.declared.record.FileRecord.{FileRecord}
 use Rattle.par2_packets.specs.declared.scan.Packet.{Packet}
 use Rattle.par2_packets.specs.declared.scan.Packets.{Packets}
@@ -28,4 +29,4 @@ packet_of p = record { set_id = p.set_id; kind = p.kind; body = p.body.now }
 
 -- the packets that an iterator has left
 abbrev pub packets_of : Packets → List packets.Packet
-packets_of p = packets.accepted p.rest.now
+packets_of p = packets.accepted (rest_of p.cursor)

@@ -3,6 +3,7 @@
 
 mod append;
 mod bytes;
+mod cursor;
 mod kind;
 mod order;
 mod record;

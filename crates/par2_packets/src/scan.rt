@@ -1,15 +1,15 @@
 //! The packets of a text, found one after the other.
 
-ghost use Rattle.std.specs.Prelude.{◌≡◌, ◌+◌, ◌-◌, ◌≤◌, [], ◌∷◌, length, MatchOption};
+ghost use Rattle.std.specs.Prelude.{◌≡◌, ◌≤◌, [], ◌∷◌, length, MatchOption};
 ghost use Rattle.std.specs.Iterator.{YieldsFirstBy, item_count};
 ghost use Rattle.std.specs.Str.{bytes_eq};
-ghost use Rattle.md5.specs.Md5.{md5};
 ghost use Rattle.par2_spec.specs.Packets as packets;
+ghost use Rattle.par2_packets.specs.Cursors.{rest_of};
 ghost use Rattle.par2_packets.specs.Views.{packet_of, packets_of};
 
 use crate::bytes::{block, u64_at};
+use crate::cursor::{Cursor, MAGIC};
 use crate::kind::kind_of;
-use md5::{Digest, Md5};
 use memchr::memmem::Finder;
 use par2_spec::Kind;
 
@@ -20,12 +20,6 @@ pub struct Packet<'a> {
     pub set_id: [u8; 16],
     pub kind: Kind,
     pub body: &'a [u8],
-}
-
-fn digest_of(bytes: &[u8]) -> [u8; 16]
-    ensures { result ≡ md5 bytes.now }
-{
-    Md5::digest(bytes)
 }
 
 // The length that the text claims for the packet at its front.
@@ -40,23 +34,16 @@ fn has_magic(text: &[u8]) -> bool
     requires { 8 ≤ length text.now }
     ensures { result ≡ bytes_eq (packets.bytes_at 0 8 text.now) packets.magic }
 {
-    &text[..8] == b"PAR2\0PKT".as_slice()
+    &text[..8] == MAGIC.as_slice()
 }
 
-fn has_digest(text: &[u8], claim: usize) -> bool
-    requires low { 64 ≤ claim }
-    requires high { claim ≤ length text.now }
-    ensures { let digested = packets.bytes_at 32 (claim - 32) text.now in
-        result ≡ bytes_eq (md5 digested) (packets.bytes_at 16 16 text.now) }
-{
-    digest_of(&text[32..claim]) == block(text, 16)
-}
-
-// Whether a packet stands at the front of the text.
+// Whether a packet stands at the cursor, which stays there.
 #[tactic(auto, unfolding(par2_spec::specs::Packets::begins_with_packet))]
-fn begins_with_packet(text: &[u8]) -> bool
-    ensures { result ≡ packets.begins_with_packet text.now }
+fn begins_with_packet(cursor: &mut Cursor<'_>) -> bool
+    ensures begins { result ≡ packets.begins_with_packet (rest_of cursor.old) }
+    ensures kept { rest_of cursor.new ≡ rest_of cursor.old }
 {
+    let text = cursor.rest();
     if text.len() < 64 || !has_magic(text) {
         return false;
     }
@@ -64,7 +51,7 @@ fn begins_with_packet(text: &[u8]) -> bool
     if claim % 4 != 0 || claim < 64 || claim > text.len() as u64 {
         return false;
     }
-    has_digest(text, claim as usize)
+    cursor.digest(claim as usize) == block(text, 16)
 }
 
 // The packet at the front of the text.
@@ -82,22 +69,21 @@ fn first_packet(text: &[u8]) -> Packet<'_>
     }
 }
 
-// The first packet of the text, and what is after it.
-fn next_packet(text: &[u8]) -> Option<(Packet<'_>, &[u8])>
-    ensures { let found = packets.accepted text.now in
-        MatchOption result (found ≡ []) (λ x. found ≡ packet_of x.0 ∷ packets.accepted x.1.now) }
+// The first packet from the cursor on, which then stands behind it.
+fn next_packet<'a>(cursor: &mut Cursor<'a>) -> Option<Packet<'a>>
+    ensures { let found = packets.accepted (rest_of cursor.old) in
+        let others = packets.accepted (rest_of cursor.new) in
+        MatchOption result ((found ≡ []) × (others ≡ [])) (λ packet. found ≡ packet_of packet ∷ others) }
 {
-    let finder = Finder::new(b"PAR2\0PKT");
-    let mut rest = text;
-    while let Some(place) = finder.find(rest) {
-        let (_, here) = rest.split_at(place);
-        if begins_with_packet(here) {
-            let packet = first_packet(here);
-            let (_, behind) = here.split_at(64 + packet.body.len());
-            return Some((packet, behind));
+    let finder = Finder::new(MAGIC);
+    while let Some(place) = finder.find(cursor.rest()) {
+        cursor.advance(place);
+        if begins_with_packet(cursor) {
+            let packet = first_packet(cursor.rest());
+            cursor.advance(64 + packet.body.len());
+            return Some(packet);
         }
-        let (_, others) = here.split_at(1);
-        rest = others;
+        cursor.advance(1);
     }
     None
 }
@@ -106,12 +92,12 @@ fn next_packet(text: &[u8]) -> Option<(Packet<'_>, &[u8])>
 /// least 64 and within the text, and the right MD5. What stands between them is passed over, and so is a packet with
 /// a false digest, whose claim hides none.
 ///
-/// The time is that of a search for the magic and of one MD5 of each packet. Where a false digest stands after a
-/// magic it is the MD5 of what that claims, so a text of n bytes that was made for it takes up to n * n / 32 bytes
-/// of MD5.
+/// The time is that of a search for the magic and of one MD5 of each packet; packets of one length that stand one after
+/// the other are digested side by side. Where a false digest stands after a magic it is the MD5 of what that claims, so a
+/// text of n bytes that was made for it takes up to the time of n * n / 32 bytes of MD5.
 #[derive(Clone, Copy, Drop)]
 pub struct Packets<'a> {
-    rest: &'a [u8],
+    cursor: Cursor<'a>,
 }
 
 impl<'a> Packets<'a> {
@@ -119,7 +105,9 @@ impl<'a> Packets<'a> {
     pub fn new(text: &'a [u8]) -> Packets<'a>
         ensures { packets_of result ≡ packets.accepted text.now }
     {
-        Packets { rest: text }
+        Packets {
+            cursor: Cursor::new(text),
+        }
     }
 }
 
@@ -131,8 +119,6 @@ impl<'a> Iterator for Packets<'a> {
     ghost remaining = { item_count packets_of };
 
     fn next(&mut self) -> Option<Packet<'a>> {
-        let (packet, rest) = next_packet(self.rest)?;
-        self.rest = rest;
-        Some(packet)
+        next_packet(&mut self.cursor)
     }
 }

@@ -1,35 +1,67 @@
-use Rattle.std.proofs.Common.{◌≡◌, ◌+◌, ◌≤◌, ℕ, List, length, true, sym, ◌∙◌, arith}
+use Rattle.std.proofs.Common.{◌≡◌, ◌+◌, ◌-◌, ◌≤◌, ℕ, List, [], length, length-drop, drop, true, false, ap, sym, ◌∙◌, arith}
 use Rattle.par2_spec.specs.Packets as packets
+use Rattle.par2_packets.specs.Cursors.{rest_of}
 use Rattle.par2_packets.specs.Views.{packet_of}
-use Rattle.par2_packets.proofs.Finding.{claim_bounds, body_length, found, not_here, passed_to, nothing}
+use Rattle.par2_packets.proofs.Finding.{claim_bounds, body_length, found, not_here, passed_to, magic_within, nothing}
 use Rattle.par2_packets.proofs.scan.next_packet.Goals as goal
 
 pub first_packet-packet-requires-clause-low : goal.first_packet-packet-requires-clause-low
-first_packet-packet-requires-clause-low c = (claim_bounds c.split_at.result.1.now (sym c.begins_with_packet.ensures ∙ c.if-begins_with_packet.true)).0
+first_packet-packet-requires-clause-low c =
+    let here : List ℕ = c.rest-then-begins_with_packet.result.now in
+    let same : here ≡ rest_of c.advance.new.self = c.rest-then-begins_with_packet.ensures ∙ c.begins_with_packet.ensures.kept in
+    let front : packets.begins_with_packet here ≡ true = ap packets.begins_with_packet same ∙ sym c.begins_with_packet.ensures.begins ∙ c.if-begins_with_packet.true in
+    (claim_bounds here front).0
 
 pub first_packet-packet-requires-clause-high : goal.first_packet-packet-requires-clause-high
-first_packet-packet-requires-clause-high c = (claim_bounds c.split_at.result.1.now (sym c.begins_with_packet.ensures ∙ c.if-begins_with_packet.true)).1
+first_packet-packet-requires-clause-high c =
+    let here : List ℕ = c.rest-then-begins_with_packet.result.now in
+    let same : here ≡ rest_of c.advance.new.self = c.rest-then-begins_with_packet.ensures ∙ c.begins_with_packet.ensures.kept in
+    let front : packets.begins_with_packet here ≡ true = ap packets.begins_with_packet same ∙ sym c.begins_with_packet.ensures.begins ∙ c.if-begins_with_packet.true in
+    (claim_bounds here front).1
 
-pub split_at-requires-then-begins_with_packet : goal.split_at-requires-then-begins_with_packet
-split_at-requires-then-begins_with_packet c =
-    let here : List ℕ = c.split_at.result.1.now in
-    let front : packets.begins_with_packet here ≡ true = sym c.begins_with_packet.ensures ∙ c.if-begins_with_packet.true in
+pub advance-requires-then-begins_with_packet : goal.advance-requires-then-begins_with_packet
+advance-requires-then-begins_with_packet c =
+    let here : List ℕ = c.rest-then-begins_with_packet.result.now in
+    let same : here ≡ rest_of c.advance.new.self = c.rest-then-begins_with_packet.ensures ∙ c.begins_with_packet.ensures.kept in
+    let front : packets.begins_with_packet here ≡ true = ap packets.begins_with_packet same ∙ sym c.begins_with_packet.ensures.begins ∙ c.if-begins_with_packet.true in
     let size : 64 + length c.first_packet-packet.result.body.now ≡ packets.claimed_length here = body_length here (packet_of c.first_packet-packet.result) front c.first_packet-packet.ensures in
     let most : packets.claimed_length here ≤ length here = (claim_bounds here front).1 in
-    omega (arith, size, most)
+    omega (arith, size, most, ap length c.rest-then-begins_with_packet.ensures)
 
 pub returns-then-begins_with_packet : goal.returns-then-begins_with_packet
 returns-then-begins_with_packet c =
-    let here : List ℕ = c.split_at.result.1.now in
-    let front : packets.begins_with_packet here ≡ true = sym c.begins_with_packet.ensures ∙ c.if-begins_with_packet.true in
-    sym c.loop-place.invariant ∙ sym (passed_to c.loop-place.rest.now _ here c.in-Some.place c.new-finder.ensures c.in-Some.ensures.0 c.split_at.ensures.back)
-    ∙ found here (packet_of c.first_packet-packet.result) _ front c.first_packet-packet.ensures c.split_at-then-begins_with_packet.ensures.back
+    let text : List ℕ = c.rest.result.now in
+    let here : List ℕ = c.rest-then-begins_with_packet.result.now in
+    let same : here ≡ rest_of c.advance.new.self = c.rest-then-begins_with_packet.ensures ∙ c.begins_with_packet.ensures.kept in
+    let front : packets.begins_with_packet here ≡ true = ap packets.begins_with_packet same ∙ sym c.begins_with_packet.ensures.begins ∙ c.if-begins_with_packet.true in
+    let at : here ≡ drop c.in-Some.place text = same ∙ c.advance.ensures ∙ ap (drop c.in-Some.place) (sym c.rest.ensures) in
+    let past : List ℕ = rest_of c.advance-then-begins_with_packet.new.self in
+    let behind : past ≡ drop (64 + length c.first_packet-packet.result.body.now) here =
+    c.advance-then-begins_with_packet.ensures ∙ ap (drop (64 + length c.first_packet-packet.result.body.now)) (sym c.rest-then-begins_with_packet.ensures) in
+    sym c.loop-place.invariant ∙ ap packets.accepted (sym c.rest.ensures) ∙ sym (passed_to text _ here c.in-Some.place c.new-finder.ensures c.in-Some.ensures.0 at)
+    ∙ found here (packet_of c.first_packet-packet.result) past front c.first_packet-packet.ensures behind
+
+pub loop-place-smaller : goal.loop-place-smaller
+loop-place-smaller c =
+    let here : List ℕ = rest_of c.begins_with_packet.new.cursor in
+    let fewer : length (rest_of c.advance-in-Some.new.self) ≡ length here - 1 = ap length c.advance-in-Some.ensures ∙ length-drop 1 here in
+    let most : length here ≡ length (rest_of c.loop-place.cursor) - c.in-Some.place =
+    ap length c.begins_with_packet.ensures.kept ∙ ap length c.advance.ensures ∙ length-drop c.in-Some.place (rest_of c.loop-place.cursor) in
+    let within : c.in-Some.place + 8 ≤ length c.rest.result.now = magic_within c.rest.result.now _ c.in-Some.place c.new-finder.ensures c.in-Some.ensures.1 in
+    let all : length c.rest.result.now ≡ length (rest_of c.loop-place.cursor) = ap length c.rest.ensures in
+    omega (arith, fewer, most, all, within)
 
 pub loop-place-preserved : goal.loop-place-preserved
 loop-place-preserved c =
-    let here : List ℕ = c.split_at.result.1.now in
-    not_here here c.split_at-in-Some.result.1.now (sym c.begins_with_packet.ensures ∙ c.if-begins_with_packet.false) c.split_at-in-Some.ensures.back
-    ∙ passed_to c.loop-place.rest.now _ here c.in-Some.place c.new-finder.ensures c.in-Some.ensures.0 c.split_at.ensures.back ∙ c.loop-place.invariant
+    let text : List ℕ = c.rest.result.now in
+    let here : List ℕ = rest_of c.begins_with_packet.new.cursor in
+    let none : packets.begins_with_packet here ≡ false =
+    ap packets.begins_with_packet c.begins_with_packet.ensures.kept ∙ sym c.begins_with_packet.ensures.begins ∙ c.if-begins_with_packet.false in
+    let at : here ≡ drop c.in-Some.place text = c.begins_with_packet.ensures.kept ∙ c.advance.ensures ∙ ap (drop c.in-Some.place) (sym c.rest.ensures) in
+    not_here here (rest_of c.advance-in-Some.new.self) none c.advance-in-Some.ensures
+    ∙ passed_to text _ here c.in-Some.place c.new-finder.ensures c.in-Some.ensures.0 at ∙ ap packets.accepted c.rest.ensures ∙ c.loop-place.invariant
 
 pub returns : goal.returns
-returns c = sym c.loop-place.invariant ∙ nothing c.loop-place.rest.now _ c.new-finder.ensures c.in_default.ensures
+returns c =
+    let none : packets.accepted (rest_of c.loop-place.cursor) ≡ [] = ap packets.accepted (sym c.rest.ensures) ∙ nothing c.rest.result.now _ c.new-finder.ensures c.in_default.ensures in
+    (sym c.loop-place.invariant ∙ none, none)
