@@ -502,6 +502,42 @@ fn heads_at_the_end(rt: HostRuntime) {
     }
 }
 
+// The recovery slices of exponents 0 to 9, in packets of 72 bytes each.
+fn ten_in_line(rt: &(impl Abort + AllocGlobal)) -> Vec<u8> {
+    let mut text = Vec::new(rt.alloc());
+    for e in 0..10 {
+        add_recovery(rt, &mut text, &[7; 16], e, b"abcd");
+    }
+    text
+}
+
+#[test]
+fn false_digest_in_line(rt: HostRuntime) {
+    let mut text = ten_in_line(&rt);
+    if let Some(byte) = text.get_mut(4 * 72 + 16) {
+        *byte ^= 1;
+    }
+    assert!(rt; has_exponents(&rt, &text, &[0, 1, 2, 3, 5, 6, 7, 8, 9]));
+}
+
+#[test]
+fn eighth_in_line_is_cut(rt: HostRuntime) {
+    let mut text = ten_in_line(&rt);
+    text.truncate(8 * 72 - 1);
+    assert!(rt; has_exponents(&rt, &text, &[0, 1, 2, 3, 4, 5, 6]));
+}
+
+#[test]
+fn two_lengths_in_line(rt: HostRuntime) {
+    let mut text = ten_in_line(&rt);
+    for e in 10..14 {
+        add_recovery(&rt, &mut text, &[7; 16], e, b"abcdefgh");
+    }
+    add_recovery(&rt, &mut text, &[7; 16], 14, b"abcd");
+    let exponents = [0, 1, 2, 3, 4, 5, 6, 7, 8, 9, 10, 11, 12, 13, 14];
+    assert!(rt; has_exponents(&rt, &text, &exponents));
+}
+
 // How many files a Main of this body lists, or None where it is none.
 fn count_listed(body: &[u8]) -> Option<usize> {
     match read_main(&packet(Kind::Main, body)) {
