@@ -18,6 +18,8 @@ mod folder;
 #[cfg(test)]
 mod intact;
 #[cfg(test)]
+mod many_lost;
+#[cfg(test)]
 mod matching;
 #[cfg(test)]
 mod midstates;

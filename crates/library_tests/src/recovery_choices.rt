@@ -310,10 +310,14 @@ fn many_words(rt: HostRuntime) {
     assert!(rt; are_many(&recovery_of_a(&rt, &bytes, SIZE as u64, 1, 2), &bytes));
 }
 
-// The recovery slices with the exponents 1 and 2.
-fn first_two<'a>(rt: &(impl Abort + AllocGlobal), slices: &'a [Vec<u8>]) -> Vec<(u32, &'a [u8])> {
+// The recovery slices with the exponents from the first one on.
+pub(super) fn with_exponents<'a>(
+    rt: &(impl Abort + AllocGlobal),
+    first: u32,
+    slices: &'a [Vec<u8>],
+) -> Vec<(u32, &'a [u8])> {
     let mut recovery = Vec::new(rt.alloc());
-    for (exponent, slice) in (1..3u32).zip(slices.iter()) {
+    for (exponent, slice) in (first..65536u32).zip(slices.iter()) {
         recovery
             .push((exponent, slice.as_slice()))
             .expect(rt, "memory");
@@ -342,7 +346,7 @@ fn many_rebuilt(rt: &(impl Abort + AllocGlobal), bytes: &[u8], lost: [usize; 2])
     let survivors = Survivors {
         slice_size: SIZE,
         known: known_but(rt, bytes, lost),
-        recovery: first_two(rt, &slices),
+        recovery: with_exponents(rt, 1, &slices),
     };
     let answer = rebuilt(rt.alloc(), &field(rt), &survivors).expect(rt, "fitting survivors");
     let texts = answer.expect(rt, "two lost slices");

@@ -15,3 +15,4 @@ pub mod Quotients
 pub mod RunInverses
 pub mod Beginnings
 pub mod Windows
+pub mod RunSyndromes

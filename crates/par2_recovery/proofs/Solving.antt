@@ -8,7 +8,7 @@ use Rattle.par2_spec.specs.Slices.{word}
 use Rattle.par2_spec.specs.Sums.{field_sum, list_at, OneChanged}
 use Rattle.par2_spec.proofs.SumLaws.{field_sum_same}
 use Rattle.par2_recovery.specs.Products.{Adds}
-use Rattle.par2_recovery.specs.Syndromes.{window, syndrome, AreSyndromes, AreSolved, AreExtended}
+use Rattle.par2_recovery.specs.Syndromes.{window, syndrome, AreSyndromes, AreProducts, AreSolved, AreExtended}
 use Rattle.par2_recovery.specs.Views.{AreBlank}
 use Rattle.par2_recovery.proofs.Combinations.{blank_bytes}
 use Rattle.par2_recovery.proofs.Inverting.{from_zeros}
@@ -25,14 +25,13 @@ word-window from n p t q e low =
     byte : (k m : ℕ) → k < n → from + k ≡ m → get_or (window from n t) k 0 ≡ get_or t m 0
     byte k m here same = get_or-take n (drop from t) k 0 here ∙ get_or-drop from t k 0 ∙ ap (λ i. get_or t i 0) same
 
-pub window_room : (from n size : ℕ) (texts windows : List (List ℕ)) → windows ≡ map (window from n) texts → ((j : ℕ) → j < length texts → length (list_at texts j) ≡ size) → from + n ≤ size
-    → (j : ℕ) → j < length windows → n ≤ length (list_at windows j)
-window_room from n size texts windows are sizes fits j low =
+pub window_size : (from n size : ℕ) (texts windows : List (List ℕ)) → windows ≡ map (window from n) texts → ((j : ℕ) → j < length texts → length (list_at texts j) ≡ size) → from + n ≤ size
+    → (j : ℕ) → j < length windows → length (list_at windows j) ≡ n
+window_size from n size texts windows are sizes fits j low =
     let here : j < length texts = (let many = ap length are ∙ length-map texts (window from n) in omega (arith, low, many)) in
     let t : List ℕ = list_at texts j in
     let rest : n ≤ length (drop from t) = (let e = length-drop from t in let whole = sizes j here in omega (arith, e, whole, fits)) in
-    let long : length (list_at windows j) ≡ n = ap (λ ws. length (list_at ws j)) are ∙ ap length (window_at from n texts j here) ∙ length-take-le n (drop from t) rest in
-    omega (arith, long)
+    ap (λ ws. length (list_at ws j)) are ∙ ap length (window_at from n texts j here) ∙ length-take-le n (drop from t) rest
 
 -- a syndrome of windows is one of the whole texts
 syndrome-window : (from n p : ℕ) (coefficients known slices : List (List ℕ)) (q j : ℕ) → from ≡ 2 * p → 2 * q + 1 < n → j < length slices
@@ -84,14 +83,23 @@ syndromes_added n coefficients known slices new room added = record {
   words = λ j w here low. added.inside j w here (omega arith) low (let fits = room j here in omega (arith, fits, low));
 }
 
-pub words_solved : (n m : ℕ) (inverse coefficients known slices syndromes zeros new : List (List ℕ)) → m ≡ length inverse → AreSyndromes n coefficients known slices syndromes
-    → AreBlank (2 * n) m zeros → Adds inverse syndromes zeros new 0 n (length syndromes) → AreSolved (2 * n) inverse coefficients known slices new
-words_solved n m inverse coefficients known slices syndromes zeros new e are blank added = record {
+pub products_added : (n m : ℕ) (inverse texts zeros new : List (List ℕ)) → m ≡ length inverse → AreBlank (2 * n) m zeros → Adds inverse texts zeros new 0 n (length texts)
+    → AreProducts (2 * n) inverse texts new
+products_added n m inverse texts zeros new e blank added = record {
   count = added.count ∙ blank.count ∙ e;
   sizes = λ r h. added.sizes r ∙ ap length (blank.each r (omega (arith, e))) ∙ length-replicate {A = ℕ} (2 * n) 0;
   bytes = added.bytes (blank_bytes (2 * n) m zeros blank);
+  words = λ r w h low. from_zeros (2 * n) m n (length texts) inverse texts zeros new blank (omega arith) added r w (omega (arith, e)) (omega (arith, low));
+}
+
+pub words_solved : (s : ℕ) (inverse coefficients known slices syndromes new : List (List ℕ)) → s % 2 ≡ 0 → AreSyndromes (s / 2) coefficients known slices syndromes
+    → AreProducts s inverse syndromes new → AreSolved s inverse coefficients known slices new
+words_solved s inverse coefficients known slices syndromes new even are sums = record {
+  count = sums.count;
+  sizes = sums.sizes;
+  bytes = sums.bytes;
   words = λ r w h low.
-      from_zeros (2 * n) m n (length syndromes) inverse syndromes zeros new blank (omega arith) added r w (omega (arith, e)) (omega (arith, low))
+      sums.words r w h low
       ∙ ap (λ k. field_sum k (λ j. mul (get_or (list_at inverse r) j 0) (word w (list_at syndromes j)))) are.count
       ∙ field_sum_same (length slices) (λ j. mul (get_or (list_at inverse r) j 0) (word w (list_at syndromes j))) (λ j. mul (get_or (list_at inverse r) j 0) (syndrome coefficients known slices w j))
       (λ j here. ap (mul (get_or (list_at inverse r) j 0)) (are.words j w here (omega (arith, low))));

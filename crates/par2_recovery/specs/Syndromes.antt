@@ -4,9 +4,9 @@ use Rattle.std.specs.Prelude.{◌≡◌, ◌+◌, ◌*◌, ◌%◌, ◌<◌, ◌
 use Rattle.std.specs.List.{range_with_len}
 use Rattle.par2_spec.specs.Field.{mul}
 use Rattle.par2_spec.specs.Slices.{padded, word}
-use Rattle.par2_spec.specs.Recovery.{recovery}
+use Rattle.par2_spec.specs.Recovery.{coefficients, recovery}
 use Rattle.par2_spec.specs.Sums.{field_sum, list_at}
-use Rattle.par2_recovery.specs.Products.{AreBytes}
+use Rattle.par2_recovery.specs.Products.{AreBytes, products}
 use Rattle.par2_recovery.specs.Survivors.{sum_at}
 
 -- at most n bytes of a text, from `from` on
@@ -20,6 +20,10 @@ AreColumns texts from n first count columns =
     (s : ℕ) → s % 2 ≡ 0 → from + n ≤ s
     → columns ≡ map (λ e. window from n (recovery s (map (padded s) texts) e)) (range_with_len first count)
 
+-- what `count` exponents from `first` on multiply n input slices by
+abbrev pub run_coefficients : (first count n : ℕ) → List (List ℕ)
+run_coefficients first count n = map (coefficients (range_with_len 0 n)) (range_with_len first count)
+
 -- word w of syndrome j: that of recovery slice j and what the known slices give to it, each times its coefficient in
 -- row j; so it is what the lost slices give to it
 abbrev pub syndrome : (coefficients known slices : List (List ℕ)) → ℕ → ℕ → ℕ
@@ -29,6 +33,13 @@ syndrome coefficients known slices w j = bit_xor (word w (list_at slices j)) (su
 pub record AreSyndromes (n : ℕ) (coefficients known slices texts : List (List ℕ)) : Type 0 where
   pub count : length texts ≡ length slices
   pub words : (j w : ℕ) → j < length slices → w < n → word w (list_at texts j) ≡ syndrome coefficients known slices w j
+
+-- sums of s bytes: the inverse times the texts
+pub record AreProducts (s : ℕ) (inverse texts sums : List (List ℕ)) : Type 0 where
+  pub count : length sums ≡ length inverse
+  pub sizes : (r : ℕ) → r < length inverse → length (list_at sums r) ≡ s
+  pub bytes : AreBytes sums
+  pub words : (r w : ℕ) → r < length inverse → 2 * w + 1 < s → word w (list_at sums r) ≡ products (length texts) inverse texts r w
 
 -- texts of s bytes: the inverse times the syndromes
 pub record AreSolved (s : ℕ) (inverse coefficients known slices texts : List (List ℕ)) : Type 0 where

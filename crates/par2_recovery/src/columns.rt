@@ -69,7 +69,7 @@ fn together_or_grouped(
     ensures { IfOk result (λ texts. lists_of texts.items ≡ map (recovery size
         (map (spec.padded size) (texts_of slices.now))) (range_with_len first count)) }
 {
-    if are_together(slices.len(), count) {
+    if are_together(slices.len(), count as usize) {
         sums_together(alloc, gf, slices, size, first, count)
     } else {
         grouped(alloc, gf, slices, size, first, count)

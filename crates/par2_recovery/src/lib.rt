@@ -11,6 +11,7 @@ mod products;
 mod rebuild_slices;
 mod recovery;
 mod run_inverse;
+mod run_syndromes;
 mod set_record;
 mod syndromes;
 

@@ -21,12 +21,12 @@ use std::alloc::{AllocError, Global};
 
 // From so many exponents and slices on, recovery slices are computed together: below, each as the sum of its products is
 // faster.
-const MANY_EXPONENTS: u32 = 16;
+const MANY_EXPONENTS: usize = 16;
 
 const MANY_SLICES: usize = 32;
 
 /// Whether the recovery slices of so many exponents over so many slices are computed together.
-pub(crate) fn are_together(slices: usize, count: u32) -> bool {
+pub(crate) fn are_together(slices: usize, count: usize) -> bool {
     slices >= MANY_SLICES && count >= MANY_EXPONENTS
 }
 
@@ -134,7 +134,7 @@ pub fn recovery_slices_over(
     ensures { IfOk result (λ texts. lists_of texts.items ≡ map (recovery size
         (map (spec.padded size) (texts_of slices.now))) (range_with_len first count)) }
 {
-    if are_together(slices.len(), count) {
+    if are_together(slices.len(), count as usize) {
         sums_together(alloc, gf, slices, size, first, count)
     } else {
         sums_of_products(alloc, gf, slices, size, first, count)

@@ -5,7 +5,7 @@ ghost use Rattle.std.specs.Prelude.{◌≡◌, ℕ, ◌*◌, ◌%◌, ◌<◌, �
 ghost use Rattle.par2_spec.specs.Recovery.{coefficients};
 ghost use Rattle.par2_spec.specs.Sums.{OneChanged, list_at, lists_of};
 ghost use Rattle.par2_recovery.specs.Survivors.{recovered_of};
-ghost use Rattle.par2_recovery.specs.Syndromes.{window, AreSyndromes, AreSolved, AreExtended};
+ghost use Rattle.par2_recovery.specs.Syndromes.{window, AreSyndromes, AreProducts, AreSolved, AreExtended};
 ghost use Rattle.par2_recovery.specs.Views.{texts_of, AreBlank};
 
 use crate::elements::text_at;
@@ -62,8 +62,8 @@ pub(crate) fn windows<'a>(
     Ok(windows)
 }
 
-// A copy of each text.
-fn copies(alloc: Global, texts: &[&[u8]]) -> Result<Vec<Vec<u8>>, AllocError>
+/// A copy of each text.
+pub(crate) fn copies(alloc: Global, texts: &[&[u8]]) -> Result<Vec<Vec<u8>>, AllocError>
     ensures { IfOk result (λ copies. lists_of copies.items ≡ texts_of texts.now) }
 {
     let mut copies = Vec::with_capacity(alloc, texts.len())?;
@@ -105,6 +105,25 @@ fn syndromes(
     with_products(alloc, gf, coefficients, known, slices, words)
 }
 
+/// The inverse times texts of so many bytes.
+pub(crate) fn inverse_times(
+    alloc: Global,
+    gf: &Gf,
+    inverse: &[Vec<u16>],
+    texts: &[Vec<u8>],
+    size: usize,
+) -> Result<Vec<Vec<u8>>, AllocError>
+    requires inverse { (r : ℕ) → r < length inverse.now
+        → length texts.now ≤ length (list_at (lists_of inverse.now) r) }
+    requires even { size % 2 ≡ 0 }
+    ensures { IfOk result (λ sums. AreProducts size (lists_of inverse.now)
+        (lists_of texts.now) (lists_of sums.items)) }
+{
+    let sources = borrowed(alloc, texts)?;
+    let zeros = blank(alloc, inverse.len(), size)?;
+    with_products(alloc, gf, inverse, &sources, zeros, size / 2)
+}
+
 // The lost slices of these: the inverse times the syndromes.
 fn solved_block(
     alloc: Global,
@@ -128,13 +147,11 @@ fn solved_block(
         (lists_of texts.items)) }
 {
     let syndromes = syndromes(alloc, gf, coefficients, slices, known, size / 2)?;
-    let sources = borrowed(alloc, &syndromes)?;
-    let zeros = blank(alloc, inverse.len(), size)?;
-    with_products(alloc, gf, inverse, &sources, zeros, size / 2)
+    inverse_times(alloc, gf, inverse, &syndromes, size)
 }
 
-// Empty texts, with room for so many bytes each.
-fn reserved(alloc: Global, count: usize, size: usize) -> Result<Vec<Vec<u8>>, AllocError>
+/// Empty texts, with room for so many bytes each.
+pub(crate) fn reserved(alloc: Global, count: usize, size: usize) -> Result<Vec<Vec<u8>>, AllocError>
     ensures { IfOk result (λ texts. AreBlank 0 count (lists_of texts.items)) }
 {
     let mut texts = Vec::with_capacity(alloc, count)?;
@@ -155,8 +172,8 @@ fn extend_at(texts: &mut [Vec<u8>], r: usize, block: &[u8]) -> Result<(), AllocE
     Ok(())
 }
 
-// Puts each block behind the text at its place.
-fn extend(texts: &mut [Vec<u8>], blocks: &[Vec<u8>]) -> Result<(), AllocError>
+/// Puts each block behind the text at its place.
+pub(crate) fn extend(texts: &mut [Vec<u8>], blocks: &[Vec<u8>]) -> Result<(), AllocError>
     requires { length blocks.now ≡ length texts.old }
     ensures { IfOk result (λ _. AreExtended (lists_of texts.old) (lists_of blocks.now)
         (lists_of texts.new) (length blocks.now)) }

@@ -5,7 +5,7 @@ use Rattle.par2_spec.proofs.WordLaws.{length-lists_of}
 use Rattle.par2_recovery.specs.Syndromes.{window, AreSolved, AreExtended}
 use Rattle.par2_recovery.specs.Views.{texts_of}
 use Rattle.par2_recovery.proofs.Combinations.{length-texts_of}
-use Rattle.par2_recovery.proofs.Solving.{window_room, none_solved, next_solved}
+use Rattle.par2_recovery.proofs.Solving.{window_size, none_solved, next_solved}
 use Rattle.par2_recovery.proofs.syndromes.solved.Goals as goal
 
 pub solved_block-requires-clause-slices : goal.solved_block-requires-clause-slices
@@ -16,7 +16,8 @@ solved_block-requires-clause-slices c = λ j h.
     let windows = texts_of c.deref.result.now in
     let are : windows ≡ map (window from n) slices = ap texts_of c.deref.ensures.value ∙ c.in_ok-slices.ensures in
     let count = length-texts_of c.args.slices.now in
-    window_room from n c.args.size slices windows are (λ i low. c.requires.slices i (omega (arith, low, count))) (omega arith) j (let many = length-texts_of c.deref.result.now in omega (arith, h, many))
+    let size = window_size from n c.args.size slices windows are (λ i low. c.requires.slices i (omega (arith, low, count))) (omega arith) j (let many = length-texts_of c.deref.result.now in omega (arith, h, many)) in
+    omega (arith, size)
 
 pub loop-block-init : goal.loop-block-init
 loop-block-init c =

@@ -1,0 +1,53 @@
+use Rattle.std.proofs.Common.{◌≡◌, ◌+◌, ◌∙◌, refl, sym, ap, ap₂, subst, arith, rules, length, map}
+use Rattle.std.proofs.lemmas.List.{with_items_is, length-map}
+use Rattle.par2_spec.specs.Sums.{lists_of}
+use Rattle.par2_spec.proofs.WordLaws.{length-lists_of}
+use Rattle.par2_recovery.specs.Syndromes.{window, run_coefficients, AreSolved, AreExtended}
+use Rattle.par2_recovery.specs.Views.{texts_of}
+use Rattle.par2_recovery.proofs.Combinations.{length-texts_of}
+use Rattle.par2_recovery.proofs.Solving.{window_size, next_solved}
+use Rattle.par2_recovery.proofs.run_syndromes.solved_run.Goals as goal
+
+pub solved_run_block-requires-clause-size : goal.solved_run_block-requires-clause-size
+solved_run_block-requires-clause-size c = λ j h.
+    let from = c.loop-from.from in
+    let n = c.min-count.result in
+    let recovery = texts_of c.args.recovery.now in
+    let windows = texts_of c.deref.result.now in
+    let are : windows ≡ map (window from n) recovery = ap texts_of c.deref.ensures.value ∙ c.in_ok-recovery.ensures in
+    let count = length-texts_of c.args.recovery.now in
+    window_size from n c.args.size recovery windows are (λ i low. c.requires.size i (omega (arith, low, count))) (omega arith) j (let many = length-texts_of c.deref.result.now in omega (arith, h, many))
+
+pub loop-from-preserved : goal.loop-from-preserved
+loop-from-preserved c =
+    let from = c.loop-from.from in
+    let n = c.min-count.result in
+    let inverse = lists_of c.args.inverse.now in
+    let rows = run_coefficients c.args.first (length c.args.recovery.now) (length c.args.slices.now) in
+    let slices = texts_of c.args.slices.now in
+    let recovery = texts_of c.args.recovery.now in
+    let old = lists_of c.loop-from.texts.items in
+    let blocks = lists_of c.in_ok-lost.lost.items in
+    let new = c.extend.new.texts in
+    let size : length new ≡ c.loop-from.texts.len = search rules in
+    let recovery_are : texts_of c.deref.result.now ≡ map (window from n) recovery = ap texts_of c.deref.ensures.value ∙ c.in_ok-recovery.ensures in
+    let slices_are : texts_of c.deref-in-loop-from.result.now ≡ map (window from n) slices = ap texts_of c.deref-in-loop-from.ensures.value ∙ c.in_ok-slices.ensures in
+    let recovery_count : length c.deref.result.now ≡ length c.args.recovery.now =
+    sym (length-texts_of c.deref.result.now) ∙ ap length recovery_are ∙ length-map recovery (window from n) ∙ length-texts_of c.args.recovery.now in
+    let slices_count : length c.deref-in-loop-from.result.now ≡ length c.args.slices.now =
+    sym (length-texts_of c.deref-in-loop-from.result.now) ∙ ap length slices_are ∙ length-map slices (window from n) ∙ length-texts_of c.args.slices.now in
+    let same_rows = ap₂ (run_coefficients c.args.first) recovery_count slices_count in
+    let block : AreSolved n inverse rows (texts_of c.deref-in-loop-from.result.now) (texts_of c.deref.result.now) blocks =
+    subst (λ xs. AreSolved n inverse xs (texts_of c.deref-in-loop-from.result.now) (texts_of c.deref.result.now) blocks) same_rows c.in_ok-lost.ensures in
+    let count : length c.deref-in-loop-from-2.result.now ≡ length blocks = ap length c.deref-in-loop-from-2.ensures.value ∙ sym (length-lists_of c.in_ok-lost.lost.items) in
+    let extended : AreExtended old blocks (lists_of new) (length blocks) =
+    subst (λ xs. AreExtended (lists_of xs) blocks (lists_of new) (length blocks)) c.as_mut_slice.ensures.value
+    (subst (λ m. AreExtended (lists_of c.as_mut_slice.result.now) blocks (lists_of new) m) count
+    (subst (λ xs. AreExtended (lists_of c.as_mut_slice.result.now) (lists_of xs) (lists_of new) (length c.deref-in-loop-from-2.result.now)) c.deref-in-loop-from-2.ensures.value c.in_ok-extend.ensures)) in
+    record {
+      solved = subst (λ xs. AreSolved (from + n) inverse rows slices recovery (lists_of xs)) (sym (with_items_is c.loop-from.texts new size))
+          (next_solved from n from (from + n) inverse rows slices recovery old blocks (lists_of new) (texts_of c.deref-in-loop-from.result.now) (texts_of c.deref.result.now)
+          c.loop-from.invariant.even refl refl slices_are recovery_are c.loop-from.invariant.solved block extended);
+      even = omega arith;
+      within = omega arith;
+    }

@@ -1,0 +1,15 @@
+use Rattle.std.proofs.Common.{◌≡◌, ◌≤◌, ◌-◌, ◌%◌, length}
+use Rattle.par2_spec.specs.Sums.{lists_of}
+use Rattle.par2_recovery.specs.Syndromes.{run_coefficients, AreSolved}
+use Rattle.par2_recovery.specs.Views.{texts_of}
+use Rattle.par2_recovery.proofs.run_syndromes.solved_run.Given as goal
+
+abbrev pub invariant-loop-from : goal.invariant-loop-from
+invariant-loop-from l = record {
+  solved : AreSolved l.from (lists_of l.inverse) (run_coefficients l.first (length l.recovery) (length l.slices)) (texts_of l.slices) (texts_of l.recovery) (lists_of l.texts.items);
+  even : l.from % 2 ≡ 0;
+  within : l.from ≤ l.size;
+}
+
+abbrev pub decreases-loop-from : goal.decreases-loop-from
+decreases-loop-from l = l.size - l.from
