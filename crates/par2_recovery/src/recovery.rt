@@ -21,7 +21,7 @@ use std::alloc::{AllocError, Global};
 
 // From so many exponents and slices on, recovery slices are computed together: below, each as the sum of its products is
 // faster.
-const MANY_EXPONENTS: usize = 16;
+const MANY_EXPONENTS: usize = 32;
 
 const MANY_SLICES: usize = 32;
 
