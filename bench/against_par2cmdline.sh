@@ -88,6 +88,7 @@ made() {
 
 # lost NAME: verifies the set whose one file is gone, and whose recovery slices are too few. That takes some milliseconds.
 lost() {
+    rm -f .par2undo
     rounds=15
     verify "$1" 2 2
     rounds=3
