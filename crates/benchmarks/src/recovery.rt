@@ -129,7 +129,7 @@ fn survivors_of<'a>(
     texts: &'a [Vec<u8>],
 ) -> Result<Survivors<'a>, AllocError> {
     Ok(Survivors {
-        slice_size: SMALL_SLICE,
+        slice: SMALL_SLICE,
         known: known_of(alloc, bytes)?,
         recovery: numbered(alloc, texts)?,
     })

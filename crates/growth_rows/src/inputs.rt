@@ -20,7 +20,7 @@ pub fn text_of(alloc: Global, text: &str) -> Result<String, AllocError> {
 /// Of a create with one recovery slice over the file `a`.
 pub fn args_of(alloc: Global, base: &str) -> Result<CreateArgs, AllocError> {
     Ok(CreateArgs {
-        slice_size: 4,
+        slice: 4,
         count: 1,
         first: 0,
         base: text_of(alloc, base)?,

@@ -61,7 +61,7 @@ fn slices_over(alloc: Global, gf: &Gf, set: &SetRecord, folder: &Folder) -> Resu
 // What survives where the first slice is lost.
 fn survivors(alloc: Global) -> Result<Survivors<'static>, AllocError> {
     Ok(Survivors {
-        slice_size: 4,
+        slice: 4,
         known: vec![in alloc; None, Some(SECOND)]?,
         recovery: vec![in alloc; (0, SUM)]?,
     })
@@ -206,7 +206,7 @@ impl Scene for Texts {
             "Rolling::new" => self.slide(alloc),
             "Wanted::new" | "pairs_of" | "find" | "find_among" => self.search(alloc, name),
             "append_recoveries" => self.append_slices(alloc),
-            "digest_recoveries" => self.digest(alloc),
+            "digest_recoveries" => self.md5(alloc),
             "append_main" | "append_desc" | "append_ifsc" | "append_recovery" | "append_creator" =>
                 { self.append(alloc, name) }
             "file_records" | "SetRecord::of_files" => self.record(alloc, name),

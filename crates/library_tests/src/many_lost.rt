@@ -38,7 +38,7 @@ fn known_of<'a>(rt: &(impl Abort + AllocGlobal), bytes: &'a [u8]) -> Vec<Option<
 fn lost_of(rt: &(impl Abort + AllocGlobal), bytes: &[u8]) -> Vec<Vec<u8>> {
     let slices = recovery_of_a(rt, bytes, SIZE as u64, FIRST, SLICES as u32 / 3);
     let survivors = Survivors {
-        slice_size: SIZE,
+        slice: SIZE,
         known: known_of(rt, bytes),
         recovery: with_exponents(rt, FIRST, &slices),
     };

@@ -6,7 +6,7 @@ use std::process::Abort;
 // The target whose bytes these are.
 fn target<'a>(bytes: &[u8], pairs: &'a [Pair]) -> Target<'a> {
     Target {
-        size: bytes.len() as u64,
+        length: bytes.len() as u64,
         pairs,
     }
 }

@@ -120,9 +120,9 @@ fn false_head(rt: &(impl Abort + AllocGlobal), claim: u64) -> Vec<u8> {
 fn record(rt: &(impl Abort + AllocGlobal), id: &[u8; 16]) -> FileRecord {
     FileRecord {
         id: *id,
-        digest: [0; 16],
-        digest_16k: [0; 16],
-        size: 0,
+        md5: [0; 16],
+        md5_16k: [0; 16],
+        length: 0,
         name: String::new(rt.alloc()),
         pairs: Vec::new(rt.alloc()),
     }
@@ -145,9 +145,9 @@ const PAIRS_OF_A: &[([u8; 16], u32)] = &[
 fn record_of_a(rt: &(impl Abort + AllocGlobal)) -> FileRecord {
     FileRecord {
         id: file_id(DIGEST_OF_A, 8, "a"),
-        digest: *DIGEST_OF_A,
-        digest_16k: *DIGEST_OF_A,
-        size: 8,
+        md5: *DIGEST_OF_A,
+        md5_16k: *DIGEST_OF_A,
+        length: 8,
         name: String::from_str(rt.alloc(), "a").expect(rt, "memory"),
         pairs: Vec::from_slice(rt.alloc(), PAIRS_OF_A).expect(rt, "memory"),
     }
@@ -412,9 +412,9 @@ fn desc_agrees(packet: &Packet<'_>, file: &FileRecord) -> bool {
     let Some(desc) = read_desc(packet) else {
         return true;
     };
-    let digests_agree = desc.digest() == file.digest && desc.digest_16k() == file.digest_16k;
+    let digests_agree = desc.md5() == file.md5 && desc.md5_16k() == file.md5_16k;
     let name_agrees = desc.name_bytes() == file.name.as_bytes();
-    digests_agree && name_agrees && desc.id() == file.id && desc.size() == file.size
+    digests_agree && name_agrees && desc.id() == file.id && desc.length() == file.length
 }
 
 // Whether a packet, if it has checksums, has those of this file.
@@ -660,8 +660,8 @@ fn is_of_fox(packet: &Packet<'_>) -> bool {
 }
 
 fn is_fox(desc: &DescView<'_>) -> bool {
-    let id = file_id(&desc.digest_16k(), 45, "fox.txt");
-    desc.size() == 45 && desc.name_bytes() == b"fox.txt".as_slice() && desc.id() == id
+    let id = file_id(&desc.md5_16k(), 45, "fox.txt");
+    desc.length() == 45 && desc.name_bytes() == b"fox.txt".as_slice() && desc.id() == id
 }
 
 #[test]

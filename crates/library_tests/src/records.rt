@@ -27,9 +27,9 @@ fn is_pair(pair: &Pair, md5: u128, crc: u32) -> bool {
 fn is_padded(record: &FileRecord) -> bool {
     let md5 = 0xab56_b4d9_2b40_713a_cc5a_f899_85d4_b786;
     number(record.id) == 0x0536_3d63_a48f_2a62_9008_5369_f9b6_5ce9
-        && number(record.digest) == md5
-        && number(record.digest_16k) == md5
-        && record.size == 5
+        && number(record.md5) == md5
+        && number(record.md5_16k) == md5
+        && record.length == 5
         && record.name.as_str() == "a"
 }
 
@@ -69,7 +69,7 @@ fn rising_bytes(rt: &(impl Abort + AllocGlobal), len: usize) -> Vec<u8> {
 // Whether the record is that of 20000 rising bytes, with slices of 16000 bytes.
 fn is_long(record: &FileRecord) -> bool {
     number(record.id) == 0x27e5_c72b_3bdb_8404_dc8b_e959_311c_1979
-        && number(record.digest_16k) == 0xea13_f524_a784_b8f6_3d95_a883_7432_53e7
+        && number(record.md5_16k) == 0xea13_f524_a784_b8f6_3d95_a883_7432_53e7
         && record.pairs.len() == 2
 }
 

@@ -170,7 +170,7 @@ fn survivors_of<'a>(
     recovery: &[(u32, &'a [u8])],
 ) -> Survivors<'a> {
     Survivors {
-        slice_size: 4,
+        slice: 4,
         known: Vec::from_slice(rt.alloc(), known).expect(rt, "memory"),
         recovery: Vec::from_slice(rt.alloc(), recovery).expect(rt, "memory"),
     }
@@ -233,7 +233,7 @@ fn is_of_two(set: &SetRecord) -> bool {
 fn record_and_slices_of_two_files(rt: HostRuntime) {
     let folder = two_files(&rt);
     let set = set_with(&rt, &folder, &["b", "a"], 4);
-    assert!(rt; set.slice_size == 4 && is_of_two(&set));
+    assert!(rt; set.slice == 4 && is_of_two(&set));
     assert!(rt; has_slices(&rt, &set, &folder, &[b"fgh", b"abcd", b"e"]));
 }
 

@@ -169,7 +169,7 @@ fn our_answer(
     chosen: &[Recovered],
 ) -> Result<Vec<Vec<u8>>, RebuildFault> {
     let survivors = Survivors {
-        slice_size: 4,
+        slice: 4,
         known: known_slices(rt, lost),
         recovery: recovery_of(rt, chosen),
     };
@@ -344,7 +344,7 @@ fn known_but<'a>(
 fn many_rebuilt(rt: &(impl Abort + AllocGlobal), bytes: &[u8], lost: [usize; 2]) -> Vec<u8> {
     let slices = recovery_of_a(rt, bytes, SIZE as u64, 1, 2);
     let survivors = Survivors {
-        slice_size: SIZE,
+        slice: SIZE,
         known: known_but(rt, bytes, lost),
         recovery: with_exponents(rt, 1, &slices),
     };

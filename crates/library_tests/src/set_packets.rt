@@ -33,12 +33,12 @@ pub fn pair(k: u8) -> Pair {
 }
 
 /// A file of this File ID, name and size, with the checksums of two slices.
-pub fn record(rt: &(impl Abort + AllocGlobal), id: u8, name: &str, size: u64) -> FileRecord {
+pub fn record(rt: &(impl Abort + AllocGlobal), id: u8, name: &str, length: u64) -> FileRecord {
     FileRecord {
         id: [id; 16],
-        digest: [8; 16],
-        digest_16k: [9; 16],
-        size,
+        md5: [8; 16],
+        md5_16k: [9; 16],
+        length,
         name: String::from_str(rt.alloc(), name).expect(rt, "memory"),
         pairs: Vec::from_array(rt.alloc(), [pair(1), pair(2)]).expect(rt, "memory"),
     }

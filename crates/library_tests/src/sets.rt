@@ -24,7 +24,7 @@ fn fault_in(rt: &(impl Abort + AllocGlobal), set: &Parts, base: &[Part]) -> Opti
 
 // Whether the target is the file `f` of 8 bytes.
 fn is_f(target: &Target) -> bool {
-    let is_sized = target.size() == 8 && target.digest() == [8; 16];
+    let is_sized = target.length() == 8 && target.md5() == [8; 16];
     is_sized && target.pairs() == [pair(1), pair(2)].as_slice()
 }
 

@@ -36,21 +36,21 @@ use Rattle.par2_spec.proofs.FilesLaws.{names_of_files}
 
 -- what the tests of a create find where it is accepted
 pub record Passes (folder : Folder) (a : CreateArgs) : Type 0 where
-  pub size : is_slice_size a.slice_size ≡ true
+  pub size : is_slice_size a.slice ≡ true
   pub counts : are_counts a.first a.count ≡ true
   pub base : (is_name a.base && is_par_name a.base) ≡ true
   pub names : AllByRecursion (λ word. not (is_input_name word) ≡ false) a.inputs
   pub once : AllByRecursion (λ z. is_among (take z.0 a.inputs) z.1 ≡ false) (enumerate_from 0 a.inputs)
   pub there : AllByRecursion (λ word. not (has folder word) ≡ false) a.inputs
   pub full : AllByRecursion (λ file. (length file.1 == 0) ≡ false) (files_of folder a.inputs)
-  pub slices : nat_lt 32768 (sum_by (λ file. slice_count a.slice_size (length file.1)) (files_of folder a.inputs)) ≡ false
+  pub slices : nat_lt 32768 (sum_by (λ file. slice_count a.slice (length file.1)) (files_of folder a.inputs)) ≡ false
   pub ids : not (length (distinct (map id_of (files_of folder a.inputs))) == length (files_of folder a.inputs)) ≡ false
 
 -- the tests in their order
 abbrev tests : Folder → CreateArgs → List (Option Fault)
 tests folder a =
     let fs = files_of folder a.inputs in
-    fault_where (not (is_slice_size a.slice_size)) BadSliceSize
+    fault_where (not (is_slice_size a.slice)) BadSliceSize
     ∷ fault_where (not (are_counts a.first a.count)) BadCount
     ∷ fault_where (not (is_name a.base && is_par_name a.base)) BadBase
     ∷ fault_where (length a.inputs == 0) NoInput
@@ -58,7 +58,7 @@ tests folder a =
     ∷ fault_at 1 DuplicateInput (λ z. is_among (take z.0 a.inputs) z.1) (enumerate_from 0 a.inputs)
     ∷ fault_at 1 NoSuchFile (λ word. not (has folder word)) a.inputs
     ∷ fault_at 1 EmptyFile (λ file. length file.1 == 0) fs
-    ∷ fault_where (nat_lt 32768 (sum_by (λ file. slice_count a.slice_size (length file.1)) fs)) TooManySlices
+    ∷ fault_where (nat_lt 32768 (sum_by (λ file. slice_count a.slice (length file.1)) fs)) TooManySlices
     ∷ fault_where (not (length (distinct (map id_of fs)) == length fs)) DuplicateId
     ∷ fault_where (list_any (λ file. nat_lt 255 (length file.0)) (outputs_of folder a)) NameTooLong
     ∷ fault_where (not a.overwrite && list_any (λ file. has folder file.0) (outputs_of folder a)) Exists
@@ -71,14 +71,14 @@ passes folder a h =
     let none = all_none (tests folder a) h in
     let later = none.1.1.1.1 in
     record {
-      size = not-false (is_slice_size a.slice_size) (where_none (not (is_slice_size a.slice_size)) BadSliceSize none.0);
+      size = not-false (is_slice_size a.slice) (where_none (not (is_slice_size a.slice)) BadSliceSize none.0);
       counts = not-false (are_counts a.first a.count) (where_none (not (are_counts a.first a.count)) BadCount none.1.0);
       base = not-false (is_name a.base && is_par_name a.base) (where_none (not (is_name a.base && is_par_name a.base)) BadBase none.1.1.0);
       names = at_none 1 BadName (λ word. not (is_input_name word)) a.inputs later.0;
       once = at_none 1 DuplicateInput (λ z. is_among (take z.0 a.inputs) z.1) (enumerate_from 0 a.inputs) later.1.0;
       there = at_none 1 NoSuchFile (λ word. not (has folder word)) a.inputs later.1.1.0;
       full = at_none 1 EmptyFile (λ (file : File). length file.1 == 0) fs later.1.1.1.0;
-      slices = where_none (nat_lt 32768 (sum_by (λ file. slice_count a.slice_size (length file.1)) fs)) TooManySlices later.1.1.1.1.0;
+      slices = where_none (nat_lt 32768 (sum_by (λ file. slice_count a.slice (length file.1)) fs)) TooManySlices later.1.1.1.1.0;
       ids = where_none (not (length (distinct (map id_of fs)) == length fs)) DuplicateId later.1.1.1.1.1.0;
     }
 
@@ -140,12 +140,12 @@ count_small s (file ∷ fs) positive h =
     let one : 1 ≤ slice_count s (length file.1) = some_slice s (length file.1) positive h.0 in
     omega (arith, e, one, count_small s fs positive h.1)
 
-pub inputs_taken : (folder : Folder) (a : CreateArgs) → refusal folder (Create a) ≡ None → FitsCreate folder a → AreInputs a.slice_size (files_of folder a.inputs)
+pub inputs_taken : (folder : Folder) (a : CreateArgs) → refusal folder (Create a) ≡ None → FitsCreate folder a → AreInputs a.slice (files_of folder a.inputs)
 inputs_taken folder a accepted fits =
     let p = passes folder a accepted in
     let fs = files_of folder a.inputs in
-    let most : sum_by (λ file. slice_count a.slice_size (length file.1)) fs ≤ 32768 = ltb-false 32768 (sum_by (λ file. slice_count a.slice_size (length file.1)) fs) p.slices in
-    let few = count_small a.slice_size fs (size_positive a.slice_size p.size) p.full in
+    let most : sum_by (λ file. slice_count a.slice (length file.1)) fs ≤ 32768 = ltb-false 32768 (sum_by (λ file. slice_count a.slice (length file.1)) fs) p.slices in
+    let few = count_small a.slice fs (size_positive a.slice p.size) p.full in
     let ids : length (distinct (map id_of fs)) ≡ length fs = eqb-true (length (distinct (map id_of fs))) (length fs) (not-false _ p.ids) in
     record {
       slice_size = p.size;

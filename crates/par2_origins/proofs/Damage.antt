@@ -69,7 +69,7 @@ module _ (before damaged : Folder) (a : CreateArgs) (base : List ℕ) (accepted 
   abbrev inputs : List File
   inputs = files_of before a.inputs
 
-  written : (bytes : List ℕ) → Contains (bytes_in (outputs_of before a)) bytes → IsVolume a.slice_size inputs bytes
+  written : (bytes : List ℕ) → Contains (bytes_in (outputs_of before a)) bytes → IsVolume a.slice inputs bytes
   written bytes i = (a.base, a.first, a.count, (passes before a accepted).counts, i)
 
   -- a par file that is there
@@ -77,25 +77,25 @@ module _ (before damaged : Folder) (a : CreateArgs) (base : List ℕ) (accepted 
   unfolding after
   is_there name par there = sym (damage.pars name par there) ∙ some_if [] (map_of.get damaged name) there
 
-  is_volume_or_other : (name : List ℕ) → is_par_name name ≡ true → has damaged name ≡ true → IsVolumeOrOther a.slice_size inputs (bytes_of damaged name)
+  is_volume_or_other : (name : List ℕ) → is_par_name name ≡ true → has damaged name ≡ true → IsVolumeOrOther a.slice inputs (bytes_of damaged name)
   is_volume_or_other name par there =
-      elim (laid_cases (outputs_of before a) before name (bytes_of damaged name) (is_there name par there)) as (λ _. IsVolumeOrOther a.slice_size inputs (bytes_of damaged name)) [
+      elim (laid_cases (outputs_of before a) before name (bytes_of damaged name) (is_there name par there)) as (λ _. IsVolumeOrOther a.slice inputs (bytes_of damaged name)) [
         | inl i ↦ inl (written (bytes_of damaged name) i)
-        | inr r ↦ subst (IsVolumeOrOther a.slice_size inputs) (ap (λ o. unwrap_or o []) r.1) (fits.other_pars name par (ap is_some r.1) r.0)
+        | inr r ↦ subst (IsVolumeOrOther a.slice inputs) (ap (λ o. unwrap_or o []) r.1) (fits.other_pars name par (ap is_some r.1) r.0)
       ]
 
-  none_there : (name : List ℕ) → has damaged name ≡ false → IsOfOthers (set_id_of a.slice_size inputs) (bytes_of damaged name)
+  none_there : (name : List ℕ) → has damaged name ≡ false → IsOfOthers (set_id_of a.slice inputs) (bytes_of damaged name)
   unfolding accepted_after
   none_there name h = step (map_of.get damaged name) h
     where
-      step : (o : Option (List ℕ)) → is_some o ≡ false → IsOfOthers (set_id_of a.slice_size inputs) (unwrap_or o [])
+      step : (o : Option (List ℕ)) → is_some o ≡ false → IsOfOthers (set_id_of a.slice inputs) (unwrap_or o [])
       step None k = tt
       step (Some bytes) k = absurd (false≢true (sym k))
 
-  each_par : (name : List ℕ) → is_par_name name ≡ true → IsVolumeOrOther a.slice_size inputs (bytes_of damaged name)
+  each_par : (name : List ℕ) → is_par_name name ≡ true → IsVolumeOrOther a.slice inputs (bytes_of damaged name)
   each_par name par = step (has damaged name) refl
     where
-      step : (b : Bool) → has damaged name ≡ b → IsVolumeOrOther a.slice_size inputs (bytes_of damaged name)
+      step : (b : Bool) → has damaged name ≡ b → IsVolumeOrOther a.slice inputs (bytes_of damaged name)
       step true e = is_volume_or_other name par e
       step false e = inr (none_there name e)
 
@@ -107,10 +107,10 @@ module _ (before damaged : Folder) (a : CreateArgs) (base : List ℕ) (accepted 
         | inr r ↦ absurd (false≢true (sym r.0 ∙ damage.written))
       ]
 
-  pub holds_volumes : HoldsVolumes damaged base a.slice_size inputs
+  pub holds_volumes : HoldsVolumes damaged base a.slice inputs
   holds_volumes = record {
     of_base = written (bytes_of damaged base) base_written;
-    of_others = all_weaker (λ name. (is_par_name name && not (bytes_eq name base)) ≡ true) (λ name. IsVolumeOrOther a.slice_size inputs (bytes_of damaged name))
+    of_others = all_weaker (λ name. (is_par_name name && not (bytes_eq name base)) ≡ true) (λ name. IsVolumeOrOther a.slice inputs (bytes_of damaged name))
         (λ name h. each_par name (and_parts (is_par_name name) (not (bytes_eq name base)) h).0) (other_par_names damaged base)
         (recursion_from_All (λ name. (is_par_name name && not (bytes_eq name base)) ≡ true) (other_par_names damaged base) (filter_passes (λ name. is_par_name name && not (bytes_eq name base)) (names damaged)));
   }

@@ -72,7 +72,7 @@ main_of_files s files = record { slice_size = s; ids = map (λ file. file.id) (m
 unfoldable pub desc_of_file : ℕ → File → DescBody
 desc_of_file s file =
     let r : FileRecord = record_of s file in
-    record { id = r.id; digest = r.digest; digest_16k = r.digest_16k; size = r.size; name = r.name }
+    record { id = r.id; md5 = r.md5; md5_16k = r.md5_16k; length = r.length; name = r.name }
 
 unfoldable pub ifsc_of_file : ℕ → File → IfscBody
 ifsc_of_file s file = record { id = (record_of s file).id; pairs = (record_of s file).pairs }

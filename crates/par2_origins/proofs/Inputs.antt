@@ -79,8 +79,8 @@ record_fits s file is =
     let count = pairs_count s file.1 in
     record {
       id = length-md5 _;
-      digest = length-md5 _;
-      digest_16k = length-md5 _;
+      md5 = length-md5 _;
+      md5_16k = length-md5 _;
       size = is.size;
       name = name.1;
       name_size = omega (arith, name.0);

@@ -24,13 +24,13 @@ pub record AreRead : Type 0 where
       → AllByRecursion (λ file. length file.id ≡ 16) files
       → read_main Main (main_bytes s files)
       ≡ Some (record { slice_size = s; ids = map (λ file. file.id) files })
-  pub desc : (file : FileRecord) → length file.id ≡ 16 → length file.digest ≡ 16
-      → length file.digest_16k ≡ 16 → file.size < 2 ^ 64 → list_any (λ b. b == 0) file.name ≡ false
+  pub desc : (file : FileRecord) → length file.id ≡ 16 → length file.md5 ≡ 16
+      → length file.md5_16k ≡ 16 → file.length < 2 ^ 64 → list_any (λ b. b == 0) file.name ≡ false
       → read_desc FileDesc (desc_bytes file) ≡ Some (record {
         id = file.id;
-        digest = file.digest;
-        digest_16k = file.digest_16k;
-        size = file.size;
+        md5 = file.md5;
+        md5_16k = file.md5_16k;
+        length = file.length;
         name = file.name;
       })
   pub ifsc : (file : FileRecord) → length file.id ≡ 16 → AllByRecursion IsPair file.pairs
@@ -58,7 +58,7 @@ pub record AreRepaired : Type 0 where
   pub purged : (folder : Folder) (base : List ℕ) (extras : List (List ℕ)) (files : List File) (s : ℕ) (m : MadeFrom folder base files s)
       → Restores folder base extras files s m (AllByRecursion (λ file. map_of.get (after_repair_and_purge folder m.set (candidates folder m.set extras)) file.0 ≡ Some file.1) files)
   pub digests : (folder : Folder) (base : List ℕ) (extras : List (List ℕ)) (files : List File) (s : ℕ) (m : MadeFrom folder base files s)
-      → Restores folder base extras files s m (IsTrue (list_all (λ c. bytes_eq (md5 c.1) c.0.digest) (rebuilt_targets folder m.set (candidates folder m.set extras))))
+      → Restores folder base extras files s m (IsTrue (list_all (λ c. bytes_eq (md5 c.1) c.0.md5) (rebuilt_targets folder m.set (candidates folder m.set extras))))
 
 -- other slices agree where a repair is refused as not repairable
 abbrev pub OthersAgree : Type 0

@@ -73,7 +73,7 @@ tests folder set searched =
     let missing = lost (known folder set searched) in
     fault_where (not (is_repairable missing (survivors set))) (NotRepairable (length missing) (rank missing (survivors set)))
     ∷ fault_where (list_any (λ name. nat_lt 255 (length (aside folder set name))) (put_aside folder set)) NameTooLong
-    ∷ fault_where (not (list_all (λ c. bytes_eq (md5 c.1) c.0.digest) (rebuilt_targets folder set searched))) RepairFailed
+    ∷ fault_where (not (list_all (λ c. bytes_eq (md5 c.1) c.0.md5) (rebuilt_targets folder set searched))) RepairFailed
     ∷ []
 
 repairable : AreRepaired → (folder : Folder) (set : ParSet) (searched : List (List ℕ)) → repair_refusal folder set searched ≡ None → IsRepairable (lost (known folder set searched)) (survivors set)
@@ -93,13 +93,13 @@ first_cause false false true m r fault none h = absurd (false≢true (sym (none 
 first_cause false false false m r fault none h = absurd (false≢true (ap is_some h))
 
 refused_for : AreRepaired → (folder : Folder) (set : ParSet) (searched : List (List ℕ)) (fault : Fault)
-    → (IsRepairable (lost (known folder set searched)) (survivors set) → list_all (λ c. bytes_eq (md5 c.1) c.0.digest) (rebuilt_targets folder set searched) ≡ true)
+    → (IsRepairable (lost (known folder set searched)) (survivors set) → list_all (λ c. bytes_eq (md5 c.1) c.0.md5) (rebuilt_targets folder set searched) ≡ true)
     → repair_refusal folder set searched ≡ Some fault → may_refuse fault ≡ true
 unfolding repair_refusal
 refused_for laws folder set searched fault right h =
     let missing = lost (known folder set searched) in
     let is = is_repairable missing (survivors set) in
-    first_cause (not is) (list_any (λ name. nat_lt 255 (length (aside folder set name))) (put_aside folder set)) (not (list_all (λ c. bytes_eq (md5 c.1) c.0.digest) (rebuilt_targets folder set searched)))
+    first_cause (not is) (list_any (λ name. nat_lt 255 (length (aside folder set name))) (put_aside folder set)) (not (list_all (λ c. bytes_eq (md5 c.1) c.0.md5) (rebuilt_targets folder set searched)))
     (length missing) (rank missing (survivors set)) fault (λ e. ap not (right ((laws.words missing (survivors set)).0 (not-false is e)))) h
 
 -- ---- what is searched
@@ -124,7 +124,7 @@ from_files P s files h = all-flat_map (λ file. AllByRecursion P (slices s file.
 
 module _ (order : (files : List File) → IsPermutation files (in_id_order files)) (before damaged : Folder) (a : CreateArgs) (base : List ℕ) (extras : List (List ℕ)) (follows : FollowsCreate before damaged a base extras) where
   abbrev s : ℕ
-  s = a.slice_size
+  s = a.slice
 
   abbrev inputs : List File
   inputs = files_of before a.inputs

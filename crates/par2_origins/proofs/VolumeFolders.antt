@@ -38,11 +38,11 @@ are_names : (s : ℕ) (files : List File) → AllByRecursion (λ file. is_name f
 unfolding desc_of_file record_of
 are_names s files h = all-map (λ file. is_name file.0 ≡ true) (λ (x : DescBody). is_name x.name ≡ true) (desc_of_file s) (λ file k. k) files h
 
-count_described : (s : ℕ) (files : List File) → sum_by (λ (x : DescBody). slice_count s x.size) (map (desc_of_file s) files) ≡ sum_by (λ file. slice_count s (length file.1)) files
+count_described : (s : ℕ) (files : List File) → sum_by (λ (x : DescBody). slice_count s x.length) (map (desc_of_file s) files) ≡ sum_by (λ file. slice_count s (length file.1)) files
 unfolding desc_of_file record_of
 count_described s [] = refl
 count_described s (file ∷ files) =
-    sum_by-cons (λ (x : DescBody). slice_count s x.size) (desc_of_file s file) (map (desc_of_file s) files)
+    sum_by-cons (λ (x : DescBody). slice_count s x.length) (desc_of_file s file) (map (desc_of_file s) files)
     ∙ ap (λ n. slice_count s (length file.1) + n) (count_described s files)
     ∙ sym (sum_by-cons (λ (f : File). slice_count s (length f.1)) file files)
 
@@ -53,7 +53,7 @@ in_profile s files is =
     ap (λ ns. length (distinct ns)) (names_described s files) ∙ ap length (distinct_same (map (λ file. file.0) files) (distinct_from_std (map (λ file. file.0) files) is.names_once))
     ∙ length-map files (λ file. file.0) ∙ sym (length-map files (desc_of_file s)) in
     and_from _ _
-    (and_from _ _ (le-leb (sum_by (λ (x : DescBody). slice_count s x.size) ds) 32768 (subst (λ n. n ≤ 32768) (sym (count_described s files)) is.slices))
+    (and_from _ _ (le-leb (sum_by (λ (x : DescBody). slice_count s x.length) ds) 32768 (subst (λ n. n ≤ 32768) (sym (count_described s files)) is.slices))
     (test_from_all (λ (x : DescBody). is_name x.name) ds (are_names s files is.names)))
     (eq-eqb (length (distinct (map (λ x. x.name) ds))) (length ds) once)
 

@@ -25,7 +25,7 @@ pub record FitsCreate (before : Folder) (a : CreateArgs) : Type 0 where
   pub bytes : AllByRecursion (λ file. AreBytes file.1) (files_of before a.inputs)
   pub other_pars : (name : List ℕ) → IsTrue (is_par_name name) → IsTrue (has before name)
       → IsFalse (is_among (output_names before a) name)
-      → IsVolumeOrOther a.slice_size (files_of before a.inputs) (bytes_of before name)
+      → IsVolumeOrOther a.slice (files_of before a.inputs) (bytes_of before name)
 
 -- damage by another hand to what a create left: each par file that is there is as the create left it, and the
 -- base, any of those that it wrote, is there. The other files may be anything, or gone
@@ -41,8 +41,8 @@ pub record FollowsCreate (before damaged : Folder) (a : CreateArgs) (base : List
   pub created : refusal before (Create a) ≡ None
   pub fits : FitsCreate before a
   pub damage : IsDamage before damaged a base
-  pub told : let slices = all_slices a.slice_size (files_of before a.inputs) in
-      NoCollision damaged (a.inputs ++ extras) a.slice_size slices
+  pub told : let slices = all_slices a.slice (files_of before a.inputs) in
+      NoCollision damaged (a.inputs ++ extras) a.slice slices
 
 -- why a repair of such a folder is refused, if it is: a further file isn't there, too few slices are left, or
 -- the name for a file to be put aside would be too long
@@ -58,5 +58,5 @@ pub record HaveAChoice (before damaged : Folder) (a : CreateArgs) (base : List �
   pub set : ParSet
   pub reads : set_of damaged base ≡ Ok set
   pub others : let found = known damaged set (candidates damaged set extras) in
-      let slices = all_slices a.slice_size (in_id_order (files_of before a.inputs)) in
-      AnotherAgrees a.slice_size found (map_of.entries set.recovery) slices
+      let slices = all_slices a.slice (in_id_order (files_of before a.inputs)) in
+      AnotherAgrees a.slice found (map_of.entries set.recovery) slices

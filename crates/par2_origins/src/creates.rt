@@ -22,7 +22,7 @@ use par2_spec::restored_laws::{refused_repair_has_a_choice, repair_leaves_the_fi
 /// The files of an accepted create are such as a create takes.
 pub fn accepted_create_has_its_inputs()
     ensures { (before : Folder) (a : CreateArgs) → refusal before (Create a) ≡ None
-        → FitsCreate before a → AreInputs a.slice_size (files_of before a.inputs) }
+        → FitsCreate before a → AreInputs a.slice (files_of before a.inputs) }
 {}
 
 /// To remove files of what a create left, but for one of those that it wrote, is such damage.
@@ -37,7 +37,7 @@ pub fn removal_is_damage()
 pub fn created_set_is_made_from_its_files()
     ensures { (before damaged : Folder) (a : CreateArgs) (base : List ℕ)
         → refusal before (Create a) ≡ None → FitsCreate before a → IsDamage before damaged a base
-        → MadeFrom damaged base (in_id_order (files_of before a.inputs)) a.slice_size }
+        → MadeFrom damaged base (in_id_order (files_of before a.inputs)) a.slice }
 {
     accepted_create_has_its_inputs();
     volumes_tell_the_files();

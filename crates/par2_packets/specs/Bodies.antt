@@ -8,9 +8,9 @@ main_said body = record { slice_size = u64_at 0 body; ids = items_at 12 16 (u32_
 abbrev pub desc_said : List ℕ → DescBody
 desc_said body = record {
   id = bytes_at 0 16 body;
-  digest = bytes_at 16 16 body;
-  digest_16k = bytes_at 32 16 body;
-  size = u64_at 48 body;
+  md5 = bytes_at 16 16 body;
+  md5_16k = bytes_at 32 16 body;
+  length = u64_at 48 body;
   name = without_end_zeros (drop 56 body);
 }
 

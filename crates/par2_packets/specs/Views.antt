@@ -12,9 +12,9 @@ use Rattle.par2_packets.specs.declared.scan.Packets.{Packets}
 abbrev pub file_record_of : FileRecord → volumes.FileRecord
 file_record_of file = record {
   id = file.id;
-  digest = file.digest;
-  digest_16k = file.digest_16k;
-  size = file.size;
+  md5 = file.md5;
+  md5_16k = file.md5_16k;
+  length = file.length;
   name = string_bytes file.name;
   pairs = file.pairs.items;
 }

@@ -89,9 +89,9 @@ fn main_body(alloc: Global, s: u64, files: &[FileRecord]) -> Result<Vec<u8>, All
 fn desc_body(alloc: Global, file: &FileRecord) -> Result<Vec<u8>, AllocError>
     ensures { IfOk result (λ body. body.items ≡ desc_bytes (file_record_of file.now)) }
 {
-    let ids = [file.id, file.digest, file.digest_16k];
+    let ids = [file.id, file.md5, file.md5_16k];
     let mut body = Vec::from_slice(alloc, ids.as_flattened())?;
-    body.extend_from_slice(&u64_bytes(file.size))?;
+    body.extend_from_slice(&u64_bytes(file.length))?;
     append_padded(&mut body, file.name.as_bytes())?;
     Ok(body)
 }

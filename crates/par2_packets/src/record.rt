@@ -16,23 +16,23 @@ pub struct FileRecord {
     /// The File ID.
     pub id: [u8; 16],
     /// The MD5 of the file.
-    pub digest: [u8; 16],
+    pub md5: [u8; 16],
     /// The MD5 of its first 16,384 bytes, or of all where it is shorter.
-    pub digest_16k: [u8; 16],
+    pub md5_16k: [u8; 16],
     /// How many bytes it has.
-    pub size: u64,
+    pub length: u64,
     pub name: String,
     /// The checksums of its slices, in order.
     pub pairs: Vec<Pair>,
 }
 
-/// The File ID: the MD5 of the digest of the first 16,384 bytes, the size and the name.
-pub fn file_id(digest_16k: &[u8; 16], size: u64, name: &str) -> [u8; 16]
-    ensures { result ≡ volumes.file_id digest_16k.now size name.now }
+/// The File ID: the MD5 of the MD5 of the first 16,384 bytes, the length and the name.
+pub fn file_id(md5_16k: &[u8; 16], length: u64, name: &str) -> [u8; 16]
+    ensures { result ≡ volumes.file_id md5_16k.now length name.now }
 {
     let mut hasher = Md5::new();
-    hasher.update(digest_16k);
-    hasher.update(&u64_bytes(size));
+    hasher.update(md5_16k);
+    hasher.update(&u64_bytes(length));
     hasher.update(name.as_bytes());
     hasher.finalize()
 }

@@ -78,22 +78,22 @@ impl<'a> DescView<'a> {
     }
 
     /// The MD5 of the file.
-    pub fn digest(&self) -> [u8; 16]
-        ensures { result ≡ self.now.digest }
+    pub fn md5(&self) -> [u8; 16]
+        ensures { result ≡ self.now.md5 }
     {
         block(self.body, 16)
     }
 
     /// The MD5 of its first 16,384 bytes, or of all where it is shorter.
-    pub fn digest_16k(&self) -> [u8; 16]
-        ensures { result ≡ self.now.digest_16k }
+    pub fn md5_16k(&self) -> [u8; 16]
+        ensures { result ≡ self.now.md5_16k }
     {
         block(self.body, 32)
     }
 
     /// How many bytes the file has.
-    pub fn size(&self) -> u64
-        ensures { result ≡ self.now.size }
+    pub fn length(&self) -> u64
+        ensures { result ≡ self.now.length }
     {
         u64_at(self.body, 48)
     }

@@ -22,8 +22,8 @@ use Rattle.par2_plan.specs.Faults.{duplicate_input, files_fault, ids_fault, inpu
 -- ---- the head
 
 pub record IsHead (a : CreateArgs) : Type 0 where
-  pub positive : 1 ≤ a.slice_size
-  pub fours : a.slice_size % 4 ≡ 0
+  pub positive : 1 ≤ a.slice
+  pub fours : a.slice % 4 ≡ 0
   pub exponents : a.first + a.count ≤ 65536
   pub name : is_name a.base ≡ true
   pub par_name : is_par_name a.base ≡ true
@@ -33,16 +33,16 @@ unfolding head_fault
 head_passed a h =
     let none =
     all_none
-    (fault_where (not (is_slice_size a.slice_size)) BadSliceSize
+    (fault_where (not (is_slice_size a.slice)) BadSliceSize
     ∷ fault_where (not (are_counts a.first a.count)) BadCount
     ∷ fault_where (not (is_name a.base && is_par_name a.base)) BadBase
     ∷ fault_where (length a.inputs == 0) NoInput
     ∷ [])
     h in
-    let is_size : is_slice_size a.slice_size ≡ true = not-false _ (where_none _ _ none.0) in
+    let is_size : is_slice_size a.slice ≡ true = not-false _ (where_none _ _ none.0) in
     let are : are_counts a.first a.count ≡ true = not-false _ (where_none _ _ none.1.0) in
     let named : (is_name a.base && is_par_name a.base) ≡ true = not-false _ (where_none _ _ none.1.1.0) in
-    let size = size_parts a.slice_size is_size in
+    let size = size_parts a.slice is_size in
     let both = and_parts (is_name a.base) (is_par_name a.base) named in
     record {
       positive = omega (arith, size.1);

@@ -20,13 +20,13 @@ written folder base index id s texts volumes =
 
 pub create_written : (folder : Folder) (a : CreateArgs)
     → let ordered = in_id_order (files_of folder a.inputs) in
-    let records = map (record_of a.slice_size) ordered in
-    written folder a.base (flat_map packet (index_packets a.slice_size records)) (main_id a.slice_size records) a.slice_size (all_slices a.slice_size ordered)
+    let records = map (record_of a.slice) ordered in
+    written folder a.base (flat_map packet (index_packets a.slice records)) (main_id a.slice records) a.slice (all_slices a.slice ordered)
     (volumes_of a.base a.first a.count)
     ≡ create_changes folder a
 unfolding volumes
 create_written folder a =
-    let s : ℕ = a.slice_size in
+    let s : ℕ = a.slice in
     let f : ℕ = a.first in
     let c : ℕ = a.count in
     let ordered : List File = in_id_order (files_of folder a.inputs) in

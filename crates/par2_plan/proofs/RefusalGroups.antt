@@ -31,7 +31,7 @@ behind (Some fault) xs ys e = refl
 -- the names of the outputs
 pub names_are : (folder : Folder) (a : CreateArgs) → map (λ file. file.0) (outputs_of folder a) ≡ output_names a
 names_are folder a =
-    names_of_outputs a.base a.slice_size a.first a.count (files_of folder a.inputs)
+    names_of_outputs a.base a.slice a.first a.count (files_of folder a.inputs)
     ∙ ap (λ names. a.base ∷ names) (sym (map-map _ (volume_at a.base a.first a.count) (volume_numbers a.count)))
 
 any_output : (folder : Folder) (a : CreateArgs) (test : List ℕ → Bool) → list_any (λ file. test file.0) (outputs_of folder a) ≡ list_any test (output_names a)
@@ -53,14 +53,14 @@ create_causes folder a =
     let files = files_of folder a.inputs in
     rw (any_output folder a (λ name. nat_lt 255 (length name)), any_output folder a (has folder))
     (grouped
-    (fault_where (not (is_slice_size a.slice_size)) BadSliceSize
+    (fault_where (not (is_slice_size a.slice)) BadSliceSize
     ∷ fault_where (not (are_counts a.first a.count)) BadCount
     ∷ fault_where (not (is_name a.base && is_par_name a.base)) BadBase
     ∷ fault_where (length a.inputs == 0) NoInput
     ∷ [])
     (fault_at 1 NoSuchFile (λ word. not (has folder word)) a.inputs
     ∷ fault_at 1 EmptyFile (λ (file : File). length file.1 == 0) files
-    ∷ fault_where (nat_lt 32768 (sum_by (λ (file : File). slice_count a.slice_size (length file.1)) files)) TooManySlices
+    ∷ fault_where (nat_lt 32768 (sum_by (λ (file : File). slice_count a.slice (length file.1)) files)) TooManySlices
     ∷ [])
     (bad_name a.inputs) (duplicate_input a.inputs) (ids_fault (files_of folder a.inputs)) (long_name (output_names a)) (there_already folder a.overwrite (output_names a)))
 
@@ -73,7 +73,7 @@ module _ (folder : Folder) (a : CreateArgs) where
 
   pub refused_by_head : (fault : Fault) → head_fault a ≡ Some fault → refusal folder (Create a) ≡ Some fault
   unfolding create_fault
-  refused_by_head fault h = by_causes ∙ ap (λ f. first_fault (f ∷ inputs_fault folder a.slice_size a.inputs ∷ long_name (output_names a) ∷ there_already folder a.overwrite (output_names a) ∷ [])) h
+  refused_by_head fault h = by_causes ∙ ap (λ f. first_fault (f ∷ inputs_fault folder a.slice a.inputs ∷ long_name (output_names a) ∷ there_already folder a.overwrite (output_names a) ∷ [])) h
 
   pub early_by_head : (fault : Fault) → head_fault a ≡ Some fault → early_refusal folder (Create a) ≡ Some fault
   unfolding early_refusal
@@ -90,17 +90,17 @@ module _ (folder : Folder) (a : CreateArgs) where
     pub not_early : bad_name a.inputs ≡ None → early_refusal folder (Create a) ≡ None
     not_early h = early_by_names ∙ ap (λ f. first_fault (f ∷ [])) h
 
-    past_head : refusal folder (Create a) ≡ first_fault (inputs_fault folder a.slice_size a.inputs ∷ long_name (output_names a) ∷ there_already folder a.overwrite (output_names a) ∷ [])
+    past_head : refusal folder (Create a) ≡ first_fault (inputs_fault folder a.slice a.inputs ∷ long_name (output_names a) ∷ there_already folder a.overwrite (output_names a) ∷ [])
     unfolding create_fault
-    past_head = by_causes ∙ ap (λ f. first_fault (f ∷ inputs_fault folder a.slice_size a.inputs ∷ long_name (output_names a) ∷ there_already folder a.overwrite (output_names a) ∷ [])) head
+    past_head = by_causes ∙ ap (λ f. first_fault (f ∷ inputs_fault folder a.slice a.inputs ∷ long_name (output_names a) ∷ there_already folder a.overwrite (output_names a) ∷ [])) head
 
-    pub refused_by_inputs : (fault : Fault) → inputs_fault folder a.slice_size a.inputs ≡ Some fault → refusal folder (Create a) ≡ Some fault
+    pub refused_by_inputs : (fault : Fault) → inputs_fault folder a.slice a.inputs ≡ Some fault → refusal folder (Create a) ≡ Some fault
     refused_by_inputs fault h = past_head ∙ ap (λ f. first_fault (f ∷ long_name (output_names a) ∷ there_already folder a.overwrite (output_names a) ∷ [])) h
 
     pub refused_by_name : (fault : Fault) → bad_name a.inputs ≡ Some fault → refusal folder (Create a) ≡ Some fault
     refused_by_name fault h = refused_early folder (Create a) fault (early_by_name fault h)
 
-    module _ (inputs : inputs_fault folder a.slice_size a.inputs ≡ None) where
+    module _ (inputs : inputs_fault folder a.slice a.inputs ≡ None) where
       past_inputs : refusal folder (Create a) ≡ first_fault (long_name (names_of (volumes_of a.base a.first a.count)) ∷ there_already folder a.overwrite (output_names a) ∷ [])
       past_inputs =
           past_head ∙ ap (λ f. first_fault (f ∷ long_name (output_names a) ∷ there_already folder a.overwrite (output_names a) ∷ [])) inputs

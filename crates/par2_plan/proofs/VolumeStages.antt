@@ -25,12 +25,12 @@ use Rattle.par2_plan.specs.Volumes.{slice_of, slice_up_to}
 
 -- ---- recovery slices, up to a column
 
-length-slice : (parts : Parts) → HasSlices parts → (e : ℕ) → length (slice_of parts e) ≡ parts.set.now.slice_size
-length-slice parts can e = recovery_length parts.set.now.slice_size (inputs_of parts) e (omega (arith, can.fours))
+length-slice : (parts : Parts) → HasSlices parts → (e : ℕ) → length (slice_of parts e) ≡ parts.set.now.slice
+length-slice parts can e = recovery_length parts.set.now.slice (inputs_of parts) e (omega (arith, can.fours))
 
-length-up_to : (parts : Parts) → HasSlices parts → (n : ℕ) → n ≤ parts.set.now.slice_size → (e : ℕ) → length (slice_up_to parts n e) ≡ parts.set.now.slice_size
+length-up_to : (parts : Parts) → HasSlices parts → (n : ℕ) → n ≤ parts.set.now.slice → (e : ℕ) → length (slice_up_to parts n e) ≡ parts.set.now.slice
 length-up_to parts can n within e =
-    let s : ℕ = parts.set.now.slice_size in
+    let s : ℕ = parts.set.now.slice in
     let whole = length-slice parts can e in
     let front = length-take-le n (slice_of parts e) (omega (arith, whole, within)) in
     let zeros = length-replicate {A = ℕ} (s - n) 0 in
@@ -100,19 +100,19 @@ index_kept text index rest new n size is =
     let none : drop (length text - n) (drop n text) ≡ [] = drop_all (length text - n) (drop n text) (let left = length-drop n text in omega (arith, left)) in
     ap₂ (λ (a b : List ℕ). a ++ (new ++ b)) front none ∙ ap (λ (xs : List ℕ). index ++ xs) (append-nil new)
 
-pub length-packets : (parts : Parts) → HasSlices parts → length parts.set_id ≡ 16 → (n first count : ℕ) → n ≤ parts.set.now.slice_size
-    → length (flat_map (λ e. undigested parts.set_id e (slice_up_to parts n e)) (range_with_len first count)) ≡ count * (68 + parts.set.now.slice_size)
+pub length-packets : (parts : Parts) → HasSlices parts → length parts.set_id ≡ 16 → (n first count : ℕ) → n ≤ parts.set.now.slice
+    → length (flat_map (λ e. undigested parts.set_id e (slice_up_to parts n e)) (range_with_len first count)) ≡ count * (68 + parts.set.now.slice)
 length-packets parts can sixteen n first count within =
-    length-pieces (68 + parts.set.now.slice_size) (λ (e : ℕ). undigested parts.set_id e (slice_up_to parts n e))
+    length-pieces (68 + parts.set.now.slice) (λ (e : ℕ). undigested parts.set_id e (slice_up_to parts n e))
     (λ e. length-undigested parts.set_id e (slice_up_to parts n e) sixteen ∙ ap (λ k. 68 + k) (length-up_to parts can n within e)) first count
 
 -- with the columns, the slices are there up to behind them
-pub packets_filled : (parts : Parts) (from n first count : ℕ) (columns : List (List ℕ)) (old new : List ℕ) → HasSlices parts → length parts.set_id ≡ 16 → from + n ≤ parts.set.now.slice_size
-    → columns ≡ map (λ e. window from n (slice_of parts e)) (range_with_len first count) → AreWritten parts.set.now.slice_size from columns old new
+pub packets_filled : (parts : Parts) (from n first count : ℕ) (columns : List (List ℕ)) (old new : List ℕ) → HasSlices parts → length parts.set_id ≡ 16 → from + n ≤ parts.set.now.slice
+    → columns ≡ map (λ e. window from n (slice_of parts e)) (range_with_len first count) → AreWritten parts.set.now.slice from columns old new
     → old ≡ flat_map (λ e. undigested parts.set_id e (slice_up_to parts from e)) (range_with_len first count)
     → new ≡ flat_map (λ e. undigested parts.set_id e (slice_up_to parts (from + n) e)) (range_with_len first count)
 packets_filled parts from n first count columns old new can sixteen fits are written is =
-    let s : ℕ = parts.set.now.slice_size in
+    let s : ℕ = parts.set.now.slice in
     let id : List ℕ = parts.set_id in
     let column = λ (e : ℕ). window from n (slice_of parts e) in
     let was = slice_up_to parts from in
@@ -134,12 +134,12 @@ packets_filled parts from n first count columns old new can sixteen fits are wri
 
 -- with the MD5s they are whole
 pub packets_digested : (parts : Parts) (first count : ℕ) (old new : List ℕ) → HasSlices parts → length parts.set_id ≡ 16
-    → ((id : List ℕ) (e : ℕ) (slice : ℕ → List ℕ) → ArePieces (68 + parts.set.now.slice_size) (λ k. undigested id k (slice k)) e count old
-    → ArePieces (68 + parts.set.now.slice_size) (λ k. digested id k (slice k)) e count new)
-    → old ≡ flat_map (λ e. undigested parts.set_id e (slice_up_to parts parts.set.now.slice_size e)) (range_with_len first count)
+    → ((id : List ℕ) (e : ℕ) (slice : ℕ → List ℕ) → ArePieces (68 + parts.set.now.slice) (λ k. undigested id k (slice k)) e count old
+    → ArePieces (68 + parts.set.now.slice) (λ k. digested id k (slice k)) e count new)
+    → old ≡ flat_map (λ e. undigested parts.set_id e (slice_up_to parts parts.set.now.slice e)) (range_with_len first count)
     → new ≡ flat_map packet (packets_between parts first count)
 packets_digested parts first count old new can sixteen put is =
-    let s : ℕ = parts.set.now.slice_size in
+    let s : ℕ = parts.set.now.slice in
     let id : List ℕ = parts.set_id in
     let slice = slice_of parts in
     let whole : (e : ℕ) → slice_up_to parts s e ≡ slice e =
@@ -154,9 +154,9 @@ packets_digested parts first count old new can sixteen put is =
 
 -- at the start the slices are zeros
 pub packets_blank : (parts : Parts) (first count : ℕ)
-    → flat_map (λ e. undigested parts.set_id e (replicate parts.set.now.slice_size 0)) (range_with_len first count) ≡ flat_map (λ e. undigested parts.set_id e (slice_up_to parts 0 e)) (range_with_len first count)
+    → flat_map (λ e. undigested parts.set_id e (replicate parts.set.now.slice 0)) (range_with_len first count) ≡ flat_map (λ e. undigested parts.set_id e (slice_up_to parts 0 e)) (range_with_len first count)
 packets_blank parts first count =
-    let s : ℕ = parts.set.now.slice_size in
+    let s : ℕ = parts.set.now.slice in
     pieces_same (λ (e : ℕ). undigested parts.set_id e (replicate s 0)) (λ (e : ℕ). undigested parts.set_id e (slice_up_to parts 0 e)) first count
     (λ e _ _. ap (λ k. undigested parts.set_id e (replicate k 0)) (let all : s ≡ s - 0 = omega arith in all))
 

@@ -48,7 +48,7 @@ unfoldable pub create_fault : Folder → CreateArgs → Option Fault
 unfolding head_fault inputs_fault
 create_fault folder a = first_fault (
     head_fault a
-    ∷ inputs_fault folder a.slice_size a.inputs
+    ∷ inputs_fault folder a.slice a.inputs
     ∷ long_name (output_names a)
     ∷ there_already folder a.overwrite (output_names a)
     ∷ [])

@@ -37,21 +37,21 @@ output_names a = a.base ∷ names_of (volumes_of a.base a.first a.count)
 
 -- the slices of a set's files, one file after the other
 abbrev pub inputs_of : Parts → List (List ℕ)
-inputs_of parts = all_slices parts.set.now.slice_size (files_of parts.folder.now.files (records.names_of parts.set.now))
+inputs_of parts = all_slices parts.set.now.slice (files_of parts.folder.now.files (records.names_of parts.set.now))
 
 -- recovery slices can be made of them
 pub record HasSlices (parts : Parts) : Type 0 where
-  pub positive : 1 ≤ parts.set.now.slice_size
-  pub fours : parts.set.now.slice_size % 4 ≡ 0
+  pub positive : 1 ≤ parts.set.now.slice
+  pub fours : parts.set.now.slice % 4 ≡ 0
   pub few : length (inputs_of parts) ≤ 32768
 
 -- these are the set's input slices, which zeros follow where a file ends early
 abbrev pub ListsInputs : Parts → List (Bor (List ℕ)) → Type 0
-ListsInputs parts inputs = map (padded parts.set.now.slice_size) (texts_of inputs) ≡ inputs_of parts
+ListsInputs parts inputs = map (padded parts.set.now.slice) (texts_of inputs) ≡ inputs_of parts
 
 -- the packets of n recovery slices from exponent e on
 abbrev pub packets_between : Parts → ℕ → ℕ → List Packet
-packets_between parts e n = recovery_packets parts.set.now.slice_size parts.set_id (inputs_of parts) e n
+packets_between parts e n = recovery_packets parts.set.now.slice parts.set_id (inputs_of parts) e n
 
 -- the bytes of a volume
 abbrev pub volume_text : Parts → Volume → List ℕ

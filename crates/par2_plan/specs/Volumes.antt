@@ -13,11 +13,11 @@ use Rattle.par2_plan.specs.declared.volumes.Block.{Block}
 
 -- the recovery slice of exponent e
 abbrev pub slice_of : Parts → ℕ → List ℕ
-slice_of parts e = recovery parts.set.now.slice_size (inputs_of parts) e
+slice_of parts e = recovery parts.set.now.slice (inputs_of parts) e
 
 -- its first n bytes, and zeros
 abbrev pub slice_up_to : Parts → ℕ → ℕ → List ℕ
-slice_up_to parts n e = take n (slice_of parts e) ++ replicate (parts.set.now.slice_size - n) 0
+slice_up_to parts n e = take n (slice_of parts e) ++ replicate (parts.set.now.slice - n) 0
 
 -- the bytes of a volume without MD5s, of whose recovery slices the first n bytes are there
 abbrev pub volume_up_to : Parts → ℕ → Volume → List ℕ
@@ -33,5 +33,5 @@ pub record AreExponents (exponents : Exponents) (volumes : List Volume) : Type 0
 
 -- a block has columns of the recovery slices of its exponents
 pub record HasColumns (parts : Parts) (block : Block) : Type 0 where
-  pub within : block.from + block.len ≤ parts.set.now.slice_size
+  pub within : block.from + block.len ≤ parts.set.now.slice
   pub columns : lists_of block.columns.items ≡ map (λ e. window block.from block.len (slice_of parts e)) (range_with_len block.exponents.first (block.exponents.end - block.exponents.first))

@@ -26,26 +26,26 @@ use std::alloc::{AllocError, Global};
 // What a set says of the inputs, where nothing is wrong with them.
 #[tactic(auto, unfolding(crate::specs::Faults::inputs_fault))]
 fn set_of_inputs(alloc: Global, folder: &Folder, args: &CreateArgs) -> Result<SetRecord, Fault>
-    requires { 1 ≤ args.now.slice_size }
+    requires { 1 ≤ args.now.slice }
     ensures refused { IfErr result (λ fault. (fault ≡ Fault.Memory) ⊎ (inputs_fault
-        folder.now.files args.now.slice_size (map string_bytes args.now.inputs.items)
+        folder.now.files args.now.slice (map string_bytes args.now.inputs.items)
         ≡ Some fault)) }
-    ensures accepted { IfOk result (λ _. inputs_fault folder.now.files args.now.slice_size
+    ensures accepted { IfOk result (λ _. inputs_fault folder.now.files args.now.slice
         (map string_bytes args.now.inputs.items) ≡ None) }
-    ensures slice { IfOk result (λ set. set.slice_size ≡ args.now.slice_size) }
+    ensures slice { IfOk result (λ set. set.slice ≡ args.now.slice) }
     ensures files { IfOk result (λ set. map file_record_of set.files.items
-        ≡ map (record_of args.now.slice_size)
+        ≡ map (record_of args.now.slice)
         (in_id_order (files_of folder.now.files (map string_bytes args.now.inputs.items)))) }
     ensures order { IfOk result (λ set. files_of folder.now.files (names_of set)
         ≡ in_id_order (files_of folder.now.files (map string_bytes args.now.inputs.items))) }
 {
     let names = input_names(alloc, &args.inputs)?;
     no_duplicate(alloc, &names)?;
-    if let Some(fault) = files_fault(folder, &names, args.slice_size) {
+    if let Some(fault) = files_fault(folder, &names, args.slice) {
         return Err(fault);
     }
-    let records = file_records(alloc, folder, &names, args.slice_size)?;
-    set_of(records, args.slice_size)
+    let records = file_records(alloc, folder, &names, args.slice)?;
+    set_of(records, args.slice)
 }
 
 // The changes that write the outputs of a create with which nothing is wrong.
@@ -58,11 +58,11 @@ fn outputs_written(
     volumes: &[Volume],
 ) -> Result<Changes, AllocError>
     requires head { head_fault (create_args_of args.now) ≡ None }
-    requires inputs { inputs_fault folder.now.files args.now.slice_size
+    requires inputs { inputs_fault folder.now.files args.now.slice
         (map string_bytes args.now.inputs.items) ≡ None }
     requires base { base ≡ string_bytes args.now.base }
-    requires slice { set.now.slice_size ≡ args.now.slice_size }
-    requires files { map file_record_of set.now.files.items ≡ map (record_of args.now.slice_size)
+    requires slice { set.now.slice ≡ args.now.slice }
+    requires files { map file_record_of set.now.files.items ≡ map (record_of args.now.slice)
         (in_id_order (files_of folder.now.files (map string_bytes args.now.inputs.items))) }
     requires order { files_of folder.now.files (names_of set.now)
         ≡ in_id_order (files_of folder.now.files (map string_bytes args.now.inputs.items)) }
@@ -72,8 +72,8 @@ fn outputs_written(
         ≡ plans.create_changes folder.now.files (create_args_of args.now)) }
 {
     let parts = Parts {
-        index: index_of(alloc, set.slice_size, &set.files)?,
-        set_id: main_id(set.slice_size, &set.files),
+        index: index_of(alloc, set.slice, &set.files)?,
+        set_id: main_id(set.slice, &set.files),
         set,
         folder,
     };

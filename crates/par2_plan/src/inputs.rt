@@ -118,7 +118,7 @@ pub fn files_fault(folder: &Folder, names: &[Name], size: u64) -> Option<Fault>
 pub fn set_of(records: Vec<FileRecord>, size: u64) -> Result<SetRecord, Fault>
     ensures refused { (files : List File)
         → AreRecords size files records.items → fault_of result ≡ ids_fault files }
-    ensures slice { IfOk result (λ set. set.slice_size ≡ size) }
+    ensures slice { IfOk result (λ set. set.slice ≡ size) }
     ensures files { IfOk result (λ set. (files : List File)
         → AreRecords size files records.items
         → AreRecords size (in_id_order files) set.files.items) }

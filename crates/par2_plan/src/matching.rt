@@ -21,7 +21,7 @@ pub fn is_needing(folder: &Folder, set: &ParSet, target: &Target) -> bool
     ensures { result ≡ search.is_needing folder.now.files set.now target.now }
 {
     match folder.get(target.name()) {
-        Some(bytes) => !is_intact(bytes, set.slice_size(), target.size(), target.pairs()),
+        Some(bytes) => !is_intact(bytes, set.slice_size(), target.length(), target.pairs()),
         None => true,
     }
 }
@@ -50,7 +50,7 @@ fn needing_targets<'s>(
     for (target, needs) in set.targets().iter().zip(needing) {
         if *needs {
             targets.push(par2_search::Target {
-                size: target.size(),
+                length: target.length(),
                 pairs: target.pairs(),
             })?;
         }

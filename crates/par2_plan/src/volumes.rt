@@ -84,20 +84,20 @@ fn exponents_of(volumes: &[Volume]) -> Exponents
 
 // How many bytes a volume of this many recovery slices has.
 fn volume_len(parts: &Parts, count: u32) -> usize {
-    let each = (parts.set.slice_size as usize).saturating_add(RECOVERY_HEAD);
+    let each = (parts.set.slice as usize).saturating_add(RECOVERY_HEAD);
     each.saturating_mul(count as usize)
         .saturating_add(parts.index.len())
 }
 
 // The bytes of a volume whose recovery slices and MD5s are still to come.
 fn blank_volume(alloc: Global, parts: &Parts, volume: &Volume) -> Result<Vec<u8>, AllocError>
-    requires fits { 68 + parts.now.set.now.slice_size ≤ usize.MAX }
+    requires fits { 68 + parts.now.set.now.slice ≤ usize.MAX }
     requires exponents { volume.now.first + volume.now.count ≤ 65536 }
     ensures { IfOk result (λ bytes. bytes.items ≡ volume_up_to parts.now 0 volume.now) }
 {
     let mut text = Vec::with_capacity(alloc, volume_len(parts, volume.count))?;
     text.extend_from_slice(&parts.index)?;
-    let size = parts.set.slice_size as usize;
+    let size = parts.set.slice as usize;
     with_undigested(text, &parts.set_id, volume.first, volume.count, size)
 }
 
@@ -107,7 +107,7 @@ fn blank_volumes(
     parts: &Parts,
     volumes: &[Volume],
 ) -> Result<Vec<Vec<u8>>, AllocError>
-    requires fits { 68 + parts.now.set.now.slice_size ≤ usize.MAX }
+    requires fits { 68 + parts.now.set.now.slice ≤ usize.MAX }
     requires exponents { AllByRecursion
         (λ volume. volume.first + volume.count ≤ 65536) volumes.now }
     ensures { IfOk result
@@ -134,7 +134,7 @@ fn block_of(
     requires inputs { ListsInputs parts.now inputs.now }
     requires exponents { (exponents.first ≤ exponents.end) × (exponents.end ≤ 65536) }
     requires even { (from % 2 ≡ 0) × (len % 2 ≡ 0) }
-    requires within { from + len ≤ parts.now.set.now.slice_size }
+    requires within { from + len ≤ parts.now.set.now.slice }
     ensures { IfOk result (λ block. HasColumns parts.now block × (block.exponents ≡ exponents)
         × (block.from ≡ from) × (block.len ≡ len)) }
 {
@@ -170,7 +170,7 @@ fn columns_of<'a>(block: &'a Block, volume: &Volume) -> &'a [Vec<u8>]
 // Writes the columns of a volume's recovery slices.
 fn fill_volume(text: &mut [u8], parts: &Parts, volume: &Volume, block: &Block)
     requires parts { HasSlices parts.now }
-    requires fits { 68 + parts.now.set.now.slice_size ≤ usize.MAX }
+    requires fits { 68 + parts.now.set.now.slice ≤ usize.MAX }
     requires block { HasColumns parts.now block.now }
     requires first { block.now.exponents.first ≤ volume.now.first }
     requires last { volume.now.first + volume.now.count ≤ block.now.exponents.end }
@@ -179,7 +179,7 @@ fn fill_volume(text: &mut [u8], parts: &Parts, volume: &Volume, block: &Block)
 {
     fit_id(&parts.set_id);
     let columns = columns_of(block, volume);
-    let size = parts.set.slice_size as usize;
+    let size = parts.set.slice as usize;
     write_columns(&mut text[parts.index.len()..], size, block.from, columns);
 }
 
@@ -187,7 +187,7 @@ fn fill_volume(text: &mut [u8], parts: &Parts, volume: &Volume, block: &Block)
 fn fill_at(texts: &mut [Vec<u8>], i: usize, parts: &Parts, volume: &Volume, block: &Block)
     requires place { i < length texts.old }
     requires parts { HasSlices parts.now }
-    requires fits { 68 + parts.now.set.now.slice_size ≤ usize.MAX }
+    requires fits { 68 + parts.now.set.now.slice ≤ usize.MAX }
     requires block { HasColumns parts.now block.now }
     requires first { block.now.exponents.first ≤ volume.now.first }
     requires last { volume.now.first + volume.now.count ≤ block.now.exponents.end }
@@ -203,7 +203,7 @@ fn fill_at(texts: &mut [Vec<u8>], i: usize, parts: &Parts, volume: &Volume, bloc
 // Writes those of all volumes.
 fn fill_volumes(texts: &mut [Vec<u8>], parts: &Parts, volumes: &[Volume], block: &Block)
     requires parts { HasSlices parts.now }
-    requires fits { 68 + parts.now.set.now.slice_size ≤ usize.MAX }
+    requires fits { 68 + parts.now.set.now.slice ≤ usize.MAX }
     requires block { HasColumns parts.now block.now }
     requires exponents { AreExponents block.now.exponents volumes.now }
     requires before { lists_of texts.old
@@ -225,17 +225,17 @@ fn filled(
     volumes: &[Volume],
 ) -> Result<Vec<Vec<u8>>, AllocError>
     requires parts { HasSlices parts.now }
-    requires fits { 68 + parts.now.set.now.slice_size ≤ usize.MAX }
+    requires fits { 68 + parts.now.set.now.slice ≤ usize.MAX }
     requires inputs { ListsInputs parts.now inputs.now }
     requires exponents { AllByRecursion
         (λ volume. volume.first + volume.count ≤ 65536) volumes.now }
     ensures { IfOk result (λ texts. lists_of texts.items
-        ≡ map (volume_up_to parts.now parts.now.set.now.slice_size) volumes.now) }
+        ≡ map (volume_up_to parts.now parts.now.set.now.slice) volumes.now) }
 {
     let mut texts = blank_volumes(alloc, parts, volumes)?;
     let exponents = exponents_of(volumes);
     let at_once = columns_at_once(inputs, exponents);
-    let size = parts.set.slice_size as usize;
+    let size = parts.set.slice as usize;
     let mut from = 0;
     while from < size {
         let len = at_once.min(size - from);
@@ -254,12 +254,12 @@ fn digest_volume(
     volume: &Volume,
 ) -> Result<(), AllocError>
     requires parts { HasSlices parts.now }
-    requires fits { 68 + parts.now.set.now.slice_size ≤ usize.MAX }
-    requires before { text.old ≡ volume_up_to parts.now parts.now.set.now.slice_size volume.now }
+    requires fits { 68 + parts.now.set.now.slice ≤ usize.MAX }
+    requires before { text.old ≡ volume_up_to parts.now parts.now.set.now.slice volume.now }
     ensures { OnOk result (text.new ≡ volume_text parts.now volume.now) }
 {
     fit_id(&parts.set_id);
-    let size = parts.set.slice_size as usize;
+    let size = parts.set.slice as usize;
     digest_recoveries(
         alloc,
         &mut text[parts.index.len()..],
@@ -278,9 +278,9 @@ fn digest_at(
 ) -> Result<(), AllocError>
     requires place { i < length texts.old }
     requires parts { HasSlices parts.now }
-    requires fits { 68 + parts.now.set.now.slice_size ≤ usize.MAX }
+    requires fits { 68 + parts.now.set.now.slice ≤ usize.MAX }
     requires before { list_at (lists_of texts.old) i
-        ≡ volume_up_to parts.now parts.now.set.now.slice_size volume.now }
+        ≡ volume_up_to parts.now parts.now.set.now.slice volume.now }
     ensures changed { OneChanged (lists_of texts.old) (lists_of texts.new) i }
     ensures here { OnOk result (list_at (lists_of texts.new) i ≡ volume_text parts.now volume.now) }
 {
@@ -295,9 +295,9 @@ fn digest_volumes(
     volumes: &[Volume],
 ) -> Result<(), AllocError>
     requires parts { HasSlices parts.now }
-    requires fits { 68 + parts.now.set.now.slice_size ≤ usize.MAX }
+    requires fits { 68 + parts.now.set.now.slice ≤ usize.MAX }
     requires before { lists_of texts.old
-        ≡ map (volume_up_to parts.now parts.now.set.now.slice_size) volumes.now }
+        ≡ map (volume_up_to parts.now parts.now.set.now.slice) volumes.now }
     ensures { OnOk result (lists_of texts.new ≡ map (volume_text parts.now) volumes.now) }
 {
     for i in 0..volumes.len() {
@@ -322,7 +322,7 @@ fn texts_over(
         (λ texts. lists_of texts.items ≡ map (volume_text parts.now) volumes.now) }
 {
     // Memory holds no packet that is longer.
-    if parts.set.slice_size > (usize::MAX - RECOVERY_HEAD) as u64 {
+    if parts.set.slice > (usize::MAX - RECOVERY_HEAD) as u64 {
         return Err(AllocError);
     }
     let mut texts = filled(alloc, gf, parts, inputs, volumes)?;

@@ -50,7 +50,7 @@ pub fn index_name(args: &CreateArgs) -> Result<Name, Fault>
     ensures accepted { IfOk result (λ _. head_fault (create_args_of args.now) ≡ None) }
     ensures name { IfOk result (λ name. name ≡ string_bytes args.now.base) }
 {
-    if !is_slice_size(args.slice_size) {
+    if !is_slice_size(args.slice) {
         return Err(Fault::BadSliceSize);
     }
     if !are_counts(args.first, args.count) {

@@ -43,7 +43,7 @@ by_unrepairable repairable long right m r missing rank e = not-true repairable (
 
 -- a file that is written has its digest
 abbrev pub has_digest : Target × List ℕ → Bool
-has_digest c = bytes_eq (md5 c.1) c.0.digest
+has_digest c = bytes_eq (md5 c.1) c.0.md5
 
 module _ (folder : Folder) (set : ParSet) (searched : List (List ℕ)) where
   abbrev missing : List ℕ
@@ -68,8 +68,8 @@ module _ (folder : Folder) (set : ParSet) (searched : List (List ℕ)) where
   unrepairable_by m r e = by_unrepairable repairable _ _ _ _ m r e
 
 -- each of them
-pub have_digests : (cs : List (Target × List ℕ)) → list_all has_digest cs ≡ true → AllByRecursion (λ c. md5 c.1 ≡ c.0.digest) cs
+pub have_digests : (cs : List (Target × List ℕ)) → list_all has_digest cs ≡ true → AllByRecursion (λ c. md5 c.1 ≡ c.0.md5) cs
 have_digests [] h = tt
 have_digests (c ∷ cs) h =
     let both = and_parts (has_digest c) (list_all has_digest cs) h in
-    ((bytes_eq-Decides (md5 c.1) c.0.digest).0 both.0, have_digests cs both.1)
+    ((bytes_eq-Decides (md5 c.1) c.0.md5).0 both.0, have_digests cs both.1)

@@ -22,7 +22,7 @@ pub fn accepted_repair_is_right()
         → IsRepairable (lost (known folder set searched)) (survivors set) }
     ensures digests { (folder : Folder) (set : ParSet) (searched : List (List ℕ))
         → repair_refusal folder set searched ≡ None
-        → AllByRecursion (λ c. md5 c.1 ≡ c.0.digest) (rebuilt_targets folder set searched) }
+        → AllByRecursion (λ c. md5 c.1 ≡ c.0.md5) (rebuilt_targets folder set searched) }
 {
     tests_say_the_words();
 }
@@ -36,7 +36,7 @@ pub fn failed_repair_is_wrong()
     ensures digests { (folder : Folder) (set : ParSet) (searched : List (List ℕ))
         → repair_refusal folder set searched ≡ Some RepairFailed
         → let written = rebuilt_targets folder set searched in
-        IsFalse (list_all (λ c. bytes_eq (md5 c.1) c.0.digest) written) }
+        IsFalse (list_all (λ c. bytes_eq (md5 c.1) c.0.md5) written) }
 {
     tests_say_the_words();
 }

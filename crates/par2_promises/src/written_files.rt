@@ -38,12 +38,12 @@ pub fn written_files_are_as_described()
     ensures lengths { (folder : Folder) (base : List ℕ) (extras : List (List ℕ)) (set : ParSet)
         → HoldsBytes folder → set_in folder base extras ≡ Ok set
         → let written = rebuilt_targets folder set (candidates folder set extras) in
-        AllByRecursion (λ c. length c.1 ≡ c.0.size) written }
+        AllByRecursion (λ c. length c.1 ≡ c.0.length) written }
     ensures digests { (folder : Folder) (base : List ℕ) (extras : List (List ℕ)) (purge : Bool)
         (set : ParSet) → set_in folder base extras ≡ Ok set
         → refusal folder (Repair base extras purge) ≡ None
         → let written = rebuilt_targets folder set (candidates folder set extras) in
-        AllByRecursion (λ c. md5 c.1 ≡ c.0.digest) written }
+        AllByRecursion (λ c. md5 c.1 ≡ c.0.md5) written }
 {
     set_is_of_the_base();
     set_is_sound();

@@ -157,17 +157,17 @@ are_rebuilt s known recs kept_ones texts inverse made even are_known same fit by
     found = agrees_from s known kept_ones made even are_known sized count are meets
 
 pub lost_among : (survivors : code.Survivors) → lost (known_among survivors) ≡ lost_from 0 survivors.known.items
-lost_among survivors = lost_is (known_among survivors) ∙ lost_of_map (λ slice. padded survivors.slice_size slice.now) 0 survivors.known.items
+lost_among survivors = lost_is (known_among survivors) ∙ lost_of_map (λ slice. padded survivors.slice slice.now) 0 survivors.known.items
 
 -- what `rebuild` answers, by what it found of the kept exponents
 pub answer : (survivors : code.Survivors) → CanRebuild survivors → (missing : List ℕ) (found kept_ones : List (ℕ × Bor (List ℕ))) (rows inverse made : List (List ℕ)) → missing ≡ lost_from 0 survivors.known.items
     → kept_ones ≡ found → inverse ≡ rows
     → recovered_of found ≡ kept_slices missing (exponents_of survivors.recovery.items) (recovered_of survivors.recovery.items) → IsInverse missing (exponents_of found) rows
     → IsRepairable missing (exponents_of survivors.recovery.items) → AreBytes (texts_of (known_alone survivors.known.items)) → AreBytes (map (λ r. r.1) (recovered_of kept_ones))
-    → AreSolved survivors.slice_size inverse (map (λ r. coefficients (known_from 0 survivors.known.items) r.0) (recovered_of kept_ones)) (texts_of (known_alone survivors.known.items)) (map (λ r. r.1) (recovered_of kept_ones)) made
+    → AreSolved survivors.slice inverse (map (λ r. coefficients (known_from 0 survivors.known.items) r.0) (recovered_of kept_ones)) (texts_of (known_alone survivors.known.items)) (map (λ r. r.1) (recovered_of kept_ones)) made
     → AreRebuilt survivors (with_lost_slices (known_among survivors) made) × (length made ≡ length (lost (known_among survivors)))
 answer survivors can missing found kept_ones rows inverse made lost_are same_kept same_rows chosen is enough bytes kept_bytes solved =
-    let s : ℕ = survivors.slice_size in
+    let s : ℕ = survivors.slice in
     let raw : List (Option (Bor (List ℕ))) = survivors.known.items in
     let known : List (Option (List ℕ)) = known_among survivors in
     let texts : List (List ℕ) = texts_of (known_alone raw) in

@@ -35,7 +35,7 @@ no_slice_kept exponents recovery = filter-none _ recovery (λ r. ap (list_any (�
 
 pub nothing_lost : (survivors : code.Survivors) → All IsKnown survivors.known.items → lost (known_among survivors) ≡ []
 nothing_lost survivors all =
-    lost_is (known_among survivors) ∙ lost_of_map (λ slice. padded survivors.slice_size slice.now) 0 survivors.known.items ∙ none_lost 0 survivors.known.items all
+    lost_is (known_among survivors) ∙ lost_of_map (λ slice. padded survivors.slice slice.now) 0 survivors.known.items ∙ none_lost 0 survivors.known.items all
 
 pub known_are_enough : (survivors : code.Survivors) → All IsKnown survivors.known.items → AreEnough survivors
 known_are_enough survivors all = subst (λ l. IsRepairable l (exponents_of survivors.recovery.items)) (sym (nothing_lost survivors all)) none_unknown
@@ -46,7 +46,7 @@ known_are_enough survivors all = subst (λ l. IsRepairable l (exponents_of survi
 
 pub known_are_rebuilt : (survivors : code.Survivors) → CanRebuild survivors → All IsKnown survivors.known.items → AreRebuilt survivors (with_lost_slices (known_among survivors) [])
 known_are_rebuilt survivors can all =
-    let s = survivors.slice_size in
+    let s = survivors.slice in
     let slices : List (Option (Bor (List ℕ))) = survivors.known.items in
     let known : List (Option (List ℕ)) = known_among survivors in
     let exponents = exponents_of survivors.recovery.items in

@@ -11,21 +11,21 @@ use Rattle.par2_recovery.specs.declared.rebuild_slices.Survivors.{Survivors}
 -- what `rebuild` wants of them
 pub record CanRebuild (survivors : Survivors) : Type 0 where
   pub count : length survivors.known.items ≤ 32768
-  pub even : survivors.slice_size % 2 ≡ 0
-  pub known : AllByRecursion (λ slice. length slice.now ≤ survivors.slice_size) (known_alone survivors.known.items)
-  pub recovery : AllByRecursion (λ r. length r.1 ≡ survivors.slice_size) (recovered_of survivors.recovery.items)
+  pub even : survivors.slice % 2 ≡ 0
+  pub known : AllByRecursion (λ slice. length slice.now ≤ survivors.slice) (known_alone survivors.known.items)
+  pub recovery : AllByRecursion (λ r. length r.1 ≡ survivors.slice) (recovered_of survivors.recovery.items)
   pub exponents : IsStrictlyIncreasing (exponents_of survivors.recovery.items)
 
 -- the slices that are known among them, with their padding
 abbrev pub known_among : Survivors → List (Option (List ℕ))
-known_among survivors = known_of survivors.slice_size survivors.known.items
+known_among survivors = known_of survivors.slice survivors.known.items
 
 -- these slices alone agree with them
 abbrev pub AreRebuilt : Survivors → List (List ℕ) → Type 0
 AreRebuilt survivors slices =
     let known = known_among survivors in
     let exponents = exponents_of survivors.recovery.items in
-    IsRebuilt survivors.slice_size known (kept_slices (lost known) exponents (recovered_of survivors.recovery.items)) slices
+    IsRebuilt survivors.slice known (kept_slices (lost known) exponents (recovered_of survivors.recovery.items)) slices
 
 -- they determine the lost slices
 abbrev pub AreEnough : Survivors → Type 0

@@ -1,7 +1,7 @@
 //! What a set says of a file, made from the file's bytes.
 
 ghost use Rattle.std.specs.Prelude.{◌≡◌, ◌≤◌, take, IfOk};
-ghost use Rattle.md5.specs.Md5.{md5};
+ghost use Rattle.md5.specs.Md5 as hash;
 ghost use Rattle.par2_spec.specs.Volumes.{record_of};
 ghost use Rattle.par2_packets.specs.Views.{file_record_of};
 
@@ -26,20 +26,20 @@ pub fn file_record_by_md5(
     alloc: Global,
     name: &str,
     bytes: &[u8],
-    digest: [u8; 16],
+    md5: [u8; 16],
     s: u64,
 ) -> Result<FileRecord, AllocError>
     requires size { 1 ≤ s }
-    requires digest { digest ≡ md5 bytes.now }
+    requires digest { md5 ≡ hash.md5 bytes.now }
     ensures { IfOk result (λ made. file_record_of made ≡ record_of s (name.now, bytes.now)) }
 {
-    let digest_16k = Md5::digest(first_bytes(bytes, HEAD));
-    let size = bytes.len() as u64;
+    let md5_16k = Md5::digest(first_bytes(bytes, HEAD));
+    let length = bytes.len() as u64;
     Ok(FileRecord {
-        id: file_id(&digest_16k, size, name),
-        digest,
-        digest_16k,
-        size,
+        id: file_id(&md5_16k, length, name),
+        md5,
+        md5_16k,
+        length,
         name: String::from_str(alloc, name)?,
         pairs: pairs_of(alloc, bytes, s)?,
     })

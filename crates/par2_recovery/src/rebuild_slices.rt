@@ -26,7 +26,7 @@ use thiserror::Error;
 #[derive(Drop)]
 pub struct Survivors<'a> {
     /// The slice size in bytes.
-    pub slice_size: usize,
+    pub slice: usize,
     /// For each slice its bytes, of which zeros may be missing at the end, or None where it is lost.
     pub known: Vec<Option<&'a [u8]>>,
     /// The recovery slices with their exponents, which rise.
@@ -167,22 +167,22 @@ fn lost_by_run(
     inverse: &[Vec<u16>],
 ) -> Result<Vec<Vec<u8>>, AllocError>
     requires count { length survivors.now.known.items ≤ 32768 }
-    requires even { survivors.now.slice_size % 2 ≡ 0 }
+    requires even { survivors.now.slice % 2 ≡ 0 }
     requires inverse { (r : ℕ)
         → r < length inverse.now → length kept.now ≤ length (list_at (lists_of inverse.now) r) }
     requires kept { AllByRecursion (λ r. length r.1
-        ≡ survivors.now.slice_size) (recovered_of kept.now) }
+        ≡ survivors.now.slice) (recovered_of kept.now) }
     requires run { AreRun first (recovered_of kept.now) }
     requires few { first + length kept.now ≤ 2 ^ 32 }
     ensures { let known = survivors.now.known.items in
-        IfOk result (λ texts. AreSolved survivors.now.slice_size (lists_of inverse.now)
+        IfOk result (λ texts. AreSolved survivors.now.slice (lists_of inverse.now)
         (map (λ r. coefficients (known_from 0 known) r.0) (recovered_of kept.now))
         (texts_of (known_alone known)) (map (λ r. r.1) (recovered_of kept.now))
         (lists_of texts.items)) }
 {
     let recovery = bytes_of(alloc, kept)?;
     let slices = slices_or_none(alloc, &survivors.known)?;
-    let size = survivors.slice_size;
+    let size = survivors.slice;
     solved_run(alloc, gf, inverse, first, &recovery, &slices, size)
 }
 
@@ -196,14 +196,14 @@ fn lost_by_rows(
     inverse: &[Vec<u16>],
 ) -> Result<Vec<Vec<u8>>, AllocError>
     requires count { length survivors.now.known.items ≤ 32768 }
-    requires even { survivors.now.slice_size % 2 ≡ 0 }
+    requires even { survivors.now.slice % 2 ≡ 0 }
     requires inverse { (r : ℕ)
         → r < length inverse.now → length kept.now ≤ length (list_at (lists_of inverse.now) r) }
     requires kept { AllByRecursion (λ r. length r.1
-        ≡ survivors.now.slice_size) (recovered_of kept.now) }
+        ≡ survivors.now.slice) (recovered_of kept.now) }
     requires known { known.now ≡ known_alone survivors.now.known.items }
     ensures { let known = survivors.now.known.items in
-        IfOk result (λ texts. AreSolved survivors.now.slice_size (lists_of inverse.now)
+        IfOk result (λ texts. AreSolved survivors.now.slice (lists_of inverse.now)
         (map (λ r. coefficients (known_from 0 known) r.0) (recovered_of kept.now))
         (texts_of (known_alone known)) (map (λ r. r.1) (recovered_of kept.now))
         (lists_of texts.items)) }
@@ -211,7 +211,7 @@ fn lost_by_rows(
     let numbers = known_numbers(alloc, &survivors.known)?;
     let coefficients = coefficient_rows(alloc, gf, kept, &numbers)?;
     let recovery = bytes_of(alloc, kept)?;
-    let size = survivors.slice_size;
+    let size = survivors.slice;
     solved(alloc, gf, inverse, &coefficients, &recovery, known, size)
 }
 
@@ -224,13 +224,13 @@ fn lost_slices(
     inverse: &[Vec<u16>],
 ) -> Result<Vec<Vec<u8>>, AllocError>
     requires count { length survivors.now.known.items ≤ 32768 }
-    requires even { survivors.now.slice_size % 2 ≡ 0 }
+    requires even { survivors.now.slice % 2 ≡ 0 }
     requires inverse { (r : ℕ)
         → r < length inverse.now → length kept.now ≤ length (list_at (lists_of inverse.now) r) }
     requires kept { AllByRecursion (λ r. length r.1
-        ≡ survivors.now.slice_size) (recovered_of kept.now) }
+        ≡ survivors.now.slice) (recovered_of kept.now) }
     ensures solved { let known = survivors.now.known.items in
-        IfOk result (λ texts. AreSolved survivors.now.slice_size (lists_of inverse.now)
+        IfOk result (λ texts. AreSolved survivors.now.slice (lists_of inverse.now)
         (map (λ r. coefficients (known_from 0 known) r.0) (recovered_of kept.now))
         (texts_of (known_alone known)) (map (λ r. r.1) (recovered_of kept.now))
         (lists_of texts.items)) }

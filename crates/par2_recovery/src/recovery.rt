@@ -188,13 +188,13 @@ pub fn input_slices<'a>(
     record: &SetRecord,
     folder: &'a Folder,
 ) -> Result<Vec<&'a [u8]>, AllocError>
-    requires { 1 ≤ record.now.slice_size }
-    ensures { IfOk result (λ all. map (spec.padded record.now.slice_size) (texts_of all.items)
-        ≡ all_slices record.now.slice_size (files_of folder.now.files (names_of record.now))) }
+    requires { 1 ≤ record.now.slice }
+    ensures { IfOk result (λ all. map (spec.padded record.now.slice) (texts_of all.items)
+        ≡ all_slices record.now.slice (files_of folder.now.files (names_of record.now))) }
 {
     let mut all = Vec::new(alloc);
     for i in 0..record.files.len() {
-        all = with_slices(all, bytes_of(folder, name_at(record, i)), record.slice_size)?;
+        all = with_slices(all, bytes_of(folder, name_at(record, i)), record.slice)?;
     }
     Ok(all)
 }
@@ -207,16 +207,16 @@ pub fn recovery_slice(
     folder: &Folder,
     e: u32,
 ) -> Result<Vec<u8>, AllocError>
-    requires size { 1 ≤ record.now.slice_size }
-    requires even { record.now.slice_size % 2 ≡ 0 }
+    requires size { 1 ≤ record.now.slice }
+    requires even { record.now.slice % 2 ≡ 0 }
     requires slices { length
-        (all_slices record.now.slice_size (files_of folder.now.files (names_of record.now)))
+        (all_slices record.now.slice (files_of folder.now.files (names_of record.now)))
         ≤ 32768 }
-    ensures { IfOk result (λ text. text.items ≡ recovery record.now.slice_size
-        (all_slices record.now.slice_size (files_of folder.now.files (names_of record.now))) e) }
+    ensures { IfOk result (λ text. text.items ≡ recovery record.now.slice
+        (all_slices record.now.slice (files_of folder.now.files (names_of record.now))) e) }
 {
     let slices = input_slices(alloc, record, folder)?;
-    let size = record.slice_size as usize;
+    let size = record.slice as usize;
     let mut texts = recovery_slices_over(alloc, gf, &slices, size, e, 1)?;
     Ok(texts.remove(0))
 }

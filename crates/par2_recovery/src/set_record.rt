@@ -25,7 +25,7 @@ use thiserror::Error;
 #[derive(Drop)]
 pub struct SetRecord {
     /// The slice size in bytes.
-    pub slice_size: u64,
+    pub slice: u64,
     /// The files, in the order of their File IDs.
     pub files: Vec<FileRecord>,
 }
@@ -114,7 +114,7 @@ impl SetRecord {
         s: u64,
     ) -> Result<SetRecord, RecordFault>
         requires { 1 ≤ s }
-        ensures slice { IfOk result (λ set. set.slice_size ≡ s) }
+        ensures slice { IfOk result (λ set. set.slice ≡ s) }
         ensures files { IfOk result (λ set.
             AreRecords s (in_id_order (files_of folder.now.files names.now)) set.files.items) }
         ensures order { IfOk result (λ set. files_of folder.now.files (names_of set)
@@ -138,7 +138,7 @@ impl SetRecord {
     pub fn of_records(mut files: Vec<FileRecord>, s: u64) -> Result<SetRecord, DuplicateId>
         ensures distinct { IsOk result
             ↔ IsDistinct bytes_eq (map (λ file. file.id) files.items) }
-        ensures slice { IfOk result (λ set. set.slice_size ≡ s) }
+        ensures slice { IfOk result (λ set. set.slice ≡ s) }
         ensures rising { IfOk result
             (λ set. IsStrictlyIncreasing (map id_number set.files.items)) }
         ensures permutation { IfOk result (λ set. IsPermutation files.items set.files.items) }
@@ -151,7 +151,7 @@ impl SetRecord {
     {
         sort_ids(files.as_mut_slice())?;
         Ok(SetRecord {
-            slice_size: s,
+            slice: s,
             files,
         })
     }

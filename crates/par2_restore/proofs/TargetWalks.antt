@@ -18,7 +18,7 @@ use Rattle.par2_spec.specs.Sets.{Target}
 use Rattle.par2_restore.specs.Restoring.{files_of, target_at, has_digest, wrong_digest, IsAsDescribed}
 
 abbrev pub walked : List Target → List (List ℕ) → List (Target × List ℕ)
-walked ts slices = map (λ z. (z.0, take z.0.size (concat z.1))) (zip ts (cut_into (map (λ t. length t.pairs) ts) slices))
+walked ts slices = map (λ z. (z.0, take z.0.length (concat z.1))) (zip ts (cut_into (map (λ t. length t.pairs) ts) slices))
 
 -- those of these names
 abbrev pub among : List (List ℕ) → List Target → List (List ℕ) → List (Target × List ℕ)
@@ -45,12 +45,12 @@ items_more {X} item names t ts slices first false old new is made =
 -- ---- digests
 
 -- the digests of all files are right where each is
-pub all_right : (cs : List (Target × List ℕ)) → pointwise bytes_eq (map (λ (file : File). md5 file.1) (files_of cs)) (map (λ c. c.0.digest) cs) ≡ list_all has_digest cs
+pub all_right : (cs : List (Target × List ℕ)) → pointwise bytes_eq (map (λ (file : File). md5 file.1) (files_of cs)) (map (λ c. c.0.md5) cs) ≡ list_all has_digest cs
 all_right [] = refl
 all_right (c ∷ cs) = ap (λ b. has_digest c && b) (all_right cs)
 
 -- targets of the right sizes and digests, chosen by a test
-pub described : (p : Target × List ℕ → Bool) (cs : List (Target × List ℕ)) → AllByRecursion (λ c. length c.1 ≡ c.0.size) cs → list_all has_digest (filter p cs) ≡ true → AllByRecursion IsAsDescribed (filter p cs)
+pub described : (p : Target × List ℕ → Bool) (cs : List (Target × List ℕ)) → AllByRecursion (λ c. length c.1 ≡ c.0.length) cs → list_all has_digest (filter p cs) ≡ true → AllByRecursion IsAsDescribed (filter p cs)
 described p [] sizes digests = tt
 described p (c ∷ cs) sizes digests = step (p c) (described p cs sizes.1) digests
   where
@@ -59,7 +59,7 @@ described p (c ∷ cs) sizes digests = step (p c) (described p cs sizes.1) diges
     step false others h = others h
     step true others h =
         let parts = and_parts (has_digest c) (list_all has_digest (filter p cs)) h in
-        (record { length = sizes.0; digest = (bytes_eq-Decides (md5 c.1) c.0.digest).0 parts.0 }, others parts.1)
+        (record { length = sizes.0; md5 = (bytes_eq-Decides (md5 c.1) c.0.md5).0 parts.0 }, others parts.1)
 
 -- ---- why they are refused
 

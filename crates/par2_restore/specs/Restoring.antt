@@ -34,11 +34,11 @@ files_of targets = map (λ c. (c.0.name, c.1)) targets
 
 -- a target whose slices begin with that of number `first`, with its bytes
 abbrev pub target_at : List (List ℕ) → ℕ → Target → Target × List ℕ
-target_at slices first t = (t, take t.size (concat (take (length t.pairs) (drop first slices))))
+target_at slices first t = (t, take t.length (concat (take (length t.pairs) (drop first slices))))
 
 -- the bytes have the digest that the target describes
 abbrev pub has_digest : Target × List ℕ → Bool
-has_digest c = bytes_eq (md5 c.1) c.0.digest
+has_digest c = bytes_eq (md5 c.1) c.0.md5
 
 -- why they are refused, if they are: one has another digest than its target
 abbrev pub wrong_digest : List (Target × List ℕ) → Option Fault
@@ -46,5 +46,5 @@ wrong_digest targets = fault_where (not (list_all has_digest targets)) RepairFai
 
 -- a file has the length and the digest that its target describes
 pub record IsAsDescribed (c : Target × List ℕ) : Type 0 where
-  pub length : length c.1 ≡ c.0.size
-  pub digest : md5 c.1 ≡ c.0.digest
+  pub length : length c.1 ≡ c.0.length
+  pub md5 : md5 c.1 ≡ c.0.md5

@@ -11,8 +11,8 @@ use Rattle.par2_recovery.specs.declared.rebuild_slices.Survivors.{Survivors}
 
 -- they are a set's, of which these slices are known
 pub record AreSurvivors (set : ParSet) (slices : List (Option (List ℕ))) (survivors : Survivors) : Type 0 where
-  pub size : survivors.slice_size ≡ set.slice_size
-  pub known : known_of survivors.slice_size survivors.known.items ≡ slices
+  pub size : survivors.slice ≡ set.slice_size
+  pub known : known_of survivors.slice survivors.known.items ≡ slices
   pub recovery : recovered_of survivors.recovery.items ≡ entries set.recovery
 
 -- why a repair is refused where this is why nothing is rebuilt

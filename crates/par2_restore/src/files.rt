@@ -41,7 +41,7 @@ fn file_of(
     ensures { let c = target_at slices.now first target.now in
         IfOk result (λ file. file ≡ (c.0.name, c.1)) }
 {
-    let bytes = slices.file(alloc, first, target.pairs().len(), target.size())?;
+    let bytes = slices.file(alloc, first, target.pairs().len(), target.length())?;
     Ok((target.name().copied(), Bytes::from(bytes)))
 }
 
@@ -64,9 +64,9 @@ fn made_files(
     ensures files { let targets = targets_among set.now slices.now names.now in
         IfOk result (λ made. made.files.items ≡ files_of targets) }
     ensures md5s { let targets = targets_among set.now slices.now names.now in
-        IfOk result (λ made. made.md5s.items ≡ map (λ c. c.0.digest) targets) }
+        IfOk result (λ made. made.md5s.items ≡ map (λ c. c.0.md5) targets) }
     ensures lengths { let all = files_of_slices set.now slices.now in
-        IfOk result (λ _. AllByRecursion (λ c. length c.1 ≡ c.0.size) all) }
+        IfOk result (λ _. AllByRecursion (λ c. length c.1 ≡ c.0.length) all) }
 {
     // The law that says so.
     written_files_have_their_length();
@@ -77,7 +77,7 @@ fn made_files(
     for target in set.targets() {
         if tree.contains(&target.name()) {
             files.push(file_of(alloc, target, slices, first)?)?;
-            md5s.push(target.digest())?;
+            md5s.push(target.md5())?;
         }
         first += target.pairs().len();
     }

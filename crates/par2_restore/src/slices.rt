@@ -56,7 +56,7 @@ impl<'a> Model for Slices<'a> {
 
     ghost Value = { List (List ℕ) };
 
-    ghost view = { λ a. slices_of a.slice_size a.slices.items };
+    ghost view = { λ a. slices_of a.slice a.slices.items };
 }
 
 // Adds a slice to the first bytes of a file, with the zeros that are missing in it, as far as the file goes.
@@ -136,7 +136,7 @@ fn survivors_of<'a>(
     let slice_size = set.slice_size();
     let pairs = all_pairs(alloc, set)?;
     Ok(Survivors {
-        slice_size: slice_size as usize,
+        slice: slice_size as usize,
         known: found_windows(alloc, texts, slice_size, &pairs)?,
         recovery: Vec::from_slice(alloc, set.recovery())?,
     })
@@ -182,7 +182,7 @@ fn slices_by<'a>(alloc: Global, survivors: &Survivors<'a>) -> Result<Slices<'a>,
 {
     let rebuilt = rebuild_lost(alloc, survivors)?;
     Ok(Slices {
-        slice_size: survivors.slice_size,
+        slice_size: survivors.slice,
         slices: merged(alloc, &survivors.known, rebuilt)?,
     })
 }

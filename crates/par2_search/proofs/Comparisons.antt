@@ -47,12 +47,12 @@ match_each s bytes (pair ∷ pairs) a (suc k) h =
 
 -- the pairs that have a slice
 abbrev pub compared : ℕ → Target → List Pair
-compared s t = take (min (length t.pairs) (slice_count s t.size)) t.pairs
+compared s t = take (min (length t.pairs) (slice_count s t.length)) t.pairs
 
-pub compared_is : (s : ℕ) (t : Target) (size count n : ℕ) (pairs : List Pair) → t.size ≡ size → t.pairs ≡ pairs → count ≡ slice_count s size → n ≡ min (length pairs) count → take n pairs ≡ compared s t
+pub compared_is : (s : ℕ) (t : Target) (size count n : ℕ) (pairs : List Pair) → t.length ≡ size → t.pairs ≡ pairs → count ≡ slice_count s size → n ≡ min (length pairs) count → take n pairs ≡ compared s t
 compared_is s t size count n pairs size_is pairs_is count_is n_is =
     ap (λ k. take k pairs) (n_is ∙ ap (min (length pairs)) (count_is ∙ ap (slice_count s) (sym size_is)))
-    ∙ ap (λ (ps : List Pair). take (min (length ps) (slice_count s t.size)) ps) (sym pairs_is)
+    ∙ ap (λ (ps : List Pair). take (min (length ps) (slice_count s t.length)) ps) (sym pairs_is)
 
 -- each has the checksums of its slice
 pub record AreAlike (s : ℕ) (bytes : List ℕ) (pairs : List Pair) : Type 0 where
@@ -61,9 +61,9 @@ pub record AreAlike (s : ℕ) (bytes : List ℕ) (pairs : List Pair) : Type 0 wh
 
 alike_from_intact : (s : ℕ) (t : Target) (bytes : List ℕ) → is_intact s t bytes ≡ true → AreAlike s bytes (compared s t)
 alike_from_intact s t bytes h =
-    let parts = and_parts (length bytes == t.size) _ h in
-    let size : length bytes ≡ t.size = eqb-true (length bytes) t.size parts.0 in
-    let n : ℕ = min (length t.pairs) (slice_count s t.size) in
+    let parts = and_parts (length bytes == t.length) _ h in
+    let size : length bytes ≡ t.length = eqb-true (length bytes) t.length parts.0 in
+    let n : ℕ = min (length t.pairs) (slice_count s t.length) in
     let Alike : ℕ → Type 0 = λ j. (crc32 (slice_at s bytes j) ≡ (pair_at (compared s t) j).1) × (md5 (slice_at s bytes j) ≡ (pair_at (compared s t) j).0) in
     let each : (j : ℕ) → j < length (compared s t) → Alike j = λ j within.
     let low : j < n = omega (arith, within, length-take n t.pairs) in
@@ -74,12 +74,12 @@ alike_from_intact s t bytes h =
     in
     record { crcs = λ j within. (each j within).0; digests = λ j _ within. (each j within).1 }
 
-intact_from_alike : (s : ℕ) (t : Target) (bytes : List ℕ) → length bytes ≡ t.size → AreAlike s bytes (compared s t) → is_intact s t bytes ≡ true
+intact_from_alike : (s : ℕ) (t : Target) (bytes : List ℕ) → length bytes ≡ t.length → AreAlike s bytes (compared s t) → is_intact s t bytes ≡ true
 intact_from_alike s t bytes size alike =
-    let n : ℕ = min (length t.pairs) (slice_count s t.size) in
-    ap (λ b. b && all_match s bytes t.pairs 0 (slice_count s (length bytes))) (eq-eqb (length bytes) t.size size)
+    let n : ℕ = min (length t.pairs) (slice_count s t.length) in
+    ap (λ b. b && all_match s bytes t.pairs 0 (slice_count s (length bytes))) (eq-eqb (length bytes) t.length size)
     ∙ match_each s bytes t.pairs 0 (slice_count s (length bytes)) (λ j i is within few.
-    let few' : j < slice_count s t.size = subst (λ k. j < slice_count s k) size few in
+    let few' : j < slice_count s t.length = subst (λ k. j < slice_count s k) size few in
     let low : j < n = omega (arith, within, few') in
     let same : pair_at (compared s t) j ≡ pair_at t.pairs j = get_or-take n t.pairs j no_pair low in
     let inside : j < length (compared s t) = omega (arith, low, within, length-take n t.pairs) in
@@ -89,7 +89,7 @@ intact_from_alike s t bytes size alike =
     (alike.digests j (omega arith) inside ∙ ap (λ (p : Pair). p.0) same))
 
 -- where the CRC-32s agree, the MD5s decide
-pub intact_by_md5s : (s : ℕ) (t : Target) (bytes : List ℕ) (first : List Pair) (digests : Bool) → length bytes ≡ t.size → first ≡ compared s t → HaveCrc32s s bytes first → Decides digests (HaveMd5s s bytes first 0 (length first)) → digests ≡ is_intact s t bytes
+pub intact_by_md5s : (s : ℕ) (t : Target) (bytes : List ℕ) (first : List Pair) (digests : Bool) → length bytes ≡ t.length → first ≡ compared s t → HaveCrc32s s bytes first → Decides digests (HaveMd5s s bytes first 0 (length first)) → digests ≡ is_intact s t bytes
 intact_by_md5s s t bytes first digests size is crcs decides =
     same_from_decides {P = AreAlike s bytes first} digests (is_intact s t bytes)
     (λ e. record { crcs = crcs; digests = decides.0 e }, λ alike. decides.1 alike.digests) (

@@ -11,12 +11,12 @@ use Rattle.par2_search.specs.declared.matching.Target.{Target}
 abbrev pub text_at : List (List ℕ) → ℕ → List ℕ
 text_at texts i = slice_index_or texts i []
 
--- a target has this size and these pairs
+-- a target has this length and these pairs
 pub record Describes (target : Target) (t : sets.Target) : Type 0 where
-  pub size : t.size ≡ target.size
+  pub length : t.length ≡ target.length
   pub pairs : t.pairs ≡ target.pairs.now
 
--- each target has its size and its pairs, in order
+-- each target has its length and its pairs, in order
 abbrev pub Describe : List Target → List sets.Target → Type 0
 Describe [] [] = Unit {0}
 Describe (target ∷ targets) (t ∷ ts) = Describes target t × Describe targets ts

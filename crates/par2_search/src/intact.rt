@@ -105,7 +105,7 @@ fn have_md5s(bytes: &[u8], s: u64, pairs: &[Pair]) -> bool
 /// slices.
 pub fn is_intact(bytes: &[u8], s: u64, size: u64, pairs: &[Pair]) -> bool
     requires { 1 ≤ s }
-    ensures { (t : sets.Target) → t.size ≡ size → t.pairs ≡ pairs.now
+    ensures { (t : sets.Target) → t.length ≡ size → t.pairs ≡ pairs.now
         → result ≡ search.is_intact s t bytes.now }
 {
     if bytes.len() as u64 != size {

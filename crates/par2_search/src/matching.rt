@@ -11,10 +11,10 @@ use crate::intact::is_intact;
 use par2_slices::Pair;
 use std::alloc::{AllocError, Global};
 
-/// A target, by the size of its file and the checksums of its slices.
+/// A target, by the length of its file and the checksums of its slices.
 #[derive(Clone, Copy, Drop)]
 pub struct Target<'a> {
-    pub size: u64,
+    pub length: u64,
     pub pairs: &'a [Pair],
 }
 
@@ -33,7 +33,7 @@ fn first_intact(texts: &[&[u8]], s: u64, target: &Target, free: &[usize]) -> Opt
         → result ≡ first_intact s (texts_of texts.now) t free.now }
 {
     for &i in free {
-        if is_intact(texts[i], s, target.size, target.pairs) {
+        if is_intact(texts[i], s, target.length, target.pairs) {
             return Some(i);
         }
     }

@@ -112,12 +112,12 @@ pub fn repair(
     ensures lengths { (set : ParSet) → HoldsBytes session.old.folder.files
         → set_in session.old.folder.files base.now (map string_bytes extras.now) ≡ Ok set
         → let searched = candidates session.old.folder.files set (map string_bytes extras.now) in
-        OnOk result (AllByRecursion (λ c. length c.1 ≡ c.0.size)
+        OnOk result (AllByRecursion (λ c. length c.1 ≡ c.0.length)
         (rebuilt_targets session.old.folder.files set searched)) }
     ensures digests { (set : ParSet)
         → set_in session.old.folder.files base.now (map string_bytes extras.now) ≡ Ok set
         → let searched = candidates session.old.folder.files set (map string_bytes extras.now) in
-        OnOk result (AllByRecursion (λ c. md5 c.1 ≡ c.0.digest)
+        OnOk result (AllByRecursion (λ c. md5 c.1 ≡ c.0.md5)
         (rebuilt_targets session.old.folder.files set searched)) }
     // without a purge the folder is told file by file: targets, asides, all others as they were,
     ensures holds { (set : ParSet) → IsFalse purge

@@ -16,8 +16,8 @@ abbrev pub target_code : Coded Target
 target_code =
     code_by (List ℕ × (ℕ × (List ℕ × List Pair)))
     (coded× bytes_code (coded× coded_ℕ (coded× bytes_code (coded_list (coded× bytes_code coded_ℕ)))))
-    (λ t. (t.name, (t.size, (t.digest, t.pairs))))
-    (λ p. record { name = p.0; size = p.1.0; digest = p.1.1.0; pairs = p.1.1.1 })
+    (λ t. (t.name, (t.length, (t.md5, t.pairs))))
+    (λ p. record { name = p.0; length = p.1.0; md5 = p.1.1.0; pairs = p.1.1.1 })
     (λ _. refl)
 
 -- recovery slices by their exponents

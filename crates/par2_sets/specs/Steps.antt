@@ -30,7 +30,7 @@ descriptions_of packets ids = ok_or (all_some (map (description_of packets) ids)
 -- the checksums of a file's slices
 abbrev pub checksums_for : List Packet → ℕ → DescBody → Result (List Pair) Fault
 checksums_for packets s d =
-    ok_or (if d.size == 0 then Some [] else pairs_of packets d.id (slice_count s d.size)) NoChecksums
+    ok_or (if d.length == 0 then Some [] else pairs_of packets d.id (slice_count s d.length)) NoChecksums
 
 -- the target of a description
 abbrev pub target_or_fault : List Packet → ℕ → DescBody → Result Target Fault

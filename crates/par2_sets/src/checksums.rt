@@ -68,10 +68,10 @@ pub(crate) fn pairs_for(
     ensures { (packets : List spec.Packet) → HoldChecksums packets firsts.now →
         Gives (λ list. list.items) result (checksums_for packets s description.now) }
 {
-    if description.size() == 0 {
+    if description.length() == 0 {
         return Ok(Vec::new(alloc));
     }
-    let count = slice_count(s, description.size());
+    let count = slice_count(s, description.length());
     let checksums = checksums_of(firsts, description.id(), count).ok_or(Fault::NoChecksums)?;
     Ok(pairs_in(alloc, checksums)?)
 }

@@ -29,11 +29,11 @@ pub(crate) fn slice_count(s: u64, size: u64) -> u64
 // Whether the files have no more slices than a set may have.
 fn have_few_slices(s: u64, descriptions: &[DescView]) -> bool
     requires { 1 ≤ s }
-    ensures { result ≡ nat_le (sum_by (λ d. slice_count s d.size) descriptions.now) 32768 }
+    ensures { result ≡ nat_le (sum_by (λ d. slice_count s d.length) descriptions.now) 32768 }
 {
     let mut left = MOST_SLICES;
     for description in descriptions {
-        let count = slice_count(s, description.size());
+        let count = slice_count(s, description.length());
         if count > left {
             return false;
         }

@@ -17,8 +17,8 @@ use std::marker::Model;
 #[derive(Debug, Drop)]
 pub struct Target {
     name: Name,
-    size: u64,
-    digest: [u8; 16],
+    length: u64,
+    md5: [u8; 16],
     pairs: Vec<Pair>,
 }
 
@@ -28,7 +28,7 @@ impl Model for Target {
     ghost Value = { Described };
 
     ghost view = { λ t.
-        record { name = t.name; size = t.size; digest = t.digest; pairs = t.pairs.items } };
+        record { name = t.name; length = t.length; md5 = t.md5; pairs = t.pairs.items } };
 }
 
 impl Target {
@@ -39,17 +39,17 @@ impl Target {
     }
 
     /// How many bytes the file has.
-    pub fn size(&self) -> u64
-        ensures { result ≡ self.now.size }
+    pub fn length(&self) -> u64
+        ensures { result ≡ self.now.length }
     {
-        self.size
+        self.length
     }
 
     /// The MD5 of the file.
-    pub fn digest(&self) -> [u8; 16]
-        ensures { result ≡ self.now.digest }
+    pub fn md5(&self) -> [u8; 16]
+        ensures { result ≡ self.now.md5 }
     {
-        self.digest
+        self.md5
     }
 
     /// The checksums of its slices, in order.
@@ -75,8 +75,8 @@ fn target_of(
 {
     Ok(Target {
         name: name.copied(),
-        size: description.size(),
-        digest: description.digest(),
+        length: description.length(),
+        md5: description.md5(),
         pairs: pairs_for(alloc, checksums, s, description)?,
     })
 }

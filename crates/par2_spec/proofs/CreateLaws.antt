@@ -134,7 +134,7 @@ puts_apply test folder (file ∷ files) d h =
 
 pub create_applies : (folder : Folder) (a : CreateArgs) → are_applicable folder (create_changes folder a) ≡ true
 create_applies folder a =
-    puts_apply (has folder) folder (outputs_of folder a) (outputs_once a.base a.slice_size a.first a.count _) (λ q i. refl)
+    puts_apply (has folder) folder (outputs_of folder a) (outputs_once a.base a.slice a.first a.count _) (λ q i. refl)
 
 -- without recovery slices the index is all
 pub index_alone : (base : List ℕ) (s f : ℕ) (files : List File) → volumes base s f 0 files ≡ (base, flat_map packet (index_packets s (map (record_of s) (in_id_order files)))) ∷ []

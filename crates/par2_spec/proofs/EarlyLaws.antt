@@ -25,7 +25,7 @@ create_refused : (folder : Folder) (a : CreateArgs) (fault : Fault) → first_fa
 unfolding head_fault create_refusal
 create_refused folder a fault h =
     let heads =
-    fault_where (not (is_slice_size a.slice_size)) BadSliceSize
+    fault_where (not (is_slice_size a.slice)) BadSliceSize
     ∷ fault_where (not (are_counts a.first a.count)) BadCount
     ∷ fault_where (not (is_name a.base && is_par_name a.base)) BadBase
     ∷ fault_where (length a.inputs == 0) NoInput

@@ -226,14 +226,14 @@ module _ (folder : Folder) (base : List ℕ) (files : List File) (s : ℕ) (sear
 
   -- with their digests
   pub right_digests : 0 < s → s % 2 ≡ 0 → NoCollision folder searched s (all_slices s files) → AllByRecursion (λ file. AllByRecursion (λ b. b < 256) file.1) files → IsRepairable (lost (known folder m.set searched)) (survivors m.set)
-      → list_all (λ c. bytes_eq (md5 c.1) c.0.digest) (rebuilt_targets folder m.set searched) ≡ true
+      → list_all (λ c. bytes_eq (md5 c.1) c.0.md5) (rebuilt_targets folder m.set searched) ≡ true
   unfolding rebuilt_targets record_of
   right_digests positive even told bytes repairable =
       let cut = ap (files_of_slices m.set) (true_slices_rebuilt folder base files s searched m even told bytes repairable) ∙ true_files folder base files s m positive in
       ap (λ cs. list_all is_right (filter (λ c. is_among (names_without_match (matches folder m.set searched)) c.0.name) cs)) cut ∙ some_right (λ c. is_among (names_without_match (matches folder m.set searched)) c.0.name) files
     where
       is_right : Target × List ℕ → Bool
-      is_right c = bytes_eq (md5 c.1) c.0.digest
+      is_right c = bytes_eq (md5 c.1) c.0.md5
 
       some_right : (test : Target × List ℕ → Bool) (fs : List File) → list_all is_right (filter test (map (λ (file : File). let c : Target × List ℕ = (target_of_file s file, file.1) in c) fs)) ≡ true
       some_right test [] = refl

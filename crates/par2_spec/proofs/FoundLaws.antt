@@ -54,10 +54,10 @@ slices_are_windows s bytes (pair ∷ pairs) a (suc k) short begins h =
     )
 
 -- bytes that are intact for a target have each of its slices
-pub intact_windowed : (s : ℕ) (t : Target) (bytes : List ℕ) → 0 < s → length t.pairs ≤ slice_count s t.size → is_intact s t bytes ≡ true → Windowed s bytes t.pairs
+pub intact_windowed : (s : ℕ) (t : Target) (bytes : List ℕ) → 0 < s → length t.pairs ≤ slice_count s t.length → is_intact s t bytes ≡ true → Windowed s bytes t.pairs
 intact_windowed s t bytes positive short h =
-    let r = and_parts (length bytes == t.size) _ h in
-    let same : length bytes ≡ t.size = eqb-true (length bytes) t.size r.0 in
+    let r = and_parts (length bytes == t.length) _ h in
+    let same : length bytes ≡ t.length = eqb-true (length bytes) t.length r.0 in
     slices_are_windows s bytes t.pairs 0 (slice_count s (length bytes)) (subst (λ n. length t.pairs ≤ slice_count s n) (sym same) short)
     (λ j l. slice_begins (length bytes) s j positive (omega (arith, l))) r.1
 
@@ -80,7 +80,7 @@ windowed_found folder s names name (pair ∷ pairs) h w = (
 
 -- as many pairs as slices at most
 abbrev pub AreSized : ℕ → List Target → Type 0
-AreSized s ts = AllByRecursion (λ t. length t.pairs ≤ slice_count s t.size) ts
+AreSized s ts = AllByRecursion (λ t. length t.pairs ≤ slice_count s t.length) ts
 
 -- of needing targets those are found that have a match
 needing_found : (folder : Folder) (s : ℕ) (names free : List (List ℕ)) (ts : List Target) (is_lost : List ℕ → Bool) → 0 < s → AreSized s ts

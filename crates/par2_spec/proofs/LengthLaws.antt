@@ -40,17 +40,17 @@ cut_long s size n texts positive count some sizes =
     subst (λ k. size ≤ k) (sym (whole ∙ ap (λ k. k * s) (many ∙ count))) bound in
     length-take-le size (concat (take n texts)) enough
 
-cut_lengths : (s : ℕ) (ts : List Target) (texts : List (List ℕ)) → 0 < s → AllByRecursion (λ t. length t.pairs ≡ slice_count s t.size) ts → length (flat_map (λ t. t.pairs) ts) ≤ length texts → AllByRecursion (λ text. length text ≡ s) texts
-    → AllByRecursion (λ (c : Target × List ℕ). length c.1 ≡ c.0.size) (map (λ z. (z.0, take z.0.size (concat z.1))) (zip ts (cut_into (map (λ t. length t.pairs) ts) texts)))
+cut_lengths : (s : ℕ) (ts : List Target) (texts : List (List ℕ)) → 0 < s → AllByRecursion (λ t. length t.pairs ≡ slice_count s t.length) ts → length (flat_map (λ t. t.pairs) ts) ≤ length texts → AllByRecursion (λ text. length text ≡ s) texts
+    → AllByRecursion (λ (c : Target × List ℕ). length c.1 ≡ c.0.length) (map (λ z. (z.0, take z.0.length (concat z.1))) (zip ts (cut_into (map (λ t. length t.pairs) ts) texts)))
 cut_lengths s [] texts positive counts some sizes = tt
 cut_lengths s (t ∷ ts) texts positive counts some sizes =
     let joined : length (t.pairs ++ flat_map (λ u. u.pairs) ts) ≡ length t.pairs + length (flat_map (λ u. u.pairs) ts) = length-append t.pairs (flat_map (λ u. u.pairs) ts) in
     let left : length (drop (length t.pairs) texts) ≡ length texts - length t.pairs = length-drop (length t.pairs) texts in (
-      cut_long s t.size (length t.pairs) texts positive counts.0 (omega (arith, some, joined)) sizes,
+      cut_long s t.length (length t.pairs) texts positive counts.0 (omega (arith, some, joined)) sizes,
       cut_lengths s ts (drop (length t.pairs) texts) positive counts.1 (omega (arith, some, joined, left)) (all-drop _ (length t.pairs) texts sizes),
     )
 
 pub written_lengths : (set : ParSet) (slices : List (List ℕ)) → IsSound set → length slices ≡ length (all_pairs set) → AllByRecursion (λ text. length text ≡ set.slice_size) slices
-    → AllByRecursion (λ c. length c.1 ≡ c.0.size) (files_of_slices set slices)
+    → AllByRecursion (λ c. length c.1 ≡ c.0.length) (files_of_slices set slices)
 written_lengths set slices sound count sizes =
     cut_lengths set.slice_size set.targets slices (size_positive set.slice_size sound.size) sound.pairs (omega (arith, count)) sizes

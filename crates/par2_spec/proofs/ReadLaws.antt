@@ -133,21 +133,21 @@ pairs_fit packets id s n pairs h = step (n == 0) refl h
     step false e k = all_the_pairs packets id (slice_count s n) pairs k
 
 abbrev pub target_with : DescBody → List Pair → Target
-target_with d pairs = record { name = d.name; size = d.size; digest = d.digest; pairs = pairs }
+target_with d pairs = record { name = d.name; length = d.length; md5 = d.md5; pairs = pairs }
 
 abbrev IsTargetOf : ℕ → DescBody → Target → Type 0
-IsTargetOf s d t = (t.name ≡ d.name) × (t.size ≡ d.size) × (length t.pairs ≡ slice_count s t.size)
+IsTargetOf s d t = (t.name ≡ d.name) × (t.length ≡ d.length) × (length t.pairs ≡ slice_count s t.length)
 
 of_target : (packets : List Packet) (s : ℕ) (d : DescBody) (t : Target) → target_of packets s d ≡ Some t → IsTargetOf s d t
 of_target packets s d t h =
-    let r = mapped (target_with d) (if d.size == 0 then Some [] else pairs_of packets d.id (slice_count s d.size)) t h in
-    subst (IsTargetOf s d) r.2 (refl, refl, pairs_fit packets d.id s d.size r.0 r.1)
+    let r = mapped (target_with d) (if d.length == 0 then Some [] else pairs_of packets d.id (slice_count s d.length)) t h in
+    subst (IsTargetOf s d) r.2 (refl, refl, pairs_fit packets d.id s d.length r.0 r.1)
 
 abbrev AreCounted : ℕ → List Target → Type 0
-AreCounted s ts = AllByRecursion (λ t. length t.pairs ≡ slice_count s t.size) ts
+AreCounted s ts = AllByRecursion (λ t. length t.pairs ≡ slice_count s t.length) ts
 
 abbrev AreTargetsOf : ℕ → List DescBody → List Target → Type 0
-AreTargetsOf s ds ts = (map (λ t. t.name) ts ≡ map (λ d. d.name) ds) × AreCounted s ts × (length (flat_map (λ t. t.pairs) ts) ≡ sum_by (λ d. slice_count s d.size) ds)
+AreTargetsOf s ds ts = (map (λ t. t.name) ts ≡ map (λ d. d.name) ds) × AreCounted s ts × (length (flat_map (λ t. t.pairs) ts) ≡ sum_by (λ d. slice_count s d.length) ds)
 
 targets_are : (packets : List Packet) (s : ℕ) (ds : List DescBody) (ts : List Target) → all_some (map (target_of packets s) ds) ≡ Some ts → AreTargetsOf s ds ts
 targets_are packets s [] ts h = subst (AreTargetsOf s []) (ap (λ o. unwrap_or o []) h) (refl, tt, refl)
@@ -160,7 +160,7 @@ targets_are packets s (d ∷ ds) ts h =
       ap (λ n. n ∷ map (λ t. t.name) b.0) first.0 ∙ ap (λ ns. d.name ∷ ns) rest.0,
       (first.2, rest.1),
       length-append a.0.pairs (flat_map (λ t. t.pairs) b.0) ∙ ap (λ n. n + length (flat_map (λ t. t.pairs) b.0)) (first.2 ∙ ap (slice_count s) first.1)
-          ∙ ap (λ n. slice_count s d.size + n) rest.2 ∙ sym (sum_by-cons (λ d. slice_count s d.size) d ds),
+          ∙ ap (λ n. slice_count s d.length + n) rest.2 ∙ sym (sum_by-cons (λ d. slice_count s d.length) d ds),
     )
 
 -- as many pairs as slices are not more
@@ -273,7 +273,7 @@ sound_set base others set h =
     let ds = r.described in
     let are = targets_are packets s ds r.targets r.targets_there in
     let fits = and_parts _ (length (distinct (map (λ d. d.name) ds)) == length ds) r.profile in
-    let parts = and_parts (nat_le (sum_by (λ d. slice_count s d.size) ds) 32768) (list_all (λ d. is_name d.name) ds) fits.0 in
+    let parts = and_parts (nat_le (sum_by (λ d. slice_count s d.length) ds) 32768) (list_all (λ d. is_name d.name) ds) fits.0 in
     let once : length (distinct (map (λ d. d.name) ds)) ≡ length ds = eqb-true _ _ fits.1 in
     subst IsSound r.made
     (record {
@@ -281,7 +281,7 @@ sound_set base others set h =
       names_once = std_from_distinct _ (subst AreDistinct (sym are.0) (distinct_by_length (map (λ d. d.name) ds) (once ∙ sym (length-map ds (λ d. d.name)))));
       size = r.size;
       pairs = are.1;
-      slices = subst (λ n. n ≤ 32768) (sym are.2) (leb-true (sum_by (λ d. slice_count s d.size) ds) 32768 parts.0);
+      slices = subst (λ n. n ≤ 32768) (sym are.2) (leb-true (sum_by (λ d. slice_count s d.length) ds) 32768 parts.0);
       recovery = recovery_is packets s;
     })
 

@@ -194,7 +194,7 @@ module _ (folder : Folder) (set : ParSet) (given : List (List ℕ)) (fits : Fits
   written_names =
       map-map (λ file. file.0) (λ c. (c.0.name, c.1)) (rebuilt_targets folder set given)
       ∙ sym (filter-map (is_among unwon) (λ c. c.0.name) (files_of_slices set (rebuilt set (known folder set given))))
-      ∙ ap (filter (is_among unwon)) (names_of_contents (λ z. take z.0.size (concat z.1)) set.targets (rebuilt set (known folder set given)))
+      ∙ ap (filter (is_among unwon)) (names_of_contents (λ z. take z.0.length (concat z.1)) set.targets (rebuilt set (known folder set given)))
 
   unwon_apart : (q : List ℕ) → is_among unwon q ≡ true → is_among won q ≡ false
   unwon_apart q h = apart_by_test (λ m. m.0.name) (λ m. is_none m.1) (λ m. is_some m.1) (λ m. turned m.1) (matches folder set given) heads_once q h

@@ -105,9 +105,9 @@ pairs-target : (s : ℕ) (file : File) → (target_of_file s file).pairs ≡ map
 unfolding record_of
 pairs-target s file = refl
 
-size-target : (s : ℕ) (file : File) → (target_of_file s file).size ≡ length file.1
+length-target : (s : ℕ) (file : File) → (target_of_file s file).length ≡ length file.1
 unfolding record_of
-size-target s file = refl
+length-target s file = refl
 
 pairs_of_files : (s : ℕ) (files : List File) → flat_map (λ t. t.pairs) (map (target_of_file s) files) ≡ map pair_of (all_slices s files)
 pairs_of_files s [] = refl
@@ -123,7 +123,7 @@ abbrev with_file : ℕ → File → Target × List ℕ
 with_file s file = (target_of_file s file, file.1)
 
 abbrev cut_out : Target × List (List ℕ) → Target × List ℕ
-cut_out z = (z.0, take z.0.size (concat z.1))
+cut_out z = (z.0, take z.0.length (concat z.1))
 
 abbrev all_cut : List Target → List (List ℕ) → List (Target × List ℕ)
 all_cut ts xs = map cut_out (zip ts (cut_into (map (λ t. length t.pairs) ts) xs))
@@ -137,10 +137,10 @@ cut_files s (file ∷ files) positive =
     let mine = slices s file.1 in
     let rest = all_slices s files in
     let count : length t.pairs ≡ length mine = ap length (pairs-target s file) ∙ length-map mine pair_of in
-    ap (λ n. with_bytes t (take t.size (concat (take n (mine ++ rest)))) ∷ all_cut ts (drop n (mine ++ rest))) count
-    ∙ ap (λ xs. with_bytes t (take t.size (concat xs)) ∷ all_cut ts (drop (length mine) (mine ++ rest))) (take-append_seam mine rest)
-    ∙ ap (λ xs. with_bytes t (take t.size (concat mine)) ∷ all_cut ts xs) (drop-append_seam mine rest)
-    ∙ ap (λ bytes. with_bytes t bytes ∷ all_cut ts rest) (ap (λ n. take n (concat mine)) (size-target s file) ∙ slices_joined s file.1 positive)
+    ap (λ n. with_bytes t (take t.length (concat (take n (mine ++ rest)))) ∷ all_cut ts (drop n (mine ++ rest))) count
+    ∙ ap (λ xs. with_bytes t (take t.length (concat xs)) ∷ all_cut ts (drop (length mine) (mine ++ rest))) (take-append_seam mine rest)
+    ∙ ap (λ xs. with_bytes t (take t.length (concat mine)) ∷ all_cut ts xs) (drop-append_seam mine rest)
+    ∙ ap (λ bytes. with_bytes t bytes ∷ all_cut ts rest) (ap (λ n. take n (concat mine)) (length-target s file) ∙ slices_joined s file.1 positive)
     ∙ ap (λ zs. with_bytes t file.1 ∷ zs) (cut_files s files positive)
 
 -- ---- what is found is true

@@ -74,7 +74,7 @@ redo_after_undo first second third = (refl, refl, refl, refl)
 -- ---- refused creates, whatever the folder holds
 
 asked : ℕ → ℕ → ℕ → List ℕ → List (List ℕ) → CreateArgs
-asked s count first base inputs = record { slice_size = s; count = count; first = first; base = base; inputs = inputs; overwrite = false }
+asked s count first base inputs = record { slice = s; count = count; first = first; base = base; inputs = inputs; overwrite = false }
 
 refused_creates : (folder : Folder) →
     (create_refusal folder (asked 6 1 0 (codes "t.par2") (codes "a" ∷ [])) ≡ Some BadSliceSize)

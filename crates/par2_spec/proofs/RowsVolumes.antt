@@ -71,7 +71,7 @@ packets_of_a_volume = (refl, refl, refl)
 -- the slice size, and of each target the length, the number of pairs and the name
 read : Result ParSet Fault → List ℕ
 read (Err e) = []
-read (Ok set) = set.slice_size ∷ flat_map (λ t. t.size ∷ length t.pairs ∷ t.name) set.targets
+read (Ok set) = set.slice_size ∷ flat_map (λ t. t.length ∷ length t.pairs ∷ t.name) set.targets
 
 set_of_an_index : read (read_set (flat_map (λ file. file.1) (outputs 4 0)) []) ≡ 4 ∷ 8 ∷ 2 ∷ codes "a"
 unfolding every read

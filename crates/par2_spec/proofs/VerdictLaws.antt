@@ -189,7 +189,7 @@ module _ (folder : Folder) (base : List ℕ) (extras : List (List ℕ)) (set : P
   is_long = list_any (λ name. nat_lt 255 (length (aside folder set name))) (put_aside folder set)
 
   abbrev are_right : Bool
-  are_right = list_all (λ c. bytes_eq (md5 c.1) c.0.digest) (rebuilt_targets folder set searched)
+  are_right = list_all (λ c. bytes_eq (md5 c.1) c.0.md5) (rebuilt_targets folder set searched)
 
   refused : (purge : Bool) → refusal folder (Repair base extras purge) ≡ refusal_by (is_repairable missing (survivors set)) is_long are_right
   unfolding refusal repair_refusal refusal_by

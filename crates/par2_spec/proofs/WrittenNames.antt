@@ -58,7 +58,7 @@ stripped-padded name k none =
 -- ---- the body
 
 abbrev desc_of : List ℕ → List ℕ → List ℕ → ℕ → List ℕ → Option DescBody
-desc_of id digest short size name = Some (record { id = id; digest = digest; digest_16k = short; size = size; name = name })
+desc_of id digest short size name = Some (record { id = id; md5 = digest; md5_16k = short; length = size; name = name })
 
 at_16 : (a b c d e : List ℕ) → a ++ b ++ c ++ d ++ e ≡ a ++ (b ++ (c ++ (d ++ e)))
 at_16 a b c d e = simp append_assoc
@@ -72,29 +72,29 @@ at_48 a b c d e = simp append_assoc
 at_56 : (a b c d e : List ℕ) → a ++ b ++ c ++ d ++ e ≡ (a ++ (b ++ (c ++ d))) ++ e
 at_56 a b c d e = simp append_assoc
 
-pub desc_reads : (file : FileRecord) → length file.id ≡ 16 → length file.digest ≡ 16 → length file.digest_16k ≡ 16 → file.size < 2 ^ 64 → list_any (λ b. eqb b 0) file.name ≡ false
-    → read_desc FileDesc (desc_bytes file) ≡ Some (record { id = file.id; digest = file.digest; digest_16k = file.digest_16k; size = file.size; name = file.name })
+pub desc_reads : (file : FileRecord) → length file.id ≡ 16 → length file.md5 ≡ 16 → length file.md5_16k ≡ 16 → file.length < 2 ^ 64 → list_any (λ b. eqb b 0) file.name ≡ false
+    → read_desc FileDesc (desc_bytes file) ≡ Some (record { id = file.id; md5 = file.md5; md5_16k = file.md5_16k; length = file.length; name = file.name })
 unfolding read_desc
 desc_reads file i d s low none =
     let body : List ℕ = desc_bytes file in
-    let n : List ℕ = to_le_bytes w64 file.size in
+    let n : List ℕ = to_le_bytes w64 file.length in
     let name : List ℕ = padded_4 file.name in
-    let size32 : length (file.id ++ file.digest) ≡ 32 = omega (arith, length-append file.id file.digest, i, d) in
-    let size48 : length (file.id ++ (file.digest ++ file.digest_16k)) ≡ 48 = omega (arith, len3 file.id file.digest file.digest_16k, i, d, s) in
+    let size32 : length (file.id ++ file.md5) ≡ 32 = omega (arith, length-append file.id file.md5, i, d) in
+    let size48 : length (file.id ++ (file.md5 ++ file.md5_16k)) ≡ 48 = omega (arith, len3 file.id file.md5 file.md5_16k, i, d, s) in
     let eight : length n ≡ 8 = refl in
-    let size56 : length (file.id ++ (file.digest ++ (file.digest_16k ++ n))) ≡ 56 = omega (arith, len3 file.id file.digest (file.digest_16k ++ n), length-append file.digest_16k n, eight, i, d, s) in
-    let whole : length body ≡ 56 + length name = ap length (at_56 file.id file.digest file.digest_16k n name) ∙ length-append (file.id ++ (file.digest ++ (file.digest_16k ++ n))) name ∙ ap (λ (k : ℕ). k + length name) size56 in
+    let size56 : length (file.id ++ (file.md5 ++ (file.md5_16k ++ n))) ≡ 56 = omega (arith, len3 file.id file.md5 (file.md5_16k ++ n), length-append file.md5_16k n, eight, i, d, s) in
+    let whole : length body ≡ 56 + length name = ap length (at_56 file.id file.md5 file.md5_16k n name) ∙ length-append (file.id ++ (file.md5 ++ (file.md5_16k ++ n))) name ∙ ap (λ (k : ℕ). k + length name) size56 in
     let t : leb 56 (length body) ≡ true = le-leb 56 (length body) (omega (arith, whole)) in
-    let e1 : bytes_at 0 16 body ≡ file.id = ap (bytes_at 0 16) (at_16 file.id file.digest file.digest_16k n name) ∙ take_at file.id (file.digest ++ (file.digest_16k ++ (n ++ name))) 16 i in
-    let e2 : bytes_at 16 16 body ≡ file.digest = ap (bytes_at 16 16) (at_16 file.id file.digest file.digest_16k n name) ∙ part_at file.id file.digest (file.digest_16k ++ (n ++ name)) 16 16 i d in
-    let e3 : bytes_at 32 16 body ≡ file.digest_16k = ap (bytes_at 32 16) (at_32 file.id file.digest file.digest_16k n name) ∙ part_at (file.id ++ file.digest) file.digest_16k (n ++ name) 32 16 size32 s in
-    let e4 : u64_at 48 body ≡ file.size = ap (u64_at 48) (at_48 file.id file.digest file.digest_16k n name) ∙ u64_there (file.id ++ (file.digest ++ file.digest_16k)) name 48 file.size size48 low in
+    let e1 : bytes_at 0 16 body ≡ file.id = ap (bytes_at 0 16) (at_16 file.id file.md5 file.md5_16k n name) ∙ take_at file.id (file.md5 ++ (file.md5_16k ++ (n ++ name))) 16 i in
+    let e2 : bytes_at 16 16 body ≡ file.md5 = ap (bytes_at 16 16) (at_16 file.id file.md5 file.md5_16k n name) ∙ part_at file.id file.md5 (file.md5_16k ++ (n ++ name)) 16 16 i d in
+    let e3 : bytes_at 32 16 body ≡ file.md5_16k = ap (bytes_at 32 16) (at_32 file.id file.md5 file.md5_16k n name) ∙ part_at (file.id ++ file.md5) file.md5_16k (n ++ name) 32 16 size32 s in
+    let e4 : u64_at 48 body ≡ file.length = ap (u64_at 48) (at_48 file.id file.md5 file.md5_16k n name) ∙ u64_there (file.id ++ (file.md5 ++ file.md5_16k)) name 48 file.length size48 low in
     let e5 : without_end_zeros (drop 56 body) ≡ file.name =
-    ap without_end_zeros (ap (drop 56) (at_56 file.id file.digest file.digest_16k n name) ∙ drop_at (file.id ++ (file.digest ++ (file.digest_16k ++ n))) name 56 size56)
+    ap without_end_zeros (ap (drop 56) (at_56 file.id file.md5 file.md5_16k n name) ∙ drop_at (file.id ++ (file.md5 ++ (file.md5_16k ++ n))) name 56 size56)
     ∙ stripped-padded file.name ((4 - length file.name % 4) % 4) none in
     cond-true (leb 56 (length body)) (desc_of (bytes_at 0 16 body) (bytes_at 16 16 body) (bytes_at 32 16 body) (u64_at 48 body) (without_end_zeros (drop 56 body))) None t
     ∙ ap (λ (x : List ℕ). desc_of x (bytes_at 16 16 body) (bytes_at 32 16 body) (u64_at 48 body) (without_end_zeros (drop 56 body))) e1
     ∙ ap (λ (x : List ℕ). desc_of file.id x (bytes_at 32 16 body) (u64_at 48 body) (without_end_zeros (drop 56 body))) e2
-    ∙ ap (λ (x : List ℕ). desc_of file.id file.digest x (u64_at 48 body) (without_end_zeros (drop 56 body))) e3
-    ∙ ap (λ (x : ℕ). desc_of file.id file.digest file.digest_16k x (without_end_zeros (drop 56 body))) e4
-    ∙ ap (λ (x : List ℕ). desc_of file.id file.digest file.digest_16k file.size x) e5
+    ∙ ap (λ (x : List ℕ). desc_of file.id file.md5 x (u64_at 48 body) (without_end_zeros (drop 56 body))) e3
+    ∙ ap (λ (x : ℕ). desc_of file.id file.md5 file.md5_16k x (without_end_zeros (drop 56 body))) e4
+    ∙ ap (λ (x : List ℕ). desc_of file.id file.md5 file.md5_16k file.length x) e5

@@ -62,14 +62,14 @@ padded_length text = length-append text (replicate ((4 - length text % 4) % 4) 0
 
 pub desc_packet : (id : List ℕ) (file : FileRecord) → length id ≡ 16 → IsFileRecord file → IsPacket (packet_of id FileDesc (desc_bytes file))
 desc_packet id file sixteen is =
-    let number : List ℕ = to_le_bytes w64 file.size in
+    let number : List ℕ = to_le_bytes w64 file.length in
     let eight : length number ≡ 8 = refl in
     let name : length (padded_4 file.name) ≡ length file.name + (4 - length file.name % 4) % 4 = padded_length file.name in
     let size : length (desc_bytes file) ≡ 56 + length (padded_4 file.name) =
-    length-append (file.id ++ file.digest ++ file.digest_16k ++ number) (padded_4 file.name)
+    length-append (file.id ++ file.md5 ++ file.md5_16k ++ number) (padded_4 file.name)
     ∙ ap (λ (k : ℕ). k + length (padded_4 file.name))
-    (length-append (file.id ++ file.digest ++ file.digest_16k) number
-    ∙ (let three : length (file.id ++ file.digest ++ file.digest_16k) ≡ 48 = omega (arith, length-append (file.id ++ file.digest) file.digest_16k, length-append file.id file.digest, is.id, is.digest, is.digest_16k) in omega (arith, three, eight))) in
+    (length-append (file.id ++ file.md5 ++ file.md5_16k) number
+    ∙ (let three : length (file.id ++ file.md5 ++ file.md5_16k) ≡ 48 = omega (arith, length-append (file.id ++ file.md5) file.md5_16k, length-append file.id file.md5, is.id, is.md5, is.md5_16k) in omega (arith, three, eight))) in
     made id FileDesc (desc_bytes file) (14 + (length file.name + 3) / 4) sixteen desc_known (omega (arith, size, name)) (omega (arith, is.name_size))
 
 pub ifsc_packet : (id : List ℕ) (file : FileRecord) → length id ≡ 16 → IsFileRecord file → IsPacket (packet_of id Ifsc (ifsc_bytes file))

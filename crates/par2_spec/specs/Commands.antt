@@ -6,7 +6,7 @@ use Rattle.par2_spec.specs.Volumes.{volumes}
 -- the words of a create
 pub record CreateArgs : Type 0 where
   pub base : List ℕ
-  pub slice_size : ℕ
+  pub slice : ℕ
   -- how many recovery slices, and the exponent of the first
   pub count : ℕ
   pub first : ℕ
@@ -33,7 +33,7 @@ files_of folder inputs = map (λ name. (name, bytes_of folder name)) inputs
 
 -- the files that a create writes
 abbrev pub outputs_of : Folder → CreateArgs → List File
-outputs_of folder a = volumes a.base a.slice_size a.first a.count (files_of folder a.inputs)
+outputs_of folder a = volumes a.base a.slice a.first a.count (files_of folder a.inputs)
 
 -- the words that a fault of the command can speak of: base and further names, by their places
 abbrev pub words_of : Command → List (List ℕ)

@@ -51,13 +51,13 @@ MainIsRead =
 -- a FileDesc says what it was made from
 abbrev pub DescIsRead : Type 0
 DescIsRead =
-    (file : FileRecord) → length file.id ≡ 16 → length file.digest ≡ 16
-    → length file.digest_16k ≡ 16 → file.size < 2 ^ 64 → list_any (λ b. b == 0) file.name
+    (file : FileRecord) → length file.id ≡ 16 → length file.md5 ≡ 16
+    → length file.md5_16k ≡ 16 → file.length < 2 ^ 64 → list_any (λ b. b == 0) file.name
     ≡ false → read_desc FileDesc (desc_bytes file) ≡ Some (record {
       id = file.id;
-      digest = file.digest;
-      digest_16k = file.digest_16k;
-      size = file.size;
+      md5 = file.md5;
+      md5_16k = file.md5_16k;
+      length = file.length;
       name = file.name;
     })
 
@@ -125,7 +125,7 @@ FilesHaveTheirSize =
     (set : ParSet) (slices : List (List ℕ)) → IsSound set
     → length slices ≡ length (all_pairs set)
     → AllByRecursion (λ text. length text ≡ set.slice_size) slices
-    → AllByRecursion (λ c. length c.1 ≡ c.0.size) (files_of_slices set slices)
+    → AllByRecursion (λ c. length c.1 ≡ c.0.length) (files_of_slices set slices)
 
 -- where what is found is true and the lost slices are determined, the slices of the files are rebuilt
 abbrev pub TrueSlicesAreRebuilt : Type 0
@@ -161,7 +161,7 @@ RebuiltFilesHaveTheirDigests =
     (folder : Folder) (base : List ℕ) (extras : List (List ℕ))
     (files : List File) (s : ℕ) (m : MadeFrom folder base files s)
     → Restores folder base extras files s m (IsTrue
-    (list_all (λ c. bytes_eq (md5 c.1) c.0.digest)
+    (list_all (λ c. bytes_eq (md5 c.1) c.0.md5)
     (rebuilt_targets folder m.set (candidates folder m.set extras))))
 
 -- where a repair is refused as not repairable, another list agrees with what survives

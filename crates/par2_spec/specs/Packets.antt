@@ -116,9 +116,9 @@ pub record MainBody : Type 0 where
 -- what a FileDesc says ("File Description packet")
 pub record DescBody : Type 0 where
   pub id : List ℕ
-  pub digest : List ℕ
-  pub digest_16k : List ℕ
-  pub size : ℕ
+  pub md5 : List ℕ
+  pub md5_16k : List ℕ
+  pub length : ℕ
   pub name : List ℕ
 
 -- what an IFSC says ("Input File Slice Checksum packet")
@@ -158,9 +158,9 @@ read_desc FileDesc body =
     if nat_le 56 (length body)
     then Some (record {
       id = bytes_at 0 16 body;
-      digest = bytes_at 16 16 body;
-      digest_16k = bytes_at 32 16 body;
-      size = u64_at 48 body;
+      md5 = bytes_at 16 16 body;
+      md5_16k = bytes_at 32 16 body;
+      length = u64_at 48 body;
       name = without_end_zeros (drop 56 body);
     })
     else None

@@ -31,7 +31,7 @@ bad_name inputs = fault_at 1 BadName (λ word. not (is_input_name word)) inputs
 -- the first causes of a create: those of the numbers, of the base, and of the count of inputs
 unfoldable pub head_fault : CreateArgs → Option Fault
 head_fault a = first_fault (
-    fault_where (not (is_slice_size a.slice_size)) BadSliceSize
+    fault_where (not (is_slice_size a.slice)) BadSliceSize
     ∷ fault_where (not (are_counts a.first a.count)) BadCount
     ∷ fault_where (not (is_name a.base && is_par_name a.base)) BadBase
     ∷ fault_where (length a.inputs == 0) NoInput
@@ -42,7 +42,7 @@ unfoldable pub create_refusal : Folder → CreateArgs → Option Fault
 create_refusal folder a =
     let files = files_of folder a.inputs in
     first_fault (
-    fault_where (not (is_slice_size a.slice_size)) BadSliceSize
+    fault_where (not (is_slice_size a.slice)) BadSliceSize
     ∷ fault_where (not (are_counts a.first a.count)) BadCount
     ∷ fault_where (not (is_name a.base && is_par_name a.base)) BadBase
     ∷ fault_where (length a.inputs == 0) NoInput
@@ -50,7 +50,7 @@ create_refusal folder a =
     ∷ fault_at 1 DuplicateInput (λ z. is_among (take z.0 a.inputs) z.1) (enumerate_from 0 a.inputs)
     ∷ fault_at 1 NoSuchFile (λ word. not (has folder word)) a.inputs
     ∷ fault_at 1 EmptyFile (λ file. length file.1 == 0) files
-    ∷ fault_where (nat_lt 32768 (sum_by (λ file. slice_count a.slice_size (length file.1)) files)) TooManySlices
+    ∷ fault_where (nat_lt 32768 (sum_by (λ file. slice_count a.slice (length file.1)) files)) TooManySlices
     ∷ fault_where (not (length (distinct (map id_of files)) == length files)) DuplicateId
     ∷ fault_where (list_any (λ file. nat_lt 255 (length file.0)) (outputs_of folder a)) NameTooLong
     ∷ fault_where (not a.overwrite && list_any (λ file. has folder file.0) (outputs_of folder a)) Exists
@@ -77,7 +77,7 @@ repair_refusal folder set searched =
     first_fault (
     fault_where (not (is_repairable missing (survivors set))) (NotRepairable (length missing) (rank missing (survivors set)))
     ∷ fault_where (list_any (λ name. nat_lt 255 (length (aside folder set name))) (put_aside folder set)) NameTooLong
-    ∷ fault_where (not (list_all (λ c. bytes_eq (md5 c.1) c.0.digest) (rebuilt_targets folder set searched))) RepairFailed
+    ∷ fault_where (not (list_all (λ c. bytes_eq (md5 c.1) c.0.md5) (rebuilt_targets folder set searched))) RepairFailed
     ∷ [])
 
 -- a purge wants complete files

@@ -28,7 +28,7 @@ cut_into (n ∷ counts) items = take n items ∷ cut_into counts (drop n items)
 -- the targets with their bytes by a list of all slices
 abbrev pub files_of_slices : ParSet → List (List ℕ) → List (Target × List ℕ)
 files_of_slices set slices =
-    map (λ z. (z.0, take z.0.size (concat z.1))) (zip set.targets (cut_into (map (λ t. length t.pairs) set.targets) slices))
+    map (λ z. (z.0, take z.0.length (concat z.1))) (zip set.targets (cut_into (map (λ t. length t.pairs) set.targets) slices))
 
 -- the names that an aside keeps away from: those of the folder and of the targets
 abbrev pub taken_for : Folder → ParSet → List (List ℕ)

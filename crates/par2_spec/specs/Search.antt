@@ -17,7 +17,7 @@ candidates folder set extras = distinct (filter (has folder) (map (λ t. t.name)
 
 -- the bytes are those of the target, by length and checksums
 abbrev pub is_intact : ℕ → Target → List ℕ → Bool
-is_intact s t bytes = length bytes == t.size && list_all (λ z. is_match z.0 z.1) (zip t.pairs (slices s bytes))
+is_intact s t bytes = length bytes == t.length && list_all (λ z. is_match z.0 z.1) (zip t.pairs (slices s bytes))
 
 abbrev pub IsIntact : ℕ → Target → List ℕ → Type 0
 IsIntact s t bytes = IsTrue (is_intact s t bytes)

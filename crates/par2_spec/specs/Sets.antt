@@ -20,8 +20,8 @@ use Rattle.par2_spec.specs.declared.Fault.TheVariants.{NoPackets, NoMain, NoDesc
 -- a file that a set describes
 pub record Target : Type 0 where
   pub name : List ℕ
-  pub size : ℕ
-  pub digest : List ℕ
+  pub length : ℕ
+  pub md5 : List ℕ
   pub pairs : List Pair
 
 pub record ParSet : Type 0 where
@@ -73,13 +73,13 @@ pairs_of packets id n =
 -- the target of a description. A file without bytes needs no checksums
 abbrev pub target_of : List Packet → ℕ → DescBody → Option Target
 target_of packets s d =
-    option_map (λ pairs. let t : Target = record { name = d.name; size = d.size; digest = d.digest; pairs = pairs } in t)
-    (if d.size == 0 then Some [] else pairs_of packets d.id (slice_count s d.size))
+    option_map (λ pairs. let t : Target = record { name = d.name; length = d.length; md5 = d.md5; pairs = pairs } in t)
+    (if d.length == 0 then Some [] else pairs_of packets d.id (slice_count s d.length))
 
 -- names that are names, each once, and no more slices than there are constants
 abbrev pub are_in_profile : ℕ → List DescBody → Bool
 are_in_profile s ds =
-    nat_le (sum_by (λ d. slice_count s d.size) ds) 32768 && list_all (λ d. is_name d.name) ds
+    nat_le (sum_by (λ d. slice_count s d.length) ds) 32768 && list_all (λ d. is_name d.name) ds
     && length (distinct (map (λ d. d.name) ds)) == length ds
 
 -- for each exponent up to 65,535 the first recovery slice of s bytes: a map made of entries keeps the first of a key
@@ -130,7 +130,7 @@ pub record IsSound (set : ParSet) : Type 0 where
   pub are_names : IsTrue (list_all is_name (target_names set))
   pub names_once : IsDistinct bytes_eq (target_names set)
   pub size : IsTrue (is_slice_size set.slice_size)
-  pub pairs : AllByRecursion (λ t. length t.pairs ≡ slice_count set.slice_size t.size) set.targets
+  pub pairs : AllByRecursion (λ t. length t.pairs ≡ slice_count set.slice_size t.length) set.targets
   pub slices : length (all_pairs set) ≤ 32768
   pub recovery : AllByRecursion (λ r. (r.0 < 65536) × (length r.1 ≡ set.slice_size)) (map_of.entries set.recovery)
 
@@ -140,7 +140,7 @@ pub record IsSound (set : ParSet) : Type 0 where
 abbrev pub target_of_file : ℕ → File → Target
 target_of_file s file =
     let r = record_of s file in
-    let t : Target = record { name = r.name; size = r.size; digest = r.digest; pairs = r.pairs } in t
+    let t : Target = record { name = r.name; length = r.length; md5 = r.md5; pairs = r.pairs } in t
 
 -- the set of the base is that of these files, in their order, with true recovery slices
 pub record MadeFrom (folder : Folder) (base : List ℕ) (files : List File) (s : ℕ) : Type 0 where

@@ -10,7 +10,7 @@ use Rattle.par2_spec.specs.declared.commands.Command.TheVariants.{Verify, Act}
 abbrev pub create_args_of : CreateArgs → asked_for.CreateArgs
 create_args_of a = record {
   base = string_bytes a.base;
-  slice_size = a.slice_size;
+  slice = a.slice;
   count = a.count;
   first = a.first;
   overwrite = a.overwrite;

@@ -15,18 +15,18 @@ use Rattle.par2_spec.specs.declared.Kind.TheVariants.{Main, FileDesc, Ifsc, Reco
 -- what a set says of a file
 pub record FileRecord : Type 0 where
   pub id : List ℕ
-  pub digest : List ℕ
-  pub digest_16k : List ℕ
-  pub size : ℕ
+  pub md5 : List ℕ
+  pub md5_16k : List ℕ
+  pub length : ℕ
   pub name : List ℕ
   pub pairs : List Pair
 
 -- what a set can say of a file: its parts have their sizes, and its name has no zero byte
 pub record IsFileRecord (file : FileRecord) : Type 0 where
   pub id : length file.id ≡ 16
-  pub digest : length file.digest ≡ 16
-  pub digest_16k : length file.digest_16k ≡ 16
-  pub size : file.size < 2 ^ 64
+  pub md5 : length file.md5 ≡ 16
+  pub md5_16k : length file.md5_16k ≡ 16
+  pub size : file.length < 2 ^ 64
   pub name : list_any (λ b. b == 0) file.name ≡ false
   pub name_size : length file.name < 2 ^ 32
   pub pairs : AllByRecursion IsPair file.pairs
@@ -34,22 +34,22 @@ pub record IsFileRecord (file : FileRecord) : Type 0 where
 
 -- the File ID ("File Description packet")
 abbrev pub file_id : List ℕ → ℕ → List ℕ → List ℕ
-file_id digest_16k size name = md5 (digest_16k ++ to_le_bytes w64 size ++ name)
+file_id md5_16k len name = md5 (md5_16k ++ to_le_bytes w64 len ++ name)
 
-abbrev pub digest_16k : File → List ℕ
-digest_16k file = md5 (take 16384 file.1)
+abbrev pub md5_16k : File → List ℕ
+md5_16k file = md5 (take 16384 file.1)
 
 -- the File ID of a file
 abbrev pub id_of : File → List ℕ
-id_of file = file_id (digest_16k file) (length file.1) file.0
+id_of file = file_id (md5_16k file) (length file.1) file.0
 
 -- what a set of slice size s says of a file
 unfoldable pub record_of : ℕ → File → FileRecord
 record_of s file = record {
   id = id_of file;
-  digest = md5 file.1;
-  digest_16k = digest_16k file;
-  size = length file.1;
+  md5 = md5 file.1;
+  md5_16k = md5_16k file;
+  length = length file.1;
   name = file.0;
   pairs = map pair_of (slices s file.1);
 }
@@ -78,7 +78,7 @@ main_bytes s files = to_le_bytes w64 s ++ to_le_bytes w32 (length files) ++ flat
 
 -- ("File Description packet")
 abbrev pub desc_bytes : FileRecord → List ℕ
-desc_bytes file = file.id ++ file.digest ++ file.digest_16k ++ to_le_bytes w64 file.size ++ padded_4 file.name
+desc_bytes file = file.id ++ file.md5 ++ file.md5_16k ++ to_le_bytes w64 file.length ++ padded_4 file.name
 
 -- ("Input File Slice Checksum packet")
 abbrev pub pair_bytes : Pair → List ℕ

@@ -4,7 +4,7 @@
 #[derive(Debug, Drop)]
 pub struct CreateArgs {
     /// The slice size in bytes.
-    pub slice_size: u64,
+    pub slice: u64,
     /// How many recovery slices.
     pub count: u32,
     /// The exponent of the first recovery slice.

@@ -16,7 +16,7 @@ create_taken = refl
 
 pub create_asked : asked_by create_words ≡ Some (Do (Create (record {
   base = codes "t.par2";
-  slice_size = 4;
+  slice = 4;
   count = 0;
   first = 0;
   overwrite = false;

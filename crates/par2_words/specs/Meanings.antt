@@ -30,7 +30,7 @@ flag_of id rows = option_map_or (λ text. bytes_eq text (codes "true")) (first_o
 abbrev pub create_meaning : List Row → Action
 create_meaning rows = Do (Create (record {
   base = text_of (codes "base") rows;
-  slice_size = number_of 64 (codes "slice") rows;
+  slice = number_of 64 (codes "slice") rows;
   count = number_of 32 (codes "count") rows;
   first = number_of 32 (codes "first") rows;
   overwrite = flag_of (codes "overwrite") rows;

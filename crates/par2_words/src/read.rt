@@ -90,7 +90,7 @@ fn create_of(alloc: Global, matches: &ArgMatches<'_>) -> Result<Action, AllocErr
     ensures { IfOk result (λ a. action_of a ≡ create_meaning (rows_of (found_of matches.now))) }
 {
     Ok(Action::Create(CreateArgs {
-        slice_size: slice_size_of(matches),
+        slice: slice_size_of(matches),
         count: count_of(matches, "count"),
         first: count_of(matches, "first"),
         base: base_of(alloc, matches)?,

@@ -63,7 +63,7 @@ pub fn input_slices_of<'a>(
     set: &SetRecord,
     folder: &'a Folder,
 ) -> Result<Option<Vec<&'a [u8]>>, AllocError> {
-    if set.slice_size == 0 {
+    if set.slice == 0 {
         return Ok(None);
     }
     Ok(Some(input_slices(alloc, set, folder)?))
@@ -81,10 +81,10 @@ pub fn recovery_slices_of(
     let Some(slices) = input_slices_of(alloc, set, folder)? else {
         return Ok(None);
     };
-    if !can_combine(slices.len(), set.slice_size) || first.checked_add(count).is_none() {
+    if !can_combine(slices.len(), set.slice) || first.checked_add(count).is_none() {
         return Ok(None);
     }
-    let size = set.slice_size as usize;
+    let size = set.slice as usize;
     Ok(Some(recovery_slices_over(alloc, gf, &slices, size, first, count)?))
 }
 
@@ -96,11 +96,11 @@ pub fn recovery_slice_of(
     folder: &Folder,
     e: u32,
 ) -> Result<Option<Vec<u8>>, AllocError> {
-    if set.slice_size == 0 {
+    if set.slice == 0 {
         return Ok(None);
     }
     let slices = input_slices(alloc, set, folder)?;
-    if !can_combine(slices.len(), set.slice_size) {
+    if !can_combine(slices.len(), set.slice) {
         return Ok(None);
     }
     Ok(Some(recovery_slice(alloc, gf, set, folder, e)?))
@@ -137,7 +137,7 @@ fn exponents_rise(recovery: &[(u32, &[u8])]) -> bool
 fn can_rebuild(survivors: &Survivors) -> bool
     ensures { IsTrue result → CanRebuild survivors.now }
 {
-    let size = survivors.slice_size;
+    let size = survivors.slice;
     if size % 2 != 0 || survivors.known.len() > 32768 {
         return false;
     }

@@ -34,7 +34,7 @@ fn step<S: FolderStore>(
 // Of a create of an index over the file `a`.
 fn index_args(alloc: Global) -> Result<CreateArgs, AllocError> {
     Ok(CreateArgs {
-        slice_size: 4,
+        slice: 4,
         count: 0,
         first: 0,
         base: String::from_str(alloc, "t.par2")?,

@@ -36,12 +36,12 @@ pub fn words_of(alloc: Global, words: &[&str]) -> Result<Vec<String>, AllocError
 // A create without recovery slices.
 pub fn args_of(
     alloc: Global,
-    slice_size: u64,
+    slice: u64,
     base: &str,
     words: &[&str],
 ) -> Result<CreateArgs, AllocError> {
     Ok(CreateArgs {
-        slice_size,
+        slice,
         count: 0,
         first: 0,
         base: String::from_str(alloc, base)?,

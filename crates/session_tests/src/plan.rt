@@ -31,7 +31,7 @@ const LONGEST_BASE: &str = "\
 struct Planned {
     files: &'static [File],
     base: &'static str,
-    slice_size: u64,
+    slice: u64,
     count: u32,
     first: u32,
     inputs: &'static [&'static str],
@@ -44,7 +44,7 @@ const PLANNED: &[Planned] = &[
     Planned {
         files: A,
         base: "t.par2",
-        slice_size: 4,
+        slice: 4,
         count: 0,
         first: 0,
         inputs: &["a"],
@@ -54,7 +54,7 @@ const PLANNED: &[Planned] = &[
     Planned {
         files: A,
         base: "t.par2",
-        slice_size: 4,
+        slice: 4,
         count: 5,
         first: 0,
         inputs: &["a"],
@@ -69,7 +69,7 @@ const PLANNED: &[Planned] = &[
     Planned {
         files: A,
         base: "t.par2",
-        slice_size: 4,
+        slice: 4,
         count: 7,
         first: 0,
         inputs: &["a"],
@@ -84,7 +84,7 @@ const PLANNED: &[Planned] = &[
     Planned {
         files: A,
         base: "t.par2",
-        slice_size: 4,
+        slice: 4,
         count: 3,
         first: 0,
         inputs: &["a"],
@@ -94,7 +94,7 @@ const PLANNED: &[Planned] = &[
     Planned {
         files: A,
         base: "t.par2",
-        slice_size: 4,
+        slice: 4,
         count: 2,
         first: 7,
         inputs: &["a"],
@@ -108,7 +108,7 @@ const PLANNED: &[Planned] = &[
     Planned {
         files: A_AND_B,
         base: "t.par2",
-        slice_size: 4,
+        slice: 4,
         count: 2,
         first: 0,
         inputs: &["a", "b"],
@@ -122,7 +122,7 @@ const PLANNED: &[Planned] = &[
     Planned {
         files: A_AND_INDEX,
         base: "t.par2",
-        slice_size: 8,
+        slice: 8,
         count: 0,
         first: 0,
         inputs: &["a"],
@@ -133,7 +133,7 @@ const PLANNED: &[Planned] = &[
     Planned {
         files: A,
         base: LONGEST_BASE,
-        slice_size: 4,
+        slice: 4,
         count: 0,
         first: 0,
         inputs: &["a"],
@@ -147,7 +147,7 @@ fn planned_args(alloc: Global, row: &Planned) -> Result<CreateArgs, AllocError> 
         count: row.count,
         first: row.first,
         overwrite: row.replaces,
-        ..args_of(alloc, row.slice_size, row.base, row.inputs)?
+        ..args_of(alloc, row.slice, row.base, row.inputs)?
     })
 }
 

@@ -7,7 +7,7 @@ use Rattle.recovery_calls.proofs.can_rebuild.Goals as goal
 pub returns : goal.returns
 returns c rise =
     let survivors = c.args.survivors.now in
-    let s = survivors.slice_size in
+    let s = survivors.slice in
     let known : IsTrue c.known_fits.result = search rules in
     let recovery : IsTrue c.recovery_fits.result = search rules in
     record {

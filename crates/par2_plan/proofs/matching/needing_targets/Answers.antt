@@ -28,6 +28,6 @@ loop-target-preserved-in-Continue-1 c =
     let inv = c.loop-target.invariant in (
       inv.0 ++ target ∷ [],
       subst (λ xs. Describe xs (inv.0 ++ target ∷ [])) (sym c.in_ok-push.ensures.items)
-          (Describe-more _ inv.0 _ target inv.1 (record { size = sym c.size.ensures; pairs = sym c.pairs.ensures })),
+          (Describe-more _ inv.0 _ target inv.1 (record { length = sym c.length.ensures; pairs = sym c.pairs.ensures })),
       append_assoc inv.0 (target ∷ []) (items_where flags ts) ∙ ap (λ us. inv.0 ++ us) (sym first) ∙ inv.2,
     )

@@ -6,7 +6,7 @@ use Rattle.par2_plan.proofs.volumes.block_of.Goals as goal
 
 pub returns : goal.returns
 returns c =
-    let s : ℕ = c.args.parts.now.set.now.slice_size in
+    let s : ℕ = c.args.parts.now.set.now.slice in
     let count : ℕ = c.args.exponents.end - c.args.exponents.first in
     let even : s % 2 ≡ 0 = omega (arith, c.requires.parts.fours) in (
       record {

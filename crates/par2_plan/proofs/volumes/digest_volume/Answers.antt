@@ -11,7 +11,7 @@ pub digest_recoveries-requires-clause-packets : goal.digest_recoveries-requires-
 digest_recoveries-requires-clause-packets c =
     let parts = c.args.parts.now in
     let volume = c.args.volume.now in
-    let s : ℕ = parts.set.now.slice_size in
+    let s : ℕ = parts.set.now.slice in
     let packets = flat_map (λ (e : ℕ). undigested parts.set_id e (slice_up_to parts s e)) (range_with_len volume.first volume.count) in
     let n : c.len.result ≡ length parts.index.items = search rules in
     let part = ap length (behind_index c.args.text.now parts.index.items packets c.len.result n c.requires.before) in
@@ -22,7 +22,7 @@ pub returns : goal.returns
 returns c =
     let parts = c.args.parts.now in
     let volume = c.args.volume.now in
-    let s : ℕ = parts.set.now.slice_size in
+    let s : ℕ = parts.set.now.slice in
     let index : List ℕ = parts.index.items in
     let packets = flat_map (λ (e : ℕ). undigested parts.set_id e (slice_up_to parts s e)) (range_with_len volume.first volume.count) in
     let n : c.len.result ≡ length index = search rules in

@@ -17,5 +17,5 @@ returns c =
     let volumes : List Volume = c.args.volumes.now in
     let target = map (volume_text c.args.parts.now) volumes in
     let size : length target ≡ length volumes = length-map volumes (volume_text c.args.parts.now) in
-    let old : length (lists_of c.args.texts.now) ≡ length volumes = ap length c.requires.before ∙ length-map volumes (volume_up_to c.args.parts.now c.args.parts.now.set.now.slice_size) in
+    let old : length (lists_of c.args.texts.now) ≡ length volumes = ap length c.requires.before ∙ length-map volumes (volume_up_to c.args.parts.now c.args.parts.now.set.now.slice) in
     all_changed_to target (lists_of c.args.texts.now) (lists_of c.loop-i.texts) c.loop-i.i (size ∙ sym old) (omega (arith, size, c.loop-i-test.false)) c.loop-i.invariant

@@ -17,7 +17,7 @@ returns-clause-lengths c folder base extras set held read =
     let agrees = c.rebuilt_slices_agree_with_what_survives.ensures folder base set searched held reads in
     let count = as_many_as_pairs folder set searched (kept_recovery set slices) (rebuilt set slices) agrees in
     let sound = c.set_is_sound.ensures folder base set reads in
-    all-filter (λ (file : Target × List ℕ). length file.1 ≡ file.0.size) (λ file. is_among (names_without_match (matches folder set searched)) file.0.name)
+    all-filter (λ (file : Target × List ℕ). length file.1 ≡ file.0.length) (λ file. is_among (names_without_match (matches folder set searched)) file.0.name)
     (files_of_slices set (rebuilt set slices)) (c.written_files_have_their_length.ensures set (rebuilt set slices) sound count agrees.sizes)
 
 pub returns-clause-digests : goal.returns-clause-digests

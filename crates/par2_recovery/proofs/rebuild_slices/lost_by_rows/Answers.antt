@@ -54,4 +54,4 @@ solved-requires-clause-slices c = λ j h.
     let count : length c.deref-4.result.now ≡ length recs = sym (length-texts_of c.deref-4.result.now) ∙ ap length are ∙ length-slices recs in
     let low : j < length recs = omega (arith, h, count) in
     ap (λ xs. length (list_at xs j)) are ∙ ap length (get_or-map (λ (r : ℕ × List ℕ). r.1) recs j (0, []) [] low)
-    ∙ all_get (λ (r : ℕ × List ℕ). length r.1 ≡ c.args.survivors.now.slice_size) recs j (0, []) low c.requires.kept
+    ∙ all_get (λ (r : ℕ × List ℕ). length r.1 ≡ c.args.survivors.now.slice) recs j (0, []) low c.requires.kept

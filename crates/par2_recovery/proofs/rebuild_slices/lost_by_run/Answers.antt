@@ -19,13 +19,13 @@ solved_run-requires-clause-size c = λ j h.
     let count : length c.deref-2.result.now ≡ length recs = sym (length-texts_of c.deref-2.result.now) ∙ ap length are ∙ length-slices recs in
     let low : j < length recs = omega (arith, h, count) in
     ap (λ xs. length (list_at xs j)) are ∙ ap length (get_or-map (λ (r : ℕ × List ℕ). r.1) recs j (0, []) [] low)
-    ∙ all_get (λ (r : ℕ × List ℕ). length r.1 ≡ c.args.survivors.now.slice_size) recs j (0, []) low c.requires.kept
+    ∙ all_get (λ (r : ℕ × List ℕ). length r.1 ≡ c.args.survivors.now.slice) recs j (0, []) low c.requires.kept
 
 pub returns : goal.returns
 returns c =
     let raw = c.args.survivors.now.known.items in
     let recs = recovered_of c.args.kept.now in
-    let size = c.args.survivors.now.slice_size in
+    let size = c.args.survivors.now.slice in
     let first = c.args.first in
     let inverse = lists_of c.args.inverse.now in
     let recovery = texts_of c.deref-2.result.now in

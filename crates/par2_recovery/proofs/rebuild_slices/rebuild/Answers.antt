@@ -46,7 +46,7 @@ lost_slices-requires-clause-kept c =
     let chosen : recovered_of found ≡ kept_slices c.deref-2.result.now (exponents_of survivors.recovery.items) (recovered_of survivors.recovery.items) =
     c.in_ok-kept.ensures.kept ∙ ap (λ rs. kept_slices c.deref-2.result.now (exponents_of rs) (recovered_of rs)) c.deref-3.ensures.value in
     let same : recovered_of c.deref-4.result.now ≡ recovered_of found = ap recovered_of (cc) in
-    subst (λ rs. AllByRecursion (λ r. length r.1 ≡ survivors.slice_size) rs) (sym (same ∙ chosen)) (all-filter (λ r. length r.1 ≡ survivors.slice_size) _ (recovered_of survivors.recovery.items) c.requires.recovery)
+    subst (λ rs. AllByRecursion (λ r. length r.1 ≡ survivors.slice) rs) (sym (same ∙ chosen)) (all-filter (λ r. length r.1 ≡ survivors.slice) _ (recovered_of survivors.recovery.items) c.requires.recovery)
 
 pub returns-clause-rebuilt : goal.returns-clause-rebuilt
 returns-clause-rebuilt c =

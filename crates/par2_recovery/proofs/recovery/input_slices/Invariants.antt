@@ -7,4 +7,4 @@ use Rattle.par2_recovery.specs.Views.{texts_of, names_of}
 use Rattle.par2_recovery.proofs.recovery.input_slices.Given as goal
 
 abbrev pub invariant-loop-i : goal.invariant-loop-i
-invariant-loop-i l = map (padded l.record.slice_size) (texts_of l.all.items) ≡ all_slices l.record.slice_size (files_of l.folder.files (take l.i (names_of l.record)))
+invariant-loop-i l = map (padded l.record.slice) (texts_of l.all.items) ≡ all_slices l.record.slice (files_of l.folder.files (take l.i (names_of l.record)))

@@ -27,19 +27,19 @@ loop-target-preserved c =
     let old_md5s : List (List ℕ) = c.loop-target.md5s.items in
     let new_md5s : List (List ℕ) = c.if-contains.md5s.items in
     let file : File = (t.name, (target_at slices first t).1) in
-    let made : (new ≡ old ++ cond c.contains.result (file ∷ []) []) × (new_md5s ≡ old_md5s ++ cond c.contains.result (t.digest ∷ []) []) =
-    elim c.if-contains.branch as (λ _. (new ≡ old ++ cond c.contains.result (file ∷ []) []) × (new_md5s ≡ old_md5s ++ cond c.contains.result (t.digest ∷ []) [])) [
+    let made : (new ≡ old ++ cond c.contains.result (file ∷ []) []) × (new_md5s ≡ old_md5s ++ cond c.contains.result (t.md5 ∷ []) []) =
+    elim c.if-contains.branch as (λ _. (new ≡ old ++ cond c.contains.result (file ∷ []) []) × (new_md5s ≡ old_md5s ++ cond c.contains.result (t.md5 ∷ []) [])) [
       | then-contains+in_ok-file_of+in_ok-push+in_ok-push-2 w ↦
           let pushed : new ≡ old ++ w.in_ok-file_of.field-0 ∷ [] = search rules in
-          let digest : new_md5s ≡ old_md5s ++ w.digest.result ∷ [] = search rules in (
+          let digest : new_md5s ≡ old_md5s ++ w.md5.result ∷ [] = search rules in (
             pushed ∙ ap (λ (f : File). old ++ f ∷ []) w.in_ok-file_of.ensures ∙ ap (λ b. old ++ cond b (file ∷ []) []) (sym w.if-contains.true),
-            digest ∙ ap (λ (d : List ℕ). old_md5s ++ d ∷ []) w.digest.ensures ∙ ap (λ b. old_md5s ++ cond b (t.digest ∷ []) []) (sym w.if-contains.true),
+            digest ∙ ap (λ (d : List ℕ). old_md5s ++ d ∷ []) w.md5.ensures ∙ ap (λ b. old_md5s ++ cond b (t.md5 ∷ []) []) (sym w.if-contains.true),
           )
       | else-contains w ↦
           let same : new ≡ old = search rules in
           let same_md5s : new_md5s ≡ old_md5s = search rules in (
             same ∙ sym (append-nil old) ∙ ap (λ b. old ++ cond b (file ∷ []) []) (sym w.if-contains.false),
-            same_md5s ∙ sym (append-nil old_md5s) ∙ ap (λ b. old_md5s ++ cond b (t.digest ∷ []) []) (sym w.if-contains.false),
+            same_md5s ∙ sym (append-nil old_md5s) ∙ ap (λ b. old_md5s ++ cond b (t.md5 ∷ []) []) (sym w.if-contains.false),
           )
     ] in
     let whole : length (flat_map (λ (u : Target). u.pairs) (drop i items)) ≡ length t.pairs + length (flat_map (λ (u : Target). u.pairs) ts) =
@@ -50,9 +50,9 @@ loop-target-preserved c =
           ∙ items_more (λ c. (c.0.name, c.1)) names t ts slices first c.contains.result old new (sym test) made.0
           ∙ ap (λ us. old ++ files_of (among names us (drop first slices))) (sym here) ∙ c.loop-target.invariant.files;
       md5s =
-          ap (λ n. new_md5s ++ map (λ c. c.0.digest) (among names ts (drop (first + n) slices))) many
-          ∙ items_more (λ c. c.0.digest) names t ts slices first c.contains.result old_md5s new_md5s (sym test) made.1
-          ∙ ap (λ us. old_md5s ++ map (λ c. c.0.digest) (among names us (drop first slices))) (sym here) ∙ c.loop-target.invariant.md5s;
+          ap (λ n. new_md5s ++ map (λ c. c.0.md5) (among names ts (drop (first + n) slices))) many
+          ∙ items_more (λ c. c.0.md5) names t ts slices first c.contains.result old_md5s new_md5s (sym test) made.1
+          ∙ ap (λ us. old_md5s ++ map (λ c. c.0.md5) (among names us (drop first slices))) (sym here) ∙ c.loop-target.invariant.md5s;
       long = omega (arith, many, whole, c.loop-target.invariant.long);
     }
 

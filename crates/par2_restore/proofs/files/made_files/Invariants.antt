@@ -10,6 +10,6 @@ invariant-loop-target l =
     let all = among l.names l.target-items l.slices in
     record {
       files : l.files.items ++ files_of left ≡ files_of all;
-      md5s : l.md5s.items ++ map (λ c. c.0.digest) left ≡ map (λ c. c.0.digest) all;
+      md5s : l.md5s.items ++ map (λ c. c.0.md5) left ≡ map (λ c. c.0.md5) all;
       long : l.first + length (flat_map (λ t. t.pairs) (drop l.target-index l.target-items)) ≡ length l.slices;
     }

@@ -19,7 +19,7 @@ use Rattle.par2_restore.proofs.files.restored_files.Goals as goal
 abbrev HaveMd5s : Made → Bool → Type 0
 HaveMd5s made have = have ≡ pointwise bytes_eq (map (λ (file : File). md5 file.1) made.files.items) made.md5s.items
 
-all_have : (targets : List (Target × List ℕ)) (made : Made) (have : Bool) → made.files.items ≡ files_of targets → made.md5s.items ≡ map (λ c. c.0.digest) targets → HaveMd5s made have
+all_have : (targets : List (Target × List ℕ)) (made : Made) (have : Bool) → made.files.items ≡ files_of targets → made.md5s.items ≡ map (λ c. c.0.md5) targets → HaveMd5s made have
     → list_all has_digest targets ≡ have
 all_have targets made have files md5s is =
     sym (is ∙ ap₂ (λ (fs : List File) (ds : List (List ℕ)). pointwise bytes_eq (map (λ (file : File). md5 file.1) fs) ds) files md5s ∙ all_right targets)

@@ -13,7 +13,7 @@ use Rattle.par2_restore.proofs.slices.slices_by.Goals as goal
 pub returns-clause-rebuilt : goal.returns-clause-rebuilt
 returns-clause-rebuilt c =
     let survivors = c.args.survivors.now in
-    let s : ℕ = survivors.slice_size in
+    let s : ℕ = survivors.slice in
     let windows : List Window = survivors.known.items in
     let texts : List (List ℕ) = lists_of c.in_ok-rebuilt.rebuilt.items in
     let slices : List Slice = c.in_ok-merged.field-0.items in

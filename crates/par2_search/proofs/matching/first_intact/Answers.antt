@@ -17,7 +17,7 @@ returns-then-is_intact c t h =
     let n : ℕ = c.loop-i.i-index in
     let i : ℕ = get_or c.args.free.now n 0 in
     let within : i < length c.args.texts.now = c.requires.free n 0 c.loop-i-test.true in
-    sym (first_here c.args.s (texts_of c.args.texts.now) t c.args.free.now n c.loop-i-test.true (at_number c.args.s c.args.texts.now t i _ c.is_intact.result within (c.is_intact.ensures t h.size h.pairs) ∙ c.if-is_intact.true))
+    sym (first_here c.args.s (texts_of c.args.texts.now) t c.args.free.now n c.loop-i-test.true (at_number c.args.s c.args.texts.now t i _ c.is_intact.result within (c.is_intact.ensures t h.length h.pairs) ∙ c.if-is_intact.true))
     ∙ c.loop-i.invariant t h
 
 pub loop-i-preserved : goal.loop-i-preserved
@@ -25,7 +25,7 @@ loop-i-preserved c t h =
     let n : ℕ = c.loop-i.i-index in
     let i : ℕ = get_or c.args.free.now n 0 in
     let within : i < length c.args.texts.now = c.requires.free n 0 c.loop-i-test.true in
-    first_later c.args.s (texts_of c.args.texts.now) t c.args.free.now n c.loop-i-test.true (at_number c.args.s c.args.texts.now t i _ c.is_intact.result within (c.is_intact.ensures t h.size h.pairs) ∙ c.if-is_intact.false)
+    first_later c.args.s (texts_of c.args.texts.now) t c.args.free.now n c.loop-i-test.true (at_number c.args.s c.args.texts.now t i _ c.is_intact.result within (c.is_intact.ensures t h.length h.pairs) ∙ c.if-is_intact.false)
     ∙ c.loop-i.invariant t h
 
 pub returns : goal.returns
