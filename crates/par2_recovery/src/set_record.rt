@@ -150,9 +150,6 @@ impl SetRecord {
             → files_of folder (names_of set) ≡ in_id_order (files_of folder names)) }
     {
         sort_ids(files.as_mut_slice())?;
-        Ok(SetRecord {
-            slice: s,
-            files,
-        })
+        Ok(SetRecord { slice: s, files })
     }
 }
