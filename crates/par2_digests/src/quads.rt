@@ -124,9 +124,7 @@ fn with_lanes<const M: usize, const N: usize>(vector: Simd<u32, M>) -> Simd<u32,
     requires { M ≡ N }
     ensures { result ≡ vector.entry }
 {
-    let mut lanes = [0; N];
-    lanes.copy_from_slice(&vector.to_array());
-    Simd::from_array(lanes)
+    Simd::from_slice(&vector.to_array())
 }
 
 /// Four words of each message, which stand `offset` bytes after its start.

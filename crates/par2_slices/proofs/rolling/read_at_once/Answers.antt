@@ -1,0 +1,6 @@
+use Rattle.std.proofs.Common.{rules, ◌∙◌}
+use Rattle.std.proofs.lemmas.Nat.{le_bytes_4}
+use Rattle.par2_slices.proofs.rolling.read_at_once.Goals as goal
+
+pub returns : goal.returns
+returns c = c.to_le_bytes.ensures ∙ le_bytes_4 c.args.bytes.now _ (search rules) (search rules) c.from_le_bytes.ensures
