@@ -23,11 +23,15 @@ fi
 sed '$d' "$log"
 # The gate has left the programs that it built, so `make demo` and `make install` need not build again.
 sh tools/sources.sh > crates/par2/out/par2.sources
-# What follows needs one processor at a time, so the rows for wider lanes are built and run beside it.
+# What follows needs one processor at a time, so the rows for wider lanes are built and run beside it, and on the
+# processors that are left each function that an edit changes is shown to be refused by a goal of its own.
 wide=$(mktemp)
-trap 'rm -f "$log" "$wide"' EXIT
+bodies=$(mktemp)
+trap 'rm -f "$log" "$wide" "$bodies"' EXIT
 python3 tests/avx2.py > "$wide" 2>&1 &
 rows=$!
+RT_JOBS=$((lanes > 2 ? lanes - 1 : 1)) nice python3 checks/wrong_bodies.py --together > "$bodies" 2>&1 &
+edits=$!
 sh tests/odd_folders.sh
 python3 tests/commands/run.py
 # The same over the program as the toolchain's own compiler makes it, where it does.
@@ -43,6 +47,12 @@ sh tests/installed.sh
 wait "$rows" || status=$?
 cat "$wide"
 [ "$status" -eq 0 ]
+if wait "$edits"; then
+    tail -n 1 "$bodies"
+else
+    cat "$bodies"
+    exit 1
+fi
 # That program is left for `make install` too.
 [ ! -x crates/par2/out/par2-x86-64-v3 ] || cp crates/par2/out/par2.sources crates/par2/out/par2-x86-64-v3.sources
 # The gate's own count stands last, and there is one.

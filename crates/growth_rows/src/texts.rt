@@ -206,7 +206,7 @@ impl Scene for Texts {
             "Rolling::new" => self.slide(alloc),
             "Wanted::new" | "pairs_of" | "find" | "find_among" => self.search(alloc, name),
             "append_recoveries" => self.append_slices(alloc),
-            "digest_recoveries" => self.md5(alloc),
+            "digest_recoveries" => self.digest(alloc),
             "append_main" | "append_desc" | "append_ifsc" | "append_recovery" | "append_creator" =>
                 { self.append(alloc, name) }
             "file_records" | "SetRecord::of_files" => self.record(alloc, name),

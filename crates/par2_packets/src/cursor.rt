@@ -90,12 +90,44 @@ fn packets_in_line(text: &[u8], len: usize) -> usize
     count
 }
 
-/// A place in a text, and the digests of packets that were computed there side by side.
+// Bytes whose digest is known.
+#[derive(Clone, Copy, Drop)]
+struct Digested<'a> {
+    bytes: &'a [u8],
+    digest: [u8; 16],
+    ghost right: { digest ≡ md5 bytes.now },
+}
+
+impl<'a> Digested<'a> {
+    fn of(bytes: &'a [u8]) -> Digested<'a>
+        ensures { result.bytes.now ≡ bytes.now }
+    {
+        Digested {
+            bytes,
+            digest: Md5::digest(bytes),
+        }
+    }
+
+    // The digest, where these are the bytes.
+    fn digest_of(&self, bytes: &[u8]) -> Option<[u8; 16]>
+        ensures { IfSome result (λ digest. digest ≡ md5 bytes.now) }
+    {
+        if self.bytes == bytes {
+            Some(self.digest)
+        } else {
+            None
+        }
+    }
+}
+
+/// A place in a text, and digests of packets: those that were computed there side by side, and the longest that was
+/// computed alone, in this text or in one before.
 #[derive(Clone, Copy, Drop)]
 pub(crate) struct Cursor<'a> {
     text: &'a [u8],
     at: usize,
     run: Run,
+    longest: Option<Digested<'a>>,
     ghost within: { at ≤ length text.now },
     ghost few: { run.count ≤ 8 },
     ghost known: { AreDigests text.now run },
@@ -113,7 +145,21 @@ impl<'a> Cursor<'a> {
             count: 0,
             digests: [[0; 16]; LANES],
         };
-        Cursor { text, at: 0, run }
+        Cursor {
+            text,
+            at: 0,
+            run,
+            longest: None,
+        }
+    }
+
+    /// At the front of another text, in which packets may stand that were digested here.
+    pub(crate) fn in_text(&self, text: &'a [u8]) -> Cursor<'a>
+        ensures { rest_of result ≡ text.now }
+    {
+        let mut cursor = Cursor::new(text);
+        cursor.longest = self.longest;
+        cursor
     }
 
     /// The text from here on.
@@ -130,12 +176,31 @@ impl<'a> Cursor<'a> {
         self.at += len;
     }
 
-    // The digest of the packet here, if it was computed before.
-    fn known_digest(&self, len: usize) -> Option<[u8; 16]>
-        ensures { IfSome result (λ digest. digest ≡ md5 (bytes_at 32 (len - 32) (rest_of self.now))) }
+    // The digest of the packet here, if it was computed beside others.
+    fn digest_in_run(&self, len: usize) -> Option<[u8; 16]>
+        ensures { IfSome result (λ digest. digest
+            ≡ md5 (bytes_at 32 (len - 32) (rest_of self.now))) }
     {
         let place = self.run.place_of(self.at, len)?;
         Some(self.run.digests[place])
+    }
+
+    // The digest of these bytes alone, which is computed unless they are the longest that was.
+    fn digest_alone(&mut self, bytes: &'a [u8]) -> [u8; 16]
+        ensures digest { result ≡ md5 bytes.now }
+        ensures kept { rest_of self.new ≡ rest_of self.old }
+    {
+        if let Some(digest) = self.longest.and_then(|longest| longest.digest_of(bytes)) {
+            return digest;
+        }
+        let digested = Digested::of(bytes);
+        if self
+            .longest
+            .is_none_or(|longest| longest.bytes.len() < bytes.len())
+        {
+            self.longest = Some(digested);
+        }
+        digested.digest
     }
 
     /// The digest of the packet of this length here, without the bytes in front of what is digested.
@@ -145,14 +210,14 @@ impl<'a> Cursor<'a> {
         ensures digest { result ≡ md5 (bytes_at 32 (len - 32) (rest_of self.old)) }
         ensures kept { rest_of self.new ≡ rest_of self.old }
     {
-        if let Some(digest) = self.known_digest(len) {
+        if let Some(digest) = self.digest_in_run(len) {
             return digest;
         }
         let rest = self.rest();
         let count = packets_in_line(rest, len);
         // Eight side by side take about the time of two, so fewer than three are faster by themselves.
         if count < 3 {
-            return Md5::digest(&rest[32..len]);
+            return self.digest_alone(&rest[32..len]);
         }
         self.run = run_at(self.text, self.at, len, count);
         self.run.digests[0]

@@ -109,6 +109,16 @@ impl<'a> Packets<'a> {
             cursor: Cursor::new(text),
         }
     }
+
+    /// Those of another text of the same set, as each volume repeats what the index file says. The longest packet that
+    /// was digested alone in these texts so far is digested once: where the same bytes stand again, they are compared.
+    pub fn in_text(&self, text: &'a [u8]) -> Packets<'a>
+        ensures { packets_of result ≡ packets.accepted text.now }
+    {
+        Packets {
+            cursor: self.cursor.in_text(text),
+        }
+    }
 }
 
 impl<'a> Iterator for Packets<'a> {

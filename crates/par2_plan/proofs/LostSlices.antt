@@ -7,7 +7,6 @@ use Rattle.std.proofs.lemmas.List.Sums.{length-filter, count_by-le-length}
 use Rattle.par2_spec.specs.Rank.{rank}
 use Rattle.par2_spec.specs.Sets.{Target}
 use Rattle.par2_spec.proofs.ListsLaws.{all-append}
-use Rattle.par2_spec.proofs.RankLaws.{none_kept}
 use Rattle.par2_search.specs.Texts.{padded_window, padded_windows}
 use Rattle.par2_plan.specs.Findings.{Standing, Intact, Matched, Unmatched, AreSized}
 use Rattle.par2_plan.specs.Parts.{missing_from, lost_from}
@@ -51,12 +50,6 @@ lost_below n m (t ∷ ts) (Unmatched slices ∷ standings) sized h =
     all-append (λ i. i < m) (missing_from n slices) (lost_from (n + length t.pairs) ts standings)
     (missing_below n m slices (omega (arith, h, whole, sized.0)))
     (lost_below (n + length t.pairs) m ts standings sized.1 (omega (arith, h, whole)))
-
--- ---- where nothing is lost
-
--- no exponent tells anything of no slice
-pub rank_of_nothing : (survivors : List ℕ) → rank [] survivors ≡ 0
-rank_of_nothing survivors = ap length (none_kept survivors)
 
 -- ---- slice by slice, and target by target
 

@@ -13,7 +13,7 @@ ghost use Rattle.par2_plan.specs.Views.{windows_in, missing_in, standing_of, sta
 use crate::finding::Standing;
 use par2_folder::{Folder, Name};
 use par2_gf16::Gf;
-use par2_recovery::rank;
+use par2_recovery::{rank, rank_by_runs};
 use par2_sets::{ParSet, Target};
 use par2_spec::Verdict;
 use std::alloc::{AllocError, Global};
@@ -205,16 +205,17 @@ fn exponents(alloc: Global, recovery: &[(u32, &[u8])]) -> Result<Vec<u32>, Alloc
     recovery.iter().map(|slice| slice.0).collect(alloc)
 }
 
-// How many of these lost slices the surviving recovery slices tell. No table is made where none is lost.
+// How many of these lost slices the surviving recovery slices tell. The field's tables are made only where equations
+// must decide it.
 fn rank_of(alloc: Global, set: &ParSet, lost: &[u32]) -> Result<usize, AllocError>
     requires { (i : ℕ) → slice_index lost.now i < 32768 }
     ensures { IfOk result (λ n. n ≡ ranks.rank lost.now (survivors set.now)) }
 {
-    if lost.is_empty() {
-        return Ok(0);
-    }
     let exponents = exponents(alloc, set.recovery())?;
-    rank(alloc, &Gf::new(alloc)?, lost, &exponents)
+    match rank_by_runs(lost, &exponents) {
+        Some(rank) => Ok(rank),
+        None => rank(alloc, &Gf::new(alloc)?, lost, &exponents),
+    }
 }
 
 /// What is said of a set, by how it stands with each of its targets.

@@ -104,9 +104,10 @@ fn has_run(exponents: &[u32], count: usize) -> bool
     false
 }
 
-// The rank, where the exponents tell it without their equations: all of them are close, or a run has as many as slices
-// are lost.
-fn rank_by_runs(lost: &[u32], exponents: &[u32]) -> Option<usize>
+/// The rank, where the exponents tell it without their equations: any two of them differ by less than the number of lost
+/// slices, which rise, or a run of consecutive ones has as many as slices are lost. It takes no memory, and the time of
+/// one look at each.
+pub fn rank_by_runs(lost: &[u32], exponents: &[u32]) -> Option<usize>
     requires lost { (i : ℕ) → slice_index lost.now i < 32768 }
     requires exponents { IsStrictlyIncreasing exponents.now }
     ensures { IfSome result (λ n. n ≡ rank lost.now exponents.now) }

@@ -16,7 +16,7 @@ mod set_record;
 mod syndromes;
 
 pub use columns::recovery_columns;
-pub use exponents::rank;
+pub use exponents::{rank, rank_by_runs};
 pub use file_record::file_record_by_md5;
 pub use rebuild_slices::{RebuildFault, Survivors, rebuild, rebuild_lost};
 pub use recovery::{input_slices, recovery_slice, recovery_slices_over};

@@ -56,7 +56,7 @@ impl<'a> Model for Slices<'a> {
 
     ghost Value = { List (List ℕ) };
 
-    ghost view = { λ a. slices_of a.slice a.slices.items };
+    ghost view = { λ a. slices_of a.slice_size a.slices.items };
 }
 
 // Adds a slice to the first bytes of a file, with the zeros that are missing in it, as far as the file goes.

@@ -4,8 +4,8 @@ ghost use Rattle.std.specs.Prelude.{◌≡◌, ◌++◌, ◌&&◌, not, map, IfO
 ghost use Rattle.std.specs.Str.{bytes_eq};
 ghost use Rattle.par2_spec.specs.Folders.{bytes_of};
 ghost use Rattle.par2_spec.specs.Names.{is_par_name};
-ghost use Rattle.par2_spec.specs.Packets.{accepted};
 ghost use Rattle.par2_spec.specs.Sets.{packets_with, other_par_names};
+ghost use Rattle.par2_packets.specs.Views as views;
 ghost use Rattle.par2_packets.specs.Views.{packet_of};
 ghost use Rattle.par2_sets.specs.Steps.{first_id, set_packets};
 
@@ -40,16 +40,16 @@ pub(crate) fn first_id(folder: &Folder, base: &Name) -> Option<[u8; 16]>
     Some(first.set_id)
 }
 
-// Adds the packets of a text that have the identifier.
+// Adds the packets that have the identifier.
 fn add_packets<'a>(
     packets: &mut Vec<Packet<'a>>,
     id: &[u8; 16],
-    text: &'a [u8],
+    found: &mut Packets<'a>,
 ) -> Result<(), AllocError>
-    ensures { let added = packets_with id.now (accepted text.now) in
+    ensures { let added = packets_with id.now (views.packets_of found.old) in
         OnOk result (map packet_of packets.new.items ≡ map packet_of packets.old.items ++ added) }
 {
-    for packet in Packets::new(text) {
+    for packet in found {
         if packet.set_id == *id {
             packets.push(packet)?;
         }
@@ -86,9 +86,11 @@ pub(crate) fn packets_of<'a>(
         IfOk result (λ packets. map packet_of packets.items ≡ all) }
 {
     let mut packets = Vec::new(alloc);
-    add_packets(&mut packets, id, bytes_of(folder, base))?;
+    let mut found = Packets::new(bytes_of(folder, base));
+    add_packets(&mut packets, id, &mut found)?;
     for name in &other_par_names(folder, base)? {
-        add_packets(&mut packets, id, bytes_of(folder, name))?;
+        found = found.in_text(bytes_of(folder, name));
+        add_packets(&mut packets, id, &mut found)?;
     }
     Ok(packets)
 }

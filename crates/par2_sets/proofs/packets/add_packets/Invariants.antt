@@ -1,5 +1,4 @@
 use Rattle.std.proofs.Common.{◌≡◌, ◌++◌, map}
-use Rattle.par2_spec.specs.Packets.{accepted}
 use Rattle.par2_spec.specs.Sets.{packets_with}
 use Rattle.par2_packets.specs.Views.{packet_of, packets_of}
 use Rattle.par2_sets.proofs.packets.add_packets.Given as goal
@@ -7,4 +6,4 @@ use Rattle.par2_sets.proofs.packets.add_packets.Given as goal
 abbrev pub invariant-loop-packet : goal.invariant-loop-packet
 invariant-loop-packet l =
     map packet_of l.packets.items ++ packets_with l.id (packets_of l.packet-iterator)
-    ≡ map packet_of l.initial.packets.items ++ packets_with l.id (accepted l.text)
+    ≡ map packet_of l.initial.packets.items ++ packets_with l.id (packets_of l.fn.found)
