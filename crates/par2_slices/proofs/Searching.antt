@@ -14,7 +14,7 @@ use Rattle.par2_spec.specs.Checksums.{Pair, crc32}
 use Rattle.par2_spec.specs.Windows.{is_match, window, first_match}
 use Rattle.par2_spec.proofs.ListsLaws.{range-append}
 use Rattle.par2_spec.proofs.TestLaws.{or_nothing}
-use Rattle.par2_slices.specs.Filters.{AreAlike, Bits, Groups, Marks}
+use Rattle.par2_slices.specs.Filters.{AreAlike, Groups, Marks}
 use Rattle.par2_slices.specs.Searches.{no_pair, IsOfPair, no_place, no_candidate, pair_at, place_at, candidate_at, answer_at, answer_below, spot_in, first_spot, first_spot_from, HoldsGroup, is_awaited, after_window, has_checksums, after_candidates, first_below, Earlier, IsWindow, IsTally, IsAt}
 use Rattle.par2_slices.specs.declared.batch.Candidate.{Candidate}
 use Rattle.par2_slices.specs.declared.batch.Spot.{Spot}
@@ -104,10 +104,10 @@ pub no_crc : (pair : Pair) (md5 : List ℕ) (crc : ℕ) → (pair.1 ≡ crc → 
 no_crc pair md5 crc other = and_left (crc == pair.1) _ (ne_eqb crc pair.1 (λ same. other (sym same)))
 
 -- the checksum of the window is of no group that is marked
-pub unmarked : (s : ℕ) (text : List ℕ) (earlier : Earlier) (o : ℕ) (pairs : List Pair) (found : List (Option Spot)) (left : ℕ) (filter : Groups) (candidates : List Candidate) (crc : ℕ) → IsAt s text earlier o pairs found left filter candidates → crc ≡ crc32 (window s text o) → (Marks filter.fine crc → ⊥) → IsAt s text earlier (o + 1) pairs found left filter candidates
+pub unmarked : (s : ℕ) (text : List ℕ) (earlier : Earlier) (o : ℕ) (pairs : List Pair) (found : List (Option Spot)) (left : ℕ) (filter : Groups) (candidates : List Candidate) (crc : ℕ) → IsAt s text earlier o pairs found left filter candidates → crc ≡ crc32 (window s text o) → (Marks filter crc → ⊥) → IsAt s text earlier (o + 1) pairs found left filter candidates
 unmarked s text earlier o pairs found left filter candidates crc at is not_marked =
     no_more s text earlier o pairs found left filter candidates at (λ i h none.
-    let Has : ℕ → Type 0 = λ c. Marks filter.fine c in
+    let Has : ℕ → Type 0 = λ c. Marks filter c in
     no_crc (pair_at pairs i) _ (crc32 (window s text o)) (λ same. not_marked (subst Has (same ∙ sym is) (at.tally.marked i h none))))
 
 none_counted : (X : Type 0) (p : X → Bool) (xs : List X) (i : ℕ) (d : X) → count_by p xs ≡ 0 → i < length xs → p (get_or xs i d) ≡ true → ⊥
@@ -187,9 +187,9 @@ emptied s text earlier o pairs old new left after filter marks candidates rest a
 }
 
 -- a group without an open pair may be taken away
-pub unmark : (s : ℕ) (text : List ℕ) (earlier : Earlier) (o : ℕ) (pairs : List Pair) (found : List (Option Spot)) (left : ℕ) (filter after : Groups) (candidates : List Candidate) (crc shift : ℕ) (group : List Place) → IsAt s text earlier o pairs found left filter candidates → HoldsGroup pairs shift crc group → ((k : ℕ) → k < length group → (place_at group k).crc % 64 ≡ crc % 64 → answer_at found (place_at group k).index ≡ None → ⊥) → ((other : ℕ) → ((other / 2 ^ shift ≡ crc / 2 ^ shift) × (other % 64 ≡ crc % 64) → ⊥) → Marks filter.fine other → Marks after.fine other)
-    → after.fine.shift ≡ filter.fine.shift → ((other : ℕ) → Marks after.fine other → Marks filter.fine other) → after.coarse ≡ filter.coarse → IsAt s text earlier o pairs found left after candidates
-unmark s text earlier o pairs found left filter after candidates crc shift group at holds closed keeps shift_same fewer coarse_same = record {
+pub unmark : (s : ℕ) (text : List ℕ) (earlier : Earlier) (o : ℕ) (pairs : List Pair) (found : List (Option Spot)) (left : ℕ) (filter after : Groups) (candidates : List Candidate) (crc : ℕ) (group : List Place) → IsAt s text earlier o pairs found left filter candidates → HoldsGroup pairs 17 crc group → ((k : ℕ) → k < length group → (place_at group k).crc % 64 ≡ crc % 64 → answer_at found (place_at group k).index ≡ None → ⊥) → ((other : ℕ) → (AreAlike crc other → ⊥) → Marks filter other → Marks after other)
+    → ((other : ℕ) → Marks after other → Marks filter other) → IsAt s text earlier o pairs found left after candidates
+unmark s text earlier o pairs found left filter after candidates crc group at holds closed keeps fewer = record {
   tally = record {
     len = at.tally.len;
     count = at.tally.count;
@@ -201,59 +201,42 @@ unmark s text earlier o pairs found left filter after candidates crc shift group
         (ap (λ c. c % 64) (sym (holds.each place.0 place.1).crc ∙ ap (λ j. (pair_at pairs j).1) place.2) ∙ same.1)
         (ap (answer_at found) place.2 ∙ none))
         (at.tally.marked i h none);
-    only = λ other is.
-        let Its : ℕ → Type 0 = λ n. IsOfPair pairs n other in
-        subst Its (sym shift_same) (at.tally.only other (fewer other is));
-    coarse_only =
-        let Only : Bits → Type 0 = λ bits. (other : ℕ) → Marks bits other → IsOfPair pairs bits.shift other in
-        subst Only (sym coarse_same) at.tally.coarse_only;
+    only = λ other is. at.tally.only other (fewer other is);
   };
   answers = at.answers;
   candidates = at.candidates;
 }
 
 -- the checksums of the first n pairs were added to a filter without groups
-pub record IsFilled (pairs : List Pair) (n : ℕ) (empty filter : Groups) : Type 0 where
-  pub marked : (k : ℕ) → k < n → Marks filter.fine (pair_at pairs k).1
-  pub only : (crc : ℕ) → Marks filter.fine crc → IsOfPair pairs filter.fine.shift crc
-  pub coarse_only : (crc : ℕ) → Marks filter.coarse crc → IsOfPair pairs filter.coarse.shift crc
-  pub size : length filter.fine.words ≡ length empty.fine.words
+pub record IsFilled (pairs : List Pair) (n : ℕ) (filter : Groups) : Type 0 where
+  pub marked : (k : ℕ) → k < n → Marks filter (pair_at pairs k).1
+  pub only : (crc : ℕ) → Marks filter crc → IsOfPair pairs crc
 
 -- a checksum more is added
-pub filled_more : (pairs : List Pair) (n : ℕ) (empty before after : Groups) → IsFilled pairs n empty before → n < length pairs → (crc : ℕ)
-    → after.fine.shift ≡ before.fine.shift → after.coarse.shift ≡ before.coarse.shift → length after.fine.words ≡ length before.fine.words
-    → Marks after.fine crc → ((other : ℕ) → Marks before.fine other → Marks after.fine other)
-    → ((other : ℕ) → Marks after.fine other → AreAlike before.fine.shift crc other ⊎ Marks before.fine other)
-    → ((other : ℕ) → Marks after.coarse other → AreAlike before.coarse.shift crc other ⊎ Marks before.coarse other)
-    → crc ≡ (pair_at pairs n).1 → IsFilled pairs (n + 1) empty after
-filled_more pairs n empty before after filled low crc shift coarse_shift size marked kept only coarse its = record {
+pub filled_more : (pairs : List Pair) (n : ℕ) (before after : Groups) → IsFilled pairs n before → n < length pairs → (crc : ℕ)
+    → Marks after crc → ((other : ℕ) → Marks before other → Marks after other)
+    → ((other : ℕ) → Marks after other → AreAlike crc other ⊎ Marks before other)
+    → crc ≡ (pair_at pairs n).1 → IsFilled pairs (n + 1) after
+filled_more pairs n before after filled low crc marked kept only its = record {
   marked = λ k h.
-      let Has : ℕ → Type 0 = λ c. Marks after.fine c in
+      let Has : ℕ → Type 0 = λ c. Marks after c in
       elim (cases_lt k n) [
         | inl early ↦ kept (pair_at pairs k).1 (filled.marked k early)
         | inr late ↦ subst Has (its ∙ ap (λ j. (pair_at pairs j).1) (let e : n ≡ k = omega (arith, late, h) in e)) marked
       ];
   only = λ other is.
-      let Its : ℕ → Type 0 = λ s. IsOfPair pairs s other in
-      subst Its (sym shift) (elim (only other is) [
-        | inl alike ↦ (n, low, alike_to before.fine.shift crc (pair_at pairs n).1 other its alike)
+      elim (only other is) [
+        | inl alike ↦ (n, low, alike_to crc (pair_at pairs n).1 other its alike)
         | inr old ↦ filled.only other old
-      ]);
-  coarse_only = λ other is.
-      let Its : ℕ → Type 0 = λ s. IsOfPair pairs s other in
-      subst Its (sym coarse_shift) (elim (coarse other is) [
-        | inl alike ↦ (n, low, alike_to before.coarse.shift crc (pair_at pairs n).1 other its alike)
-        | inr old ↦ filled.coarse_only other old
-      ]);
-  size = size ∙ filled.size;
+      ];
 }
   where
-    alike_to : (s a b other : ℕ) → a ≡ b → AreAlike s a other → AreAlike s b other
-    alike_to s a b other e alike = let Its : ℕ → Type 0 = λ c. AreAlike s c other in subst Its e alike
+    alike_to : (a b other : ℕ) → a ≡ b → AreAlike a other → AreAlike b other
+    alike_to a b other e alike = let Its : ℕ → Type 0 = λ c. AreAlike c other in subst Its e alike
 
 -- before the first text
-pub none_answered : (pairs : List Pair) (found : List (Option Spot)) (left : ℕ) (filter : Groups) → found ≡ replicate (length pairs) None → left ≡ length pairs → ((i : ℕ) → i < length pairs → Marks filter.fine (pair_at pairs i).1) → ((crc : ℕ) → Marks filter.fine crc → IsOfPair pairs filter.fine.shift crc) → ((crc : ℕ) → Marks filter.coarse crc → IsOfPair pairs filter.coarse.shift crc) → IsTally pairs found left filter
-none_answered pairs found left filter found_is left_is marked only coarse_only = record {
+pub none_answered : (pairs : List Pair) (found : List (Option Spot)) (left : ℕ) (filter : Groups) → found ≡ replicate (length pairs) None → left ≡ length pairs → ((i : ℕ) → i < length pairs → Marks filter (pair_at pairs i).1) → ((crc : ℕ) → Marks filter crc → IsOfPair pairs crc) → IsTally pairs found left filter
+none_answered pairs found left filter found_is left_is marked only = record {
   len = ap length found_is ∙ length-replicate (length pairs) None;
   count =
       left_is
@@ -262,7 +245,6 @@ none_answered pairs found left filter found_is left_is marked only coarse_only =
       ∙ ap (count_by is_none) (sym found_is);
   marked = λ i h none. marked i h;
   only = only;
-  coarse_only = coarse_only;
 }
 
 pub never_answered : (n i : ℕ) → answer_at (replicate n None) i ≡ None
@@ -426,7 +408,6 @@ tally_settled pairs md5 crc spot old new left count after filter tally size each
   count = omega (arith, rest, total, tally.count);
   marked = λ i low none. tally.marked i low (was_open (has_checksums md5 crc (pair_at pairs i)) spot (answer_at old i) (answer_at new i) (each i low) none);
   only = tally.only;
-  coarse_only = tally.coarse_only;
 }
 
 pub is_open : (answer : Option Spot) → is_none answer ≡ false → answer ≡ None → ⊥

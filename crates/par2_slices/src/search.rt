@@ -5,13 +5,12 @@ ghost use Rattle.std.specs.List.{count_by};
 ghost use Rattle.std.specs.Option.{is_none};
 ghost use Rattle.par2_spec.specs.Checksums.{crc32};
 ghost use Rattle.par2_spec.specs.Windows.{first_match, window};
-ghost use Rattle.par2_slices.specs.Filters.{AreFor};
 ghost use Rattle.par2_slices.specs.Searches.{after_window, candidate_at, has_checksums, is_awaited, answer_at, pair_at, place_at, first_spot, after_candidates, Earlier, IsAt, IsPlace, IsTally, IsWaiting, IsWindow};
 
 use crate::batch::{Candidate, Spot, digests};
 use crate::cutting::window_bytes;
 use crate::digest::padded_md5;
-use crate::filter::Filter;
+use crate::filter::{Filter, SHIFT};
 use crate::rolling::Rolling;
 use crate::wanted_pairs::{Pair, Place, Wanted};
 use arrayvec::ArrayVec;
@@ -98,11 +97,10 @@ impl Search {
             (λ search. IsTally wanted.now search.found.items search.left search.filter) }
         ensures open { IfOk result (λ search. (i : ℕ)
             → answer_at search.found.items i ≡ None) }
-        ensures size { IfOk result (λ search. AreFor (length wanted.now) search.filter.fine) }
         ensures batch { IfOk result (λ search. search.batch.items ≡ []) }
     {
         let pairs = wanted.pairs();
-        let mut filter = Filter::new(alloc, pairs.len())?;
+        let mut filter = Filter::new(alloc)?;
         for pair in pairs {
             filter.insert(pair.1);
         }
@@ -131,7 +129,6 @@ impl Search {
             candidate.spot
             (answer_at self.old.found.items i) }
         ensures batch { self.new.batch.items ≡ self.old.batch.items }
-        ensures filter { self.new.filter ≡ self.old.filter }
     {
         let group = wanted.group(candidate.crc, 0);
         let Candidate { spot, crc } = candidate;
@@ -149,7 +146,6 @@ impl Search {
             ≡ after_candidates s bytes.now
             (pair_at wanted.now i) self.old.batch.items (answer_at self.old.found.items i) }
         ensures batch { self.new.batch.items ≡ [] }
-        ensures filter { self.new.filter ≡ self.old.filter }
     {
         let batch = self.batch.take();
         self.awaited = 0;
@@ -207,9 +203,8 @@ impl Search {
         requires room { length self.old.batch.items < 8 }
         requires short { length bytes.now < candidate.spot.offset + s
             → self.old.batch.items ≡ [] }
-        ensures at { IsAt s bytes.now earlier (candidate.spot.offset + 1)
+        ensures { IsAt s bytes.now earlier (candidate.spot.offset + 1)
             wanted.now self.new.found.items self.new.left self.new.filter self.new.batch.items }
-        ensures filter { self.new.filter ≡ self.old.filter }
     {
         let window = window_bytes(bytes, s, candidate.spot.offset);
         if (window.len() as u64) < s {
@@ -224,7 +219,7 @@ impl Search {
         }
     }
 
-    /// Looks at the window at `offset`, whose CRC-32 `crc` may be marked.
+    /// Looks at the window at `offset`, whose CRC-32 `crc` is of a marked group.
     // Few are, and the loop over all offsets is faster without these lines in it.
     #[cold]
     #[inline(never)]
@@ -238,11 +233,8 @@ impl Search {
         ensures { IsAt s bytes.now earlier (spot.offset + 1)
             wanted.now self.new.found.items self.new.left self.new.filter self.new.batch.items }
     {
-        if !self.filter.contains(crc) {
-            return;
-        }
         self.make_room(wanted, bytes, s, spot.offset, crc);
-        let group = wanted.group(crc, self.filter.shift());
+        let group = wanted.group(crc, SHIFT);
         let pairs = awaited(group, crc, &self.found);
         if pairs > 0 {
             self.put(wanted, bytes, s, Candidate { spot, crc }, pairs);
@@ -263,7 +255,7 @@ impl Search {
         ensures { IsAt s bytes.now earlier (spot.offset + 1)
             wanted.now self.new.found.items self.new.left self.new.filter self.new.batch.items }
     {
-        if self.filter.may_contain(crc) {
+        if self.filter.contains(crc) {
             self.look(wanted, bytes, s, spot, crc);
         }
     }

@@ -7,50 +7,36 @@ use Rattle.par2_slices.proofs.Groups.{within, gone, kept_by_remove, only_by_remo
 use Rattle.par2_slices.proofs.filter.Filter.remove.Goals as goal
 
 pub index_mut-requires : goal.index_mut-requires
-index_mut-requires c = omega (arith, within c.args.crc c.self.inside.shift c.ranges.crc.fits c.self.invariant.low, c.self.invariant.len, c.self.inside.words.ok.0)
+index_mut-requires c = omega (arith, within c.args.crc 17 c.ranges.crc.fits (omega arith), c.self.invariant)
 
 pub returns-clause-gone : goal.returns-clause-gone
 returns-clause-gone c =
     let items = c.self.inside.words.items in
-    let place = c.args.crc / 2 ^ c.self.inside.shift in
-    let held : place < length items = omega (arith, within c.args.crc c.self.inside.shift c.ranges.crc.fits c.self.invariant.low, c.self.invariant.len) in
+    let place = c.args.crc / 2 ^ 17 in
+    let held : place < length items = omega (arith, within c.args.crc 17 c.ranges.crc.fits (omega arith), c.self.invariant) in
     let read : c.index_mut.result.now ≡ get_or items place 0 = get_or_read items place c.index_mut.result.now held c.index_mut.ensures.value 0 in
-    rw read (gone c.self.inside.shift c.args.crc items held)
+    rw read (gone c.args.crc items held)
 
 pub returns-clause-kept : goal.returns-clause-kept
 returns-clause-kept c other differs is =
     let items = c.self.inside.words.items in
-    let place = c.args.crc / 2 ^ c.self.inside.shift in
-    let held : place < length items = omega (arith, within c.args.crc c.self.inside.shift c.ranges.crc.fits c.self.invariant.low, c.self.invariant.len) in
+    let place = c.args.crc / 2 ^ 17 in
+    let held : place < length items = omega (arith, within c.args.crc 17 c.ranges.crc.fits (omega arith), c.self.invariant) in
     let read : c.index_mut.result.now ≡ get_or items place 0 = get_or_read items place c.index_mut.result.now held c.index_mut.ensures.value 0 in
-    let Has : Groups → Type 0 = λ groups. Marks groups.fine other in
-    let Apart : Groups → Type 0 = λ groups. AreAlike groups.fine.shift c.args.crc other → ⊥ in
-    let apart : AreAlike c.self.inside.shift c.args.crc other → ⊥ = subst Apart (sym c.self.view_is) differs in
-    rw read (kept_by_remove c.self.inside.shift c.args.crc items held other apart (subst Has (sym c.self.view_is) is))
+    let Has : Groups → Type 0 = λ groups. Marks groups other in
+    rw read (kept_by_remove c.args.crc items held other differs (subst Has (sym c.self.view_is) is))
 
 pub returns-clause-only : goal.returns-clause-only
 returns-clause-only c other is =
     let items = c.self.inside.words.items in
-    let place = c.args.crc / 2 ^ c.self.inside.shift in
-    let held : place < length items = omega (arith, within c.args.crc c.self.inside.shift c.ranges.crc.fits c.self.invariant.low, c.self.invariant.len) in
+    let place = c.args.crc / 2 ^ 17 in
+    let held : place < length items = omega (arith, within c.args.crc 17 c.ranges.crc.fits (omega arith), c.self.invariant) in
     let read : c.index_mut.result.now ≡ get_or items place 0 = get_or_read items place c.index_mut.result.now held c.index_mut.ensures.value 0 in
-    let Has : Groups → Type 0 = λ groups. Marks groups.fine other in
-    let After : ℕ → Type 0 = λ word. Marks (record { shift = c.self.inside.shift; words = set items place (bit_and word (bit_not w64 (1 * 2 ^ (c.args.crc % 64) % 2 ^ 64))) }) other in
-    subst Has c.self.view_is (only_by_remove c.self.inside.shift c.args.crc items held other (subst After read is))
+    let Has : Groups → Type 0 = λ groups. Marks groups other in
+    let After : ℕ → Type 0 = λ word. Marks (record { words = set items place (bit_and word (bit_not w64 (1 * 2 ^ (c.args.crc % 64) % 2 ^ 64))) }) other in
+    subst Has c.self.view_is (only_by_remove c.args.crc items held other (subst After read is))
 
 pub invariant_of-self : goal.invariant_of-self
 invariant_of-self c =
-    let items = c.self.inside.words.items in
-    let place = c.args.crc / 2 ^ c.self.inside.shift in
-    let held : place < length items = omega (arith, within c.args.crc c.self.inside.shift c.ranges.crc.fits c.self.invariant.low, c.self.invariant.len) in
-    let read : c.index_mut.result.now ≡ get_or items place 0 = get_or_read items place c.index_mut.result.now held c.index_mut.ensures.value 0 in
     let mask = bit_not w64 (1 * 2 ^ (c.args.crc % 64) % 2 ^ 64) in
-    record {
-      low = c.self.invariant.low;
-      len = length-set items place (bit_and c.index_mut.result.now mask) ∙ c.self.invariant.len;
-      above = c.self.invariant.above;
-      coarse_len = c.self.invariant.coarse_len;
-      covered = λ other is.
-          let After : ℕ → Type 0 = λ word. Marks (record { shift = c.self.inside.shift; words = set items place (bit_and word mask) }) other in
-          c.self.invariant.covered other (only_by_remove c.self.inside.shift c.args.crc items held other (subst After read is));
-    }
+    length-set c.self.inside.words.items (c.args.crc / 2 ^ 17) (bit_and c.index_mut.result.now mask) ∙ c.self.invariant

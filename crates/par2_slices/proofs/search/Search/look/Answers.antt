@@ -5,9 +5,8 @@ use Rattle.std.specs.List.{count_by}
 use Rattle.par2_spec.specs.Checksums.{Pair}
 use Rattle.par2_slices.specs.declared.search.Search.{Search}
 use Rattle.par2_slices.specs.declared.wanted_pairs.Place.{Place}
-use Rattle.par2_slices.specs.Filters.{Groups}
 use Rattle.par2_slices.specs.Searches.{is_awaited, answer_at, place_at, IsAt}
-use Rattle.par2_slices.proofs.Searching.{unawaited, unmark, unmarked}
+use Rattle.par2_slices.proofs.Searching.{unawaited, unmark}
 use Rattle.par2_slices.proofs.search.Search.look.Given.{Over}
 use Rattle.par2_slices.proofs.search.Search.look.Goals as goal
 use Rattle.par2_slices.proofs.search.Search.look.Goals.{After-is_waiting, then-pairs-gt0, else-pairs-gt0}
@@ -24,11 +23,11 @@ next_at g c =
     let room : Search = c.make_room.new.self in
     let At : Search → Type 0 = λ search. IsAt s text g.earlier (o + 1) wanted search.found.items search.left search.filter search.batch.items in
     elim c.if-pairs-gt0.branch [
-      | then-pairs-gt0 w ↦ subst At (sym w.self-is) w.put.ensures.at
+      | then-pairs-gt0 w ↦ subst At (sym w.self-is) w.put.ensures
       | else-pairs-gt0 w ↦ (
           let Counted : List (Option Spot) → Type 0 = λ found. count_by (is_awaited crc found) group ≡ 0 in
           let none : c.awaited-pairs.result ≡ 0 = omega (arith, w.if-pairs-gt0.false) in
-          subst At (sym w.self-is) (unawaited s text g.earlier o wanted room.found.items room.left room.filter room.batch.items crc c.shift.result group c.make_room.ensures.at c.requires.1.1.1 c.group-group.ensures
+          subst At (sym w.self-is) (unawaited s text g.earlier o wanted room.found.items room.left room.filter room.batch.items crc 17 group c.make_room.ensures.at c.requires.1.1.1 c.group-group.ensures
           (subst Counted c.deref.ensures.value (sym c.awaited-pairs.ensures ∙ none)))
           )
     ]
@@ -42,22 +41,9 @@ returns-then-not-is_waiting g c =
     let wanted : List Pair = c.args.wanted.now in
     let group : List Place = c.group-group.result.now in
     let room : Search = c.make_room.new.self in
-    let filter_is : c.if-pairs-gt0.self.filter ≡ room.filter = elim c.if-pairs-gt0.branch [
-      | then-pairs-gt0 w ↦ ap (λ (search : Search). search.filter) w.self-is ∙ w.put.ensures.filter
-      | else-pairs-gt0 w ↦ ap (λ (search : Search). search.filter) w.self-is
-    ]
-    in
-    let shift_is : c.if-pairs-gt0.self.filter.fine.shift ≡ c.shift.result = ap (λ (groups : Groups). groups.fine.shift) filter_is ∙ sym c.shift.ensures.value in
-    let Other : ℕ → ℕ → Type 0 = λ other shift. (other / 2 ^ shift ≡ crc / 2 ^ shift) × (other % 64 ≡ crc % 64) → ⊥ in
-    unmark s text g.earlier (o + 1) wanted c.if-pairs-gt0.self.found.items c.if-pairs-gt0.self.left c.if-pairs-gt0.self.filter c.remove.new.self c.if-pairs-gt0.self.batch.items crc c.shift.result group (next_at g (goal.at.returns-then-not-is_waiting g c).After-is_waiting) c.group-group.ensures
+    unmark s text g.earlier (o + 1) wanted c.if-pairs-gt0.self.found.items c.if-pairs-gt0.self.left c.if-pairs-gt0.self.filter c.remove.new.self c.if-pairs-gt0.self.batch.items crc group (next_at g (goal.at.returns-then-not-is_waiting g c).After-is_waiting) c.group-group.ensures
     (λ k h low none. let both : true ≡ false = sym (c.is_waiting.ensures.1 (k, h, low, ap (λ found. answer_at found (place_at group k).index) c.deref-2.ensures.value ∙ none)) ∙ c.if-not-is_waiting.true in cc)
-    (λ other differs is. let Its : ℕ → Type 0 = Other other in c.remove.ensures.kept other (subst Its (sym shift_is) differs) is)
-    c.remove.ensures.shift c.remove.ensures.only c.remove.ensures.coarse
+    c.remove.ensures.kept c.remove.ensures.only
 
 pub returns-else-not-is_waiting : goal.returns-else-not-is_waiting
 returns-else-not-is_waiting g c = next_at g (goal.at.returns-else-not-is_waiting g c).After-is_waiting
-
-pub returns-then-not-contains : goal.returns-then-not-contains
-returns-then-not-contains g c =
-    unmarked c.args.s c.args.bytes.now g.earlier c.args.spot.offset c.args.wanted.now c.args.self.now.found.items c.args.self.now.left c.args.self.now.filter c.args.self.now.batch.items c.args.crc c.requires.0 c.requires.1.1.1
-    (λ is. let both : true ≡ false = sym (c.contains.ensures.1 is) ∙ c.if-not-contains.true in cc)

@@ -12,7 +12,7 @@ returns-clause-tally c =
     let found : List (Option Spot) = c.in_ok-vec.field-0.items in
     let filled = c.in_ok-vec.ensures.items_if_clones_equal in
     let Tally : List Pair → Type 0 = λ ps. IsTally ps found (length pairs) c.loop-pair.filter in
-    subst Tally c.pairs-pairs.ensures (none_answered pairs found (length pairs) c.loop-pair.filter (filled (λ y h. search rules)) refl (λ i h. c.loop-pair.invariant.marked i (omega arith)) c.loop-pair.invariant.only c.loop-pair.invariant.coarse_only)
+    subst Tally c.pairs-pairs.ensures (none_answered pairs found (length pairs) c.loop-pair.filter (filled (λ y h. search rules)) refl (λ i h. c.loop-pair.invariant.marked i (omega arith)) c.loop-pair.invariant.only)
 
 pub returns-clause-open : goal.returns-clause-open
 returns-clause-open c i =
@@ -21,13 +21,11 @@ returns-clause-open c i =
 
 pub loop-pair-preserved : goal.loop-pair-preserved
 loop-pair-preserved c =
-    filled_more c.pairs-pairs.result.now c.loop-pair.pair-index c.in_ok-filter.filter c.loop-pair.filter c.insert.new.self c.loop-pair.invariant c.loop-pair-test.true _
-    c.insert.ensures.shift c.insert.ensures.coarse_shift c.insert.ensures.size c.insert.ensures.marked c.insert.ensures.kept c.insert.ensures.only c.insert.ensures.coarse (search rules)
+    filled_more c.pairs-pairs.result.now c.loop-pair.pair-index c.loop-pair.filter c.insert.new.self c.loop-pair.invariant c.loop-pair-test.true _
+    c.insert.ensures.marked c.insert.ensures.kept c.insert.ensures.only (search rules)
 
 pub loop-pair-init : goal.loop-pair-init
 loop-pair-init c = record {
   marked = λ k h. absurd (omega (arith, h));
-  only = λ crc is. absurd (c.in_ok-filter.ensures.fine crc is);
-  coarse_only = λ crc is. absurd (c.in_ok-filter.ensures.coarse crc is);
-  size = refl;
+  only = λ crc is. absurd (c.in_ok-filter.ensures crc is);
 }

@@ -8,8 +8,8 @@ use Rattle.par2_slices.proofs.search.Search.put.Given.{Over}
 use Rattle.par2_slices.proofs.search.Search.put.Goals as goal
 use Rattle.par2_slices.proofs.search.Search.put.Goals.{After-push}
 
-pub returns-then-window-s-clause-at : goal.returns-then-window-s-clause-at
-returns-then-window-s-clause-at g c =
+pub returns-then-window-s : goal.returns-then-window-s
+returns-then-window-s g c =
     let s : ℕ = c.args.s in
     let text : List ℕ = c.args.bytes.now in
     let o : ℕ = c.args.candidate.spot.offset in
@@ -35,11 +35,11 @@ pushed_at g c =
     in
     subst At (sym c.push.ensures.items) (pushed s text g.earlier c.args.wanted.now c.args.self.now.found.items c.args.self.now.left c.args.self.now.filter c.args.self.now.batch.items c.args.candidate c.requires.0 c.requires.1.1.0 its)
 
-pub returns-then-self-clause-at : goal.returns-then-self-clause-at
-returns-then-self-clause-at g c =
+pub returns-then-self : goal.returns-then-self
+returns-then-self g c =
     emptied c.args.s c.args.bytes.now g.earlier (c.args.candidate.spot.offset + 1) c.args.wanted.now c.args.self.now.found.items c.settle_batch.new.self.found.items c.args.self.now.left c.settle_batch.new.self.left c.args.self.now.filter c.settle_batch.new.self.filter c.push.new.self.items c.settle_batch.new.self.batch.items
-    (pushed_at g (goal.at.returns-then-self-clause-at g c).After-push)
+    (pushed_at g (goal.at.returns-then-self g c).After-push)
     c.settle_batch.ensures.tally c.settle_batch.ensures.batch c.settle_batch.ensures.each
 
-pub returns-else-self-clause-at : goal.returns-else-self-clause-at
-returns-else-self-clause-at g c = pushed_at g (goal.at.returns-else-self-clause-at g c).After-push
+pub returns-else-self : goal.returns-else-self
+returns-else-self g c = pushed_at g (goal.at.returns-else-self g c).After-push

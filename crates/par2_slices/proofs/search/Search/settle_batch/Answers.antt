@@ -34,7 +34,6 @@ loop-k-preserved c =
           ∙ sym (settled_from s text pair candidates k old inside)
           ∙ c.loop-k.invariant.each i h;
       batch = c.answer.ensures.batch ∙ c.loop-k.invariant.batch;
-      filter = c.answer.ensures.filter ∙ c.loop-k.invariant.filter;
     }
 
 pub returns-clause-each : goal.returns-clause-each

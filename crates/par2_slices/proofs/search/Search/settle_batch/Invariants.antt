@@ -7,5 +7,4 @@ invariant-loop-k l = record {
   tally : IsTally l.wanted l.self.found.items l.self.left l.self.filter;
   each : (i : ℕ) → i < length l.wanted → after_candidates l.s l.bytes (pair_at l.wanted i) (drop l.k l.candidates) (answer_at l.self.found.items i) ≡ after_candidates l.s l.bytes (pair_at l.wanted i) l.candidates (answer_at l.initial.self.found.items i);
   batch : l.self.batch.items ≡ [];
-  filter : l.self.filter ≡ l.initial.self.filter;
 }
