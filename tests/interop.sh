@@ -4,6 +4,7 @@
 set -eu
 cd "$(dirname "$0")/.."
 ours=$PWD/crates/par2/out/par2
+tests=$PWD/tests
 if ! command -v par2create > /dev/null 2>&1 || ! command -v par2repair > /dev/null 2>&1; then
     echo "sets are not exchanged: par2cmdline is not installed"
     exit 0
@@ -11,6 +12,7 @@ fi
 room=$(mktemp -d)
 trap 'rm -rf "$room"' EXIT
 exchanged=0
+compared=0
 LC_ALL=C.UTF-8
 export LC_ALL
 
@@ -112,6 +114,29 @@ exchange() {
     done
 }
 
+# compare SIZE COUNT FIRST: the files of `whole` are protected by each program, and the recovery packets are the same.
+compare() {
+    for maker in ours theirs; do
+        rm -rf "$room/here" "$room/by $maker"
+        cp -R "$room/whole" "$room/here"
+        cd "$room/here"
+        protect "$maker" "$1" "$2" "$3"
+        mv "$room/here" "$room/by $maker"
+    done
+    cd "$room"
+    python3 "$tests/equal_recovery.py" "by ours" "by theirs" > said || fail "recovery slices"
+    compared=$((compared + $(cat said)))
+}
+
+# large SIZE SLICES COUNT FIRST: a small file and a large one, of so many slices in all: compared, and exchanged.
+large() {
+    fresh
+    file aa "$2" "$(($1 * 40 - 5))"
+    file bulk "$3" "$(($1 * ($2 - 40) - 3))"
+    compare "$1" "$3" "$4"
+    exchange "$2 slices" "$1" "$3" "$4"
+}
+
 # file NAME SEED LENGTH: puts a file into `whole`.
 file() { text "$2" "$3" > "$room/whole/$1"; }
 
@@ -149,5 +174,11 @@ exchange "300 recovery slices" 16 300 0
 exchange "first exponents above 0" 64 70 1000
 exchange "one slice" 4000 1 0
 exchange "a high first exponent" 40 100 30000
+kinds="overwritten removed"
+large 64 600 60 0
+large 32 1500 150 7
+large 16 3000 45 20000
+large 16 5000 500 0
 cd "$room"
 echo "sets exchanged with par2cmdline: $exchanged folders, each repaired by the other program"
+echo "recovery slices compared with par2cmdline's: $compared, byte for byte"

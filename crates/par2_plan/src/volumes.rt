@@ -282,7 +282,8 @@ fn digest_at(
     requires before { list_at (lists_of texts.old) i
         ≡ volume_up_to parts.now parts.now.set.now.slice volume.now }
     ensures changed { OneChanged (lists_of texts.old) (lists_of texts.new) i }
-    ensures here { OnOk result (list_at (lists_of texts.new) i ≡ volume_text parts.now volume.now) }
+    ensures here { OnOk result (list_at (lists_of texts.new) i
+        ≡ volume_text parts.now volume.now) }
 {
     digest_volume(alloc, texts[i].as_mut_slice(), parts, volume)
 }

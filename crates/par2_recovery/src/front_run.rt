@@ -50,7 +50,8 @@ fn first_of<'a>(
     count: usize,
 ) -> Result<Vec<(u32, &'a [u8])>, AllocError>
     requires { count ≤ length recovery.now }
-    ensures { IfOk result (λ kept. recovered_of kept.items ≡ take count (recovered_of recovery.now)) }
+    ensures { IfOk result (λ kept. recovered_of kept.items
+        ≡ take count (recovered_of recovery.now)) }
 {
     let mut kept = Vec::with_capacity(alloc, count)?;
     for i in 0..count {

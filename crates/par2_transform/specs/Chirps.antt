@@ -1,6 +1,6 @@
 -- Powers of 2 whose exponents are products, by powers of which each depends on one number (L. I. Bluestein, "A linear
 -- filtering approach to the computation of the discrete Fourier transform", 1970).
-use Rattle.std.specs.Prelude.{ℕ, zero, suc, ◌≡◌, ◌<◌, ◌≤◌, ◌+◌, ◌*◌, ◌^◌, if◌then◌else◌}
+use Rattle.std.specs.Prelude.{ℕ, zero, suc, ◌≡◌, ◌<◌, ◌≤◌, ◌+◌, ◌*◌, ◌^◌, if◌then◌else◌, List, length, slice_index}
 use Rattle.par2_spec.specs.Field.{mul, pow, is_spared}
 use Rattle.par2_spec.specs.Sums.{field_sum, AreElements}
 use Rattle.par2_transform.specs.Subspaces.{point}
@@ -18,6 +18,11 @@ chirp d m = pow 2 (d * triangle m)
 unfoldable pub chirp_inverse : ℕ → ℕ → ℕ
 unfolding chirp pow
 chirp_inverse d m = pow (chirp d m) 65534
+
+-- the inverses of the first n chirps of step d
+pub record AreInverses (d n : ℕ) (inverses : List ℕ) : Type 0 where
+  pub count : length inverses ≡ n
+  pub each : (m : ℕ) → m < n → slice_index inverses m ≡ chirp_inverse d m
 
 -- how many numbers below n are exponents of slices' constants
 unfoldable pub spared_below : ℕ → ℕ

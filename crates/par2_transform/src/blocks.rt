@@ -96,7 +96,8 @@ fn gather_rows(gf: &Gf, weights: &[u16], values: &Rows, sums: &mut Rows)
     requires weights { length weights.now ≡ 2 ^ sums.old.levels }
     requires levels { values.now.levels ≡ sums.old.levels }
     requires words { values.now.words ≡ sums.old.words }
-    ensures { RowsGathered (slice_index weights.now) values.now (2 ^ sums.old.levels) sums.old sums.new }
+    ensures { RowsGathered (slice_index weights.now) values.now (2 ^ sums.old.levels)
+        sums.old sums.new }
 {
     for u in 0..weights.len() {
         let factor = Factor::new(weights[u]);
@@ -257,7 +258,8 @@ pub(crate) fn add_all(
     outputs: &mut [Vec<u8>],
 )
     requires few { length blocks.old * plan.now.block ≤ 2 ^ 34 }
-    requires exponents { (j : ℕ) → j < length blocks.old → (block_at blocks.old j).exponent ≤ 2 ^ 34 }
+    requires exponents { (j : ℕ) → j < length blocks.old
+        → (block_at blocks.old j).exponent ≤ 2 ^ 34 }
     requires class { r < plan.now.classes }
     requires levels { (j : ℕ) → j < length blocks.old
         → (block_at blocks.old j).sums.levels ≡ plan.now.levels }

@@ -1,11 +1,12 @@
 //! Power sums and values at the points of a subspace, level by level, of all columns of words.
 
-ghost use Rattle.std.specs.Prelude.{◌≡◌, ◌<◌, ◌≤◌, ◌+◌, ◌-◌, ◌*◌, ◌^◌, ◌⊎◌, suc};
+ghost use Rattle.std.specs.Prelude.{◌≡◌, ◌≢◌, ◌<◌, ◌≤◌, ◌+◌, ◌-◌, ◌*◌, ◌^◌, ◌⊎◌, suc};
+ghost use Rattle.par2_spec.specs.Field.{mul};
 ghost use Rattle.par2_transform.specs.Subspaces.{point};
 ghost use Rattle.par2_transform.specs.PowerSums.{ArePowerSums, IsMerged, sum_ahead};
 ghost use Rattle.par2_transform.specs.Evaluations.{AreValues, IsSplit};
 ghost use Rattle.par2_transform.specs.Levels.{IsMergedLevel, IsSplitLevel};
-ghost use Rattle.par2_transform.specs.Grids.{EachColumn};
+ghost use Rattle.par2_transform.specs.Grids.{column, EachColumn, IsAdded};
 ghost use Rattle.par2_transform.specs.Steps.{IsOneAdded, OnElements, OneRun, RunAdded, IsRaised, IsSpread, IsDivided};
 
 use crate::basis::{point, powers_in};
@@ -95,6 +96,20 @@ fn add_run(rows: &mut Rows, from: usize, to: usize, count: usize)
     }
 }
 
+// To each word of row `to`, adds the product of c, whose factor this is, and the word of row `from`. In the first pair of
+// each level c is 0.
+fn add_scaled(gf: &Gf, rows: &mut Rows, c: u16, factor: &Factor, from: usize, to: usize)
+    requires factor { factor.now ≡ c }
+    requires from { from < 2 ^ rows.old.levels }
+    requires to { to < 2 ^ rows.old.levels }
+    requires apart { from ≢ to }
+    ensures { IsAdded rows.old rows.new to (λ k. mul c (column rows.old k from)) }
+{
+    if c != 0 {
+        rows.add_product(gf, factor, from, to);
+    }
+}
+
 // To each value of the upper half, adds what the higher power of its points has besides the vanishing polynomial.
 fn raise(gf: &Gf, rows: &mut Rows, i: u32, start: usize, c: u16)
     requires few { rows.old.levels ≤ 16 }
@@ -105,7 +120,7 @@ fn raise(gf: &Gf, rows: &mut Rows, i: u32, start: usize, c: u16)
     let factor = Factor::new(c);
     let half = 1usize << i;
     for e in 0..half {
-        rows.add_product(gf, &factor, start + e, start + half + e);
+        add_scaled(gf, rows, c, &factor, start + e, start + half + e);
         add_ahead(rows, i, start + e);
     }
 }
@@ -136,7 +151,7 @@ fn divide(gf: &Gf, rows: &mut Rows, i: u32, start: usize, c: u16)
     let factor = Factor::new(c);
     let half = 1usize << i;
     for e in (0..half).rev() {
-        rows.add_product(gf, &factor, start + half + e, start + e);
+        add_scaled(gf, rows, c, &factor, start + half + e, start + e);
         spread(rows, i, start, e);
     }
 }

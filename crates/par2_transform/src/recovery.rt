@@ -46,7 +46,8 @@ impl<'a> Windows<'a> {
     ) -> Result<(), AllocError>
         requires exponents { self.now.first + length outputs.old ≤ 2 ^ 32 }
         requires size { HaveWords words (lists_of outputs.old) }
-        ensures { IfOk result (λ _. AddsToEach (λ t p. recovered self.now.slices (self.now.first + t) p)
+        ensures { IfOk result (λ _. AddsToEach
+            (λ t p. recovered self.now.slices (self.now.first + t) p)
             (lists_of outputs.old) (lists_of outputs.new)) }
     {
         let plan = self.plan;
@@ -55,7 +56,7 @@ impl<'a> Windows<'a> {
         for k in 0..words.div_ceil(plan.columns) {
             let from = k * plan.columns;
             let to = from + plan.columns.min(words - from);
-            self.add_classes(alloc, from, to, &mut rows, blocks.as_mut_slice(), outputs)?;
+            self.add_classes(from, to, &mut rows, blocks.as_mut_slice(), outputs);
         }
         Ok(())
     }

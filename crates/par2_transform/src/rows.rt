@@ -7,9 +7,9 @@ ghost use Rattle.par2_spec.specs.Sums.{AreElements, list_at, lists_of};
 ghost use Rattle.par2_transform.specs.Grids.{column, IsAdded};
 
 use crate::texts::{
-    add_columns, add_product, add_product_within, add_within, clear, fit_bytes, text_at, zero_texts,
+    add_product, add_product_within, add_within, clear, copy_padded, fit_bytes, text_at, zero_texts,
 };
-use par2_gf16::{Columns, Factor, Gf};
+use par2_gf16::{Factor, Gf};
 use std::alloc::{AllocError, Global};
 use std::marker::Model;
 
@@ -19,9 +19,12 @@ pub(crate) struct Rows {
     levels: u32,
     words: usize,
     rows: Vec<Vec<u8>>,
+    // A text on its way to a row. Copied whole, it is read from memory faster than by products.
+    source: Vec<u8>,
 }
 
 impl Model for Rows {
+    ghost use Rattle.std.specs.Prelude.{◌≡◌, ◌*◌, length};
     ghost use Rattle.par2_spec.specs.Sums.{lists_of};
     ghost use Rattle.par2_transform.specs.Grids.{Grid, AreRows};
 
@@ -33,7 +36,8 @@ impl Model for Rows {
       texts = lists_of a.rows.items;
     } };
 
-    ghost invariant = { λ a. AreRows a.levels a.words (lists_of a.rows.items) };
+    ghost invariant = { λ a. AreRows a.levels a.words (lists_of a.rows.items)
+        × (length a.source.items ≡ 2 * a.words) };
 }
 
 impl Rows {
@@ -46,10 +50,12 @@ impl Rows {
         ensures zero { IfOk result (λ rows. (c u : ℕ) → column rows c u ≡ 0) }
     {
         let rows = zero_texts(alloc, 1 << levels, 2 * words)?;
+        let source = vec![in alloc; 0u8; 2 * words]?;
         Ok(Rows {
             levels,
             words,
             rows,
+            source,
         })
     }
 
@@ -81,21 +87,12 @@ impl Rows {
 
     /// To each word of row `to`, adds the product of the factor and the text's word at its place. Zeros follow a text that
     /// ends sooner.
-    pub(crate) fn add_text(
-        &mut self,
-        alloc: Global,
-        gf: &Gf,
-        factor: &Factor,
-        text: &[u8],
-        to: usize,
-    ) -> Result<(), AllocError>
+    pub(crate) fn add_text(&mut self, gf: &Gf, factor: &Factor, text: &[u8], to: usize)
         requires place { to < 2 ^ self.old.levels }
-        ensures { IfOk result (λ _. IsAdded self.old self.new to
-            (λ c. mul factor.now (word c text.now))) }
+        ensures { IsAdded self.old self.new to (λ c. mul factor.now (word c text.now)) }
     {
-        let columns = Columns::new(alloc, text, 0, self.words)?;
-        add_columns(gf, self.rows.as_mut_slice(), factor, &columns, to);
-        Ok(())
+        copy_padded(text, self.source.as_mut_slice());
+        add_product(gf, self.rows.as_mut_slice(), factor, &self.source, to);
     }
 
     /// To each word of row `to`, adds the product of the factor and the word of the other rows' row `from` at its place.

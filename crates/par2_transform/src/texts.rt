@@ -3,10 +3,9 @@
 ghost use Rattle.std.specs.Prelude.{◌≡◌, ◌≢◌, ℕ, ◌*◌, ◌%◌, ◌^◌, ◌<◌, ◌≤◌, length, slice_index, IfOk};
 ghost use Rattle.par2_spec.specs.Sums.{OneChanged, list_at, lists_of};
 ghost use Rattle.par2_gf16.specs.Products.{AddsProducts};
-ghost use Rattle.par2_gf16.specs.Steps.{AddsWithin};
 ghost use Rattle.par2_transform.specs.Grids.{AddsWords, AreZeros, AreCleared};
 
-use par2_gf16::{Columns, Factor, Gf};
+use par2_gf16::{Factor, Gf};
 use std::alloc::{AllocError, Global};
 
 /// What the type says of each byte, for proofs.
@@ -55,10 +54,22 @@ fn clear_bytes(bytes: &mut [u8])
 fn clear_text(texts: &mut [Vec<u8>], to: usize)
     requires { to < length texts.old }
     ensures changed { OneChanged (lists_of texts.old) (lists_of texts.new) to }
-    ensures size { length (list_at (lists_of texts.new) to) ≡ length (list_at (lists_of texts.old) to) }
+    ensures size { length (list_at (lists_of texts.new) to)
+        ≡ length (list_at (lists_of texts.old) to) }
     ensures zero { (k : ℕ) → slice_index (list_at (lists_of texts.new) to) k ≡ 0 }
 {
     clear_bytes(texts[to].as_mut_slice());
+}
+
+/// Makes the bytes those of the text, and zeros behind them.
+pub(crate) fn copy_padded(text: &[u8], to: &mut [u8])
+    ensures size { length to.new ≡ length to.old }
+    ensures same { (k : ℕ) → k < length to.old
+        → slice_index to.new k ≡ slice_index text.now k }
+{
+    let count = text.len().min(to.len());
+    to[..count].copy_from_slice(&text[..count]);
+    clear_bytes(&mut to[count..]);
 }
 
 /// Makes all bytes zero.
@@ -92,17 +103,6 @@ pub(crate) fn add_product(gf: &Gf, texts: &mut [Vec<u8>], factor: &Factor, src: 
         (list_at (lists_of texts.old) to) (list_at (lists_of texts.new) to) }
 {
     gf.mul_add_by(factor, src, texts[to].as_mut_slice());
-}
-
-/// To each word of text `to`, adds the product of the factor and the word of the columns.
-pub(crate) fn add_columns(gf: &Gf, texts: &mut [Vec<u8>], factor: &Factor, src: &Columns, to: usize)
-    requires to { to < length texts.old }
-    requires room { 2 * src.now.to ≤ length (list_at (lists_of texts.old) to) }
-    ensures changed { OneChanged (lists_of texts.old) (lists_of texts.new) to }
-    ensures added { AddsWithin factor.now src.now.text (list_at (lists_of texts.old) to)
-        (list_at (lists_of texts.new) to) src.now.from src.now.to }
-{
-    gf.mul_add_columns(factor, src, texts[to].as_mut_slice());
 }
 
 /// To each word of text `to`, adds the product of the factor and the word of text `from`.

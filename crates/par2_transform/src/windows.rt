@@ -4,6 +4,7 @@ ghost use Rattle.std.specs.Prelude.{◌≡◌, ℕ, ◌+◌, ◌-◌, ◌*◌, �
 ghost use Rattle.par2_spec.specs.Sums.{field_sum, lists_of};
 ghost use Rattle.par2_transform.specs.Adding.{within, AddsToEach, HaveRoom};
 ghost use Rattle.par2_transform.specs.Blocks.{AreBlocks, AreCoefficients, AreWindowValues, EachBlock, GathersWindow, HaveShape, IsGathered, class_sum_at};
+ghost use Rattle.par2_transform.specs.Chirps.{chirp_inverse, AreInverses};
 ghost use Rattle.par2_transform.specs.Columns.{texts_of, words_at, recovered, AreBytes};
 ghost use Rattle.par2_transform.specs.Grids.{IsAdded};
 ghost use Rattle.par2_transform.specs.Plans.{cut_of};
@@ -18,6 +19,18 @@ use crate::rows::Rows;
 use par2_gf16::{Factor, Gf};
 use std::alloc::{AllocError, Global};
 
+// The inverses of the first n chirps of step d.
+fn inverse_chirps(alloc: Global, gf: &Gf, d: usize, n: usize) -> Result<Vec<u16>, AllocError>
+    requires { d ≤ 65536 }
+    ensures { IfOk result (λ inverses. AreInverses d n inverses.items) }
+{
+    let mut inverses = Vec::with_capacity(alloc, n)?;
+    for m in 0..n {
+        inverses.push(chirp_inverse(gf, d as u64, m as u64))?;
+    }
+    Ok(inverses)
+}
+
 /// Slices, and how their sums are cut.
 #[derive(Drop)]
 pub(crate) struct Windows<'a> {
@@ -25,9 +38,11 @@ pub(crate) struct Windows<'a> {
     pub(crate) plan: Plan,
     pub(crate) slices: Slices<'a>,
     pub(crate) first: u32,
+    inverses: Vec<u16>,
     ghost few: { length slices ≤ 32768 },
     ghost bytes: { AreBytes slices },
     ghost reaches: { Reaches (length slices) (cut_of plan) },
+    ghost inverted: { AreInverses plan.classes (plan.windows * plan.window) inverses.items },
 }
 
 impl<'a> Windows<'a> {
@@ -47,142 +62,110 @@ impl<'a> Windows<'a> {
     {
         let slices = Slices::new(alloc, texts)?;
         let plan = Plan::new(slices.exponents(), outputs, slices.count(), words);
+        let inverses = inverse_chirps(alloc, gf, plan.classes, plan.windows * plan.window)?;
         Ok(Windows {
             gf,
             plan,
             slices,
             first,
+            inverses,
         })
     }
 
+    // The inverse of the chirp of number m, by which its slice is multiplied.
+    fn inverse(&self, m: usize) -> u16
+        requires { m < self.now.plan.windows * self.now.plan.window }
+        ensures { result ≡ chirp_inverse self.now.plan.classes m }
+    {
+        self.inverses[m]
+    }
+
     // To row i, adds the coefficient of the window's number i.
-    fn add_coefficient(
-        &self,
-        alloc: Global,
-        r: usize,
-        a: usize,
-        i: usize,
-        from: usize,
-        rows: &mut Rows,
-    ) -> Result<(), AllocError>
+    fn add_coefficient(&self, r: usize, a: usize, i: usize, from: usize, rows: &mut Rows)
         requires class { r < self.now.plan.classes }
         requires window { a < self.now.plan.windows }
         requires place { i < self.now.plan.window }
         requires levels { rows.old.levels ≡ self.now.plan.levels }
-        ensures { IfOk result (λ _. IsAdded rows.old rows.new i (λ c.
+        ensures { IsAdded rows.old rows.new i (λ c.
             coefficient_of (cut_of self.now.plan) (words_at self.now.slices (from + c)) r
-            (a * self.now.plan.window + i))) }
+            (a * self.now.plan.window + i)) }
     {
         let m = a * self.plan.window + i;
         let slice = self.slices.at_power(self.plan.classes * m + r);
-        let factor = Factor::new(chirp_inverse(self.gf, self.plan.classes as u64, m as u64));
-        rows.add_text(alloc, self.gf, &factor, text_from(slice, from), i)
+        let factor = Factor::new(self.inverse(m));
+        rows.add_text(self.gf, &factor, text_from(slice, from), i);
     }
 
     // Makes the rows the coefficients of window a of class r, in the columns from `from` on.
-    fn fill(
-        &self,
-        alloc: Global,
-        r: usize,
-        a: usize,
-        from: usize,
-        rows: &mut Rows,
-    ) -> Result<(), AllocError>
+    fn fill(&self, r: usize, a: usize, from: usize, rows: &mut Rows)
         requires class { r < self.now.plan.classes }
         requires window { a < self.now.plan.windows }
         requires levels { rows.old.levels ≡ self.now.plan.levels }
-        ensures { IfOk result (λ _. AreCoefficients (cut_of self.now.plan) self.now.slices r a from
-            self.now.plan.window rows.old rows.new) }
+        ensures { AreCoefficients (cut_of self.now.plan) self.now.slices r a from
+            self.now.plan.window rows.old rows.new }
     {
         rows.clear();
         for i in 0..self.plan.window {
-            self.add_coefficient(alloc, r, a, i, from, rows)?;
+            self.add_coefficient(r, a, i, from, rows);
         }
-        Ok(())
     }
 
     // Makes the rows the values of window a of class r at the points.
-    fn evaluate(
-        &self,
-        alloc: Global,
-        r: usize,
-        a: usize,
-        from: usize,
-        rows: &mut Rows,
-    ) -> Result<(), AllocError>
+    fn evaluate(&self, r: usize, a: usize, from: usize, rows: &mut Rows)
         requires class { r < self.now.plan.classes }
         requires window { a < self.now.plan.windows }
         requires levels { rows.old.levels ≡ self.now.plan.levels }
-        ensures { IfOk result (λ _. AreWindowValues (cut_of self.now.plan) self.now.slices r a from
-            rows.old rows.new) }
+        ensures { AreWindowValues (cut_of self.now.plan) self.now.slices r a from
+            rows.old rows.new }
     {
-        self.fill(alloc, r, a, from, rows)?;
+        self.fill(r, a, from, rows);
         values_at_points(self.gf, rows);
-        Ok(())
     }
 
     // Gathers window a of class r in all blocks.
-    fn gather_window(
-        &self,
-        alloc: Global,
-        r: usize,
-        a: usize,
-        from: usize,
-        rows: &mut Rows,
-        blocks: &mut [Block],
-    ) -> Result<(), AllocError>
+    fn gather_window(&self, r: usize, a: usize, from: usize, rows: &mut Rows, blocks: &mut [Block])
         requires class { r < self.now.plan.classes }
         requires window { a < self.now.plan.windows }
         requires levels { rows.old.levels ≡ self.now.plan.levels }
         requires words { rows.old.words ≡ self.now.plan.columns }
         requires blocks { HaveShape (cut_of self.now.plan) self.now.plan.columns blocks.old }
-        ensures levels { IfOk result (λ _. rows.new.levels ≡ rows.old.levels) }
-        ensures words { IfOk result (λ _. rows.new.words ≡ rows.old.words) }
-        ensures gathered { IfOk result (λ _. EachBlock
-            (GathersWindow (cut_of self.now.plan) self.now.slices r a from) blocks.old blocks.new) }
+        ensures levels { rows.new.levels ≡ rows.old.levels }
+        ensures words { rows.new.words ≡ rows.old.words }
+        ensures gathered { EachBlock
+            (GathersWindow (cut_of self.now.plan) self.now.slices r a from) blocks.old blocks.new }
     {
-        self.evaluate(alloc, r, a, from, rows)?;
+        self.evaluate(r, a, from, rows);
         gather_all(self.gf, a, rows, blocks);
-        Ok(())
     }
 
     // Gathers all windows of class r in all blocks.
-    fn gather(
-        &self,
-        alloc: Global,
-        r: usize,
-        from: usize,
-        rows: &mut Rows,
-        blocks: &mut [Block],
-    ) -> Result<(), AllocError>
+    fn gather(&self, r: usize, from: usize, rows: &mut Rows, blocks: &mut [Block])
         requires class { r < self.now.plan.classes }
         requires levels { rows.old.levels ≡ self.now.plan.levels }
         requires words { rows.old.words ≡ self.now.plan.columns }
         requires blocks { HaveShape (cut_of self.now.plan) self.now.plan.columns blocks.old }
-        ensures levels { IfOk result (λ _. rows.new.levels ≡ rows.old.levels) }
-        ensures words { IfOk result (λ _. rows.new.words ≡ rows.old.words) }
-        ensures gathered { IfOk result (λ _. EachBlock
+        ensures levels { rows.new.levels ≡ rows.old.levels }
+        ensures words { rows.new.words ≡ rows.old.words }
+        ensures gathered { EachBlock
             (IsGathered (cut_of self.now.plan) self.now.slices r from self.now.plan.windows)
-            blocks.old blocks.new) }
+            blocks.old blocks.new }
     {
         clear_all(blocks);
         for a in 0..self.plan.windows {
-            self.gather_window(alloc, r, a, from, rows, blocks)?;
+            self.gather_window(r, a, from, rows, blocks);
         }
-        Ok(())
     }
 
     // To some columns of the outputs, adds what class r gives. In the first of three classes is no slice.
     fn add_class(
         &self,
-        alloc: Global,
         r: usize,
         from: usize,
         to: usize,
         rows: &mut Rows,
         blocks: &mut [Block],
         outputs: &mut [Vec<u8>],
-    ) -> Result<(), AllocError>
+    )
         requires class { r < self.now.plan.classes }
         requires levels { rows.old.levels ≡ self.now.plan.levels }
         requires words { rows.old.words ≡ self.now.plan.columns }
@@ -193,33 +176,31 @@ impl<'a> Windows<'a> {
         requires order { from ≤ to }
         requires columns { to ≤ from + self.now.plan.columns }
         requires room { HaveRoom to (lists_of outputs.old) }
-        ensures levels { IfOk result (λ _. rows.new.levels ≡ rows.old.levels) }
-        ensures words { IfOk result (λ _. rows.new.words ≡ rows.old.words) }
-        ensures count { IfOk result (λ _. length blocks.new ≡ length blocks.old) }
-        ensures blocks { IfOk result (λ _. AreBlocks (cut_of self.now.plan) self.now.plan.columns
-            self.now.first self.now.plan.block blocks.new) }
-        ensures added { IfOk result (λ _. AddsToEach (λ t p. within from to p
+        ensures levels { rows.new.levels ≡ rows.old.levels }
+        ensures words { rows.new.words ≡ rows.old.words }
+        ensures count { length blocks.new ≡ length blocks.old }
+        ensures blocks { AreBlocks (cut_of self.now.plan) self.now.plan.columns
+            self.now.first self.now.plan.block blocks.new }
+        ensures added { AddsToEach (λ t p. within from to p
             (class_sum_at (cut_of self.now.plan) (words_at self.now.slices p) (self.now.first + t) r))
-            (lists_of outputs.old) (lists_of outputs.new)) }
+            (lists_of outputs.old) (lists_of outputs.new) }
     {
         if r == 0 && self.plan.classes == 3 {
-            return Ok(());
+            return;
         }
-        self.gather(alloc, r, from, rows, blocks)?;
+        self.gather(r, from, rows, blocks);
         add_all(self.gf, &self.plan, r, from, to, blocks, outputs);
-        Ok(())
     }
 
     /// To some columns of the outputs, adds what all classes give.
     pub(crate) fn add_classes(
         &self,
-        alloc: Global,
         from: usize,
         to: usize,
         rows: &mut Rows,
         blocks: &mut [Block],
         outputs: &mut [Vec<u8>],
-    ) -> Result<(), AllocError>
+    )
         requires levels { rows.old.levels ≡ self.now.plan.levels }
         requires words { rows.old.words ≡ self.now.plan.columns }
         requires blocks { AreBlocks (cut_of self.now.plan) self.now.plan.columns self.now.first
@@ -229,17 +210,16 @@ impl<'a> Windows<'a> {
         requires order { from ≤ to }
         requires columns { to ≤ from + self.now.plan.columns }
         requires room { HaveRoom to (lists_of outputs.old) }
-        ensures levels { IfOk result (λ _. rows.new.levels ≡ rows.old.levels) }
-        ensures words { IfOk result (λ _. rows.new.words ≡ rows.old.words) }
-        ensures count { IfOk result (λ _. length blocks.new ≡ length blocks.old) }
-        ensures blocks { IfOk result (λ _. AreBlocks (cut_of self.now.plan) self.now.plan.columns
-            self.now.first self.now.plan.block blocks.new) }
-        ensures added { IfOk result (λ _. AddsToEach (λ t p. within from to p
-            (recovered self.now.slices (self.now.first + t) p)) (lists_of outputs.old) (lists_of outputs.new)) }
+        ensures levels { rows.new.levels ≡ rows.old.levels }
+        ensures words { rows.new.words ≡ rows.old.words }
+        ensures count { length blocks.new ≡ length blocks.old }
+        ensures blocks { AreBlocks (cut_of self.now.plan) self.now.plan.columns
+            self.now.first self.now.plan.block blocks.new }
+        ensures added { AddsToEach (λ t p. within from to p
+            (recovered self.now.slices (self.now.first + t) p)) (lists_of outputs.old) (lists_of outputs.new) }
     {
         for r in 0..self.plan.classes {
-            self.add_class(alloc, r, from, to, rows, blocks, outputs)?;
+            self.add_class(r, from, to, rows, blocks, outputs);
         }
-        Ok(())
     }
 }

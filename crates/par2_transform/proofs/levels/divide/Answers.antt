@@ -22,12 +22,12 @@ loop-e-preserved c =
     let m = l.e - 1 in
     let half : 1 * 2 ^ i % 18446744073709551616 ≡ 2 ^ i = shifted i (omega arith) in
     let low : m < 2 ^ i = omega arith in
-    let mid = c.add_product.new.self in
+    let mid = c.add_scaled.new.rows in
     let new = c.spread.new.rows in
     let now : m + 1 ≡ l.e = omega arith in
     each_then_two (IsDivided i k start (m + 1)) (λ g. IsOneAdded (start + m) (mul k (g (start + 2 ^ i + m))) g) (IsSpread i start m i) (IsDivided i k start m)
     c.args.rows.now l.rows mid new (subst (λ n. EachColumn (IsDivided i k start n) c.args.rows.now l.rows) (sym now) l.invariant)
-    (each_product c.new-factor.result k (start + 1 * 2 ^ i % 18446744073709551616 + m) (start + 2 ^ i + m) (start + m) (start + m) l.rows mid c.new-factor.ensures (ap (λ n. start + n + m) half) refl c.add_product.ensures) c.spread.ensures
+    (each_product k k (start + 1 * 2 ^ i % 18446744073709551616 + m) (start + 2 ^ i + m) (start + m) (start + m) l.rows mid refl (ap (λ n. start + n + m) half) refl c.add_scaled.ensures) c.spread.ensures
     (λ f g d h first second third. divide_next i k start m f g d h c.ranges.c.fits low first second third)
 
 pub returns : goal.returns

@@ -18,11 +18,11 @@ loop-e-preserved c =
     let start = c.args.start in
     let half : 1 * 2 ^ i % 18446744073709551616 ≡ 2 ^ i = shifted i (omega arith) in
     let low : l.e < 2 ^ i = omega arith in
-    let mid = c.add_product.new.self in
+    let mid = c.add_scaled.new.rows in
     let new = c.add_ahead.new.rows in
     each_then_two (IsRaised i k start l.e) (λ g. IsOneAdded (start + 2 ^ i + l.e) (mul k (g (start + l.e))) g) (λ g. IsOneAdded (start + l.e + 2 ^ i) (sum_ahead i g (start + l.e)) g) (IsRaised i k start (l.e + 1))
     c.args.rows.now l.rows mid new l.invariant
-    (each_product c.new-factor.result k (start + l.e) (start + l.e) (start + 1 * 2 ^ i % 18446744073709551616 + l.e) (start + 2 ^ i + l.e) l.rows mid c.new-factor.ensures refl (ap (λ n. start + n + l.e) half) c.add_product.ensures) c.add_ahead.ensures
+    (each_product k k (start + l.e) (start + l.e) (start + 1 * 2 ^ i % 18446744073709551616 + l.e) (start + 2 ^ i + l.e) l.rows mid refl refl (ap (λ n. start + n + l.e) half) c.add_scaled.ensures) c.add_ahead.ensures
     (λ f g m h first second third. raise_next i k start l.e f g m h low first second third)
 
 pub returns : goal.returns

@@ -23,7 +23,7 @@ pub add_all-requires-clause-exponents : goal.add_all-requires-clause-exponents
 add_all-requires-clause-exponents c = λ j h.
     let self = c.args.self.now in
     let blocks = c.args.blocks.now in
-    let gathered = c.in_ok-gather.ensures.gathered in
+    let gathered = c.gather.ensures.gathered in
     let low : j < length blocks = (let count = gathered.count in omega (arith, count, h)) in
     let same = (gathered.done j low).kept.exponent in
     let small = exponent-le (cut_of self.plan) self.plan.columns self.first self.plan.block blocks c.requires.blocks c.requires.few j low in
@@ -35,4 +35,4 @@ returns-clause-added c =
     let outputs = lists_of c.args.outputs.now in
     let covered : length outputs ≤ length c.args.blocks.now * self.plan.block = (let size = length-lists_of c.args.outputs.now in omega (arith, size, c.requires.covered)) in
     class_added (cut_of self.plan) self.slices self.plan.columns self.plan.block c.args.r c.args.from c.args.to self.first c.args.blocks.now c.gather.new.blocks outputs (lists_of c.add_all.new.outputs)
-    self.few self.bytes c.requires.blocks c.in_ok-gather.ensures.gathered self.plan.fit self.plan.some.1.0 covered c.requires.columns c.add_all.ensures.added
+    self.few self.bytes c.requires.blocks c.gather.ensures.gathered self.plan.fit self.plan.some.1.0 covered c.requires.columns c.add_all.ensures.added

@@ -12,7 +12,7 @@ loop-r-init c =
 pub loop-r-preserved : goal.loop-r-preserved
 loop-r-preserved c =
     let self = c.args.self.now in
-    let e = c.in_ok-add_class.ensures in
+    let e = c.add_class.ensures in
     next_class (cut_of self.plan) self.slices self.plan.columns self.first self.plan.block c.args.from c.args.to c.loop-r.r c.args.rows.now c.loop-r.rows c.add_class.new.rows c.args.blocks.now c.loop-r.blocks c.add_class.new.blocks
     (lists_of c.args.outputs.now) (lists_of c.loop-r.outputs) (lists_of c.add_class.new.outputs) c.loop-r.invariant e.levels e.words e.count e.blocks e.added
 

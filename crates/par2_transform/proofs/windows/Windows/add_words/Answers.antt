@@ -18,7 +18,7 @@ loop-k-preserved c =
     let was = lists_of c.args.outputs.now in
     let half = lists_of c.loop-k.outputs in
     let texts = lists_of c.add_classes.new.outputs in
-    let e = c.in_ok-add_classes.ensures in
+    let e = c.add_classes.ensures in
     let size : length blocks ≡ c.loop-k.blocks.len = search rules in
     let count : length blocks ≡ length c.loop-k.blocks.items = e.count ∙ ap (λ (xs : List Outputs). length xs) c.as_mut_slice.ensures.value in
     let low : k * columns < c.args.words = slice_begins c.args.words columns k (let some = self.plan.some.1.1 in omega (arith, some)) (subst (λ n. k < n) c.div_ceil-k-end.ensures c.loop-k-test.true) in

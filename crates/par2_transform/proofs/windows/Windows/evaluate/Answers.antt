@@ -8,4 +8,4 @@ returns c =
     let plan = c.args.self.now.plan in
     let fits : plan.window ≤ 2 ^ plan.levels = omega (arith, plan.fit, plan.some.1.0) in
     values_of_window (cut_of plan) c.args.self.now.slices c.args.r c.args.a c.args.from c.args.rows.now c.fill.new.rows c.values_at_points.new.rows fits
-    (c.in_ok-fill.ensures.levels ∙ c.requires.levels) c.in_ok-fill.ensures c.values_at_points.ensures
+    (c.fill.ensures.levels ∙ c.requires.levels) c.fill.ensures c.values_at_points.ensures

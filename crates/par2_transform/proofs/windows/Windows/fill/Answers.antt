@@ -6,4 +6,4 @@ pub loop-i-init : goal.loop-i-init
 loop-i-init c = no_coefficient (cut_of c.args.self.now.plan) c.args.self.now.slices c.args.r c.args.a c.args.from c.args.rows.now c.clear.new.self c.clear.ensures.levels c.clear.ensures.words c.clear.ensures.zero
 
 pub loop-i-preserved : goal.loop-i-preserved
-loop-i-preserved c = next_coefficient (cut_of c.args.self.now.plan) c.args.self.now.slices c.args.r c.args.a c.args.from c.loop-i.i c.args.rows.now c.loop-i.rows c.add_coefficient.new.rows c.loop-i.invariant c.in_ok-add_coefficient.ensures
+loop-i-preserved c = next_coefficient (cut_of c.args.self.now.plan) c.args.self.now.slices c.args.r c.args.a c.args.from c.loop-i.i c.args.rows.now c.loop-i.rows c.add_coefficient.new.rows c.loop-i.invariant c.add_coefficient.ensures

@@ -17,4 +17,4 @@ gather_window-requires-clause-blocks c = shape_kept (cut_of c.args.self.now.plan
 
 pub loop-a-preserved : goal.loop-a-preserved
 loop-a-preserved c = one_window_more (cut_of c.args.self.now.plan) c.args.self.now.slices c.args.r c.args.from c.loop-a.a c.args.rows.now c.loop-a.rows c.gather_window.new.rows c.args.blocks.now c.loop-a.blocks c.gather_window.new.blocks
-    c.loop-a.invariant c.in_ok-gather_window.ensures.levels c.in_ok-gather_window.ensures.words c.in_ok-gather_window.ensures.gathered
+    c.loop-a.invariant c.gather_window.ensures.levels c.gather_window.ensures.words c.gather_window.ensures.gathered

@@ -9,19 +9,19 @@ gather_all-requires c = λ j h.
     let shape = c.requires.blocks j h in
     record {
       window = subst (λ n. c.args.a < n) (sym shape.windows) c.requires.window;
-      levels = c.in_ok-evaluate.ensures.levels ∙ c.requires.levels ∙ sym shape.levels;
-      words = c.in_ok-evaluate.ensures.words ∙ c.requires.words ∙ sym shape.words;
+      levels = c.evaluate.ensures.levels ∙ c.requires.levels ∙ sym shape.levels;
+      words = c.evaluate.ensures.words ∙ c.requires.words ∙ sym shape.words;
     }
 
 pub returns-clause-levels : goal.returns-clause-levels
-returns-clause-levels c = c.in_ok-evaluate.ensures.levels
+returns-clause-levels c = c.evaluate.ensures.levels
 
 pub returns-clause-words : goal.returns-clause-words
-returns-clause-words c = c.in_ok-evaluate.ensures.words
+returns-clause-words c = c.evaluate.ensures.words
 
 pub returns-clause-gathered : goal.returns-clause-gathered
 returns-clause-gathered c =
     let cut = cut_of c.args.self.now.plan in
     becomes_too (Gathers c.args.a c.evaluate.new.rows) (GathersWindow cut c.args.self.now.slices c.args.r c.args.a c.args.from) c.args.blocks.now c.gather_all.new.blocks c.gather_all.ensures
     (λ j h g. gathers_values cut c.args.self.now.slices c.args.r c.args.a c.args.from c.args.rows.now c.evaluate.new.rows (block_at c.args.blocks.now j) (block_at c.gather_all.new.blocks j)
-    (c.requires.blocks j h).levels ((c.requires.blocks j h).words ∙ sym c.requires.words) c.in_ok-evaluate.ensures g)
+    (c.requires.blocks j h).levels ((c.requires.blocks j h).words ∙ sym c.requires.words) c.evaluate.ensures g)

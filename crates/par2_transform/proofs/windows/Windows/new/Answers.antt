@@ -7,4 +7,4 @@ pub invariant_of-result : goal.invariant_of-result
 invariant_of-result c =
     let plan = c.new-plan.result in
     let more : spared_below c.exponents.result ≤ spared_below (plan.classes * (plan.windows * plan.window)) = spared_below-mono c.exponents.result (plan.classes * (plan.windows * plan.window)) c.new-plan.ensures in
-    record { few = c.in_ok-slices.ensures.few; bytes = c.in_ok-slices.ensures.bytes; reaches = omega (arith, more, c.exponents.ensures.reach) }
+    record { few = c.in_ok-slices.ensures.few; bytes = c.in_ok-slices.ensures.bytes; reaches = omega (arith, more, c.exponents.ensures.reach); inverted = c.in_ok-inverses.ensures }
