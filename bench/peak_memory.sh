@@ -40,3 +40,6 @@ row "verify, one slice lost" "" verify set.par2 || true
 row "repair, one slice lost" "data" repair set.par2
 row "undo of the repair" "" undo
 row "redo of the repair" "data" redo
+rm -f -- * .par2undo
+head -c 262144 /dev/urandom > data
+row "create, 4000 slices of 64 over 256 KiB" "set.*par2" create -s64 -c4000 set.par2 data

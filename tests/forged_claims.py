@@ -187,6 +187,7 @@ def wrong_growths(room):
         + scene(room, "files of 1 MiB and less", large, ["-s16384", "-c20"])
         + scene(room, "many files", many, ["-s4", "-c20"])
         + scene(room, "many slices", {"a": bytes_of(3, 1 << 17)}, ["-s4", "-c20"])
+        + scene(room, "many exponents", {"a": bytes_of(4, 1 << 17)}, ["-s64", "-c3000"])
     )
 
 
@@ -201,7 +202,7 @@ def main():
         print(line)
     if not found:
         print(f"claims: {2 * 2 * 5 * len(CLAIMS)} runs on journals, {len(SETS)} on sets, none asks for what is only claimed")
-        print("claims: 44 runs over four folders, none asks for more than what it finds and writes explains")
+        print("claims: 55 runs over five folders, none asks for more than what it finds and writes explains")
     return 1 if found else 0
 
 

@@ -9,6 +9,9 @@ use par2_gf16::Gf;
 use par2_transform::add_recovery_slices;
 use std::process::Abort;
 
+// Room for some columns of few outputs.
+const ROOM: usize = 100 * 1024;
+
 fn text_at(texts: &[Vec<u8>], i: usize) -> &[u8]
     requires { i < length texts.now }
     ensures { result.now ≡ list_at (lists_of texts.now) i }
@@ -48,7 +51,7 @@ fn are_added(
     if !have_words(texts, words) {
         return false;
     }
-    add_recovery_slices(rt.alloc(), gf, slices, words, first, texts).expect(rt, "memory");
+    add_recovery_slices(rt.alloc(), gf, slices, words, first, texts, ROOM).expect(rt, "memory");
     true
 }
 
@@ -173,11 +176,14 @@ fn are_sums_from_each(rt: &(impl Abort + AllocGlobal), gf: &Gf, n: usize, count:
     true
 }
 
+// The most slices and exponents of which each number is tried.
+const FEW: usize = 40;
+
 #[test]
 fn few_slices_and_exponents(rt: HostRuntime) {
     let gf = field(&rt);
-    for n in 0..8 {
-        for count in 0..8 {
+    for n in 0..FEW + 1 {
+        for count in 0..FEW as u32 + 1 {
             assert!(rt;
                 are_sums_from_each(&rt, &gf, n, count),
                 "{n} slices, {count} exponents"
@@ -200,4 +206,94 @@ fn windows_blocks_and_columns(rt: HostRuntime) {
     for (k, (n, count, first, words)) in SUMS.iter().enumerate() {
         assert!(rt; are_sums(&rt, &gf, *n, *count, *first, *words), "row {k}");
     }
+}
+
+fn add_product(gf: &Gf, c: u16, slice: &[u8], text: &mut [u8]) {
+    if slice.len() == text.len() && text.len() % 2 == 0 {
+        gf.mul_add(c, slice, text);
+    }
+}
+
+fn add_products(gf: &Gf, slices: &[&[u8]], e: u32, text: &mut [u8]) {
+    for (i, slice) in slices.iter().enumerate() {
+        let constant = gf.constant(u32::try_from(i).unwrap_or(0)).unwrap_or(0);
+        add_product(gf, gf.pow(constant, e), slice, text);
+    }
+}
+
+// Adds the recovery slices the direct way, a product for each slice and exponent.
+fn add_directly(gf: &Gf, slices: &[&[u8]], first: u32, texts: &mut [Vec<u8>]) {
+    let mut e = first;
+    for text in texts.iter_mut() {
+        add_products(gf, slices, e, text.as_mut_slice());
+        e = e.wrapping_add(1);
+    }
+}
+
+// Slices of which each seventh is absent.
+fn whole_slices(rt: &(impl Abort + AllocGlobal), n: usize, size: usize) -> Vec<Vec<u8>> {
+    let mut texts = Vec::new(rt.alloc());
+    for i in 0..n {
+        let size = if i % 7 == 3 { 0 } else { size };
+        texts.push(text(rt, i, size)).expect(rt, "memory");
+    }
+    texts
+}
+
+fn are_equal(some: &[Vec<u8>], others: &[Vec<u8>]) -> bool {
+    for (text, other) in some.iter().zip(others.iter()) {
+        if text.as_slice() != other.as_slice() {
+            return false;
+        }
+    }
+    some.len() == others.len()
+}
+
+// Whether so many texts of so many words become what the direct way makes of them.
+fn are_as_directly(
+    rt: &(impl Abort + AllocGlobal),
+    gf: &Gf,
+    n: usize,
+    count: u32,
+    first: u32,
+    words: usize,
+) -> bool {
+    let texts = whole_slices(rt, n, words.saturating_mul(2));
+    let slices = views(rt, &texts);
+    let mut directly = texts_before(rt, count, words);
+    let mut together = texts_before(rt, count, words);
+    add_directly(gf, &slices, first, directly.as_mut_slice());
+    are_added(rt, gf, &slices, words, first, together.as_mut_slice())
+        && are_equal(&together, &directly)
+}
+
+// The next of some numbers without a pattern.
+fn next_number(number: u64) -> u64 {
+    number
+        .wrapping_mul(6364136223846793005)
+        .wrapping_add(1442695040888963407)
+}
+
+#[test]
+fn random_sizes(rt: HostRuntime) {
+    let gf = field(&rt);
+    let mut number = 36;
+    for _ in 0..6 {
+        number = next_number(number);
+        let n = ((number >> 48) % 3000) as usize + 1;
+        let count = ((number >> 32) % 300) as u32 + 1;
+        let first = ((number >> 16) % 65236) as u32;
+        let words = ((number >> 24) % 70) as usize + 1;
+        assert!(rt;
+            are_as_directly(&rt, &gf, n, count, first, words),
+            "{n} slices, {count} exponents from {first} on, {words} words"
+        );
+    }
+}
+
+// More exponents than so little room is for at a time.
+#[test]
+fn groups_of_exponents(rt: HostRuntime) {
+    let gf = field(&rt);
+    assert!(rt; are_as_directly(&rt, &gf, 40, 600, 5, 3));
 }

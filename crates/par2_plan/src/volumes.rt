@@ -12,17 +12,8 @@ use crate::names::Volume;
 use crate::outputs::Parts;
 use par2_gf16::Gf;
 use par2_packets::{digest_recoveries, with_undigested, write_columns};
-use par2_recovery::{input_slices, recovery_columns};
+use par2_recovery::{columns_at_once, input_slices, recovery_columns};
 use std::alloc::{AllocError, Global};
-
-// How much memory the columns of recovery slices may take, beside a 128th of the inputs. To compute them takes some more.
-const ROOM: usize = 256 * 1024;
-
-// What the columns of a recovery slice take beside their bytes.
-const OVERHEAD: usize = 64;
-
-// Of how many columns a block is a multiple.
-const STEP: usize = 64;
 
 // What a packet has beside the bytes of a recovery slice: its header, and the exponent.
 const RECOVERY_HEAD: usize = 68;
@@ -41,27 +32,6 @@ struct Block {
     from: usize,
     len: usize,
     columns: Vec<Vec<u8>>,
-}
-
-// How many bytes the slices have.
-fn total_len(slices: &[&[u8]]) -> usize {
-    let mut total = 0usize;
-    for slice in slices {
-        total = total.saturating_add(slice.len());
-    }
-    total
-}
-
-// How many columns of as many recovery slices are made at once. Each time these columns of all inputs are read.
-fn columns_at_once(inputs: &[&[u8]], exponents: Exponents) -> usize
-    requires { exponents.first ≤ exponents.end }
-    ensures some { 1 ≤ result }
-    ensures even { result % 2 ≡ 0 }
-{
-    let room = (total_len(inputs) / 128).saturating_add(ROOM);
-    let count = (exponents.end - exponents.first) as usize;
-    let each = (room / count.max(1)).saturating_sub(OVERHEAD);
-    (each / STEP).max(1) * STEP
 }
 
 // The exponents of all volumes, and those between them.
@@ -234,8 +204,9 @@ fn filled(
 {
     let mut texts = blank_volumes(alloc, parts, volumes)?;
     let exponents = exponents_of(volumes);
-    let at_once = columns_at_once(inputs, exponents);
     let size = parts.set.slice as usize;
+    let count = (exponents.end - exponents.first) as usize;
+    let at_once = columns_at_once(inputs, count, size);
     let mut from = 0;
     while from < size {
         let len = at_once.min(size - from);

@@ -9,6 +9,7 @@ ghost use Rattle.par2_recovery.specs.Syndromes.{AreColumns};
 ghost use Rattle.par2_recovery.specs.Views.{texts_of};
 
 use crate::recovery::{are_together, recovery_slices_over, sums_together};
+use crate::room::rows_room;
 use crate::syndromes::windows;
 use par2_gf16::Gf;
 use std::alloc::{AllocError, Global};
@@ -62,6 +63,7 @@ fn together_or_grouped(
     size: usize,
     first: u32,
     count: u32,
+    room: usize,
 ) -> Result<Vec<Vec<u8>>, AllocError>
     requires slices { length slices.now ≤ 32768 }
     requires even { size % 2 ≡ 0 }
@@ -70,7 +72,7 @@ fn together_or_grouped(
         (map (spec.padded size) (texts_of slices.now))) (range_with_len first count)) }
 {
     if are_together(slices.len(), count as usize) {
-        sums_together(alloc, gf, slices, size, first, count)
+        sums_together(alloc, gf, slices, size, first, count, room)
     } else {
         grouped(alloc, gf, slices, size, first, count)
     }
@@ -96,5 +98,5 @@ pub fn recovery_columns(
         (lists_of columns.items)) }
 {
     let windows = windows(alloc, slices, from, len)?;
-    together_or_grouped(alloc, gf, &windows, len, first, count)
+    together_or_grouped(alloc, gf, &windows, len, first, count, rows_room(slices))
 }

@@ -12,6 +12,7 @@ ghost use Rattle.par2_recovery.specs.Views.{texts_of, names_of, AreBlank};
 
 use crate::exponents::coefficients;
 use crate::products::{fit_lists, fit_texts, with_products};
+use crate::room::rows_room;
 use crate::set_record::SetRecord;
 use par2_folder::{Folder, Name};
 use par2_gf16::Gf;
@@ -96,7 +97,7 @@ fn sums_of_products(
     with_products(alloc, gf, &factors, slices, zeros, size / 2)
 }
 
-/// The recovery slices of all exponents together.
+/// The recovery slices of all exponents together, by rows that have so much room.
 pub(crate) fn sums_together(
     alloc: Global,
     gf: &Gf,
@@ -104,6 +105,7 @@ pub(crate) fn sums_together(
     size: usize,
     first: u32,
     count: u32,
+    room: usize,
 ) -> Result<Vec<Vec<u8>>, AllocError>
     requires slices { length slices.now ≤ 32768 }
     requires even { size % 2 ≡ 0 }
@@ -113,7 +115,15 @@ pub(crate) fn sums_together(
 {
     fit_texts(slices);
     let mut texts = blank(alloc, count as usize, size)?;
-    add_recovery_slices(alloc, gf, slices, size / 2, first, texts.as_mut_slice())?;
+    add_recovery_slices(
+        alloc,
+        gf,
+        slices,
+        size / 2,
+        first,
+        texts.as_mut_slice(),
+        room,
+    )?;
     fit_lists(&texts);
     Ok(texts)
 }
@@ -135,7 +145,7 @@ pub fn recovery_slices_over(
         (map (spec.padded size) (texts_of slices.now))) (range_with_len first count)) }
 {
     if are_together(slices.len(), count as usize) {
-        sums_together(alloc, gf, slices, size, first, count)
+        sums_together(alloc, gf, slices, size, first, count, rows_room(slices))
     } else {
         sums_of_products(alloc, gf, slices, size, first, count)
     }

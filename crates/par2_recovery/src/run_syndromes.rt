@@ -6,38 +6,11 @@ ghost use Rattle.par2_spec.specs.Sums.{list_at, lists_of};
 ghost use Rattle.par2_recovery.specs.Syndromes.{run_coefficients, AreSyndromes, AreSolved};
 ghost use Rattle.par2_recovery.specs.Views.{texts_of};
 
+use crate::room::{columns_at_once, rows_room};
 use crate::syndromes::{copies, extend, inverse_times, reserved, windows};
 use par2_gf16::Gf;
 use par2_transform::add_recovery_slices;
 use std::alloc::{AllocError, Global};
-
-// How much memory the columns of recovery slices may take, beside a 128th of the slices. To compute them takes some more.
-const ROOM: usize = 256 * 1024;
-
-// What the columns of a recovery slice take beside their bytes.
-const OVERHEAD: usize = 64;
-
-// Of how many columns a block is a multiple.
-const STEP: usize = 64;
-
-// How many bytes the slices have.
-fn total_len(slices: &[&[u8]]) -> usize {
-    let mut total = 0usize;
-    for slice in slices {
-        total = total.saturating_add(slice.len());
-    }
-    total
-}
-
-// How many columns of so many recovery slices are taken at a time. Each time these columns of all slices are read.
-fn columns_at_once(slices: &[&[u8]], count: usize) -> usize
-    ensures some { 1 ≤ result }
-    ensures even { result % 2 ≡ 0 }
-{
-    let room = (total_len(slices) / 128).saturating_add(ROOM);
-    let each = (room / count.max(1)).saturating_sub(OVERHEAD);
-    (each / STEP).max(1) * STEP
-}
 
 // The syndromes in so many words: to each recovery slice goes what all slices give to it.
 fn run_syndromes(
@@ -47,6 +20,7 @@ fn run_syndromes(
     recovery: &[&[u8]],
     slices: &[&[u8]],
     words: usize,
+    room: usize,
 ) -> Result<Vec<Vec<u8>>, AllocError>
     requires count { length slices.now ≤ 32768 }
     requires exponents { first + length recovery.now ≤ 2 ^ 32 }
@@ -57,7 +31,7 @@ fn run_syndromes(
         (texts_of recovery.now) (lists_of texts.items)) }
 {
     let mut texts = copies(alloc, recovery)?;
-    add_recovery_slices(alloc, gf, slices, words, first, texts.as_mut_slice())?;
+    add_recovery_slices(alloc, gf, slices, words, first, texts.as_mut_slice(), room)?;
     Ok(texts)
 }
 
@@ -70,6 +44,7 @@ fn solved_run_block(
     recovery: &[&[u8]],
     slices: &[&[u8]],
     size: usize,
+    room: usize,
 ) -> Result<Vec<Vec<u8>>, AllocError>
     requires inverse { (r : ℕ) → r < length inverse.now
         → length recovery.now ≤ length (list_at (lists_of inverse.now) r) }
@@ -82,7 +57,7 @@ fn solved_run_block(
         (run_coefficients first (length recovery.now) (length slices.now)) (texts_of slices.now)
         (texts_of recovery.now) (lists_of texts.items)) }
 {
-    let syndromes = run_syndromes(alloc, gf, first, recovery, slices, size / 2)?;
+    let syndromes = run_syndromes(alloc, gf, first, recovery, slices, size / 2, room)?;
     inverse_times(alloc, gf, inverse, &syndromes, size)
 }
 
@@ -107,14 +82,15 @@ pub(crate) fn solved_run(
         (run_coefficients first (length recovery.now) (length slices.now)) (texts_of slices.now)
         (texts_of recovery.now) (lists_of texts.items)) }
 {
-    let at_once = columns_at_once(slices, recovery.len());
+    let at_once = columns_at_once(slices, recovery.len(), size);
+    let room = rows_room(slices);
     let mut texts = reserved(alloc, inverse.len(), size)?;
     let mut from = 0;
     while from < size {
         let count = at_once.min(size - from);
         let recovery = windows(alloc, recovery, from, count)?;
         let slices = windows(alloc, slices, from, count)?;
-        let lost = solved_run_block(alloc, gf, inverse, first, &recovery, &slices, count)?;
+        let lost = solved_run_block(alloc, gf, inverse, first, &recovery, &slices, count, room)?;
         extend(texts.as_mut_slice(), &lost)?;
         from += count;
     }

@@ -123,25 +123,25 @@ adds_to_one i other old new changed added = record {
 
 -- ---- a part of a text that is written
 
-part_below : (a k i : ℕ) (xs ys : List ℕ) → i < a → a ≤ length xs → get_or (put_mid a k xs ys) i 0 ≡ get_or xs i 0
-part_below a k i xs ys low fits =
-    get_or_append_left (take a xs) (ys ++ drop k (drop a xs)) 0 i (let e = length-take-le a xs fits in omega (arith, e)) ∙ get_or-take a xs i 0 low
+pub part_below : {A : Type 0} (a k i : ℕ) (none : A) (xs ys : List A) → i < a → a ≤ length xs → get_or (put_mid a k xs ys) i none ≡ get_or xs i none
+part_below a k i none xs ys low fits =
+    get_or_append_left (take a xs) (ys ++ drop k (drop a xs)) none i (let e = length-take-le a xs fits in omega (arith, e)) ∙ get_or-take a xs i none low
 
-part_here : (a k i : ℕ) (xs ys : List ℕ) → i < k → a ≤ length xs → length ys ≡ k → get_or (put_mid a k xs ys) (a + i) 0 ≡ get_or ys i 0
-part_here a k i xs ys low fits size =
+pub part_here : {A : Type 0} (a k i : ℕ) (none : A) (xs ys : List A) → i < k → a ≤ length xs → length ys ≡ k → get_or (put_mid a k xs ys) (a + i) none ≡ get_or ys i none
+part_here a k i none xs ys low fits size =
     let long : length (take a xs) ≡ a = length-take-le a xs fits in
-    get_or-append_right (take a xs) (ys ++ drop k (drop a xs)) a (a + i) 0 long (omega arith)
-    ∙ ap (λ m. get_or (ys ++ drop k (drop a xs)) m 0) (let e : a + i - a ≡ i = omega arith in e)
-    ∙ get_or_append_left ys (drop k (drop a xs)) 0 i (omega (arith, size))
+    get_or-append_right (take a xs) (ys ++ drop k (drop a xs)) a (a + i) none long (omega arith)
+    ∙ ap (λ m. get_or (ys ++ drop k (drop a xs)) m none) (let e : a + i - a ≡ i = omega arith in e)
+    ∙ get_or_append_left ys (drop k (drop a xs)) none i (omega (arith, size))
 
-part_above : (a k i : ℕ) (xs ys : List ℕ) → a + k ≤ i → a ≤ length xs → length ys ≡ k → get_or (put_mid a k xs ys) i 0 ≡ get_or xs i 0
-part_above a k i xs ys high fits size =
+pub part_above : {A : Type 0} (a k i : ℕ) (none : A) (xs ys : List A) → a + k ≤ i → a ≤ length xs → length ys ≡ k → get_or (put_mid a k xs ys) i none ≡ get_or xs i none
+part_above a k i none xs ys high fits size =
     let long : length (take a xs) ≡ a = length-take-le a xs fits in
-    get_or-append_right (take a xs) (ys ++ drop k (drop a xs)) a i 0 long (omega arith)
-    ∙ get_or-append_right ys (drop k (drop a xs)) k (i - a) 0 size (omega arith)
-    ∙ get_or-drop k (drop a xs) (i - a - k) 0
-    ∙ get_or-drop a xs (k + (i - a - k)) 0
-    ∙ ap (λ m. get_or xs m 0) (let e : a + (k + (i - a - k)) ≡ i = omega arith in e)
+    get_or-append_right (take a xs) (ys ++ drop k (drop a xs)) a i none long (omega arith)
+    ∙ get_or-append_right ys (drop k (drop a xs)) k (i - a) none size (omega arith)
+    ∙ get_or-drop k (drop a xs) (i - a - k) none
+    ∙ get_or-drop a xs (k + (i - a - k)) none
+    ∙ ap (λ m. get_or xs m none) (let e : a + (k + (i - a - k)) ≡ i = omega arith in e)
 
 -- the words of a row's front, added to a part of a text
 pub adds_to_part : (c from to : ℕ) (row text new : List ℕ) → from ≤ to → 2 * to ≤ 2 * from + length row → 2 * to ≤ length text
@@ -152,12 +152,12 @@ adds_to_part c from to row text new order in_row in_text size each = record {
   same_length = same_len_mid (2 * from) (2 * to - 2 * from) text new (size ∙ sym (mid_len (2 * from) (2 * to) text in_text));
   each = λ p fits. elim (cases_lt p from) [
     | inl below ↦
-        ap₂ (λ a b. a + 256 * b) (part_below (2 * from) k (2 * p) text new (omega arith) (omega arith)) (part_below (2 * from) k (2 * p + 1) text new (omega arith) (omega arith))
+        ap₂ (λ a b. a + 256 * b) (part_below (2 * from) k (2 * p) 0 text new (omega arith) (omega arith)) (part_below (2 * from) k (2 * p + 1) 0 text new (omega arith) (omega arith))
         ∙ sym (ap (bit_xor (word p text)) (within-below from to p (mul c (word (p - from) row)) below) ∙ xor_zero_r (word p text))
     | inr from_here ↦ elim (cases_lt p to) [
       | inl here ↦ inside p (p - from) (omega arith) (omega arith)
       | inr above ↦
-          ap₂ (λ a b. a + 256 * b) (part_above (2 * from) k (2 * p) text new (omega arith) (omega arith) size) (part_above (2 * from) k (2 * p + 1) text new (omega arith) (omega arith) size)
+          ap₂ (λ a b. a + 256 * b) (part_above (2 * from) k (2 * p) 0 text new (omega arith) (omega arith) size) (part_above (2 * from) k (2 * p + 1) 0 text new (omega arith) (omega arith) size)
           ∙ sym (ap (bit_xor (word p text)) (within-above from to p (mul c (word (p - from) row)) above) ∙ xor_zero_r (word p text))
     ]
   ];
@@ -173,8 +173,8 @@ adds_to_part c from to row text new order in_row in_text size each = record {
         let back : p - from ≡ q = omega arith in
         let written : word p (put_mid (2 * from) k text new) ≡ word q new =
         ap₂ (λ a b. a + 256 * b)
-        (ap (λ m. get_or (put_mid (2 * from) k text new) m 0) (let e : 2 * p ≡ 2 * from + 2 * q = omega (arith, place) in e) ∙ part_here (2 * from) k (2 * q) text new (omega arith) (omega arith) size)
-        (ap (λ m. get_or (put_mid (2 * from) k text new) m 0) (let e : 2 * p + 1 ≡ 2 * from + (2 * q + 1) = omega (arith, place) in e) ∙ part_here (2 * from) k (2 * q + 1) text new (omega arith) (omega arith) size) in
+        (ap (λ m. get_or (put_mid (2 * from) k text new) m 0) (let e : 2 * p ≡ 2 * from + 2 * q = omega (arith, place) in e) ∙ part_here (2 * from) k (2 * q) 0 text new (omega arith) (omega arith) size)
+        (ap (λ m. get_or (put_mid (2 * from) k text new) m 0) (let e : 2 * p + 1 ≡ 2 * from + (2 * q + 1) = omega (arith, place) in e) ∙ part_here (2 * from) k (2 * q + 1) 0 text new (omega arith) (omega arith) size) in
         let was : word q (take k (drop (2 * from) text)) ≡ word p text =
         ap₂ (λ a b. a + 256 * b)
         (get_or-take k (drop (2 * from) text) (2 * q) 0 (omega arith) ∙ get_or-drop (2 * from) text (2 * q) 0 ∙ ap (λ m. get_or text m 0) (let e : 2 * from + 2 * q ≡ 2 * p = omega (arith, place) in e))

@@ -18,3 +18,4 @@ mod WindowLaws
 mod ClassLaws
 mod OutputLaws
 mod ColumnLaws
+mod GroupLaws

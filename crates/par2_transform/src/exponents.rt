@@ -108,13 +108,6 @@ impl<'a> Slices<'a> {
         Ok(Slices { texts, numbers })
     }
 
-    /// How many slices there are.
-    pub(crate) fn count(&self) -> usize
-        ensures { result ≡ length self.now }
-    {
-        self.texts.len()
-    }
-
     /// How many numbers there are up to the last one's exponent.
     pub(crate) fn exponents(&self) -> usize
         ensures few { result ≤ 65536 }

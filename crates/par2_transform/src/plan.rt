@@ -5,6 +5,15 @@ ghost use Rattle.std.specs.Prelude.{◌≡◌, ◌+◌, ◌*◌, ◌^◌, ◌<�
 /// How many classes the exponents fall into. No constant's exponent is in the first one, since 3 divides none.
 const CLASSES: usize = 3;
 
+/// Of how many columns of words a row is a multiple.
+const STEP: usize = 32;
+
+/// What a row takes beside its words.
+const ROW: usize = 40;
+
+/// So many outputs are computed at once, whatever room there is.
+const FEWEST: usize = 256;
+
 /// How a sum over slices is cut: `windows` windows of `window` exponents in each of `classes` classes, `2 ^ levels` points,
 /// blocks of `block` outputs, and blocks of `columns` columns of words. Whatever these numbers are, the sums are the same.
 #[derive(Clone, Copy)]
@@ -50,23 +59,31 @@ fn windows_for(exponents: usize, window: usize) -> usize
     exponents.div_ceil(CLASSES).div_ceil(window)
 }
 
-// How many columns of words go through the levels at a time: as many as take half a MiB and a 128th of the inputs' bytes.
-fn columns_for(rows: usize, slices: usize, words: usize) -> usize
+// How many columns of words go through the levels at a time: as many as so many rows have room for, and at least 32.
+fn columns_for(rows: usize, words: usize, room: usize) -> usize
     ensures { (1 ≤ result) × (result ≤ 1024) }
 {
-    let room = (1 << 18) + slices.saturating_mul(words) / 128;
-    let most = (room / rows.max(1)).clamp(32, 1024);
+    let each = (room / rows.max(1)).saturating_sub(ROW) / 2;
+    let most = (each / STEP * STEP).clamp(STEP, 1024);
     let blocks = words.div_ceil(most).max(1);
     words
         .div_ceil(blocks)
         .clamp(1, most)
-        .next_multiple_of(32)
+        .next_multiple_of(STEP)
         .min(1024)
 }
 
+/// Of how many outputs the rows have this room with the fewest columns: a power of 2, and there are three rows for each.
+pub(crate) fn outputs_at_once(room: usize) -> usize
+    ensures { 1 ≤ result }
+{
+    let most = room / (3 * (2 * STEP + ROW));
+    (most / 2 + 1).next_power_of_two().max(FEWEST)
+}
+
 impl Plan {
-    /// The plan for so many exponents of constants, outputs, slices and words of each slice.
-    pub(crate) fn new(exponents: usize, outputs: usize, slices: usize, words: usize) -> Plan
+    /// The plan for so many exponents of constants, outputs and words of each slice, and room for rows.
+    pub(crate) fn new(exponents: usize, outputs: usize, words: usize, room: usize) -> Plan
         requires exponents { exponents ≤ 65536 }
         requires outputs { outputs ≤ 2 ^ 32 }
         ensures { exponents ≤ result.classes * (result.windows * result.window) }
@@ -82,7 +99,7 @@ impl Plan {
             window,
             levels,
             block,
-            columns: columns_for((blocks + 1).saturating_mul(2 * half), slices, words),
+            columns: columns_for((blocks + 1).saturating_mul(2 * half), words, room),
         }
     }
 }

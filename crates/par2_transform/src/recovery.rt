@@ -2,14 +2,14 @@
 
 ghost use Rattle.std.specs.Prelude.{◌≡◌, ℕ, ◌+◌, ◌*◌, ◌^◌, ◌<◌, ◌≤◌, length, IfOk};
 ghost use Rattle.par2_spec.specs.Sums.{lists_of};
-ghost use Rattle.par2_transform.specs.Adding.{AddsToEach, HaveWords};
+ghost use Rattle.par2_transform.specs.Adding.{within, AddsToEach, HaveWords};
 ghost use Rattle.par2_transform.specs.Blocks.{AreBlocks};
 ghost use Rattle.par2_transform.specs.Columns.{texts_of, recovered};
 ghost use Rattle.par2_transform.specs.Plans.{cut_of};
 
 use crate::blocks::Block;
 use crate::exponents::Slices;
-use crate::plan::Plan;
+use crate::plan::{Plan, outputs_at_once};
 use crate::rows::Rows;
 use crate::windows::Windows;
 use par2_gf16::Gf;
@@ -62,15 +62,15 @@ impl<'a> Windows<'a> {
     }
 }
 
-/// To text t, adds the recovery slice of exponent `first + t` over these slices. Zeros follow a slice that is shorter, so
-/// an empty one stands for a slice that is absent.
-pub fn add_recovery_slices(
+// To text t, adds the recovery slice of exponent `first + t`, all of them together.
+fn add_together(
     alloc: Global,
     gf: &Gf,
     slices: &[&[u8]],
     words: usize,
     first: u32,
     texts: &mut [Vec<u8>],
+    room: usize,
 ) -> Result<(), AllocError>
     requires slices { length slices.now ≤ 32768 }
     requires exponents { first + length texts.old ≤ 2 ^ 32 }
@@ -78,6 +78,57 @@ pub fn add_recovery_slices(
     ensures { IfOk result (λ _. AddsToEach (λ t p. recovered (texts_of slices.now) (first + t) p)
         (lists_of texts.old) (lists_of texts.new)) }
 {
-    let windows = Windows::new(alloc, gf, slices, words, first, texts.len())?;
+    let windows = Windows::new(alloc, gf, slices, words, first, texts.len(), room)?;
     windows.add_words(alloc, words, texts)
+}
+
+// The same to the texts from one place up to another.
+fn add_group(
+    alloc: Global,
+    gf: &Gf,
+    slices: &[&[u8]],
+    words: usize,
+    first: u32,
+    texts: &mut [Vec<u8>],
+    from: usize,
+    to: usize,
+    room: usize,
+) -> Result<(), AllocError>
+    requires slices { length slices.now ≤ 32768 }
+    requires exponents { first + length texts.old ≤ 2 ^ 32 }
+    requires size { HaveWords words (lists_of texts.old) }
+    requires group { (from < to) × (to ≤ length texts.old) }
+    ensures { IfOk result (λ _. AddsToEach
+        (λ t p. within from to t (recovered (texts_of slices.now) (first + t) p))
+        (lists_of texts.old) (lists_of texts.new)) }
+{
+    let group = &mut texts[from..to];
+    add_together(alloc, gf, slices, words, first + from as u32, group, room)
+}
+
+/// To text t, adds the recovery slice of exponent `first + t` over these slices. Zeros follow a slice that is shorter, so
+/// an empty one stands for a slice that is absent. Beside the texts this takes so many bytes, `room`, or as few as it can,
+/// which is some 100 KiB.
+pub fn add_recovery_slices(
+    alloc: Global,
+    gf: &Gf,
+    slices: &[&[u8]],
+    words: usize,
+    first: u32,
+    texts: &mut [Vec<u8>],
+    room: usize,
+) -> Result<(), AllocError>
+    requires slices { length slices.now ≤ 32768 }
+    requires exponents { first + length texts.old ≤ 2 ^ 32 }
+    requires size { HaveWords words (lists_of texts.old) }
+    ensures { IfOk result (λ _. AddsToEach (λ t p. recovered (texts_of slices.now) (first + t) p)
+        (lists_of texts.old) (lists_of texts.new)) }
+{
+    let at_once = outputs_at_once(room);
+    for k in 0..texts.len().div_ceil(at_once) {
+        let from = k * at_once;
+        let to = from + at_once.min(texts.len() - from);
+        add_group(alloc, gf, slices, words, first, texts, from, to, room)?;
+    }
+    Ok(())
 }

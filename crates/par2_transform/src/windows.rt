@@ -54,6 +54,7 @@ impl<'a> Windows<'a> {
         words: usize,
         first: u32,
         outputs: usize,
+        room: usize,
     ) -> Result<Windows<'a>, AllocError>
         requires slices { length texts.now ≤ 32768 }
         requires outputs { outputs ≤ 2 ^ 32 }
@@ -61,7 +62,7 @@ impl<'a> Windows<'a> {
         ensures first { IfOk result (λ windows. windows.first ≡ first) }
     {
         let slices = Slices::new(alloc, texts)?;
-        let plan = Plan::new(slices.exponents(), outputs, slices.count(), words);
+        let plan = Plan::new(slices.exponents(), outputs, words, room);
         let inverses = inverse_chirps(alloc, gf, plan.classes, plan.windows * plan.window)?;
         Ok(Windows {
             gf,
