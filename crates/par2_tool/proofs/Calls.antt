@@ -30,9 +30,6 @@ use Rattle.par2_tool.proofs.Stops.{IsMadeReady, asked_of_mid}
 
 -- ---- an action
 
-pub none_made : (calls count : ℕ) → AreAtMost calls count count
-none_made calls count = record { later = omega arith; within = omega arith }
-
 calls_where : (halfway : Option (Vec ℕ Global)) (s : Session) (changes : List Change) → SpellsWhere halfway (halfway_where Two s changes) → calls_before halfway + (length changes + 1) ≡ calls_for changes
 calls_where None s [] spells = refl
 calls_where None s (c ∷ cs) spells = absurd spells
