@@ -1,14 +1,18 @@
 -- A survey on its way.
-use Rattle.std.proofs.Common.{◌≡◌, ℕ, ◌-◌, ◌<◌, ◌≤◌, List, [], ◌∷◌, ◌++◌, length, take, drop, get_or, sym, ap, subst, ◌∙◌}
+use Rattle.std.proofs.Common.{◌≡◌, ◌⊎◌, inl, inr, false, arith, ℕ, ◌-◌, ◌<◌, ◌≤◌, List, [], ◌∷◌, ◌++◌, length, take, drop, get_or, sym, ap, subst, ◌∙◌}
 use Rattle.std.specs.FinMap.{entries}
+use Rattle.std.proofs.lemmas.Bool.{false≢true}
 use Rattle.std.proofs.lemmas.List.Elements.{All-push}
 use Rattle.par2_digests.specs.Messages.{HasAbsorbed, message_of}
 use Rattle.par2_digests.specs.declared.midstate.Midstate.{Midstate}
 use Rattle.par2_digests.specs.declared.pending.Pending.{Pending}
 use Rattle.par2_spec.specs.Folders.{Folder}
 use Rattle.par2_folder.specs.Below.{fingerprint_input, folder_below}
+use Rattle.par2_folder.specs.Borders.{comes_before}
 use Rattle.par2_folder.specs.Landmarks.{AreLandmarksOf, IsLandmarkOf}
 use Rattle.par2_folder.specs.Runs.{Reaches}
+use Rattle.par2_folder.specs.declared.border.Border.{Border}
+use Rattle.par2_folder.specs.declared.border.Border.TheVariants.{Beginning}
 use Rattle.par2_folder.specs.declared.landmarks.Landmark.{Landmark}
 use Rattle.par2_folder.specs.declared.landmarks.Landmarks.{Landmarks}
 use Rattle.par2_folder.proofs.Borders.{taken_on}
@@ -32,3 +36,13 @@ with_mark folder old new mark pushed are is = λ i none lt.
 pub is_mark : (name copy : List ℕ) (here folder : Folder) (state : Midstate) → copy ≡ name → here ≡ folder → HasAbsorbed state (fingerprint_input (entries (folder_below name here)))
     → IsLandmarkOf folder (record { name = copy; state = state })
 is_mark name copy here folder state copied is held = subst (λ (p : List ℕ × Folder). HasAbsorbed state (fingerprint_input (entries (folder_below p.0 p.1)))) (λ i. (sym copied i, is i)) held
+
+-- where one was added, there is one
+pub some_pushed : (old : List Landmark) (mark : Landmark) → 0 < length (old ++ mark ∷ [])
+some_pushed [] mark = omega arith
+some_pushed (m ∷ old) mark = omega arith
+
+-- where a name isn't further, the border isn't the first one
+pub one_before : (border : Border) (name : List ℕ) (n : ℕ) → comes_before border name ≡ false → (border ≡ Beginning) ⊎ (0 < n) → 0 < n
+one_before border name n behind (inl first) = absurd (false≢true (sym behind ∙ ap (λ b. comes_before b name) first))
+one_before border name n behind (inr some) = some

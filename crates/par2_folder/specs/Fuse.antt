@@ -18,6 +18,10 @@ does_work store = store.works
 abbrev pub fuse_failures : {S : Type 0} → FuseStore S → ℕ
 fuse_failures store = store.failures.count
 
+-- how many writing calls were made of it, passed on or not
+abbrev pub fuse_writing_calls : {S : Type 0} → FuseStore S → ℕ
+fuse_writing_calls store = store.writing_calls.count
+
 -- the next call does its work, and fails
 pub record WorksNext {S : Type 0} (store : FuseStore S) : Type 0 where
   pub left : calls_left store ≡ 0

@@ -18,6 +18,10 @@ IsLandmarkOf folder mark = HasAbsorbed mark.state (fingerprint_input (map_of.ent
 abbrev pub AreLandmarksOf : Folder → Landmarks → Type 0
 AreLandmarksOf folder landmarks = (i : ℕ) (none : Landmark) → i < length landmarks.list.items → IsLandmarkOf folder (get_or landmarks.list.items i none)
 
+-- where there are files, there is a landmark
+abbrev pub HasLandmark : Folder → Landmarks → Type 0
+HasLandmark folder landmarks = 0 < length (map_of.entries folder) → 0 < length landmarks.list.items
+
 -- no change touches a name before the border
 abbrev pub AreBehind : Border → List Change → Type 0
 AreBehind border changes = (i : ℕ) (none : Change) → i < length changes → touches border (change_of (get_or changes i none)) ≡ false

@@ -1,4 +1,5 @@
--- What a store in memory holds, how often it has failed, and how often it was asked for what can't be done.
+-- What a store in memory holds, how often it has failed, how often it was asked for what can't be done, and how many
+-- writing calls were made of it.
 use Rattle.std.specs.Prelude.{ℕ}
 use Rattle.par2_spec.specs.Stores.{Contents}
 use Rattle.par2_folder.specs.declared.memory.MemoryStore.{MemoryStore}
@@ -11,3 +12,6 @@ memory_failures store = store.failures.count
 
 abbrev pub memory_impossible : MemoryStore → ℕ
 memory_impossible store = store.impossible.count
+
+abbrev pub memory_writing_calls : MemoryStore → ℕ
+memory_writing_calls store = store.writing_calls.count

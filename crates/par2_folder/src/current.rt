@@ -7,7 +7,7 @@ use crate::directory::{Directory, Found, Place};
 use crate::listing::names_listed;
 use crate::reading::read_opened;
 use crate::waiting::{wait_for, written_to};
-use crate::{Failures, Name, ReadFault, StoreFault};
+use crate::{Count, Name, ReadFault, StoreFault};
 use std::alloc::Global;
 use std::fs::{File, Files, Metadata};
 use std::io::{Error, ErrorKind};
@@ -20,7 +20,7 @@ pub struct CurrentDirectory<'r, R: Files + AllocGlobal> {
     rt: &'r R,
     // The temporary file, from when it is written until it is waited for.
     written: Option<R::File>,
-    failures: Failures,
+    failures: Count,
 }
 
 // What was found by what the runtime says of a path.
@@ -53,7 +53,7 @@ impl<'r, R: Files + AllocGlobal> CurrentDirectory<'r, R> {
         CurrentDirectory {
             rt,
             written: None,
-            failures: Failures::new(),
+            failures: Count::new(),
         }
     }
 

@@ -5,11 +5,11 @@ ghost use Rattle.par2_spec.specs.Folders.{has};
 ghost use Rattle.par2_spec.specs.Stores.{with_change};
 ghost use Rattle.par2_folder.specs.Cuts.{AreKept, Lasts, NoMoreRemains, RemainsEither};
 ghost use Rattle.par2_folder.specs.Directories.{path_of, put_at};
-ghost use Rattle.par2_folder.specs.Disk.{directory_of, disk_failures, disk_impossible, HasFailed};
+ghost use Rattle.par2_folder.specs.Disk.{directory_of, disk_failures, disk_impossible, disk_writing_calls, HasFailed};
 
 use crate::current::CurrentDirectory;
 use crate::directory::{Directory, Found, Place};
-use crate::{Failures, FolderStore, Name, ReadFault, StoreFault};
+use crate::{Count, FolderStore, Name, ReadFault, StoreFault};
 use std::alloc::Global;
 use std::fs::Files;
 
@@ -18,9 +18,10 @@ use std::fs::Files;
 #[derive(Drop)]
 pub struct DiskStore<D: Directory> {
     directory: D,
-    failures: Failures,
+    failures: Count,
     // Those of calls that can't be done, as far as the store has seen it.
-    impossible: Failures,
+    impossible: Count,
+    writing_calls: Count,
 }
 
 impl<'r, R: Files + AllocGlobal> DiskStore<CurrentDirectory<'r, R>> {
@@ -28,11 +29,13 @@ impl<'r, R: Files + AllocGlobal> DiskStore<CurrentDirectory<'r, R>> {
     pub fn new(rt: &'r R) -> DiskStore<CurrentDirectory<'r, R>>
         ensures failures { disk_failures result ≡ 0 }
         ensures impossible { disk_impossible result ≡ 0 }
+        ensures writing_calls { disk_writing_calls result ≡ 0 }
     {
         DiskStore {
             directory: CurrentDirectory::new(rt),
-            failures: Failures::new(),
-            impossible: Failures::new(),
+            failures: Count::new(),
+            impossible: Count::new(),
+            writing_calls: Count::new(),
         }
     }
 }
@@ -66,6 +69,7 @@ impl<D: Directory> DiskStore<D> {
     fn refuse(&mut self) -> StoreFault
         ensures directory { directory_of self.new ≡ directory_of self.old }
         ensures failures { disk_failures self.new ≡ disk_failures self.old }
+        ensures writing_calls { disk_writing_calls self.new ≡ disk_writing_calls self.old }
         ensures impossible { disk_impossible self.new ≡ disk_impossible self.old + 1 }
     {
         self.impossible.rise();
@@ -83,6 +87,7 @@ impl<D: Directory> DiskStore<D> {
             → OnErr result (D.may_fail directory ReadFault.Store) }
         ensures directory { directory_of self.new ≡ directory_of self.old }
         ensures failures { disk_failures self.new ≡ disk_failures self.old }
+        ensures writing_calls { disk_writing_calls self.new ≡ disk_writing_calls self.old }
         ensures possible { let directory = directory_of self.old in D.honest directory
             → IsTrue (has (D.contents directory).files name.now)
             → disk_impossible self.new ≡ disk_impossible self.old }
@@ -105,6 +110,7 @@ impl<D: Directory> DiskStore<D> {
             → OnErr result (D.may_fail directory ReadFault.Store) }
         ensures directory { directory_of self.new ≡ directory_of self.old }
         ensures failures { disk_failures self.new ≡ disk_failures self.old }
+        ensures writing_calls { disk_writing_calls self.new ≡ disk_writing_calls self.old }
         ensures possible { let directory = directory_of self.old in D.honest directory
             → IsFalse (has (D.contents directory).files name.now)
             → disk_impossible self.new ≡ disk_impossible self.old }
@@ -155,6 +161,7 @@ impl<D: Directory> DiskStore<D> {
         ensures unfailed { OnOk result (D.failures (directory_of self.new)
             ≡ D.failures (directory_of self.old)) }
         ensures failures { disk_failures self.new ≡ disk_failures self.old }
+        ensures writing_calls { disk_writing_calls self.new ≡ disk_writing_calls self.old }
         ensures impossible { disk_impossible self.new ≡ disk_impossible self.old }
     {
         if !self.is_free(Place::Temporary) {
@@ -192,6 +199,7 @@ impl<D: Directory> DiskStore<D> {
         ensures unfailed { OnOk result (D.failures (directory_of self.new)
             ≡ D.failures (directory_of self.old)) }
         ensures failures { disk_failures self.new ≡ disk_failures self.old }
+        ensures writing_calls { disk_writing_calls self.new ≡ disk_writing_calls self.old }
         ensures possible { disk_impossible self.new ≡ disk_impossible self.old }
     {
         if !self.is_free(place) {
@@ -232,6 +240,7 @@ impl<D: Directory> DiskStore<D> {
         ensures unfailed { OnOk result (D.failures (directory_of self.new)
             ≡ D.failures (directory_of self.old)) }
         ensures failures { disk_failures self.new ≡ disk_failures self.old }
+        ensures writing_calls { disk_writing_calls self.new ≡ disk_writing_calls self.old }
         ensures possible { D.honest (directory_of self.old)
             → IsTrue (is_applicable (D.contents (directory_of self.old)).files
             (Write name.now bytes.now)) → disk_impossible self.new ≡ disk_impossible self.old }
@@ -273,6 +282,7 @@ impl<D: Directory> DiskStore<D> {
         ensures unfailed { OnOk result (D.failures (directory_of self.new)
             ≡ D.failures (directory_of self.old)) }
         ensures failures { disk_failures self.new ≡ disk_failures self.old }
+        ensures writing_calls { disk_writing_calls self.new ≡ disk_writing_calls self.old }
         ensures possible { D.honest (directory_of self.old)
             → IsTrue (is_applicable (D.contents (directory_of self.old)).files
             (Replace name.now bytes.now)) → disk_impossible self.new ≡ disk_impossible self.old }
@@ -312,6 +322,7 @@ impl<D: Directory> DiskStore<D> {
         ensures unfailed { OnOk result (D.failures (directory_of self.new)
             ≡ D.failures (directory_of self.old)) }
         ensures failures { disk_failures self.new ≡ disk_failures self.old }
+        ensures writing_calls { disk_writing_calls self.new ≡ disk_writing_calls self.old }
         ensures possible { D.honest (directory_of self.old)
             → IsTrue (is_applicable (D.contents (directory_of self.old)).files
             (Rename from.now to.now)) → disk_impossible self.new ≡ disk_impossible self.old }
@@ -352,6 +363,7 @@ impl<D: Directory> DiskStore<D> {
         ensures unfailed { OnOk result (D.failures (directory_of self.new)
             ≡ D.failures (directory_of self.old)) }
         ensures failures { disk_failures self.new ≡ disk_failures self.old }
+        ensures writing_calls { disk_writing_calls self.new ≡ disk_writing_calls self.old }
         ensures possible { D.honest (directory_of self.old)
             → IsTrue (is_applicable (D.contents (directory_of self.old)).files (Remove name.now))
             → disk_impossible self.new ≡ disk_impossible self.old }
@@ -362,7 +374,7 @@ impl<D: Directory> DiskStore<D> {
         self.directory.wait()
     }
 
-    // Counts the failures among the answers of reading calls.
+    // Counts a failure where that is the answer of a reading call.
     fn counted_read<T>(&mut self, answer: Result<T, ReadFault>) -> Result<T, ReadFault>
         ensures answer { result ≡ answer }
         ensures directory { directory_of self.new ≡ directory_of self.old }
@@ -373,6 +385,7 @@ impl<D: Directory> DiskStore<D> {
         ensures memory { IsErrOf result ReadFault.Memory
             → disk_failures self.new ≡ disk_failures self.old }
         ensures impossible { disk_impossible self.new ≡ disk_impossible self.old }
+        ensures writing_calls { disk_writing_calls self.new ≡ disk_writing_calls self.old }
     {
         if let Err(ReadFault::Store) = &answer {
             self.failures.rise();
@@ -380,7 +393,7 @@ impl<D: Directory> DiskStore<D> {
         answer
     }
 
-    // Counts the failures among the answers of writing calls.
+    // Counts a writing call, and a failure where that is its answer.
     fn counted_write(&mut self, answer: Result<(), StoreFault>) -> Result<(), StoreFault>
         ensures answer { result ≡ answer }
         ensures directory { directory_of self.new ≡ directory_of self.old }
@@ -388,7 +401,9 @@ impl<D: Directory> DiskStore<D> {
         ensures cause { OnErr result (disk_failures self.old < disk_failures self.new) }
         ensures steady { OnOk result (disk_failures self.new ≡ disk_failures self.old) }
         ensures impossible { disk_impossible self.new ≡ disk_impossible self.old }
+        ensures counted { disk_writing_calls self.new ≡ disk_writing_calls self.old + 1 }
     {
+        self.writing_calls.rise();
         if answer.is_err() {
             self.failures.rise();
         }
@@ -397,14 +412,14 @@ impl<D: Directory> DiskStore<D> {
 }
 
 impl<D: Directory> FolderStore for DiskStore<D> {
-    ghost use Rattle.std.specs.Prelude.{◌≡◌, ◌⊎◌, ◌<◌, ◌≤◌, IfOk, IfErr, OnOk, OnErr, IsErr, IsErrOf, IsTrue, IsFalse, Some, None, option_map};
+    ghost use Rattle.std.specs.Prelude.{◌≡◌, ◌+◌, ◌⊎◌, ◌<◌, ◌≤◌, IfOk, IfErr, OnOk, OnErr, IsErr, IsErrOf, IsTrue, IsFalse, Some, None, option_map};
     ghost use Rattle.std.specs.FinMap.{get};
     ghost use Rattle.par2_spec.specs.Folders.{has, names};
     ghost use Rattle.par2_spec.specs.Changes.{Write, Replace, Rename, Remove, is_applicable};
     ghost use Rattle.par2_spec.specs.Stores.{with_change, with_journal};
     ghost use Rattle.par2_folder.specs.Cuts.{Lasts, NoMoreRemains, RemainsEither};
     ghost use Rattle.par2_folder.specs.Directories.{path_of};
-    ghost use Rattle.par2_folder.specs.Disk.{directory_of, disk_failures, disk_impossible, HasFailed};
+    ghost use Rattle.par2_folder.specs.Disk.{directory_of, disk_failures, disk_impossible, disk_writing_calls, HasFailed};
 
     ghost honest = { λ store. D.honest (directory_of store) };
 
@@ -415,6 +430,8 @@ impl<D: Directory> FolderStore for DiskStore<D> {
     ghost failures = { disk_failures };
 
     ghost impossible = { disk_impossible };
+
+    ghost writing_calls = { disk_writing_calls };
 
     fn names(&mut self, alloc: Global) -> Result<Vec<Name>, ReadFault>
         ensures honest { D.honest (directory_of self.old) → D.honest (directory_of self.new) }
@@ -432,6 +449,7 @@ impl<D: Directory> FolderStore for DiskStore<D> {
         ensures memory { IsErrOf result ReadFault.Memory → disk_failures self.new
             ≡ disk_failures self.old }
         ensures possible { disk_impossible self.new ≡ disk_impossible self.old }
+        ensures unwritten { disk_writing_calls self.new ≡ disk_writing_calls self.old }
         ensures reason { IfErr result (D.may_fail (directory_of self.old)) }
     {
         let answer = self.directory.names(alloc);
@@ -461,6 +479,7 @@ impl<D: Directory> FolderStore for DiskStore<D> {
             → IsTrue (has (D.contents (directory_of self.old)).files name.now)
             → disk_impossible self.new ≡ disk_impossible self.old }
         ensures grows { disk_impossible self.old ≤ disk_impossible self.new }
+        ensures unwritten { disk_writing_calls self.new ≡ disk_writing_calls self.old }
         ensures reason { let directory = directory_of self.old in D.honest directory
             → IsTrue (has (D.contents directory).files name.now)
             → IfErr result (D.may_fail directory) }
@@ -489,6 +508,7 @@ impl<D: Directory> FolderStore for DiskStore<D> {
         ensures memory { IsErrOf result ReadFault.Memory → disk_failures self.new
             ≡ disk_failures self.old }
         ensures possible { disk_impossible self.new ≡ disk_impossible self.old }
+        ensures unwritten { disk_writing_calls self.new ≡ disk_writing_calls self.old }
         ensures reason { let directory = directory_of self.old in D.honest directory
             → (D.barred directory (path_of Place.Journal) → ⊥)
             → IfErr result (D.may_fail directory) }
@@ -525,6 +545,7 @@ impl<D: Directory> FolderStore for DiskStore<D> {
             → IsTrue (is_applicable (D.contents (directory_of self.old)).files
             (Write name.now bytes.now)) → disk_impossible self.new ≡ disk_impossible self.old }
         ensures grows { disk_impossible self.old ≤ disk_impossible self.new }
+        ensures counted { disk_writing_calls self.new ≡ disk_writing_calls self.old + 1 }
         ensures reason { let directory = directory_of self.old in D.honest directory
             → IsTrue (is_applicable (D.contents directory).files (Write name.now bytes.now))
             → (D.barred directory name.now → ⊥) → (D.barred directory (path_of Place.Temporary) → ⊥)
@@ -565,6 +586,7 @@ impl<D: Directory> FolderStore for DiskStore<D> {
             → IsTrue (is_applicable (D.contents (directory_of self.old)).files
             (Replace name.now bytes.now)) → disk_impossible self.new ≡ disk_impossible self.old }
         ensures grows { disk_impossible self.old ≤ disk_impossible self.new }
+        ensures counted { disk_writing_calls self.new ≡ disk_writing_calls self.old + 1 }
         ensures reason { let directory = directory_of self.old in D.honest directory
             → IsTrue (is_applicable (D.contents directory).files (Replace name.now bytes.now))
             → (D.barred directory (path_of Place.Temporary) → ⊥)
@@ -605,6 +627,7 @@ impl<D: Directory> FolderStore for DiskStore<D> {
             → IsTrue (is_applicable (D.contents (directory_of self.old)).files
             (Rename from.now to.now)) → disk_impossible self.new ≡ disk_impossible self.old }
         ensures grows { disk_impossible self.old ≤ disk_impossible self.new }
+        ensures counted { disk_writing_calls self.new ≡ disk_writing_calls self.old + 1 }
         ensures reason { let directory = directory_of self.old in D.honest directory
             → IsTrue (is_applicable (D.contents directory).files (Rename from.now to.now))
             → (D.barred directory to.now → ⊥)
@@ -645,6 +668,7 @@ impl<D: Directory> FolderStore for DiskStore<D> {
             → IsTrue (is_applicable (D.contents (directory_of self.old)).files (Remove name.now))
             → disk_impossible self.new ≡ disk_impossible self.old }
         ensures grows { disk_impossible self.old ≤ disk_impossible self.new }
+        ensures counted { disk_writing_calls self.new ≡ disk_writing_calls self.old + 1 }
         ensures reason { let directory = directory_of self.old in D.honest directory
             → IsTrue (is_applicable (D.contents directory).files (Remove name.now))
             → OnErr result (HasFailed (D.may_fail directory) (D.failures directory) (D.failures
@@ -676,6 +700,7 @@ impl<D: Directory> FolderStore for DiskStore<D> {
         ensures cause { OnErr result (disk_failures self.old < disk_failures self.new) }
         ensures steady { OnOk result (disk_failures self.new ≡ disk_failures self.old) }
         ensures possible { disk_impossible self.new ≡ disk_impossible self.old }
+        ensures counted { disk_writing_calls self.new ≡ disk_writing_calls self.old + 1 }
         ensures reason { let directory = directory_of self.old in D.honest directory
             → (D.barred directory (path_of Place.Journal) → ⊥)
             → (D.barred directory (path_of Place.Temporary) → ⊥)

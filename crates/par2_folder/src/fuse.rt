@@ -1,8 +1,8 @@
 //! A store that passes some calls on, and then fails.
 ghost use Rattle.std.specs.Prelude.{◌≡◌, ◌+◌, ◌-◌, nat_lt, false};
-ghost use Rattle.par2_folder.specs.Fuse.{inner_store, fuse_failures, calls_left, does_work};
+ghost use Rattle.par2_folder.specs.Fuse.{inner_store, fuse_failures, fuse_writing_calls, calls_left, does_work};
 
-use crate::{Failures, FolderStore, Name, ReadFault, StoreFault};
+use crate::{Count, FolderStore, Name, ReadFault, StoreFault};
 use std::alloc::Global;
 use std::mem;
 
@@ -13,7 +13,8 @@ pub struct FuseStore<S: FolderStore> {
     inner: S,
     left: u64,
     works: bool,
-    failures: Failures,
+    failures: Count,
+    writing_calls: Count,
 }
 
 impl<S: FolderStore> FuseStore<S> {
@@ -27,7 +28,8 @@ impl<S: FolderStore> FuseStore<S> {
             inner,
             left: k,
             works,
-            failures: Failures::new(),
+            failures: Count::new(),
+            writing_calls: Count::new(),
         }
     }
 
@@ -45,6 +47,7 @@ impl<S: FolderStore> FuseStore<S> {
         ensures inner { inner_store self.new ≡ inner_store self.old }
         ensures works { does_work self.new ≡ does_work self.old }
         ensures failures { fuse_failures self.new ≡ fuse_failures self.old }
+        ensures writing_calls { fuse_writing_calls self.new ≡ fuse_writing_calls self.old }
     {
         if self.left == 0 {
             return false;
@@ -60,6 +63,7 @@ impl<S: FolderStore> FuseStore<S> {
         ensures left { calls_left self.new ≡ calls_left self.old }
         ensures inner { inner_store self.new ≡ inner_store self.old }
         ensures failures { fuse_failures self.new ≡ fuse_failures self.old + 1 }
+        ensures writing_calls { fuse_writing_calls self.new ≡ fuse_writing_calls self.old }
     {
         self.failures.rise();
         mem::replace(&mut self.works, false)
@@ -73,7 +77,7 @@ impl<S: FolderStore> FolderStore for FuseStore<S> {
     ghost use Rattle.par2_spec.specs.Changes.{Write, Replace, Rename, Remove, is_applicable};
     ghost use Rattle.par2_spec.specs.Stores.{with_change, with_journal};
     ghost use Rattle.par2_folder.specs.Cuts.{Lasts, NoMoreRemains, RemainsEither};
-    ghost use Rattle.par2_folder.specs.Fuse.{inner_store, fuse_failures, calls_left, HasPassed, IsBlown, WorksNext};
+    ghost use Rattle.par2_folder.specs.Fuse.{inner_store, fuse_failures, fuse_writing_calls, calls_left, HasPassed, IsBlown, WorksNext};
 
     ghost honest = { λ store. S.honest (inner_store store) };
 
@@ -84,6 +88,8 @@ impl<S: FolderStore> FolderStore for FuseStore<S> {
     ghost failures = { λ store. S.failures (inner_store store) + fuse_failures store };
 
     ghost impossible = { λ store. S.impossible (inner_store store) };
+
+    ghost writing_calls = { fuse_writing_calls };
 
     fn names(&mut self, alloc: Global) -> Result<Vec<Name>, ReadFault>
         ensures honest { S.honest (inner_store self.old) → S.honest (inner_store self.new) }
@@ -103,6 +109,7 @@ impl<S: FolderStore> FolderStore for FuseStore<S> {
             + fuse_failures self.new ≡ S.failures (inner_store self.old) + fuse_failures self.old }
         ensures possible { S.impossible (inner_store self.new)
             ≡ S.impossible (inner_store self.old) }
+        ensures unwritten { fuse_writing_calls self.new ≡ fuse_writing_calls self.old }
         ensures passed { 0 < calls_left self.old → HasPassed self.old self.new }
         ensures blown { calls_left self.old ≡ 0
             → IsErrOf result ReadFault.Store × IsBlown self.old self.new }
@@ -138,6 +145,7 @@ impl<S: FolderStore> FolderStore for FuseStore<S> {
             → S.impossible (inner_store self.new) ≡ S.impossible (inner_store self.old) }
         ensures grows { S.impossible (inner_store self.old)
             ≤ S.impossible (inner_store self.new) }
+        ensures unwritten { fuse_writing_calls self.new ≡ fuse_writing_calls self.old }
         ensures passed { 0 < calls_left self.old → HasPassed self.old self.new }
         ensures blown { calls_left self.old ≡ 0
             → IsErrOf result ReadFault.Store × IsBlown self.old self.new }
@@ -167,6 +175,7 @@ impl<S: FolderStore> FolderStore for FuseStore<S> {
             + fuse_failures self.new ≡ S.failures (inner_store self.old) + fuse_failures self.old }
         ensures possible { S.impossible (inner_store self.new)
             ≡ S.impossible (inner_store self.old) }
+        ensures unwritten { fuse_writing_calls self.new ≡ fuse_writing_calls self.old }
         ensures passed { 0 < calls_left self.old → HasPassed self.old self.new }
         ensures blown { calls_left self.old ≡ 0
             → IsErrOf result ReadFault.Store × IsBlown self.old self.new }
@@ -208,6 +217,7 @@ impl<S: FolderStore> FolderStore for FuseStore<S> {
             → S.impossible (inner_store self.new) ≡ S.impossible (inner_store self.old) }
         ensures grows { S.impossible (inner_store self.old)
             ≤ S.impossible (inner_store self.new) }
+        ensures counted { fuse_writing_calls self.new ≡ fuse_writing_calls self.old + 1 }
         ensures passed { 0 < calls_left self.old → HasPassed self.old self.new }
         ensures worked { S.honest (inner_store self.old) → WorksNext self.old
             → (S.failures (inner_store self.old) < S.failures (inner_store self.new))
@@ -215,6 +225,7 @@ impl<S: FolderStore> FolderStore for FuseStore<S> {
             ≡ with_change (S.contents (inner_store self.old)) (Write name.now bytes.now)) }
         ensures blown { calls_left self.old ≡ 0 → IsErr result × IsBlown self.old self.new }
     {
+        self.writing_calls.rise();
         if self.passes() {
             return self.inner.write(name, bytes);
         }
@@ -254,6 +265,7 @@ impl<S: FolderStore> FolderStore for FuseStore<S> {
             → S.impossible (inner_store self.new) ≡ S.impossible (inner_store self.old) }
         ensures grows { S.impossible (inner_store self.old)
             ≤ S.impossible (inner_store self.new) }
+        ensures counted { fuse_writing_calls self.new ≡ fuse_writing_calls self.old + 1 }
         ensures passed { 0 < calls_left self.old → HasPassed self.old self.new }
         ensures worked { S.honest (inner_store self.old) → WorksNext self.old
             → (S.failures (inner_store self.old) < S.failures (inner_store self.new))
@@ -261,6 +273,7 @@ impl<S: FolderStore> FolderStore for FuseStore<S> {
             ≡ with_change (S.contents (inner_store self.old)) (Replace name.now bytes.now)) }
         ensures blown { calls_left self.old ≡ 0 → IsErr result × IsBlown self.old self.new }
     {
+        self.writing_calls.rise();
         if self.passes() {
             return self.inner.replace(name, bytes);
         }
@@ -299,6 +312,7 @@ impl<S: FolderStore> FolderStore for FuseStore<S> {
             → S.impossible (inner_store self.new) ≡ S.impossible (inner_store self.old) }
         ensures grows { S.impossible (inner_store self.old)
             ≤ S.impossible (inner_store self.new) }
+        ensures counted { fuse_writing_calls self.new ≡ fuse_writing_calls self.old + 1 }
         ensures passed { 0 < calls_left self.old → HasPassed self.old self.new }
         ensures worked { S.honest (inner_store self.old) → WorksNext self.old
             → (S.failures (inner_store self.old) < S.failures (inner_store self.new))
@@ -306,6 +320,7 @@ impl<S: FolderStore> FolderStore for FuseStore<S> {
             ≡ with_change (S.contents (inner_store self.old)) (Rename from.now to.now)) }
         ensures blown { calls_left self.old ≡ 0 → IsErr result × IsBlown self.old self.new }
     {
+        self.writing_calls.rise();
         if self.passes() {
             return self.inner.rename(from, to);
         }
@@ -345,6 +360,7 @@ impl<S: FolderStore> FolderStore for FuseStore<S> {
             → S.impossible (inner_store self.new) ≡ S.impossible (inner_store self.old) }
         ensures grows { S.impossible (inner_store self.old)
             ≤ S.impossible (inner_store self.new) }
+        ensures counted { fuse_writing_calls self.new ≡ fuse_writing_calls self.old + 1 }
         ensures passed { 0 < calls_left self.old → HasPassed self.old self.new }
         ensures worked { S.honest (inner_store self.old) → WorksNext self.old
             → (S.failures (inner_store self.old) < S.failures (inner_store self.new))
@@ -352,6 +368,7 @@ impl<S: FolderStore> FolderStore for FuseStore<S> {
             ≡ with_change (S.contents (inner_store self.old)) (Remove name.now)) }
         ensures blown { calls_left self.old ≡ 0 → IsErr result × IsBlown self.old self.new }
     {
+        self.writing_calls.rise();
         if self.passes() {
             return self.inner.remove(name);
         }
@@ -383,6 +400,7 @@ impl<S: FolderStore> FolderStore for FuseStore<S> {
             ≡ S.failures (inner_store self.old) + fuse_failures self.old) }
         ensures possible { S.impossible (inner_store self.new)
             ≡ S.impossible (inner_store self.old) }
+        ensures counted { fuse_writing_calls self.new ≡ fuse_writing_calls self.old + 1 }
         ensures passed { 0 < calls_left self.old → HasPassed self.old self.new }
         ensures worked { S.honest (inner_store self.old) → WorksNext self.old
             → (S.failures (inner_store self.old) < S.failures (inner_store self.new))
@@ -390,6 +408,7 @@ impl<S: FolderStore> FolderStore for FuseStore<S> {
             ≡ with_journal (S.contents (inner_store self.old)) bytes.now) }
         ensures blown { calls_left self.old ≡ 0 → IsErr result × IsBlown self.old self.new }
     {
+        self.writing_calls.rise();
         if self.passes() {
             return self.inner.put_journal(bytes);
         }

@@ -34,6 +34,7 @@ fn load_file<S: FolderStore>(
     ensures steady { OnOk result (S.failures store.new ≡ S.failures store.old) }
     ensures memory { IsErrOf result ReadFault.Memory
         → S.failures store.new ≡ S.failures store.old }
+    ensures unwritten { S.writing_calls store.new ≡ S.writing_calls store.old }
     ensures possible { S.honest store.old
         → IsTrue (has (S.contents store.old).files name.now)
         → S.impossible store.new ≡ S.impossible store.old }
@@ -61,6 +62,7 @@ pub fn read_folder<S: FolderStore>(alloc: Global, store: &mut S) -> Result<Folde
     ensures steady { OnOk result (S.failures store.new ≡ S.failures store.old) }
     ensures memory { IsErrOf result ReadFault.Memory
         → S.failures store.new ≡ S.failures store.old }
+    ensures unwritten { S.writing_calls store.new ≡ S.writing_calls store.old }
     ensures possible { S.honest store.old → S.impossible store.new ≡ S.impossible store.old }
 {
     let names = match store.names(alloc) {

@@ -1,5 +1,5 @@
 //! A store in memory.
-use crate::{Bytes, Change, Failures, Folder, FolderStore, Name, ReadFault, StoreFault};
+use crate::{Bytes, Change, Count, Folder, FolderStore, Name, ReadFault, StoreFault};
 use std::alloc::{AllocError, Global};
 
 /// A folder and a journal in memory. It is honest, and where a growth is refused in a writing call it fails. It has no
@@ -9,9 +9,10 @@ pub struct MemoryStore {
     alloc: Global,
     folder: Folder,
     journal: Option<Bytes>,
-    failures: Failures,
+    failures: Count,
     // Those of calls that can't be done.
-    impossible: Failures,
+    impossible: Count,
+    writing_calls: Count,
 }
 
 impl MemoryStore {
@@ -20,7 +21,7 @@ impl MemoryStore {
     ghost use Rattle.par2_spec.specs.Folders.{has};
     ghost use Rattle.par2_spec.specs.Changes.{Write, is_applicable, places_taken};
     ghost use Rattle.par2_spec.specs.Stores.{Contents, with_change};
-    ghost use Rattle.par2_folder.specs.Memory.{memory_contents, memory_failures, memory_impossible};
+    ghost use Rattle.par2_folder.specs.Memory.{memory_contents, memory_failures, memory_impossible, memory_writing_calls};
     ghost use Rattle.par2_folder.specs.Views.{change_of};
 
     /// A store without files and without a journal, which has not failed yet.
@@ -29,13 +30,15 @@ impl MemoryStore {
         ensures journal { (memory_contents result).journal ≡ None }
         ensures failures { memory_failures result ≡ 0 }
         ensures impossible { memory_impossible result ≡ 0 }
+        ensures writing_calls { memory_writing_calls result ≡ 0 }
     {
         MemoryStore {
             alloc,
             folder: Folder::new(alloc),
             journal: None,
-            failures: Failures::new(),
-            impossible: Failures::new(),
+            failures: Count::new(),
+            impossible: Count::new(),
+            writing_calls: Count::new(),
         }
     }
 
@@ -44,6 +47,7 @@ impl MemoryStore {
         ensures contents { memory_contents self.new ≡ memory_contents self.old }
         ensures failures { memory_failures self.new ≡ memory_failures self.old + 1 }
         ensures impossible { memory_impossible self.new ≡ memory_impossible self.old }
+        ensures writing_calls { memory_writing_calls self.new ≡ memory_writing_calls self.old }
     {
         self.failures.rise();
         StoreFault
@@ -54,6 +58,7 @@ impl MemoryStore {
         ensures contents { memory_contents self.new ≡ memory_contents self.old }
         ensures failures { memory_failures self.new ≡ memory_failures self.old + 1 }
         ensures impossible { memory_impossible self.new ≡ memory_impossible self.old + 1 }
+        ensures writing_calls { memory_writing_calls self.new ≡ memory_writing_calls self.old }
     {
         self.impossible.rise();
         self.fault()
@@ -64,6 +69,7 @@ impl MemoryStore {
         ensures contents { memory_contents self.new ≡ memory_contents self.old }
         ensures failures { memory_failures self.new ≡ memory_failures self.old }
         ensures impossible { memory_impossible self.new ≡ memory_impossible self.old }
+        ensures writing_calls { memory_writing_calls self.new ≡ memory_writing_calls self.old }
         ensures place { OnOk result (0 < self.new.folder.vacant) }
     {
         if self.folder.vacant() == 0 {
@@ -81,6 +87,7 @@ impl MemoryStore {
         ensures err { OnErr result (memory_contents self.new ≡ memory_contents self.old) }
         ensures failures { memory_failures self.new ≡ memory_failures self.old }
         ensures impossible { memory_impossible self.new ≡ memory_impossible self.old }
+        ensures writing_calls { memory_writing_calls self.new ≡ memory_writing_calls self.old }
     {
         let copy = Bytes::copy_of(self.alloc, bytes)?;
         self.make_place()?;
@@ -108,6 +115,7 @@ impl MemoryStore {
             ≡ memory_impossible self.old) }
         ensures impossible { OnErr result (memory_impossible self.new
             ≡ memory_impossible self.old + 1) }
+        ensures writing_calls { memory_writing_calls self.new ≡ memory_writing_calls self.old }
     {
         match self.folder.apply(&mut change) {
             Ok(()) => Ok(()),
@@ -118,7 +126,7 @@ impl MemoryStore {
 
 impl FolderStore for MemoryStore {
     ghost use Rattle.std.specs.Prelude.{◌≡◌};
-    ghost use Rattle.par2_folder.specs.Memory.{memory_contents, memory_failures, memory_impossible};
+    ghost use Rattle.par2_folder.specs.Memory.{memory_contents, memory_failures, memory_impossible, memory_writing_calls};
 
     ghost honest = { λ _. Unit {0} };
 
@@ -129,6 +137,8 @@ impl FolderStore for MemoryStore {
     ghost failures = { memory_failures };
 
     ghost impossible = { memory_impossible };
+
+    ghost writing_calls = { memory_writing_calls };
 
     fn names(&mut self, _alloc: Global) -> Result<Vec<Name>, ReadFault> {
         match self.folder.names() {
@@ -162,6 +172,7 @@ impl FolderStore for MemoryStore {
 
     #[tactic(auto, unfolding(par2_spec::specs::Changes::is_applicable))]
     fn write(&mut self, name: &Name, bytes: &[u8]) -> Result<(), StoreFault> {
+        self.writing_calls.rise();
         if self.folder.get(name).is_some() {
             return Err(self.refuse());
         }
@@ -173,6 +184,7 @@ impl FolderStore for MemoryStore {
 
     #[tactic(auto, unfolding(par2_spec::specs::Changes::change_refusal, par2_spec::specs::Changes::is_applicable))]
     fn replace(&mut self, name: &Name, bytes: &[u8]) -> Result<(), StoreFault> {
+        self.writing_calls.rise();
         match Bytes::copy_of(self.alloc, bytes) {
             Ok(copy) => self.change(Change::Replace(name.copied(), copy)),
             Err(AllocError) => Err(self.fault()),
@@ -181,15 +193,18 @@ impl FolderStore for MemoryStore {
 
     #[tactic(auto, unfolding(par2_spec::specs::Changes::change_refusal, par2_spec::specs::Changes::is_applicable))]
     fn rename(&mut self, from: &Name, to: &Name) -> Result<(), StoreFault> {
+        self.writing_calls.rise();
         self.change(Change::Rename(from.copied(), to.copied()))
     }
 
     #[tactic(auto, unfolding(par2_spec::specs::Changes::change_refusal, par2_spec::specs::Changes::is_applicable))]
     fn remove(&mut self, name: &Name) -> Result<(), StoreFault> {
+        self.writing_calls.rise();
         self.change(Change::Remove(name.copied()))
     }
 
     fn put_journal(&mut self, bytes: &[u8]) -> Result<(), StoreFault> {
+        self.writing_calls.rise();
         match Bytes::copy_of(self.alloc, bytes) {
             Ok(copy) => {
                 self.journal = Some(copy);

@@ -1,5 +1,5 @@
 //! A place that keeps a flat folder and a journal.
-ghost use Rattle.std.specs.Prelude.{◌≡◌, ◌⊎◌, ◌<◌, ◌≤◌, ℕ, IfOk, OnOk, OnErr, IsErr, IsErrOf, IsTrue, IsFalse, Some, None, option_map};
+ghost use Rattle.std.specs.Prelude.{◌≡◌, ◌+◌, ◌⊎◌, ◌<◌, ◌≤◌, ℕ, IfOk, OnOk, OnErr, IsErr, IsErrOf, IsTrue, IsFalse, Some, None, option_map};
 ghost use Rattle.std.specs.FinMap.{get};
 ghost use Rattle.par2_spec.specs.Folders.{has, names};
 ghost use Rattle.par2_spec.specs.Changes.{Write, Replace, Rename, Remove, is_applicable};
@@ -45,6 +45,9 @@ pub trait FolderStore {
     /// that is taken, or to rename one that no file has or to one that is taken.
     ghost impossible: { Self → ℕ };
 
+    /// How many writing calls were made of it, those that failed among them.
+    ghost writing_calls: { Self → ℕ };
+
     /// The names of the files, in order.
     fn names(&mut self, alloc: Global) -> Result<Vec<Name>, ReadFault>
         ensures honest { honest self.old → honest self.new }
@@ -58,7 +61,8 @@ pub trait FolderStore {
         ensures steady { OnOk result (failures self.new ≡ failures self.old) }
         ensures memory { IsErrOf result ReadFault.Memory
             → failures self.new ≡ failures self.old }
-        ensures possible { impossible self.new ≡ impossible self.old };
+        ensures possible { impossible self.new ≡ impossible self.old }
+        ensures unwritten { writing_calls self.new ≡ writing_calls self.old };
 
     /// The bytes of a file. To read a name that no file has is a failure.
     fn read(&mut self, alloc: Global, name: &Name) -> Result<Vec<u8>, ReadFault>
@@ -78,7 +82,8 @@ pub trait FolderStore {
         ensures possible { honest self.old
             → IsTrue (has (contents self.old).files name.now)
             → impossible self.new ≡ impossible self.old }
-        ensures grows { impossible self.old ≤ impossible self.new };
+        ensures grows { impossible self.old ≤ impossible self.new }
+        ensures unwritten { writing_calls self.new ≡ writing_calls self.old };
 
     /// The journal, if there is one.
     fn read_journal(&mut self, alloc: Global) -> Result<Option<Vec<u8>>, ReadFault>
@@ -93,7 +98,8 @@ pub trait FolderStore {
         ensures steady { OnOk result (failures self.new ≡ failures self.old) }
         ensures memory { IsErrOf result ReadFault.Memory
             → failures self.new ≡ failures self.old }
-        ensures possible { impossible self.new ≡ impossible self.old };
+        ensures possible { impossible self.new ≡ impossible self.old }
+        ensures unwritten { writing_calls self.new ≡ writing_calls self.old };
 
     /// Writes a file, under a name that no file has. Where one has it, it does nothing and fails.
     fn write(&mut self, name: &Name, bytes: &[u8]) -> Result<(), StoreFault>
@@ -117,7 +123,8 @@ pub trait FolderStore {
         ensures possible { honest self.old
             → IsTrue (is_applicable (contents self.old).files (Write name.now bytes.now))
             → impossible self.new ≡ impossible self.old }
-        ensures grows { impossible self.old ≤ impossible self.new };
+        ensures grows { impossible self.old ≤ impossible self.new }
+        ensures counted { writing_calls self.new ≡ writing_calls self.old + 1 };
 
     /// Writes other bytes over those of a file. Where no file has the name, it does nothing and fails.
     fn replace(&mut self, name: &Name, bytes: &[u8]) -> Result<(), StoreFault>
@@ -141,7 +148,8 @@ pub trait FolderStore {
         ensures possible { honest self.old
             → IsTrue (is_applicable (contents self.old).files (Replace name.now bytes.now))
             → impossible self.new ≡ impossible self.old }
-        ensures grows { impossible self.old ≤ impossible self.new };
+        ensures grows { impossible self.old ≤ impossible self.new }
+        ensures counted { writing_calls self.new ≡ writing_calls self.old + 1 };
 
     /// Gives a file another name. Where no file has the first name, or one has the second, it does nothing and fails.
     fn rename(&mut self, from: &Name, to: &Name) -> Result<(), StoreFault>
@@ -165,7 +173,8 @@ pub trait FolderStore {
         ensures possible { honest self.old
             → IsTrue (is_applicable (contents self.old).files (Rename from.now to.now))
             → impossible self.new ≡ impossible self.old }
-        ensures grows { impossible self.old ≤ impossible self.new };
+        ensures grows { impossible self.old ≤ impossible self.new }
+        ensures counted { writing_calls self.new ≡ writing_calls self.old + 1 };
 
     /// Removes a file. Where no file has the name, it does nothing and fails.
     fn remove(&mut self, name: &Name) -> Result<(), StoreFault>
@@ -189,7 +198,8 @@ pub trait FolderStore {
         ensures possible { honest self.old
             → IsTrue (is_applicable (contents self.old).files (Remove name.now))
             → impossible self.new ≡ impossible self.old }
-        ensures grows { impossible self.old ≤ impossible self.new };
+        ensures grows { impossible self.old ≤ impossible self.new }
+        ensures counted { writing_calls self.new ≡ writing_calls self.old + 1 };
 
     /// Writes the journal whole, over the one that is there.
     fn put_journal(&mut self, bytes: &[u8]) -> Result<(), StoreFault>
@@ -207,5 +217,6 @@ pub trait FolderStore {
         ensures later { failures self.old ≤ failures self.new }
         ensures cause { OnErr result (failures self.old < failures self.new) }
         ensures steady { OnOk result (failures self.new ≡ failures self.old) }
-        ensures possible { impossible self.new ≡ impossible self.old };
+        ensures possible { impossible self.new ≡ impossible self.old }
+        ensures counted { writing_calls self.new ≡ writing_calls self.old + 1 };
 }

@@ -1,10 +1,10 @@
 //! A folder's fingerprint and a text's digest in one pass, with landmarks on the way.
-ghost use Rattle.std.specs.Prelude.{◌≡◌, ◌++◌, ℕ, List, IfOk};
+ghost use Rattle.std.specs.Prelude.{◌≡◌, ◌<◌, ◌++◌, ℕ, List, length, IfOk};
 ghost use Rattle.md5.specs.Md5.{md5};
 ghost use Rattle.par2_digests.specs.Messages.{HasAbsorbed};
 ghost use Rattle.par2_spec.specs.Folders.{fingerprint};
 ghost use Rattle.par2_folder.specs.Borders.{IsFurther};
-ghost use Rattle.par2_folder.specs.Landmarks.{AreLandmarksOf};
+ghost use Rattle.par2_folder.specs.Landmarks.{AreLandmarksOf, HasLandmark};
 ghost use Rattle.par2_folder.specs.Snapshots.{files_in, folder_in};
 ghost use Rattle.par2_folder.specs.Sorting.{IsKept};
 ghost use Rattle.par2_folder.specs.Surveys.{IsAt};
@@ -40,10 +40,17 @@ struct Progress {
 }
 
 // The names where landmarks stand: of the folder's names, in order, the first and others as far apart as they are.
-fn landmark_names(alloc: Global, snapshot: &Snapshot) -> Result<Vec<Name>, AllocError> {
+fn landmark_names(alloc: Global, snapshot: &Snapshot) -> Result<Vec<Name>, AllocError>
+    ensures { 0 < length (files_in snapshot.now)
+        → IfOk result (λ names. 0 < length names.items) }
+{
     let mut names = Vec::new(alloc);
+    let Some(first) = snapshot.files.first() else {
+        return Ok(names);
+    };
+    names.push(first.name.copied())?;
     let step = snapshot.files.len().div_ceil(MOST_LANDMARKS).max(1);
-    for file in snapshot.files.iter().step_by(step) {
+    for file in snapshot.files.iter().step_by(step).skip(1) {
         names.push(file.name.copied())?;
     }
     Ok(names)
@@ -106,6 +113,7 @@ pub fn survey_folder<'a>(
     ensures digest { IfOk result (λ found. found.digest ≡ md5 text.now) }
     ensures landmarks { IfOk result
         (λ found. AreLandmarksOf folder.now.files found.landmarks) }
+    ensures some { IfOk result (λ found. HasLandmark folder.now.files found.landmarks) }
 {
     let snapshot = folder.snapshot()?;
     let names = landmark_names(alloc, &snapshot)?;

@@ -24,7 +24,7 @@ use Rattle.par2_headline.specs.Repairs.{AskForRepair}
 use Rattle.par2_headline.proofs.Statuses.{own_status, failure_is_told}
 
 -- words ask for one action
-one_action : (words : List (List ℕ)) (a b : Action) → AskFor words a → AskFor words b → a ≡ b
+pub one_action : (words : List (List ℕ)) (a b : Action) → AskFor words a → AskFor words b → a ≡ b
 one_action words a b first second = same_Some a b (sym first.asked ∙ second.asked)
 
 -- a store opens in one way

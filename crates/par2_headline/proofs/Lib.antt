@@ -1,3 +1,4 @@
 mod Statuses
 mod Answers
 mod UndoneRuns
+mod Calls

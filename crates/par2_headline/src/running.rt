@@ -2,7 +2,8 @@
 ghost use Rattle.std.specs.Prelude.{◌≡◌, ◌≢◌, ◌⊎◌, ◌≤◌, ◌∷◌, ℕ, List, Some, Ok, map, string_bytes};
 ghost use Rattle.std.specs.List.{AllByRecursion};
 ghost use Rattle.std.specs.FinMap as map_of;
-ghost use Rattle.par2_spec.specs.Commands.{Action, CreateArgs, Undo};
+ghost use Rattle.par2_spec.specs.Changes.{Change};
+ghost use Rattle.par2_spec.specs.Commands.{Action, CreateArgs, Do, Undo, Verify};
 ghost use Rattle.par2_spec.specs.Folders.{Folder, File};
 ghost use Rattle.par2_spec.specs.Opening.{Started};
 ghost use Rattle.par2_spec.specs.Rank.{AnotherAgrees};
@@ -14,10 +15,11 @@ ghost use Rattle.par2_folder.specs.Cuts.{Lasts};
 ghost use Rattle.par2_promises.specs.Premises.{IsTrueTo};
 ghost use Rattle.par2_origins.specs.Creates.{FollowsCreate, HaveAChoice};
 ghost use Rattle.par2_tool.specs.Asking.{AskFor};
+ghost use Rattle.par2_tool.specs.Calls.{IsHalfway};
 ghost use Rattle.par2_tool.specs.Holding.{IsOpening, IsSettled, TellsApartInRun};
 ghost use Rattle.par2_tool.specs.Opening.{OnlyTakesBack};
 ghost use Rattle.par2_tool.specs.Runs.{HasNoEffect, TakesEffect};
-ghost use Rattle.par2_tool.specs.Telling.{Telling, IsTold, IsShown, Leaves};
+ghost use Rattle.par2_tool.specs.Telling.{Telling, IsTold, IsShown, Leaves, MakesCalls};
 ghost use Rattle.par2_headline.specs.Repairs.{AskForRepair};
 
 use par2_folder::FolderStore;
@@ -49,9 +51,16 @@ pub fn run<S: FolderStore, O: Write, E: Write>(
         × IsTold (map string_bytes words.now) (S.failures store.old) (S.failures store.new) told
         × IsShown told O.contents out.old out.new E.contents err.old err.new result
         × (S.honest store.old → Leaves (map string_bytes words.now) told
-        (S.contents store.old) (S.contents store.new)) }
+        (S.contents store.old) (S.contents store.new))
+        × (S.honest store.old → MakesCalls (map string_bytes words.now) told
+        (S.contents store.old) (S.writing_calls store.old) (S.writing_calls store.new)) }
     ensures later { S.failures store.old ≤ S.failures store.new }
     ensures possible { S.honest store.old → S.impossible store.new ≡ S.impossible store.old }
+    // A verify makes no writing call where no command is halfway.
+    ensures unwritten { (base : List ℕ) (extras : List (List ℕ)) → S.honest store.old
+        → AskFor (map string_bytes words.now) (Do (Verify base extras))
+        → ((back : List Change) → IsHalfway (S.contents store.old) back → ⊥)
+        → S.writing_calls store.new ≡ S.writing_calls store.old }
     // A repair, where the set was made from certain files, and what is found of them is true: with
     // status 0 each of them is in the store afterwards, with its bytes;
     ensures restored { (folder : Folder) (base : List ℕ) (extras : List (List ℕ))

@@ -4,14 +4,14 @@ ghost use Rattle.std.specs.Io.KnownBytes.{Appends};
 ghost use Rattle.par2_printing.specs.Writing.{writer_of, failures_of};
 
 use crate::text::WriteFault;
-use par2_folder::Failures;
+use par2_folder::Count;
 use std::io::{ErrorKind, Write};
 
 /// A writer, and how often it has failed, which contracts alone see.
 #[derive(Debug, Drop)]
 pub struct Printer<W: Write> {
     writer: W,
-    failures: Failures,
+    failures: Count,
 }
 
 impl<W: Write> Printer<W> {
@@ -22,7 +22,7 @@ impl<W: Write> Printer<W> {
     {
         Printer {
             writer,
-            failures: Failures::new(),
+            failures: Count::new(),
         }
     }
 

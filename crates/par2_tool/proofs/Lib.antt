@@ -5,5 +5,6 @@ mod Stops
 mod Remains
 mod Outcomes
 mod AsIs
+mod Calls
 mod History
 mod UnreadWords

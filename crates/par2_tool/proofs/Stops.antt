@@ -93,7 +93,7 @@ made_ready applies commits action old ready mid grew is walks =
 
 module _ (action : Action) (old : KeptSession) (ready : Ready) (mid : KeptSession) (made : IsMadeReady action old ready mid) where
   -- it applies the changes that the action asks for
-  asked_of_mid : changes_asked (session_of_kept old) action ≡ Ok (changes_by_kind ready.kind mid)
+  pub asked_of_mid : changes_asked (session_of_kept old) action ≡ Ok (changes_by_kind ready.kind mid)
   asked_of_mid = made.is.asked ∙ ap Ok (same_changes old mid ready.kind made.grew)
 
   pub asked_in_order : (k : Contents) (journals : Journals) (new : Contents) → IsStoppedAt k journals (changes_by_kind ready.kind mid) new

@@ -16,6 +16,7 @@ use Rattle.par2_printing.specs.Views.{words_asked}
 use Rattle.par2_printing.specs.Writing.{TookAll, TookPart}
 use Rattle.par2_printing.specs.declared.printer.Printer.{Printer}
 use Rattle.par2_tool.specs.Asking.{AskFor, IsCommandLine}
+use Rattle.par2_tool.specs.Calls.{CountsFailedRun, CountsRun}
 use Rattle.par2_tool.specs.Holding.{IsOpening, HoldsAfter, with_history, TellsApartAlong, TellsApartBack}
 use Rattle.par2_tool.specs.Opening.{IsOpened}
 use Rattle.par2_tool.specs.Performing.{IsAnswer, IsWritten}
@@ -104,6 +105,13 @@ Leaves words (Answered dropped outcome) old new =
     (action : Action) × AskFor words action × IsDone action old new dropped outcome
 Leaves words (Failed spoken reason) old new =
     (IsUnread words reason × (new ≡ old)) ⊎ ((action : Action) × AskFor words action × IsFailed action old new reason)
+
+-- how many writing calls a run that tells this makes of the store: none where the words aren't read
+abbrev pub MakesCalls : List Text → Telling → Contents → ℕ → ℕ → Type 0
+MakesCalls words (Answered dropped outcome) old before after =
+    (action : Action) × AskFor words action × CountsRun action old before after
+MakesCalls words (Failed spoken reason) old before after =
+    (IsUnread words reason × (after ≡ before)) ⊎ ((action : Action) × AskFor words action × CountsFailedRun action old before after reason)
 
 -- ---- on any store
 

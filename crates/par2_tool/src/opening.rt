@@ -1,5 +1,5 @@
 //! A store is opened as a session.
-ghost use Rattle.std.specs.Prelude.{◌≡◌, IfOk, IsErrOf, IsTrue, OnErr, OnOk, Some, option_map};
+ghost use Rattle.std.specs.Prelude.{◌≡◌, ◌+◌, IfOk, IsErrOf, IsTrue, OnErr, OnOk, Some, length, option_map};
 ghost use Rattle.par2_journal.specs.Opening.{session_before, way_left};
 ghost use Rattle.par2_spec.specs.Changes.{are_applicable};
 ghost use Rattle.par2_spec.specs.Opening.{Started as Opening, new_session};
@@ -7,6 +7,7 @@ ghost use Rattle.par2_spec.specs.Sessions.{session_of_kept};
 ghost use Rattle.par2_spec.specs.Stores.{Contents};
 ghost use Rattle.par2_spec.specs.Views.{command_of};
 ghost use Rattle.par2_folder.specs.Cuts.{Lasts, NoMoreRemains};
+ghost use Rattle.par2_tool.specs.Calls.{CountsCalls, CountsOpening};
 ghost use Rattle.par2_tool.specs.Holding.{with_history, OpensAsBefore, TellsApartBack};
 ghost use Rattle.par2_tool.specs.Opening.{started_of, CountsFailures, IsOpened, IsRead, IsStillHalfway, IsTakenBack, LeavesUnopened, StandsFor};
 
@@ -105,6 +106,7 @@ fn read_store<S: FolderStore>(
         → LeavesUnopened (S.contents store.old) (S.contents store.new) result }
     ensures failures { CountsFailures (S.failures store.old) (S.failures store.new) result }
     ensures possible { S.honest store.old → S.impossible store.new ≡ S.impossible store.old }
+    ensures unwritten { S.writing_calls store.new ≡ S.writing_calls store.old }
 {
     let folder = read_folder(alloc, store)?;
     let journal = store.read_journal(alloc)?;
@@ -138,6 +140,8 @@ fn take_back<S: FolderStore>(
     ensures possible { S.honest store.old
         → IsTrue (are_applicable (S.contents store.old).files (way_left halfway))
         → S.impossible store.new ≡ S.impossible store.old }
+    ensures calls { CountsCalls (length (way_left halfway) + 1)
+        (S.writing_calls store.old) (S.writing_calls store.new) result }
 {
     let after = halfway.settled()?;
     let journals = Journals {
@@ -175,6 +179,10 @@ fn open_with<S: FolderStore>(
     ensures possible { S.honest store.old
         → IsRead (S.contents store.old) folder.files (Some text.now)
         → S.impossible store.new ≡ S.impossible store.old }
+    ensures calls { S.honest store.old
+        → IsRead (S.contents store.old) folder.files (Some text.now)
+        → CountsOpening (S.contents store.old)
+        (S.writing_calls store.old) (S.writing_calls store.new) result }
 {
     match Session::open_before(alloc, folder, text, next) {
         Ok(Opened::Settled(session)) => Ok(Started {
@@ -216,6 +224,8 @@ fn open_session<S: FolderStore>(
         → OpensAsBefore (S.contents store.old) left }
     ensures failures { CountsFailures (S.failures store.old) (S.failures store.new) result }
     ensures possible { S.honest store.old → S.impossible store.new ≡ S.impossible store.old }
+    ensures calls { S.honest store.old → CountsOpening (S.contents store.old)
+        (S.writing_calls store.old) (S.writing_calls store.new) result }
 {
     let (folder, journal) = read_store(alloc, store)?;
     match journal {
@@ -240,6 +250,8 @@ pub fn open_store<S: FolderStore>(alloc: Global, store: &mut S) -> Result<Starte
         → OpensAsBefore (S.contents store.old) left }
     ensures failures { CountsFailures (S.failures store.old) (S.failures store.new) result }
     ensures possible { S.honest store.old → S.impossible store.new ≡ S.impossible store.old }
+    ensures calls { S.honest store.old → CountsOpening (S.contents store.old)
+        (S.writing_calls store.old) (S.writing_calls store.new) result }
 {
     open_session(alloc, store, None)
 }
@@ -260,6 +272,8 @@ fn open_for_verify<S: FolderStore>(alloc: Global, store: &mut S) -> Result<Start
         → OpensAsBefore (S.contents store.old) left }
     ensures failures { CountsFailures (S.failures store.old) (S.failures store.new) result }
     ensures possible { S.honest store.old → S.impossible store.new ≡ S.impossible store.old }
+    ensures calls { S.honest store.old → CountsOpening (S.contents store.old)
+        (S.writing_calls store.old) (S.writing_calls store.new) result }
 {
     let (mut folder, journal) = read_store(alloc, store)?;
     let Some(text) = journal else {
@@ -300,6 +314,8 @@ pub(crate) fn open_for<S: FolderStore>(
         → OpensAsBefore (S.contents store.old) left }
     ensures failures { CountsFailures (S.failures store.old) (S.failures store.new) result }
     ensures possible { S.honest store.old → S.impossible store.new ≡ S.impossible store.old }
+    ensures calls { S.honest store.old → CountsOpening (S.contents store.old)
+        (S.writing_calls store.old) (S.writing_calls store.new) result }
 {
     match command {
         Command::Verify { .. } => open_for_verify(alloc, store),

@@ -1,5 +1,5 @@
 //! A command is performed on a store and its session.
-ghost use Rattle.std.specs.Prelude.{◌≡◌, ◌<◌, ◌≤◌, [], Some, Ok, IfOk, IfErr, IsErrOf, OnOk, OnErr};
+ghost use Rattle.std.specs.Prelude.{◌≡◌, ◌+◌, ◌<◌, ◌≤◌, [], Some, Ok, IfOk, IfErr, IsErrOf, OnOk, OnErr};
 ghost use Rattle.par2_spec.specs.Commands.{Undo, Redo};
 ghost use Rattle.par2_spec.specs.Plans.{LeadsToAfterAsked};
 ghost use Rattle.par2_spec.specs.Refusals.{early_refusal_of};
@@ -7,6 +7,7 @@ ghost use Rattle.par2_spec.specs.Sessions.{session_of_kept, session_after, chang
 ghost use Rattle.par2_spec.specs.Stores.{Contents};
 ghost use Rattle.par2_spec.specs.Views.{command_of};
 ghost use Rattle.par2_folder.specs.Cuts.{Lasts};
+ghost use Rattle.par2_tool.specs.Calls.{AreAtMost, calls_asked};
 ghost use Rattle.par2_tool.specs.Holding.{TellsApartAlong, OpensAsBeforeOrAfter};
 ghost use Rattle.par2_tool.specs.Performing.{outcome_of, AreSomeMade, IsAnswer, IsVerify, IsWritten};
 ghost use Rattle.par2_tool.specs.Refusals.{IsRefused, IsSession};
@@ -120,6 +121,12 @@ pub fn perform<S: FolderStore>(
         → IsErrOf result (PerformFault.Session SessionFault.NothingToUndo) }
     ensures nothing_to_redo { command_of command.now ≡ Redo → session.old.redos ≡ []
         → IsErrOf result (PerformFault.Session SessionFault.NothingToRedo) }
+    ensures calls { OnOk result (S.writing_calls store.new ≡ S.writing_calls store.old
+        + calls_asked (session_of_kept session.old) (command_of command.now)) }
+    ensures at_most { AreAtMost (calls_asked (session_of_kept session.old)
+        (command_of command.now)) (S.writing_calls store.old) (S.writing_calls store.new) }
+    ensures unwritten { IfErr result (λ fault. IsSession fault
+        → S.writing_calls store.new ≡ S.writing_calls store.old) }
 {
     // What a stop leaves opens only where the session's entries can be walked: the call's contract says so. Then what
     // is ready can be applied, by this law.

@@ -6,8 +6,9 @@ ghost use Rattle.par2_spec.specs.Stores.{Contents};
 ghost use Rattle.par2_spec.specs.Views.{command_of};
 ghost use Rattle.par2_folder.specs.Cuts.{Lasts};
 ghost use Rattle.par2_tool.specs.Asking.{AskFor};
+ghost use Rattle.par2_tool.specs.Calls.{CountsFailedRun, CountsRun};
 ghost use Rattle.par2_tool.specs.Performing.{outcome_of, IsAnswer};
-ghost use Rattle.par2_tool.specs.Telling.{Telling, IsBack, IsCause, IsDone, IsFailed, IsStopped, IsTold, Leaves, SameOutput, IsShown};
+ghost use Rattle.par2_tool.specs.Telling.{Telling, IsBack, IsCause, MakesCalls, IsDone, IsFailed, IsStopped, IsTold, Leaves, SameOutput, IsShown};
 
 use crate::opening::{Started, open_for};
 use crate::performing::{Outcome, perform};
@@ -60,6 +61,12 @@ fn carry_out<S: FolderStore>(
     ensures later { S.failures store.old ≤ S.failures store.new }
     ensures steady { OnOk result (S.failures store.new ≡ S.failures store.old) }
     ensures possible { S.honest store.old → S.impossible store.new ≡ S.impossible store.old }
+    ensures calls { S.honest store.old → IfOk result
+        (λ _. CountsRun (command_of command.now) (S.contents store.old)
+        (S.writing_calls store.old) (S.writing_calls store.new)) }
+    ensures failed_calls { S.honest store.old → IfErr result
+        (CountsFailedRun (command_of command.now) (S.contents store.old)
+        (S.writing_calls store.old) (S.writing_calls store.new)) }
 {
     let Started {
         mut session,
@@ -87,7 +94,9 @@ pub fn run<S: FolderStore, O: Write, E: Write>(
         × IsTold (map string_bytes words.now) (S.failures store.old) (S.failures store.new) told
         × IsShown told O.contents out.old out.new E.contents err.old err.new result
         × (S.honest store.old → Leaves (map string_bytes words.now) told
-        (S.contents store.old) (S.contents store.new)) }
+        (S.contents store.old) (S.contents store.new))
+        × (S.honest store.old → MakesCalls (map string_bytes words.now) told
+        (S.contents store.old) (S.writing_calls store.old) (S.writing_calls store.new)) }
     ensures cut { (action : Asked) → S.honest store.old
         → Lasts (S.may_remain store.old) (S.contents store.old)
         → AskFor (map string_bytes words.now) action

@@ -1,9 +1,10 @@
 //! Changes are written down in a store, between two journals.
-ghost use Rattle.std.specs.Prelude.{◌≡◌, ◌⊎◌, ◌<◌, ◌≤◌, ℕ, map, length, take, OnOk, OnErr, IsErr, IsTrue, IsFalse};
+ghost use Rattle.std.specs.Prelude.{◌≡◌, ◌+◌, ◌⊎◌, ◌<◌, ◌≤◌, ℕ, map, length, take, OnOk, OnErr, IsErr, IsTrue, IsFalse};
 ghost use Rattle.par2_spec.specs.Changes.{is_applicable, are_applicable};
 ghost use Rattle.par2_spec.specs.Stores.{Contents, with_change};
 ghost use Rattle.par2_folder.specs.Cuts.{Lasts, RemainsEither};
 ghost use Rattle.par2_folder.specs.Views.{change_of};
+ghost use Rattle.par2_tool.specs.Calls.{AreAtMost, calls_before, calls_to_write};
 ghost use Rattle.par2_tool.specs.Performing.{with_all_changes, with_halfway, after_write_down, IsStoppedAt};
 
 use par2_folder::{Change, FolderStore, StoreFault};
@@ -32,6 +33,7 @@ fn write_change<S: FolderStore>(store: &mut S, change: &Change) -> Result<(), St
     ensures possible { S.honest store.old
         → IsTrue (is_applicable (S.contents store.old).files (change_of change.now))
         → S.impossible store.new ≡ S.impossible store.old }
+    ensures counted { S.writing_calls store.new ≡ S.writing_calls store.old + 1 }
 {
     match change {
         Change::Write(name, bytes) => store.write(name, bytes.as_slice()),
@@ -61,6 +63,10 @@ fn write_changes<S: FolderStore>(store: &mut S, changes: &[Change]) -> Result<()
     ensures possible { S.honest store.old
         → IsTrue (are_applicable (S.contents store.old).files (map change_of changes.now))
         → S.impossible store.new ≡ S.impossible store.old }
+    ensures calls { OnOk result
+        (S.writing_calls store.new ≡ S.writing_calls store.old + length changes.now) }
+    ensures at_most { AreAtMost (length changes.now)
+        (S.writing_calls store.old) (S.writing_calls store.new) }
 {
     for change in changes {
         match write_change(store, change) {
@@ -88,6 +94,10 @@ fn begin<S: FolderStore>(store: &mut S, halfway: &Option<Vec<u8>>) -> Result<(),
     ensures cause { OnErr result (S.failures store.old < S.failures store.new) }
     ensures steady { OnOk result (S.failures store.new ≡ S.failures store.old) }
     ensures possible { S.impossible store.new ≡ S.impossible store.old }
+    ensures calls { OnOk result
+        (S.writing_calls store.new ≡ S.writing_calls store.old + calls_before halfway.now) }
+    ensures at_most { AreAtMost (calls_before halfway.now)
+        (S.writing_calls store.old) (S.writing_calls store.new) }
 {
     match halfway {
         Some(text) => store.put_journal(text),
@@ -118,6 +128,10 @@ pub fn write_down<S: FolderStore>(
     ensures possible { S.honest store.old
         → IsTrue (are_applicable (S.contents store.old).files (map change_of changes.now))
         → S.impossible store.new ≡ S.impossible store.old }
+    ensures calls { OnOk result (S.writing_calls store.new
+        ≡ S.writing_calls store.old + calls_to_write journals.now (length changes.now)) }
+    ensures at_most { AreAtMost (calls_to_write journals.now (length changes.now))
+        (S.writing_calls store.old) (S.writing_calls store.new) }
 {
     begin(store, &journals.halfway)?;
     write_changes(store, changes)?;

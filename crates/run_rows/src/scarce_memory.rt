@@ -46,7 +46,7 @@ impl WantingStore {
 impl FolderStore for WantingStore {
     ghost use Rattle.std.specs.Prelude.{None};
     ghost use Rattle.std.specs.FinMap.{empty};
-    ghost use Rattle.par2_folder.specs.Memory.{memory_failures, memory_impossible};
+    ghost use Rattle.par2_folder.specs.Memory.{memory_failures, memory_impossible, memory_writing_calls};
 
     ghost honest = { λ _. ⊥ };
 
@@ -57,6 +57,8 @@ impl FolderStore for WantingStore {
     ghost failures = { λ store. memory_failures store.inner };
 
     ghost impossible = { λ store. memory_impossible store.inner };
+
+    ghost writing_calls = { λ store. memory_writing_calls store.inner };
 
     fn names(&mut self, alloc: Global) -> Result<Vec<Name>, ReadFault> {
         if self.has_memory() {

@@ -13,6 +13,7 @@ loop-name-init g c = record {
   remains = c.in-Ok.ensures.remains;
   later = c.in-Ok.ensures.later;
   steady = c.in-Ok.ensures.steady;
+  unwritten = c.in-Ok.ensures.unwritten;
   possible = λ _. c.in-Ok.ensures.possible;
   listed = λ h. c.deref-name-items.ensures.value ∙ c.in-Ok.ensures.names h;
   files = λ h. ap entries (c.in-Ok-reserve.ensures.files ∙ c.new-folder.ensures.files) ∙ begins_empty (g.S.FolderStore.contents c.args.store.now).files;
@@ -29,6 +30,7 @@ loop-name-preserved g c =
       remains = λ h left may. so_far.remains h left (c.in_ok-load_file.ensures.remains (so_far.honest h) left may);
       later = omega (arith, so_far.later, c.in_ok-load_file.ensures.later);
       steady = c.in_ok-load_file.ensures.steady ∙ so_far.steady;
+      unwritten = c.in_ok-load_file.ensures.unwritten ∙ so_far.unwritten;
       possible = λ h.
           let files = ap (λ (k : Contents). k.files) (so_far.same h) in
           c.in_ok-load_file.ensures.possible (so_far.honest h) (still_there _ _ _ _ _ files (so_far.listed h) c.loop-name-test.true c.name-item.is) ∙ so_far.possible h;

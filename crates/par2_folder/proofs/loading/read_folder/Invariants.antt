@@ -13,6 +13,7 @@ invariant-loop-name g l =
       remains : S.honest l.fn.store → NoMoreRemains (S.may_remain l.fn.store) (S.may_remain l.store);
       later : S.failures l.fn.store ≤ S.failures l.store;
       steady : S.failures l.store ≡ S.failures l.fn.store;
+      unwritten : S.writing_calls l.store ≡ S.writing_calls l.fn.store;
       possible : S.honest l.fn.store → S.impossible l.store ≡ S.impossible l.fn.store;
       listed : S.honest l.fn.store → l.name-items ≡ names (S.contents l.fn.store).files;
       files : S.honest l.fn.store → entries l.folder.files ≡ take l.name-index (entries (S.contents l.fn.store).files);

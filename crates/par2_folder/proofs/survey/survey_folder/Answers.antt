@@ -1,24 +1,28 @@
-use Rattle.std.proofs.Common.{◌≡◌, ◌-◌, ◌++◌, length, take, drop, ap, arith, subst, sym, ◌∙◌}
+use Rattle.std.proofs.Common.{◌≡◌, ◌-◌, ◌<◌, ◌++◌, inl, inr, length, take, drop, refl, ap, arith, subst, sym, ◌∙◌}
+use Rattle.std.specs.FinMap.{entries}
 use Rattle.std.proofs.lemmas.List.{take_all}
 use Rattle.md5.specs.Md5.{md5}
 use Rattle.par2_digests.specs.Messages.{HasAbsorbed}
 use Rattle.par2_spec.specs.Folders.{fingerprint}
-use Rattle.par2_folder.specs.Snapshots.{folder_in}
+use Rattle.par2_folder.specs.Snapshots.{files_in, folder_in}
 use Rattle.par2_folder.proofs.Borders.{no_text, taken_on}
-use Rattle.par2_folder.proofs.Surveys.{is_mark, with_mark}
+use Rattle.par2_folder.proofs.SortedFiles.{files_of}
+use Rattle.par2_folder.proofs.Surveys.{is_mark, one_before, some_pushed, with_mark}
 use Rattle.par2_folder.proofs.Walks.{fingerprint_is}
 use Rattle.par2_folder.proofs.survey.survey_folder.Goals as goal
 use Rattle.par2_folder.proofs.survey.survey_folder.Goals.{then-is_further+in_ok-progress+in_ok-push, else-is_further}
 
 pub loop-name-init : goal.loop-name-init
-loop-name-init c = (
-  record {
+loop-name-init c = record {
+  at = record {
     absorbed = subst (HasAbsorbed c.new.result) (sym (no_text (folder_in c.in_ok-snapshot.snapshot))) c.new.ensures;
     within = omega arith;
     beside = c.new-2.ensures;
-  },
-  c.none-landmarks.ensures c.args.folder.now.files,
-)
+  };
+  marks = c.none-landmarks.ensures c.args.folder.now.files;
+  some = inl refl;
+  behind = λ no. absurd (omega (arith, no));
+}
 
 pub loop-name-preserved : goal.loop-name-preserved
 loop-name-preserved c =
@@ -27,9 +31,24 @@ loop-name-preserved c =
       | then-is_further+in_ok-progress+in_ok-push w ↦
           let there = w.in_ok-progress.ensures.there in
           let mark = is_mark c.name-item.result w.copied.result _ _ _ w.copied.ensures c.in_ok-snapshot.ensures.folder there.absorbed in
-          rw (w.landmarks-is, w.border-is, w.progress-is) (there, with_mark c.args.folder.now.files walk.landmarks w.push.new.self _ w.in_ok-push.ensures walk.invariant.1 mark)
-      | else-is_further w ↦ rw (w.landmarks-is, w.border-is, w.progress-is) walk.invariant
+          let one = subst (λ l. 0 < length l) (sym w.in_ok-push.ensures) (some_pushed walk.landmarks.list.items _) in
+          rw (w.landmarks-is, w.border-is, w.progress-is) (record {
+            at = there;
+            marks = with_mark c.args.folder.now.files walk.landmarks w.push.new.self _ w.in_ok-push.ensures walk.invariant.marks mark;
+            some = inr one;
+            behind = λ _. one;
+          })
+      | else-is_further w ↦
+          let one = one_before walk.border c.name-item.result _ (sym c.is_further.ensures.which ∙ w.if-is_further.false) walk.invariant.some in
+          rw (w.landmarks-is, w.border-is, w.progress-is) (record { at = walk.invariant.at; marks = walk.invariant.marks; some = inr one; behind = λ _. one })
     ]
+
+pub returns-clause-some : goal.returns-clause-some
+returns-clause-some c = λ files.
+    let snapshot = c.in_ok-snapshot.snapshot in
+    let whole = ap entries (sym c.in_ok-snapshot.ensures.folder) ∙ files_of (files_in snapshot) c.in_ok-snapshot.ensures.kept.sorted in
+    let names = c.in_ok-names.ensures (subst (λ l. 0 < length l) whole files) in
+    c.loop-name.invariant.behind (omega (arith, names, c.loop-name-test.false, c.deref-name-items.ensures.len))
 
 pub returns-clause-fingerprint : goal.returns-clause-fingerprint
 returns-clause-fingerprint c =

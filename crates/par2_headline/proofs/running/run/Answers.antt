@@ -9,6 +9,7 @@ use Rattle.par2_origins.specs.Creates.{may_refuse}
 use Rattle.par2_tool.specs.Runs.{TakesEffect}
 use Rattle.par2_headline.specs.Repairs.{AskForRepair}
 use Rattle.par2_headline.proofs.Answers.{IsRefused, accepted_with_zero, effect_of, repair_refused, repaired, stopped_effect}
+use Rattle.par2_headline.proofs.Calls.{verify_makes_none}
 use Rattle.par2_headline.proofs.Statuses.{own_status, shown_status, told_of}
 use Rattle.par2_headline.proofs.UndoneRuns.{leaves_older}
 use Rattle.par2_headline.proofs.running.run.Goals.{After-run}
@@ -111,3 +112,9 @@ returns-clause-effect g c action honest asked apart =
 pub returns-clause-cut : goal.returns-clause-cut
 returns-clause-cut g c action honest lasts asked apart left may =
     stopped_effect (g.S.FolderStore.contents c.args.store.now) left action (c.run.ensures.cut action honest lasts asked left may apart.back apart.along)
+
+pub returns-clause-unwritten : goal.returns-clause-unwritten
+returns-clause-unwritten g c base extras honest asked none =
+    let told = c.run.ensures.told in
+    verify_makes_none (map string_bytes c.args.words.now) (g.S.FolderStore.contents c.args.store.now) (g.S.FolderStore.writing_calls c.args.store.now) (g.S.FolderStore.writing_calls c.run.new.store)
+    base extras none asked told.0 (told.4 honest)

@@ -5,6 +5,8 @@ use Rattle.par2_spec.specs.Opening.{Started, new_session}
 use Rattle.par2_folder.specs.Cuts.{Lasts}
 use Rattle.par2_tool.specs.Holding.{with_history, OpensAsBefore, TellsApartBack}
 use Rattle.par2_tool.specs.Opening.{started_of, IsOpened, IsRead, LeavesUnopened}
+use Rattle.par2_tool.specs.Calls.{CountsOpening}
+use Rattle.par2_tool.proofs.Calls.{no_calls}
 use Rattle.par2_tool.proofs.AsIs.{opened_as_is, opened_new, stands_on}
 use Rattle.par2_tool.proofs.Openings.{text_read}
 use Rattle.par2_tool.proofs.opening.open_for_verify.Goals as goal
@@ -71,3 +73,29 @@ returns-clause-cut g c honest lasts apart left may =
     c.in-Some.is c.deref-2.ensures.value in
     subst (λ k. Lasts (g.S.FolderStore.may_remain c.read_store.new.store) k → IsRead k files (Some bytes) → TellsApartBack k → OpensAsBefore k left) (c.read_store.ensures.same honest)
     (λ still is tells. c.open_with.ensures.cut (c.read_store.ensures.honest honest) still is tells left may) (λ other may_be. lasts other (c.read_store.ensures.remains honest other may_be)) read apart
+
+-- the writing calls
+pub returns-in_err-folder-clause-calls : goal.returns-in_err-folder-clause-calls
+returns-in_err-folder-clause-calls g c honest = no_calls (g.S.FolderStore.contents c.args.store.now) (g.S.FolderStore.writing_calls c.args.store.now) (g.S.FolderStore.writing_calls c.read_store.new.store) c.from_residual.result c.read_store.ensures.unwritten
+
+pub returns-in_default-clause-calls : goal.returns-in_default-clause-calls
+returns-in_default-clause-calls g c honest = no_calls (g.S.FolderStore.contents c.args.store.now) (g.S.FolderStore.writing_calls c.args.store.now) (g.S.FolderStore.writing_calls c.read_store.new.store) _ c.read_store.ensures.unwritten
+
+pub returns-in_err-opens_as_is-clause-calls : goal.returns-in_err-opens_as_is-clause-calls
+returns-in_err-opens_as_is-clause-calls g c honest = no_calls (g.S.FolderStore.contents c.args.store.now) (g.S.FolderStore.writing_calls c.args.store.now) (g.S.FolderStore.writing_calls c.read_store.new.store) c.from_residual-in_err-opens_as_is.result c.read_store.ensures.unwritten
+
+pub returns-then-branch-clause-calls : goal.returns-then-branch-clause-calls
+returns-then-branch-clause-calls g c honest = no_calls (g.S.FolderStore.contents c.args.store.now) (g.S.FolderStore.writing_calls c.args.store.now) (g.S.FolderStore.writing_calls c.read_store.new.store) _ c.read_store.ensures.unwritten
+
+pub returns-clause-calls : goal.returns-clause-calls
+returns-clause-calls g c honest =
+    let old = g.S.FolderStore.contents c.args.store.now in
+    let after = g.S.FolderStore.writing_calls c.open_with.new.store in
+    let files = c.opens_as_is.new.folder.files in
+    let bytes = c.deref-2.result.now in
+    let read = text_read old files c.in_ok-folder.journal c.in-Some.text bytes
+    (subst (λ f. IsRead old f (option_map (λ (bytes : Vec ℕ Global). bytes.items) c.in_ok-folder.journal)) (sym c.opens_as_is.ensures.files) (c.in_ok-folder.ensures.read honest))
+    c.in-Some.is c.deref-2.ensures.value in
+    subst (λ before. CountsOpening old before after c.open_with.result) c.read_store.ensures.unwritten
+    (subst (λ k. IsRead k files (Some bytes) → CountsOpening k (g.S.FolderStore.writing_calls c.read_store.new.store) after c.open_with.result) (c.read_store.ensures.same honest)
+    (c.open_with.ensures.calls (c.read_store.ensures.honest honest)) read)

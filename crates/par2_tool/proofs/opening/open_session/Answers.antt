@@ -5,7 +5,9 @@ use Rattle.par2_spec.specs.Opening.{Started}
 use Rattle.par2_folder.specs.Cuts.{Lasts}
 use Rattle.par2_tool.specs.Holding.{OpensAsBefore, TellsApartBack}
 use Rattle.par2_tool.specs.Opening.{started_of, IsOpened, IsRead, LeavesUnopened}
+use Rattle.par2_tool.specs.Calls.{CountsOpening}
 use Rattle.par2_tool.proofs.AsIs.{opened_new}
+use Rattle.par2_tool.proofs.Calls.{no_calls}
 use Rattle.par2_tool.proofs.Openings.{text_read}
 use Rattle.par2_tool.proofs.opening.open_session.Goals as goal
 
@@ -44,3 +46,21 @@ returns-in-Some-clause-cut g c honest lasts apart left may =
     let read = text_read (g.S.FolderStore.contents c.args.store.now) files c.in_ok-folder.journal c.in-Some.text bytes (c.in_ok-folder.ensures.read honest) c.in-Some.is c.deref.ensures.value in
     subst (λ k. Lasts (g.S.FolderStore.may_remain c.read_store.new.store) k → IsRead k files (Some bytes) → TellsApartBack k → OpensAsBefore k left) (c.read_store.ensures.same honest)
     (λ still is tells. c.open_with.ensures.cut (c.read_store.ensures.honest honest) still is tells left may) (λ other may_be. lasts other (c.read_store.ensures.remains honest other may_be)) read apart
+
+-- the writing calls
+pub returns-in_err-folder-clause-calls : goal.returns-in_err-folder-clause-calls
+returns-in_err-folder-clause-calls g c honest = no_calls (g.S.FolderStore.contents c.args.store.now) (g.S.FolderStore.writing_calls c.args.store.now) (g.S.FolderStore.writing_calls c.read_store.new.store) c.from_residual.result c.read_store.ensures.unwritten
+
+pub returns-in-Some-clause-calls : goal.returns-in-Some-clause-calls
+returns-in-Some-clause-calls g c honest =
+    let old = g.S.FolderStore.contents c.args.store.now in
+    let after = g.S.FolderStore.writing_calls c.open_with.new.store in
+    let files = c.in_ok-folder.folder.files in
+    let bytes = c.deref.result.now in
+    let read = text_read old files c.in_ok-folder.journal c.in-Some.text bytes (c.in_ok-folder.ensures.read honest) c.in-Some.is c.deref.ensures.value in
+    subst (λ before. CountsOpening old before after c.open_with.result) c.read_store.ensures.unwritten
+    (subst (λ k. IsRead k files (Some bytes) → CountsOpening k (g.S.FolderStore.writing_calls c.read_store.new.store) after c.open_with.result) (c.read_store.ensures.same honest)
+    (c.open_with.ensures.calls (c.read_store.ensures.honest honest)) read)
+
+pub returns-in-None-clause-calls : goal.returns-in-None-clause-calls
+returns-in-None-clause-calls g c honest = no_calls (g.S.FolderStore.contents c.args.store.now) (g.S.FolderStore.writing_calls c.args.store.now) (g.S.FolderStore.writing_calls c.read_store.new.store) _ c.read_store.ensures.unwritten

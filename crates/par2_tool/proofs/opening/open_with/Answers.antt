@@ -1,4 +1,5 @@
 use Rattle.std.proofs.Common.{inl, Ok, Err, true, false, refl, sym, ap, subst, rules, ◌∙◌}
+use Rattle.std.proofs.lemmas.Result.{err_from_is_err_and}
 use Rattle.par2_spec.specs.Changes.{FolderState}
 use Rattle.par2_spec.specs.Opening.{Halfway, Opens, Started}
 use Rattle.par2_spec.specs.Sessions.{Session, KeptSession, session_of_kept}
@@ -8,6 +9,7 @@ use Rattle.par2_journal.specs.Opening.{opened_of, session_before, way_left}
 use Rattle.par2_tool.specs.Holding.{OpensAsBefore, with_history}
 use Rattle.par2_tool.specs.Opening.{IsOpened}
 use Rattle.par2_tool.proofs.AsIs.{opened_on}
+use Rattle.par2_tool.proofs.Calls.{back_calls, no_calls, refused_calls}
 use Rattle.par2_tool.proofs.MadeChanges.{is_new}
 use Rattle.par2_tool.proofs.Openings.{any_err, holds_settled, opened_taken_back, opens_refused, opens_still, way_applies}
 use Rattle.par2_tool.proofs.opening.open_with.Goals.{In-Ok-Halfway}
@@ -115,3 +117,34 @@ returns-in_ok-session-in-Ok-Halfway-clause-cut g c honest lasts read apart left 
     let halfway = c.in-Ok-Halfway.halfway in
     let opens = opens_so g (goal.at.returns-in_ok-session-in-Ok-Halfway-clause-cut g c).In-Ok-Halfway in
     opens_still (g.S.FolderStore.contents c.args.store.now) left c.args.folder.files c.args.text.now (session_of_kept (session_before halfway)) (way_left halfway) read opens apart (c.take_back.ensures.remains honest lasts left may)
+
+-- the writing calls
+pub returns-in_err-session-in-Ok-Halfway-clause-calls : goal.returns-in_err-session-in-Ok-Halfway-clause-calls
+returns-in_err-session-in-Ok-Halfway-clause-calls g c honest read =
+    let halfway = c.in-Ok-Halfway.halfway in
+    let opens = opens_so g (goal.at.returns-in_err-session-in-Ok-Halfway-clause-calls g c).In-Ok-Halfway in
+    let told = err_from_is_err_and c.from_residual.result c.from_residual.ensures.1 in
+    back_calls (g.S.FolderStore.contents c.args.store.now) c.args.folder.files c.args.text.now (session_of_kept (session_before halfway)) (way_left halfway) _ _ c.from_residual.result read opens
+    (refused_calls _ _ _ c.from_residual.result _ told.0 told.1 told.2 c.in_err-session-in-Ok-Halfway.ensures.calls.refused)
+
+pub returns-in_ok-session-in-Ok-Halfway-clause-calls : goal.returns-in_ok-session-in-Ok-Halfway-clause-calls
+returns-in_ok-session-in-Ok-Halfway-clause-calls g c honest read =
+    let halfway = c.in-Ok-Halfway.halfway in
+    let opens = opens_so g (goal.at.returns-in_ok-session-in-Ok-Halfway-clause-calls g c).In-Ok-Halfway in
+    back_calls (g.S.FolderStore.contents c.args.store.now) c.args.folder.files c.args.text.now (session_of_kept (session_before halfway)) (way_left halfway) _ _ _ read opens
+    (record { opened = c.in_ok-session-in-Ok-Halfway.ensures.calls.opened; refused = tt })
+
+pub returns-in-Ok-Settled-clause-calls : goal.returns-in-Ok-Settled-clause-calls
+returns-in-Ok-Settled-clause-calls g c honest read = no_calls (g.S.FolderStore.contents c.args.store.now) (g.S.FolderStore.writing_calls c.args.store.now) (g.S.FolderStore.writing_calls c.args.store.now) _ refl
+
+pub returns-in-Err-FolderChanged-false-default-clause-calls : goal.returns-in-Err-FolderChanged-false-default-clause-calls
+returns-in-Err-FolderChanged-false-default-clause-calls g c honest read = no_calls (g.S.FolderStore.contents c.args.store.now) (g.S.FolderStore.writing_calls c.args.store.now) (g.S.FolderStore.writing_calls c.args.store.now) _ refl
+
+pub returns-in-Err-FolderChanged-true-default-clause-calls : goal.returns-in-Err-FolderChanged-true-default-clause-calls
+returns-in-Err-FolderChanged-true-default-clause-calls g c honest read = no_calls (g.S.FolderStore.contents c.args.store.now) (g.S.FolderStore.writing_calls c.args.store.now) (g.S.FolderStore.writing_calls c.args.store.now) _ refl
+
+pub returns-in-Err-JournalInvalid-default-clause-calls : goal.returns-in-Err-JournalInvalid-default-clause-calls
+returns-in-Err-JournalInvalid-default-clause-calls g c honest read = no_calls (g.S.FolderStore.contents c.args.store.now) (g.S.FolderStore.writing_calls c.args.store.now) (g.S.FolderStore.writing_calls c.args.store.now) _ refl
+
+pub returns-in-Err-Memory-default-clause-calls : goal.returns-in-Err-Memory-default-clause-calls
+returns-in-Err-Memory-default-clause-calls g c honest read = no_calls (g.S.FolderStore.contents c.args.store.now) (g.S.FolderStore.writing_calls c.args.store.now) (g.S.FolderStore.writing_calls c.args.store.now) _ refl

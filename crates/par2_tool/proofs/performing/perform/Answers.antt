@@ -1,4 +1,5 @@
-use Rattle.std.proofs.Common.{◌≡◌, List, refl, sym, ap, subst, ◌∙◌, map}
+use Rattle.std.proofs.Common.{◌≡◌, ◌+◌, List, length, refl, sym, ap, subst, ◌∙◌, map, arith}
+use Rattle.std.proofs.lemmas.List.{length-map}
 use Rattle.par2_spec.specs.Changes as defined
 use Rattle.par2_spec.specs.Commands.{Verify}
 use Rattle.par2_spec.specs.Plans.{LeadsToAfterAsked}
@@ -13,8 +14,10 @@ use Rattle.par2_journal.specs.declared.preparation.SessionFault.TheVariants.{Pla
 use Rattle.par2_folder.specs.Cuts.{Lasts}
 use Rattle.par2_folder.specs.Views.{change_of}
 use Rattle.par2_journal.specs.Ready.{changes_by_kind, after_commit}
+use Rattle.par2_tool.specs.Calls.{AreAtMost, calls_asked, calls_to_write}
 use Rattle.par2_tool.specs.Holding.{TellsApartAlong, OpensAsBeforeOrAfter}
 use Rattle.par2_tool.specs.Performing.{after_write_down, AreSomeMade, HoldsJournaled, IsStoppedAt, IsWritten}
+use Rattle.par2_tool.proofs.Calls.{asked_calls, ready_calls}
 use Rattle.par2_tool.proofs.Openings.{any_err}
 use Rattle.par2_tool.proofs.VerifyRuns.{as_it_was, verify_leaves, verify_refused, written_by}
 use Rattle.par2_tool.proofs.Stops.{IsMadeReady, none_made, made_ready, ready_applies, written_holds, written_journal, stopped_opens, asked_in_order}
@@ -151,3 +154,33 @@ returns-in-Ok-write_down-clause-cut g c honest lasts files apart left may = cut_
 
 pub returns-in-Err-write_down-clause-cut : goal.returns-in-Err-write_down-clause-cut
 returns-in-Err-write_down-clause-cut g c honest lasts files apart left may = cut_opens g (goal.at.returns-in-Err-write_down-clause-cut g c).After-write_down honest lasts files apart left may
+
+-- ---- the writing calls
+
+pub returns-in-Ok-clause-calls : goal.returns-in-Ok-clause-calls
+returns-in-Ok-clause-calls g c =
+    let made = g.S.FolderStore.writing_calls c.args.store.now in
+    subst (λ (x : Command). made ≡ made + calls_asked (session_of_kept c.args.session.now) (command_of x)) (sym c.in-Verify.is) (omega arith)
+
+calls_so : (g : _) (c : After-write_down g) → calls_to_write c.in_ok-journals.journals (length c.changes.result.now) ≡ calls_asked (session_of_kept c.args.session.now) (command_of c.args.command.now)
+calls_so g c =
+    let old = c.args.session.now in
+    let made = made_of g c in
+    let journals = c.in_ok-journals.journals in
+    let action = c.in-Act.action in
+    ap (calls_to_write journals) (sym (length-map c.changes.result.now change_of) ∙ ap length (changed_so g c))
+    ∙ ready_calls (action_of action) old c.in-Ok-prepare.prepared c.prepare.new.self made journals (c.in_ok-journals.ensures.journals (action_of action) old made.grew made.is)
+    ∙ asked_calls action (session_of_kept old)
+    ∙ ap (λ (x : Command). calls_asked (session_of_kept old) (command_of x)) (sym c.in-Act.is)
+
+pub returns-in-Ok-write_down-clause-calls : goal.returns-in-Ok-write_down-clause-calls
+returns-in-Ok-write_down-clause-calls g c =
+    c.in-Ok-write_down.ensures.calls ∙ ap (λ n. g.S.FolderStore.writing_calls c.args.store.now + n) (calls_so g (goal.at.returns-in-Ok-write_down-clause-calls g c).After-write_down)
+
+pub returns-in-Ok-write_down-clause-at_most : goal.returns-in-Ok-write_down-clause-at_most
+returns-in-Ok-write_down-clause-at_most g c =
+    subst (λ n. AreAtMost n (g.S.FolderStore.writing_calls c.args.store.now) (g.S.FolderStore.writing_calls c.write_down.new.store)) (calls_so g (goal.at.returns-in-Ok-write_down-clause-at_most g c).After-write_down) c.write_down.ensures.at_most
+
+pub returns-in-Err-write_down-clause-at_most : goal.returns-in-Err-write_down-clause-at_most
+returns-in-Err-write_down-clause-at_most g c =
+    subst (λ n. AreAtMost n (g.S.FolderStore.writing_calls c.args.store.now) (g.S.FolderStore.writing_calls c.write_down.new.store)) (calls_so g (goal.at.returns-in-Err-write_down-clause-at_most g c).After-write_down) c.write_down.ensures.at_most

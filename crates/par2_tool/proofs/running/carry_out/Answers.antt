@@ -1,15 +1,17 @@
-use Rattle.std.proofs.Common.{◌≡◌, inl, inr, false, sym, ap, subst, ◌∙◌}
+use Rattle.std.proofs.Common.{◌≡◌, ◌+◌, inl, inr, arith, false, sym, ap, subst, ◌∙◌}
 use Rattle.std.proofs.lemmas.Result.{err_from_is_err_and}
 use Rattle.std.proofs.lemmas.Bool.{false≢true}
 use Rattle.par2_spec.specs.Sessions.{session_of_kept}
 use Rattle.par2_spec.specs.Views.{command_of}
 use Rattle.par2_spec.specs.declared.Failure.{Failure}
 use Rattle.par2_spec.specs.Opening.{Started}
+use Rattle.par2_tool.specs.Calls.{CountsFailedRun, calls_asked}
 use Rattle.par2_tool.specs.Opening.{started_of, IsOpened}
 use Rattle.par2_tool.specs.Performing.{outcome_of}
 use Rattle.par2_tool.specs.Refusals.{failure_for}
 use Rattle.par2_tool.specs.Telling.{IsBack, IsCause, IsFailed}
 use Rattle.par2_tool.proofs.AsIs.{done_for, no_way_back, verify_failed}
+use Rattle.par2_tool.proofs.Calls.{opening_calls, perform_calls, run_calls, stands_calls}
 use Rattle.par2_tool.proofs.Outcomes.{opening_failed, perform_cause, perform_failed, cut_of_command, stopped_opening}
 use Rattle.par2_tool.proofs.running.carry_out.Goals as goal
 use Rattle.par2_tool.proofs.running.carry_out.Goals.{else-dropped-via-then-dropped+else-is_back, else-dropped-via-else-dropped}
@@ -108,3 +110,51 @@ returns-in_err-outcome-clause-cut g c honest lasts left may =
     honest found.1 found.2
     (λ files along. c.perform.ensures.cut (c.open_for.ensures.honest honest) (c.in_ok-session.ensures.lasts honest lasts) files along left may)
     (λ verify. c.in_ok-session.ensures.lasts honest lasts left (subst (λ store. g.S.FolderStore.may_remain store left) (c.perform.ensures.verify verify).0 may))
+
+-- the writing calls
+pub returns-in_err-session-clause-failed_calls : goal.returns-in_err-session-clause-failed_calls
+returns-in_err-session-clause-failed_calls g c honest =
+    let action = command_of c.args.command.now in
+    let old = g.S.FolderStore.contents c.args.store.now in
+    let before = g.S.FolderStore.writing_calls c.args.store.now in
+    let after = g.S.FolderStore.writing_calls c.open_for.new.store in
+    let told = err_from_is_err_and c.from_residual.result c.from_residual.ensures.1 in
+    rw told.1 (subst (λ (failure : Failure). CountsFailedRun action old before after failure) (sym told.2)
+    (opening_calls action old before after c.in_err-session.field-0.0 (c.in_err-session.ensures.calls honest)))
+
+pub returns-then-is_back-clause-failed_calls : goal.returns-then-is_back-clause-failed_calls
+returns-then-is_back-clause-failed_calls g c honest =
+    let counted = c.in_ok-session.ensures.calls honest in
+    (counted.0, counted.1, counted.2.opened)
+
+pub returns-in_err-outcome-clause-failed_calls : goal.returns-in_err-outcome-clause-failed_calls
+returns-in_err-outcome-clause-failed_calls g c honest =
+    let action = command_of c.args.command.now in
+    let old = g.S.FolderStore.contents c.args.store.now in
+    let before = g.S.FolderStore.writing_calls c.args.store.now in
+    let middle = g.S.FolderStore.writing_calls c.open_for.new.store in
+    let after = g.S.FolderStore.writing_calls c.perform.new.store in
+    let counted = c.in_ok-session.ensures.calls honest in
+    let found = c.in_ok-session.ensures.opened in
+    let started = started_of c.in_ok-session.field-0 in
+    let told = err_from_is_err_and c.from_residual-in_err-outcome.result c.from_residual-in_err-outcome.ensures.1 in
+    rw told.1 (subst (λ (failure : Failure). CountsFailedRun action old before after failure) (sym told.2)
+    (perform_calls action old before middle after counted.0 found.0 started.session counted.1 (found.2 honest).opens counted.2.opened (stands_calls action found.0 started found.1)
+    c.in_err-outcome.field-0.0 c.perform.ensures.at_most c.in_err-outcome.ensures.unwritten))
+
+pub returns-clause-calls : goal.returns-clause-calls
+returns-clause-calls g c honest =
+    let action = command_of c.args.command.now in
+    let old = g.S.FolderStore.contents c.args.store.now in
+    let before = g.S.FolderStore.writing_calls c.args.store.now in
+    let middle = g.S.FolderStore.writing_calls c.open_for.new.store in
+    let after = g.S.FolderStore.writing_calls c.perform.new.store in
+    let counted = c.in_ok-session.ensures.calls honest in
+    let found = c.in_ok-session.ensures.opened in
+    let started = started_of c.in_ok-session.field-0 in
+    let opened : middle ≡ before + counted.0 = counted.2.opened in
+    let performed : after ≡ middle + calls_asked started.session action = c.in_ok-outcome.ensures.calls in (
+      counted.0 + calls_asked started.session action,
+      run_calls action old before middle after counted.0 found.0 started.session counted.1 (found.2 honest).opens opened (stands_calls action found.0 started found.1),
+      omega (arith, opened, performed),
+    )

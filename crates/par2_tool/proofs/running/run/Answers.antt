@@ -21,6 +21,7 @@ returns-in-Err-clause-told g c =
       inl (refl, told, refl),
       (c.fail.ensures, refl {a = c.args.out.now}),
       λ _. inl (told, refl),
+      λ _. inl (told, refl),
     )
 
 pub returns-in-Ok-carry_out-clause-told : goal.returns-in-Ok-carry_out-clause-told
@@ -36,6 +37,7 @@ returns-in-Ok-carry_out-clause-told g c =
       (action, asked, c.in-Ok-carry_out.ensures.steady, c.in-Ok-carry_out.ensures.answer.0, c.in-Ok-carry_out.ensures.answer.1),
       (subst (λ text. IsPrinted g.O.Write.contents before after text (status_of outcome) c.tell.result) (sym done.1) c.tell.ensures, refl {a = c.args.err.now}),
       λ honest. (action, asked, done.2 honest),
+      λ honest. (action, asked, c.in-Ok-carry_out.ensures.calls honest),
     )
 
 pub returns-clause-told : goal.returns-clause-told
@@ -46,6 +48,7 @@ returns-clause-told g c =
       inr (action, asked, refl, c.in-Err-carry_out.ensures.cause),
       (c.fail-in-Err-carry_out.ensures, refl {a = c.args.out.now}),
       λ honest. inr (action, asked, c.in-Err-carry_out.ensures.failed honest),
+      λ honest. inr (action, asked, c.in-Err-carry_out.ensures.failed_calls honest),
     )
 
 pub returns-in-Err-clause-cut : goal.returns-in-Err-clause-cut

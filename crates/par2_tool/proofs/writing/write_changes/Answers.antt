@@ -73,4 +73,6 @@ loop-change-preserved g c =
       steady = c.in-Ok.ensures.steady ∙ held.steady;
       possible = λ h all.
           c.write_change.ensures.possible (held.honest h) (applicable_here _ _ _ _ item (held.made h) c.loop-change-test.true c.change-item.is all) ∙ held.possible h all;
+      counted = omega (arith, held.counted, c.write_change.ensures.counted);
+      within = omega (arith, c.loop-change-test.true);
     }

@@ -1,4 +1,4 @@
-use Rattle.std.proofs.Common.{◌≡◌, ◌≤◌, IsTrue, map, take}
+use Rattle.std.proofs.Common.{◌≡◌, ◌+◌, ◌≤◌, length, IsTrue, map, take}
 use Rattle.par2_spec.specs.Changes.{are_applicable}
 use Rattle.par2_folder.specs.Cuts.{Lasts}
 use Rattle.par2_folder.specs.Views.{change_of}
@@ -13,4 +13,6 @@ invariant-loop-change g l = record {
   later : g.S.FolderStore.failures l.initial.store ≤ g.S.FolderStore.failures l.store;
   steady : g.S.FolderStore.failures l.store ≡ g.S.FolderStore.failures l.initial.store;
   possible : g.S.FolderStore.honest l.initial.store → IsTrue (are_applicable (g.S.FolderStore.contents l.initial.store).files (map change_of l.changes)) → g.S.FolderStore.impossible l.store ≡ g.S.FolderStore.impossible l.initial.store;
+  counted : g.S.FolderStore.writing_calls l.store ≡ g.S.FolderStore.writing_calls l.initial.store + l.change-index;
+  within : l.change-index ≤ length l.changes;
 }

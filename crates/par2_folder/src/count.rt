@@ -1,33 +1,33 @@
-//! How often a store has failed: a number that contracts alone see, and that has no greatest value. It takes no
-//! bytes, and its functions do nothing at run time.
+//! How often something has happened, as that a store has failed: a number that contracts alone see, and that has no
+//! greatest value. It takes no bytes, and its functions do nothing at run time.
 ghost use Rattle.std.specs.Prelude.{◌≡◌, ℕ, ◌+◌};
 ghost use Rattle.std.specs.Borrow.{ftrue};
 
 use std::marker::Model;
 
-/// A count of failures.
+/// A count.
 #[derive(Debug, Drop)]
-pub struct Failures {
+pub struct Count {
     pub ghost count: { ℕ },
 }
 
-impl Model for Failures {
+impl Model for Count {
     ghost also_owns = { λ _. ftrue };
 }
 
-impl Failures {
+impl Count {
     /// None yet.
-    pub fn new() -> Failures
+    pub fn new() -> Count
         ensures { result.count ≡ 0 }
     {
-        Failures {}
+        Count {}
     }
 
     // The count after one more.
-    fn next(&self) -> Failures
+    fn next(&self) -> Count
         ensures { result.count ≡ self.now.count + 1 }
     {
-        Failures {}
+        Count {}
     }
 
     /// Counts one more.

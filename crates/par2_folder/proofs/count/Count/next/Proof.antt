@@ -15,10 +15,10 @@ use denote.Steps.{nothing}
 use denote.Triple.Entry.{alive}
 use denote.Triple.Walked.{says, Stays, stay_dropped, Goes-dropped, walk_of, ends_at}
 use Rattle.par2_folder.proofs.Steps.{nothing_inside, made_of_nothing}
-use Rattle.par2_folder.specs.contracts.failures.Failures as Failures
-use Rattle.par2_folder.specs.contracts.failures.Failures.next as f
-use Rattle.par2_folder.proofs.failures.Failures.next.Statement.{statement}
-use Rattle.par2_folder.proofs.failures.Failures.next.Code as code
+use Rattle.par2_folder.specs.contracts.count.Count as Count
+use Rattle.par2_folder.specs.contracts.count.Count.next as f
+use Rattle.par2_folder.proofs.count.Count.next.Statement.{statement}
+use Rattle.par2_folder.proofs.count.Count.next.Code as code
 
 abbrev stayed : Stays f.ended.signature.params f.ended.kept
 stayed = (stay_dropped _ yes, tt)
@@ -26,11 +26,11 @@ stayed = (stay_dropped _ yes, tt)
 pub next_spec : {M : Type 1} → statement M
 next_spec 𝓤 𝓛 𝓜 𝓡 wired =
     let c = f.clauses 𝓛 𝓜.mem 𝓡.returns in let W = walk_of 𝓛 f.ended stayed c in
-    proved 𝓛 f.ended stayed c 𝓜 𝓡 (Goes-dropped 𝓛 1 (RefOf (0 ∷ []) tt (plain (λ _. Failures.the_row)) (λ _. tt)) yes (λ κs x f. refl), tt)
+    proved 𝓛 f.ended stayed c 𝓜 𝓡 (Goes-dropped 𝓛 1 (RefOf (0 ∷ []) tt (plain (λ _. Count.the_row)) (λ _. tt)) yes (λ κs x f. refl), tt)
     f.Key.name code.function (code.unfolded 𝓤 𝓛.H 𝓜 𝓡 wired)
     (λ κs. (shr_vals, tt)) (λ κs. ((λ x vs is. is.0), tt)) (λ κs qs bounds a _ are.
     let y : W.Ghost = ((κs, qs, bounds, a, (shr_vals a.0, tt)), tt) in
-    let made : (Failures.the_row).Denot = record { count = a.0.now.count + 1 } in
+    let made : (Count.the_row).Denot = record { count = a.0.now.count + 1 } in
     qed 𝓛 ((raw (alive 𝓛 f.ended.signature κs qs) ⊛ ‵ (owns (types_at f.ended.signature.params κs) a y.0.4)) ∷ ‵ ftrue ∷ []) ∵
     split ! $ keep ! (0 ∷ []) $
     enter ! _ _ _ _ _ $ alloc_all ! (λ l. pass_all ! refl ((tt, tt), tt) $

@@ -10,10 +10,10 @@ use denote.Steps.{nothing}
 use denote.Triple.Entry.{on_entry}
 use denote.Triple.Walked.{says, Stays, walk_of, ends_at}
 use Rattle.par2_folder.proofs.Steps.{nothing_inside, made_of_nothing}
-use Rattle.par2_folder.specs.contracts.failures.Failures as Failures
-use Rattle.par2_folder.specs.contracts.failures.Failures.new as f
-use Rattle.par2_folder.proofs.failures.Failures.new.Statement.{statement}
-use Rattle.par2_folder.proofs.failures.Failures.new.Code as code
+use Rattle.par2_folder.specs.contracts.count.Count as Count
+use Rattle.par2_folder.specs.contracts.count.Count.new as f
+use Rattle.par2_folder.proofs.count.Count.new.Statement.{statement}
+use Rattle.par2_folder.proofs.count.Count.new.Code as code
 
 abbrev stayed : Stays f.ended.signature.params f.ended.kept
 stayed = tt
@@ -25,7 +25,7 @@ new_spec 𝓤 𝓛 𝓜 𝓡 wired =
     f.Key.name code.function (code.unfolded 𝓤 𝓛.H 𝓜 𝓡 wired)
     (λ κs. tt) (λ κs. tt) (λ κs qs bounds a _ are.
     let y : W.Ghost = ((κs, qs, bounds, a, tt), tt) in
-    let made : (Failures.the_row).Denot = record { count = 0 } in
+    let made : (Count.the_row).Denot = record { count = 0 } in
     qed 𝓛 (raw (on_entry 𝓛 f.ended.signature κs qs a y.0.4) ∷ ‵ ftrue ∷ []) ∵ drop ! $ drop ! $
     enter ! _ _ _ _ _ $ alloc_all ! (λ l. pass_all ! refl tt $
     sets ! (agg ! (no_more !)) refl (tt, tt) $

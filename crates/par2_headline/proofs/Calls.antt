@@ -1,0 +1,44 @@
+-- How many writing calls a run made.
+use Rattle.std.proofs.Common.{◌≡◌, ◌+◌, inl, inr, ℕ, List, subst, arith}
+use Rattle.par2_spec.specs.Changes.{Change}
+use Rattle.par2_spec.specs.Commands.{Action, Do, Verify}
+use Rattle.par2_spec.specs.Stores.{Contents}
+use Rattle.par2_spec.specs.declared.Failure.{Failure}
+use Rattle.par2_spec.specs.declared.Failure.TheVariants.{Refused, Store, Arguments, JournalInvalid, FolderChanged, NothingToUndo, NothingToRedo}
+use Rattle.par2_tool.specs.Asking.{AskFor}
+use Rattle.par2_tool.specs.Calls.{AreCallsToOpen, AreCallsToRun, CountsFailedRun, CountsRefusedRun, IsHalfway}
+use Rattle.par2_tool.specs.Telling.{Telling, Answered, Failed, MakesCalls}
+use Rattle.par2_headline.proofs.Answers.{one_action}
+
+module _ (words : List (List ℕ)) (old : Contents) (before after : ℕ) (base : List ℕ) (extras : List (List ℕ)) (none : (back : List Change) → IsHalfway old back → ⊥) where
+  abbrev verify : Action
+  verify = Do (Verify base extras)
+
+  opened_by : (calls : ℕ) → AreCallsToOpen old calls → calls ≡ 0
+  opened_by calls (inl zero) = zero
+  opened_by calls (inr (back, halfway, sum)) = absurd (none back halfway)
+
+  run_by : (calls : ℕ) → AreCallsToRun verify old calls → calls ≡ 0
+  run_by calls run = let zero = opened_by run.opening run.opens_by in let sum : calls ≡ run.opening + 0 = run.sum in omega (arith, zero, sum)
+
+  refused_by : CountsRefusedRun old before after → after ≡ before
+  refused_by (calls, opens, sum) = let zero = opened_by calls opens in omega (arith, zero, sum)
+
+  failed_by : (reason : Failure) → CountsFailedRun verify old before after reason → after ≡ before
+  failed_by Store (calls, inl opens, most) = let zero = opened_by calls opens in omega (arith, zero, most.later, most.within)
+  failed_by Store (calls, inr run, most) = let zero = run_by calls run in omega (arith, zero, most.later, most.within)
+  failed_by (Refused fault) counted = refused_by counted
+  failed_by NothingToUndo counted = refused_by counted
+  failed_by NothingToRedo counted = refused_by counted
+  failed_by Arguments counted = refused_by counted
+  failed_by JournalInvalid counted = refused_by counted
+  failed_by FolderChanged counted = refused_by counted
+
+  -- a verify makes none where no command is halfway
+  pub verify_makes_none : AskFor words verify → (told : Telling) → MakesCalls words told old before after → after ≡ before
+  verify_makes_none asked (Answered dropped outcome) (action, also, (calls, run, sum)) =
+      let zero = run_by calls (subst (λ a. AreCallsToRun a old calls) (one_action words action verify also asked) run) in
+      omega (arith, zero, sum)
+  verify_makes_none asked (Failed spoken reason) (inl (unread, same)) = same
+  verify_makes_none asked (Failed spoken reason) (inr (action, also, counted)) =
+      failed_by reason (subst (λ a. CountsFailedRun a old before after reason) (one_action words action verify also asked) counted)

@@ -1,0 +1,126 @@
+-- How many writing calls are made of a store.
+use Rattle.std.proofs.Common.{◌≡◌, inl, inr, ℕ, ◌+◌, List, [], ◌∷◌, length, Option, Some, None, Result, Ok, Err, Vec, refl, sym, ap, subst, ◌∙◌, arith}
+use Rattle.std.specs.Prelude.{IfErr, OnOk}
+use Rattle.std.specs.declared.alloc.Global.{Global}
+use Rattle.par2_spec.specs.Changes.{Change}
+use Rattle.par2_spec.specs.Commands.{Action, Do, Undo, Redo, Create, Verify, Repair, Purge}
+use Rattle.par2_spec.specs.Folders.{Folder}
+use Rattle.par2_spec.specs.History.{Refusal}
+use Rattle.par2_spec.specs.Opening.{Opens, Halfway, Started, halfway_where, journals_of}
+use Rattle.par2_spec.specs.Sessions.{Session, KeptSession, changes_asked, session_of_kept}
+use Rattle.par2_spec.specs.Stores.{Contents}
+use Rattle.par2_spec.specs.Views.{action_of}
+use Rattle.par2_spec.specs.declared.commands.Action as asking
+use Rattle.par2_spec.specs.declared.commands.Action.TheVariants as given
+use Rattle.par2_spec.specs.declared.Version.TheVariants.{Two}
+use Rattle.par2_journal.specs.Ready.{Ready, changes_by_kind}
+use Rattle.par2_journal.specs.Spelling.{SpellsWhere, AreSpelled}
+use Rattle.par2_journal.specs.declared.preparation.SessionFault.TheVariants.{Plan, NothingToUndo, NothingToRedo}
+use Rattle.par2_journal.specs.declared.spelling.Journals.{Journals}
+use Rattle.par2_tool.specs.Calls.{AreAtMost, AreCallsToOpen, AreCallsToRun, CountsCalls, CountsFailedRun, CountsOpening, IsCalled, calls_asked, calls_before, calls_for, calls_to_write, calls_unless}
+use Rattle.par2_tool.specs.Holding.{IsOpening}
+use Rattle.par2_tool.specs.Opening.{IsRead, StandsFor}
+use Rattle.par2_tool.specs.Performing.{IsVerify}
+use Rattle.par2_tool.specs.Refusals.{IsSession, failure_for, unopened_as}
+use Rattle.par2_tool.specs.declared.opening.OpenFault.{OpenFault}
+use Rattle.par2_tool.specs.declared.opening.OpenFault.TheVariants as unopened
+use Rattle.par2_tool.specs.declared.performing.PerformFault.{PerformFault}
+use Rattle.par2_tool.specs.declared.performing.PerformFault.TheVariants.{Session as Refusing, Store}
+use Rattle.par2_tool.proofs.Stops.{IsMadeReady, asked_of_mid}
+
+-- ---- an action
+
+calls_where : (halfway : Option (Vec ℕ Global)) (s : Session) (changes : List Change) → SpellsWhere halfway (halfway_where Two s changes) → calls_before halfway + (length changes + 1) ≡ calls_for changes
+calls_where None s [] spells = refl
+calls_where None s (c ∷ cs) spells = absurd spells
+calls_where (Some text) s [] spells = absurd spells
+calls_where (Some text) s (c ∷ cs) spells = omega arith
+
+-- what was made ready takes the calls of the changes that were asked for
+pub ready_calls : (action : Action) (old : KeptSession) (ready : Ready) (mid : KeptSession) → IsMadeReady action old ready mid → (journals : Journals) → AreSpelled journals (journals_of Two (session_of_kept mid) action (changes_by_kind ready.kind mid))
+    → calls_to_write journals (length (changes_by_kind ready.kind mid)) ≡ calls_unless (changes_asked (session_of_kept old) action)
+unfolding journals_of
+ready_calls action old ready mid made journals spelled =
+    calls_where journals.halfway (session_of_kept mid) (changes_by_kind ready.kind mid) spelled.0
+    ∙ ap (λ (r : Result (List Change) Refusal). calls_unless r) (sym (asked_of_mid action old ready mid made))
+
+-- any action but a verify makes those of its changes
+pub asked_calls : (action : asking.Action) (s : Session) → calls_unless (changes_asked s (action_of action)) ≡ calls_asked s (action_of action)
+asked_calls (given.Create a) s = refl
+asked_calls (given.Repair base extras purge) s = refl
+asked_calls (given.Purge base) s = refl
+asked_calls given.Undo s = refl
+asked_calls given.Redo s = refl
+
+verify_calls : (action : Action) (s t : Session) → IsVerify action → calls_asked s action ≡ calls_asked t action
+verify_calls (Do (Verify base extras)) s t is = refl
+verify_calls (Do (Create args)) s t is = absurd is
+verify_calls (Do (Repair base extras purge)) s t is = absurd is
+verify_calls (Do (Purge base)) s t is = absurd is
+verify_calls Undo s t is = absurd is
+verify_calls Redo s t is = absurd is
+
+-- ---- an opening
+
+-- where none was made
+pub no_calls : {T : Type 0} (contents : Contents) (before after : ℕ) (r : Result T OpenFault) → after ≡ before → CountsOpening contents before after r
+no_calls {T} contents before after r same = (0, inl refl, record { opened = opened r; refused = refused r })
+  where
+    opened : (r : Result T OpenFault) → OnOk r (after ≡ before + 0)
+    opened (Ok x) = omega (arith, same)
+    opened (Err e) = tt
+
+    refused : (r : Result T OpenFault) → IfErr r (IsCalled 0 before after)
+    refused (Ok x) = tt
+    refused (Err unopened.Store) = record { later = omega (arith, same); within = omega (arith, same) }
+    refused (Err unopened.Memory) = same
+    refused (Err unopened.JournalInvalid) = same
+    refused (Err unopened.FolderChanged) = same
+
+-- where a halfway command was taken back, as far as that came
+pub back_calls : {T : Type 0} (contents : Contents) (files : Folder) (text : List ℕ) (s : Session) (back : List Change) (before after : ℕ) (r : Result T OpenFault) → IsRead contents files (Some text) → Opens files text (Ok (Halfway s back))
+    → CountsCalls (length back + 1) before after r → CountsOpening contents before after r
+back_calls contents files text s back before after r read opens counted = (
+  length back + 1,
+  inr (
+    back,
+    record {
+      text = text;
+      session = s;
+      journal = ap (λ (k : Contents). k.journal) read;
+      halfway = subst (λ f. Opens f text (Ok (Halfway s back))) (sym (ap (λ (k : Contents). k.files) read)) opens;
+    },
+    refl,
+  ),
+  counted,
+)
+
+-- a refusal is handed on
+pub refused_calls : {T : Type 0} (calls before after : ℕ) (r : Result T OpenFault) (e y : OpenFault) → r ≡ Err y → y ≡ e → IsCalled calls before after e → CountsCalls calls before after r
+refused_calls calls before after r e y is same called = subst (λ x. CountsCalls calls before after x) (sym (is ∙ ap Err same)) (record { opened = tt; refused = called })
+
+-- ---- a run
+
+-- the session that stands for the opened one takes as many
+pub stands_calls : (action : Action) (o s : Started) → StandsFor action o s → calls_asked s.session action ≡ calls_asked o.session action
+stands_calls action o s (inl same) = ap (λ (t : Started). calls_asked t.session action) (sym same)
+stands_calls action o s (inr verify) = verify_calls action s.session o.session verify.0
+
+-- an opening that is refused
+pub opening_calls : {T : Type 0} (action : Action) (old : Contents) (before after : ℕ) (e : OpenFault) → CountsOpening {T = T} old before after (Err e) → CountsFailedRun action old before after (unopened_as e)
+opening_calls action old before after unopened.Store counted = (counted.0, inl counted.1, counted.2.refused)
+opening_calls action old before after unopened.Memory counted = (0, inl refl, let same = counted.2.refused in omega (arith, same))
+opening_calls action old before after unopened.JournalInvalid counted = (0, inl refl, let same = counted.2.refused in omega (arith, same))
+opening_calls action old before after unopened.FolderChanged counted = (0, inl refl, let same = counted.2.refused in omega (arith, same))
+
+module _ (action : Action) (old : Contents) (before mid after opening : ℕ) (o : Started) (s : Session) (takes : AreCallsToOpen old opening) (opens : IsOpening old (Ok o)) (counted : mid ≡ before + opening) (alike : calls_asked s action ≡ calls_asked o.session action) where
+  pub run_calls : AreCallsToRun action old (opening + calls_asked s action)
+  run_calls = record { opening = opening; opens_by = takes; started = o; opens = opens; sum = ap (λ n. opening + n) alike }
+
+  -- an action that is refused once the store is opened
+  pub perform_calls : (fault : PerformFault) → AreAtMost (calls_asked s action) mid after → (IsSession fault → after ≡ mid) → CountsFailedRun action old before after (failure_for fault)
+  perform_calls Store most same =
+      (opening + calls_asked s action, inr run_calls, record { later = omega (arith, counted, most.later); within = omega (arith, counted, most.within) })
+  perform_calls (Refusing (Plan fault)) most same = (opening, takes, same tt ∙ counted)
+  perform_calls (Refusing NothingToUndo) most same = (opening, takes, same tt ∙ counted)
+  perform_calls (Refusing NothingToRedo) most same = (opening, takes, same tt ∙ counted)
