@@ -16,8 +16,8 @@ use par2_gf16::Gf;
 use par2_slices::window_bytes;
 use std::alloc::{AllocError, Global};
 
-// The fewest bytes of each slice that are solved at a time: a product of fewer takes as long for its factor's tables. Where
-// they are more than there is room for, so many slices are lost that the inverse takes more.
+// The fewest bytes of each slice that are solved at a time. For each of these blocks the whole inverse is read, which takes
+// longer than the products of a short one.
 const LEAST: usize = 2048;
 
 // The bytes of a text from `from` on, `count` of them where it doesn't end sooner.
