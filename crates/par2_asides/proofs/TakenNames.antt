@@ -1,9 +1,10 @@
 -- Names that are taken, and the first number that is free.
-use Rattle.std.proofs.Common.{◌≡◌, ℕ, suc, ◌+◌, ◌-◌, ◌^◌, ◌<◌, ◌≤◌, length, List, [], ◌∷◌, map, refl, sym, ap, ◌∙◌, ◌⊎◌, Bool, true, false, not, cond, ◌||◌, arith, inl, inr, IsTrue, Ok, Err, Result}
-use Rattle.std.specs.Prelude.{find, get_or, IfErr, IsErrAnd, IsOk, nat_lt, Option, Some, unwrap_or}
+use Rattle.std.proofs.Common.{◌≡◌, ℕ, suc, ◌+◌, ◌-◌, ◌^◌, ◌<◌, ◌≤◌, length, List, [], ◌∷◌, ◌++◌, map, take, refl, sym, ap, ◌∙◌, ◌⊎◌, Bool, true, false, not, cond, ◌||◌, arith, inl, inr, IsTrue, Ok, Err, Result}
+use Rattle.std.specs.Prelude.{find, get_or, IfErr, IfOk, IsErrAnd, IsOk, nat_lt, Option, Some, None, unwrap_or}
 use Rattle.std.specs.List.{AllByRecursion, list_all, list_any, range_with_len}
-use Rattle.std.proofs.lemmas.Bool.{and_from, and_parts, cases_lt, false_from_ne_true, false≢true, leb-true, lt-ltb, or_from}
-use Rattle.std.proofs.lemmas.List.Folds.{list_all-append, list_any_at}
+use Rattle.std.proofs.lemmas.Bool.{and_from, and_parts, cases_lt, false_from_ne_true, false≢true, leb-true, lt-ltb, ltb-true, or_from}
+use Rattle.std.proofs.lemmas.List.{map_more}
+use Rattle.std.proofs.lemmas.List.Folds.{list_all-append, list_any_at, list_any_more}
 use Rattle.std.proofs.lemmas.Result.{err_from_is_err_and}
 use Rattle.par2_spec.specs.declared.Fault.{Fault}
 use Rattle.par2_spec.specs.declared.Fault.TheVariants.{Memory, NameTooLong}
@@ -15,7 +16,7 @@ use Rattle.par2_spec.specs.Sets.{IsSound, target_names, ParSet}
 use Rattle.par2_spec.proofs.AsideNames.{numbered_is_name}
 use Rattle.par2_spec.proofs.NameTests.{name_is_short}
 use Rattle.par2_spec.proofs.NamesLaws.{clash, other_name}
-use Rattle.par2_spec.proofs.TestLaws.{err_again}
+use Rattle.par2_spec.proofs.TestLaws.{err_again, where_none}
 use Rattle.par2_asides.specs.Asides.{long_aside}
 
 -- ---- what is taken
@@ -70,6 +71,10 @@ pub passed_on : {X : Type 0} (r : Result X Fault) (fault : Fault) (long : Option
     → (fault ≡ Memory) ⊎ (long ≡ Some fault) → IfErr r (λ f. (f ≡ Memory) ⊎ (long ≡ Some f))
 passed_on r fault long is h = err_again (λ x. IfErr x (λ f. (f ≡ Memory) ⊎ (long ≡ Some f))) r fault (err_from_is_err_and r is) h
 
+-- a `?` that ends in a fault answers no value
+pub no_value : {X : Type 0} (r : Result X Fault) (fault : Fault) (P : X → Type 0) → IsErrAnd r (λ y. y ≡ fault) → IfOk r P
+no_value r fault P is = err_again (λ x. IfOk x P) r fault (err_from_is_err_and r is) tt
+
 -- a name whose aside is too long
 pub too_long : (folder : Folder) (set : ParSet) (name : List ℕ) → 255 < length (aside folder set name) → long_aside folder set (name ∷ []) ≡ Some NameTooLong
 too_long folder set name h = ap (λ b. fault_where (b || false) NameTooLong) (lt-ltb 255 (length (aside folder set name)) h)
@@ -98,3 +103,26 @@ long_where_err (Err e) name n text small named is h = elim (cases_lt 255 (length
   | inl long ↦ long
   | inr short ↦ absurd (false≢true (h (ap is_name is ∙ numbered_is_name name n small named short)))
 ]
+
+-- ---- one more name
+
+no_longer : (text : List ℕ) → IsTrue (is_name text) → nat_lt 255 (length text) ≡ false
+no_longer text named =
+    false_from_ne_true _ (λ long. let most : length text ≤ 255 = leb-true (length text) 255 (name_is_short text named) in absurd (omega (arith, most, ltb-true 255 (length text) long)))
+
+module _ (folder : Folder) (set : ParSet) (names : List (List ℕ)) (i : ℕ) (name other : List ℕ) (low : i < length names) (is : name ≡ get_or names i name)
+    (named : other ≡ aside folder set name) where
+  -- its aside comes last
+  pub one_more_aside : (asides : List (List ℕ)) → asides ≡ map (aside folder set) (take i names)
+      → asides ++ other ∷ [] ≡ map (aside folder set) (take (i + 1) names)
+  one_more_aside asides before =
+      ap (λ xs. xs ++ other ∷ []) before ∙ ap (λ x. map (aside folder set) (take i names) ++ x ∷ []) (named ∙ ap (aside folder set) is)
+      ∙ sym (map_more (aside folder set) names i name low)
+
+  -- where its aside is a name, none is too long yet
+  pub one_more_short : IsTrue (is_name other) → long_aside folder set (take i names) ≡ None → long_aside folder set (take (i + 1) names) ≡ None
+  one_more_short good before =
+      let test : List ℕ → Bool = λ x. nat_lt 255 (length (aside folder set x)) in
+      let short : test (get_or names i name) ≡ false =
+      ap test (sym is) ∙ ap (λ x. nat_lt 255 (length x)) (sym named) ∙ no_longer other good in
+      ap (λ b. fault_where b NameTooLong) (list_any_more test names i name low ∙ ap (λ b. b || test (get_or names i name)) (where_none _ _ before) ∙ short)
