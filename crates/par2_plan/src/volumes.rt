@@ -1,12 +1,12 @@
 //! The bytes of volumes. Their packets are there from the start, with zeros for recovery slices and MD5s; the slices of
-//! all exponents are written into them by blocks of columns, and the MD5s at the end.
+//! all exponents, or of groups of them, are written into them by blocks of columns, and the MD5s at the end.
 
-ghost use Rattle.std.specs.Prelude.{◌≡◌, ℕ, ◌≤◌, ◌<◌, ◌+◌, ◌-◌, ◌%◌, length, map, take, drop, IfOk, OnOk};
+ghost use Rattle.std.specs.Prelude.{◌≡◌, ℕ, ◌≤◌, ◌<◌, ◌+◌, ◌-◌, ◌*◌, ◌%◌, length, map, take, drop, IfOk, OnOk};
 ghost use Rattle.std.specs.List.{AllByRecursion, range_with_len};
 ghost use Rattle.par2_spec.specs.Sums.{OneChanged, list_at, lists_of};
 ghost use Rattle.par2_recovery.specs.Syndromes.{window};
 ghost use Rattle.par2_plan.specs.Outputs.{HasSlices, ListsInputs, volume_text};
-ghost use Rattle.par2_plan.specs.Volumes.{AreExponents, HasColumns, slice_of, volume_up_to};
+ghost use Rattle.par2_plan.specs.Volumes.{AreExponents, AreShared, HasColumns, slice_of, volume_amid, volume_before, volume_up_to};
 
 use crate::names::Volume;
 use crate::outputs::Parts;
@@ -17,6 +17,12 @@ use std::alloc::{AllocError, Global};
 
 // What a packet has beside the bytes of a recovery slice: its header, and the exponent.
 const RECOVERY_HEAD: usize = 68;
+
+// How much memory the columns of recovery slices may take, beside a 128th of the inputs: what `columns_at_once` goes by.
+const COLUMNS: usize = 256 * 1024;
+
+// What the fewest columns of a recovery slice take, 64 bytes, with what their `Vec` takes beside them.
+const FEWEST_COLUMNS: usize = 64 + 64;
 
 // The exponents from `first` up to `end`.
 #[derive(Clone, Copy)]
@@ -125,32 +131,80 @@ fn fit_id(id: &[u8; 16])
     let _ = id.len();
 }
 
-// The columns of a volume's recovery slices.
-fn columns_of<'a>(block: &'a Block, volume: &Volume) -> &'a [Vec<u8>]
-    requires first { block.now.exponents.first ≤ volume.now.first }
-    requires last { volume.now.first + volume.now.count
-        ≤ block.now.exponents.first + length block.now.columns.items }
-    ensures { result.now ≡ take volume.now.count
-        (drop (volume.now.first - block.now.exponents.first) block.now.columns.items) }
+// The exponents that a volume and others share. Where there are none, the first one isn't below the end.
+fn shared_exponents(volume: &Volume, exponents: Exponents) -> Exponents
+    requires { volume.now.first + volume.now.count ≤ 65536 }
+    ensures { AreShared result volume.now exponents }
 {
-    let start = (volume.first - block.exponents.first) as usize;
-    &block.columns[start..][..volume.count as usize]
+    Exponents {
+        first: volume.first.max(exponents.first),
+        end: (volume.first + volume.count).min(exponents.end),
+    }
 }
 
-// Writes the columns of a volume's recovery slices.
+// The columns of these exponents.
+fn columns_of(block: &Block, exponents: Exponents) -> &[Vec<u8>]
+    requires first { block.now.exponents.first ≤ exponents.first }
+    requires order { exponents.first ≤ exponents.end }
+    requires last { exponents.end ≤ block.now.exponents.first + length block.now.columns.items }
+    ensures { result.now ≡ take (exponents.end - exponents.first)
+        (drop (exponents.first - block.now.exponents.first) block.now.columns.items) }
+{
+    let start = (exponents.first - block.exponents.first) as usize;
+    let count = (exponents.end - exponents.first) as usize;
+    &block.columns[start..][..count]
+}
+
+// Where the packet of exponent `e` begins in a volume's bytes, or the last packet ends.
+fn place_of(text: &[u8], parts: &Parts, volume: &Volume, e: u32) -> usize
+    requires fits { 68 + parts.now.set.now.slice ≤ usize.MAX }
+    requires exponent { (volume.now.first ≤ e) × (e ≤ volume.now.first + volume.now.count) }
+    requires text { length parts.now.index.items
+        + volume.now.count * (68 + parts.now.set.now.slice) ≤ length text.now }
+    ensures place { result ≡ length parts.now.index.items
+        + (e - volume.now.first) * (68 + parts.now.set.now.slice) }
+    ensures within { result ≤ length text.now }
+{
+    let before = (e - volume.first) as usize;
+    let packet = RECOVERY_HEAD + parts.set.slice as usize;
+    parts.index.len() + before * packet
+}
+
+// Writes the columns of the exponents that a volume and the block share.
+fn fill_shared(text: &mut [u8], parts: &Parts, volume: &Volume, block: &Block, shared: Exponents)
+    requires parts { HasSlices parts.now }
+    requires fits { 68 + parts.now.set.now.slice ≤ usize.MAX }
+    requires block { HasColumns parts.now block.now }
+    requires shared { AreShared shared volume.now block.now.exponents }
+    requires some { shared.first < shared.end }
+    requires before { text.old
+        ≡ volume_amid parts.now block.now.exponents block.now.from volume.now }
+    ensures { text.new ≡ volume_amid parts.now block.now.exponents
+        (block.now.from + block.now.len) volume.now }
+{
+    fit_id(&parts.set_id);
+    let start = place_of(text, parts, volume, shared.first);
+    let end = place_of(text, parts, volume, shared.end);
+    let columns = columns_of(block, shared);
+    let size = parts.set.slice as usize;
+    write_columns(&mut text[start..end], size, block.from, columns);
+}
+
+// Writes the columns of those of a volume's exponents that the block has.
 fn fill_volume(text: &mut [u8], parts: &Parts, volume: &Volume, block: &Block)
     requires parts { HasSlices parts.now }
     requires fits { 68 + parts.now.set.now.slice ≤ usize.MAX }
     requires block { HasColumns parts.now block.now }
-    requires first { block.now.exponents.first ≤ volume.now.first }
-    requires last { volume.now.first + volume.now.count ≤ block.now.exponents.end }
-    requires before { text.old ≡ volume_up_to parts.now block.now.from volume.now }
-    ensures { text.new ≡ volume_up_to parts.now (block.now.from + block.now.len) volume.now }
+    requires exponents { volume.now.first + volume.now.count ≤ 65536 }
+    requires before { text.old
+        ≡ volume_amid parts.now block.now.exponents block.now.from volume.now }
+    ensures { text.new ≡ volume_amid parts.now block.now.exponents
+        (block.now.from + block.now.len) volume.now }
 {
-    fit_id(&parts.set_id);
-    let columns = columns_of(block, volume);
-    let size = parts.set.slice as usize;
-    write_columns(&mut text[parts.index.len()..], size, block.from, columns);
+    let shared = shared_exponents(volume, block.exponents);
+    if shared.first < shared.end {
+        fill_shared(text, parts, volume, block, shared);
+    }
 }
 
 // Writes those of volume `i`.
@@ -159,13 +213,12 @@ fn fill_at(texts: &mut [Vec<u8>], i: usize, parts: &Parts, volume: &Volume, bloc
     requires parts { HasSlices parts.now }
     requires fits { 68 + parts.now.set.now.slice ≤ usize.MAX }
     requires block { HasColumns parts.now block.now }
-    requires first { block.now.exponents.first ≤ volume.now.first }
-    requires last { volume.now.first + volume.now.count ≤ block.now.exponents.end }
+    requires exponents { volume.now.first + volume.now.count ≤ 65536 }
     requires before { list_at (lists_of texts.old) i
-        ≡ volume_up_to parts.now block.now.from volume.now }
+        ≡ volume_amid parts.now block.now.exponents block.now.from volume.now }
     ensures changed { OneChanged (lists_of texts.old) (lists_of texts.new) i }
-    ensures here { list_at (lists_of texts.new) i
-        ≡ volume_up_to parts.now (block.now.from + block.now.len) volume.now }
+    ensures here { list_at (lists_of texts.new) i ≡ volume_amid parts.now block.now.exponents
+        (block.now.from + block.now.len) volume.now }
 {
     fill_volume(texts[i].as_mut_slice(), parts, volume, block);
 }
@@ -175,18 +228,72 @@ fn fill_volumes(texts: &mut [Vec<u8>], parts: &Parts, volumes: &[Volume], block:
     requires parts { HasSlices parts.now }
     requires fits { 68 + parts.now.set.now.slice ≤ usize.MAX }
     requires block { HasColumns parts.now block.now }
-    requires exponents { AreExponents block.now.exponents volumes.now }
+    requires exponents { AllByRecursion
+        (λ volume. volume.first + volume.count ≤ 65536) volumes.now }
     requires before { lists_of texts.old
-        ≡ map (volume_up_to parts.now block.now.from) volumes.now }
-    ensures { lists_of texts.new
-        ≡ map (volume_up_to parts.now (block.now.from + block.now.len)) volumes.now }
+        ≡ map (volume_amid parts.now block.now.exponents block.now.from) volumes.now }
+    ensures { lists_of texts.new ≡ map (volume_amid parts.now block.now.exponents
+        (block.now.from + block.now.len)) volumes.now }
 {
     for i in 0..volumes.len() {
         fill_at(texts, i, parts, &volumes[i], block);
     }
 }
 
-// The bytes of the volumes with all recovery slices, which are made some columns at a time.
+// Writes the recovery slices of these exponents into all volumes, some columns at a time.
+fn fill_group(
+    alloc: Global,
+    gf: &Gf,
+    parts: &Parts,
+    inputs: &[&[u8]],
+    exponents: Exponents,
+    texts: &mut [Vec<u8>],
+    volumes: &[Volume],
+) -> Result<(), AllocError>
+    requires parts { HasSlices parts.now }
+    requires fits { 68 + parts.now.set.now.slice ≤ usize.MAX }
+    requires inputs { ListsInputs parts.now inputs.now }
+    requires group { (exponents.first ≤ exponents.end) × (exponents.end ≤ 65536) }
+    requires volumes { AllByRecursion
+        (λ volume. volume.first + volume.count ≤ 65536) volumes.now }
+    requires before { lists_of texts.old
+        ≡ map (volume_before parts.now exponents.first) volumes.now }
+    ensures { OnOk result
+        (lists_of texts.new ≡ map (volume_before parts.now exponents.end) volumes.now) }
+{
+    let size = parts.set.slice as usize;
+    let count = (exponents.end - exponents.first) as usize;
+    let at_once = columns_at_once(inputs, count, size);
+    let mut from = 0;
+    while from < size {
+        let len = at_once.min(size - from);
+        let block = block_of(alloc, gf, parts, inputs, exponents, from, len)?;
+        fill_volumes(texts, parts, volumes, &block);
+        from += len;
+    }
+    Ok(())
+}
+
+// How much memory columns of recovery slices over these inputs may take.
+fn columns_room(inputs: &[&[u8]]) -> usize {
+    let mut total = 0usize;
+    for input in inputs {
+        total = total.saturating_add(input.len());
+    }
+    (total / 128).saturating_add(COLUMNS)
+}
+
+// Of how many exponents there are columns at a time: of as many as the fewest columns have room for. A power of 2, since
+// so many outputs go through the transform at once.
+fn exponents_at_once(inputs: &[&[u8]]) -> u32
+    ensures { 1 ≤ result }
+{
+    let most = columns_room(inputs) / FEWEST_COLUMNS;
+    (most / 2 + 1).next_power_of_two().clamp(1, 65536) as u32
+}
+
+// The bytes of the volumes with all recovery slices, which are made for some exponents at a time: for all, unless they are
+// very many beside the inputs.
 fn filled(
     alloc: Global,
     gf: &Gf,
@@ -203,16 +310,22 @@ fn filled(
         ≡ map (volume_up_to parts.now parts.now.set.now.slice) volumes.now) }
 {
     let mut texts = blank_volumes(alloc, parts, volumes)?;
-    let exponents = exponents_of(volumes);
-    let size = parts.set.slice as usize;
-    let count = (exponents.end - exponents.first) as usize;
-    let at_once = columns_at_once(inputs, count, size);
-    let mut from = 0;
-    while from < size {
-        let len = at_once.min(size - from);
-        let block = block_of(alloc, gf, parts, inputs, exponents, from, len)?;
-        fill_volumes(texts.as_mut_slice(), parts, volumes, &block);
-        from += len;
+    let all = exponents_of(volumes);
+    let at_once = exponents_at_once(inputs);
+    let mut first = all.first;
+    while first < all.end {
+        let end = first + at_once.min(all.end - first);
+        let group = Exponents { first, end };
+        fill_group(
+            alloc,
+            gf,
+            parts,
+            inputs,
+            group,
+            texts.as_mut_slice(),
+            volumes,
+        )?;
+        first = end;
     }
     Ok(texts)
 }
