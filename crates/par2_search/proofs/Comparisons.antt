@@ -1,9 +1,10 @@
 -- Slices against the pairs of their numbers.
-use Rattle.std.proofs.Common.{◌≡◌, ℕ, zero, suc, ◌+◌, ◌<◌, min, Bool, true, false, ◌&&◌, List, [], ◌∷◌, length, map, take, Decides, refl, sym, ap, subst, ◌∙◌, arith}
+use Rattle.std.proofs.Common.{inl, inr, ◌≡◌, ◌≢◌, ℕ, zero, suc, ◌+◌, ◌*◌, ◌<◌, ◌≤◌, min, Bool, true, false, ◌&&◌, List, [], ◌∷◌, length, map, take, Decides, refl, sym, ap, subst, ◌∙◌, arith}
 use Rattle.std.specs.Prelude.{◌==◌, zip}
 use Rattle.std.specs.List.{list_all, range_with_len}
 use Rattle.std.specs.Str.{bytes_eq}
-use Rattle.std.proofs.lemmas.Bool.{and_parts, eq-eqb, eqb-true, false_from_ne_true, false≢true}
+use Rattle.std.proofs.lemmas.Grind.{div_ceil_times}
+use Rattle.std.proofs.lemmas.Bool.{cases_lt, and_parts, eq-eqb, eqb-true, false_from_ne_true, false≢true}
 use Rattle.std.proofs.lemmas.Bool.Decides.{same_from_decides}
 use Rattle.std.proofs.lemmas.List.{get_or-take, length-take}
 use Rattle.std.proofs.lemmas.Slice.Eq.{bytes_eq-Decides}
@@ -101,3 +102,22 @@ intact_by_md5s s t bytes first digests size is crcs decides =
 pub not_intact_by_crcs : (s : ℕ) (t : Target) (bytes : List ℕ) (first : List Pair) (crcs : Bool) → first ≡ compared s t → Decides crcs (HaveCrc32s s bytes first) → crcs ≡ false → crcs ≡ is_intact s t bytes
 not_intact_by_crcs s t bytes first crcs is decides differ =
     differ ∙ sym (false_from_ne_true _ (λ e. false≢true (sym differ ∙ decides.1 (subst (AreAlike s bytes) (sym is) (alike_from_intact s t bytes e)).crcs)))
+
+pub slices_are_some : (s n : ℕ) → 1 ≤ s → 0 < n → 0 < slice_count s n
+slices_are_some s n size some = elim (cases_lt 0 (slice_count s n)) [
+  | inl low ↦ low
+  | inr none ↦
+      let zero_of_them : slice_count s n ≡ 0 = omega (arith, none) in
+      let fits : n ≤ 0 * s = subst (λ k. n ≤ k * s) zero_of_them (div_ceil_times n s size).0 in
+      absurd (omega (arith, fits, some))
+]
+
+-- where the first one doesn't, they are not either
+pub not_intact_by_first : (s : ℕ) (t : Target) (bytes : List ℕ) → 1 ≤ s → 0 < length bytes → 0 < length t.pairs → crc32 (slice_at s bytes 0) ≢ (pair_at t.pairs 0).1 → is_intact s t bytes ≡ false
+not_intact_by_first s t bytes some_size some pairs differ = false_from_ne_true _ (λ e. differ (first_of e))
+  where
+    first_of : is_intact s t bytes ≡ true → crc32 (slice_at s bytes 0) ≡ (pair_at t.pairs 0).1
+    first_of e =
+        let parts = and_parts (length bytes == t.length) _ e in
+        (parts_of_match (pair_at t.pairs 0) (slice_at s bytes 0)
+        (each_match s bytes t.pairs 0 (slice_count s (length bytes)) parts.1 0 0 (omega arith) pairs (slices_are_some s (length bytes) some_size some))).0

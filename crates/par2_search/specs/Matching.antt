@@ -1,15 +1,27 @@
 -- Matches by the numbers of texts.
-use Rattle.std.specs.Prelude.{◌≡◌, ◌==◌, ℕ, List, [], ◌∷◌, length, map, filter, find, not, slice_index_or, Option, Some, None, option_map}
+use Rattle.std.specs.Prelude.{◌≡◌, ◌==◌, ◌<◌, IfSome, ℕ, List, [], ◌∷◌, length, map, filter, find, not, slice_index_or, Option, Some, None, option_map}
 use Rattle.std.specs.List.{range_with_len, IsDistinct}
 use Rattle.std.specs.Str.{bytes_eq}
+use Rattle.par2_spec.specs.Checksums.{crc32}
 use Rattle.par2_spec.specs.Folders.{Folder, bytes_of}
 use Rattle.par2_spec.specs.Search.{is_intact, matched}
 use Rattle.par2_spec.specs.Sets as sets
+use Rattle.par2_spec.specs.Slices.{slice_at}
 use Rattle.par2_search.specs.declared.matching.Target.{Target}
 
 -- text i of a list, or name i
 abbrev pub text_at : List (List ℕ) → ℕ → List ℕ
 text_at texts i = slice_index_or texts i []
+
+-- the CRC-32 of the first slice of a text that holds bytes
+pub record IsFirst (s : ℕ) (text : List ℕ) (value : ℕ) : Type 0 where
+  pub some : 0 < length text
+  pub crc : value ≡ crc32 (slice_at s text 0)
+
+-- for each text the CRC-32 of its first slice, or nothing
+pub record AreFirst (s : ℕ) (texts : List (List ℕ)) (firsts : List (Option ℕ)) : Type 0 where
+  pub count : length firsts ≡ length texts
+  pub each : (i : ℕ) → i < length texts → IfSome (slice_index_or firsts i None) (IsFirst s (text_at texts i))
 
 -- a target has this length and these pairs
 pub record Describes (target : Target) (t : sets.Target) : Type 0 where

@@ -13,7 +13,7 @@ use par2_slices::{
 };
 
 /// The CRC-32 of slice `j`.
-fn slice_crc32(bytes: &[u8], s: u64, j: u64) -> u32
+pub(crate) fn slice_crc32(bytes: &[u8], s: u64, j: u64) -> u32
     requires size { 1 ≤ s }
     requires place { j < slices.slice_count s (length bytes.now) }
     ensures { result ≡ checksums.crc32 (slices.slice_at s bytes.now j) }

@@ -1,13 +1,14 @@
 //! Which text is a target's match.
 
-ghost use Rattle.std.specs.Prelude.{◌≡◌, ◌≤◌, ◌<◌, ℕ, List, All, IfOk, length};
-ghost use Rattle.std.specs.List.{range_with_len};
+ghost use Rattle.std.specs.Prelude.{◌≡◌, ◌≤◌, ◌<◌, ◌==◌, ℕ, List, All, IfOk, IfSome, length};
+ghost use Rattle.std.specs.List.{list_any, range_with_len};
 ghost use Rattle.par2_spec.specs.Folders.{Folder};
+ghost use Rattle.par2_spec.specs.Search.{is_intact};
 ghost use Rattle.par2_spec.specs.Sets as sets;
-ghost use Rattle.par2_search.specs.Matching.{Describe, Describes, NumbersAreNames, first_intact, matched_numbers, without};
+ghost use Rattle.par2_search.specs.Matching.{AreFirst, Describe, Describes, IsFirst, NumbersAreNames, first_intact, matched_numbers, without};
 ghost use Rattle.par2_search.specs.Texts.{texts_of};
 
-use crate::intact::is_intact;
+use crate::intact::{is_intact, slice_crc32};
 use par2_slices::Pair;
 use std::alloc::{AllocError, Global};
 
@@ -25,15 +26,72 @@ fn numbers_below(alloc: Global, n: usize) -> Result<Vec<usize>, AllocError>
     (0..n).collect(alloc)
 }
 
-/// The first of the free texts, by their numbers, that is intact for the target.
-fn first_intact(texts: &[&[u8]], s: u64, target: &Target, free: &[usize]) -> Option<usize>
+// Whether one of the targets has this length.
+fn has_length(targets: &[Target], length: u64) -> bool
+    ensures { result ≡ list_any (λ target. target.length == length) targets.now }
+{
+    targets.iter().any(|target| target.length == length)
+}
+
+// The CRC-32 of a text's first slice, where a target has the length of the text.
+fn first_crc32(text: &[u8], s: u64, targets: &[Target]) -> Option<u32>
+    requires { 1 ≤ s }
+    ensures { IfSome result (IsFirst s text.now) }
+{
+    if text.is_empty() || !has_length(targets, text.len() as u64) {
+        return None;
+    }
+    Some(slice_crc32(text, s, 0))
+}
+
+/// The CRC-32s of the texts' first slices. A text that has the length of many targets is compared with each, and mostly
+/// the first slice tells that it is another.
+fn first_crc32s(
+    alloc: Global,
+    texts: &[&[u8]],
+    s: u64,
+    targets: &[Target],
+) -> Result<Vec<Option<u32>>, AllocError>
+    requires { 1 ≤ s }
+    ensures { IfOk result (λ firsts. AreFirst s (texts_of texts.now) firsts.items) }
+{
+    let mut firsts = Vec::with_capacity(alloc, texts.len())?;
+    for i in 0..texts.len() {
+        firsts.push(first_crc32(texts[i], s, targets))?;
+    }
+    Ok(firsts)
+}
+
+// Whether the text is intact for the target, by the CRC-32 of its first slice where that is known and another.
+fn is_intact_by(text: &[u8], first: Option<u32>, s: u64, target: &Target) -> bool
     requires size { 1 ≤ s }
+    requires first { IfSome first (IsFirst s text.now) }
+    ensures { (t : sets.Target) → Describes target.now t → result ≡ is_intact s t text.now }
+{
+    if let Some(crc) = first {
+        if !target.pairs.is_empty() && target.pairs[0].1 != crc {
+            return false;
+        }
+    }
+    is_intact(text, s, target.length, target.pairs)
+}
+
+/// The first of the free texts, by their numbers, that is intact for the target.
+fn first_intact(
+    texts: &[&[u8]],
+    firsts: &[Option<u32>],
+    s: u64,
+    target: &Target,
+    free: &[usize],
+) -> Option<usize>
+    requires size { 1 ≤ s }
+    requires firsts { AreFirst s (texts_of texts.now) firsts.now }
     requires free { All (λ i. i < length texts.now) free.now }
     ensures { (t : sets.Target) → Describes target.now t
         → result ≡ first_intact s (texts_of texts.now) t free.now }
 {
     for &i in free {
-        if is_intact(texts[i], s, target.length, target.pairs) {
+        if is_intact_by(texts[i], firsts[i], s, target) {
             return Some(i);
         }
     }
@@ -41,15 +99,22 @@ fn first_intact(texts: &[&[u8]], s: u64, target: &Target, free: &[usize]) -> Opt
 }
 
 /// Takes the first of the free texts that is intact for the target.
-fn take_first(texts: &[&[u8]], s: u64, target: &Target, free: &mut Vec<usize>) -> Option<usize>
+fn take_first(
+    texts: &[&[u8]],
+    firsts: &[Option<u32>],
+    s: u64,
+    target: &Target,
+    free: &mut Vec<usize>,
+) -> Option<usize>
     requires size { 1 ≤ s }
+    requires firsts { AreFirst s (texts_of texts.now) firsts.now }
     requires free { All (λ i. i < length texts.now) free.old.items }
     ensures free { All (λ i. i < length texts.now) free.new.items }
     ensures first { (t : sets.Target) → Describes target.now t
         → result ≡ first_intact s (texts_of texts.now) t free.old.items }
     ensures left { free.new.items ≡ without result free.old.items }
 {
-    let first = first_intact(texts, s, target, free)?;
+    let first = first_intact(texts, firsts, s, target, free)?;
     free.retain(move |&i| i != first);
     Some(first)
 }
@@ -65,10 +130,11 @@ pub fn matched(
     ensures { IfOk result (λ numbers. (ts : List sets.Target) → Describe targets.now ts
         → numbers.items ≡ matched_numbers s (texts_of texts.now) ts) }
 {
+    let firsts = first_crc32s(alloc, texts, s, targets)?;
     let mut free = numbers_below(alloc, texts.len())?;
     let mut numbers = Vec::with_capacity(alloc, targets.len())?;
     for target in targets {
-        numbers.push(take_first(texts, s, target, &mut free))?;
+        numbers.push(take_first(texts, &firsts, s, target, &mut free))?;
     }
     Ok(numbers)
 }

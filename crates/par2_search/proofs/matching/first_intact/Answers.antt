@@ -12,12 +12,12 @@ use Rattle.par2_search.proofs.matching.first_intact.Goals as goal
 at_number : (s : ℕ) (texts : List (Bor (List ℕ))) (t : sets.Target) (i : ℕ) (d : Bor (List ℕ)) (result : Bool) → i < length texts → result ≡ is_intact s t (get_or texts i d).now → is_intact s t (text_at (texts_of texts) i) ≡ result
 at_number s texts t i d result within is = ap (is_intact s t) (get_or-map (λ (text : Bor (List ℕ)). text.now) texts i d [] within) ∙ sym is
 
-pub returns-then-is_intact : goal.returns-then-is_intact
-returns-then-is_intact c t h =
+pub returns-then-is_intact_by : goal.returns-then-is_intact_by
+returns-then-is_intact_by c t h =
     let n : ℕ = c.loop-i.i-index in
     let i : ℕ = get_or c.args.free.now n 0 in
     let within : i < length c.args.texts.now = c.requires.free n 0 c.loop-i-test.true in
-    sym (first_here c.args.s (texts_of c.args.texts.now) t c.args.free.now n c.loop-i-test.true (at_number c.args.s c.args.texts.now t i _ c.is_intact.result within (c.is_intact.ensures t h.length h.pairs) ∙ c.if-is_intact.true))
+    sym (first_here c.args.s (texts_of c.args.texts.now) t c.args.free.now n c.loop-i-test.true (at_number c.args.s c.args.texts.now t i _ c.is_intact_by.result within (c.is_intact_by.ensures t h) ∙ c.if-is_intact_by.true))
     ∙ c.loop-i.invariant t h
 
 pub loop-i-preserved : goal.loop-i-preserved
@@ -25,7 +25,7 @@ loop-i-preserved c t h =
     let n : ℕ = c.loop-i.i-index in
     let i : ℕ = get_or c.args.free.now n 0 in
     let within : i < length c.args.texts.now = c.requires.free n 0 c.loop-i-test.true in
-    first_later c.args.s (texts_of c.args.texts.now) t c.args.free.now n c.loop-i-test.true (at_number c.args.s c.args.texts.now t i _ c.is_intact.result within (c.is_intact.ensures t h.length h.pairs) ∙ c.if-is_intact.false)
+    first_later c.args.s (texts_of c.args.texts.now) t c.args.free.now n c.loop-i-test.true (at_number c.args.s c.args.texts.now t i _ c.is_intact_by.result within (c.is_intact_by.ensures t h) ∙ c.if-is_intact_by.false)
     ∙ c.loop-i.invariant t h
 
 pub returns : goal.returns
