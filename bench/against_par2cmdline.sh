@@ -4,7 +4,8 @@
 # said for the scene.
 # With LARGE=1 there are scenes with 3,277 recovery slices over 32,768 more, which take minutes to make.
 # usage: against_par2cmdline.sh PROGRAM [TABLE]
-#     TABLE is a file that gets a line for each scene too: ratio, ours, theirs, scene
+#     TABLE is a file that gets a line for each scene too: ratio, ours, theirs, scene. SCENES names those to run, of the
+#     functions below; all of them without the word
 set -eu
 program=$1
 table=${2:-}
@@ -119,130 +120,158 @@ for path in glob.glob("set.vol*.par2"):
 END
 }
 
-# folder NAME: an empty one, where what follows goes on.
-folder() {
-    mkdir "$room/$1"
-    cd "$room/$1"
+# overwrite SIZE FIRST STEP LAST: overwrites slices of `data` by zeros: each STEP-th one, from the first number to the last.
+overwrite() {
+    for slice in $(seq "$2" "$3" "$4"); do
+        dd if=/dev/zero of=data bs="$1" seek="$slice" count=1 conv=notrunc status=none
+    done
 }
 
-printf '%-66s %6s     %6s     %s\n' "" ours theirs ratio
-folder one
-head -c 67108864 /dev/urandom > data
-create "64 MiB in one file, 100 slices of 64 KiB" 65536 100 data
-verify "an intact file of 64 MiB, slices of 64 KiB" 0 0
-cp data "$room/whole"
-for slice in $(seq 0 20 999); do
-    dd if=/dev/zero of=data bs=65536 seek="$slice" count=1 conv=notrunc status=none
-done
-verify "the same with 50 slices overwritten" 1 1
-keep
-repair "50 of 1,024 slices lost" data
-# What a scene's repairs have put aside is no part of the next one's folder.
-rm -f data*
-cp "$room/whole" moved
-keep
-repair "a file of 64 MiB renamed" moved
-rm -f moved data*
-{
-    printf 'x'
-    cat "$room/whole"
-} > data
-verify "the same with one byte inserted at the front" 1 1
-keep
-repair "one byte inserted at the front of 64 MiB" data
-cd "$room"
-rm -rf one whole
+# insert FILE: a byte at the front of a file.
+insert() {
+    {
+        printf 'x'
+        cat "$1"
+    } > "$room/longer"
+    mv "$room/longer" "$1"
+}
 
-folder middle
-head -c 67108864 /dev/urandom > data
-rounds=1
-create "64 MiB in one file, 410 slices of 16 KiB" 16384 410 data
-rounds=3
-cd "$room"
-rm -rf middle
+# A large file in few large slices: intact, damaged, renamed, and moved by a byte.
+one() {
+    head -c 67108864 /dev/urandom > data
+    create "64 MiB in one file, 100 slices of 64 KiB" 65536 100 data
+    verify "an intact file of 64 MiB, slices of 64 KiB" 0 0
+    cp data "$room/whole"
+    overwrite 65536 0 20 999
+    verify "the same with 50 slices overwritten" 1 1
+    keep
+    repair "50 of 1,024 slices lost" data
+    # What a scene's repairs have put aside is no part of the next one's folder.
+    rm -f data*
+    cp "$room/whole" moved
+    keep
+    repair "a file of 64 MiB renamed" moved
+    rm -f moved data*
+    cp "$room/whole" data
+    insert data
+    verify "the same with one byte inserted at the front" 1 1
+    keep
+    repair "one byte inserted at the front of 64 MiB" data
+}
 
-folder small
-head -c 16777216 /dev/urandom > data
-create "16 MiB in one file, 400 slices of 4 KiB" 4096 400 data
-for slice in $(seq 0 13 3890); do
-    dd if=/dev/zero of=data bs=4096 seek="$slice" count=1 conv=notrunc status=none
-done
-keep
-repair "300 of 4,096 slices lost" data
-rm -f data*
-lost "the file of 4,096 slices is gone, 400 recovery slices"
-cd "$room"
-rm -rf small
+middle() {
+    head -c 67108864 /dev/urandom > data
+    rounds=1
+    create "64 MiB in one file, 410 slices of 16 KiB" 16384 410 data
+}
 
-folder short
-head -c 8388608 /dev/urandom > data
-made 512 50 data
-lost "the file of 16,384 slices of 512 bytes is gone, 50 recovery slices"
-cd "$room"
-rm -rf short
+small() {
+    head -c 16777216 /dev/urandom > data
+    create "16 MiB in one file, 400 slices of 4 KiB" 4096 400 data
+    overwrite 4096 0 13 3890
+    keep
+    repair "300 of 4,096 slices lost" data
+    rm -f data*
+    lost "the file of 4,096 slices is gone, 400 recovery slices"
+}
+
+# A file in very many short slices: damaged, moved by a byte, and gone.
+short() {
+    head -c 8388608 /dev/urandom > data
+    "$program" create -s512 -c50 set.par2 data > "$room/said"
+    cp data "$room/whole"
+    overwrite 512 100 600 14500
+    rm -f .par2undo
+    verify "8 MiB in slices of 512, 25 lost" 1 1
+    cp "$room/whole" data
+    insert data
+    keep
+    repair "8 MiB in slices of 512, a byte inserted" data
+    rm -f data*
+    lost "the file of 16,384 slices of 512 bytes is gone, 50 recovery slices"
+}
 
 # Exponents in many short runs are what the rank costs most by.
-folder runs
-head -c 131072 /dev/urandom > data
-made 4 256 data
-keep
-thinned "e % 2 == 0"
-lost "the file of 32,768 slices is gone, each second of 256 exponents"
-restore
-thinned "e % 3 != 2"
-lost "the same with pairs of exponents"
-cd "$room"
-rm -rf runs
+runs() {
+    head -c 131072 /dev/urandom > data
+    made 4 256 data
+    keep
+    thinned "e % 2 == 0"
+    lost "the file of 32,768 slices is gone, each second of 256 exponents"
+    restore
+    thinned "e % 3 != 2"
+    lost "the same with pairs of exponents"
+}
 
-folder many
-for file in $(seq -w 200); do
-    head -c 327680 /dev/urandom > "data$file"
-done
-create "200 files of 320 KiB, 200 slices of 16 KiB" 16384 200 data*
-verify "200 intact files of 320 KiB, slices of 16 KiB" 0 0
-for file in $(seq -w 1 2 200); do
-    dd if=/dev/zero of="data$file" bs=16384 seek=3 count=1 conv=notrunc status=none
-done
-keep
-repair "100 of 200 files damaged" data*
-cd "$room"
-rm -rf many
+many() {
+    for file in $(seq -w 200); do
+        head -c 327680 /dev/urandom > "data$file"
+    done
+    create "200 files of 320 KiB, 200 slices of 16 KiB" 16384 200 data*
+    verify "200 intact files of 320 KiB, slices of 16 KiB" 0 0
+    for file in $(seq -w 1 2 200); do
+        dd if=/dev/zero of="data$file" bs=16384 seek=3 count=1 conv=notrunc status=none
+    done
+    rm -f .par2undo
+    verify "200 files of 320 KiB, 100 damaged" 1 1
+    keep
+    repair "100 of 200 files damaged" data*
+}
 
-folder zeros
-head -c 8388608 /dev/zero > data
-create "8 MiB of zeros, 100 slices of 512" 512 100 data
-verify "8 MiB of zeros, slices of 512" 0 0
-cd "$room"
-rm -rf zeros
+# As many changes as the journal digests a folder after.
+shifted() {
+    for file in $(seq -w 200); do
+        head -c 327680 /dev/urandom > "data$file"
+    done
+    "$program" create -s16384 -c210 set.par2 data* > "$room/said"
+    for file in data*; do
+        insert "$file"
+    done
+    keep
+    rounds=1
+    repair "200 files of 320 KiB, a byte inserted in each" data*
+}
 
-folder little
-head -c 4194304 /dev/zero > data
-create "4 MiB of zeros, 20 slices of 4 KiB" 4096 20 data
-cd "$room"
-rm -rf little
+zeros() {
+    head -c 8388608 /dev/zero > data
+    create "8 MiB of zeros, 100 slices of 512" 512 100 data
+    verify "8 MiB of zeros, slices of 512" 0 0
+}
 
-[ -n "${LARGE:-}" ] || exit 0
-folder large
-head -c 134217728 /dev/urandom > data
-cp data "$room/whole"
-rounds=1
-create "128 MiB in one file, 3,277 slices of 4 KiB" 4096 3277 data
-rm -f .par2undo data
-lost "the file of 32,768 slices is gone, 3,277 recovery slices"
-keep
-rm set.vol01023+*
-lost "the same with a volume in the middle gone too"
-restore
-cp "$room/whole" data
-for slice in $(seq 0 32 31968); do
-    dd if=/dev/zero of=data bs=4096 seek="$slice" count=1 conv=notrunc status=none
+little() {
+    head -c 4194304 /dev/zero > data
+    create "4 MiB of zeros, 20 slices of 4 KiB" 4096 20 data
+}
+
+large() {
+    head -c 134217728 /dev/urandom > data
+    cp data "$room/whole"
+    rounds=1
+    create "128 MiB in one file, 3,277 slices of 4 KiB" 4096 3277 data
+    rm -f .par2undo data
+    lost "the file of 32,768 slices is gone, 3,277 recovery slices"
+    keep
+    rm set.vol01023+*
+    lost "the same with a volume in the middle gone too"
+    restore
+    cp "$room/whole" data
+    overwrite 4096 0 32 31968
+    keep
+    rounds=1
+    repair "1,000 of 32,768 slices lost" data
+    restore
+    overwrite 4096 0 10 32767
+    keep
+    repair "3,277 of 32,768 slices lost" data
+}
+
+scenes="one middle small short runs many shifted zeros little${LARGE:+ large}"
+printf '%-66s %6s     %6s     %s\n' "" ours theirs ratio
+for scene in ${SCENES:-$scenes}; do
+    mkdir "$room/here"
+    cd "$room/here"
+    rounds=3
+    "$scene"
+    cd "$room"
+    rm -rf here kept whole
 done
-keep
-rounds=1
-repair "1,000 of 32,768 slices lost" data
-restore
-for slice in $(seq 0 10 32767); do
-    dd if=/dev/zero of=data bs=4096 seek="$slice" count=1 conv=notrunc status=none
-done
-keep
-repair "3,277 of 32,768 slices lost" data

@@ -1,7 +1,8 @@
 #!/bin/sh
 # How the time of create, verify and repair grows with the set, beside par2cmdline on one thread (-t1 -T1): slices of 4 KiB
 # in one file, and recovery slices for a sixteenth of them. The repair is of as many lost slices. A line has the least
-# milliseconds of three runs of each, of the largest sets of one. With LARGE=1 there is one size more.
+# milliseconds of three runs of each, of the largest sets of one. With LARGE=1 there is one size more. After that, our
+# create alone up to the largest sets: twice the slices with twice the recovery slices, the least of three runs.
 # usage: growth.sh PROGRAM [TABLE]     TABLE is a file that gets the numbers too
 set -eu
 program=$1
@@ -60,3 +61,27 @@ scene 2048 3
 scene 4096 3
 scene 6144 1
 [ -z "${LARGE:-}" ] || scene 8192 1
+
+# alone SLICES COUNT: our create, and how many times that of half the slices and recovery slices it takes.
+alone() {
+    mkdir "$room/here"
+    cd "$room/here"
+    head -c $(($1 * size)) /dev/urandom > data
+    for round in 1 2 3; do
+        rm -f set.*par2 .par2undo
+        timed alone 0 "$program" create "-s$size" "-c$2" set.par2 data
+    done
+    took=$(least alone)
+    printf '%8s %8s %9s %9s\n' "$1" "$2" "$took" "$(awk "BEGIN { printf \"%.2f\", $took / ${before:-$took} }")"
+    before=$took
+    cd "$room"
+    rm -rf here alone
+}
+
+printf '%8s %8s %9s %9s\n' slices recovery "create" "times"
+alone 1024 100
+alone 2048 200
+alone 4096 400
+alone 8192 800
+alone 16384 1600
+alone 32768 3200

@@ -116,6 +116,11 @@ table ratios "$(printf 'ratio\tours (ms)\ttheirs (ms)\tscene')" sh bench/against
     grep '^#' "$folder/ratios.txt"
     grep -v '^#' "$folder/ratios.txt" | LC_ALL=C sort -s -t "$(printf '\t')" -k 4.1,4.1
 } > docs/ratios.txt
+if [ "$cpu" = x86-64-v2 ] && grep -q -w avx2 /proc/cpuinfo; then
+    echo "== those that digests and the search bound, for x86-64-v3"
+    wide=$top/$(cpu=x86-64-v3 built par2)
+    SCENES="one short many shifted" sh bench/against_par2cmdline.sh "$wide"
+fi
 echo "== how the time grows with the set, in ms; the repair gives as many slices back as there are recovery slices"
 table growth "$(printf 'slices\trecovery slices\tcreate: ours\ttheirs\tverify: ours\ttheirs\trepair: ours\ttheirs (ms)')" \
     sh bench/growth.sh "$program"

@@ -87,6 +87,7 @@ damage() {
     removed) rm "$file" ;;
     parfile) printf 'no set' | dd of="$(ls set.vol* | head -n 1)" bs=1 seek=100 conv=notrunc status=none ;;
     volume) mv "$(ls set.vol* | head -n 1)" "another name.par2" ;;
+    gap) rm "$file" set.vol*63+* && dd if=/dev/zero of=bulk bs="$2" count=70 conv=notrunc status=none ;;
     index) for volume in set.vol*; do cp "$volume" set.par2 && rm "$volume" && break; done ;;
     esac
 }
@@ -178,6 +179,8 @@ kinds="overwritten removed"
 large 64 600 60 0
 large 32 1500 150 7
 large 16 3000 45 20000
+# 110 lost slices, for which two runs of exponents are kept.
+kinds="overwritten removed gap"
 large 16 5000 500 0
 cd "$room"
 echo "sets exchanged with par2cmdline: $exchanged folders, each repaired by the other program"

@@ -1,7 +1,7 @@
 //! Messages that begin alike, states side by side, and the hasher of one message.
 
 use md5::{Digest, Md5};
-use par2_digests::{Message, Midstate, Part, Pending, absorb_each};
+use par2_digests::{Midstate, Part, Pending, absorb_each, digest_each};
 use std::process::Abort;
 
 // About the edges of a block and of the padding.
@@ -21,20 +21,19 @@ fn piece(text: &[u8], at: usize, turn: usize) -> &[u8] {
     &rest[..SIZES[turn % 12].min(rest.len())]
 }
 
-// Message k: a length, bytes and other bytes, or none, of many sizes.
-fn message<'a>(
-    rt: &(impl Abort + AllocGlobal),
-    text: &'a [u8],
-    turn: usize,
-    k: usize,
-) -> Message<'a> {
-    let parts = vec![in rt.alloc();
+// The parts of message k: a length, bytes and other bytes, or none, of many sizes.
+fn parts(text: &[u8], turn: usize, k: usize) -> [Part<'_>; 3] {
+    [
         Part::Length(k as u64),
         Part::Bytes(piece(text, k, turn.wrapping_add(k.wrapping_mul(5)))),
         Part::Bytes(piece(text, 300, turn.wrapping_mul(k))),
     ]
-    .expect(rt, "memory");
-    Message { parts }
+}
+
+fn state_after(bytes: &[u8]) -> Midstate {
+    let mut state = Midstate::new();
+    state.absorb(&[Part::Bytes(bytes)]);
+    state
 }
 
 // The digest of message k between other bytes.
@@ -63,12 +62,13 @@ fn messages<'a>(
     text: &'a [u8],
     turn: usize,
     count: usize,
-) -> Vec<Message<'a>> {
+) -> Vec<Pending<'a>> {
+    let state = state_after(piece(text, 500, turn));
     let mut messages = Vec::new(rt.alloc());
     for k in 0..count {
-        messages
-            .push(message(rt, text, turn, k))
-            .expect(rt, "memory");
+        let parts = parts(text, turn, k);
+        let message = Pending::padded(rt.alloc(), state, &parts).expect(rt, "memory");
+        messages.push(message).expect(rt, "memory");
     }
     messages
 }
@@ -76,12 +76,10 @@ fn messages<'a>(
 // Whether so many messages after one piece have the digests of the hasher.
 fn are_digested(rt: &(impl Abort + AllocGlobal), text: &[u8], turn: usize, count: usize) -> bool {
     let messages = messages(rt, text, turn, count);
-    let mut state = Midstate::new();
-    state.absorb(&[Part::Bytes(piece(text, 500, turn))]);
     if messages.len() > 8 {
         return false;
     }
-    are_of_messages(&state.digests(messages.as_slice()), text, turn, count)
+    are_of_messages(&digest_each(messages.as_slice()), text, turn, count)
 }
 
 fn are_of_messages(digests: &[[u8; 16]; 8], text: &[u8], turn: usize, count: usize) -> bool {
@@ -100,11 +98,9 @@ fn pending<'a>(
     turn: usize,
     k: usize,
 ) -> Pending<'a> {
-    let mut state = Midstate::new();
-    state.absorb(&[Part::Bytes(piece(text, 500, turn.wrapping_add(k)))]);
     Pending {
-        state,
-        parts: message(rt, text, turn, k).parts,
+        state: state_after(piece(text, 500, turn.wrapping_add(k))),
+        parts: Vec::from_slice(rt.alloc(), &parts(text, turn, k)).expect(rt, "memory"),
     }
 }
 

@@ -2,7 +2,7 @@
 use Rattle.std.proofs.Common.{◌≡◌, ℕ, suc, ◌+◌, ◌-◌, ◌^◌, ◌<◌, ◌≤◌, length, List, [], ◌∷◌, ◌++◌, map, take, refl, sym, ap, ◌∙◌, ◌⊎◌, Bool, true, false, not, cond, ◌||◌, arith, inl, inr, IsTrue, Ok, Err, Result}
 use Rattle.std.specs.Prelude.{find, get_or, IfErr, IfOk, IsErrAnd, IsOk, nat_lt, Option, Some, None, unwrap_or}
 use Rattle.std.specs.List.{AllByRecursion, list_all, list_any, range_with_len}
-use Rattle.std.proofs.lemmas.Bool.{and_from, and_parts, cases_lt, false_from_ne_true, false≢true, leb-true, lt-ltb, ltb-true, or_from}
+use Rattle.std.proofs.lemmas.Bool.{and_from, cases_lt, false_from_ne_true, false≢true, leb-true, lt-ltb, ltb-true}
 use Rattle.std.proofs.lemmas.List.{map_more}
 use Rattle.std.proofs.lemmas.List.Folds.{list_all-append, list_any_at, list_any_more}
 use Rattle.std.proofs.lemmas.Result.{err_from_is_err_and}
@@ -15,7 +15,6 @@ use Rattle.par2_spec.specs.Repairs.{aside, taken_for}
 use Rattle.par2_spec.specs.Sets.{IsSound, target_names, ParSet}
 use Rattle.par2_spec.proofs.AsideNames.{numbered_is_name}
 use Rattle.par2_spec.proofs.NameTests.{name_is_short}
-use Rattle.par2_spec.proofs.NamesLaws.{clash, other_name}
 use Rattle.par2_spec.proofs.TestLaws.{err_again, where_none}
 use Rattle.par2_asides.specs.Asides.{long_aside}
 

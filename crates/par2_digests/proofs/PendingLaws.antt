@@ -1,8 +1,12 @@
--- Hash values as bytes, read back word by word, and states after their parts.
-use Rattle.std.proofs.Common.{◌≡◌, ℕ, zero, suc, ◌+◌, ◌<◌, ◌≤◌, ◌^◌, List, [], ◌∷◌, take, drop, slice_index, sym, ap, ◌∙◌, arith}
+-- Hash values as bytes, read back word by word, and padded messages one after the other.
+use Rattle.std.proofs.Common.{◌≡◌, ℕ, zero, suc, ◌+◌, ◌<◌, ◌≤◌, ◌^◌, List, [], ◌∷◌, ◌++◌, get_or, length, take, drop, slice_index, inl, inr, subst, sym, ap, ◌∙◌, arith}
+use Rattle.std.proofs.lemmas.Bool.{cases_lt}
+use Rattle.std.proofs.lemmas.List.{get_or_append_left, get_or_push, length_push}
 use Rattle.std.proofs.lemmas.Nat.{from_le_bytes-to_le_bytes_4}
 use Rattle.md5.specs.Md5.{compress, digest_bytes, hash_after, word_at}
 use Rattle.par2_digests.specs.Lanes.{four_words_at}
+use Rattle.par2_digests.specs.Pendings.{ArePadded, IsPadded}
+use Rattle.par2_digests.specs.declared.pending.Pending.{Pending}
 use Rattle.par2_digests.proofs.BlockLaws.{word_in_text}
 use Rattle.par2_digests.proofs.FeedLaws.{four_words}
 
@@ -48,3 +52,16 @@ hash_in_text text hash p words at n here is words_are =
     ∷ (place (at + 0 + 8) 8 (omega arith) ∙ read 8 (omega arith) ∙ third_word hash fit) k
     ∷ (place (at + 0 + 12) 12 (omega arith) ∙ read 12 (omega arith) ∙ fourth_word hash fit) k ∷ [])
     ∙ four_words hash p n is
+
+-- a padded message more after others
+pub padded_more : (pendings new : List Pending) (pending : Pending) (text : ℕ → List ℕ) → new ≡ pendings ++ pending ∷ [] → ArePadded pendings text
+    → IsPadded pending (text (length pendings)) → ArePadded new text
+padded_more pendings new pending text pushed before its = λ k none low.
+    let here = λ (one : Pending) (is : get_or new k none ≡ one) (held : IsPadded one (text k)). subst (λ (p : Pending). IsPadded p (text k)) (sym is) held in
+    let there = ap (λ (all : List Pending). get_or all k none) pushed in
+    elim (cases_lt k (length pendings)) [
+      | inl early ↦ here (get_or pendings k none) (there ∙ get_or_append_left pendings (pending ∷ []) none k early) (before k none early)
+      | inr late ↦
+          let place : length pendings ≡ k = omega (arith, late, low, ap length pushed, length_push pendings pending) in
+          here pending (there ∙ get_or_push pendings pending none k place) (subst (λ (i : ℕ). IsPadded pending (text i)) place its)
+    ]

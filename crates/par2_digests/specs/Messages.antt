@@ -1,10 +1,9 @@
 -- Messages by their parts.
-use Rattle.std.specs.Prelude.{◌≡◌, ◌%◌, ◌^◌, ℕ, List, [], length, flat_map, map, slice_index_or}
+use Rattle.std.specs.Prelude.{◌≡◌, ◌%◌, ◌^◌, ℕ, List, length, flat_map}
 use Rattle.std.specs.Int.{w64, to_le_bytes}
 use Rattle.md5.specs.Md5.{IsAbsorbed}
 use Rattle.par2_digests.specs.declared.midstate.Part.{Part}
 use Rattle.par2_digests.specs.declared.midstate.Part.TheVariants as parts
-use Rattle.par2_digests.specs.declared.midstate.Message.{Message}
 use Rattle.par2_digests.specs.declared.midstate.Midstate.{Midstate}
 
 -- the bytes of a part
@@ -15,10 +14,6 @@ part_bytes (parts.Bytes bytes) = bytes.now
 -- the bytes of some parts, one after the other
 abbrev pub message_of : List Part → List ℕ
 message_of parts = flat_map part_bytes parts
-
--- message k of a list
-abbrev pub message_at : List Message → ℕ → List ℕ
-message_at messages k = slice_index_or (map (λ message. message_of message.parts.items) messages) k []
 
 -- the state has absorbed these bytes
 abbrev pub HasAbsorbed : Midstate → List ℕ → Type 0

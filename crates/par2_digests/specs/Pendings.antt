@@ -1,7 +1,8 @@
 -- States with parts that they absorb next.
-use Rattle.std.specs.Prelude.{◌≡◌, ℕ, ◌%◌, List, ◌++◌, None, take}
+use Rattle.std.specs.Prelude.{◌≡◌, ◌<◌, ℕ, ◌%◌, List, ◌++◌, None, length, slice_index_or, take}
+use Rattle.md5.specs.Md5.{padded_message}
 use Rattle.par2_digests.specs.Feeds.{bytes_left}
-use Rattle.par2_digests.specs.Messages.{message_of}
+use Rattle.par2_digests.specs.Messages.{HasAbsorbed, message_of}
 use Rattle.par2_digests.specs.declared.pending.Pending.{Pending}
 use Rattle.par2_digests.specs.declared.tasks.Task.{Task}
 
@@ -12,3 +13,15 @@ bytes_to_absorb pending = take (pending.state.length % 64) pending.state.rest ++
 -- the task is to take what the state absorbs next
 abbrev pub IsBegun : Pending → Task → Type 0
 IsBegun pending task = (task.hash ≡ None) × (bytes_left task.feed ≡ bytes_to_absorb pending)
+
+-- after its parts the state has absorbed the text
+abbrev pub Reaches : Pending → List ℕ → Type 0
+Reaches pending text = (m : List ℕ) × (HasAbsorbed pending.state m × (m ++ message_of pending.parts.items ≡ text))
+
+-- after its parts the state has absorbed the text and its padding
+abbrev pub IsPadded : Pending → List ℕ → Type 0
+IsPadded pending text = Reaches pending (padded_message text)
+
+-- each has the text of its place, and its padding
+abbrev pub ArePadded : List Pending → (ℕ → List ℕ) → Type 0
+ArePadded pendings text = (k : ℕ) (none : Pending) → k < length pendings → IsPadded (slice_index_or pendings k none) (text k)

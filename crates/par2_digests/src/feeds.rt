@@ -2,7 +2,7 @@
 
 ghost use Rattle.std.specs.Prelude.{true, false, ◌≡◌, ◌≤◌, ◌<◌, ◌+◌, ◌-◌, ◌*◌, ◌^◌, ◌++◌, [], ℕ, length, take, drop, min};
 ghost use Rattle.par2_digests.specs.Feeds.{bytes_left};
-ghost use Rattle.par2_digests.specs.Messages.{part_bytes};
+ghost use Rattle.par2_digests.specs.Messages.{message_of, part_bytes};
 
 use crate::midstate::Part;
 use std::convert::AsSlice;
@@ -10,12 +10,11 @@ use std::convert::AsSlice;
 /// What is left of some parts.
 #[derive(Clone, Copy, Drop)]
 pub(crate) struct Feed<'a> {
-    pub(crate) part: Part<'a>,
+    part: Part<'a>,
     // How many bytes of the part are taken.
-    pub(crate) at: usize,
-    pub(crate) parts: &'a [Part<'a>],
-    // The parts after those.
-    pub(crate) ending: &'a [Part<'a>],
+    at: usize,
+    // The parts after it.
+    parts: &'a [Part<'a>],
 }
 
 fn behind(bytes: &[u8], at: usize) -> &[u8]
@@ -38,6 +37,17 @@ fn copy_into(block: &mut [u8], from: usize, bytes: &[u8]) -> usize
 }
 
 impl<'a> Feed<'a> {
+    /// The bytes, and the parts after them.
+    pub(crate) fn new(bytes: &'a [u8], parts: &'a [Part<'a>]) -> Feed<'a>
+        ensures { bytes_left result ≡ bytes.now ++ message_of parts.now }
+    {
+        Feed {
+            part: Part::Bytes(bytes),
+            at: 0,
+            parts,
+        }
+    }
+
     // Copies as much of the part at hand as the block has room for.
     fn copy_part(&mut self, block: &mut [u8], from: usize) -> usize
         requires { from ≤ length block.old }
@@ -48,8 +58,7 @@ impl<'a> Feed<'a> {
         ensures rest { bytes_left self.new ≡ drop result (bytes_left self.old) }
         ensures part { drop self.new.at (part_bytes self.new.part)
             ≡ drop result (drop self.old.at (part_bytes self.old.part)) }
-        ensures parts { length self.new.parts.now + length self.new.ending.now
-            ≡ length self.old.parts.now + length self.old.ending.now }
+        ensures parts { length self.new.parts.now ≡ length self.old.parts.now }
     {
         let count = match self.part {
             Part::Length(length) => copy_into(block, from, behind(&length.to_le_bytes(), self.at)),
@@ -64,13 +73,8 @@ impl<'a> Feed<'a> {
         requires { drop self.old.at (part_bytes self.old.part) ≡ [] }
         ensures same { bytes_left self.new ≡ bytes_left self.old }
         ensures end { result ≡ false → bytes_left self.old ≡ [] }
-        ensures fewer { result ≡ true → length self.new.parts.now + length self.new.ending.now
-            < length self.old.parts.now + length self.old.ending.now }
+        ensures fewer { result ≡ true → length self.new.parts.now < length self.old.parts.now }
     {
-        if self.parts.is_empty() {
-            self.parts = self.ending;
-            self.ending = &[];
-        }
         let [first, others @ ..] = self.parts else {
             return false;
         };

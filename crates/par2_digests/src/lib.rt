@@ -22,9 +22,9 @@ mod words;
 
 use blocks::absorbed;
 use lanes::Lanes;
-pub use midstate::{Message, Midstate, Part};
+pub use midstate::{Midstate, Part};
 use padding::{tail_blocks, tails_of_windows};
-pub use pending::{Pending, absorb_each};
+pub use pending::{Pending, absorb_each, digest_each};
 use std::simd::prelude::*;
 use steps::{State, in_each_lane};
 pub use texts::text_digests;

@@ -1,20 +1,23 @@
-//! States that absorb parts of their own, side by side.
+//! States that absorb parts of their own, side by side; where these end with the padding, their digests.
 
-ghost use Rattle.std.specs.Prelude.{◌≡◌, ◌≤◌, ◌<◌, ◌++◌, None, ℕ, List, length, get_or};
+ghost use Rattle.std.specs.Prelude.{◌≡◌, ◌≤◌, ◌<◌, ◌++◌, None, ℕ, List, length, get_or, IfOk};
+ghost use Rattle.md5.specs.Md5.{digest_bytes, md5};
+ghost use Rattle.par2_digests.specs.Digests.{digest_at};
 ghost use Rattle.par2_digests.specs.Feeds.{bytes_left};
 ghost use Rattle.par2_digests.specs.Lanes.{lane};
 ghost use Rattle.par2_digests.specs.Messages.{HasAbsorbed, message_of};
-ghost use Rattle.par2_digests.specs.Pendings.{bytes_to_absorb, IsBegun};
+ghost use Rattle.par2_digests.specs.Pendings.{bytes_to_absorb, ArePadded, IsBegun, IsPadded};
 ghost use Rattle.par2_digests.specs.Tasks.{HasTaken};
 ghost use Rattle.par2_digests.specs.declared.midstate.Midstate.{Midstate};
 ghost use Rattle.par2_digests.specs.declared.pending.Pending.{Pending};
 
 use crate::feeds::Feed;
 use crate::lanes::Lanes;
-use crate::midstate::{Midstate, Part, length_of};
+use crate::midstate::{Midstate, Part, ending, length_of};
 use crate::steps::{State, Words};
 use crate::tasks::{Task, finish_all};
 use crate::{LANES, digest_of};
+use std::alloc::{AllocError, Global};
 use std::simd::prelude::*;
 
 /// A state, and the parts that it absorbs next.
@@ -22,6 +25,24 @@ use std::simd::prelude::*;
 pub struct Pending<'a> {
     pub state: Midstate,
     pub parts: Vec<Part<'a>>,
+}
+
+impl<'a> Pending<'a> {
+    /// The state with the parts and the padding of the whole message, so that [`digest_each`] finds its digest.
+    pub fn padded(
+        alloc: Global,
+        state: Midstate,
+        parts: &[Part<'a>],
+    ) -> Result<Pending<'a>, AllocError>
+        ensures { (m : List ℕ) → HasAbsorbed state m
+            → IfOk result (λ pending. IsPadded pending (m ++ message_of parts.now)) }
+    {
+        let length = state.length.wrapping_add(length_of(parts));
+        let mut all = Vec::with_capacity(alloc, parts.len() + 2)?;
+        all.extend_from_slice(parts)?;
+        all.extend_from_slice(&ending(length))?;
+        Ok(Pending { state, parts: all })
+    }
 }
 
 // The room for a hash value.
@@ -58,14 +79,11 @@ fn task_of<'a>(pending: &'a Pending<'a>) -> Task<'a>
     ensures bytes { bytes_left result.feed ≡ bytes_to_absorb pending.now }
 {
     let state = &pending.state;
-    let feed = Feed {
-        part: Part::Bytes(&state.rest[..(state.length % 64) as usize]),
-        at: 0,
-        parts: pending.parts.as_slice(),
-        ending: &[],
-    };
     Task {
-        feed,
+        feed: Feed::new(
+            &state.rest[..(state.length % 64) as usize],
+            pending.parts.as_slice(),
+        ),
         hash: None,
         rest: [0; 64],
     }
@@ -80,14 +98,8 @@ fn task<'a>(pendings: &'a [Pending<'a>], k: usize) -> Task<'a>
     if k < pendings.len() {
         return task_of(&pendings[k]);
     }
-    let feed = Feed {
-        part: Part::Length(0),
-        at: 0,
-        parts: &[],
-        ending: &[],
-    };
     Task {
-        feed,
+        feed: Feed::new(&[], &[]),
         hash: None,
         rest: [0; 64],
     }
@@ -164,4 +176,25 @@ pub fn absorb_each(pendings: &[Pending]) -> [Midstate; LANES]
     } else {
         states_behind(&mut [u32x8::splat(0); 16], all)
     }
+}
+
+// The hash values as digests, low byte first.
+fn hash_bytes(states: &[Midstate; LANES]) -> [[u8; 16]; LANES]
+    ensures { (k : ℕ) (none : Midstate) → k < 8
+        → digest_at result k ≡ digest_bytes (get_or states.now k none).hash 4 }
+{
+    let mut digests = [[0; 16]; LANES];
+    for (k, state) in states.iter().enumerate() {
+        digests[k] = digest_of(state.hash);
+    }
+    digests
+}
+
+/// The MD5 digests of padded messages; eight at most.
+pub fn digest_each(pendings: &[Pending]) -> [[u8; 16]; LANES]
+    requires few { length pendings.now ≤ 8 }
+    ensures { (text : ℕ → List ℕ) → ArePadded pendings.now text
+        → (k : ℕ) → k < length pendings.now → digest_at result k ≡ md5 (text k) }
+{
+    hash_bytes(&absorb_each(pendings))
 }

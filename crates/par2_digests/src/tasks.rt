@@ -1,10 +1,8 @@
-//! Messages on their way to their digests, side by side.
+//! Messages on their way to their last hash values, side by side.
 
-ghost use Rattle.std.specs.Prelude.{◌≡◌, ◌≤◌, ◌<◌, ◌*◌, ◌-◌, ℕ, List, IsTrue, Some, length, take, drop, get_or};
+ghost use Rattle.std.specs.Prelude.{◌≡◌, ◌≤◌, ◌<◌, ◌*◌, ◌-◌, ℕ, List, IsTrue, length, take, drop, get_or};
 ghost use Rattle.std.specs.List.{list_any};
 ghost use Rattle.std.specs.Option.{is_none};
-ghost use Rattle.md5.specs.Md5.{digest_bytes};
-ghost use Rattle.par2_digests.specs.Digests.{digest_at};
 ghost use Rattle.par2_digests.specs.Feeds.{hash_behind};
 ghost use Rattle.par2_digests.specs.Lanes.{lane};
 ghost use Rattle.par2_digests.specs.Tasks.{HasBlocks, HasEnded, LeadOn, LeadsTo, work, works};
@@ -12,7 +10,6 @@ ghost use Rattle.par2_digests.specs.declared.tasks.Task.{Task};
 
 use crate::alone::hashed;
 use crate::blocks::absorbed;
-use crate::digest_of;
 use crate::feeds::Feed;
 use crate::lanes::Lanes;
 use crate::steps::{State, Words};
@@ -228,18 +225,4 @@ pub(crate) fn finish_all<V: Lanes>(
     for k in 0..count {
         state = finish(tasks, state, words, count, k);
     }
-}
-
-/// The digests of messages that are whole blocks.
-pub(crate) fn read_digests(tasks: &[Task; 8]) -> [[u8; 16]; 8]
-    ensures { (k : ℕ) (none : Task) (hash : List ℕ) → k < 8
-        → (get_or tasks.now k none).hash ≡ Some hash → digest_at result k ≡ digest_bytes hash 4 }
-{
-    let mut digests = [[0; 16]; 8];
-    for (k, task) in tasks.iter().enumerate() {
-        if let Some(hash) = task.hash {
-            digests[k] = digest_of(hash);
-        }
-    }
-    digests
 }

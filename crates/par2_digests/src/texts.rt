@@ -1,27 +1,23 @@
 //! Texts, as many as there are, eight side by side.
 
-ghost use Rattle.std.specs.Prelude.{◌≡◌, ◌≤◌, ◌++◌, length, map, IfOk, OnOk};
+ghost use Rattle.std.specs.Prelude.{◌≡◌, ◌≤◌, ◌++◌, [], length, map, slice_index_or, IfOk, OnOk};
 ghost use Rattle.md5.specs.Md5.{md5};
-ghost use Rattle.par2_digests.specs.Messages.{message_of};
-ghost use Rattle.par2_digests.specs.Texts.{messages_of, texts_of};
+ghost use Rattle.par2_digests.specs.Pendings.{ArePadded};
+ghost use Rattle.par2_digests.specs.Texts.{texts_of};
 
 use crate::LANES;
-use crate::midstate::{Message, Midstate, Part};
+use crate::midstate::{Midstate, Part};
+use crate::pending::{Pending, digest_each};
 use std::alloc::{AllocError, Global};
 
-fn message(alloc: Global, text: &[u8]) -> Result<Message, AllocError>
-    ensures { IfOk result (λ message. message_of message.parts.items ≡ text.now) }
-{
-    let parts = vec![in alloc; Part::Bytes(text)]?;
-    Ok(Message { parts })
-}
-
-fn messages<'a>(alloc: Global, texts: &[&'a [u8]]) -> Result<Vec<Message<'a>>, AllocError>
-    ensures { IfOk result (λ messages. messages_of messages.items ≡ texts_of texts.now) }
+fn padded_texts<'a>(alloc: Global, texts: &[&'a [u8]]) -> Result<Vec<Pending<'a>>, AllocError>
+    ensures count { IfOk result (λ messages. length messages.items ≡ length texts.now) }
+    ensures each { IfOk result (λ messages.
+        ArePadded messages.items (λ k. slice_index_or (texts_of texts.now) k [])) }
 {
     let mut messages = Vec::with_capacity(alloc, texts.len())?;
     for i in 0..texts.len() {
-        messages.push(message(alloc, texts[i])?)?;
+        messages.push(Pending::padded(alloc, Midstate::new(), &[Part::Bytes(texts[i])])?)?;
     }
     Ok(messages)
 }
@@ -36,8 +32,8 @@ fn push_digests(
     ensures { OnOk result
         (digests.new.items ≡ digests.old.items ++ map md5 (texts_of texts.now)) }
 {
-    let messages = messages(alloc, texts)?;
-    let added = Midstate::new().digests(&messages);
+    let messages = padded_texts(alloc, texts)?;
+    let added = digest_each(&messages);
     digests.extend_from_slice(&added[..messages.len()])
 }
 

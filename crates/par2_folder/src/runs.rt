@@ -1,6 +1,7 @@
 //! States that absorb texts, eight side by side.
 ghost use Rattle.std.specs.Prelude.{◌≡◌, ◌≤◌, ◌++◌, ◌∷◌, [], ℕ, List, length, IfOk, OnOk};
-ghost use Rattle.par2_folder.specs.Runs.{AreTo, HaveAbsorbed, Reaches};
+ghost use Rattle.par2_digests.specs.Pendings.{Reaches};
+ghost use Rattle.par2_folder.specs.Runs.{AreTo, HaveAbsorbed};
 
 use par2_digests::{LANES, Midstate, Pending, absorb_each};
 use std::alloc::{AllocError, Global};

@@ -26,8 +26,8 @@ pub struct StoreFault;
 
 /// A flat folder of files, and a journal beside it. What is said of its contents holds where it is honest: nobody
 /// else writes it, and what is read is what was written. A writing call that fails has done its whole work or none.
-/// So it is with a power cut: behind a writing call that answers Ok it leaves what the call made, and behind one that
-/// fails, or in the middle of one, what was there before it or what the call makes.
+/// So it is with a power cut: after a writing call that answers Ok it leaves what the call made. After one that fails,
+/// or in the middle of one, it leaves what was there before it or what the call makes.
 pub trait FolderStore {
     /// Whether nobody else writes, and what is read is what was written.
     ghost honest: { Self → Type 0 };
@@ -41,8 +41,8 @@ pub trait FolderStore {
     /// How often it has failed.
     ghost failures: { Self → ℕ };
 
-    /// How often it was asked for what can't be done: to read, replace or remove a name that no file has, to write one
-    /// that is taken, or to rename one that no file has or to one that is taken.
+    /// How often it was asked for what can't be done. That is to read, replace or remove a name that no file has, to
+    /// write one that is taken, or to rename one that no file has or to one that is taken.
     ghost impossible: { Self → ℕ };
 
     /// How many writing calls were made of it, those that failed among them.

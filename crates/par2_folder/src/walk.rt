@@ -5,12 +5,13 @@
 ghost use Rattle.std.specs.Prelude.{◌≡◌, ◌≤◌, ◌<◌, ◌+◌, ◌++◌, ◌∷◌, [], ◌^◌, cond, ℕ, List, length, map, IfOk, OnOk, IsTrue};
 ghost use Rattle.md5.specs.Md5.{md5};
 ghost use Rattle.par2_digests.specs.Messages.{HasAbsorbed};
+ghost use Rattle.par2_digests.specs.Pendings.{Reaches};
 ghost use Rattle.par2_spec.specs.Changes.{are_applicable, effect, is_applicable};
 ghost use Rattle.par2_folder.specs.Sorting.{IsKept};
 ghost use Rattle.par2_folder.specs.Views.{change_of};
 ghost use Rattle.par2_folder.specs.Borders.{IsFurther, new_run, run_texts, text_before, touches};
 ghost use Rattle.par2_folder.specs.Landmarks.{AreLandmarksOf};
-ghost use Rattle.par2_folder.specs.Runs.{AreTo, HaveAbsorbed, Reaches};
+ghost use Rattle.par2_folder.specs.Runs.{AreTo, HaveAbsorbed};
 ghost use Rattle.par2_folder.specs.Snapshots.{files_in, folder_in};
 ghost use Rattle.par2_folder.specs.declared.border.Border.TheVariants.{End};
 

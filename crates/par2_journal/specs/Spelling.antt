@@ -20,8 +20,8 @@ SpellsWhere (Some text) (Some j) = Spells text.items j
 abbrev pub AreSpelled : Journals → JournalPair → Type 0
 AreSpelled journals pair = SpellsWhere journals.halfway pair.before × Spells journals.after.items pair.after
 
--- what an action does to the list of entries: the way back of a command becomes the entry before the cursor, and those
--- after it go; or the way back takes the place of the entry before the cursor, or of that after it
+-- What an action does to the list of entries. The way back of a command becomes the entry before the cursor, and those
+-- after it go; or the way back takes the place of the entry before the cursor, or of that after it.
 pub data Turn : Type 0 where
   Add : Turn
   Undo : Turn

@@ -1,13 +1,13 @@
 -- The packets of recovery slices whose exponents count up.
-use Rattle.std.proofs.Common.{◌≡◌, ℕ, suc, ◌+◌, ◌<◌, ◌≤◌, List, [], ◌∷◌, ◌++◌, length, map, get_or, take, drop, inl, inr, sym, ap, ap₂, ◌∙◌, arith, append-nil, append_assoc}
+use Rattle.std.proofs.Common.{◌≡◌, ℕ, suc, ◌+◌, ◌<◌, ◌≤◌, List, [], ◌∷◌, ◌++◌, length, map, get_or, take, drop, inl, inr, subst, sym, ap, ◌∙◌, arith, append-nil, append_assoc}
 use Rattle.std.specs.Prelude.{flat_map}
 use Rattle.std.specs.List.{enumerate_from}
 use Rattle.std.proofs.Math.Seq.{take-add, take-append_seam}
 use Rattle.std.proofs.lemmas.Grind.{flat_map-append}
 use Rattle.std.proofs.lemmas.Bool.{cases_lt}
-use Rattle.std.proofs.lemmas.List.{get_or_append_left, get_or_at, length-map, map-append, take_more, length-take-le}
-use Rattle.par2_digests.specs.declared.midstate.Message.{Message}
-use Rattle.par2_digests.specs.Messages.{message_at, message_of}
+use Rattle.std.proofs.lemmas.List.{get_or_append_left, map-append, take_more, length-take-le, get_or_push, length_push}
+use Rattle.par2_digests.specs.declared.pending.Pending.{Pending}
+use Rattle.par2_digests.specs.Pendings.{ArePadded, IsPadded}
 use Rattle.par2_spec.specs.Packets.{packet}
 use Rattle.par2_spec.specs.Volumes.{packet_of, recovery_bytes}
 use Rattle.par2_spec.specs.declared.Kind.TheVariants.{Recovery}
@@ -61,23 +61,24 @@ packets_more text out id first slices a start n b new within so_far is same next
     ∙ append_assoc text before (some start) ∙ ap (λ o. text ++ o) (sym added)
 
 -- a text after two parts of a message
-pub behind_two : (s type kind text body : List ℕ) → type ≡ kind → text ≡ body → ([] ++ (s ++ (type ++ []))) ++ text ≡ s ++ kind ++ body
-behind_two s type kind text body is same = ap₂ (λ (a b : List ℕ). s ++ a ++ b) (append-nil type ∙ is) same
+pub behind_two : (s type kind text : List ℕ) → type ≡ kind → ([] ++ (s ++ (type ++ []))) ++ text ≡ s ++ kind ++ text
+behind_two s type kind text is = ap (λ (t : List ℕ). s ++ t ++ text) (append-nil type ∙ is)
 
 -- what is in front stays there
 pub front_kept : (text out more : List ℕ) → out ≡ text ++ more → take (length text) out ≡ text
 front_kept text out more is = ap (take (length text)) is ∙ take-append_seam text more
 
--- a message more after others
-pub message_more : (bodies new : List Message) (body : Message) (k : ℕ) (said : ℕ → List ℕ) → length bodies ≡ k → new ≡ bodies ++ body ∷ []
-    → ((j : ℕ) → j < k → message_at bodies j ≡ said j) → message_of body.parts.items ≡ said k → (j : ℕ) → j < k + 1 → message_at new j ≡ said j
-message_more bodies new body k said size pushed before its j low =
-    let bytes = λ (message : Message). message_of message.parts.items in
-    let texts : List (List ℕ) = map bytes bodies in
-    let count : length texts ≡ k = length-map bodies bytes ∙ size in
-    ap (λ (messages : List Message). message_at messages j) pushed
-    ∙ ap (λ (ts : List (List ℕ)). get_or ts j []) (map-append bytes bodies (body ∷ []))
-    ∙ elim (cases_lt j k) [
-      | inl early ↦ get_or_append_left texts (bytes body ∷ []) [] j (omega (arith, early, count)) ∙ before j early
-      | inr late ↦ get_or_at texts (bytes body) [] [] j (let e : length texts ≡ j = omega (arith, late, low, count) in e) ∙ its ∙ ap said (let e : k ≡ j = omega (arith, late, low) in e)
+-- a body more after others
+pub body_more : (bodies new : List Pending) (body : Pending) (k : ℕ) (said : ℕ → List ℕ) → length bodies ≡ k → new ≡ bodies ++ body ∷ []
+    → ArePadded bodies said → IsPadded body (said k) → ArePadded new said
+body_more bodies new body k said size pushed before its = λ j none low.
+    let here = λ (one : Pending) (is : get_or new j none ≡ one) (held : IsPadded one (said j)). subst (λ (p : Pending). IsPadded p (said j)) (sym is) held in
+    let there = ap (λ (all : List Pending). get_or all j none) pushed in
+    elim (cases_lt j k) [
+      | inl early ↦
+          let within : j < length bodies = omega (arith, early, size) in
+          here (get_or bodies j none) (there ∙ get_or_append_left bodies (body ∷ []) none j within) (before j none within)
+      | inr late ↦
+          let place : k ≡ j = omega (arith, late, low, ap length pushed, length_push bodies body, size) in
+          here body (there ∙ get_or_push bodies body none j (size ∙ place)) (subst (λ (i : ℕ). IsPadded body (said i)) place its)
     ]

@@ -1,10 +1,11 @@
 //! Recovery slices are written, and the digests of their packets are computed side by side.
 
-ghost use Rattle.std.specs.Prelude.{◌≡◌, ◌≤◌, ◌<◌, ◌+◌, ◌++◌, [], ℕ, length, map, take, flat_map, slice_index_or, OnOk, OnErr, IfOk};
+ghost use Rattle.std.specs.Prelude.{◌≡◌, ◌≤◌, ◌<◌, ◌+◌, ◌++◌, [], ℕ, List, length, map, take, flat_map, slice_index_or, OnOk, OnErr, IfOk};
 ghost use Rattle.std.specs.Int.{w32, to_le_bytes};
 ghost use Rattle.md5.specs.Md5.{md5};
 ghost use Rattle.par2_digests.specs.Digests.{digest_at};
-ghost use Rattle.par2_digests.specs.Messages.{message_at, message_of};
+ghost use Rattle.par2_digests.specs.Messages.{HasAbsorbed};
+ghost use Rattle.par2_digests.specs.Pendings.{ArePadded, IsPadded};
 ghost use Rattle.par2_spec.specs.Packets.{packet, digest_input};
 ghost use Rattle.par2_spec.specs.Volumes.{packet_of};
 ghost use Rattle.par2_spec.specs.Sums.{lists_of};
@@ -13,7 +14,7 @@ ghost use Rattle.par2_packets.specs.Recoveries.{packets_from};
 use crate::append::append_digested;
 use crate::bytes::u32_bytes;
 use crate::kind::type_of;
-use par2_digests::{LANES, Message, Midstate, Part};
+use par2_digests::{LANES, Midstate, Part, Pending, digest_each};
 use par2_spec::Kind;
 use std::alloc::{AllocError, Global};
 
@@ -29,33 +30,35 @@ fn exponent_bytes(first: u32) -> [[u8; 4]; LANES]
     exponents
 }
 
-// The body of a packet.
+// The body of a packet, after what is digested before it.
 fn body<'a>(
     alloc: Global,
+    state: Midstate,
     exponent: &'a [u8; 4],
     slice: &'a [u8],
-) -> Result<Message<'a>, AllocError>
-    ensures { IfOk result (λ body. message_of body.parts.items ≡ exponent.now ++ slice.now) }
+) -> Result<Pending<'a>, AllocError>
+    ensures { (m : List ℕ) → HasAbsorbed state m
+        → IfOk result (λ body. IsPadded body (m ++ (exponent.now ++ slice.now))) }
 {
-    let parts = Vec::from_slice(alloc, &[Part::Bytes(exponent), Part::Bytes(slice)])?;
-    Ok(Message { parts })
+    Pending::padded(alloc, state, &[Part::Bytes(exponent), Part::Bytes(slice)])
 }
 
 // The bodies of the packets of eight recovery slices at most.
 fn bodies<'a>(
     alloc: Global,
+    state: Midstate,
     exponents: &'a [[u8; 4]; LANES],
     slices: &'a [Vec<u8>],
-) -> Result<Vec<Message<'a>>, AllocError>
+) -> Result<Vec<Pending<'a>>, AllocError>
     requires { length slices.now ≤ 8 }
     ensures count { IfOk result (λ bodies. length bodies.items ≡ length slices.now) }
-    ensures each { IfOk result (λ bodies. (k : ℕ) → k < length slices.now
-        → message_at bodies.items k
-        ≡ slice_index_or exponents.now k [] ++ slice_index_or (lists_of slices.now) k []) }
+    ensures each { (m : List ℕ) → let slices = lists_of slices.now in
+        HasAbsorbed state m → IfOk result (λ bodies. ArePadded bodies.items
+        (λ k. m ++ (slice_index_or exponents.now k [] ++ slice_index_or slices k []))) }
 {
     let mut bodies = Vec::with_capacity(alloc, slices.len())?;
     for k in 0..slices.len() {
-        bodies.push(body(alloc, &exponents[k], &slices[k])?)?;
+        bodies.push(body(alloc, state, &exponents[k], &slices[k])?)?;
     }
     Ok(bodies)
 }
@@ -73,10 +76,10 @@ fn digests(
         let body = slice_index_or exponents.now k [] ++ slice in
         digest_at digests k ≡ md5 (digest_input (packet_of set_id.now Kind.Recovery body))) }
 {
-    let bodies = bodies(alloc, exponents, slices)?;
     let mut state = Midstate::new();
     state.absorb(&[Part::Bytes(set_id), Part::Bytes(&type_of(Kind::Recovery))]);
-    Ok(state.digests(&bodies))
+    let bodies = bodies(alloc, state, exponents, slices)?;
+    Ok(digest_each(&bodies))
 }
 
 // Adds eight recovery slices at most.

@@ -1,7 +1,9 @@
 -- The loops that add products.
-use Rattle.std.proofs.Common.{ℕ, suc, ◌+◌, ◌*◌, ◌<◌, ◌≤◌, ◌≡◌, inl, inr, refl, sym, ap, ◌∙◌, subst, arith, List, length, get_or, bit_xor}
+use Rattle.std.proofs.Common.{ℕ, suc, ◌+◌, ◌*◌, ◌<◌, ◌≤◌, ◌≡◌, inl, inr, refl, sym, ap, ap₂, ◌∙◌, subst, arith, List, length, get_or, bit_xor}
 use Rattle.std.proofs.lemmas.Bool.{cases_eq, cases_lt}
 use Rattle.std.specs.Int.Bits.{xor_assoc, xor_zero_r}
+use Rattle.std.proofs.lemmas.List.{get_or_past}
+use Rattle.par2_spec.proofs.FieldOrder.{product-zero}
 use Rattle.par2_spec.specs.Field.{mul}
 use Rattle.par2_spec.specs.Slices.{word}
 use Rattle.par2_gf16.specs.Steps.{AddsWithin}
@@ -35,6 +37,23 @@ next_target factor source old mid new from to n c so_far is changed added fits =
 pub room_kept : (factor : ℕ → ℕ) (source : List ℕ) (old mid : List (List ℕ)) (from to n m : ℕ) → AddsSource factor source old mid from to n
     → ((r : ℕ) → r < m → 2 * to ≤ length (list_at old r)) → n < m → 2 * to ≤ length (list_at mid n)
 room_kept factor source old mid from to n m so_far room low = subst (λ xs. 2 * to ≤ length xs) (sym (so_far.rest n (omega arith))) (room n low)
+
+-- an empty source adds nothing
+pub empty_source : (factor : ℕ → ℕ) (source : List ℕ) (old : List (List ℕ)) (from to n : ℕ) → length source ≡ 0 → AddsSource factor source old old from to n
+empty_source factor source old from to n none = record {
+  count = refl;
+  done = λ r h. record {
+    same_length = refl;
+    inside = λ p from_here to_here fits. sym (ap (bit_xor (word p (list_at old r))) (ap (mul (factor r)) (no_word p) ∙ product-zero (factor r)) ∙ xor_zero_r (word p (list_at old r)));
+    below = λ p h. refl;
+    above = λ p h. refl;
+  };
+  rest = λ r h. refl;
+  bytes = λ h. h;
+}
+  where
+    no_word : (p : ℕ) → word p source ≡ 0
+    no_word p = ap₂ (λ x y. x + 256 * y) (get_or_past source (2 * p) 0 (omega (arith, none))) (get_or_past source (2 * p + 1) 0 (omega (arith, none)))
 
 -- no source was added yet
 pub no_source : (factors sources old : List (List ℕ)) (from to : ℕ) → Adds factors sources old old from to 0

@@ -1,11 +1,11 @@
 -- From added products to recovery slices.
 use Rattle.std.proofs.lemmas.Bool.{cases_lt}
-use Rattle.std.proofs.Common.{◌⊎◌, inl, inr, ℕ, zero, suc, ◌+◌, ◌-◌, ◌*◌, ◌/◌, ◌%◌, ◌<◌, ◌≤◌, ◌≡◌, refl, sym, ap, ap₂, ◌∙◌, subst, arith, List, [], ◌∷◌, ◌++◌, length, get_or, map, replicate, bit_xor, Vec, Global, length-append}
+use Rattle.std.proofs.Common.{◌⊎◌, inl, inr, ℕ, zero, suc, ◌+◌, ◌-◌, ◌*◌, ◌%◌, ◌<◌, ◌≤◌, ◌≡◌, refl, sym, ap, ap₂, ◌∙◌, subst, arith, List, [], ◌∷◌, ◌++◌, length, get_or, map, replicate, bit_xor, Vec, Global, length-append}
 use Rattle.std.specs.Borrow.{Bor}
 use Rattle.std.specs.List.{range_with_len}
 use Rattle.std.specs.Int.Bits.{xor_zero_l}
 use Rattle.std.proofs.Common.{append_assoc, zero-add}
-use Rattle.std.proofs.lemmas.List.{ext_get_or, length-map, map-append, get_or_append_left, get_or_at, get_or_past, length-replicate}
+use Rattle.std.proofs.lemmas.List.{ext_get_or, get_or-map, get_or-replicate, length-map, map-append, get_or_append_left, get_or_at, get_or_past, length-replicate}
 use Rattle.std.proofs.lemmas.List.FromFn.{map-range_with_len_more, get_or-map-range_with_len, length-map-range_with_len, length-range_with_len, get_or-range_with_len}
 use Rattle.par2_spec.specs.Field.{mul, coefficient}
 use Rattle.std.specs.Prelude.{take, drop}
@@ -17,7 +17,7 @@ use Rattle.par2_spec.specs.Sums.{field_sum, list_at, lists_of}
 use Rattle.par2_spec.proofs.SumLaws.{field_sum_same, field_sum-lt, dot_sum, product_at}
 use Rattle.par2_spec.proofs.UniqueLaws.{coefficients_are}
 use Rattle.par2_spec.proofs.WordLaws.{combination_words, word-lt}
-use Rattle.par2_recovery.specs.Products.{AreBytes, Adds, products}
+use Rattle.par2_recovery.specs.Products.{AreBytes}
 use Rattle.par2_transform.specs.Adding.{AddsToEach}
 use Rattle.par2_transform.specs.Columns.{recovered}
 use Rattle.par2_recovery.specs.Views.{texts_of, AreBlank}
@@ -81,6 +81,12 @@ blank_push s n xs v so_far is =
       | inr same ↦ ap (λ m. list_at (lists ++ v.items ∷ []) m) same ∙ get_or_at lists v.items [] [] n e ∙ is
     ]
 
+pub blank_texts : (s n : ℕ) (texts : List (List ℕ)) → texts ≡ replicate n (replicate s 0) → AreBlank s n texts
+blank_texts s n texts are = record {
+  count = ap length are ∙ length-replicate n (replicate s 0);
+  each = λ r low. ap (λ xs. list_at xs r) are ∙ get_or-replicate n r (replicate s 0) [] low;
+}
+
 pub blank_word : (s p : ℕ) → word p (replicate s 0) ≡ 0
 blank_word s p = ap₂ (λ x y. x + 256 * y) (zeros_read s (2 * p)) (zeros_read s (2 * p + 1))
 
@@ -92,39 +98,6 @@ blank_bytes s n lists blank r k = elim (cases_lt r n) [
   | inl low ↦ subst (λ xs. get_or xs k 0 < 256) (sym (blank.each r low)) (let e = zeros_read s k in omega (arith, e))
   | inr high ↦ subst (λ xs. get_or xs k 0 < 256) (sym (get_or_past lists r [] (omega (arith, blank.count)))) (omega arith)
 ]
-
--- what was added to zeros by the rows of the exponents are the recovery slices
-pub are_recovery : (s first count : ℕ) (factors lists old new : List (List ℕ)) → s % 2 ≡ 0 → AreBytes lists
-    → factors ≡ map (coefficients (range_with_len 0 (length lists))) (range_with_len first count) → AreBlank s count old
-    → Adds factors lists old new 0 (s / 2) (length lists) → new ≡ map (recovery s (map (padded s) lists)) (range_with_len first count)
-unfolding recovery
-are_recovery s first count factors lists old new even bytes rows blank added =
-    ext_get_or [] new (map (recovery s (map (padded s) lists)) (range_with_len first count))
-    (added.count ∙ blank.count ∙ sym (length-map-range_with_len (recovery s (map (padded s) lists)) first count))
-    (λ r h.
-    let low : r < count = omega (arith, added.count, blank.count) in
-    let here = get_or-map-range_with_len (recovery s (map (padded s) lists)) first count r (first + r) [] low refl in
-    sym (one r low) ∙ sym here)
-  where
-    size : length (map (padded s) lists) ≡ length lists
-    size = length-map lists (padded s)
-
-    one : (r : ℕ) → r < count → recovery s (map (padded s) lists) (first + r) ≡ list_at new r
-    one r low =
-        let row = coefficients (range_with_len 0 (length lists)) (first + r) in
-        let row_is : list_at factors r ≡ row = ap (λ xs. list_at xs r) rows ∙ get_or-map-range_with_len (coefficients (range_with_len 0 (length lists))) first count r (first + r) [] low refl in
-        let long : length row ≡ length lists = length-map (range_with_len 0 (length lists)) (coefficient (first + r)) ∙ length-range_with_len 0 (length lists) in
-        let sized : length (list_at new r) ≡ s = added.sizes r ∙ ap length (blank.each r low) ∙ length-replicate {A = ℕ} s 0 in
-        ap (λ n. combination s (coefficients (range_with_len 0 n) (first + r)) (map (padded s) lists)) size
-        ∙ (combination_words s row (map (padded s) lists) (list_at new r) even
-        (λ w. dot_padded-lt s row lists w (omega (arith, long)) (coefficients-lt (range_with_len 0 (length lists)) (first + r)) bytes)
-        sized (added.bytes (blank_bytes s count old blank) r)).1
-        (λ w fits.
-        dot_padded s row lists w (omega (arith, long))
-        ∙ ap (λ (xs : List ℕ). field_sum (length lists) (λ k. mul (get_or xs k 0) (word w (list_at lists k)))) (sym row_is)
-        ∙ sym (added.inside r w (omega (arith, blank.count)) (omega arith) (omega arith) (let e = ap length (blank.each r low) ∙ length-replicate {A = ℕ} s 0 in omega (arith, e))
-        ∙ ap (λ x. bit_xor x (products (length lists) factors lists r w)) (ap (λ xs. word w xs) (blank.each r low) ∙ blank_word s w)
-        ∙ xor_zero_l (products (length lists) factors lists r w)))
 
 -- what was added to zeros, word by word, are the recovery slices
 pub are_recovered : (s first count : ℕ) (lists old new : List (List ℕ)) → s % 2 ≡ 0 → AreBytes lists → AreBytes new → AreBlank s count old
@@ -157,8 +130,8 @@ are_recovered s first count lists old new even bytes fits blank added =
 
 -- ---- rows of factors
 
-pub range_more : (n : ℕ) → range_with_len 0 (n + 1) ≡ range_with_len 0 n ++ n ∷ []
-range_more n = range-append 0 n 1 ∙ ap (λ m. range_with_len 0 n ++ m ∷ []) (zero-add n)
+pub range_more : (first n : ℕ) → range_with_len first (n + 1) ≡ range_with_len first n ++ (first + n) ∷ []
+range_more first n = range-append first n 1
 
 pub range-lt : (n i bound : ℕ) → n ≤ bound → 0 < bound → get_or (range_with_len 0 n) i 0 < bound
 range-lt n i bound h some = elim (cases_lt i n) [
@@ -166,19 +139,15 @@ range-lt n i bound h some = elim (cases_lt i n) [
   | inr high ↦ (let e = get_or_past (range_with_len 0 n) i 0 (omega (arith, length-range_with_len 0 n)) in omega (arith, e))
 ]
 
-pub rows_push : (numbers : List ℕ) (first j : ℕ) (xs : List (Vec ℕ Global)) (v : Vec ℕ Global) → lists_of xs ≡ map (coefficients numbers) (range_with_len first j) → v.items ≡ coefficients numbers (first + j)
-    → lists_of (xs ++ v ∷ []) ≡ map (coefficients numbers) (range_with_len first (j + 1))
-rows_push numbers first j xs v so_far is =
-    map-append (λ (x : Vec ℕ Global). x.items) xs (v ∷ []) ∙ ap₂ (λ a b. a ++ b ∷ []) so_far is ∙ sym (map-range_with_len_more (coefficients numbers) first j (first + j) refl)
+pub length-rows : (numbers exponents : List ℕ) (xs : List (Vec ℕ Global)) → lists_of xs ≡ map (coefficients numbers) exponents → length xs ≡ length exponents
+length-rows numbers exponents xs e = sym (length-map xs (λ (x : Vec ℕ Global). x.items)) ∙ ap length e ∙ length-map exponents (coefficients numbers)
 
-pub length-rows : (numbers : List ℕ) (first count : ℕ) (xs : List (Vec ℕ Global)) → lists_of xs ≡ map (coefficients numbers) (range_with_len first count) → length xs ≡ count
-length-rows numbers first count xs e = sym (length-map xs (λ (x : Vec ℕ Global). x.items)) ∙ ap length e ∙ length-map-range_with_len (coefficients numbers) first count
-
-pub rows_long : (n first count : ℕ) (lists : List (List ℕ)) → lists ≡ map (coefficients (range_with_len 0 n)) (range_with_len first count) → (r : ℕ) → r < count → length (list_at lists r) ≡ n
-rows_long n first count lists e r low =
+pub rows_long : (n : ℕ) (numbers exponents : List ℕ) (lists : List (List ℕ)) → numbers ≡ range_with_len 0 n → lists ≡ map (coefficients numbers) exponents
+    → (r : ℕ) → r < length exponents → length (list_at lists r) ≡ n
+rows_long n numbers exponents lists are e r low =
     ap (λ xs. length (list_at xs r)) e
-    ∙ ap length (get_or-map-range_with_len (coefficients (range_with_len 0 n)) first count r (first + r) [] low refl)
-    ∙ length-map (range_with_len 0 n) (coefficient (first + r)) ∙ length-range_with_len 0 n
+    ∙ ap length (get_or-map (coefficients numbers) exponents r 0 [] low)
+    ∙ length-map numbers (coefficient (get_or exponents r 0)) ∙ ap length are ∙ length-range_with_len 0 n
 
 -- ---- the slices of files
 

@@ -1,3 +1,4 @@
+pub mod AdditionLaws
 pub mod RankTests
 pub mod Dots
 pub mod Adding
@@ -15,4 +16,3 @@ pub mod Quotients
 pub mod RunInverses
 pub mod Beginnings
 pub mod Windows
-pub mod RunSyndromes

@@ -76,13 +76,6 @@ next_extended old blocks mid new n so_far changed here = record {
 
 -- ---- the words of a block
 
-pub syndromes_added : (n : ℕ) (coefficients known slices new : List (List ℕ)) → ((j : ℕ) → j < length slices → 2 * n ≤ length (list_at slices j))
-    → Adds coefficients known slices new 0 n (length known) → AreSyndromes n coefficients known slices new
-syndromes_added n coefficients known slices new room added = record {
-  count = added.count;
-  words = λ j w here low. added.inside j w here (omega arith) low (let fits = room j here in omega (arith, fits, low));
-}
-
 pub products_added : (n m : ℕ) (inverse texts zeros new : List (List ℕ)) → m ≡ length inverse → AreBlank (2 * n) m zeros → Adds inverse texts zeros new 0 n (length texts)
     → AreProducts (2 * n) inverse texts new
 products_added n m inverse texts zeros new e blank added = record {

@@ -1,11 +1,10 @@
 -- The columns of recovery slices are the recovery slices of columns.
-use Rattle.std.proofs.Common.{◌≡◌, ℕ, ◌+◌, ◌*◌, ◌/◌, ◌%◌, ◌<◌, ◌≤◌, List, [], ◌∷◌, ◌++◌, length, map, refl, sym, ap, ap₂, ◌∙◌, arith}
+use Rattle.std.proofs.Common.{◌≡◌, ℕ, ◌+◌, ◌*◌, ◌/◌, ◌%◌, ◌<◌, ◌≤◌, List, [], ◌∷◌, length, map, refl, sym, ap, ap₂, ◌∙◌, arith}
 use Rattle.std.specs.Int.{w16, to_le_bytes}
 use Rattle.std.specs.List.{range_with_len}
-use Rattle.std.proofs.lemmas.List.{length-map, map-append}
+use Rattle.std.proofs.lemmas.List.{length-map}
 use Rattle.par2_spec.specs.Slices.{padded, word}
 use Rattle.par2_spec.specs.Recovery.{dot, coefficients, combination, recovery}
-use Rattle.par2_spec.proofs.ListsLaws.{range-append}
 use Rattle.par2_packets.proofs.Pieces.{pieces_same, pieces_between, pieces_moved}
 use Rattle.par2_recovery.specs.Syndromes.{window, AreColumns}
 use Rattle.par2_recovery.proofs.Combinations.{word-padded}
@@ -38,10 +37,3 @@ pub are_columns : (texts windows : List (List ℕ)) (from n first count : ℕ) (
 are_columns texts windows from n first count made place even are is s whole fits =
     is ∙ ap (λ (ws : List (List ℕ)). map (recovery n (map (padded n) ws)) (range_with_len first count)) are
     ∙ (λ j. map (λ e. sym (window_recovery s from n texts e whole place even fits) j) (range_with_len first count))
-
--- the slices of more exponents, behind those of others
-pub exponents_more : (f : ℕ → List ℕ) (first done n : ℕ) (old more new : List (List ℕ)) → old ≡ map f (range_with_len first done) → more ≡ map f (range_with_len (first + done) n)
-    → new ≡ old ++ more → new ≡ map f (range_with_len first (done + n))
-exponents_more f first done n old more new before next is =
-    is ∙ ap₂ (λ (a b : List (List ℕ)). a ++ b) before next
-    ∙ sym (map-append f (range_with_len first done) (range_with_len (first + done) n)) ∙ ap (map f) (sym (range-append first done n))

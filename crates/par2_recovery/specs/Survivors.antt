@@ -1,5 +1,5 @@
 -- What survives of a set's slices.
-use Rattle.std.specs.Prelude.{◌≡◌, ◌+◌, ◌<◌, ℕ, List, [], ◌∷◌, length, map, slice_index, slice_index_or, Option, Some, None, option_map}
+use Rattle.std.specs.Prelude.{◌≡◌, ◌+◌, ℕ, List, [], ◌∷◌, length, map, slice_index, Option, Some, None, option_map}
 use Rattle.std.specs.Borrow.{Bor}
 use Rattle.par2_spec.specs.Field.{mul}
 use Rattle.par2_spec.specs.Slices.{padded, word}
@@ -47,10 +47,6 @@ known_alone (Some slice ∷ known) = slice ∷ known_alone known
 abbrev pub bytes_or_none : Option (Bor (List ℕ)) → List ℕ
 bytes_or_none None = []
 bytes_or_none (Some slice) = slice.now
-
--- the exponents of the recovery slices follow one another without a gap, from `first` on
-abbrev pub AreRun : ℕ → List (ℕ × List ℕ) → Type 0
-AreRun first recovery = (j : ℕ) → j < length recovery → (slice_index_or recovery j (0, [])).0 ≡ first + j
 
 -- what a refusal says: of how many lost slices how many exponents are kept, and that they are too few
 abbrev pub IsTrueFault : List ℕ → List ℕ → RebuildFault → Type 0

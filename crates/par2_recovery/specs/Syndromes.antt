@@ -20,9 +20,13 @@ AreColumns texts from n first count columns =
     (s : ℕ) → s % 2 ≡ 0 → from + n ≤ s
     → columns ≡ map (λ e. window from n (recovery s (map (padded s) texts) e)) (range_with_len first count)
 
--- what `count` exponents from `first` on multiply n input slices by
-abbrev pub run_coefficients : (first count n : ℕ) → List (List ℕ)
-run_coefficients first count n = map (coefficients (range_with_len 0 n)) (range_with_len first count)
+-- what each of these exponents multiplies the first n input slices by
+abbrev pub all_coefficients : (n : ℕ) (exponents : List ℕ) → List (List ℕ)
+all_coefficients n exponents = map (coefficients (range_with_len 0 n)) exponents
+
+-- the exponents follow one another without a gap, from `first` on
+abbrev pub AreRun : ℕ → List ℕ → Type 0
+AreRun first exponents = (j : ℕ) → j < length exponents → slice_index exponents j ≡ first + j
 
 -- word w of syndrome j: that of recovery slice j and what the known slices give to it, each times its coefficient in
 -- row j; so it is what the lost slices give to it

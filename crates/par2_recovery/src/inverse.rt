@@ -140,3 +140,14 @@ pub(crate) fn bytes_of<'a>(
     }
     Ok(slices)
 }
+
+/// The exponents of the recovery slices.
+pub(crate) fn exponents_of(alloc: Global, kept: &[(u32, &[u8])]) -> Result<Vec<u32>, AllocError>
+    ensures { IfOk result (λ exponents. exponents.items ≡ exponents_of kept.now) }
+{
+    let mut exponents = Vec::with_capacity(alloc, kept.len())?;
+    for j in 0..kept.len() {
+        exponents.push(recovery_at(kept, j).0)?;
+    }
+    Ok(exponents)
+}

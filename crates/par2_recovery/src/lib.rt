@@ -1,6 +1,7 @@
 //! Recovery slices are made of the slices of files, and lost slices are rebuilt from them.
 #![tactic(auto)]
 
+mod additions;
 mod columns;
 mod elements;
 mod exponents;
@@ -12,7 +13,6 @@ mod rebuild_slices;
 mod recovery;
 mod room;
 mod run_inverse;
-mod run_syndromes;
 mod set_record;
 mod syndromes;
 

@@ -1,6 +1,6 @@
 //! Sums of products of factors and texts.
 
-ghost use Rattle.std.specs.Prelude.{◌≡◌, ℕ, ◌+◌, ◌*◌, ◌^◌, ◌<◌, ◌≤◌, length, map, slice_index, IfOk};
+ghost use Rattle.std.specs.Prelude.{◌≡◌, ℕ, ◌+◌, ◌*◌, ◌^◌, ◌<◌, ◌≤◌, length, slice_index, IfOk};
 ghost use Rattle.par2_gf16.specs.Steps.{AddsWithin};
 ghost use Rattle.par2_spec.specs.Sums.{OneChanged, list_at, lists_of};
 ghost use Rattle.par2_recovery.specs.Products.{AddsSource, Adds, AreBytes};
@@ -78,6 +78,35 @@ pub(crate) fn source_at<'a>(sources: &[&'a [u8]], k: usize) -> &'a [u8]
     sources[k]
 }
 
+// Adds the multiples of a text, in some columns. An empty one adds nothing.
+fn add_text(
+    alloc: Global,
+    gf: &Gf,
+    factors: &[Vec<u16>],
+    k: usize,
+    text: &[u8],
+    targets: &mut [Vec<u8>],
+    from: usize,
+    to: usize,
+) -> Result<(), AllocError>
+    requires rows { length factors.now ≡ length targets.old }
+    requires factors { (r : ℕ)
+        → r < length factors.now → k < length (list_at (lists_of factors.now) r) }
+    requires order { from ≤ to }
+    requires room { (r : ℕ)
+        → r < length targets.old → 2 * to ≤ length (list_at (lists_of targets.old) r) }
+    ensures { IfOk result (λ _. AddsSource
+        (λ r. slice_index (list_at (lists_of factors.now) r) k) text.now
+        (lists_of targets.old) (lists_of targets.new) from to (length targets.old)) }
+{
+    if text.is_empty() {
+        return Ok(());
+    }
+    let source = Columns::new(alloc, text, from, to)?;
+    add_source(gf, factors, k, &source, targets);
+    Ok(())
+}
+
 // Adds the multiples of all sources, in some columns.
 fn add_columns(
     alloc: Global,
@@ -98,15 +127,23 @@ fn add_columns(
         (lists_of targets.old) (lists_of targets.new) from to (length sources.now)) }
 {
     for k in 0..sources.len() {
-        let source = Columns::new(alloc, source_at(sources, k), from, to)?;
-        add_source(gf, factors, k, &source, targets);
+        add_text(
+            alloc,
+            gf,
+            factors,
+            k,
+            source_at(sources, k),
+            targets,
+            from,
+            to,
+        )?;
     }
     Ok(())
 }
 
 /// To each of the first `words` words of each target, adds the sum of the sources' words there, each times its factor
 /// in the row of the target. All sources are read once, some columns of all of them at a time.
-fn add_products(
+pub(crate) fn add_products(
     alloc: Global,
     gf: &Gf,
     factors: &[Vec<u16>],
@@ -128,28 +165,6 @@ fn add_products(
         add_columns(alloc, gf, factors, sources, targets, from, to)?;
     }
     Ok(())
-}
-
-/// The texts after `add_products`.
-pub(crate) fn with_products(
-    alloc: Global,
-    gf: &Gf,
-    factors: &[Vec<u16>],
-    sources: &[&[u8]],
-    targets: Vec<Vec<u8>>,
-    words: usize,
-) -> Result<Vec<Vec<u8>>, AllocError>
-    requires rows { length factors.now ≡ length targets.items }
-    requires factors { (r : ℕ)
-        → r < length factors.now → length sources.now ≤ length (list_at (lists_of factors.now) r) }
-    requires room { (r : ℕ)
-        → r < length targets.items → 2 * words ≤ length (list_at (lists_of targets.items) r) }
-    ensures { IfOk result (λ sums. Adds (lists_of factors.now) (texts_of sources.now)
-        (lists_of targets.items) (lists_of sums.items) 0 words (length sources.now)) }
-{
-    let mut sums = targets;
-    add_products(alloc, gf, factors, sources, sums.as_mut_slice(), words)?;
-    Ok(sums)
 }
 
 /// What the type says of each byte of each text, for proofs.

@@ -8,16 +8,14 @@ ghost use Rattle.par2_spec.specs.Recovery.{coefficients};
 ghost use Rattle.par2_spec.specs.Sums.{list_at, lists_of};
 ghost use Rattle.par2_recovery.specs.Products.{AreBytes};
 ghost use Rattle.par2_recovery.specs.Views.{texts_of};
-ghost use Rattle.par2_recovery.specs.Survivors.{known_of, recovered_of, exponents_of, with_lost_slices, lost_from, known_from, known_alone, bytes_or_none, AreRun, IsTrueFault};
+ghost use Rattle.par2_recovery.specs.Survivors.{known_of, recovered_of, exponents_of, with_lost_slices, lost_from, known_from, known_alone, bytes_or_none, IsTrueFault};
 ghost use Rattle.par2_recovery.specs.Syndromes.{AreSolved};
 ghost use Rattle.par2_recovery.specs.Rebuilding.{IsKnown, CanRebuild, known_among, AreRebuilt, AreEnough};
 
 use crate::front_run::invert;
-use crate::inverse::{Inversion, bytes_of, recovery_at};
+use crate::inverse::{Inversion, bytes_of, exponents_of};
 use crate::products::{fit_bytes, fit_texts};
-use crate::recovery::are_together;
-use crate::run_syndromes::solved_run;
-use crate::syndromes::{coefficient_rows, solved};
+use crate::syndromes::solved;
 use par2_gf16::Gf;
 use std::alloc::{AllocError, Global};
 use thiserror::Error;
@@ -76,33 +74,6 @@ fn lost_numbers(alloc: Global, known: &[Option<&[u8]>]) -> Result<Vec<u32>, Allo
     Ok(numbers)
 }
 
-// The numbers of the known slices.
-fn known_numbers(alloc: Global, known: &[Option<&[u8]>]) -> Result<Vec<u32>, AllocError>
-    requires { length known.now ≤ 32768 }
-    ensures { IfOk result (λ numbers. numbers.items ≡ known_from 0 known.now) }
-{
-    let mut numbers = Vec::new(alloc);
-    for i in 0..known.len() {
-        if !is_lost(known, i) {
-            numbers.push(i as u32)?;
-        }
-    }
-    Ok(numbers)
-}
-
-// The known slices.
-fn known_slices<'a>(alloc: Global, known: &[Option<&'a [u8]>]) -> Result<Vec<&'a [u8]>, AllocError>
-    ensures { IfOk result (λ slices. slices.items ≡ known_alone known.now) }
-{
-    let mut slices = Vec::new(alloc);
-    for i in 0..known.len() {
-        if let Some(slice) = known[i] {
-            slices.push(slice)?;
-        }
-    }
-    Ok(slices)
-}
-
 // The bytes of slice i, none where it is lost.
 fn bytes_at<'a>(known: &[Option<&'a [u8]>], i: usize) -> &'a [u8]
     requires { i < length known.now }
@@ -128,93 +99,6 @@ fn slices_or_none<'a>(
     Ok(slices)
 }
 
-// The first exponent, where these follow one another without a gap.
-fn run_of(kept: &[(u32, &[u8])]) -> Option<u32>
-    ensures run { IfSome result (λ first. AreRun first (recovered_of kept.now)) }
-    ensures few { IfSome result (λ first. first + length kept.now ≤ 2 ^ 32) }
-{
-    if kept.is_empty() {
-        return None;
-    }
-    let first = recovery_at(kept, 0).0;
-    for j in 0..kept.len() {
-        if recovery_at(kept, j).0 as u64 != first as u64 + j as u64 {
-            return None;
-        }
-    }
-    Some(first)
-}
-
-// The first exponent, where what the known slices give to all of them is computed together.
-fn run_together(kept: &[(u32, &[u8])], known: usize) -> Option<u32>
-    ensures run { IfSome result (λ first. AreRun first (recovered_of kept.now)) }
-    ensures few { IfSome result (λ first. first + length kept.now ≤ 2 ^ 32) }
-{
-    if are_together(known, kept.len()) {
-        run_of(kept)
-    } else {
-        None
-    }
-}
-
-// The lost slices, where the kept exponents are a run.
-fn lost_by_run(
-    alloc: Global,
-    gf: &Gf,
-    survivors: &Survivors,
-    first: u32,
-    kept: &[(u32, &[u8])],
-    inverse: &[Vec<u16>],
-) -> Result<Vec<Vec<u8>>, AllocError>
-    requires count { length survivors.now.known.items ≤ 32768 }
-    requires even { survivors.now.slice % 2 ≡ 0 }
-    requires inverse { (r : ℕ)
-        → r < length inverse.now → length kept.now ≤ length (list_at (lists_of inverse.now) r) }
-    requires kept { AllByRecursion (λ r. length r.1
-        ≡ survivors.now.slice) (recovered_of kept.now) }
-    requires run { AreRun first (recovered_of kept.now) }
-    requires few { first + length kept.now ≤ 2 ^ 32 }
-    ensures { let known = survivors.now.known.items in
-        IfOk result (λ texts. AreSolved survivors.now.slice (lists_of inverse.now)
-        (map (λ r. coefficients (known_from 0 known) r.0) (recovered_of kept.now))
-        (texts_of (known_alone known)) (map (λ r. r.1) (recovered_of kept.now))
-        (lists_of texts.items)) }
-{
-    let recovery = bytes_of(alloc, kept)?;
-    let slices = slices_or_none(alloc, &survivors.known)?;
-    let size = survivors.slice;
-    solved_run(alloc, gf, inverse, first, &recovery, &slices, size)
-}
-
-// The lost slices, whichever exponents are kept.
-fn lost_by_rows(
-    alloc: Global,
-    gf: &Gf,
-    survivors: &Survivors,
-    known: &[&[u8]],
-    kept: &[(u32, &[u8])],
-    inverse: &[Vec<u16>],
-) -> Result<Vec<Vec<u8>>, AllocError>
-    requires count { length survivors.now.known.items ≤ 32768 }
-    requires even { survivors.now.slice % 2 ≡ 0 }
-    requires inverse { (r : ℕ)
-        → r < length inverse.now → length kept.now ≤ length (list_at (lists_of inverse.now) r) }
-    requires kept { AllByRecursion (λ r. length r.1
-        ≡ survivors.now.slice) (recovered_of kept.now) }
-    requires known { known.now ≡ known_alone survivors.now.known.items }
-    ensures { let known = survivors.now.known.items in
-        IfOk result (λ texts. AreSolved survivors.now.slice (lists_of inverse.now)
-        (map (λ r. coefficients (known_from 0 known) r.0) (recovered_of kept.now))
-        (texts_of (known_alone known)) (map (λ r. r.1) (recovered_of kept.now))
-        (lists_of texts.items)) }
-{
-    let numbers = known_numbers(alloc, &survivors.known)?;
-    let coefficients = coefficient_rows(alloc, gf, kept, &numbers)?;
-    let recovery = bytes_of(alloc, kept)?;
-    let size = survivors.slice;
-    solved(alloc, gf, inverse, &coefficients, &recovery, known, size)
-}
-
 // The lost slices by the recovery slices of the kept exponents and their inverse.
 fn lost_slices(
     alloc: Global,
@@ -238,13 +122,20 @@ fn lost_slices(
         (λ _. AreBytes (texts_of (known_alone survivors.now.known.items))) }
     ensures found { IfOk result (λ _. AreBytes (map (λ r. r.1) (recovered_of kept.now))) }
 {
-    fit_texts(&bytes_of(alloc, kept)?);
-    let known = known_slices(alloc, &survivors.known)?;
-    fit_texts(&known);
-    match run_together(kept, known.len()) {
-        Some(first) => lost_by_run(alloc, gf, survivors, first, kept, inverse),
-        None => lost_by_rows(alloc, gf, survivors, &known, kept, inverse),
-    }
+    let exponents = exponents_of(alloc, kept)?;
+    let recovery = bytes_of(alloc, kept)?;
+    let slices = slices_or_none(alloc, &survivors.known)?;
+    fit_texts(&recovery);
+    fit_texts(&slices);
+    solved(
+        alloc,
+        gf,
+        inverse,
+        &exponents,
+        &recovery,
+        &slices,
+        survivors.slice,
+    )
 }
 
 /// The lost slices in order, with their padding. NotRepairable is answered where the recovery slices don't determine

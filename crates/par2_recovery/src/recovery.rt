@@ -1,69 +1,23 @@
 //! Recovery slices over the files of a set (Parity Volume Set Specification 2.0, "Recovery Slice packet").
 
-ghost use Rattle.std.specs.Prelude.{◌≡◌, ℕ, ◌+◌, ◌*◌, ◌%◌, ◌^◌, ◌<◌, ◌≤◌, ◌++◌, length, map, slice_index_or, [], IfOk, IsTrue};
+ghost use Rattle.std.specs.Prelude.{◌≡◌, ℕ, ◌+◌, ◌*◌, ◌%◌, ◌^◌, ◌<◌, ◌≤◌, ◌++◌, length, map, replicate, slice_index_or, [], IfOk, IsTrue};
 ghost use Rattle.std.specs.List.{range_with_len};
 ghost use Rattle.par2_spec.specs.Folders.{bytes_of};
 ghost use Rattle.par2_spec.specs.Slices as spec;
 ghost use Rattle.par2_spec.specs.Volumes.{all_slices};
 ghost use Rattle.par2_spec.specs.Commands.{files_of};
-ghost use Rattle.par2_spec.specs.Recovery.{recovery, coefficients};
+ghost use Rattle.par2_spec.specs.Recovery.{recovery};
 ghost use Rattle.par2_spec.specs.Sums.{lists_of};
 ghost use Rattle.par2_recovery.specs.Views.{texts_of, names_of, AreBlank};
 
-use crate::exponents::coefficients;
-use crate::products::{fit_lists, fit_texts, with_products};
+use crate::additions::{numbers_from, with_recovery_slices};
+use crate::products::{fit_lists, fit_texts};
 use crate::room::rows_room;
 use crate::set_record::SetRecord;
 use par2_folder::{Folder, Name};
 use par2_gf16::Gf;
 use par2_slices::{slice_bytes, slice_count};
-use par2_transform::add_recovery_slices;
 use std::alloc::{AllocError, Global};
-
-// From so many exponents and slices on, recovery slices are computed together: below, each as the sum of its products is
-// faster.
-const MANY_EXPONENTS: usize = 32;
-
-const MANY_SLICES: usize = 32;
-
-/// Whether the recovery slices of so many exponents over so many slices are computed together.
-pub(crate) fn are_together(slices: usize, count: usize) -> bool {
-    slices >= MANY_SLICES && count >= MANY_EXPONENTS
-}
-
-// The numbers below n.
-#[tactic(auto, using(crate::proofs::Combinations::range_more))]
-fn numbers_below(alloc: Global, n: usize) -> Result<Vec<u32>, AllocError>
-    requires { n ≤ 32768 }
-    ensures { IfOk result (λ numbers. numbers.items ≡ range_with_len 0 n) }
-{
-    let mut numbers = Vec::with_capacity(alloc, n)?;
-    for k in 0..n {
-        numbers.push(k as u32)?;
-    }
-    Ok(numbers)
-}
-
-// For each exponent, what it multiplies the first n input slices by.
-fn factors(
-    alloc: Global,
-    gf: &Gf,
-    n: usize,
-    first: u32,
-    count: u32,
-) -> Result<Vec<Vec<u16>>, AllocError>
-    requires slices { n ≤ 32768 }
-    requires exponents { first + count ≤ 2 ^ 32 }
-    ensures { IfOk result (λ rows. lists_of rows.items
-        ≡ map (coefficients (range_with_len 0 n)) (range_with_len first count)) }
-{
-    let numbers = numbers_below(alloc, n)?;
-    let mut rows = Vec::with_capacity(alloc, count as usize)?;
-    for j in 0..count {
-        rows.push(coefficients(alloc, gf, &numbers, first + j)?)?;
-    }
-    Ok(rows)
-}
 
 // Zeros.
 pub(crate) fn blank(alloc: Global, count: usize, size: usize) -> Result<Vec<Vec<u8>>, AllocError>
@@ -76,29 +30,19 @@ pub(crate) fn blank(alloc: Global, count: usize, size: usize) -> Result<Vec<Vec<
     Ok(texts)
 }
 
-// The recovery slices one by one: each is the sum of the products of its factors and the slices.
-fn sums_of_products(
-    alloc: Global,
-    gf: &Gf,
-    slices: &[&[u8]],
-    size: usize,
-    first: u32,
-    count: u32,
-) -> Result<Vec<Vec<u8>>, AllocError>
-    requires slices { length slices.now ≤ 32768 }
-    requires even { size % 2 ≡ 0 }
-    requires exponents { first + count ≤ 2 ^ 32 }
-    ensures { IfOk result (λ texts. lists_of texts.items ≡ map (recovery size
-        (map (spec.padded size) (texts_of slices.now))) (range_with_len first count)) }
+// The same text, so many times.
+fn repeated(alloc: Global, text: &[u8], count: u32) -> Result<Vec<&[u8]>, AllocError>
+    ensures { IfOk result (λ texts. texts_of texts.items ≡ replicate count text.now) }
 {
-    fit_texts(slices);
-    let factors = factors(alloc, gf, slices.len(), first, count)?;
-    let zeros = blank(alloc, count as usize, size)?;
-    with_products(alloc, gf, &factors, slices, zeros, size / 2)
+    let mut texts = Vec::with_capacity(alloc, count as usize)?;
+    for _i in 0..count {
+        texts.push(text)?;
+    }
+    Ok(texts)
 }
 
-/// The recovery slices of all exponents together, by rows that have so much room.
-pub(crate) fn sums_together(
+/// What [`recovery_slices_over`] answers, where what computes it has so much room.
+pub(crate) fn recovery_slices_within(
     alloc: Global,
     gf: &Gf,
     slices: &[&[u8]],
@@ -114,18 +58,12 @@ pub(crate) fn sums_together(
         (map (spec.padded size) (texts_of slices.now))) (range_with_len first count)) }
 {
     fit_texts(slices);
-    let mut texts = blank(alloc, count as usize, size)?;
-    add_recovery_slices(
-        alloc,
-        gf,
-        slices,
-        size / 2,
-        first,
-        texts.as_mut_slice(),
-        room,
-    )?;
-    fit_lists(&texts);
-    Ok(texts)
+    let exponents = numbers_from(alloc, first, count)?;
+    let zeros = vec![in alloc; 0u8; size]?;
+    let texts = repeated(alloc, &zeros, count)?;
+    let sums = with_recovery_slices(alloc, gf, slices, size / 2, &exponents, &texts, room)?;
+    fit_lists(&sums);
+    Ok(sums)
 }
 
 /// The recovery slices of `count` exponents from `first` on over slices of `size` bytes. Zeros follow a slice that is
@@ -144,11 +82,7 @@ pub fn recovery_slices_over(
     ensures { IfOk result (λ texts. lists_of texts.items ≡ map (recovery size
         (map (spec.padded size) (texts_of slices.now))) (range_with_len first count)) }
 {
-    if are_together(slices.len(), count as usize) {
-        sums_together(alloc, gf, slices, size, first, count, rows_room(slices))
-    } else {
-        sums_of_products(alloc, gf, slices, size, first, count)
-    }
+    recovery_slices_within(alloc, gf, slices, size, first, count, rows_room(slices))
 }
 
 // The bytes of a file, none where it is absent.

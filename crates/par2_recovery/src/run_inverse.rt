@@ -1,7 +1,7 @@
 //! The inverse of the equations of a run of exponents, as many as slices are lost. The exponents from `f` on multiply
 //! lost slice `j` by the powers of its constant `c` from `c ^ f` on. Let `m` be the polynomial whose roots are the
-//! constants of the lost slices: the quotient on its division by `z - c` is 0 at the other ones and not at `c`, so that
-//! its coefficients, scaled, are row `j` of the inverse.
+//! constants of the lost slices. The quotient on its division by `z - c` is 0 at the other ones and not at `c`: so its
+//! coefficients, scaled, are row `j` of the inverse.
 
 ghost use Rattle.std.specs.Prelude.{◌≡◌, ◌≢◌, ◌<◌, ◌^◌, ℕ, length, map, slice_index, IfOk};
 ghost use Rattle.std.specs.List.{range_with_len};

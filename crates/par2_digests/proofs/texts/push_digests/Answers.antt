@@ -1,8 +1,8 @@
-use Rattle.std.proofs.Common.{◌≡◌, ◌++◌, ◌≤◌, [], Result, Ok, Err, length, map, take, ap, ◌∙◌, arith, rules}
+use Rattle.std.proofs.Common.{◌≡◌, ◌++◌, [], Result, Ok, Err, get_or, length, map, take, ap, ◌∙◌, arith, rules}
 use Rattle.std.proofs.lemmas.List.{length-map}
 use Rattle.std.specs.Prelude.{OnOk, if◌then◌else◌, is_ok}
 use Rattle.md5.specs.Md5.{md5}
-use Rattle.par2_digests.specs.Texts.{messages_of, texts_of}
+use Rattle.par2_digests.specs.Texts.{texts_of}
 use Rattle.par2_digests.proofs.TextLaws.{first_digests}
 use Rattle.par2_digests.proofs.texts.push_digests.Goals as goal
 
@@ -13,17 +13,15 @@ when_ok (Err e) new done old want told is = tt
 
 pub returns : goal.returns
 returns c =
-    let items = c.in_ok-messages.messages.items in
-    let messages = messages_of items in
-    let added = c.digests-added.result in
-    let told = rw c.deref.ensures.value at c.digests-added.ensures in
+    let texts = texts_of c.args.texts.now in
+    let added = c.digest_each-added.result in
+    let told = rw c.deref.ensures.value at c.digest_each-added.ensures in
     let eight : length added ≡ 8 = search rules in
-    let many : length messages ≡ length items = length-map items _ in
-    let texts : length (texts_of c.args.texts.now) ≡ length c.args.texts.now = length-map c.args.texts.now _ in
-    let few : length messages ≤ 8 = omega (arith, ap length c.in_ok-messages.ensures, texts, c.requires) in
-    let count : c.len.result ≡ length messages = omega (arith, c.len.ensures, c.in_ok-messages.messages.ok.0, many) in
-    let all : take c.len.result added ≡ map md5 (texts_of c.args.texts.now) =
+    let many : length texts ≡ length c.args.texts.now = length-map c.args.texts.now _ in
+    let size = c.in_ok-messages.ensures.count in
+    let count : c.len.result ≡ length texts = omega (arith, c.len.ensures, size, many) in
+    let all : take c.len.result added ≡ map md5 texts =
     ap (λ n. take n added) count
-    ∙ first_digests messages added (omega (arith, eight, few)) (λ k lt. told [] k c.new.ensures (omega (arith, lt, many)))
-    ∙ ap (map md5) c.in_ok-messages.ensures in
+    ∙ first_digests texts added (omega (arith, eight, many, c.requires))
+    (λ k lt. told (λ i. get_or texts i []) c.in_ok-messages.ensures.each k (omega (arith, lt, many, size))) in
     when_ok c.extend_from_slice.result _ _ _ _ c.extend_from_slice.ensures.items (ap (λ xs. c.args.digests.now.items ++ xs) all)

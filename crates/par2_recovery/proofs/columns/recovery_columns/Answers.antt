@@ -7,7 +7,7 @@ use Rattle.par2_recovery.proofs.columns.recovery_columns.Goals as goal
 
 pub returns : goal.returns
 returns c =
-    IfOk-weaker c.together_or_grouped.result _ _
+    IfOk-weaker c.recovery_slices_within.result _ _
     (λ columns is. are_columns (texts_of c.args.slices.now) (texts_of c.deref.result.now) c.args.from c.args.len c.args.first c.args.count (lists_of columns.items) c.requires.place c.requires.even
     (ap texts_of c.deref.ensures.value ∙ c.in_ok-windows.ensures) is)
-    c.together_or_grouped.ensures
+    c.recovery_slices_within.ensures

@@ -1,4 +1,4 @@
-use Rattle.std.proofs.Common.{ℕ, ◌≡◌, ◌∙◌, get_or, length, subst, sym}
+use Rattle.std.proofs.Common.{ℕ, get_or, length, subst, sym}
 use Rattle.par2_spec.specs.Sums.{list_at, lists_of}
 use Rattle.par2_spec.proofs.WordLaws.{length-lists_of}
 use Rattle.par2_recovery.specs.Products.{AddsSource}
@@ -13,14 +13,9 @@ pub loop-k-preserved : goal.loop-k-preserved
 loop-k-preserved c =
     let factor = λ (r : ℕ). get_or (list_at (lists_of c.args.factors.now) r) c.loop-k.k 0 in
     let mid = lists_of c.loop-k.targets in
-    let new = lists_of c.add_source.new.targets in
+    let new = lists_of c.add_text.new.targets in
     let sources = texts_of c.args.sources.now in
-    let source = c.in_ok-source.source in
-    let count = length c.loop-k.targets in
-    let text : source.text ≡ list_at sources c.loop-k.k = c.in_ok-source.ensures.text ∙ c.source_at.ensures in
-    let added : AddsSource factor (list_at sources c.loop-k.k) mid new c.args.from c.args.to count =
-    subst (λ from. AddsSource factor (list_at sources c.loop-k.k) mid new from c.args.to count) c.in_ok-source.ensures.from
-    (subst (λ to. AddsSource factor (list_at sources c.loop-k.k) mid new source.from to count) c.in_ok-source.ensures.to
-    (subst (λ xs. AddsSource factor xs mid new source.from source.to count) text c.add_source.ensures)) in
+    let added : AddsSource factor (list_at sources c.loop-k.k) mid new c.args.from c.args.to (length c.loop-k.targets) =
+    subst (λ xs. AddsSource factor xs mid new c.args.from c.args.to (length c.loop-k.targets)) c.source_at.ensures c.in_ok-add_text.ensures in
     next_source (lists_of c.args.factors.now) sources (lists_of c.args.targets.now) mid new c.args.from c.args.to c.loop-k.k c.loop-k.invariant
     (subst (λ n. AddsSource factor (list_at sources c.loop-k.k) mid new c.args.from c.args.to n) (sym (length-lists_of c.loop-k.targets)) added)

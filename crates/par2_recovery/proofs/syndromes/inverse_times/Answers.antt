@@ -1,5 +1,5 @@
-use Rattle.std.proofs.Common.{◌≡◌, ◌*◌, ◌/◌, ◌∙◌, sym, ap, subst, arith, length}
-use Rattle.std.proofs.lemmas.Result.{IfOk-weaker}
+use Rattle.std.proofs.Common.{◌≡◌, ◌*◌, ◌/◌, ◌∙◌, sym, ap, subst, arith, rules, length}
+use Rattle.std.proofs.lemmas.List.{with_items_is}
 use Rattle.par2_spec.specs.Sums.{lists_of}
 use Rattle.par2_spec.proofs.WordLaws.{length-lists_of}
 use Rattle.par2_recovery.specs.Products.{Adds}
@@ -16,17 +16,17 @@ returns c =
     let m = length c.args.inverse.now in
     let inverse = lists_of c.args.inverse.now in
     let texts = lists_of c.args.texts.now in
-    let zeros = lists_of c.in_ok-zeros.zeros.items in
+    let zeros = lists_of c.in_ok-sums.sums.items in
+    let new = c.add_products.new.targets in
+    let sources = c.deref.result.now in
+    let many : length new ≡ c.in_ok-sums.sums.len = search rules in
     let whole : 2 * n ≡ size = omega (arith, c.requires.even) in
-    let same : texts_of c.deref.result.now ≡ texts = ap texts_of c.deref.ensures.value ∙ c.in_ok-sources.ensures in
-    let count : length c.deref.result.now ≡ length texts = sym (length-texts_of c.deref.result.now) ∙ ap length same in
-    let blank : AreBlank (2 * n) m zeros = subst (λ k. AreBlank k m zeros) (sym whole) c.in_ok-zeros.ensures in
-    IfOk-weaker c.with_products.result (λ sums. Adds inverse (texts_of c.deref.result.now) zeros (lists_of sums.items) 0 n (length c.deref.result.now))
-    (λ sums. AreProducts size inverse texts (lists_of sums.items))
-    (λ sums added.
-    let new = lists_of sums.items in
-    let sum : Adds inverse texts zeros new 0 n (length texts) =
-    subst (λ k. Adds inverse texts zeros new 0 n k) count (subst (λ xs. Adds inverse xs zeros new 0 n (length c.deref.result.now)) same added) in
-    subst (λ k. AreProducts k inverse texts new) whole
-    (products_added n m inverse texts zeros new (sym (length-lists_of c.args.inverse.now)) blank sum))
-    c.with_products.ensures
+    let same : texts_of sources ≡ texts = ap texts_of c.deref.ensures.value ∙ c.in_ok-sources.ensures in
+    let count : length sources ≡ length texts = sym (length-texts_of sources) ∙ ap length same in
+    let blank : AreBlank (2 * n) m zeros = subst (λ k. AreBlank k m zeros) (sym whole) c.in_ok-sums.ensures in
+    let added : Adds inverse (texts_of sources) zeros (lists_of new) 0 n (length sources) =
+    subst (λ xs. Adds inverse (texts_of sources) (lists_of xs) (lists_of new) 0 n (length sources)) c.as_mut_slice.ensures.value c.in_ok-add_products.ensures in
+    let sum : Adds inverse texts zeros (lists_of new) 0 n (length texts) =
+    subst (λ k. Adds inverse texts zeros (lists_of new) 0 n k) count (subst (λ xs. Adds inverse xs zeros (lists_of new) 0 n (length sources)) same added) in
+    subst (λ xs. AreProducts size inverse texts (lists_of xs)) (sym (with_items_is c.in_ok-sums.sums new many))
+    (subst (λ k. AreProducts k inverse texts (lists_of new)) whole (products_added n m inverse texts zeros (lists_of new) (sym (length-lists_of c.args.inverse.now)) blank sum))

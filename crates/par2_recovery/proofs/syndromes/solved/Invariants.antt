@@ -1,8 +1,15 @@
-use Rattle.std.proofs.Common.{◌*◌, min}
+use Rattle.std.proofs.Common.{◌≡◌, ◌≤◌, ◌-◌, ◌%◌, length}
 use Rattle.par2_spec.specs.Sums.{lists_of}
-use Rattle.par2_recovery.specs.Syndromes.{AreSolved}
+use Rattle.par2_recovery.specs.Syndromes.{all_coefficients, AreSolved}
 use Rattle.par2_recovery.specs.Views.{texts_of}
 use Rattle.par2_recovery.proofs.syndromes.solved.Given as goal
 
-abbrev pub invariant-loop-block : goal.invariant-loop-block
-invariant-loop-block l = AreSolved (min l.size (l.block * 8192)) (lists_of l.inverse) (lists_of l.coefficients) (texts_of l.known) (texts_of l.slices) (lists_of l.texts.items)
+abbrev pub invariant-loop-from : goal.invariant-loop-from
+invariant-loop-from l = record {
+  solved : AreSolved l.from (lists_of l.inverse) (all_coefficients (length l.slices) l.exponents) (texts_of l.slices) (texts_of l.recovery) (lists_of l.texts.items);
+  even : l.from % 2 ≡ 0;
+  within : l.from ≤ l.size;
+}
+
+abbrev pub decreases-loop-from : goal.decreases-loop-from
+decreases-loop-from l = l.size - l.from

@@ -1,4 +1,4 @@
-use Rattle.std.proofs.Common.{◌≡◌, ◌++◌, ◌∙◌, ap, refl, length, length-drop, drop, arith}
+use Rattle.std.proofs.Common.{◌≡◌, ◌∙◌, ap, refl, length, length-drop, drop, arith}
 use Rattle.std.proofs.lemmas.List.{drop_all}
 use Rattle.par2_digests.specs.Feeds.{bytes_left}
 use Rattle.par2_digests.specs.Messages.{message_of, part_bytes}
@@ -18,7 +18,7 @@ loop-filled-preserved c =
     record {
       room = omega (arith, copied.ensures.count, copied.auto.block, held.size);
       size = copied.auto.block ∙ held.size;
-      within = within_more whole (bytes_left feed) piece (message_of feed.parts.now ++ message_of feed.ending.now) f r _ rest refl held.within copied.ensures.count;
+      within = within_more whole (bytes_left feed) piece (message_of feed.parts.now) f r _ rest refl held.within copied.ensures.count;
       bytes = filled_more whole (bytes_left feed) c.loop-filled.blocks copied.new.block f r rest held.bytes copied.ensures.after;
       rest = rest_more whole (bytes_left feed) (bytes_left copied.new.self) f r rest copied.ensures.rest;
       done = λ short. copied.ensures.part ∙ drop_all r piece (omega (arith, copied.ensures.count, held.size));

@@ -1,4 +1,4 @@
-use Rattle.std.proofs.Common.{◌≡◌, ◌≤◌, ◌<◌, ◌+◌, [], length, take, drop}
+use Rattle.std.proofs.Common.{◌≡◌, ◌≤◌, ◌<◌, [], length, take, drop}
 use Rattle.par2_digests.specs.Feeds.{bytes_left}
 use Rattle.par2_digests.specs.Messages.{part_bytes}
 use Rattle.par2_digests.proofs.feeds.Feed.fill.Given as goal
@@ -14,4 +14,4 @@ invariant-loop-filled l = record {
 }
 
 abbrev pub decreases-loop-filled : goal.decreases-loop-filled
-decreases-loop-filled l = length l.self.parts.now + length l.self.ending.now
+decreases-loop-filled l = length l.self.parts.now

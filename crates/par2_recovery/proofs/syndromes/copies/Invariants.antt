@@ -1,7 +1,0 @@
-use Rattle.std.proofs.Common.{◌≡◌, take}
-use Rattle.par2_spec.specs.Sums.{lists_of}
-use Rattle.par2_recovery.specs.Views.{texts_of}
-use Rattle.par2_recovery.proofs.syndromes.copies.Given as goal
-
-abbrev pub invariant-loop-k : goal.invariant-loop-k
-invariant-loop-k l = lists_of l.copies.items ≡ take l.k (texts_of l.texts)
