@@ -1,12 +1,64 @@
-use Rattle.std.proofs.Common.{rules, ◌≡◌, ◌+◌, ◌-◌, ◌*◌, ◌<◌, ◌≤◌, ◌∙◌, sym, ap, subst, arith, length, min, List}
+use Rattle.std.proofs.Common.{rules, ◌≡◌, ℕ, ◌+◌, ◌-◌, ◌*◌, ◌^◌, ◌<◌, ◌≤◌, ◌∙◌, sym, ap, subst, arith, length, min, List}
+use Rattle.std.specs.Int.{div_ceil}
 use Rattle.std.proofs.lemmas.Grind.{div_ceil_times}
 use Rattle.std.proofs.lemmas.List.{with_items_is}
 use Rattle.par2_spec.specs.Sums.{lists_of}
 use Rattle.par2_spec.proofs.FoundLaws.{slice_begins}
-use Rattle.par2_transform.specs.Blocks.{Outputs}
+use Rattle.par2_transform.specs.Blocks.{Outputs, AreBlocks}
 use Rattle.par2_transform.specs.Plans.{cut_of}
 use Rattle.par2_transform.proofs.ColumnLaws.{ColumnsAdded, next_column, all_columns}
 use Rattle.par2_transform.proofs.windows.Windows.add_words.Goals as goal
+
+-- a run of columns begins before the words end
+begins : (words columns k n : ℕ) → 1 ≤ columns → n ≡ div_ceil words columns → k < n → k * columns < words
+begins words columns k n some is low = slice_begins words columns k (omega (arith, some)) (subst (λ m. k < m) is low)
+
+-- and ends no later than they do
+ends : (words from columns m : ℕ) → from < words → m ≡ min columns (words - from) → from + m ≤ words
+ends words from columns m low is = omega (arith, low, is)
+
+pub overflow_mul-from : goal.overflow_mul-from
+overflow_mul-from c =
+    let low = begins c.args.words c.args.self.now.plan.columns c.loop-k.k c.div_ceil-k-end.result (let some = c.args.self.now.plan.some.1.1 in omega (arith, some)) c.div_ceil-k-end.ensures c.loop-k-test.true in
+    omega (arith, low)
+
+pub overflow_sub-words : goal.overflow_sub-words
+overflow_sub-words c =
+    let low = begins c.args.words c.args.self.now.plan.columns c.loop-k.k c.div_ceil-k-end.result (let some = c.args.self.now.plan.some.1.1 in omega (arith, some)) c.div_ceil-k-end.ensures c.loop-k-test.true in
+    omega (arith, low)
+
+pub overflow_add-to : goal.overflow_add-to
+overflow_add-to c =
+    let columns = c.args.self.now.plan.columns in
+    let low = begins c.args.words c.args.self.now.plan.columns c.loop-k.k c.div_ceil-k-end.result (let some = c.args.self.now.plan.some.1.1 in omega (arith, some)) c.div_ceil-k-end.ensures c.loop-k-test.true in
+    let high = ends c.args.words (c.loop-k.k * columns) columns c.min.result low c.min.ensures in
+    omega (arith, high)
+
+pub add_classes-requires-clause-levels : goal.add_classes-requires-clause-levels
+add_classes-requires-clause-levels c = c.loop-k.invariant.levels
+
+pub add_classes-requires-clause-words : goal.add_classes-requires-clause-words
+add_classes-requires-clause-words c = c.loop-k.invariant.same_words
+
+pub add_classes-requires-clause-blocks : goal.add_classes-requires-clause-blocks
+add_classes-requires-clause-blocks c =
+    let plan = c.args.self.now.plan in
+    subst (λ (bs : List Outputs). AreBlocks (cut_of plan) plan.columns c.args.self.now.first plan.block bs) (sym c.as_mut_slice.ensures.value) c.loop-k.invariant.are
+
+pub add_classes-requires-clause-few : goal.add_classes-requires-clause-few
+add_classes-requires-clause-few c =
+    let self = c.args.self.now in
+    let count = ap (λ (bs : List Outputs). length bs) c.as_mut_slice.ensures.value ∙ c.loop-k.invariant.count in
+    subst (λ n. self.first + n * self.plan.block ≤ 2 ^ 34) (sym count) c.in_ok-blocks.ensures.few
+
+pub add_classes-requires-clause-room : goal.add_classes-requires-clause-room
+add_classes-requires-clause-room c = λ t h.
+    let columns = c.args.self.now.plan.columns in
+    let added = c.loop-k.invariant.added in
+    let low = begins c.args.words c.args.self.now.plan.columns c.loop-k.k c.div_ceil-k-end.result (let some = c.args.self.now.plan.some.1.1 in omega (arith, some)) c.div_ceil-k-end.ensures c.loop-k-test.true in
+    let high = ends c.args.words (c.loop-k.k * columns) columns c.min.result low c.min.ensures in
+    let size = added.sizes t ∙ c.requires.size t (subst (λ n. t < n) added.count h) in
+    omega (arith, high, size)
 
 pub loop-k-preserved : goal.loop-k-preserved
 loop-k-preserved c =
@@ -21,7 +73,7 @@ loop-k-preserved c =
     let e = c.add_classes.ensures in
     let size : length blocks ≡ c.loop-k.blocks.len = search rules in
     let count : length blocks ≡ length c.loop-k.blocks.items = e.count ∙ ap (λ (xs : List Outputs). length xs) c.as_mut_slice.ensures.value in
-    let low : k * columns < c.args.words = slice_begins c.args.words columns k (let some = self.plan.some.1.1 in omega (arith, some)) (subst (λ n. k < n) c.div_ceil-k-end.ensures c.loop-k-test.true) in
+    let low = begins c.args.words columns k c.div_ceil-k-end.result (let some = self.plan.some.1.1 in omega (arith, some)) c.div_ceil-k-end.ensures c.loop-k-test.true in
     let place : k * columns + c.min.result ≡ k * columns + min columns (c.args.words - k * columns) = ap (λ n. k * columns + n) c.min.ensures in
     subst (λ after. ColumnsAdded (cut_of self.plan) self.slices columns self.first self.plan.block c.args.words (k + 1) c.add_classes.new.rows old after was texts) (sym (with_items_is c.loop-k.blocks blocks size))
     (next_column (cut_of self.plan) self.slices columns self.first self.plan.block c.args.words k (k * columns + c.min.result) c.loop-k.rows c.add_classes.new.rows old c.loop-k.blocks.items blocks was half texts
