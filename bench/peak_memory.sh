@@ -43,3 +43,6 @@ row "redo of the repair" "data" redo
 rm -f -- * .par2undo
 head -c 262144 /dev/urandom > data
 row "create, 4000 slices of 64 over 256 KiB" "set.*par2" create -s64 -c4000 set.par2 data
+rm -f -- * .par2undo
+head -c 4096 /dev/urandom > data
+row "create, 60,000 slices of 64 over 4 KiB" "set.*par2" create -s64 -c60000 set.par2 data
