@@ -1,5 +1,5 @@
 -- Texts, some at a time.
-use Rattle.std.proofs.Common.{inl, inr, ℕ, ◌+◌, ◌-◌, ◌*◌, ◌<◌, ◌≤◌, ◌≡◌, sym, ap, ap₂, subst, ◌∙◌, arith, List, [], ◌++◌, length, min, take, drop, get_or, map, Vec, Global, bit_xor}
+use Rattle.std.proofs.Common.{inl, inr, ℕ, ◌+◌, ◌-◌, ◌*◌, ◌<◌, ◌≤◌, ◌≡◌, sym, ap, ap₂, subst, ◌∙◌, arith, List, [], ◌++◌, length, min, take, drop, Vec, Global, bit_xor}
 use Rattle.std.proofs.lemmas.Bool.{cases_lt}
 use Rattle.std.proofs.lemmas.List.{get_or-take, get_or-drop, map-append, take-map, drop-map, length-take-le, length-drop}
 use Rattle.std.specs.Int.Bits.{xor_zero_r}
