@@ -99,6 +99,7 @@ loop-name-preserved c =
     let low : i < length names = c.loop-name-test.true in
     let is : c.in_ok-other.other ≡ aside folder set c.name-item.result = c.in_ok-other.ensures.aside in
     let named : IsTrue (is_name c.in_ok-other.other) = search rules in
-    let pushed : c.push.new.self.items ≡ c.loop-name.asides.items ++ c.in_ok-other.other ∷ [] = c.in_ok-push.ensures.items in
-    (pushed ∙ one_more_aside folder set names i c.name-item.result c.in_ok-other.other low c.name-item.is is c.loop-name.asides.items c.loop-name.invariant.0,
-     one_more_short folder set names i c.name-item.result c.in_ok-other.other low c.name-item.is is named c.loop-name.invariant.1)
+    let pushed : c.push.new.self.items ≡ c.loop-name.asides.items ++ c.in_ok-other.other ∷ [] = c.in_ok-push.ensures.items in (
+      pushed ∙ one_more_aside folder set names i c.name-item.result c.in_ok-other.other low c.name-item.is is c.loop-name.asides.items c.loop-name.invariant.0,
+      one_more_short folder set names i c.name-item.result c.in_ok-other.other low c.name-item.is is named c.loop-name.invariant.1,
+    )
