@@ -1,6 +1,7 @@
 #!/bin/sh
-# Whole commands over 3,000 and over 30,000 files of 1 KiB, with 200 recovery slices: the milliseconds of each, the least
-# of three runs, and how they grow beside n log n: 1.00 is as n log n, more is faster growth. A repair gives back 100 files.
+# Whole commands over 3,000 and over 30,000 files of 1 KiB, with 200 recovery slices: the milliseconds of each, the
+# least of three runs, and how they grow beside n log n. A growth of 1.00 is as n log n, and more is faster. A repair
+# gives back 100 files.
 # usage: many_files.sh PROGRAM
 set -eu
 program=$1

@@ -1,8 +1,9 @@
 #!/bin/sh
-# Looks that want of memory is told for want of memory alone, which no contract can say: a true fault told as Memory
-# would meet it. In the crates that the program is made of, an AllocError comes from the library, and each `Memory` of a
-# fault is made from one: by `From`, or by an arm or a closure whose pattern is AllocError, AllocFailed, the `Memory` of
-# another fault, or an error's OutOfMemory. Prints each line that makes one otherwise, and fails where there is any.
+# Looks that out of memory is reported only where memory is out, which no contract can say: a true fault reported as
+# Memory would meet it. In the crates that the program is made of, an AllocError comes from the library, and each
+# `Memory` of a fault is made from one by `From`, or by an arm or a closure. The pattern of these is AllocError,
+# AllocFailed, the `Memory` of another fault, or an error's OutOfMemory. Prints each line that makes one otherwise, and
+# fails where there is any.
 set -eu
 cd "$(dirname "$0")/.."
 
@@ -57,4 +58,4 @@ if [ -n "$found" ]; then
     echo "$found"
     exit 1
 fi
-echo "Memory is answered for want of memory alone"
+echo "Memory is answered only where memory is out"

@@ -71,7 +71,7 @@ class Programs:
     def refused_each(self, name, words, lines=""):
         """Returns what the program writes, and what it writes with each growth of its call refused in turn."""
         shown = self.said(name, words, lines, REFUSED="0", SHOWN="yes")
-        # The line of the call, and its growths behind it.
+        # The line of the call, and its growths after it.
         call = re.search(r"^!*>.*\n(!*)", shown, re.MULTILINE)
         earlier = shown[: call.start(1)].count("!")
         numbers = range(earlier + 1, earlier + len(call[1]) + 1)

@@ -1,5 +1,5 @@
 #!/usr/bin/env python3
-"""Cuts the power behind each call of a run that changes the folder or waits for the disk. Each folder that the disk may
+"""Cuts the power after each call of a run that changes the folder or waits for the disk. Each folder that the disk may
 then hold must open as the folder from before the run, or as the one after it.
 
 What was waited for lasts, and of the rest anything: the bytes of a file are there, half of them, none, or those that were
@@ -36,7 +36,7 @@ JOURNAL, TEMPORARY = ".par2undo", ".par2undo.tmp"
 BYTES, NAMES = "bytes", "names"
 # What must be free in memory for the folders to stand there.
 ROOM = 1 << 28
-# As many folders are tried behind one call, among as many ways to lose what wasn't waited for.
+# As many folders are tried after one call, among as many ways to lose what wasn't waited for.
 MOST_FOLDERS = 200
 MOST_WAYS = 2000
 # More undos or redos than any of these folders has.
@@ -46,7 +46,7 @@ SHORT_FILE = 32
 
 # A change of names: one that is gone and one that the file of this number has then, or None.
 Change = namedtuple("Change", "gone name file")
-# A folder that the disk may hold, and the number of the first call behind which it may.
+# A folder that the disk may hold, and the number of the first call after which it may.
 Cut = namedtuple("Cut", "number files")
 # An undo or a redo: what it says, its status, and the files after it.
 Step = namedtuple("Step", "way text status files")
@@ -320,7 +320,7 @@ class Scene:
         self.wrong = []
 
     def cut_each(self, calls, forgotten):
-        """Cuts the power before the first call that matters and behind each."""
+        """Cuts the power before the first call that matters and after each."""
         disk = Disk(self.before, forgotten)
         self.cut(disk)
         for call in calls:
@@ -394,7 +394,7 @@ class Cuts:
         _, self.files = self.runs.recorded(self.files, line)
 
     def stopped(self, count, line):
-        """The same, but the run is stopped behind so many calls that give or take names other than the temporary
+        """The same, but the run is stopped after so many calls that give or take names other than the temporary
         file's. The first of them puts the journal."""
         calls, _ = self.runs.recorded(self.files, line)
         disk = Disk(self.files)

@@ -1,8 +1,8 @@
 #!/bin/sh
-# What a real folder has beside files. A link, a folder, a pipe or a device stands where the program looks for a file or
-# would put one; a file or the folder can't be read or written; a name is as long as names can be, or longer; a file
-# grows or vanishes while the folder is read. Each run says so, and all stays as it was; and once that is over, the same
-# run ends as if it had never been.
+# What a real folder has beside files. A link, a folder, a pipe or a device stands where the program looks for a file
+# or would put one. A file or the folder can't be read or written. A name is as long as names can be, or longer. A file
+# grows or vanishes while the folder is read. Each run says so, and all stays as it was; and once that is over, the
+# same run ends as if it had never been.
 set -eu
 cd "$(dirname "$0")/.."
 clang=$(dirname "$(rt doc)")/toolchain/bin/clang
@@ -266,8 +266,8 @@ for words in 'verify t.par2' 'create -s4 -c5 u.par2 aa' undo; do
     is_kept "a name of more bytes than names have, $words"
 done
 
-# A folder that can't be read to its end, and a file of which can't be told that it is one. What isn't listed would be
-# written over.
+# A folder that can't be read to its end, and an entry of which is not known whether it is a file. What isn't listed
+# would be written over.
 printf 'abcdxfgh' > "$room/found/aa"
 seq -f "$room/found/beside%03.0f" 300 | xargs touch
 for words in 'verify t.par2' 'create -s4 -c5 u.par2 aa' 'repair t.par2' undo; do

@@ -1,8 +1,7 @@
 #!/bin/sh
-# Runs the built programs where no program of the gate can put itself: in a folder with a name that isn't UTF-8, with
-# a file for which memory is refused, where no room is left for what is written, where a journal is deleted by hand, and
-# with words that aren't UTF-8.
-# Prints a line for each run, and ends with status 1 at the first that answers otherwise.
+# Runs the built programs where no program of the gate can put itself. There are a folder with a name that isn't UTF-8,
+# words that aren't UTF-8, a file for which memory is refused, a disk without room for what is written, and a journal
+# that is deleted by hand. Prints a line for each run, and ends with status 1 at the first that answers otherwise.
 set -eu
 cd "$(dirname "$0")/.."
 top=$PWD

@@ -98,7 +98,7 @@ class Refusals:
             sys.exit(f"not stopped: {line}")
 
     def run(self, number, line):
-        """Runs the words of a line in a copy of the folder, the growth of that number refused, and returns what is told
+        """Runs the words of a line in a copy of the folder, the growth of that number refused. Returns what is reported,
         and whether there was such a growth."""
         shutil.rmtree(self.here, ignore_errors=True)
         shutil.copytree(self.found, self.here)
@@ -125,7 +125,7 @@ class Refusals:
                 break
         if is_reached or not refused:
             sys.exit(f"growths of {name}: the refusals came to no end, or there was none")
-        print(f"growths of {name}: {number - 1} refused one by one, {refused} of them told as want of memory", flush=True)
+        print(f"growths of {name}: {number - 1} refused one by one, {refused} reported as out of memory", flush=True)
 
 
 def creates(runs):
@@ -173,7 +173,7 @@ def repairs(runs):
 
 
 def there_and_back(runs, what, undone, line):
-    """An undo and a redo of the words of a line, after which the folder is as behind these."""
+    """An undo and a redo of the words of a line, after which the folder is as these left it."""
     runs.before(line)
     runs.refuse_each(f"an undo of {undone}", "undo")
     runs.before("undo")

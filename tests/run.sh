@@ -23,8 +23,8 @@ fi
 sed '$d' "$log"
 # The gate has left the programs that it built, so `make demo` and `make install` need not build again.
 sh tools/sources.sh > crates/par2/out/par2.sources
-# What follows needs one processor at a time, so the rows for wider lanes are built and run beside it, and on the
-# processors that are left each function that an edit changes is shown to be refused by a goal of its own.
+# What follows needs one processor at a time, so the rows for wider lanes are built and run beside it. On the
+# processors that are left, each function that an edit changes is shown to be refused by a goal of its own.
 wide=$(mktemp)
 bodies=$(mktemp)
 trap 'rm -f "$log" "$wide" "$bodies"' EXIT

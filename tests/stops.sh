@@ -1,8 +1,8 @@
 #!/bin/sh
-# Stops the program at its first call that changes the folder or waits for the disk, then at its second, and so on until
-# none is left: it ends by SIGKILL before the call, behind it or in the middle of a write, or the call fails. What undos
-# and redos then lead to is what they lead to from the folder before the run, or from the folder after it, and nothing
-# else is left over.
+# Stops the program at its first call that changes the folder or waits for the disk, then at its second, and so on
+# until none is left. It ends by SIGKILL before the call, after it or in the middle of a write, or the call fails. What
+# undos and redos then lead to is what they lead to from the folder before the run, or from the folder after it, and
+# nothing else is left over.
 set -eu
 cd "$(dirname "$0")/.."
 par2=$PWD/crates/par2/out/par2
@@ -66,7 +66,7 @@ run() {
         > "$room/told" 2>&1 9> "$room/reached" || status=$?
 }
 
-# A run that was stopped is told as such, if it isn't killed.
+# A run that was stopped is reported as such, if it isn't killed.
 is_told() {
     if [ "$status" -ne 6 ] || ! grep -qx 'par2: a file could not be read or written' "$room/told"; then
         echo "a failing call: status $status"
@@ -125,7 +125,7 @@ before purge t.par2
 stop_each "an undo of a purge" undo
 before undo
 stop_each "a redo of a purge" redo
-# A run that finds a stopped command takes it back first: it is stopped too. This redo is stopped behind its first
+# A run that finds a stopped command takes it back first: it is stopped too. This redo is stopped after its first
 # removal.
 for number in $(seq "$most"); do
     run "$number" before redo 2> /dev/null

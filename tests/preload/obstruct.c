@@ -1,11 +1,11 @@
-// Meddles with the folder while the program reads it: the file that the variable VANISHES names is removed, or the one
-// that GROWS names gets a byte more, once the folder is `listed` or before the file is `opened`, as WHEN says. With LONG
-// the folder lists one name more, of 256 bytes of UTF-8, as some file systems do; what is asked of it is asked of the
-// file that LONG names. With FAILS the folder can't be read on: of the calls that read it, the one whose number FAILS
-// gives fails, counted from 1. The kind of the entry that UNTOLD names isn't told by the folder, and can't be found when
-// it is asked for by the path of the listing. A file that the variable APPEARS names, with the byte `+`, is there once the
-// folder is `listed`, or before a file is `named` so. With NOLINKS the folder has no hard links, which is told once a file
-// may have appeared. For LD_PRELOAD.
+// Meddles with the folder while the program reads it. The file that the variable VANISHES names is removed, or the one
+// that GROWS names gets a byte more, once the folder is `listed` or before the file is `opened`, as WHEN says. With
+// LONG the folder lists one name more, of 256 bytes of UTF-8, as some file systems do; what is asked of it is asked of
+// the file that LONG names. With FAILS the folder can't be read on: of the calls that read it, the one whose number
+// FAILS gives fails, counted from 1. Of the entry that UNTOLD names the folder doesn't give the kind, and it can't be
+// found when it is asked for by the path of the listing. A file that the variable APPEARS names, with the byte `+`, is
+// there once the folder is `listed`, or before a file is `named` so. With NOLINKS the folder has no hard links, which
+// is reported once a file may have appeared. For LD_PRELOAD.
 typedef unsigned long size;
 extern char *getenv(const char *name);
 extern long syscall(long number, ...);
@@ -16,7 +16,7 @@ enum { WRITE = 1, CLOSE = 3, LINK = 86, UNLINK = 87, GETDENTS64 = 217, OPENAT = 
 enum { AT_FDCWD = -100, ACCESS = 3, WRONLY = 1, CREATE = 0100, APPEND = 02000, MODE = 0644 };
 enum { UNKNOWN = 0, REGULAR = 8, EPERM = 1, EIO = 5 };
 
-// An entry: its number, the next one's place, its length, its type, and its name behind these 19 bytes, which ends
+// An entry: its number, the next one's place, its length, its type, and its name after these 19 bytes, which ends
 // with a zero.
 enum { LONGEST = 256, HEAD = 19, ENTRY = 280 };
 

@@ -1,6 +1,6 @@
-// Records on descriptor 9 each call of the program that opens something, changes the folder or waits for the disk, once
-// it has succeeded: a line with its word, its descriptor, a number and the lengths of two texts, and then these texts.
-// For LD_PRELOAD.
+// Records on descriptor 9 each call of the program that opens something, changes the folder or waits for the disk,
+// once it has succeeded. There is a line with its word, its descriptor, a number and the lengths of two texts, and
+// then these texts follow. For LD_PRELOAD.
 typedef unsigned long size;
 extern int dprintf(int file, const char *format, ...);
 extern long syscall(long number, ...);

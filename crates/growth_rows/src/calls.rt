@@ -1,4 +1,4 @@
-//! Calls whose contracts are long, each behind a function that promises nothing: of such a call the prover sees its
+//! Calls whose contracts are long, each in a function that promises nothing: of such a call the prover sees its
 //! type alone.
 ghost use Rattle.std.specs.Prelude.{IfOk};
 ghost use Rattle.par2_journal.specs.Ready.{Fits};

@@ -29,7 +29,7 @@ fn asides_of(
     asides(rt.alloc(), folder, &set_in(rt, folder), names)
 }
 
-// Whether the asides are as told.
+// Whether the asides are as expected.
 fn are_asides(found: &Result<Vec<Name>, Fault>, wanted: Result<&[&str], Fault>) -> bool {
     match (found, wanted) {
         (Ok(names), Ok(texts)) => are_named(names, texts),

@@ -1,4 +1,4 @@
-//! Calls of names, folders and stores, each behind a function that promises nothing: of such a call the prover sees its
+//! Calls of names, folders and stores, each in a function that promises nothing: of such a call the prover sees its
 //! type alone.
 
 use par2_folder::{Folder, FolderStore, Name, ReadFault, StoreFault, read_folder};

@@ -116,7 +116,7 @@ fn solution(system: System) -> Result<Vec<Vec<u8>>, System>
     system.into_solution()
 }
 
-// Whether the equation is taken as told.
+// Whether the equation is taken as expected.
 fn is_taken(
     rt: &(impl Abort + AllocGlobal),
     gf: &Gf,

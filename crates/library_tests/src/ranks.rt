@@ -42,7 +42,7 @@ const ROWS: &[Row] = &[
     (&[0, 2], &[0, 21845, 43690]),
     (&[0, 2], &[0, 21845, 21846]),
     (&[0, 1, 2, 3], &[0, 1, 21845, 21846, 43690, 43691]),
-    // lost slices that aren't in order, and one that is told twice
+    // lost slices that aren't in order, and one that is named twice
     (&[3, 0, 1], &[4, 5, 6]),
     (&[2, 2], &[0, 1]),
 ];

@@ -19,13 +19,13 @@ abbrev pub CountsAs : FileType → List ℕ → Option (List ℕ) → Type 0
 CountsAs kind text (Some name) = IsFile kind × IsTrue (is_name text) × (name ≡ text)
 CountsAs kind text None = IsFile kind → IsFalse (is_name text) × IsTrue (is_of_history text)
 
--- an entry that can't be listed: a file whose text is no name, and which isn't of the history. It is told as such
+-- an entry that can't be listed: a file whose text is no name, and which isn't of the history. It is reported as such
 abbrev pub IsMisnamed : FileType → List ℕ → Error → Type 0
 IsMisnamed kind text error = IsFile kind × IsFalse (is_name text) × IsFalse (is_of_history text) × (error_kind error ≡ InvalidFilename)
 
 -- what may be answered when the kind of an entry is asked for, and its text
 module _ {E : Type 0} (kind_gives : E → Result FileType Error → Type 0) (text_of : E → List ℕ) where
-  -- what an item of the listing counts as. One that failed, or whose kind can't be told, counts as nothing
+  -- what an item of the listing counts as. One that failed, or whose kind is unknown, counts as nothing
   abbrev pub IsCounted : Result E Error → Option (List ℕ) → Type 0
   IsCounted (Ok entry) name = (kind : FileType) × kind_gives entry (Ok kind) × CountsAs kind (text_of entry) name
   IsCounted (Err _) name = ⊥
@@ -35,7 +35,7 @@ module _ {E : Type 0} (kind_gives : E → Result FileType Error → Type 0) (tex
   FailsBy (Ok entry) error = kind_gives entry (Err error) ⊎ ((kind : FileType) × kind_gives entry (Ok kind) × IsMisnamed kind (text_of entry) error)
   FailsBy (Err e) error = error ≡ e
 
-  -- the names before an item of the listing, and behind it
+  -- the names before an item of the listing, and after it
   abbrev pub Adds : List (List ℕ) → Result E Error → List (List ℕ) → Type 0
   Adds names item more = (name : Option (List ℕ)) × IsCounted item name × (more ≡ names ++ option_to_list name)
 

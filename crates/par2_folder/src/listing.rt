@@ -25,7 +25,7 @@ pub trait Entry {
     /// The text of its name.
     ghost text_of: { Self → List ℕ };
 
-    /// Whether it is a file, a folder or something else, where that can be told.
+    /// Whether it is a file, a folder or something else, where that is known.
     fn kind(&self) -> io::Result<FileType>
         ensures { kind_gives self.now result };
 

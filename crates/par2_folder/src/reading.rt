@@ -12,7 +12,7 @@ const BLOCK: usize = 1 << 16;
 // A file that has not ended after so many reads can't be read.
 const READS: u64 = 1 << 32;
 
-/// Want of memory, or a failure.
+/// Out of memory, or a failure.
 pub fn fault_of(error: &Error) -> ReadFault
     ensures { IsToldAs error.now result }
 {

@@ -38,7 +38,7 @@ pub up_to_end : (c : ℕ) (src old new : List ℕ) (from end to : ℕ) → from 
     → AddsWithin c src old new from end → AddsWithin c src old new from to
 up_to_end c src old new from end to low high past added = adds_after c src old new new from end to low high added (nothing_past c src new end to past)
 
--- the words of whole blocks and those behind them are all words
+-- the words of whole blocks and those after them are all words
 pub blocks_and_rest : (c : ℕ) (src old mid new : List ℕ) (a b d : ℕ) → a ≡ b → b ≤ d → d ≡ length old / 2
     → AddsWithin c src old mid 0 a → AddsWithin c src mid new b d → AddsProducts c src old new
 blocks_and_rest c src old mid new a b d met low end first second =

@@ -1,5 +1,5 @@
-//! Arithmetic in the field of 65,536 elements (Parity Volume Set Specification 2.0, "The Galois field"): an element is
-//! a polynomial over bits, bit i being the coefficient of `x ^ i`, and the sum of two elements is their exclusive or.
+//! Arithmetic in the field of 65,536 elements (Parity Volume Set Specification 2.0, "The Galois field"). An element is
+//! a polynomial over bits, bit i being the coefficient of `x ^ i`. The sum of two elements is their exclusive or.
 #![tactic(auto)]
 
 mod columns;

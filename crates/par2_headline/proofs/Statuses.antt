@@ -74,7 +74,7 @@ failure_is_told FolderChanged e = omega (arith, e)
 failure_is_told NothingToUndo e = omega (arith, e)
 failure_is_told NothingToRedo e = omega (arith, e)
 
--- the status of what is told
+-- the status of what is reported
 abbrev pub own_status : Telling → ℕ
 own_status (Answered dropped outcome) = status_of outcome
 own_status (Failed spoken reason) = status_of_failure reason

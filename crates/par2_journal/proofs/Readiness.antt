@@ -109,7 +109,7 @@ ready_redo s steps some told = record {
   leads = redo_done s (some_there s.redos some);
 }
 
--- ---- what is told of what was committed
+-- ---- what is reported of what was committed
 
 pub same_changes : (kind : Kind) (old new : KeptSession) → OnlyGrew old new → changes_by_kind kind new ≡ changes_by_kind kind old
 same_changes (Changing changes) old new grew = refl

@@ -16,7 +16,7 @@ pub data Kind : Type 0 where
   Undoing : Kind
   Redoing : Kind
 
--- what was made ready: its kind, and the steps that are told of it
+-- what was made ready: its kind, and the steps that are reported of it
 pub record Ready : Type 0 where
   pub kind : Kind
   pub steps : List Step

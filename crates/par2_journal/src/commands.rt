@@ -205,7 +205,7 @@ impl Session {
             OnOk result (WritesAsDescribed self.old.folder.files base.now words) }
         ensures few { let command = Repair base.now (map string_bytes extras.now) purge in
             OnOk result (AreFewFor self.old.folder.files command) }
-        // A refusal leaves the session as it was, and is told before memory is taken where it can be.
+        // A refusal leaves the session as it was, and is reported before memory is taken where it can be.
         ensures unchanged { OnErr result (OnlyGrew self.old self.new) }
         ensures refused { let command = Repair base.now (map string_bytes extras.now) purge in
             IfErr result (MayFail command self.old) }

@@ -372,7 +372,7 @@ fn answer_of(
 
 // Opens by the bytes of a journal of a session that no command has left. Their digest is computed side by side with
 // that of the folder, so it is tested last. Where the entries can't be applied, or memory runs out before, nothing is
-// told, and the folder is given back.
+// reported, and the folder is given back.
 fn open_untested(
     alloc: Global,
     folder: Folder,
@@ -441,7 +441,7 @@ impl Session {
 }
 
 /// Whether a folder with the bytes of a journal opens as a session on this very folder. No digest of its files is
-/// taken, so that it isn't told whether the session has the history of the journal or a new one. An answer of false
+/// taken, so that it is not said whether the session has the history of the journal or a new one. An answer of false
 /// says nothing: the folder is then to be opened. The entries are applied and taken back, and the folder may get room.
 pub fn opens_as_is(alloc: Global, folder: &mut Folder, bytes: &[u8]) -> Result<bool, AllocError>
     ensures files { folder.new.files ≡ folder.old.files }

@@ -1,4 +1,4 @@
-//! What a session has made ready, and the steps that are told of it.
+//! What a session has made ready, and the steps that are reported of it.
 use crate::{NothingToRedo, NothingToUndo};
 use par2_folder::{Change, Name};
 use par2_plan::{Changes, Fault};
@@ -150,7 +150,7 @@ pub enum Task {
     Redo,
 }
 
-/// An action that a session has made ready: what it does, and the steps that are told of it.
+/// An action that a session has made ready: what it does, and the steps that are reported of it.
 #[derive(Debug, Drop)]
 pub struct Prepared {
     pub(crate) task: Task,

@@ -11,7 +11,7 @@ use Rattle.par2_matrix.proofs.ReducedSystems.{ToldApart, told_apart, all_present
 use Rattle.par2_matrix.proofs.Placing.{Placed, Cut, cut_down}
 use Rattle.par2_matrix.proofs.Standing.{placed_reduced}
 
--- an equation was kept: it told a vector apart, and it cuts the system down
+-- an equation was kept: it tells a vector apart, and it cuts the system down
 pub record IsTaken (n b rank : ℕ) (row right : List ℕ) (R D R'' D'' : List (List ℕ)) : Type 0 where
   pub told : ToldApart (echelon n b rank R D) row
   pub cut : Cut (echelon n b rank R D) (echelon n b (rank + 1) R'' D'') row right

@@ -90,7 +90,7 @@ same_pieces m f g e n text same pieces = record {
   is = pieces.is ∙ pieces_same f g e n (λ k _ _. same k);
 }
 
--- a piece more, behind others
+-- a piece more, after others
 pub piece_more : (f : ℕ → List ℕ) (e k : ℕ) (text out new : List ℕ) → out ≡ text ++ flat_map f (range_with_len e k) → new ≡ out ++ f (e + k) → new ≡ text ++ flat_map f (range_with_len e (k + 1))
 piece_more f e k text out new so_far is =
     is ∙ ap (λ (xs : List ℕ). xs ++ f (e + k)) so_far ∙ flat_map_more f text (range_with_len e k) (e + k)

@@ -38,7 +38,7 @@ impl Run {
     }
 }
 
-// What the digests are taken of begins behind the magic, the length and the digest of each packet; the last of them
+// What the digests are taken of begins after the magic, the length and the digest of each packet; the last of them
 // again in the lanes that are left.
 fn starts(at: usize, len: usize, count: usize) -> [usize; LANES]
     requires low { 64 ≤ len }

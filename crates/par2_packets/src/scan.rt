@@ -69,7 +69,7 @@ fn first_packet(text: &[u8]) -> Packet<'_>
     }
 }
 
-// The first packet from the cursor on, which then stands behind it.
+// The first packet from the cursor on, which then is past it.
 fn next_packet<'a>(cursor: &mut Cursor<'a>) -> Option<Packet<'a>>
     ensures { let found = packets.accepted (rest_of cursor.old) in
         let others = packets.accepted (rest_of cursor.new) in

@@ -48,7 +48,7 @@ fn append_undigested(
     append_zeros(out, size)
 }
 
-/// The text, and behind it the packets of `count` exponents from `first` on: their slices are zeros, and their MD5s are
+/// The text, and after it the packets of `count` exponents from `first` on: their slices are zeros, and their MD5s are
 /// still to come.
 pub fn with_undigested(
     text: Vec<u8>,

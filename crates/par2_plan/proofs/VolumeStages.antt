@@ -40,7 +40,7 @@ length-up_to parts can n within e =
     let zeros = length-replicate {A = ℕ} (s - n) 0 in
     length-append (take n (slice_of parts e)) (replicate (s - n) 0) ∙ omega (arith, front, zeros, within)
 
--- more columns, written behind those that are there
+-- more columns, written after those that are there
 columns_put : (s from n : ℕ) (slice : List ℕ) → length slice ≡ s → from + n ≤ s
     → overwritten from (window from n slice) (take from slice ++ replicate (s - from) 0) ≡ take (from + n) slice ++ replicate (s - (from + n)) 0
 columns_put s from n slice whole fits =
@@ -90,14 +90,14 @@ window_small parts from n e = let size = length-take n (drop from (slice_of part
 
 -- ---- the packets of a volume
 
--- what stands behind the index
+-- what stands after the index
 pub behind_index : (text index rest : List ℕ) (n : ℕ) → n ≡ length index → text ≡ index ++ rest → take (length text - n) (drop n text) ≡ rest
 behind_index text index rest n size is =
     let here : drop n text ≡ rest = ap (drop n) is ∙ drop_at index rest n (sym size) in
     let long : length rest ≤ length text - n = (let whole = ap length is in let both = length-append index rest in omega (arith, whole, both, size)) in
     ap (take (length text - n)) here ∙ take_all (length text - n) rest long
 
--- other packets behind it
+-- other packets after it
 pub index_kept : (text index rest new : List ℕ) (n : ℕ) → n ≡ length index → text ≡ index ++ rest → put_mid n (length text - n) text new ≡ index ++ new
 index_kept text index rest new n size is =
     let front : take n text ≡ index = ap (take n) is ∙ take_at index rest n (sym size) in
@@ -110,7 +110,7 @@ length-packets parts can sixteen n first count within =
     length-pieces (68 + parts.set.now.slice) (λ (e : ℕ). undigested parts.set_id e (slice_up_to parts n e))
     (λ e. length-undigested parts.set_id e (slice_up_to parts n e) sixteen ∙ ap (λ k. 68 + k) (length-up_to parts can n within e)) first count
 
--- with the columns, the slices are there up to behind them
+-- with the columns, the slices are there up to their end
 pub packets_filled : (parts : Parts) (from n first count : ℕ) (columns : List (List ℕ)) (old new : List ℕ) → HasSlices parts → length parts.set_id ≡ 16 → from + n ≤ parts.set.now.slice
     → columns ≡ map (λ e. window from n (slice_of parts e)) (range_with_len first count) → AreWritten parts.set.now.slice from columns old new
     → old ≡ flat_map (λ e. undigested parts.set_id e (slice_up_to parts from e)) (range_with_len first count)
@@ -186,7 +186,7 @@ pieces_apart f e a b next is =
     ap (flat_map f) (range-append e a b) ∙ flat_map-append f (range_with_len e a) (range_with_len (e + a) b)
     ∙ ap (λ k. flat_map f (range_with_len e a) ++ flat_map f (range_with_len k b)) (sym is)
 
--- what stands before some exponents, the packets of these, and what stands behind
+-- what stands before some exponents, the packets of these, and what stands after
 volume_parts : (parts : Parts) (there : ℕ → ℕ) (volume : Volume) (first end : ℕ) → volume.first ≤ first → first ≤ end → end ≤ volume.first + volume.count
     → volume_with parts there volume
     ≡ (parts.index.items ++ packets_with parts there volume.first (first - volume.first)) ++ (packets_with parts there first (end - first) ++ packets_with parts there end (volume.first + volume.count - end))

@@ -27,7 +27,7 @@ passed_over [] xs = []
 abbrev pub intact_by : List Bool → List Target → List (List ℕ)
 intact_by needing ts = map (λ t. t.name) (passed_over needing ts)
 
--- the order of names behind references
+-- the order of names, by reference
 abbrev pub name_cmp : Bor (List ℕ) → Bor (List ℕ) → Ordering
 name_cmp a b = slice_cmp nat_cmp a.now b.now
 

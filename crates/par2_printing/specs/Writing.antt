@@ -3,7 +3,7 @@ use Rattle.std.specs.Prelude.{ℕ, List, Option, Result}
 use Rattle.par2_spec.specs.Writing as writing
 use Rattle.par2_printing.specs.declared.printer.Printer.{Printer}
 
--- the writer behind a printer
+-- the writer of a printer
 abbrev pub writer_of : {W : Type 0} → Printer W → W
 writer_of printer = printer.writer
 

@@ -112,7 +112,7 @@ no_columns factors sources old at n = record {
   bytes = λ h. h;
 }
 
--- columns behind columns
+-- columns after columns
 pub more_columns : (factors sources old mid new : List (List ℕ)) (a b d n : ℕ) → a ≤ b → b ≤ d → Adds factors sources old mid a b n → Adds factors sources mid new b d n
     → Adds factors sources old new a d n
 more_columns factors sources old mid new a b d n ab bd first second = record {

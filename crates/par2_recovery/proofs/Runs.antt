@@ -92,7 +92,7 @@ place_after xs rise i j h less = elim (cases_lt i j) [
   | inr high ↦ (let by = rises_between xs rise j i high h in absurd (omega (arith, by, less)))
 ]
 
--- the k-th exponent of a run stands k places behind the first one at least
+-- the k-th exponent of a run stands k places after the first one at least
 run_place : (xs : List ℕ) (f n i : ℕ) → IsStrictlyIncreasing xs → HasRun f n xs → i < length xs → get_or xs i 0 ≡ f
     → (k : ℕ) → k < n → (j : ℕ) × (j < length xs) × (get_or xs j 0 ≡ f + k) × (i + k ≤ j)
 run_place xs f n i rise run h is zero low = (i, h, omega (arith, is), omega arith)

@@ -1,4 +1,4 @@
--- The lost slices by their syndromes, one block of columns behind the other.
+-- The lost slices by their syndromes, one block of columns after the other.
 use Rattle.std.proofs.Common.{inl, inr, ℕ, ◌+◌, ◌-◌, ◌*◌, ◌/◌, ◌%◌, ◌<◌, ◌≤◌, ◌≡◌, refl, sym, ap, ap₂, ◌∙◌, subst, arith, List, [], ◌++◌, length, length-append, get_or, map, bit_xor}
 use Rattle.std.specs.Prelude.{drop}
 use Rattle.std.proofs.lemmas.Bool.{cases_eq, cases_lt}
@@ -44,7 +44,7 @@ syndrome-window from n p coefficients known slices q j e low here =
     ∙ field_sum_same (length known) (λ k. mul (factor k) (word q (list_at (map (window from n) known) k))) (λ k. mul (factor k) (word (p + q) (list_at known k)))
     (λ k is. ap (mul (factor k)) (ap (λ xs. word q xs) (window_at from n known k is) ∙ word-window from n p (list_at known k) q e low)))
 
--- ---- texts behind texts
+-- ---- texts after texts
 
 word_before : (p : ℕ) (xs ys : List ℕ) (w : ℕ) → length xs ≡ 2 * p → w < p → word w (xs ++ ys) ≡ word w xs
 word_before p xs ys w e low = ap₂ (λ x y. x + 256 * y) (get_or_append_left xs ys 0 (2 * w) (omega (arith, e))) (get_or_append_left xs ys 0 (2 * w + 1) (omega (arith, e)))

@@ -10,7 +10,7 @@ use Rattle.par2_recovery.specs.Syndromes.{window, AreColumns}
 use Rattle.par2_recovery.proofs.Combinations.{word-padded}
 use Rattle.par2_recovery.proofs.Solving.{word-window}
 
--- a word of windows, with zeros behind them, is one of the whole texts
+-- a word of windows, with zeros after them, is one of the whole texts
 word_of_windows : (from n p s w : ℕ) (texts : List (List ℕ)) → from ≡ 2 * p → 2 * w + 1 < n
     → map (word (p + w)) (map (padded s) texts) ≡ map (word w) (map (padded n) (map (window from n) texts))
 word_of_windows from n p s w [] e low = refl

@@ -53,7 +53,7 @@ pub record AreSolved (s : ℕ) (inverse coefficients known slices texts : List (
   pub words : (r w : ℕ) → r < length inverse → 2 * w + 1 < s
       → word w (list_at texts r) ≡ field_sum (length slices) (λ j. mul (slice_index (list_at inverse r) j) (syndrome coefficients known slices w j))
 
--- behind each of the first n texts there is the block at its place
+-- after each of the first n texts there is the block at its place
 pub record AreExtended (old blocks new : List (List ℕ)) (n : ℕ) : Type 0 where
   pub count : length new ≡ length old
   pub each : (r : ℕ) → r < n → list_at new r ≡ list_at old r ++ list_at blocks r

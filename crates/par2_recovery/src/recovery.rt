@@ -100,7 +100,7 @@ pub(crate) fn bytes_of<'a>(folder: &'a Folder, name: &str) -> &'a [u8]
     }
 }
 
-// The slices, and behind them those of one more file.
+// The slices, and after them those of one more file.
 fn with_slices<'a>(
     slices: Vec<&'a [u8]>,
     bytes: &'a [u8],
@@ -125,7 +125,7 @@ fn name_at(record: &SetRecord, i: usize) -> &str
     record.files[i].name.as_str()
 }
 
-/// The slices of the record's files, one file behind the other. The last one of a file is as short as the file leaves
+/// The slices of the record's files, one file after the other. The last one of a file is as short as the file leaves
 /// it; a file that is absent has no slices.
 pub fn input_slices<'a>(
     alloc: Global,

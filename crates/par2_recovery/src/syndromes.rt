@@ -113,7 +113,7 @@ fn reserved(alloc: Global, count: usize, size: usize) -> Result<Vec<Vec<u8>>, Al
     Ok(texts)
 }
 
-// Puts the block behind text r.
+// Puts the block after text r.
 fn extend_at(texts: &mut [Vec<u8>], r: usize, block: &[u8]) -> Result<(), AllocError>
     requires { r < length texts.old }
     ensures changed { OneChanged (lists_of texts.old) (lists_of texts.new) r }
@@ -124,7 +124,7 @@ fn extend_at(texts: &mut [Vec<u8>], r: usize, block: &[u8]) -> Result<(), AllocE
     Ok(())
 }
 
-// Puts each block behind the text at its place.
+// Puts each block after the text at its place.
 fn extend(texts: &mut [Vec<u8>], blocks: &[Vec<u8>]) -> Result<(), AllocError>
     requires { length blocks.now ≡ length texts.old }
     ensures { IfOk result (λ _. AreExtended (lists_of texts.old) (lists_of blocks.now)

@@ -46,7 +46,7 @@ module _ (s t : Session) (base : List ℕ) (extras : List (List ℕ)) (purge : B
   answered (Ok a) step leads = is_repaired step leads
   answered (Err e) step leads = tt
 
-  -- the steps that are told are the command's
+  -- the steps that are reported are the command's
   pub told : {E : Type 0} (r : Result (List Step) E) → OnOk r (IsRepaired s.folder t.folder command)
       → IfOk r (λ steps. IfOk (changes_asked s (Do command)) (λ changes. steps ≡ map step_of changes))
       → IfOk r (λ steps. steps ≡ map step_of (changes_of s.folder command))

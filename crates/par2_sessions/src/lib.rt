@@ -119,7 +119,7 @@ pub fn repair(
         → let searched = candidates session.old.folder.files set (map string_bytes extras.now) in
         OnOk result (AllByRecursion (λ c. md5 c.1 ≡ c.0.md5)
         (rebuilt_targets session.old.folder.files set searched)) }
-    // without a purge the folder is told file by file: targets, asides, all others as they were,
+    // without a purge the folder is described file by file: targets, asides, all others as they were,
     ensures holds { (set : ParSet) → IsFalse purge
         → set_in session.old.folder.files base.now (map string_bytes extras.now) ≡ Ok set
         → let searched = candidates session.old.folder.files set (map string_bytes extras.now) in

@@ -31,6 +31,6 @@ one_missing f xs i x missing fault low is h =
     let m = missing_one (f x) missing fault h in
     ap (λ o. ok_or o missing) (all_some_none f xs i x low is m.0) ∙ ap Err (sym m.1)
 
--- a step told in other words
+-- a step in other words
 pub same_step : {X Y : Type 0} (view : X → Y) (r : Result X Fault) (step whole : Result Y Fault) → step ≡ whole → Gives view r step → Gives view r whole
 same_step view r step whole e h = subst (Gives view r) e h

@@ -29,7 +29,7 @@ IsUnopened old new FolderChanged = IsOpening old (Err (journal.FolderChanged tru
 IsUnopened old new Memory = new ≡ old
 IsUnopened old new Store = Unit {0}
 
--- how often it has failed by then: more often where that is told, and as often as before otherwise
+-- how often it has failed by then: more often where that is reported, and as often as before otherwise
 abbrev pub IsCounted : ℕ → ℕ → OpenFault → Type 0
 IsCounted before after Store = before < after
 IsCounted before after Memory = after ≡ before

@@ -1,4 +1,4 @@
--- Why a command is not performed, and what is told of it.
+-- Why a command is not performed, and what is reported of it.
 use Rattle.std.specs.Prelude.{◌≡◌, ◌<◌, ℕ}
 use Rattle.par2_spec.specs.Commands.{Action}
 use Rattle.par2_spec.specs.Sessions.{KeptSession, OnlyGrew}
@@ -22,14 +22,14 @@ abbrev pub IsSession : PerformFault → Type 0
 IsSession (Session fault) = Unit {0}
 IsSession Store = ⊥
 
--- what is told of it
+-- what is reported of it
 abbrev pub failure_for : PerformFault → Failure
 failure_for (Session (Plan fault)) = failure.Refused fault
 failure_for (Session NothingToUndo) = failure.NothingToUndo
 failure_for (Session NothingToRedo) = failure.NothingToRedo
 failure_for Store = failure.Store
 
--- what is told of a store that can't be opened
+-- what is reported of a store that can't be opened
 abbrev pub unopened_as : OpenFault → Failure
 unopened_as unopened.Store = failure.Store
 unopened_as unopened.Memory = failure.Refused Memory

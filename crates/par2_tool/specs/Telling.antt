@@ -129,8 +129,8 @@ IsCause action before after failure.Arguments = ⊥
 IsCause action before after failure.JournalInvalid = after ≡ before
 IsCause action before after failure.FolderChanged = after ≡ before
 
--- what is told: the answer of the action that the words ask for, on some session; or why it fails, with the words
--- that it can speak of; or, without any, why the words aren't read. Nothing but Store is told once the store failed
+-- what is reported: the answer of the action that the words ask for, on some session; or why it fails, with the words
+-- that it can speak of; or, without any, why the words aren't read. Nothing but Store is reported once the store failed
 abbrev pub IsTold : List Text → ℕ → ℕ → Telling → Type 0
 IsTold words before after (Answered dropped outcome) =
     (action : Action) × AskFor words action × (after ≡ before) × (session : Session) × IsAnswer session action outcome

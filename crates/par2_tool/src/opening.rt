@@ -295,7 +295,7 @@ fn next_of(action: &Action) -> Option<Next> {
 }
 
 /// Opens a store for a command, as [`open_store`] does; for a verify, on the same folder, but maybe without the
-/// history, nor is it told then whether one was given up.
+/// history, nor is it said then whether one was given up.
 pub(crate) fn open_for<S: FolderStore>(
     alloc: Global,
     store: &mut S,

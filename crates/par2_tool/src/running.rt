@@ -20,7 +20,7 @@ use par2_words::read_words;
 use std::alloc::Global;
 use std::io::Write;
 
-/// What is told of an accepted command.
+/// What is reported of an accepted command.
 #[derive(Debug, Drop)]
 struct Accepted {
     outcome: Outcome,

@@ -33,7 +33,7 @@ within-above from to p x high = ap (λ b. if nat_le from p && b then x else 0) (
     none true = refl
     none false = refl
 
--- two ranges, one behind the other
+-- two ranges, one after the other
 pub within_joined : (a b d p x : ℕ) → a ≤ b → b ≤ d → bit_xor (within a b p x) (within b d p x) ≡ within a d p x
 within_joined a b d p x ab bd = elim (cases_lt p a) [
   | inl below ↦

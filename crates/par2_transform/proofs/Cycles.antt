@@ -10,7 +10,7 @@ use Rattle.par2_transform.proofs.Chirps.{chirp-lt, chirp_product}
 pub power_whole_rounds : (q : ℕ) → pow 2 (q * 65535) ≡ 1
 power_whole_rounds q = sym (power-mul 2 65535 q (omega arith)) ∙ ap (λ a. pow a q) power-65535 ∙ one-power q
 
--- what stands behind whole rounds
+-- what stands after whole rounds
 pub power_behind_rounds : (q r : ℕ) → pow 2 (q * 65535 + r) ≡ pow 2 r
 power_behind_rounds q r =
     let small : pow 2 r < 65536 = power-lt 2 r (omega arith) in

@@ -125,7 +125,7 @@ abbrev pub class_sum_at : Cut → (ℕ → ℕ) → ℕ → ℕ → ℕ
 class_sum_at cut words e r =
     field_sum (cut.windows * cut.window) (λ m. mul (pow 2 (e * (cut.classes * m + r))) (word_at_power words (cut.classes * m + r)))
 
--- the rows have the first n coefficients of window a of class r, and 0 behind them, in the columns from `from` on
+-- the rows have the first n coefficients of window a of class r, and 0 after them, in the columns from `from` on
 pub record AreCoefficients (cut : Cut) (slices : List (List ℕ)) (r a from n : ℕ) (old new : Grid) : Type 0 where
   pub levels : new.levels ≡ old.levels
   pub words : new.words ≡ old.words

@@ -39,7 +39,7 @@ abbrev pub AreWeights : ℕ → (ℕ → ℕ) → ℕ → (ℕ → ℕ) → Type
 AreWeights k sequence b weights =
     (e : ℕ) → e < 2 ^ k → sequence (b + e) ≡ field_sum (2 ^ k) (λ u. mul (weights u) (pow (point u) e))
 
--- words of n slices at most, and 0 behind them
+-- words of n slices at most, and 0 after them
 pub record AreFirst (n : ℕ) (words : ℕ → ℕ) : Type 0 where
   pub few : n ≤ 32768
   pub none : (i : ℕ) → n ≤ i → words i ≡ 0

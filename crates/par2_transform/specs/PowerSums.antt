@@ -18,11 +18,12 @@ power_sum weight i q e = field_sum (2 ^ i) (λ u. mul (weight (member i q u)) (p
 abbrev pub ArePowerSums : ℕ → (ℕ → ℕ) → (ℕ → ℕ) → Type 0
 ArePowerSums k weight sums = (e : ℕ) → e < 2 ^ k → sums e ≡ power_sum weight k 0 e
 
--- the sum of the values behind place e, as far on as the powers below 2 ^ i of the vanishing polynomial
+-- the sum of the values that stand as far after place e as the powers below 2 ^ i of the vanishing polynomial
 abbrev pub sum_ahead : ℕ → (ℕ → ℕ) → ℕ → ℕ
 sum_ahead i values e = field_sum i (λ j. bit_at (powers_in i) j * values (e + 2 ^ j))
 
--- two runs of 2 ^ i values, one behind the other, are merged: c is the value of the vanishing polynomial on the first coset
+-- two runs of 2 ^ i values are merged, the second one after the first: c is the value of the vanishing polynomial on the
+-- first coset
 pub record IsMerged (i c : ℕ) (split merged : ℕ → ℕ) : Type 0 where
   pub low : (e : ℕ) → e < 2 ^ i → merged e ≡ bit_xor (split e) (split (2 ^ i + e))
   pub high : (e : ℕ) → e < 2 ^ i → merged (2 ^ i + e) ≡ bit_xor (split (2 ^ i + e)) (bit_xor (mul c (merged e)) (sum_ahead i merged e))

@@ -125,7 +125,7 @@ fn raise(gf: &Gf, rows: &mut Rows, i: u32, start: usize, c: u16)
     }
 }
 
-// To the value 2 ^ i behind a place, adds those that are the lower powers of the vanishing polynomial behind it.
+// To the value 2 ^ i after a place, adds those that are the lower powers of the vanishing polynomial after it.
 fn add_ahead(rows: &mut Rows, i: u32, at: usize)
     requires few { rows.old.levels ≤ 16 }
     requires level { i < rows.old.levels }
@@ -156,7 +156,7 @@ fn divide(gf: &Gf, rows: &mut Rows, i: u32, start: usize, c: u16)
     }
 }
 
-// Adds coefficient 2 ^ i + e to those that are the lower powers of the vanishing polynomial behind coefficient e.
+// Adds coefficient 2 ^ i + e to those that are the lower powers of the vanishing polynomial after coefficient e.
 fn spread(rows: &mut Rows, i: u32, start: usize, e: usize)
     requires few { rows.old.levels ≤ 16 }
     requires level { i < rows.old.levels }

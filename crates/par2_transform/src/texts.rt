@@ -61,7 +61,7 @@ fn clear_text(texts: &mut [Vec<u8>], to: usize)
     clear_bytes(texts[to].as_mut_slice());
 }
 
-/// Makes the bytes those of the text, and zeros behind them.
+/// Makes the bytes those of the text, and zeros after them.
 pub(crate) fn copy_padded(text: &[u8], to: &mut [u8])
     ensures size { length to.new ≡ length to.old }
     ensures same { (k : ℕ) → k < length to.old

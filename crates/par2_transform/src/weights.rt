@@ -87,7 +87,7 @@ fn lower(gf: &Gf, words: &mut [u16], i: u32, start: usize, c: u16)
     }
 }
 
-// The sum of the values that are the lower powers of the vanishing polynomial behind a place.
+// The sum of the values that are the lower powers of the vanishing polynomial after a place.
 fn sum_ahead(words: &[u16], i: u32, at: usize) -> u16
     requires level { i < 16 }
     requires fits { at + 2 ^ i < length words.now }

@@ -1,4 +1,4 @@
-//! Calls behind a line that begins with `>`. `tests/calls_out_of_memory.py` refuses each growth between it and the next line.
+//! Calls after a line that begins with `>`. `tests/calls_out_of_memory.py` refuses each growth up to the next line.
 
 use crate::calls::{journal_of, print_of};
 use crate::files::fingerprint_of;

@@ -1,8 +1,8 @@
-//! Carries out the lines of its input and prints what comes of them: words that are read, words that are run on stores
-//! in memory (with the files, their lengths and the journal's length), actions on one session, and calls on real folders.
-//! Words are also run on stores that fail or want memory at the first of their calls, at the second, and so on until none
-//! is refused.
-//! What whole commands answer in any folder is carried out by `tests/commands/run.py`.
+//! Carries out the lines of its input and prints what comes of them. A line is for words that are read, for words that
+//! are run on stores in memory (with the files, their lengths and the journal's length), for actions on one session,
+//! or for calls on real folders. Words are also run on stores that fail or want memory at the first of their calls, at
+//! the second, and so on until none is refused. What whole commands answer in any folder is carried out by
+//! `tests/commands/run.py`.
 //!
 //! `tests/calls_out_of_memory.py` has it make calls of which it refuses a growth.
 //!

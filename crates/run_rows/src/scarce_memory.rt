@@ -106,7 +106,7 @@ impl FolderStore for WantingStore {
 /// on until none is refused.
 pub fn want_memory(rt: &HostRuntime, store: &mut MemoryStore, line: &str) -> Result<()> {
     for passed in 0..MANY_CALLS {
-        println!(rt; "{passed} reading calls, then want of memory")?;
+        println!(rt; "{passed} reading calls, then out of memory")?;
         let mut wanting = WantingStore::new(copy_of(rt.alloc(), store)?, passed);
         let status = status_told(rt, &mut wanting, line)?;
         show(rt, &mut wanting.into_inner())?;

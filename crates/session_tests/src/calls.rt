@@ -1,4 +1,4 @@
-//! Calls of folders and sessions, each behind a function that promises nothing or little: of such a call the prover sees
+//! Calls of folders and sessions, each in a function that promises nothing or little: of such a call the prover sees
 //! its type and those few clauses.
 ghost use Rattle.std.specs.Prelude.{IfOk};
 ghost use Rattle.par2_journal.specs.Ready.{Fits};

@@ -45,7 +45,7 @@ fn is_as_told(halfway: &Halfway, settled: &[u8]) -> Result<bool, Trouble> {
     Ok(text.as_slice() == settled && is_removal_of(changes_back(halfway), "t.par2"))
 }
 
-// Whether that is told and done.
+// Whether that is reported and done.
 fn is_removed(halfway: Halfway, settled: &[u8]) -> Result<bool, Trouble> {
     let is_told = is_as_told(&halfway, settled)?;
     let session = taken_back(halfway);

@@ -196,7 +196,7 @@ fn create(alloc: Global) -> Result<Command, AllocError> {
     Ok(Command::Act(Action::Create(args)))
 }
 
-// The failure of a command with two inputs, and what is told.
+// The failure of a command with two inputs, and what is reported.
 const REFUSALS: &[(Fault, &str)] = &[
     (
         Fault::BadSliceSize,
@@ -239,14 +239,14 @@ const REFUSALS: &[(Fault, &str)] = &[
     (Fault::Memory, "out of memory"),
 ];
 
-// What is told of a failure.
+// What is reported of a failure.
 fn told(alloc: Global, command: Option<&Command>, failure: Failure) -> Result<Vec<u8>, WriteFault> {
     let mut out = Printer::new(Vec::new(alloc));
     write_failure(&mut out, command, failure)?;
     Ok(out.into_inner())
 }
 
-// Whether a failure is told by this text.
+// Whether a failure is reported by this text.
 pub fn is_told(
     alloc: Global,
     command: Option<&Command>,

@@ -1,5 +1,5 @@
 //! The calls whose contracts say what a session comes to: a repair gives a damaged file back, and actions are taken
-//! back at once. As in `calls`, each stands behind a function that promises nothing.
+//! back at once. As in `calls`, each stands in a function that promises nothing.
 use crate::calls;
 use crate::fixtures::{A, Trouble, args_of, folder_of};
 use crate::session::{Task, action_of, file_in, stands};

@@ -9,7 +9,7 @@ abbrev pub invariant-loop-name : goal.invariant-loop-name
 invariant-loop-name l = record {
   at : IsAt l.border (folder_in l.snapshot) l.text l.progress;
   marks : AreLandmarksOf l.folder.files l.landmarks;
-  -- the border is behind a landmark, as it is once there was a name
+  -- the border is after a landmark, as it is once there was a name
   some : (l.border ≡ Beginning) ⊎ (0 < length l.landmarks.list.items);
   behind : 0 < l.name-index → 0 < length l.landmarks.list.items;
 }

@@ -15,7 +15,7 @@ use Rattle.par2_headline.proofs.UndoneRuns.{leaves_older}
 use Rattle.par2_headline.proofs.running.run.Goals.{After-run}
 use Rattle.par2_headline.proofs.running.run.Goals as goal
 
--- the status of what was told, or that of a writer that failed
+-- the status of what was reported, or that of a writer that failed
 status_of_run : (g : _) (c : After-run g) → (c.run.result ≡ own_status c.run.ensures.told.0) ⊎ (c.run.result ≡ 6)
 status_of_run g c =
     shown_status c.run.ensures.told.0 g.O.Write.contents c.args.out.now c.run.new.out g.E.Write.contents c.args.err.now c.run.new.err c.run.result c.run.ensures.told.2

@@ -132,7 +132,7 @@ returns-in-Err-write_down-clause-possible g c honest files =
     c.write_down.ensures.possible honest
     (ready_applies (action_of c.in-Act.action) c.args.session.now c.in-Ok-prepare.prepared c.prepare.new.self (made_of g at) (g.S.FolderStore.contents c.args.store.now) files _ (changed_so g at))
 
--- whatever a cut leaves while the changes are written, or behind it
+-- whatever a cut leaves while the changes are written, or after it
 cut_opens : (g : _) (c : After-write_down g) → g.S.FolderStore.honest c.args.store.now → Lasts (g.S.FolderStore.may_remain c.args.store.now) (g.S.FolderStore.contents c.args.store.now)
     → (g.S.FolderStore.contents c.args.store.now).files ≡ c.args.session.now.folder.files → TellsApartAlong (session_of_kept c.args.session.now) (command_of c.args.command.now) → (left : Contents) → g.S.FolderStore.may_remain c.write_down.new.store left
     → OpensAsBeforeOrAfter (session_of_kept c.args.session.now) (command_of c.args.command.now) (g.S.FolderStore.contents c.args.store.now) left
