@@ -6,10 +6,9 @@ use Rattle.std.proofs.lemmas.List.{get_or_default, get_or-take, get_or-drop, len
 use Rattle.std.proofs.lemmas.List.Elements.{All-get_or, All-from_get_or}
 use Rattle.std.proofs.lemmas.List.FromFn.{get_or-map-range_with_len, length-map-range_with_len}
 use Rattle.std.proofs.lemmas.List.Sorted.{All-permutation, Contains-permutation}
-use Rattle.std.proofs.Math.Nat.{div-mul-le_self, lt_of_not-le, ne_of_lt}
-use Rattle.std.proofs.lemmas.Nat.{le-div, pow_pos}
+use Rattle.std.proofs.Math.Nat.{lt_of_not-le, ne_of_lt}
 use Rattle.par2_spec.specs.Checksums.{Pair}
-use Rattle.par2_slices.specs.Searches.{no_place, pair_at, place_at, IsPlace, IsIndex, HoldsGroup}
+use Rattle.par2_slices.specs.Searches.{no_place, pair_at, place_at, IsPlace, IsIndex, IsStart, HoldsGroup}
 use Rattle.par2_slices.specs.declared.wanted_pairs.Place.{Place}
 
 abbrev pub place_of : List Pair → ℕ → Place
@@ -41,53 +40,51 @@ index_of pairs places sorted are moved rising =
           (found.0, found.1, ap (λ (place : Place). place.index) (get_or_default sorted found.0 no_place x found.1 ∙ found.2));
     }
 
-pub group_rises : (shift a b : ℕ) → a ≤ b → a / 2 ^ shift ≤ b / 2 ^ shift
-group_rises shift a b h = le-div (a / 2 ^ shift) b (2 ^ shift) (pow_pos shift) (omega (arith, h, div-mul-le_self a (2 ^ shift)))
-
 not_below : (k start : ℕ) → (k < start → ⊥) → start ≤ k
 not_below k start h = omega (arith, h)
 
-between : (low x high : ℕ) → low ≤ x → x ≤ high → high ≡ low → x ≡ low
-between low x high p q e = omega (arith, p, q, e)
+-- the places of one group are before those of the next
+pub in_order : (places : List Place) (group start end : ℕ) → IsStart places group start → IsStart places (group + 1) end → start ≤ end
+in_order places group start end first next =
+    not_below end start (λ early. omega (arith, first.below end early, next.above end (omega arith) (omega (arith, early, first.bound))))
 
--- the places of a group: from `start` on, `count` of them
-pub group_of : (pairs : List Pair) (places rest : List Place) (shift crc start count : ℕ) →
-    IsIndex pairs places → rest ≡ drop start places → count ≤ length rest →
-    ((k : ℕ) → k < start → (place_at places k).crc / 2 ^ shift < crc / 2 ^ shift) →
-    ((k : ℕ) → start ≤ k → k < length places → crc / 2 ^ shift ≤ (place_at places k).crc / 2 ^ shift) →
-    ((k : ℕ) → k < count → (place_at rest k).crc / 2 ^ shift ≡ crc / 2 ^ shift) →
-    (count < length rest → (place_at rest count).crc / 2 ^ shift ≡ crc / 2 ^ shift → ⊥) →
-    HoldsGroup pairs shift crc (take count rest)
-group_of pairs places rest shift crc start count index is bound below above members end =
-    let size : length rest ≡ length places - start = ap length is ∙ length-drop start places in
-    let at : (k : ℕ) → place_at rest k ≡ place_at places (start + k) = λ k. ap (λ ps. place_at ps k) is ∙ get_or-drop start places k no_place in
-    let cut : (k : ℕ) → k < count → place_at (take count rest) k ≡ place_at places (start + k) = λ k h. get_or-take count rest k no_place h ∙ at k in
-    let taken : length (take count rest) ≡ count = length-take-le count rest bound in
+one_group : (group x : ℕ) → group ≤ x → x < group + 1 → x ≡ group
+one_group group x low high = omega (arith, low, high)
+
+-- the places between the starts of a group and of the next
+pub group_of : (pairs : List Pair) (places : List Place) (crc start end : ℕ) →
+    IsIndex pairs places → IsStart places (crc / 2 ^ 17) start → IsStart places (crc / 2 ^ 17 + 1) end →
+    HoldsGroup pairs crc (take (end - start) (drop start places))
+group_of pairs places crc start end index first next =
+    let group : ℕ = crc / 2 ^ 17 in
+    let count : ℕ = end - start in
+    let rest : List Place = drop start places in
+    let size : length rest ≡ length places - start = length-drop start places in
+    let order : start ≤ end = in_order places group start end first next in
+    let within : count ≤ length rest = omega (arith, size, next.bound) in
+    let taken : length (take count rest) ≡ count = length-take-le count rest within in
+    let cut : (k : ℕ) → k < count → place_at (take count rest) k ≡ place_at places (start + k) = λ k h. get_or-take count rest k no_place h ∙ get_or-drop start places k no_place in
     record {
       only = λ k h.
           let low : k < count = omega (arith, h, taken) in
-          ap (λ (p : Place). p.crc / 2 ^ shift) (get_or-take count rest k no_place low) ∙ members k low;
+          let inside : start + k < length places = omega (arith, low, next.bound) in
+          ap (λ (p : Place). p.crc / 2 ^ 17) (cut k low) ∙ one_group group _ (first.above (start + k) (omega arith) inside) (next.below (start + k) (omega (arith, low)));
       each = λ k h.
           let low : k < count = omega (arith, h, taken) in
           let Its : Place → Type 0 = IsPlace pairs in
-          subst Its (sym (cut k low)) (index.each (start + k) (omega (arith, low, bound, size)));
+          subst Its (sym (cut k low)) (index.each (start + k) (omega (arith, low, next.bound)));
       whole = λ i h same.
           let found = index.whole i h in
           let k : ℕ = found.0 in
           let place : Place = place_at places k in
-          let its : place.crc / 2 ^ shift ≡ crc / 2 ^ shift = (
-          ap (λ c. c / 2 ^ shift) (sym ((index.each k found.1).crc) ∙ ap (λ j. (pair_at pairs j).1) found.2) ∙ same
+          let its : place.crc / 2 ^ 17 ≡ group = (
+          ap (λ c. c / 2 ^ 17) (sym ((index.each k found.1).crc) ∙ ap (λ j. (pair_at pairs j).1) found.2) ∙ same
           ) in
-          let from : start ≤ k = not_below k start (λ early. ne_of_lt (below k early) its) in
-          let until : k - start < count = lt_of_not-le {n = count} {m = k - start} (λ late.
-          let inside : count < length rest = omega (arith, late, found.1, from, size) in
-          let last : Place = place_at places (start + count) in
-          let least : crc / 2 ^ shift ≤ last.crc / 2 ^ shift = above (start + count) (omega arith) (omega (arith, inside, size)) in
-          let most : last.crc / 2 ^ shift ≤ place.crc / 2 ^ shift = group_rises shift _ _ (index.rising (start + count) k no_place (omega (arith, late, from)) found.1) in
-          end inside (ap (λ (p : Place). p.crc / 2 ^ shift) (at count) ∙ between (crc / 2 ^ shift) (last.crc / 2 ^ shift) (place.crc / 2 ^ shift) least most its)
-          ) in (
+          let from : start ≤ k = not_below k start (λ early. ne_of_lt (first.below k early) its) in
+          let until : k < end = lt_of_not-le {n = end} {m = k} (λ late. omega (arith, next.above k late found.1, its)) in
+          let low : k - start < count = omega (arith, from, until) in (
             k - start,
-            omega (arith, until, taken),
-            ap (λ (p : Place). p.index) (cut (k - start) until ∙ ap (place_at places) (let e : start + (k - start) ≡ k = omega (arith, from) in e)) ∙ found.2,
+            omega (arith, low, taken),
+            ap (λ (p : Place). p.index) (cut (k - start) low ∙ ap (place_at places) (let e : start + (k - start) ≡ k = omega (arith, from) in e)) ∙ found.2,
           );
     }

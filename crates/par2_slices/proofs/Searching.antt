@@ -119,12 +119,12 @@ none_counted X p xs i d none h holds =
     cc
 
 -- no pair that has this checksum is open
-pub unawaited : (s : ℕ) (text : List ℕ) (earlier : Earlier) (o : ℕ) (pairs : List Pair) (found : List (Option Spot)) (left : ℕ) (filter : Groups) (candidates : List Candidate) (crc shift : ℕ) (group : List Place) → IsAt s text earlier o pairs found left filter candidates → crc ≡ crc32 (window s text o) → HoldsGroup pairs shift crc group → count_by (is_awaited crc found) group ≡ 0 → IsAt s text earlier (o + 1) pairs found left filter candidates
-unawaited s text earlier o pairs found left filter candidates crc shift group at is holds closed =
+pub unawaited : (s : ℕ) (text : List ℕ) (earlier : Earlier) (o : ℕ) (pairs : List Pair) (found : List (Option Spot)) (left : ℕ) (filter : Groups) (candidates : List Candidate) (crc : ℕ) (group : List Place) → IsAt s text earlier o pairs found left filter candidates → crc ≡ crc32 (window s text o) → HoldsGroup pairs crc group → count_by (is_awaited crc found) group ≡ 0 → IsAt s text earlier (o + 1) pairs found left filter candidates
+unawaited s text earlier o pairs found left filter candidates crc group at is holds closed =
     no_more s text earlier o pairs found left filter candidates at (λ i h none.
     no_crc (pair_at pairs i) _ (crc32 (window s text o)) (λ same.
     let its : (pair_at pairs i).1 ≡ crc = same ∙ sym is in
-    let place = holds.whole i h (ap (λ c. c / 2 ^ shift) its) in
+    let place = holds.whole i h (ap (λ c. c / 2 ^ 17) its) in
     let crc_is : (place_at group place.0).crc ≡ crc = sym (holds.each place.0 place.1).crc ∙ ap (λ j. (pair_at pairs j).1) place.2 ∙ its in
     let unanswered : answer_at found (place_at group place.0).index ≡ None = ap (answer_at found) place.2 ∙ none in
     none_counted Place (is_awaited crc found) group place.0 no_place closed place.1
@@ -187,24 +187,20 @@ emptied s text earlier o pairs old new left after filter marks candidates rest a
 }
 
 -- a group without an open pair may be taken away
-pub unmark : (s : ℕ) (text : List ℕ) (earlier : Earlier) (o : ℕ) (pairs : List Pair) (found : List (Option Spot)) (left : ℕ) (filter after : Groups) (candidates : List Candidate) (crc : ℕ) (group : List Place) → IsAt s text earlier o pairs found left filter candidates → HoldsGroup pairs 17 crc group → ((k : ℕ) → k < length group → (place_at group k).crc % 64 ≡ crc % 64 → answer_at found (place_at group k).index ≡ None → ⊥) → ((other : ℕ) → (AreAlike crc other → ⊥) → Marks filter other → Marks after other)
-    → ((other : ℕ) → Marks after other → Marks filter other) → IsAt s text earlier o pairs found left after candidates
-unmark s text earlier o pairs found left filter after candidates crc group at holds closed keeps fewer = record {
-  tally = record {
-    len = at.tally.len;
-    count = at.tally.count;
-    marked = λ i h none.
-        keeps (pair_at pairs i).1
-        (λ same.
-        let place = holds.whole i h same.0 in
-        closed place.0 place.1
-        (ap (λ c. c % 64) (sym (holds.each place.0 place.1).crc ∙ ap (λ j. (pair_at pairs j).1) place.2) ∙ same.1)
-        (ap (answer_at found) place.2 ∙ none))
-        (at.tally.marked i h none);
-    only = λ other is. at.tally.only other (fewer other is);
-  };
-  answers = at.answers;
-  candidates = at.candidates;
+pub unmark : (pairs : List Pair) (found : List (Option Spot)) (left : ℕ) (filter after : Groups) (crc : ℕ) (group : List Place) → IsTally pairs found left filter → HoldsGroup pairs crc group → ((k : ℕ) → k < length group → (place_at group k).crc % 64 ≡ crc % 64 → answer_at found (place_at group k).index ≡ None → ⊥) → ((other : ℕ) → (AreAlike crc other → ⊥) → Marks filter other → Marks after other)
+    → ((other : ℕ) → Marks after other → Marks filter other) → IsTally pairs found left after
+unmark pairs found left filter after crc group tally holds closed keeps fewer = record {
+  len = tally.len;
+  count = tally.count;
+  marked = λ i h none.
+      keeps (pair_at pairs i).1
+      (λ same.
+      let place = holds.whole i h same.0 in
+      closed place.0 place.1
+      (ap (λ c. c % 64) (sym (holds.each place.0 place.1).crc ∙ ap (λ j. (pair_at pairs j).1) place.2) ∙ same.1)
+      (ap (answer_at found) place.2 ∙ none))
+      (tally.marked i h none);
+  only = λ other is. tally.only other (fewer other is);
 }
 
 -- the checksums of the first n pairs were added to a filter without groups
@@ -388,14 +384,14 @@ written new old n len size =
     ap (take n) (ap (λ xs. new ++ xs) (ap (λ k. drop k old) size ∙ drop-length old) ∙ append-nil new) ∙ take_all n new (omega (arith, len, size))
 
 -- each place of the group has been settled, so each pair has
-pub all_settled : (pairs : List Pair) (md5 : List ℕ) (crc : ℕ) (spot : Spot) (old new : List (Option Spot)) (group : List Place) → HoldsGroup pairs 0 crc group
+pub all_settled : (pairs : List Pair) (md5 : List ℕ) (crc : ℕ) (spot : Spot) (old new : List (Option Spot)) (group : List Place) → HoldsGroup pairs crc group
     → ((i : ℕ) → i < length pairs → (answer_at new i ≡ answer_at old i) ⊎ (answer_at new i ≡ after_window (has_checksums md5 crc (pair_at pairs i)) spot (answer_at old i)))
     → ((k : ℕ) → k < length group → answer_at new (place_at group k).index ≡ after_window (has_checksums md5 crc (pair_at pairs (place_at group k).index)) spot (answer_at old (place_at group k).index))
     → (i : ℕ) → i < length pairs → answer_at new i ≡ after_window (has_checksums md5 crc (pair_at pairs i)) spot (answer_at old i)
 all_settled pairs md5 crc spot old new group holds each done i low =
     let Is : ℕ → Type 0 = λ j. answer_at new j ≡ after_window (has_checksums md5 crc (pair_at pairs j)) spot (answer_at old j) in
     elim (cases_eq (pair_at pairs i).1 crc) [
-      | inl same ↦ (let its = holds.whole i low (ap (λ c. c / 2 ^ 0) same) in subst Is its.2 (done its.0 its.1))
+      | inl same ↦ (let its = holds.whole i low (ap (λ c. c / 2 ^ 17) same) in subst Is its.2 (done its.0 its.1))
       | inr other ↦ kept (has_checksums md5 crc (pair_at pairs i)) spot (answer_at old i) (answer_at new i) (each i low) (λ none. no_crc (pair_at pairs i) md5 crc other)
     ]
 

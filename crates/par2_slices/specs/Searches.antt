@@ -1,5 +1,5 @@
 -- A search for slices by their checksums, under way.
-use Rattle.std.specs.Prelude.{◌≡◌, [], ◌∷◌, ℕ, ◌/◌, ◌%◌, ◌^◌, ◌<◌, ◌==◌, ◌&&◌, ◌+◌, ◌≤◌, Bool, cond, Option, Some, None, option_map, List, length, find, fold, slice_index_or}
+use Rattle.std.specs.Prelude.{◌≡◌, [], ◌∷◌, ℕ, ◌/◌, ◌%◌, ◌^◌, ◌<◌, ◌==◌, ◌&&◌, ◌+◌, ◌≤◌, Bool, cond, Option, Some, None, option_map, List, length, find, fold, slice_index, slice_index_or}
 use Rattle.std.specs.List.{count_by, range_with_len}
 use Rattle.std.specs.List.Sorted.{IsNonDecreasingBy}
 use Rattle.std.specs.Option.{is_none, option_or}
@@ -46,11 +46,23 @@ pub record IsIndex (pairs : List Pair) (places : List Place) : Type 0 where
   pub each : (k : ℕ) → k < length places → IsPlace pairs (place_at places k)
   pub whole : (i : ℕ) → i < length pairs → (k : ℕ) × (k < length places) × ((place_at places k).index ≡ i)
 
+-- the places of a group, or of the groups above it, begin here; a group is those whose checksums have the same bits from
+-- bit 17 on
+pub record IsStart (places : List Place) (group start : ℕ) : Type 0 where
+  pub bound : start ≤ length places
+  pub below : (k : ℕ) → k < start → (place_at places k).crc / 2 ^ 17 < group
+  pub above : (k : ℕ) → start ≤ k → k < length places → group ≤ (place_at places k).crc / 2 ^ 17
+
+-- where the places of each group begin, and where those of the last group end
+pub record AreStarts (places : List Place) (starts : List ℕ) : Type 0 where
+  pub len : length starts ≡ 2 ^ 15 + 1
+  pub each : (group : ℕ) → group < 2 ^ 15 + 1 → IsStart places group (slice_index starts group)
+
 -- these places are those of the pairs whose checksums are of the group
-pub record HoldsGroup (pairs : List Pair) (shift crc : ℕ) (group : List Place) : Type 0 where
-  pub only : (k : ℕ) → k < length group → (place_at group k).crc / 2 ^ shift ≡ crc / 2 ^ shift
+pub record HoldsGroup (pairs : List Pair) (crc : ℕ) (group : List Place) : Type 0 where
+  pub only : (k : ℕ) → k < length group → (place_at group k).crc / 2 ^ 17 ≡ crc / 2 ^ 17
   pub each : (k : ℕ) → k < length group → IsPlace pairs (place_at group k)
-  pub whole : (i : ℕ) → i < length pairs → (pair_at pairs i).1 / 2 ^ shift ≡ crc / 2 ^ shift → (k : ℕ) × (k < length group) × ((place_at group k).index ≡ i)
+  pub whole : (i : ℕ) → i < length pairs → (pair_at pairs i).1 / 2 ^ 17 ≡ crc / 2 ^ 17 → (k : ℕ) × (k < length group) × ((place_at group k).index ≡ i)
 
 -- whether the pair of a place has this checksum and no answer
 abbrev pub is_awaited : ℕ → List (Option Spot) → Place → Bool

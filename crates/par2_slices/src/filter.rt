@@ -14,7 +14,8 @@ ghost use Rattle.par2_slices.specs.Filters.{AreAlike, Marks};
 use std::alloc::{AllocError, Global};
 use std::marker::Model;
 
-const WORDS: usize = 1 << 15;
+/// The number of words.
+pub(crate) const WORDS: usize = 1 << 15;
 
 /// The number of low bits in which the checksums of a word differ: there are 2^15 words.
 pub(crate) const SHIFT: u32 = 17;

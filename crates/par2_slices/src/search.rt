@@ -10,7 +10,7 @@ ghost use Rattle.par2_slices.specs.Searches.{after_window, candidate_at, has_che
 use crate::batch::{Candidate, Spot, digests};
 use crate::cutting::window_bytes;
 use crate::digest::padded_md5;
-use crate::filter::{Filter, SHIFT};
+use crate::filter::Filter;
 use crate::rolling::Rolling;
 use crate::wanted_pairs::{Pair, Place, Wanted};
 use arrayvec::ArrayVec;
@@ -130,9 +130,12 @@ impl Search {
             (answer_at self.old.found.items i) }
         ensures batch { self.new.batch.items ≡ self.old.batch.items }
     {
-        let group = wanted.group(candidate.crc, 0);
         let Candidate { spot, crc } = candidate;
+        let group = wanted.group(crc);
         self.left -= settle(group, wanted.pairs(), md5, crc, spot, &mut self.found);
+        if !is_waiting(group, crc, &self.found) {
+            self.filter.remove(crc);
+        }
     }
 
     /// Compares the candidates of the batch, in the order of their offsets, and empties it.
@@ -234,13 +237,9 @@ impl Search {
             wanted.now self.new.found.items self.new.left self.new.filter self.new.batch.items }
     {
         self.make_room(wanted, bytes, s, spot.offset, crc);
-        let group = wanted.group(crc, SHIFT);
-        let pairs = awaited(group, crc, &self.found);
+        let pairs = awaited(wanted.group(crc), crc, &self.found);
         if pairs > 0 {
             self.put(wanted, bytes, s, Candidate { spot, crc }, pairs);
-        }
-        if !is_waiting(group, crc, &self.found) {
-            self.filter.remove(crc);
         }
     }
 

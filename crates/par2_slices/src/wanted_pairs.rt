@@ -4,9 +4,10 @@ ghost use Rattle.std.specs.Prelude.{◌≡◌, ◌≤◌, ◌<◌, ◌/◌, ◌^
 ghost use Rattle.std.specs.List.Sorted.{IsNonDecreasingBy};
 ghost use Rattle.par2_spec.specs.Checksums as checksums;
 ghost use Rattle.par2_spec.specs.Slices.{padded};
-ghost use Rattle.par2_slices.specs.Searches.{place_at, HoldsGroup};
+ghost use Rattle.par2_slices.specs.Searches.{place_at, AreStarts, HoldsGroup, IsStart};
 
 use crate::digest::padded_md5;
+use crate::filter::{SHIFT, WORDS};
 use crate::zeros::padded_crc32;
 use std::alloc::{AllocError, Global};
 use std::marker::Model;
@@ -34,57 +35,50 @@ pub(crate) struct Place {
 pub struct Wanted {
     pairs: Vec<Pair>,
     places: Vec<Place>,
+    // Where the places of each group begin, and then the number of all places.
+    starts: Vec<usize>,
 }
 
 impl Model for Wanted {
     ghost use Rattle.std.specs.Prelude.{List};
     ghost use Rattle.par2_spec.specs.Checksums.{Pair};
-    ghost use Rattle.par2_slices.specs.Searches.{IsIndex};
+    ghost use Rattle.par2_slices.specs.Searches.{AreStarts, IsIndex};
 
     ghost Value = { List Pair };
 
     ghost view = { λ a. a.pairs.items };
 
-    ghost invariant = { λ a. IsIndex a.pairs.items a.places.items };
+    ghost invariant = { λ a. (IsIndex a.pairs.items a.places.items) × AreStarts a.places.items
+        a.starts.items };
 }
 
-/// Where the places of the group, or of the groups above it, begin.
-fn group_start(places: &[Place], group: u32, shift: u32) -> usize
-    requires shift { shift < 32 }
+/// Where the places of the group, or of the groups above it, begin. Those before `start` are of groups below it.
+fn group_start(places: &[Place], group: usize, start: usize) -> usize
     requires rising { IsNonDecreasingBy (λ place. place.crc) places.now }
-    ensures bound { result ≤ length places.now }
-    ensures below { (k : ℕ) → k < result → (place_at places.now k).crc / 2 ^ shift < group }
-    ensures above { (k : ℕ)
-        → result ≤ k → k < length places.now → group ≤ (place_at places.now k).crc / 2 ^ shift }
+    requires bound { start ≤ length places.now }
+    requires below { (k : ℕ) → k < start → (place_at places.now k).crc / 2 ^ 17 < group }
+    ensures { IsStart places.now group result }
 {
-    let mut start = 0;
-    let mut end = places.len();
-    while start < end {
-        let middle = start + (end - start) / 2;
-        if places[middle].crc >> shift < group {
-            start = middle + 1;
-        } else {
-            end = middle;
-        }
-    }
-    start
-}
-
-/// How many of the places, which begin with those of the group, are of it.
-fn group_len(places: &[Place], group: u32, shift: u32) -> usize
-    requires { shift < 32 }
-    ensures bound { result ≤ length places.now }
-    ensures members { (k : ℕ)
-        → k < result → (place_at places.now k).crc / 2 ^ shift ≡ group }
-    ensures end { result < length places.now
-        → ¬ ((place_at places.now result).crc / 2 ^ shift ≡ group) }
-{
-    for (k, place) in places.iter().enumerate() {
-        if place.crc >> shift != group {
+    for k in start..places.len() {
+        if (places[k].crc >> SHIFT) as usize >= group {
             return k;
         }
     }
     places.len()
+}
+
+/// Where the places of each group begin, and then the number of all places.
+fn group_starts(alloc: Global, places: &[Place]) -> Result<Vec<usize>, AllocError>
+    requires { IsNonDecreasingBy (λ place. place.crc) places.now }
+    ensures { IfOk result (λ starts. AreStarts places.now starts.items) }
+{
+    let mut starts = Vec::with_capacity(alloc, WORDS + 1)?;
+    let mut start = 0;
+    for group in 0..WORDS + 1 {
+        start = group_start(places, group, start);
+        starts.push(start)?;
+    }
+    Ok(starts)
 }
 
 impl Wanted {
@@ -97,8 +91,13 @@ impl Wanted {
             places.push(Place { crc: pair.1, index })?;
         }
         places.sort_unstable_by_key(|place| place.crc);
+        let starts = group_starts(alloc, &places)?;
         let pairs = Vec::from_slice(alloc, pairs)?;
-        Ok(Wanted { pairs, places })
+        Ok(Wanted {
+            pairs,
+            places,
+            starts,
+        })
     }
 
     /// The pairs.
@@ -108,13 +107,11 @@ impl Wanted {
         &self.pairs
     }
 
-    /// The places of the pairs whose CRC-32 has the same bits from `shift` on as `crc`.
-    pub(crate) fn group(&self, crc: u32, shift: u32) -> &[Place]
-        requires { shift < 32 }
-        ensures { HoldsGroup self.now shift crc result.now }
+    /// The places of the pairs whose CRC-32 has the same bits from `SHIFT` on as `crc`.
+    pub(crate) fn group(&self, crc: u32) -> &[Place]
+        ensures { HoldsGroup self.now crc result.now }
     {
-        let group = crc >> shift;
-        let rest = &self.places[group_start(&self.places, group, shift)..];
-        &rest[..group_len(rest, group, shift)]
+        let group = (crc >> SHIFT) as usize;
+        &self.places[self.starts[group]..self.starts[group + 1]]
     }
 }

@@ -1,10 +1,12 @@
-use Rattle.std.proofs.Common.{◌≡◌, ◌∙◌, ◌<◌, ◌-◌, ℕ, List, refl, sym, ap, subst, length}
+use Rattle.std.proofs.Common.{◌≡◌, ◌∙◌, ◌++◌, ◌<◌, ◌-◌, ℕ, List, true, false, take, drop, refl, sym, ap, subst, length}
 use Rattle.std.specs.Prelude.{Option}
 use Rattle.par2_spec.specs.Checksums.{Pair}
 use Rattle.par2_slices.specs.declared.batch.Spot.{Spot}
-use Rattle.par2_slices.specs.Searches.{answer_at, place_at, IsPlace, IsTally}
-use Rattle.par2_slices.proofs.Searching.{all_settled, tally_settled, written}
+use Rattle.par2_slices.specs.Searches.{after_window, answer_at, has_checksums, pair_at, place_at, IsPlace, IsTally}
+use Rattle.par2_slices.specs.Filters.{Groups}
+use Rattle.par2_slices.proofs.Searching.{all_settled, tally_settled, unmark, written}
 use Rattle.par2_slices.proofs.search.Search.answer.Goals as goal
+use Rattle.par2_slices.proofs.search.Search.answer.Goals.{After-is_waiting}
 
 pub settle-requires : goal.settle-requires
 settle-requires c =
@@ -14,29 +16,56 @@ settle-requires c =
       len = ap length c.deref_mut.ensures.value ∙ c.requires.len ∙ ap length (sym c.pairs.ensures);
     }
 
-pub returns-clause-tally : goal.returns-clause-tally
-returns-clause-tally c =
+-- the answers that were written in place
+written_at : (c : After-is_waiting) → take c.args.self.now.found.len (c.settle.new.found ++ drop (length c.settle.new.found) c.args.self.now.found.items) ≡ c.settle.new.found
+written_at c =
+    let old : List (Option Spot) = c.args.self.now.found.items in
+    let size : length c.settle.new.found ≡ length old = c.settle.auto.found ∙ ap length c.deref_mut.ensures.value in
+    written c.settle.new.found old c.args.self.now.found.len c.args.self.now.found.ok.0 size
+
+each_at : (c : After-is_waiting) (i : ℕ) → i < length c.args.wanted.now
+    → answer_at (take c.args.self.now.found.len (c.settle.new.found ++ drop (length c.settle.new.found) c.args.self.now.found.items)) i
+    ≡ after_window (has_checksums c.args.md5.now c.args.candidate.crc (pair_at c.args.wanted.now i)) c.args.candidate.spot (answer_at c.args.self.now.found.items i)
+each_at c i h =
     let pairs : List Pair = c.args.wanted.now in
+    let old : List (Option Spot) = c.args.self.now.found.items in
+    let each = rw (c.pairs.ensures, c.deref_mut.ensures.value) at c.settle.ensures.each in
+    let group = rw (c.pairs.ensures, c.deref_mut.ensures.value) at c.settle.ensures.group in
+    ap (λ found. answer_at found i) (written_at c)
+    ∙ all_settled pairs c.args.md5.now c.args.candidate.crc c.args.candidate.spot old c.settle.new.found c.group-group.result.now c.group-group.ensures each group i h
+
+-- the tally before the question whether the group is taken away
+tally_at : (c : After-is_waiting) → IsTally c.args.wanted.now c.settle.new.found (c.args.self.now.left - c.settle.result) c.args.self.now.filter
+tally_at c =
     let old : List (Option Spot) = c.args.self.now.found.items in
     let new : List (Option Spot) = c.settle.new.found in
     let left : ℕ = c.args.self.now.left in
-    let Tally : List (Option Spot) → Type 0 = λ found. IsTally pairs found (left - c.settle.result) c.args.self.now.filter in
     let size : length new ≡ length old = c.settle.auto.found ∙ ap length c.deref_mut.ensures.value in
     let each = rw (c.pairs.ensures, c.deref_mut.ensures.value) at c.settle.ensures.each in
     let count = rw c.deref_mut.ensures.value at c.settle.ensures.count in
-    subst Tally (sym (written new old c.args.self.now.found.len c.args.self.now.found.ok.0 size))
-    (tally_settled pairs c.args.md5.now c.args.candidate.crc c.args.candidate.spot old new left c.settle.result (left - c.settle.result) c.args.self.now.filter c.requires size each count refl)
+    tally_settled c.args.wanted.now c.args.md5.now c.args.candidate.crc c.args.candidate.spot old new left c.settle.result (left - c.settle.result) c.args.self.now.filter c.requires size each count refl
 
-pub returns-clause-each : goal.returns-clause-each
-returns-clause-each c i h =
-    let pairs : List Pair = c.args.wanted.now in
-    let old : List (Option Spot) = c.args.self.now.found.items in
+pub returns-then-not-is_waiting-clause-tally : goal.returns-then-not-is_waiting-clause-tally
+returns-then-not-is_waiting-clause-tally c =
+    let at : After-is_waiting = (goal.at.returns-then-not-is_waiting-clause-tally c).After-is_waiting in
     let new : List (Option Spot) = c.settle.new.found in
-    let md5 : List ℕ = c.args.md5.now in
-    let crc : ℕ = c.args.candidate.crc in
-    let spot : Spot = c.args.candidate.spot in
-    let size : length new ≡ length old = c.settle.auto.found ∙ ap length c.deref_mut.ensures.value in
-    let each = rw (c.pairs.ensures, c.deref_mut.ensures.value) at c.settle.ensures.each in
-    let group = rw (c.pairs.ensures, c.deref_mut.ensures.value) at c.settle.ensures.group in
-    ap (λ found. answer_at found i) (written new old c.args.self.now.found.len c.args.self.now.found.ok.0 size)
-    ∙ all_settled pairs md5 crc spot old new c.group-group.result.now c.group-group.ensures each group i h
+    let left : ℕ = c.args.self.now.left - c.settle.result in
+    let after : Groups = c.remove.new.self in
+    let group = c.group-group.result.now in
+    let Tally : List (Option Spot) → Type 0 = λ found. IsTally c.args.wanted.now found left after in
+    subst Tally (sym (written_at at))
+    (unmark c.args.wanted.now new left c.args.self.now.filter after c.args.candidate.crc group (tally_at at) c.group-group.ensures
+    (λ k h low none. let both : true ≡ false = sym (c.is_waiting.ensures.1 (k, h, low, ap (λ found. answer_at found (place_at group k).index) (c.deref.ensures.value ∙ written_at at) ∙ none)) ∙ c.if-not-is_waiting.true in cc)
+    c.remove.ensures.kept c.remove.ensures.only)
+
+pub returns-then-not-is_waiting-clause-each : goal.returns-then-not-is_waiting-clause-each
+returns-then-not-is_waiting-clause-each c = each_at (goal.at.returns-then-not-is_waiting-clause-each c).After-is_waiting
+
+pub returns-else-not-is_waiting-clause-each : goal.returns-else-not-is_waiting-clause-each
+returns-else-not-is_waiting-clause-each c = each_at (goal.at.returns-else-not-is_waiting-clause-each c).After-is_waiting
+
+pub returns-else-not-is_waiting-clause-tally : goal.returns-else-not-is_waiting-clause-tally
+returns-else-not-is_waiting-clause-tally c =
+    let at : After-is_waiting = (goal.at.returns-else-not-is_waiting-clause-tally c).After-is_waiting in
+    let Tally : List (Option Spot) → Type 0 = λ found. IsTally c.args.wanted.now found (c.args.self.now.left - c.settle.result) c.args.self.now.filter in
+    subst Tally (sym (written_at at)) (tally_at at)

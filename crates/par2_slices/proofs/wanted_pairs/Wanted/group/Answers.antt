@@ -1,25 +1,28 @@
-use Rattle.std.proofs.Common.{◌≡◌, ℕ, ◌-◌, ◌/◌, ◌^◌, ◌<◌, ◌≤◌, ◌∙◌, List, take, drop, length, ap, subst}
-use Rattle.std.proofs.lemmas.List.{take_rest}
+use Rattle.std.proofs.Common.{◌+◌, ◌-◌, ◌<◌, ◌/◌, ◌^◌, ◌∙◌, ℕ, List, take, drop, subst, sym, arith}
+use Rattle.std.proofs.lemmas.List.{get_or_default}
 use Rattle.par2_spec.specs.Checksums.{Pair}
-use Rattle.par2_slices.specs.Searches.{place_at, HoldsGroup}
+use Rattle.par2_slices.specs.Searches.{AreStarts, HoldsGroup, IsIndex, IsStart}
 use Rattle.par2_slices.specs.declared.wanted_pairs.Place.{Place}
+use Rattle.par2_slices.proofs.Groups.{within}
 use Rattle.par2_slices.proofs.Places.{group_of}
 use Rattle.par2_slices.proofs.wanted_pairs.Wanted.group.Goals as goal
 
 pub returns : goal.returns
 returns c =
-    let group = c.args.crc / 2 ^ c.args.shift in
-    let start = c.group_start.result in
+    let crc : ℕ = c.args.crc in
+    let group : ℕ = crc / 2 ^ 17 in
+    let start : ℕ = c.index.result.now in
+    let end : ℕ = c.index-2.result.now in
+    let pairs : List Pair = c.self.inside.pairs.items in
     let places : List Place = c.self.inside.places.items in
-    let first : List Place = c.deref.result.now in
-    let rest : List Place = take (length first - start) (drop start first) in
-    let first_is : first ≡ places = c.deref.ensures.value in
-    let rest_is : rest ≡ drop start places = take_rest first start ∙ ap (drop start) first_is in
-    let Below : List Place → Type 0 = λ ps. (k : ℕ) → k < start → (place_at ps k).crc / 2 ^ c.args.shift < group in
-    let Above : List Place → Type 0 = λ ps. (k : ℕ) → start ≤ k → k < length ps → group ≤ (place_at ps k).crc / 2 ^ c.args.shift in
-    let Held : List Pair → Type 0 = λ pairs. HoldsGroup pairs c.args.shift c.args.crc (take c.group_len.result rest) in
-    subst Held c.self.view_is
-    (group_of c.self.inside.pairs.items places rest c.args.shift c.args.crc start c.group_len.result c.self.invariant rest_is c.group_len.ensures.bound
-    (subst Below c.deref-2.ensures.value c.group_start.ensures.below)
-    (subst Above c.deref-2.ensures.value c.group_start.ensures.above)
-    c.group_len.ensures.members c.group_len.ensures.end)
+    let starts : List ℕ = c.self.inside.starts.items in
+    let low : group < 2 ^ 15 = within crc 17 c.ranges.crc.fits (omega arith) in
+    let index : IsIndex pairs places = c.self.invariant.0 in
+    let begins : AreStarts places starts = c.self.invariant.1 in
+    let First : ℕ → Type 0 = λ n. IsStart places group n in
+    let Next : ℕ → Type 0 = λ n. IsStart places (group + 1) n in
+    let first : First start = subst First (get_or_default starts group 0 start (omega (arith, low, begins.len)) ∙ sym c.index.ensures) (begins.each group (omega (arith, low))) in
+    let next : Next end = subst Next (get_or_default starts (group + 1) 0 end (omega (arith, low, begins.len)) ∙ sym c.index-2.ensures) (begins.each (group + 1) (omega (arith, low))) in
+    let Of : List Pair → Type 0 = λ ps. HoldsGroup ps crc (take (end - start) (drop start c.deref.result.now)) in
+    let Among : List Place → Type 0 = λ ps. HoldsGroup pairs crc (take (end - start) (drop start ps)) in
+    subst Of c.self.view_is (subst Among (sym c.deref.ensures.value) (group_of pairs places crc start end index first next))

@@ -1,9 +1,11 @@
 use Rattle.std.proofs.Common.{rules, ◌≡◌, ◌+◌, ◌++◌, ◌∷◌, [], ◌∙◌, List, map, length, ap, sym, subst, arith}
 use Rattle.std.specs.List.{range_with_len}
+use Rattle.std.specs.List.Sorted.{IsNonDecreasingBy}
 use Rattle.std.proofs.lemmas.List.FromFn.{map-range_with_len_more}
 use Rattle.std.proofs.lemmas.List.Sorted.{IsNonDecreasingBy-from_sort_by_key}
 use Rattle.par2_spec.specs.Checksums.{Pair}
-use Rattle.par2_slices.specs.Searches.{IsIndex}
+use Rattle.par2_slices.specs.Searches.{AreStarts, IsIndex}
+use Rattle.par2_slices.specs.declared.wanted_pairs.Place.{Place}
 use Rattle.par2_slices.proofs.Places.{place_of, index_of}
 use Rattle.par2_slices.proofs.wanted_pairs.Wanted.new.Goals as goal
 
@@ -14,13 +16,21 @@ loop-index-preserved c =
     ∙ ap (λ places. places ++ place_of c.args.pairs.now index ∷ []) c.loop-index.invariant
     ∙ sym (map-range_with_len_more (place_of c.args.pairs.now) 0 index index (let e : 0 + index ≡ index = omega arith in e))
 
+pub group_starts-requires : goal.group_starts-requires
+group_starts-requires c =
+    let Rise : List Place → Type 0 = IsNonDecreasingBy (λ place. place.crc) in
+    subst Rise (sym c.deref.ensures.value) (IsNonDecreasingBy-from_sort_by_key (λ place. place.crc) _ c.sort_unstable_by_key.ensures.sorted (λ a r q k. search rules))
+
 pub invariant_of-result : goal.invariant_of-result
 invariant_of-result c =
     let sorted = c.sort_unstable_by_key.new.self.items in
     let Its : List Pair → Type 0 = λ pairs. IsIndex pairs sorted in
-    let all : c.loop-index.index ≡ length c.args.pairs.now = omega arith in
-    subst Its (sym c.in_ok-pairs.ensures.items)
-    (index_of c.args.pairs.now c.loop-index.places.items sorted
-    (c.loop-index.invariant ∙ ap (λ n. map (place_of c.args.pairs.now) (range_with_len 0 n)) all)
-    c.sort_unstable_by_key.ensures.permutation
-    (IsNonDecreasingBy-from_sort_by_key (λ place. place.crc) _ c.sort_unstable_by_key.ensures.sorted (λ a r q k. search rules)))
+    let Starts : List Place → Type 0 = λ places. AreStarts places c.in_ok-starts.starts.items in
+    let all : c.loop-index.index ≡ length c.args.pairs.now = omega arith in (
+      subst Its (sym c.in_ok-pairs.ensures.items)
+          (index_of c.args.pairs.now c.loop-index.places.items sorted
+          (c.loop-index.invariant ∙ ap (λ n. map (place_of c.args.pairs.now) (range_with_len 0 n)) all)
+          c.sort_unstable_by_key.ensures.permutation
+          (IsNonDecreasingBy-from_sort_by_key (λ place. place.crc) _ c.sort_unstable_by_key.ensures.sorted (λ a r q k. search rules))),
+      subst Starts c.deref.ensures.value c.in_ok-starts.ensures,
+    )

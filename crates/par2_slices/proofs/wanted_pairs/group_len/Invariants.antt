@@ -1,6 +1,0 @@
-use Rattle.std.proofs.Common.{◌≡◌, ℕ, ◌/◌, ◌^◌, ◌<◌}
-use Rattle.par2_slices.specs.Searches.{place_at}
-use Rattle.par2_slices.proofs.wanted_pairs.group_len.Given as goal
-
-abbrev pub invariant-loop-k : goal.invariant-loop-k
-invariant-loop-k l = (j : ℕ) → j < l.k → (place_at l.places j).crc / 2 ^ l.shift ≡ l.group
