@@ -1,6 +1,7 @@
 -- A search under way.
 use Rattle.std.proofs.Common.{◌≡◌, ℕ, zero, suc, ◌+◌, ◌-◌, ◌*◌, ◌/◌, ◌%◌, ◌^◌, ◌<◌, Bool, true, false, cond, List, [], ◌∷◌, ◌++◌, length, length-take, map, drop, take, get_or, set, replicate, refl, sym, ap, subst, ◌∙◌, get_or-set_same, get_or-set_other, inl, inr, arith}
 use Rattle.std.specs.Prelude.{◌⊎◌, ◌==◌, ◌&&◌, Option, Some, None, find, option_map}
+use Rattle.std.specs.Int.{bit_at}
 use Rattle.std.specs.List.{count_by, list_all, range_with_len}
 use Rattle.std.specs.Option.{is_none, option_or}
 use Rattle.std.specs.Str.{bytes_eq}
@@ -15,7 +16,7 @@ use Rattle.par2_spec.specs.Windows.{is_match, window, first_match}
 use Rattle.par2_spec.proofs.ListsLaws.{range-append}
 use Rattle.par2_spec.proofs.TestLaws.{or_nothing}
 use Rattle.par2_slices.specs.Filters.{AreAlike, Groups, Marks}
-use Rattle.par2_slices.specs.Searches.{no_pair, IsOfPair, no_place, no_candidate, pair_at, place_at, candidate_at, answer_at, answer_below, spot_in, first_spot, first_spot_from, HoldsGroup, is_awaited, after_window, has_checksums, after_candidates, first_below, Earlier, IsWindow, IsTally, IsAt}
+use Rattle.par2_slices.specs.Searches.{no_pair, IsOfOpenPair, no_place, no_candidate, pair_at, place_at, candidate_at, answer_at, answer_below, spot_in, first_spot, first_spot_from, HoldsGroup, is_awaited, after_window, has_checksums, after_candidates, first_below, Earlier, IsWindow, IsTally, IsAt}
 use Rattle.par2_slices.specs.declared.batch.Candidate.{Candidate}
 use Rattle.par2_slices.specs.declared.batch.Spot.{Spot}
 use Rattle.par2_slices.specs.declared.wanted_pairs.Place.{Place}
@@ -186,24 +187,40 @@ emptied s text earlier o pairs old new left after filter marks candidates rest a
   candidates = λ k h. absurd (omega (arith, h, ap length empty));
 }
 
--- a group without an open pair may be taken away
-pub unmark : (pairs : List Pair) (found : List (Option Spot)) (left : ℕ) (filter after : Groups) (crc : ℕ) (group : List Place) → IsTally pairs found left filter → HoldsGroup pairs crc group → ((k : ℕ) → k < length group → (place_at group k).crc % 64 ≡ crc % 64 → answer_at found (place_at group k).index ≡ None → ⊥) → ((other : ℕ) → (AreAlike crc other → ⊥) → Marks filter other → Marks after other)
-    → ((other : ℕ) → Marks after other → Marks filter other) → IsTally pairs found left after
-unmark pairs found left filter after crc group tally holds closed keeps fewer = record {
-  len = tally.len;
-  count = tally.count;
-  marked = λ i h none.
-      keeps (pair_at pairs i).1
-      (λ same.
-      let place = holds.whole i h same.0 in
-      closed place.0 place.1
-      (ap (λ c. c % 64) (sym (holds.each place.0 place.1).crc ∙ ap (λ j. (pair_at pairs j).1) place.2) ∙ same.1)
-      (ap (answer_at found) place.2 ∙ none))
-      (tally.marked i h none);
-  only = λ other is. tally.only other (fewer other is);
+-- an open pair is of no group whose pairs all have answers
+pub not_closed : (pairs : List Pair) (found : List (Option Spot)) (crc : ℕ) (group : List Place) → HoldsGroup pairs crc group → ((k : ℕ) → k < length group → (place_at group k).crc % 64 ≡ crc % 64 → answer_at found (place_at group k).index ≡ None → ⊥)
+    → (i : ℕ) → i < length pairs → answer_at found i ≡ None → AreAlike crc (pair_at pairs i).1 → ⊥
+not_closed pairs found crc group holds closed i h none same =
+    let place = holds.whole i h same.0 in
+    closed place.0 place.1
+    (ap (λ c. c % 64) (sym (holds.each place.0 place.1).crc ∙ ap (λ j. (pair_at pairs j).1) place.2) ∙ same.1)
+    (ap (answer_at found) place.2 ∙ none)
+
+-- a pair that waits is of the group
+pub waiting_pair : (pairs : List Pair) (found : List (Option Spot)) (crc : ℕ) (group : List Place) → HoldsGroup pairs crc group → (k : ℕ) → k < length group → (place_at group k).crc % 64 ≡ crc % 64 → answer_at found (place_at group k).index ≡ None
+    → (other : ℕ) → AreAlike crc other → IsOfOpenPair pairs found other
+waiting_pair pairs found crc group holds k h low none other alike =
+    let place : Place = place_at group k in
+    let its : (pair_at pairs place.index).1 ≡ place.crc = (holds.each k h).crc in (
+      place.index,
+      (holds.each k h).within,
+      none,
+      (alike.0 ∙ sym (ap (λ c. c / 2 ^ 17) its ∙ holds.only k h), alike.1 ∙ sym (ap (λ c. c % 64) its ∙ low)),
+    )
+
+pub marks_alike : (groups : Groups) (crc other : ℕ) → AreAlike crc other → Marks groups other → Marks groups crc
+marks_alike groups crc other alike is = record {
+  bit =
+      ap (λ i. bit_at (get_or groups.words i 0) (crc % 64)) (sym alike.0)
+      ∙ ap (bit_at (get_or groups.words (other / 2 ^ 17) 0)) (sym alike.1)
+      ∙ is.bit;
 }
 
 -- the checksums of the first n pairs were added to a filter without groups
+-- the checksum is of the group of a pair's
+abbrev IsOfPair : List Pair → ℕ → Type 0
+IsOfPair pairs crc = (i : ℕ) × (i < length pairs) × AreAlike (pair_at pairs i).1 crc
+
 pub record IsFilled (pairs : List Pair) (n : ℕ) (filter : Groups) : Type 0 where
   pub marked : (k : ℕ) → k < n → Marks filter (pair_at pairs k).1
   pub only : (crc : ℕ) → Marks filter crc → IsOfPair pairs crc
@@ -230,6 +247,11 @@ filled_more pairs n before after filled low crc marked kept only its = record {
     alike_to : (a b other : ℕ) → a ≡ b → AreAlike a other → AreAlike b other
     alike_to a b other e alike = let Its : ℕ → Type 0 = λ c. AreAlike c other in subst Its e alike
 
+pub never_answered : (n i : ℕ) → answer_at (replicate n None) i ≡ None
+never_answered zero i = refl
+never_answered (suc n) zero = refl
+never_answered (suc n) (suc i) = never_answered n i
+
 -- before the first text
 pub none_answered : (pairs : List Pair) (found : List (Option Spot)) (left : ℕ) (filter : Groups) → found ≡ replicate (length pairs) None → left ≡ length pairs → ((i : ℕ) → i < length pairs → Marks filter (pair_at pairs i).1) → ((crc : ℕ) → Marks filter crc → IsOfPair pairs crc) → IsTally pairs found left filter
 none_answered pairs found left filter found_is left_is marked only = record {
@@ -240,13 +262,10 @@ none_answered pairs found left filter found_is left_is marked only = record {
       ∙ sym (sum_by-replicate (λ (x : Option Spot). cond (is_none x) 1 0) (length pairs) None)
       ∙ ap (count_by is_none) (sym found_is);
   marked = λ i h none. marked i h;
-  only = only;
+  only = λ crc is.
+      let its = only crc is in
+      (its.0, its.1, ap (λ f. answer_at f its.0) found_is ∙ never_answered (length pairs) its.0, its.2);
 }
-
-pub never_answered : (n i : ℕ) → answer_at (replicate n None) i ≡ None
-never_answered zero i = refl
-never_answered (suc n) zero = refl
-never_answered (suc n) (suc i) = never_answered n i
 
 -- before the first offset
 pub at_start : (s : ℕ) (text : List ℕ) (earlier : Earlier) (pairs : List Pair) (found : List (Option Spot)) (left : ℕ) (filter : Groups) (candidates : List Candidate) → IsTally pairs found left filter → found ≡ earlier.before → candidates ≡ [] → IsAt s text earlier 0 pairs found left filter candidates
@@ -395,15 +414,32 @@ all_settled pairs md5 crc spot old new group holds each done i low =
       | inr other ↦ kept (has_checksums md5 crc (pair_at pairs i)) spot (answer_at old i) (answer_at new i) (each i low) (λ none. no_crc (pair_at pairs i) md5 crc other)
     ]
 
--- the tally of what is open afterwards
-pub tally_settled : (pairs : List Pair) (md5 : List ℕ) (crc : ℕ) (spot : Spot) (old new : List (Option Spot)) (left count after : ℕ) (filter : Groups) → IsTally pairs old left filter → length new ≡ length old
+-- an open pair of another checksum stays open
+still_open : (pair : Pair) (md5 : List ℕ) (crc : ℕ) (spot : Spot) (old new : Option Spot) → (new ≡ old) ⊎ (new ≡ after_window (has_checksums md5 crc pair) spot old) → (pair.1 ≡ crc → ⊥) → old ≡ None → new ≡ None
+still_open pair md5 crc spot old new (inl same) other none = same ∙ none
+still_open pair md5 crc spot old new (inr done) other none =
+    done ∙ ap (λ m. after_window m spot old) (no_crc pair md5 crc other) ∙ ap (λ o. after_window false spot o) none
+
+-- the tally of what is open afterwards; the group of the checksum stays marked where a pair of it is open
+pub tally_settled : (pairs : List Pair) (md5 : List ℕ) (crc : ℕ) (spot : Spot) (old new : List (Option Spot)) (left count : ℕ) (filter after : Groups) → IsTally pairs old left filter → length new ≡ length old
     → ((i : ℕ) → i < length pairs → (answer_at new i ≡ answer_at old i) ⊎ (answer_at new i ≡ after_window (has_checksums md5 crc (pair_at pairs i)) spot (answer_at old i)))
-    → count + count_by is_none new ≡ count_by is_none old → after ≡ left - count → IsTally pairs new after filter
-tally_settled pairs md5 crc spot old new left count after filter tally size each total rest = record {
+    → count + count_by is_none new ≡ count_by is_none old
+    → ((i : ℕ) → i < length pairs → answer_at new i ≡ None → Marks filter (pair_at pairs i).1 → Marks after (pair_at pairs i).1)
+    → ((other : ℕ) → Marks after other → Marks filter other)
+    → ((other : ℕ) → Marks after other → AreAlike crc other → IsOfOpenPair pairs new other)
+    → IsTally pairs new (left - count) after
+tally_settled pairs md5 crc spot old new left count filter after tally size each total keeps fewer waits = record {
   len = size ∙ tally.len;
-  count = omega (arith, rest, total, tally.count);
-  marked = λ i low none. tally.marked i low (was_open (has_checksums md5 crc (pair_at pairs i)) spot (answer_at old i) (answer_at new i) (each i low) none);
-  only = tally.only;
+  count = omega (arith, total, tally.count);
+  marked = λ i low none. keeps i low none (tally.marked i low (was_open (has_checksums md5 crc (pair_at pairs i)) spot (answer_at old i) (answer_at new i) (each i low) none));
+  only = λ other is.
+      let its = tally.only other (fewer other is) in
+      let i : ℕ = its.0 in
+      let Alike : ℕ → Type 0 = λ c. AreAlike c other in
+      elim (cases_eq (pair_at pairs i).1 crc) [
+        | inl same ↦ waits other is (subst Alike same its.3)
+        | inr apart ↦ (i, its.1, still_open (pair_at pairs i) md5 crc spot (answer_at old i) (answer_at new i) (each i its.1) apart its.2, its.3)
+      ];
 }
 
 pub is_open : (answer : Option Spot) → is_none answer ≡ false → answer ≡ None → ⊥

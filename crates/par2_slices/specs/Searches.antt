@@ -107,16 +107,16 @@ pub record IsWindow (s : ℕ) (text : List ℕ) (candidate : Candidate) : Type 0
 unfoldable pub after_candidates : ℕ → List ℕ → Pair → List Candidate → Option Spot → Option Spot
 after_candidates s text pair candidates answer = fold (λ so_far candidate. after_window (is_match pair (window s text candidate.spot.offset)) candidate.spot so_far) answer candidates
 
--- the checksum is of the group of a pair's
-abbrev pub IsOfPair : List Pair → ℕ → Type 0
-IsOfPair pairs crc = (i : ℕ) × (i < length pairs) × AreAlike (pair_at pairs i).1 crc
+-- the checksum is of the group of a pair without an answer
+abbrev pub IsOfOpenPair : List Pair → List (Option Spot) → ℕ → Type 0
+IsOfOpenPair pairs found crc = (i : ℕ) × (i < length pairs) × (answer_at found i ≡ None) × AreAlike (pair_at pairs i).1 crc
 
--- how many pairs are open, and marks of their checksums; no group is marked but those of pairs
+-- how many pairs are open; the groups of their checksums are marked, and no others
 pub record IsTally (pairs : List Pair) (found : List (Option Spot)) (left : ℕ) (filter : Groups) : Type 0 where
   pub len : length found ≡ length pairs
   pub count : left ≡ count_by is_none found
   pub marked : (i : ℕ) → i < length pairs → answer_at found i ≡ None → Marks filter (pair_at pairs i).1
-  pub only : (crc : ℕ) → Marks filter crc → IsOfPair pairs crc
+  pub only : (crc : ℕ) → Marks filter crc → IsOfOpenPair pairs found crc
 
 -- a search that has looked at the offsets below `offset`: what it has found, and what the candidates add to it
 pub record IsAt (s : ℕ) (text : List ℕ) (earlier : Earlier) (offset : ℕ) (pairs : List Pair) (found : List (Option Spot)) (left : ℕ) (filter : Groups) (batch : List Candidate) : Type 0 where

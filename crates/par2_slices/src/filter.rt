@@ -5,8 +5,8 @@
 //! compiled: a quarter of a MiB, which stays near the processor, and few offsets fall into the groups of some thousand
 //! pairs.
 //!
-//! A filter is exactly the set of groups that were added and not taken away. That a search keeps no group longer than a
-//! pair of it is open, no clause says: such a group costs time and changes no answer.
+//! A filter is exactly the set of groups that were added and not taken away. A search keeps a group exactly as long as a
+//! pair of it has no answer.
 
 ghost use Rattle.std.specs.Prelude.{◌↔◌, ◌⊎◌, ℕ, IfOk, IsTrue};
 ghost use Rattle.par2_slices.specs.Filters.{AreAlike, Marks};

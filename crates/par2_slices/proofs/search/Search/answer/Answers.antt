@@ -1,10 +1,11 @@
-use Rattle.std.proofs.Common.{◌≡◌, ◌∙◌, ◌++◌, ◌<◌, ◌-◌, ℕ, List, true, false, take, drop, refl, sym, ap, subst, length}
-use Rattle.std.specs.Prelude.{Option}
+use Rattle.std.proofs.Common.{◌≡◌, ◌∙◌, ◌++◌, ◌<◌, ◌-◌, ◌%◌, ℕ, List, true, false, take, drop, sym, ap, subst, length}
+use Rattle.std.specs.Prelude.{Option, None}
 use Rattle.par2_spec.specs.Checksums.{Pair}
 use Rattle.par2_slices.specs.declared.batch.Spot.{Spot}
-use Rattle.par2_slices.specs.Searches.{after_window, answer_at, has_checksums, pair_at, place_at, IsPlace, IsTally}
-use Rattle.par2_slices.specs.Filters.{Groups}
-use Rattle.par2_slices.proofs.Searching.{all_settled, tally_settled, unmark, written}
+use Rattle.par2_slices.specs.Searches.{after_window, answer_at, has_checksums, pair_at, place_at, IsOfOpenPair, IsPlace, IsTally}
+use Rattle.par2_slices.specs.declared.wanted_pairs.Place.{Place}
+use Rattle.par2_slices.specs.Filters.{AreAlike, Groups, Marks}
+use Rattle.par2_slices.proofs.Searching.{all_settled, marks_alike, not_closed, tally_settled, waiting_pair, written}
 use Rattle.par2_slices.proofs.search.Search.answer.Goals as goal
 use Rattle.par2_slices.proofs.search.Search.answer.Goals.{After-is_waiting}
 
@@ -34,38 +35,53 @@ each_at c i h =
     ap (λ found. answer_at found i) (written_at c)
     ∙ all_settled pairs c.args.md5.now c.args.candidate.crc c.args.candidate.spot old c.settle.new.found c.group-group.result.now c.group-group.ensures each group i h
 
--- the tally before the question whether the group is taken away
-tally_at : (c : After-is_waiting) → IsTally c.args.wanted.now c.settle.new.found (c.args.self.now.left - c.settle.result) c.args.self.now.filter
-tally_at c =
+-- the tally with a filter that keeps the group where a pair of it waits
+tally_with : (c : After-is_waiting) (after : Groups)
+    → ((i : ℕ) → i < length c.args.wanted.now → answer_at c.settle.new.found i ≡ None → Marks c.args.self.now.filter (pair_at c.args.wanted.now i).1 → Marks after (pair_at c.args.wanted.now i).1)
+    → ((other : ℕ) → Marks after other → Marks c.args.self.now.filter other)
+    → ((other : ℕ) → Marks after other → AreAlike c.args.candidate.crc other → IsOfOpenPair c.args.wanted.now c.settle.new.found other)
+    → IsTally c.args.wanted.now (take c.args.self.now.found.len (c.settle.new.found ++ drop (length c.settle.new.found) c.args.self.now.found.items)) (c.args.self.now.left - c.settle.result) after
+tally_with c after keeps fewer waits =
     let old : List (Option Spot) = c.args.self.now.found.items in
     let new : List (Option Spot) = c.settle.new.found in
     let left : ℕ = c.args.self.now.left in
     let size : length new ≡ length old = c.settle.auto.found ∙ ap length c.deref_mut.ensures.value in
     let each = rw (c.pairs.ensures, c.deref_mut.ensures.value) at c.settle.ensures.each in
     let count = rw c.deref_mut.ensures.value at c.settle.ensures.count in
-    tally_settled c.args.wanted.now c.args.md5.now c.args.candidate.crc c.args.candidate.spot old new left c.settle.result (left - c.settle.result) c.args.self.now.filter c.requires size each count refl
+    let Tally : List (Option Spot) → Type 0 = λ found. IsTally c.args.wanted.now found (left - c.settle.result) after in
+    subst Tally (sym (written_at c))
+    (tally_settled c.args.wanted.now c.args.md5.now c.args.candidate.crc c.args.candidate.spot old new left c.settle.result c.args.self.now.filter after c.requires size each count keeps fewer waits)
 
 pub returns-then-not-is_waiting-clause-tally : goal.returns-then-not-is_waiting-clause-tally
 returns-then-not-is_waiting-clause-tally c =
     let at : After-is_waiting = (goal.at.returns-then-not-is_waiting-clause-tally c).After-is_waiting in
+    let pairs : List Pair = c.args.wanted.now in
     let new : List (Option Spot) = c.settle.new.found in
-    let left : ℕ = c.args.self.now.left - c.settle.result in
-    let after : Groups = c.remove.new.self in
-    let group = c.group-group.result.now in
-    let Tally : List (Option Spot) → Type 0 = λ found. IsTally c.args.wanted.now found left after in
-    subst Tally (sym (written_at at))
-    (unmark c.args.wanted.now new left c.args.self.now.filter after c.args.candidate.crc group (tally_at at) c.group-group.ensures
-    (λ k h low none. let both : true ≡ false = sym (c.is_waiting.ensures.1 (k, h, low, ap (λ found. answer_at found (place_at group k).index) (c.deref.ensures.value ∙ written_at at) ∙ none)) ∙ c.if-not-is_waiting.true in cc)
-    c.remove.ensures.kept c.remove.ensures.only)
+    let crc : ℕ = c.args.candidate.crc in
+    let group : List Place = c.group-group.result.now in
+    let closed : (k : ℕ) → k < length group → (place_at group k).crc % 64 ≡ crc % 64 → answer_at new (place_at group k).index ≡ None → ⊥ = λ k h low none.
+    let both : true ≡ false = sym (c.is_waiting.ensures.1 (k, h, low, ap (λ found. answer_at found (place_at group k).index) (c.deref.ensures.value ∙ written_at at) ∙ none)) ∙ c.if-not-is_waiting.true in
+    cc
+    in
+    tally_with at c.remove.new.self
+    (λ i h none. c.remove.ensures.kept (pair_at pairs i).1 (not_closed pairs new crc group c.group-group.ensures closed i h none))
+    c.remove.ensures.only
+    (λ other is alike. absurd (c.remove.ensures.gone (marks_alike c.remove.new.self crc other alike is)))
+
+pub returns-else-not-is_waiting-clause-tally : goal.returns-else-not-is_waiting-clause-tally
+returns-else-not-is_waiting-clause-tally c =
+    let at : After-is_waiting = (goal.at.returns-else-not-is_waiting-clause-tally c).After-is_waiting in
+    let new : List (Option Spot) = c.settle.new.found in
+    let group : List Place = c.group-group.result.now in
+    let waits = c.is_waiting.ensures.0 c.if-not-is_waiting.false in
+    let none : answer_at new (place_at group waits.0).index ≡ None = ap (λ found. answer_at found (place_at group waits.0).index) (sym (c.deref.ensures.value ∙ written_at at)) ∙ waits.3 in
+    tally_with at c.args.self.now.filter
+    (λ i h none is. is)
+    (λ other is. is)
+    (λ other is. waiting_pair c.args.wanted.now new c.args.candidate.crc group c.group-group.ensures waits.0 waits.1 waits.2 none other)
 
 pub returns-then-not-is_waiting-clause-each : goal.returns-then-not-is_waiting-clause-each
 returns-then-not-is_waiting-clause-each c = each_at (goal.at.returns-then-not-is_waiting-clause-each c).After-is_waiting
 
 pub returns-else-not-is_waiting-clause-each : goal.returns-else-not-is_waiting-clause-each
 returns-else-not-is_waiting-clause-each c = each_at (goal.at.returns-else-not-is_waiting-clause-each c).After-is_waiting
-
-pub returns-else-not-is_waiting-clause-tally : goal.returns-else-not-is_waiting-clause-tally
-returns-else-not-is_waiting-clause-tally c =
-    let at : After-is_waiting = (goal.at.returns-else-not-is_waiting-clause-tally c).After-is_waiting in
-    let Tally : List (Option Spot) → Type 0 = λ found. IsTally c.args.wanted.now found (c.args.self.now.left - c.settle.result) c.args.self.now.filter in
-    subst Tally (sym (written_at at)) (tally_at at)
