@@ -11,7 +11,7 @@ const ROWS: usize = 512 * 1024;
 // What the columns of a recovery slice take beside their bytes.
 const OVERHEAD: usize = 64;
 
-// Of how many columns a block is a multiple.
+// Of how many columns a block is a multiple: of twice as many where there is room.
 const STEP: usize = 64;
 
 // How many bytes the slices have.
@@ -31,7 +31,8 @@ pub fn columns_at_once(slices: &[&[u8]], count: usize, size: usize) -> usize
 {
     let room = (total_len(slices) / 128).saturating_add(COLUMNS);
     let each = (room / count.max(1)).saturating_sub(OVERHEAD);
-    let most = (each / STEP).max(1);
+    let steps = each / STEP;
+    let most = (steps - steps % 2).max(1);
     let all = size / STEP + 1;
     let blocks = all.div_ceil(most).max(1);
     all.div_ceil(blocks).clamp(1, most) * STEP

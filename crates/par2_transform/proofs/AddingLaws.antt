@@ -7,7 +7,6 @@ use Rattle.std.proofs.lemmas.List.{get_or-append_right, get_or_append_left, get_
 use Rattle.std.proofs.Math.Arith.{lt_of_le-ne}
 use Rattle.std.specs.Int.Bits.{xor_assoc, xor_zero_r, xor_zero_l}
 use borrow.Rule.Slice.PartMut.{put_mid, same_len_mid, mid_len}
-use Rattle.par2_spec.specs.Field.{mul}
 use Rattle.par2_spec.specs.Slices.{word}
 use Rattle.par2_spec.specs.Sums.{field_sum, list_at, OneChanged}
 use Rattle.par2_transform.specs.Adding.{within, AddsTo, AddsToEach}
@@ -57,6 +56,13 @@ within_same from to p x y same = elim (cases_lt p from) [
     | inl here ↦ ap (within from to p) (same from_here here)
     | inr above ↦ within-above from to p x above ∙ sym (within-above from to p y above)
   ]
+]
+
+-- a range and a place, both moved
+pub within_moved : (at n q p x : ℕ) → p ≡ at + q → within 0 n q x ≡ within at (at + n) p x
+within_moved at n q p x is = elim (cases_lt q n) [
+  | inl low ↦ within-in 0 n q x (omega arith) low ∙ sym (within-in at (at + n) p x (omega arith) (omega arith))
+  | inr high ↦ within-above 0 n q x high ∙ sym (within-above at (at + n) p x (omega arith))
 ]
 
 -- ---- texts
@@ -143,22 +149,22 @@ part_above a k i none xs ys high fits size =
     ∙ get_or-drop a xs (k + (i - a - k)) none
     ∙ ap (λ m. get_or xs m none) (let e : a + (k + (i - a - k)) ≡ i = omega arith in e)
 
--- the words of a row's front, added to a part of a text
-pub adds_to_part : (c from to : ℕ) (row text new : List ℕ) → from ≤ to → 2 * to ≤ 2 * from + length row → 2 * to ≤ length text
+-- what f makes of the words of a row's front, added to a part of a text
+pub adds_to_part : (f : ℕ → ℕ) (from to : ℕ) (row text new : List ℕ) → from ≤ to → 2 * to ≤ 2 * from + length row → 2 * to ≤ length text
     → length new ≡ 2 * to - 2 * from
-    → ((p : ℕ) → 2 * p + 1 < 2 * to - 2 * from → word p new ≡ bit_xor (word p (take (2 * to - 2 * from) (drop (2 * from) text))) (mul c (word p (take (2 * (to - from)) row))))
-    → AddsTo (λ p. within from to p (mul c (word (p - from) row))) text (put_mid (2 * from) (2 * to - 2 * from) text new)
-adds_to_part c from to row text new order in_row in_text size each = record {
+    → ((p : ℕ) → 2 * p + 1 < 2 * to - 2 * from → word p new ≡ bit_xor (word p (take (2 * to - 2 * from) (drop (2 * from) text))) (f (word p (take (2 * (to - from)) row))))
+    → AddsTo (λ p. within from to p (f (word (p - from) row))) text (put_mid (2 * from) (2 * to - 2 * from) text new)
+adds_to_part f from to row text new order in_row in_text size each = record {
   same_length = same_len_mid (2 * from) (2 * to - 2 * from) text new (size ∙ sym (mid_len (2 * from) (2 * to) text in_text));
   each = λ p fits. elim (cases_lt p from) [
     | inl below ↦
         ap₂ (λ a b. a + 256 * b) (part_below (2 * from) k (2 * p) 0 text new (omega arith) (omega arith)) (part_below (2 * from) k (2 * p + 1) 0 text new (omega arith) (omega arith))
-        ∙ sym (ap (bit_xor (word p text)) (within-below from to p (mul c (word (p - from) row)) below) ∙ xor_zero_r (word p text))
+        ∙ sym (ap (bit_xor (word p text)) (within-below from to p (f (word (p - from) row)) below) ∙ xor_zero_r (word p text))
     | inr from_here ↦ elim (cases_lt p to) [
       | inl here ↦ inside p (p - from) (omega arith) (omega arith)
       | inr above ↦
           ap₂ (λ a b. a + 256 * b) (part_above (2 * from) k (2 * p) 0 text new (omega arith) (omega arith) size) (part_above (2 * from) k (2 * p + 1) 0 text new (omega arith) (omega arith) size)
-          ∙ sym (ap (bit_xor (word p text)) (within-above from to p (mul c (word (p - from) row)) above) ∙ xor_zero_r (word p text))
+          ∙ sym (ap (bit_xor (word p text)) (within-above from to p (f (word (p - from) row)) above) ∙ xor_zero_r (word p text))
     ]
   ];
 }
@@ -167,7 +173,7 @@ adds_to_part c from to row text new order in_row in_text size each = record {
     k = 2 * to - 2 * from
 
     inside : (p q : ℕ) → p ≡ from + q → p < to
-        → word p (put_mid (2 * from) k text new) ≡ bit_xor (word p text) (within from to p (mul c (word (p - from) row)))
+        → word p (put_mid (2 * from) k text new) ≡ bit_xor (word p text) (within from to p (f (word (p - from) row)))
     inside p q place here =
         let low : 2 * q + 1 < k = omega (arith, place) in
         let back : p - from ≡ q = omega arith in
@@ -182,4 +188,4 @@ adds_to_part c from to row text new order in_row in_text size each = record {
         let factor : word q (take (2 * (to - from)) row) ≡ word (p - from) row =
         ap₂ (λ a b. a + 256 * b) (get_or-take (2 * (to - from)) row (2 * q) 0 (omega arith)) (get_or-take (2 * (to - from)) row (2 * q + 1) 0 (omega arith))
         ∙ ap (λ m. word m row) (sym back) in
-        written ∙ each q low ∙ ap₂ (λ a b. bit_xor a (mul c b)) was factor ∙ ap (bit_xor (word p text)) (sym (within-in from to p (mul c (word (p - from) row)) (omega arith) here))
+        written ∙ each q low ∙ ap₂ (λ a b. bit_xor a (f b)) was factor ∙ ap (bit_xor (word p text)) (sym (within-in from to p (f (word (p - from) row)) (omega arith) here))

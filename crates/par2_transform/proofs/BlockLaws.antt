@@ -112,7 +112,7 @@ next_block cut columns first size n e blocks block so_far is place = record {
 }
   where
     none : Outputs
-    none = record { exponent = 0; windows = 0; weights = []; sums = record { levels = 0; words = 0; texts = [] } }
+    none = record { exponent = 0; windows = 0; weights = []; sums = record { levels = 0; words = 0; bytes = [] } }
 
     before : (j : ℕ) → j < n → block_at (blocks ++ block ∷ []) j ≡ block_at blocks j
     before j low = get_or_append_left blocks (block ∷ []) none j (let c = so_far.count in omega (arith, c))

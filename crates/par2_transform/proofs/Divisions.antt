@@ -1,132 +1,214 @@
 -- The division of a run of coefficients by the vanishing polynomial less a constant.
-use Rattle.std.proofs.Common.{ℕ, zero, suc, ◌+◌, ◌*◌, ◌^◌, ◌<◌, ◌≤◌, ◌≡◌, inl, inr, sym, ap, ap₂, ◌∙◌, subst, arith, bit_xor, pow_pos, add_assoc, zero-add}
+use Rattle.std.proofs.Common.{ℕ, suc, ◌+◌, ◌-◌, ◌*◌, ◌^◌, ◌<◌, ◌≤◌, ◌≡◌, sym, ap, ap₂, ◌∙◌, subst, arith, bit_xor, refl, add_assoc}
 use Rattle.std.specs.Int.{bit_at}
 use Rattle.std.specs.Int.Bits.{xor_zero_l, xor_zero_r, xor_assoc, xor_self}
-use Rattle.std.proofs.lemmas.Bool.{cases_eq}
 use Rattle.std.proofs.lemmas.Nat.{xor_comm}
 use Rattle.par2_spec.specs.Field.{mul, pow}
 use Rattle.par2_spec.specs.Sums.{field_sum, AreElements}
-use Rattle.par2_spec.proofs.FieldBits.{xor_middle}
-use Rattle.par2_spec.proofs.FieldOrder.{power-lt, power-add, product-zero}
-use Rattle.par2_spec.proofs.FieldProducts.{product-lt, product_comm, product_assoc, product_linear_left, product_linear_right}
-use Rattle.par2_spec.proofs.SumLaws.{field_sum_same, field_sum_xor, field_sum_head}
+use Rattle.par2_spec.proofs.FieldBits.{bit_times_xor}
+use Rattle.par2_spec.proofs.FieldOrder.{power-lt, power-add}
+use Rattle.par2_spec.proofs.FieldProducts.{product-lt, product_comm, product_assoc, product_linear_left}
+use Rattle.par2_spec.proofs.SumLaws.{field_sum_same, field_sum_xor, field_sum_scaled, xor_off}
 use Rattle.par2_transform.specs.Subspaces.{vanishing, powers_in}
 use Rattle.par2_transform.specs.Evaluations.{value, from, IsSplit}
-use Rattle.par2_transform.specs.Steps.{IsOneAdded, OnElements, OneRun, RunAdded, IsSpread, IsDivided}
+use Rattle.par2_transform.specs.Steps.{OnElements, OneRun, RunAddedBy, RunAdded, spread_beyond, spread_within, IsSpreadAbove, IsSpreadBelow, IsDivided}
 use Rattle.par2_transform.proofs.Subspaces.{leading_power, lower_powers}
-use Rattle.par2_transform.proofs.Sums.{field_sum_linear, field_sum_next, field_sum_bit_set, field_sum_bit_unset, bit_product}
-use Rattle.par2_transform.proofs.StepLaws.{power_below, double_power, same_outside, outside_then, outside_one, one_fit, run_fit, IsOfFirst}
+use Rattle.par2_transform.proofs.Sums.{field_sum_join, field_sum_linear, field_sum_bit_set, field_sum_bit_unset, bit_product}
+use Rattle.par2_transform.proofs.StepLaws.{power_below, double_power, same_outside, outside_then, run_fit, run_by_fit, IsOfFirst}
 
--- ---- a polynomial of which one coefficient is changed
+-- ---- a polynomial to which a run of coefficients is added
 
-pub one_from : (start t v : ℕ) (f g : ℕ → ℕ) → IsOneAdded (start + t) v f g → IsOneAdded t v (from start f) (from start g)
-one_from start t v f g one = record { others = λ u n. one.others (start + u) (λ e. n (omega arith)); here = one.here }
+pub run_from : (k : ℕ → ℕ) (start at to n : ℕ) (f g : ℕ → ℕ) → RunAddedBy k (start + at) (start + to) n f g → RunAddedBy k at to n (from start f) (from start g)
+run_from k start at to n f g added = record {
+  others = record { below = λ u l. added.others.below (start + u) (omega arith); above = λ u l. added.others.above (start + u) (omega arith) };
+  run = λ e l. ap g (sym (add_assoc start to e)) ∙ added.run e l ∙ ap₂ (λ a b. bit_xor (f a) (k (f b))) (add_assoc start to e) (add_assoc start at e);
+}
 
-value_past : (n to v x : ℕ) (f g : ℕ → ℕ) → n ≤ to → IsOneAdded to v f g → value n g x ≡ value n f x
-value_past n to v x f g h one = field_sum_same n (λ m. mul (g m) (pow x m)) (λ m. mul (f m) (pow x m)) (λ m l. ap (λ y. mul y (pow x m)) (one.others m (λ e. omega arith)))
-
-pub value_changed : (n to v x : ℕ) (f g : ℕ → ℕ) → to < n → IsOneAdded to v f g → value n g x ≡ bit_xor (value n f x) (mul v (pow x to))
-unfolding field_sum
-value_changed zero to v x f g h one = absurd (omega (arith, h))
-value_changed (suc n) to v x f g h one = elim (cases_eq to n) [
-  | inl e ↦
-      let last : mul (g n) (pow x n) ≡ bit_xor (mul (f n) (pow x n)) (mul v (pow x to)) =
-      ap (λ d. mul (g d) (pow x n)) (sym e) ∙ ap (λ y. mul y (pow x n)) one.here ∙ (product_linear_left (pow x n)).on_xor (f to) v
-      ∙ ap₂ (λ a b. bit_xor (mul (f a) (pow x n)) (mul v (pow x b))) e (sym e) in
-      ap₂ bit_xor (value_past n to v x f g (omega arith) one) last ∙ sym (xor_assoc (value n f x) (mul (f n) (pow x n)) (mul v (pow x to)))
-  | inr o ↦
-      ap₂ bit_xor (value_changed n to v x f g (omega arith) one) (ap (λ y. mul y (pow x n)) (one.others n (λ s. o (sym s))))
-      ∙ swap (value n f x) (mul v (pow x to)) (mul (f n) (pow x n))
-]
+pub value_run : (k : ℕ → ℕ) (at to n r x : ℕ) (f g : ℕ → ℕ) → RunAddedBy k at to n f g
+    → value (to + (n + r)) g x ≡ bit_xor (value (to + (n + r)) f x) (field_sum n (λ d. mul (k (f (at + d))) (pow x (to + d))))
+value_run k at to n r x f g added =
+    parts g ∙ ap₂ bit_xor (field_sum_same to (term g) (term f) (λ m l. ap (λ v. mul v (pow x m)) (added.others.below m l)))
+    (ap₂ bit_xor middle (field_sum_same r (λ d. term g (to + (n + d))) (λ d. term f (to + (n + d))) (λ d l. ap (λ v. mul v (pow x (to + (n + d)))) (added.others.above (to + (n + d)) (omega arith)))))
+    ∙ turn (field_sum to (term f)) (field_sum n (λ d. term f (to + d))) more (field_sum r (λ d. term f (to + (n + d))))
+    ∙ ap (λ v. bit_xor v more) (sym (parts f))
   where
-    swap : (a b d : ℕ) → bit_xor (bit_xor a b) d ≡ bit_xor (bit_xor a d) b
-    swap a b d = xor_assoc a b d ∙ ap (bit_xor a) (xor_comm b d) ∙ sym (xor_assoc a d b)
+    term : (ℕ → ℕ) → ℕ → ℕ
+    term h m = mul (h m) (pow x m)
+
+    more : ℕ
+    more = field_sum n (λ d. mul (k (f (at + d))) (pow x (to + d)))
+
+    parts : (h : ℕ → ℕ) → value (to + (n + r)) h x ≡ bit_xor (field_sum to (term h)) (bit_xor (field_sum n (λ d. term h (to + d))) (field_sum r (λ d. term h (to + (n + d)))))
+    parts h = field_sum_join to (n + r) (term h) ∙ ap (bit_xor (field_sum to (term h))) (field_sum_join n r (λ d. term h (to + d)))
+
+    middle : field_sum n (λ d. term g (to + d)) ≡ bit_xor (field_sum n (λ d. term f (to + d))) more
+    middle =
+        field_sum_same n (λ d. term g (to + d)) (λ d. bit_xor (term f (to + d)) (mul (k (f (at + d))) (pow x (to + d))))
+        (λ d l. ap (λ v. mul v (pow x (to + d))) (added.run d l) ∙ (product_linear_left (pow x (to + d))).on_xor (f (to + d)) (k (f (at + d))))
+        ∙ field_sum_xor n (λ d. term f (to + d)) (λ d. mul (k (f (at + d))) (pow x (to + d)))
+
+    turn : (a b m c : ℕ) → bit_xor a (bit_xor (bit_xor b m) c) ≡ bit_xor (bit_xor a (bit_xor b c)) m
+    turn a b m c = ap (bit_xor a) (xor_assoc b m c ∙ ap (bit_xor b) (xor_comm m c) ∙ sym (xor_assoc b c m)) ∙ sym (xor_assoc a (bit_xor b c) m)
 
 -- ---- spreading
 
-pub spread_start : (i start m : ℕ) (f : ℕ → ℕ) → IsSpread i start m 0 f f
+pub above_start : (i start : ℕ) (f : ℕ → ℕ) → IsSpreadAbove i start 0 f f
 unfolding field_sum
-spread_start i start m f = record {
-  others = same_outside start (start + (2 ^ i + m)) f;
+above_start i start f = record {
+  others = same_outside (start + 2 ^ i) (start + 2 ^ suc i) f;
+  kept = λ e h. refl;
   fit = λ fit. fit;
-  values = λ x. sym (xor_zero_r (value (2 ^ i + m) (from start f) x));
+  values = λ x. sym (xor_zero_r (value (2 ^ suc i) (from start f) x));
 }
 
-pub spread_set : (i start m n : ℕ) (f g h : ℕ → ℕ) → n < i → bit_at (powers_in i) n ≡ 1 → IsSpread i start m n f g → IsOneAdded (start + m + 2 ^ n) (g (start + 2 ^ i + m)) g h → IsSpread i start m (n + 1) f h
-spread_set i start m n f g h low set so_far one =
-    let under : 2 ^ n + 2 ^ n ≤ 2 ^ i = power_below n i low in
-    let some : 0 < 2 ^ n = pow_pos n in
-    let place : start + m + 2 ^ n ≡ start + (m + 2 ^ n) = omega arith in
-    let source : g (start + 2 ^ i + m) ≡ from start f (2 ^ i + m) = ap g (add_assoc start (2 ^ i) m) ∙ so_far.others.above (start + (2 ^ i + m)) (omega arith) in
-    let terms : ℕ → ℕ → ℕ = λ x j. mul (from start f (2 ^ i + m)) (pow x (m + 2 ^ j)) in
-    record {
-      others = outside_then start (start + (2 ^ i + m)) start (start + (2 ^ i + m)) start (start + (2 ^ i + m)) f g h so_far.others
-          (outside_one start (start + (2 ^ i + m)) (start + m + 2 ^ n) (g (start + 2 ^ i + m)) g h one (omega arith) (omega arith)) (omega arith) (omega arith) (omega arith) (omega arith);
-      fit = λ fit. let mid : AreElements g = so_far.fit fit in one_fit (start + m + 2 ^ n) (g (start + 2 ^ i + m)) g h (mid (start + 2 ^ i + m)) one mid;
-      values = λ x.
-          value_changed (2 ^ i + m) (m + 2 ^ n) (g (start + 2 ^ i + m)) x (from start g) (from start h) (omega arith)
-          (one_from start (m + 2 ^ n) (g (start + 2 ^ i + m)) g h (subst (λ t. IsOneAdded t (g (start + 2 ^ i + m)) g h) place one))
-          ∙ ap₂ bit_xor (so_far.values x) (ap (λ a. mul a (pow x (m + 2 ^ n))) source)
-          ∙ xor_assoc (value (2 ^ i + m) (from start f) x) (field_sum n (λ j. bit_at (powers_in i) j * terms x j)) (terms x n)
-          ∙ ap (bit_xor (value (2 ^ i + m) (from start f) x)) (sym (field_sum_bit_set n (powers_in i) (terms x) set));
-    }
+pub above_set : (i start n : ℕ) (f g h : ℕ → ℕ) → n < i → bit_at (powers_in i) n ≡ 1 → IsSpreadAbove i start n f g
+    → RunAdded (start + (2 ^ i + (2 ^ i - 2 ^ n))) (start + 2 ^ i) (2 ^ n) g h → IsSpreadAbove i start (n + 1) f h
+above_set i start n f g h low set so_far added = record {
+  others = outside_then (start + 2 ^ i) (start + 2 ^ suc i) (start + 2 ^ i) (start + 2 ^ suc i) (start + 2 ^ i) (start + 2 ^ i + 2 ^ n) f g h so_far.others added.others (omega arith) (omega arith) (omega arith) (omega (arith, double, under));
+  kept = λ e l. added.others.above (start + (2 ^ i + e)) (omega (arith, under, l)) ∙ so_far.kept e l;
+  fit = λ fit. run_fit (start + (2 ^ i + (2 ^ i - 2 ^ n))) (start + 2 ^ i) (2 ^ n) g h added (so_far.fit fit);
+  values = λ x.
+      ap (λ m. value m (from start h) x) (sym whole)
+      ∙ value_run (λ v. v) (2 ^ i + (2 ^ i - 2 ^ n)) (2 ^ i) (2 ^ n) (2 ^ i - 2 ^ n) x (from start g) (from start h) (run_from (λ v. v) start (2 ^ i + (2 ^ i - 2 ^ n)) (2 ^ i) (2 ^ n) g h added)
+      ∙ ap₂ bit_xor (ap (λ m. value m (from start g) x) whole ∙ so_far.values x)
+      (field_sum_same (2 ^ n) (λ d. mul (from start g (2 ^ i + (2 ^ i - 2 ^ n) + d)) (pow x (2 ^ i + d))) (λ d. mul (from (2 ^ i) (from start f) (2 ^ i - 2 ^ n + d)) (pow x (2 ^ i + d)))
+      (λ d l. ap (λ v. mul v (pow x (2 ^ i + d))) (ap (from start g) (add_assoc (2 ^ i) (2 ^ i - 2 ^ n) d) ∙ so_far.kept (2 ^ i - 2 ^ n + d) (omega (arith, under)))))
+      ∙ xor_assoc (value (2 ^ suc i) (from start f) x) (field_sum n (λ j. bit_at (powers_in i) j * terms x j)) (terms x n)
+      ∙ ap (bit_xor (value (2 ^ suc i) (from start f) x)) (sym (field_sum_bit_set n (powers_in i) (terms x) set));
+}
+  where
+    under : 2 ^ n + 2 ^ n ≤ 2 ^ i
+    under = power_below n i low
 
-pub spread_unset : (i start m n : ℕ) (f g : ℕ → ℕ) → (bit_at (powers_in i) n ≡ 1 → ⊥) → IsSpread i start m n f g → IsSpread i start m (n + 1) f g
-spread_unset i start m n f g unset so_far = record {
+    double : 2 ^ suc i ≡ 2 ^ i + 2 ^ i
+    double = double_power i
+
+    whole : 2 ^ i + (2 ^ n + (2 ^ i - 2 ^ n)) ≡ 2 ^ suc i
+    whole = omega (arith, under, double)
+
+    terms : ℕ → ℕ → ℕ
+    terms x j = spread_beyond i (from (2 ^ i) (from start f)) x j
+
+pub above_unset : (i start n : ℕ) (f g : ℕ → ℕ) → (bit_at (powers_in i) n ≡ 1 → ⊥) → IsSpreadAbove i start n f g → IsSpreadAbove i start (n + 1) f g
+above_unset i start n f g unset so_far = record {
+  others = so_far.others;
+  kept = so_far.kept;
+  fit = so_far.fit;
+  values = λ x. so_far.values x ∙ ap (bit_xor (value (2 ^ suc i) (from start f) x)) (sym (field_sum_bit_unset n (powers_in i) (spread_beyond i (from (2 ^ i) (from start f)) x) unset));
+}
+
+pub below_start : (i start : ℕ) (f : ℕ → ℕ) → IsSpreadBelow i start 0 f f
+unfolding field_sum
+below_start i start f = record {
+  others = same_outside start (start + 2 ^ i) f;
+  fit = λ fit. fit;
+  values = λ x. sym (xor_zero_r (value (2 ^ suc i) (from start f) x));
+}
+
+pub below_set : (i start n : ℕ) (f g h : ℕ → ℕ) → n < i → bit_at (powers_in i) n ≡ 1 → IsSpreadBelow i start n f g
+    → RunAdded (start + 2 ^ i) (start + 2 ^ n) (2 ^ i - 2 ^ n) g h → IsSpreadBelow i start (n + 1) f h
+below_set i start n f g h low set so_far added = record {
+  others = outside_then start (start + 2 ^ i) start (start + 2 ^ i) (start + 2 ^ n) (start + 2 ^ n + (2 ^ i - 2 ^ n)) f g h so_far.others added.others (omega arith) (omega arith) (omega arith) (omega (arith, under));
+  fit = λ fit. run_fit (start + 2 ^ i) (start + 2 ^ n) (2 ^ i - 2 ^ n) g h added (so_far.fit fit);
+  values = λ x.
+      ap (λ m. value m (from start h) x) (sym whole)
+      ∙ value_run (λ v. v) (2 ^ i) (2 ^ n) (2 ^ i - 2 ^ n) (2 ^ i) x (from start g) (from start h) (run_from (λ v. v) start (2 ^ i) (2 ^ n) (2 ^ i - 2 ^ n) g h added)
+      ∙ ap₂ bit_xor (ap (λ m. value m (from start g) x) whole ∙ so_far.values x)
+      (field_sum_same (2 ^ i - 2 ^ n) (λ d. mul (from start g (2 ^ i + d)) (pow x (2 ^ n + d))) (λ d. mul (from start f (2 ^ i + d)) (pow x (2 ^ n + d)))
+      (λ d l. ap (λ v. mul v (pow x (2 ^ n + d))) (so_far.others.above (start + (2 ^ i + d)) (omega arith))))
+      ∙ xor_assoc (value (2 ^ suc i) (from start f) x) (field_sum n (λ j. bit_at (powers_in i) j * terms x j)) (terms x n)
+      ∙ ap (bit_xor (value (2 ^ suc i) (from start f) x)) (sym (field_sum_bit_set n (powers_in i) (terms x) set));
+}
+  where
+    under : 2 ^ n + 2 ^ n ≤ 2 ^ i
+    under = power_below n i low
+
+    whole : 2 ^ n + (2 ^ i - 2 ^ n + 2 ^ i) ≡ 2 ^ suc i
+    whole = let double : 2 ^ suc i ≡ 2 ^ i + 2 ^ i = double_power i in omega (arith, under, double)
+
+    terms : ℕ → ℕ → ℕ
+    terms x j = spread_within i (from (2 ^ i) (from start f)) x j
+
+pub below_unset : (i start n : ℕ) (f g : ℕ → ℕ) → (bit_at (powers_in i) n ≡ 1 → ⊥) → IsSpreadBelow i start n f g → IsSpreadBelow i start (n + 1) f g
+below_unset i start n f g unset so_far = record {
   others = so_far.others;
   fit = so_far.fit;
-  values = λ x. so_far.values x ∙ ap (bit_xor (value (2 ^ i + m) (from start f) x)) (sym (field_sum_bit_unset n (powers_in i) (λ j. mul (from start f (2 ^ i + m)) (pow x (m + 2 ^ j))) unset));
+  values = λ x. so_far.values x ∙ ap (bit_xor (value (2 ^ suc i) (from start f) x)) (sym (field_sum_bit_unset n (powers_in i) (spread_within i (from (2 ^ i) (from start f)) x) unset));
 }
 
 -- ---- dividing
 
-pub divide_start : (i c start : ℕ) (f : ℕ → ℕ) → IsDivided i c start (2 ^ i) f f
-unfolding field_sum
-divide_start i c start f = record {
-  others = same_outside start (start + 2 ^ suc i) f;
-  fit = λ fit. fit;
-  values = λ x n h is fit.
-      let none : n ≡ 0 = omega arith in
-      let whole : ℕ = value (2 ^ i + 2 ^ i) (from start f) x in
-      ap (λ k. value k (from start f) x) (double_power i)
-      ∙ sym (ap (λ k. bit_xor whole (mul (bit_xor (vanishing i x) c) (field_sum k (λ d. mul (from start f (2 ^ i + 2 ^ i + d)) (pow x (2 ^ i + d)))))) none
-      ∙ ap (bit_xor whole) (product-zero (bit_xor (vanishing i x) c)) ∙ xor_zero_r whole);
-}
-
-balance : (w s l d k : ℕ) → bit_xor (bit_xor w (bit_xor s l)) d ≡ bit_xor (bit_xor (bit_xor w k) l) (bit_xor (bit_xor s k) d)
-balance w s l d k =
-    ap (λ v. bit_xor v d) (sym (xor_assoc w s l)) ∙ xor_assoc (bit_xor w s) l d
-    ∙ sym (xor_middle (bit_xor w k) l (bit_xor s k) d
-    ∙ ap (λ v. bit_xor v (bit_xor l d)) (xor_middle w k s k ∙ ap (bit_xor (bit_xor w s)) (xor_self k) ∙ xor_zero_r (bit_xor w s)))
-
--- a multiple of the power of the highest coefficient
-leading : (i m x e : ℕ) → x < 65536 → e < 65536
-    → mul e (pow x (2 ^ i + m)) ≡ bit_xor (mul (vanishing i x) (mul e (pow x m))) (field_sum i (λ j. bit_at (powers_in i) j * mul e (pow x (m + 2 ^ j))))
-leading i m x e hx he =
-    let p : ℕ = pow x m in
-    let y : ℕ = mul e p in
+-- coefficients that are put some places ahead
+put_ahead : (n m x : ℕ) (u : ℕ → ℕ) → x < 65536 → AreElements u → field_sum n (λ d. mul (u d) (pow x (m + d))) ≡ mul (pow x m) (value n u x)
+put_ahead n m x u hx fit =
+    field_sum_same n (λ d. mul (u d) (pow x (m + d))) (λ d. mul (pow x m) (mul (u d) (pow x d)))
+    (λ d l.
+    let p = pow x m in
+    let q = pow x d in
     let hp : p < 65536 = power-lt x m hx in
-    let turn : (t : ℕ) → t < 65536 → mul e (mul t p) ≡ mul t y =
-    λ t ht. sym (product_assoc e t p he ht hp) ∙ ap (λ v. mul v p) (product_comm e t he ht) ∙ product_assoc t e p ht he hp in
-    ap (mul e) (power-add x (2 ^ i) m hx) ∙ turn (pow x (2 ^ i)) (power-lt x (2 ^ i) hx)
-    ∙ ap (λ t. mul t y) (leading_power i x hx) ∙ (product_linear_left y).on_xor (vanishing i x) (lower_powers i x)
-    ∙ ap (bit_xor (mul (vanishing i x) y))
-    (sym (field_sum_linear i (λ t. mul t y) (λ j. bit_at (powers_in i) j * pow x (2 ^ j)) (product_linear_left y))
-    ∙ field_sum_same i (λ j. mul (bit_at (powers_in i) j * pow x (2 ^ j)) y) (λ j. bit_at (powers_in i) j * mul e (pow x (m + 2 ^ j)))
-    (λ j l. bit_product (powers_in i) j (pow x (2 ^ j)) y
-    ∙ ap (λ v. bit_at (powers_in i) j * v) (sym (turn (pow x (2 ^ j)) (power-lt x (2 ^ j) hx))
-    ∙ ap (mul e) (product_comm (pow x (2 ^ j)) p (power-lt x (2 ^ j) hx) hp ∙ sym (power-add x m (2 ^ j) hx)))))
+    let hq : q < 65536 = power-lt x d hx in
+    ap (mul (u d)) (power-add x m d hx) ∙ sym (product_assoc (u d) p q (fit d) hp hq) ∙ ap (λ v. mul v q) (product_comm (u d) p (fit d) hp) ∙ product_assoc p (u d) q hp (fit d) hq)
+    ∙ field_sum_scaled n (pow x m) (λ d. mul (u d) (pow x d))
 
-pub divide_next : (i c start m : ℕ) (f g k h : ℕ → ℕ) → c < 65536 → m < 2 ^ i → IsDivided i c start (m + 1) f g
-    → IsOneAdded (start + m) (mul c (g (start + 2 ^ i + m))) g k → IsSpread i start m i k h → IsDivided i c start m f h
-divide_next i c start m f g k h hc low so_far one spread = record {
-  others = outside_then start end start end start (start + (2 ^ i + m)) f k h
-      (outside_then start end start end start end f g k so_far.others (outside_one start end (start + m) (mul c (g (start + 2 ^ i + m))) g k one (omega arith) (omega (arith, double))) (omega arith) (omega arith) (omega arith) (omega arith))
-      spread.others (omega arith) (omega arith) (omega arith) (omega (arith, double));
-  fit = λ fit.
-      let mid : AreElements g = so_far.fit fit in
-      spread.fit (one_fit (start + m) (mul c (g (start + 2 ^ i + m))) g k (product-lt c (g (start + 2 ^ i + m)) hc (mid (start + 2 ^ i + m))) one mid);
-  values = values_of;
+-- all that a power spreads
+spread_whole : (i j x : ℕ) (u : ℕ → ℕ) → j < i → x < 65536 → AreElements u
+    → bit_xor (spread_within i u x j) (spread_beyond i u x j) ≡ mul (pow x (2 ^ j)) (value (2 ^ i) u x)
+spread_whole i j x u low hx fit =
+    let under : 2 ^ j + 2 ^ j ≤ 2 ^ i = power_below j i low in
+    let whole : 2 ^ i - 2 ^ j + 2 ^ j ≡ 2 ^ i = omega (arith, under) in
+    ap (bit_xor (spread_within i u x j)) (field_sum_same (2 ^ j) (λ d. mul (u (2 ^ i - 2 ^ j + d)) (pow x (2 ^ i + d))) (λ d. mul (u (2 ^ i - 2 ^ j + d)) (pow x (2 ^ j + (2 ^ i - 2 ^ j + d))))
+    (λ d l. ap (λ m. mul (u (2 ^ i - 2 ^ j + d)) (pow x m)) (let e : 2 ^ i + d ≡ 2 ^ j + (2 ^ i - 2 ^ j + d) = omega (arith, under) in e)))
+    ∙ sym (field_sum_join (2 ^ i - 2 ^ j) (2 ^ j) (λ d. mul (u d) (pow x (2 ^ j + d))))
+    ∙ ap (λ m. field_sum m (λ d. mul (u d) (pow x (2 ^ j + d)))) whole ∙ put_ahead (2 ^ i) (2 ^ j) x u hx fit
+
+-- all that the lower powers spread
+spread_all : (i x : ℕ) (u : ℕ → ℕ) → x < 65536 → AreElements u
+    → bit_xor (field_sum i (λ j. bit_at (powers_in i) j * spread_within i u x j)) (field_sum i (λ j. bit_at (powers_in i) j * spread_beyond i u x j)) ≡ mul (lower_powers i x) (value (2 ^ i) u x)
+spread_all i x u hx fit =
+    let bits = powers_in i in
+    let y = value (2 ^ i) u x in
+    sym (field_sum_xor i (λ j. bit_at bits j * spread_within i u x j) (λ j. bit_at bits j * spread_beyond i u x j))
+    ∙ field_sum_same i (λ j. bit_xor (bit_at bits j * spread_within i u x j) (bit_at bits j * spread_beyond i u x j)) (λ j. mul (bit_at bits j * pow x (2 ^ j)) y)
+    (λ j l. sym (bit_times_xor bits j (spread_within i u x j) (spread_beyond i u x j)) ∙ ap (λ v. bit_at bits j * v) (spread_whole i j x u l hx fit) ∙ sym (bit_product bits j (pow x (2 ^ j)) y))
+    ∙ field_sum_linear i (λ t. mul t y) (λ j. bit_at bits j * pow x (2 ^ j)) (product_linear_left y)
+
+pub divided_runs : (i c start : ℕ) (f g k h : ℕ → ℕ) → c < 65536 → IsSpreadAbove i start i f g → IsSpreadBelow i start i g k
+    → RunAddedBy (mul c) (start + 2 ^ i) start (2 ^ i) k h → IsDivided i c start f h
+divided_runs i c start f g k h hc above below scaled = record {
+  others = outside_then start end start end start (start + 2 ^ i) f k h
+      (outside_then start end (start + 2 ^ i) end start (start + 2 ^ i) f g k above.others below.others (omega arith) (omega arith) (omega arith) (omega (arith, double))) scaled.others (omega arith) (omega arith) (omega arith) (omega (arith, double));
+  fit = elements;
+  values = λ x hx fit.
+      let u = upper h in
+      let fits : AreElements u = λ e. elements fit (start + (2 ^ i + e)) in
+      let y = value (2 ^ i) u x in
+      let l = value (2 ^ i) (from start h) x in
+      let p = pow x (2 ^ i) in
+      let before = value (2 ^ suc i) (from start f) x in
+      let beyond = field_sum i (λ j. bit_at (powers_in i) j * spread_beyond i u x j) in
+      let within_sum = field_sum i (λ j. bit_at (powers_in i) j * spread_within i u x j) in
+      let first : value (2 ^ suc i) (from start g) x ≡ bit_xor before beyond =
+      above.values x ∙ ap (bit_xor before) (field_sum_same i (λ j. bit_at (powers_in i) j * spread_beyond i (upper f) x j) (λ j. bit_at (powers_in i) j * spread_beyond i u x j)
+      (λ j m. ap (λ v. bit_at (powers_in i) j * v) (field_sum_same (2 ^ j) (λ d. mul (upper f (2 ^ i - 2 ^ j + d)) (pow x (2 ^ i + d))) (λ d. mul (u (2 ^ i - 2 ^ j + d)) (pow x (2 ^ i + d)))
+      (λ d b. ap (λ v. mul v (pow x (2 ^ i + d))) (sym (same (2 ^ i - 2 ^ j + d) ∙ above.kept (2 ^ i - 2 ^ j + d) (let under : 2 ^ j + 2 ^ j ≤ 2 ^ i = power_below j i m in omega (arith, under)))))))) in
+      let second : value (2 ^ suc i) (from start k) x ≡ bit_xor (bit_xor before beyond) within_sum =
+      below.values x ∙ ap₂ bit_xor first (field_sum_same i (λ j. bit_at (powers_in i) j * spread_within i (upper g) x j) (λ j. bit_at (powers_in i) j * spread_within i u x j)
+      (λ j m. ap (λ v. bit_at (powers_in i) j * v) (field_sum_same (2 ^ i - 2 ^ j) (λ d. mul (upper g d) (pow x (2 ^ j + d))) (λ d. mul (u d) (pow x (2 ^ j + d)))
+      (λ d b. ap (λ v. mul v (pow x (2 ^ j + d))) (sym (same d)))))) in
+      let third : value (2 ^ suc i) (from start h) x ≡ bit_xor (bit_xor (bit_xor before beyond) within_sum) (mul c y) =
+      ap (λ m. value m (from start h) x) (sym whole)
+      ∙ value_run (mul c) (2 ^ i) 0 (2 ^ i) (2 ^ i) x (from start k) (from start h) (run_from (mul c) start (2 ^ i) 0 (2 ^ i) k h (subst (λ t. RunAddedBy (mul c) (start + 2 ^ i) t (2 ^ i) k h) (let e : start ≡ start + 0 = omega arith in e) scaled))
+      ∙ ap₂ bit_xor (ap (λ m. value m (from start k) x) whole ∙ second)
+      (field_sum_same (2 ^ i) (λ d. mul (mul c (from start k (2 ^ i + d))) (pow x (0 + d))) (λ d. mul c (mul (u d) (pow x d)))
+      (λ d b. ap₂ (λ v m. mul (mul c v) (pow x m)) (sym (last d)) (let e : 0 + d ≡ d = omega arith in e) ∙ product_assoc c (u d) (pow x d) hc (fits d) (power-lt x d hx))
+      ∙ field_sum_scaled (2 ^ i) c (λ d. mul (u d) (pow x d))) in
+      let after : value (2 ^ suc i) (from start h) x ≡ bit_xor l (mul p y) =
+      ap (λ m. value m (from start h) x) double ∙ field_sum_join (2 ^ i) (2 ^ i) (λ m. mul (from start h m) (pow x m)) ∙ ap (bit_xor l) (put_ahead (2 ^ i) (2 ^ i) x u hx fits) in
+      balance before beyond within_sum (mul c y) l (mul p y) (sym third ∙ after)
+      ∙ ap (bit_xor l) (ap (bit_xor (bit_xor (mul p y) (mul c y))) (spread_all i x u hx fits)
+      ∙ ap (λ t. bit_xor (bit_xor (mul t y) (mul c y)) (mul (lower_powers i x) y)) (leading_power i x hx)
+      ∙ ap (λ t. bit_xor (bit_xor t (mul c y)) (mul (lower_powers i x) y)) ((product_linear_left y).on_xor (vanishing i x) (lower_powers i x))
+      ∙ drop_out (mul (vanishing i x) y) (mul (lower_powers i x) y) (mul c y) ∙ sym ((product_linear_left y).on_xor (vanishing i x) c));
 }
   where
     end : ℕ
@@ -135,65 +217,47 @@ divide_next i c start m f g k h hc low so_far one spread = record {
     double : 2 ^ suc i ≡ 2 ^ i + 2 ^ i
     double = double_power i
 
-    e : ℕ
-    e = from start g (2 ^ i + m)
+    whole : 0 + (2 ^ i + 2 ^ i) ≡ 2 ^ suc i
+    whole = omega (arith, double)
 
-    source : g (start + 2 ^ i + m) ≡ e
-    source = ap g (add_assoc start (2 ^ i) m)
+    upper : (ℕ → ℕ) → ℕ → ℕ
+    upper v = from (2 ^ i) (from start v)
 
-    kept : (t : ℕ) → m < t → from start k t ≡ from start g t
-    kept t l = one.others (start + t) (λ s. omega arith)
+    last : (e : ℕ) → upper h e ≡ upper k e
+    last e = scaled.others.above (start + (2 ^ i + e)) (omega arith)
 
-    upper : (t : ℕ) → 2 ^ i + m ≤ t → from start h t ≡ from start g t
-    upper t l = let some : 0 < 2 ^ i = pow_pos i in spread.others.above (start + t) (omega arith) ∙ kept t (omega arith)
+    same : (e : ℕ) → upper h e ≡ upper g e
+    same e = last e ∙ below.others.above (start + (2 ^ i + e)) (omega arith)
 
-    values_of : (x n : ℕ) → x < 2 ^ 16 → m + n ≡ 2 ^ i → AreElements f → value (2 ^ suc i) (from start f) x
-        ≡ bit_xor (value (2 ^ i + m) (from start h) x) (mul (bit_xor (vanishing i x) c) (field_sum n (λ d. mul (from start h (2 ^ i + m + d)) (pow x (m + d)))))
-    values_of x zero hx is fit = absurd (omega (arith, is, low))
-    values_of x (suc n) hx is fit =
-        let some : 0 < 2 ^ i = pow_pos i in
-        let he : e < 65536 = so_far.fit fit (start + (2 ^ i + m)) in
-        let p : ℕ = pow x m in
-        let hp : p < 65536 = power-lt x m hx in
-        let s : ℕ = vanishing i x in
-        let y : ℕ = mul e p in
-        let w : ℕ = value (2 ^ i + m) (from start g) x in
-        let q : ℕ = field_sum n (λ d. mul (from start g (2 ^ i + (m + 1) + d)) (pow x (m + 1 + d))) in
-        let d : ℕ = mul (bit_xor s c) q in
-        let l : ℕ = field_sum i (λ j. bit_at (powers_in i) j * mul e (pow x (m + 2 ^ j))) in
-        let before : value (2 ^ suc i) (from start f) x ≡ bit_xor (value (2 ^ i + (m + 1)) (from start g) x) d = so_far.values x n hx (omega arith) fit in
-        let last : value (2 ^ i + (m + 1)) (from start g) x ≡ bit_xor w (mul e (pow x (2 ^ i + m))) =
-        ap (λ t. value t (from start g) x) (let a : 2 ^ i + (m + 1) ≡ 2 ^ i + m + 1 = omega arith in a) ∙ field_sum_next (2 ^ i + m) (λ t. mul (from start g t) (pow x t)) in
-        let mid : value (2 ^ i + m) (from start k) x ≡ bit_xor w (mul c y) =
-        value_changed (2 ^ i + m) m (mul c (g (start + 2 ^ i + m))) x (from start g) (from start k) (omega arith) (one_from start m (mul c (g (start + 2 ^ i + m))) g k one)
-        ∙ ap (bit_xor w) (ap (λ v. mul (mul c v) p) source ∙ product_assoc c e p hc he hp) in
-        let new : value (2 ^ i + m) (from start h) x ≡ bit_xor (bit_xor w (mul c y)) l =
-        spread.values x ∙ ap₂ bit_xor mid (field_sum_same i (λ j. bit_at (powers_in i) j * mul (from start k (2 ^ i + m)) (pow x (m + 2 ^ j))) (λ j. bit_at (powers_in i) j * mul e (pow x (m + 2 ^ j)))
-        (λ j b. ap (λ v. bit_at (powers_in i) j * mul v (pow x (m + 2 ^ j))) (kept (2 ^ i + m) (omega arith)))) in
-        let quotient : field_sum (suc n) (λ b. mul (from start h (2 ^ i + m + b)) (pow x (m + b))) ≡ bit_xor y q =
-        field_sum_head n (λ b. mul (from start h (2 ^ i + m + b)) (pow x (m + b)))
-        ∙ ap₂ bit_xor (ap₂ mul (upper (2 ^ i + m + 0) (omega arith) ∙ ap (from start g) (let a : 2 ^ i + m + 0 ≡ 2 ^ i + m = omega arith in a)) (ap (pow x) (let a : m + 0 ≡ m = omega arith in a)))
-        (field_sum_same n (λ b. mul (from start h (2 ^ i + m + suc b)) (pow x (m + suc b))) (λ b. mul (from start g (2 ^ i + (m + 1) + b)) (pow x (m + 1 + b)))
-        (λ b r. ap₂ mul (upper (2 ^ i + m + suc b) (omega arith) ∙ ap (from start g) (let a : 2 ^ i + m + suc b ≡ 2 ^ i + (m + 1) + b = omega arith in a)) (ap (pow x) (let a : m + suc b ≡ m + 1 + b = omega arith in a)))) in
-        let product : mul (bit_xor s c) (field_sum (suc n) (λ b. mul (from start h (2 ^ i + m + b)) (pow x (m + b)))) ≡ bit_xor (bit_xor (mul s y) (mul c y)) d =
-        ap (mul (bit_xor s c)) quotient ∙ (product_linear_right (bit_xor s c)).on_xor y q ∙ ap (λ v. bit_xor v d) ((product_linear_left y).on_xor s c) in
-        before ∙ ap (λ v. bit_xor v d) (last ∙ ap (bit_xor w) (leading i m x e hx he)) ∙ balance w (mul s y) l d (mul c y) ∙ sym (ap₂ bit_xor new product)
+    elements : AreElements f → AreElements h
+    elements fit = run_by_fit (mul c) (start + 2 ^ i) start (2 ^ i) k h (λ v lt. product-lt c v hc lt) scaled (below.fit (above.fit fit))
 
-pub split_runs : (i c start : ℕ) (f g h : ℕ → ℕ) → IsDivided i c start 0 f g → RunAdded start (start + 2 ^ i) (2 ^ i) g h → OnElements (OneRun start (2 ^ suc i) (IsSplit i c)) f h
+    -- what was before, from what is after
+    balance : (b e w s l p : ℕ) → bit_xor (bit_xor (bit_xor b e) w) s ≡ bit_xor l p → b ≡ bit_xor l (bit_xor (bit_xor p s) (bit_xor w e))
+    balance b e w s l p is =
+        sym (ap (λ v. bit_xor v (bit_xor s (bit_xor w e))) (sym is)
+        ∙ sym (xor_assoc (bit_xor (bit_xor (bit_xor b e) w) s) s (bit_xor w e))
+        ∙ ap (λ v. bit_xor v (bit_xor w e)) (xor_off (bit_xor (bit_xor b e) w) s)
+        ∙ sym (xor_assoc (bit_xor (bit_xor b e) w) w e) ∙ ap (λ v. bit_xor v e) (xor_off (bit_xor b e) w) ∙ xor_off b e)
+        ∙ xor_assoc l p (bit_xor s (bit_xor w e)) ∙ ap (bit_xor l) (sym (xor_assoc p s (bit_xor w e)))
+
+    drop_out : (v o s : ℕ) → bit_xor (bit_xor (bit_xor v o) s) o ≡ bit_xor v s
+    drop_out v o s = ap (λ a. bit_xor a o) (xor_assoc v o s ∙ ap (bit_xor v) (xor_comm o s) ∙ sym (xor_assoc v s o)) ∙ xor_off (bit_xor v s) o
+
+pub split_runs : (i c start : ℕ) (f g h : ℕ → ℕ) → IsDivided i c start f g → RunAdded start (start + 2 ^ i) (2 ^ i) g h → OnElements (OneRun start (2 ^ suc i) (IsSplit i c)) f h
 split_runs i c start f g h first second fit = (
   run_fit start (start + 2 ^ i) (2 ^ i) g h second (first.fit fit),
   record {
     others = outside_then start (start + 2 ^ suc i) start (start + 2 ^ suc i) (start + 2 ^ i) (start + 2 ^ i + 2 ^ i) f g h first.others second.others (omega arith) (omega arith) (omega arith) (omega (arith, double_power i));
-    run = record { divided = λ x hx. first.values x (2 ^ i) hx (zero-add (2 ^ i)) fit ∙ ap₂ (λ r q. bit_xor r (mul (bit_xor (vanishing i x) c) q)) (rest x) (sym (quotient x)) };
+    run = record { divided = λ x hx. first.values x hx fit ∙ ap₂ (λ r q. bit_xor r (mul (bit_xor (vanishing i x) c) q)) (sym (rest x)) (sym (quotient x)) };
   },
 )
   where
-    rest : (x : ℕ) → value (2 ^ i + 0) (from start g) x ≡ value (2 ^ i) (from start h) x
-    rest x = ap (λ n. value n (from start g) x) (let a : 2 ^ i + 0 ≡ 2 ^ i = omega arith in a)
-        ∙ field_sum_same (2 ^ i) (λ e. mul (from start g e) (pow x e)) (λ e. mul (from start h e) (pow x e)) (λ e l. ap (λ v. mul v (pow x e)) (sym (second.others.below (start + e) (omega arith))))
+    rest : (x : ℕ) → value (2 ^ i) (from start h) x ≡ value (2 ^ i) (from start g) x
+    rest x = field_sum_same (2 ^ i) (λ e. mul (from start h e) (pow x e)) (λ e. mul (from start g e) (pow x e)) (λ e l. ap (λ v. mul v (pow x e)) (second.others.below (start + e) (omega arith)))
 
     high : ℕ → ℕ
-    high x = field_sum (2 ^ i) (λ e. mul (from start g (2 ^ i + e)) (pow x e))
+    high x = value (2 ^ i) (from (2 ^ i) (from start g)) x
 
     upper : (x : ℕ) → value (2 ^ i) (from (2 ^ i) (from start h)) x ≡ bit_xor (high x) (value (2 ^ i) (from start g) x)
     upper x =
@@ -202,13 +266,10 @@ split_runs i c start f g h first second fit = (
         ∙ (product_linear_left (pow x e)).on_xor (from start g (2 ^ i + e)) (from start g e))
         ∙ field_sum_xor (2 ^ i) (λ e. mul (from start g (2 ^ i + e)) (pow x e)) (λ e. mul (from start g e) (pow x e))
 
-    quotient : (x : ℕ) → bit_xor (value (2 ^ i) (from start h) x) (value (2 ^ i) (from (2 ^ i) (from start h)) x) ≡ field_sum (2 ^ i) (λ d. mul (from start g (2 ^ i + 0 + d)) (pow x (0 + d)))
+    quotient : (x : ℕ) → bit_xor (value (2 ^ i) (from start h) x) (value (2 ^ i) (from (2 ^ i) (from start h)) x) ≡ high x
     quotient x =
         let r : ℕ = value (2 ^ i) (from start g) x in
-        let same : value (2 ^ i) (from start h) x ≡ r = sym (rest x) ∙ ap (λ n. value n (from start g) x) (let a : 2 ^ i + 0 ≡ 2 ^ i = omega arith in a) in
-        ap₂ bit_xor same (upper x) ∙ ap (bit_xor r) (xor_comm (high x) r) ∙ sym (xor_assoc r r (high x)) ∙ ap (λ v. bit_xor v (high x)) (xor_self r) ∙ xor_zero_l (high x)
-        ∙ field_sum_same (2 ^ i) (λ e. mul (from start g (2 ^ i + e)) (pow x e)) (λ d. mul (from start g (2 ^ i + 0 + d)) (pow x (0 + d)))
-        (λ e l. ap₂ mul (ap (from start g) (let a : 2 ^ i + e ≡ 2 ^ i + 0 + e = omega arith in a)) (ap (pow x) (sym (zero-add e))))
+        ap₂ bit_xor (rest x) (upper x) ∙ ap (bit_xor r) (xor_comm (high x) r) ∙ sym (xor_assoc r r (high x)) ∙ ap (λ v. bit_xor v (high x)) (xor_self r) ∙ xor_zero_l (high x)
 
 pub split_of_first : (i c : ℕ) → IsOfFirst (2 ^ suc i) (IsSplit i c)
 split_of_first i c f f2 g g2 sf sg is =
@@ -222,5 +283,5 @@ split_of_first i c f f2 g g2 sf sg is =
           (field_sum_same (2 ^ i) (λ e. mul (g (2 ^ i + e)) (pow x e)) (λ e. mul (g2 (2 ^ i + e)) (pow x e)) (λ e l. ap (λ v. mul v (pow x e)) (sym (sg (2 ^ i + e) (omega arith)))));
     }
 
-pub divided_at : (i c c2 start start2 m : ℕ) (f g : ℕ → ℕ) → c ≡ c2 → start ≡ start2 → IsDivided i c start m f g → IsDivided i c2 start2 m f g
-divided_at i c c2 start start2 m f g ec es divided = subst (λ x. IsDivided i x start2 m f g) ec (subst (λ x. IsDivided i c x m f g) es divided)
+pub divided_at : (i c c2 start start2 : ℕ) (f g : ℕ → ℕ) → c ≡ c2 → start ≡ start2 → IsDivided i c start f g → IsDivided i c2 start2 f g
+divided_at i c c2 start start2 f g ec es divided = subst (λ x. IsDivided i x start2 f g) ec (subst (λ x. IsDivided i c x f g) es divided)

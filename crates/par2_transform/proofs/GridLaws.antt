@@ -1,24 +1,13 @@
 -- Rows and their columns.
-use Rattle.std.proofs.Common.{ℕ, ◌<◌, ◌≡◌, inl, inr, refl, sym, ap, ◌∙◌, subst, List, length, bit_xor, arith, ap₂, ◌+◌, ◌*◌}
-use Rattle.std.specs.Prelude.{slice_index}
+use Rattle.std.proofs.Common.{ℕ, suc, ◌+◌, ◌-◌, ◌*◌, ◌^◌, ◌<◌, ◌≤◌, ◌≡◌, ◌⊎◌, inl, inr, refl, sym, ap, ap₂, ◌∙◌, subst, List, length, bit_xor, arith, add-mul, one-mul, mul-le-mul_right}
 use Rattle.std.specs.Int.Bits.{xor_zero_r}
-use Rattle.std.proofs.lemmas.Bool.{cases_eq}
-use Rattle.par2_spec.specs.Field.{mul}
+use Rattle.std.proofs.lemmas.Bool.{cases_eq, cases_lt}
+use Rattle.std.proofs.lemmas.List.{get_or_past}
 use Rattle.par2_spec.specs.Slices.{word}
-use Rattle.par2_spec.specs.Sums.{list_at, OneChanged}
-use Rattle.par2_gf16.specs.Products.{AddsProducts}
+use Rattle.par2_transform.specs.Adding.{within, AddsTo}
 use Rattle.par2_transform.specs.Grids.{Grid, column, AreRows, IsAdded, EachColumn}
-use Rattle.par2_transform.specs.Steps.{IsOneAdded}
-
-pub rows_changed : (levels words : ℕ) (old new : List (List ℕ)) (to : ℕ) → AreRows levels words old → OneChanged old new to → length (list_at new to) ≡ length (list_at old to) → AreRows levels words new
-rows_changed levels words old new to are changed same = record {
-  few = are.few;
-  count = changed.count ∙ are.count;
-  size = λ u h. elim (cases_eq u to) [
-    | inl e ↦ ap (λ v. length (list_at new v)) e ∙ same ∙ ap (λ v. length (list_at old v)) (sym e) ∙ are.size u h
-    | inr n ↦ ap length (changed.others u n) ∙ are.size u h
-  ];
-}
+use Rattle.par2_transform.specs.Steps.{RunAddedBy}
+use Rattle.par2_transform.proofs.AddingLaws.{within-in, within-below, within-above, within_same}
 
 pub each_start : (relation : (ℕ → ℕ) → (ℕ → ℕ) → Type 0) (a : Grid) → ((f : ℕ → ℕ) → relation f f) → EachColumn relation a a
 each_start relation a start = record { levels = refl; words = refl; columns = λ c h. start (column a c) }
@@ -34,48 +23,6 @@ each_then first second both a b d one two join = record {
 pub each_so : (first second : (ℕ → ℕ) → (ℕ → ℕ) → Type 0) (a b : Grid) → EachColumn first a b → ((f g : ℕ → ℕ) → first f g → second f g) → EachColumn second a b
 each_so first second a b one so = record { levels = one.levels; words = one.words; columns = λ c h. so (column a c) (column b c) (one.columns c h) }
 
--- where zeros are added
-pub nothing_added : (a : Grid) (to : ℕ) (other : ℕ → ℕ) → ((k : ℕ) → other k ≡ 0) → IsAdded a a to other
-nothing_added a to other none = record {
-  levels = refl;
-  words = refl;
-  others = λ c u n. refl;
-  here = λ c h. sym (ap (bit_xor (column a c to)) (none c) ∙ xor_zero_r (column a c to));
-}
-
--- the products of a text that was copied
-pub product_added : (levels words to k : ℕ) (source text : List ℕ) (old new : List (List ℕ)) → OneChanged old new to → AddsProducts k source (list_at old to) (list_at new to)
-    → length (list_at old to) ≡ 2 * words → length source ≡ 2 * words → ((i : ℕ) → i < length source → slice_index source i ≡ slice_index text i)
-    → IsAdded (record { levels = levels; words = words; texts = old }) (record { levels = levels; words = words; texts = new }) to (λ c. mul k (word c text))
-product_added levels words to k source text old new changed added size copied same = record {
-  levels = refl;
-  words = refl;
-  others = λ c u n. ap (word c) (changed.others u n);
-  here = λ c h.
-      added.each c (omega (arith, size, h))
-      ∙ ap₂ (λ x y. bit_xor (word c (list_at old to)) (mul k (x + 256 * y))) (same (2 * c) (omega (arith, copied, h))) (same (2 * c + 1) (omega (arith, copied, h)));
-}
-
--- a row and a product, added at places that are equal
-pub each_row : (at at2 to to2 : ℕ) (a b : Grid) → at ≡ at2 → to ≡ to2 → IsAdded a b to (λ c. column a c at) → EachColumn (λ f. IsOneAdded to2 (f at2) f) a b
-each_row at at2 to to2 a b ea et added = record {
-  levels = added.levels;
-  words = added.words;
-  columns = λ c h.
-      subst (λ t. IsOneAdded t (column a c at2) (column a c) (column b c)) et
-      (subst (λ x. IsOneAdded to (column a c x) (column a c) (column b c)) ea (record { others = λ u n. added.others c u n; here = added.here c h }));
-}
-
-pub each_product : (k k2 at at2 to to2 : ℕ) (a b : Grid) → k ≡ k2 → at ≡ at2 → to ≡ to2 → IsAdded a b to (λ c. mul k (column a c at)) → EachColumn (λ f. IsOneAdded to2 (mul k2 (f at2)) f) a b
-each_product k k2 at at2 to to2 a b ek ea et added = record {
-  levels = added.levels;
-  words = added.words;
-  columns = λ c h.
-      subst (λ t. IsOneAdded t (mul k2 (column a c at2)) (column a c) (column b c)) et
-      (subst (λ x. IsOneAdded to (mul k2 (column a c x)) (column a c) (column b c)) ea
-      (subst (λ x. IsOneAdded to (mul x (column a c at)) (column a c) (column b c)) ek (record { others = λ u n. added.others c u n; here = added.here c h })));
-}
-
 pub each_then_two : (first second third both : (ℕ → ℕ) → (ℕ → ℕ) → Type 0) (a b d e : Grid) → EachColumn first a b → EachColumn second b d → EachColumn third d e
     → ((f g k h : ℕ → ℕ) → first f g → second g k → third k h → both f h) → EachColumn both a e
 each_then_two first second third both a b d e one two three join = record {
@@ -85,3 +32,113 @@ each_then_two first second third both a b d e one two three join = record {
       let h2 : c < b.words = subst (λ n. c < n) (sym one.words) h in
       join (column a c) (column b c) (column d c) (column e c) (one.columns c h) (two.columns c h2) (three.columns c (subst (λ n. c < n) (sym two.words) h2));
 }
+
+-- ---- words added to rows
+
+-- where row u begins and ends
+pub row_after : (u words : ℕ) → suc u * words ≡ u * words + words
+row_after u words = ap (λ v. v * words) (let s : suc u ≡ u + 1 = omega arith in s) ∙ add-mul u 1 words ∙ ap (λ v. u * words + v) (one-mul words)
+
+pub rows_below : (u n words : ℕ) → u < n → u * words + words ≤ n * words
+rows_below u n words h =
+    let fits : suc u * words ≤ n * words = mul-le-mul_right words (let s : suc u ≤ n = omega arith in s) in
+    let next : suc u * words ≡ u * words + words = row_after u words in
+    omega (arith, fits, next)
+
+-- some rows end within the bytes
+pub rows_fit : (levels words at n : ℕ) (bytes : List ℕ) → AreRows levels words bytes → at + n ≤ 2 ^ levels → 2 * (at * words + n * words) ≤ length bytes
+rows_fit levels words at n bytes are fits =
+    let most : (at + n) * words ≤ 2 ^ levels * words = mul-le-mul_right words fits in
+    let sum : (at + n) * words ≡ at * words + n * words = add-mul at n words in
+    omega (arith, most, sum, are.count)
+
+-- runs of rows that are apart, as words
+pub rows_apart : (words from to n : ℕ) → (from + n ≤ to) ⊎ (to + n ≤ from) → (from * words + n * words ≤ to * words) ⊎ (to * words + n * words ≤ from * words)
+rows_apart words from to n (inl before) = inl (let less : (from + n) * words ≤ to * words = mul-le-mul_right words before in let sum : (from + n) * words ≡ from * words + n * words = add-mul from n words in omega (arith, less, sum))
+rows_apart words from to n (inr after) = inr (let less : (to + n) * words ≤ from * words = mul-le-mul_right words after in let sum : (to + n) * words ≡ to * words + n * words = add-mul to n words in omega (arith, less, sum))
+
+word_past : (p : ℕ) (text : List ℕ) → length text ≤ 2 * p → word p text ≡ 0
+word_past p text h = ap₂ (λ a b. a + 256 * b) (get_or_past text (2 * p) 0 h) (get_or_past text (2 * p + 1) 0 (omega arith))
+
+-- a word to which nothing is added
+word_kept : (other : ℕ → ℕ) (p half : ℕ) (old new : List ℕ) → length old ≡ 2 * half → AddsTo other old new → other p ≡ 0 → word p new ≡ word p old
+word_kept other p half old new even added none = elim (cases_lt p half) [
+  | inl low ↦ added.each p (omega (arith, even, low)) ∙ ap (bit_xor (word p old)) none ∙ xor_zero_r (word p old)
+  | inr high ↦ word_past p new (omega (arith, even, added.same_length, high)) ∙ sym (word_past p old (omega (arith, even, high)))
+]
+
+-- to the words of n rows, another one is added
+pub record RowsAdded (to n : ℕ) (other : ℕ → ℕ → ℕ) (old new : Grid) : Type 0 where
+  pub kept : (c u : ℕ) → (u < to) ⊎ (to + n ≤ u) → column new c u ≡ column old c u
+  pub here : (c e : ℕ) → c < old.words → e < n → column new c (to + e) ≡ bit_xor (column old c (to + e)) (other c e)
+
+pub rows_added : (levels words to n : ℕ) (other : ℕ → ℕ) (old new : List ℕ) → AreRows levels words old → to + n ≤ 2 ^ levels
+    → AddsTo (λ p. within (to * words) (to * words + n * words) p (other (p - to * words))) old new
+    → RowsAdded to n (λ c e. other (e * words + c)) (record { levels = levels; words = words; bytes = old }) (record { levels = levels; words = words; bytes = new })
+rows_added levels words to n other old new are fits added = record {
+  kept = λ c u out. within_same 0 words c (word (u * words + c) new) (word (u * words + c) old) (λ a low. outside c u low out);
+  here = λ c e low l.
+      let place : (to + e) * words ≡ to * words + e * words = add-mul to e words in
+      let end : e * words + words ≤ n * words = rows_below e n words l in
+      let last : (to + e) * words + words ≤ 2 ^ levels * words = rows_below (to + e) (2 ^ levels) words (omega arith) in
+      let p = (to + e) * words + c in
+      let at : p - to * words ≡ e * words + c = omega (arith, place) in
+      within-in 0 words c (word p new) (omega arith) low
+      ∙ added.each p (omega (arith, are.count, last, low))
+      ∙ ap₂ bit_xor (sym (within-in 0 words c (word p old) (omega arith) low))
+      (within-in (to * words) (to * words + n * words) p (other (p - to * words)) (omega (arith, place)) (omega (arith, place, end, low)) ∙ ap other at);
+}
+  where
+    outside : (c u : ℕ) → c < words → (u < to) ⊎ (to + n ≤ u) → word (u * words + c) new ≡ word (u * words + c) old
+    outside c u low (inl below) =
+        let end : u * words + words ≤ to * words = rows_below u to words below in
+        word_kept (λ p. within (to * words) (to * words + n * words) p (other (p - to * words))) (u * words + c) (2 ^ levels * words) old new are.count added
+        (within-below (to * words) (to * words + n * words) (u * words + c) (other (u * words + c - to * words)) (omega (arith, end, low)))
+    outside c u low (inr above) =
+        let start : (to + n) * words ≤ u * words = mul-le-mul_right words above in
+        let sum : (to + n) * words ≡ to * words + n * words = add-mul to n words in
+        word_kept (λ p. within (to * words) (to * words + n * words) p (other (p - to * words))) (u * words + c) (2 ^ levels * words) old new are.count added
+        (within-above (to * words) (to * words + n * words) (u * words + c) (other (u * words + c - to * words)) (omega (arith, start, sum)))
+
+-- to one row
+pub row_added : (levels words to : ℕ) (other : ℕ → ℕ) (old new : List ℕ) → AreRows levels words old → to < 2 ^ levels
+    → AddsTo (λ p. within (to * words) ((to + 1) * words) p (other (p - to * words))) old new
+    → IsAdded (record { levels = levels; words = words; bytes = old }) (record { levels = levels; words = words; bytes = new }) to other
+row_added levels words to other old new are low added =
+    let end : (to + 1) * words ≡ to * words + 1 * words = add-mul to 1 words in
+    let all = rows_added levels words to 1 other old new are (omega arith) (subst (λ v. AddsTo (λ p. within (to * words) v p (other (p - to * words))) old new) end added) in
+    record {
+      levels = refl;
+      words = refl;
+      others = λ c u n. all.kept c u (elim (cases_lt u to) [ inl before ↦ inl before | inr from ↦ elim (cases_eq u to) [ inl same ↦ absurd (n same) | inr other_row ↦ inr (omega (arith, from, other_row)) ] ]);
+      here = λ c h. ap (column (record { levels = levels; words = words; bytes = new }) c) (let e : to ≡ to + 0 = omega arith in e) ∙ all.here c 0 h (omega arith)
+          ∙ ap₂ (λ t p. bit_xor (column (record { levels = levels; words = words; bytes = old }) c t) (other p)) (let e : to + 0 ≡ to = omega arith in e) (let e : 0 * words + c ≡ c = omega arith in e);
+    }
+
+-- what f makes of some rows, to as many others
+pub run_added : (f : ℕ → ℕ) (levels words at to n : ℕ) (old new : List ℕ) → AreRows levels words old → to + n ≤ 2 ^ levels
+    → AddsTo (λ p. within (to * words) (to * words + n * words) p (f (word (at * words + (p - to * words)) old))) old new
+    → EachColumn (RunAddedBy f at to n) (record { levels = levels; words = words; bytes = old }) (record { levels = levels; words = words; bytes = new })
+run_added f levels words at to n old new are fits added =
+    let all = rows_added levels words to n (λ q. f (word (at * words + q) old)) old new are fits added in
+    record {
+      levels = refl;
+      words = refl;
+      columns = λ c h. record {
+        others = record { below = λ u l. all.kept c u (inl l); above = λ u l. all.kept c u (inr l) };
+        run = λ e l. all.here c e h l
+            ∙ ap (λ v. bit_xor (column (record { levels = levels; words = words; bytes = old }) c (to + e)) (f v))
+            (ap (λ m. word m old) (let s : (at + e) * words ≡ at * words + e * words = add-mul at e words in let p : at * words + (e * words + c) ≡ (at + e) * words + c = omega (arith, s) in p)
+            ∙ sym (within-in 0 words c (word ((at + e) * words + c) old) (omega arith) h));
+      };
+    }
+
+-- the same, by the places of their words
+pub run_added_at : (f : ℕ → ℕ) (levels words at to n a b m : ℕ) (old new : List ℕ) → AreRows levels words old → to + n ≤ 2 ^ levels → a ≡ at * words → b ≡ to * words → m ≡ n * words
+    → AddsTo (λ p. within b (b + m) p (f (word (a + (p - b)) old))) old new
+    → EachColumn (RunAddedBy f at to n) (record { levels = levels; words = words; bytes = old }) (record { levels = levels; words = words; bytes = new })
+run_added_at f levels words at to n a b m old new are fits ea eb em added =
+    run_added f levels words at to n old new are fits
+    (subst (λ k. AddsTo (λ p. within (to * words) (to * words + n * words) p (f (word (k + (p - to * words)) old))) old new) ea
+    (subst (λ k. AddsTo (λ p. within k (k + n * words) p (f (word (a + (p - k)) old))) old new) eb
+    (subst (λ k. AddsTo (λ p. within b (b + k) p (f (word (a + (p - b)) old))) old new) em added)))

@@ -1,5 +1,5 @@
 -- One column of values, through the loops of a level.
-use Rattle.std.proofs.Common.{ℕ, suc, ◌+◌, ◌-◌, ◌*◌, ◌%◌, ◌^◌, ◌<◌, ◌≤◌, ◌≡◌, inl, inr, ◌⊎◌, refl, sym, ap, ap₂, ◌∙◌, subst, arith, bit_xor, pow_pos, pow-suc, add_assoc, mul_assoc, add-mul, one-mul, mul-le-mul_right, List, length, get_or, set}
+use Rattle.std.proofs.Common.{ℕ, suc, ◌+◌, ◌-◌, ◌*◌, ◌%◌, ◌^◌, ◌<◌, ◌≤◌, ◌≡◌, inl, inr, ◌⊎◌, refl, sym, ap, ap₂, ◌∙◌, subst, arith, bit_xor, pow_pos, pow-suc, add_assoc, mul_assoc, add-mul, one-mul, mul-zero, mul-le-mul_right, List, length, get_or, set}
 use Rattle.std.specs.Int.{bit_at}
 use Rattle.std.specs.Int.Bits.{xor_zero_r, xor_assoc}
 use Rattle.std.proofs.Math.Nat.{pow-le-pow_right}
@@ -8,11 +8,14 @@ use Rattle.std.proofs.lemmas.List.{get_or-set_same, get_or-set_other}
 use Rattle.std.proofs.lemmas.Nat.{pow-add, xor_lt}
 use Rattle.par2_spec.specs.Field.{mul}
 use Rattle.par2_spec.specs.Sums.{field_sum, AreElements}
-use Rattle.par2_spec.proofs.SumLaws.{field_sum_same, xor_off}
+use Rattle.par2_spec.proofs.FieldBits.{bit_times_xor}
+use Rattle.par2_spec.proofs.SumLaws.{field_sum_same, field_sum_none, field_sum_xor, xor_off}
+use Rattle.par2_transform.specs.Adding.{within}
 use Rattle.par2_transform.specs.Subspaces.{powers_in}
 use Rattle.par2_transform.specs.PowerSums.{sum_ahead, IsMerged}
 use Rattle.par2_transform.specs.Evaluations.{from}
-use Rattle.par2_transform.specs.Steps.{IsOneAdded, SameOutside, OneRun, FirstRuns, RunAdded, IsRaised, IsLowered}
+use Rattle.par2_transform.specs.Steps.{IsOneAdded, SameOutside, OneRun, FirstRuns, RunAddedBy, RunAdded, AheadAdded, IsRaised, IsLowered}
+use Rattle.par2_transform.proofs.AddingLaws.{within-in, within-below, within-above, within_joined, within_same}
 use Rattle.par2_transform.proofs.Sums.{field_sum_bit_set, field_sum_bit_unset}
 
 pub power_below : (j i : ℕ) → j < i → 2 ^ j + 2 ^ j ≤ 2 ^ i
@@ -59,23 +62,8 @@ outside_one a b to v f g one low high = record {
 
 -- ---- one value
 
-pub one_none : (to : ℕ) (f : ℕ → ℕ) → IsOneAdded to 0 f f
-one_none to f = record { others = λ u n. refl; here = sym (xor_zero_r (f to)) }
-
 pub one_same : (to to' v w : ℕ) (f g : ℕ → ℕ) → to ≡ to' → v ≡ w → IsOneAdded to v f g → IsOneAdded to' w f g
 one_same to to' v w f g et ev one = subst (λ t. IsOneAdded t w f g) et (subst (λ x. IsOneAdded to x f g) ev one)
-
-pub one_again : (to a b : ℕ) (f g h : ℕ → ℕ) → IsOneAdded to a f g → IsOneAdded to b g h → IsOneAdded to (bit_xor a b) f h
-one_again to a b f g h first second = record {
-  others = λ u n. second.others u n ∙ first.others u n;
-  here = second.here ∙ ap (λ x. bit_xor x b) first.here ∙ xor_assoc (f to) a b;
-}
-
-pub one_fit : (to v : ℕ) (f g : ℕ → ℕ) → v < 65536 → IsOneAdded to v f g → AreElements f → AreElements g
-one_fit to v f g small one fit u = elim (cases_eq u to) [
-  | inl e ↦ subst (λ n. g n < 65536) (sym e) (subst (λ x. x < 65536) (sym one.here) (xor_lt 16 (f to) v (fit to) small))
-  | inr n ↦ subst (λ x. x < 65536) (sym (one.others u n)) (fit u)
-]
 
 pub one_written : (xs : List ℕ) (to v : ℕ) → to < length xs → IsOneAdded to v (λ u. get_or xs u 0) (λ u. get_or (set xs to (bit_xor (get_or xs to 0) v)) u 0)
 one_written xs to v h = record {
@@ -98,16 +86,26 @@ run_next at to n f g h apart so_far one = record {
   ];
 }
 
-pub run_fit : (at to n : ℕ) (f g : ℕ → ℕ) → RunAdded at to n f g → AreElements f → AreElements g
-run_fit at to n f g added fit u = elim (cases_lt u to) [
+pub run_by_fit : (k : ℕ → ℕ) (at to n : ℕ) (f g : ℕ → ℕ) → ((v : ℕ) → v < 65536 → k v < 65536) → RunAddedBy k at to n f g → AreElements f → AreElements g
+run_by_fit k at to n f g small added fit u = elim (cases_lt u to) [
   | inl low ↦ subst (λ x. x < 65536) (sym (added.others.below u low)) (fit u)
   | inr high ↦ elim (cases_lt u (to + n)) [
     | inl inside ↦
         let e : to + (u - to) ≡ u = omega arith in
-        subst (λ x. g x < 65536) e (subst (λ x. x < 65536) (sym (added.run (u - to) (omega arith))) (xor_lt 16 (f (to + (u - to))) (f (at + (u - to))) (fit (to + (u - to))) (fit (at + (u - to)))))
+        subst (λ x. g x < 65536) e (subst (λ x. x < 65536) (sym (added.run (u - to) (omega arith))) (xor_lt 16 (f (to + (u - to))) (k (f (at + (u - to)))) (fit (to + (u - to))) (small (f (at + (u - to))) (fit (at + (u - to))))))
     | inr above ↦ subst (λ x. x < 65536) (sym (added.others.above u above)) (fit u)
   ]
 ]
+
+pub run_fit : (at to n : ℕ) (f g : ℕ → ℕ) → RunAdded at to n f g → AreElements f → AreElements g
+run_fit at to n f g added fit = run_by_fit (λ x. x) at to n f g (λ v lt. lt) added fit
+
+-- where zeros are added
+pub run_none : (k : ℕ → ℕ) (at to n : ℕ) (f : ℕ → ℕ) → ((v : ℕ) → k v ≡ 0) → RunAddedBy k at to n f f
+run_none k at to n f none = record {
+  others = same_outside to (to + n) f;
+  run = λ e l. sym (ap (bit_xor (f (to + e))) (none (f (at + e))) ∙ xor_zero_r (f (to + e)));
+}
 
 -- ---- values ahead
 
@@ -118,77 +116,125 @@ ahead_same i e d f g same = field_sum_same i (λ j. bit_at (powers_in i) j * f (
 abbrev pub ahead_below : ℕ → ℕ → ℕ → (ℕ → ℕ) → ℕ
 ahead_below i at n f = field_sum n (λ j. bit_at (powers_in i) j * f (at + 2 ^ j))
 
-pub ahead_set : (i at n to : ℕ) (f g h : ℕ → ℕ) → bit_at (powers_in i) n ≡ 1 → (at + 2 ^ n ≡ to → ⊥) → IsOneAdded to (ahead_below i at n f) f g → IsOneAdded to (g (at + 2 ^ n)) g h
-    → IsOneAdded to (ahead_below i at (n + 1) f) f h
-ahead_set i at n to f g h set apart so_far one =
-    one_same to to (bit_xor (ahead_below i at n f) (g (at + 2 ^ n))) (ahead_below i at (n + 1) f) f h refl
-    (ap (bit_xor (ahead_below i at n f)) (so_far.others (at + 2 ^ n) apart) ∙ sym (field_sum_bit_set n (powers_in i) (λ j. f (at + 2 ^ j)) set))
-    (one_again to (ahead_below i at n f) (g (at + 2 ^ n)) f g h so_far one)
-
-pub ahead_unset : (i at n to : ℕ) (f g : ℕ → ℕ) → (bit_at (powers_in i) n ≡ 1 → ⊥) → IsOneAdded to (ahead_below i at n f) f g → IsOneAdded to (ahead_below i at (n + 1) f) f g
-ahead_unset i at n to f g unset so_far =
-    one_same to to (ahead_below i at n f) (ahead_below i at (n + 1) f) f g refl (sym (field_sum_bit_unset n (powers_in i) (λ j. f (at + 2 ^ j)) unset)) so_far
-
 -- ---- raising and merging
 
-pub raise_start : (i c start : ℕ) (f : ℕ → ℕ) → IsRaised i c start 0 f f
-raise_start i c start f = record { others = same_outside (start + 2 ^ i) (start + 2 ^ i + 0) f; run = λ e h. absurd (omega (arith, h)) }
+pub ahead_start : (i start a b : ℕ) (f : ℕ → ℕ) → AheadAdded i start a b 0 f f
+unfolding field_sum
+ahead_start i start a b f = record { others = same_outside (start + 2 ^ i) (start + 2 ^ suc i) f; run = λ e h. sym (xor_zero_r (from start f (2 ^ i + e))) }
 
-pub raise_next : (i c start n : ℕ) (f g k h : ℕ → ℕ) → n < 2 ^ i → IsRaised i c start n f g → IsOneAdded (start + 2 ^ i + n) (mul c (g (start + n))) g k
-    → IsOneAdded (start + n + 2 ^ i) (sum_ahead i k (start + n)) k h → IsRaised i c start (n + 1) f h
-raise_next i c start n f g k h low so_far first second = record {
-  others = outside_then (start + 2 ^ i) (start + 2 ^ i + (n + 1)) (start + 2 ^ i) (start + 2 ^ i + n) (start + 2 ^ i) (start + 2 ^ i + (n + 1)) f g h so_far.others
-      (outside_one (start + 2 ^ i) (start + 2 ^ i + (n + 1)) to (bit_xor a b) g h both (omega arith) (omega arith)) (omega arith) (omega arith) (omega arith) (omega arith);
-  run = λ e l. elim (cases_eq e n) [
-    | inl last ↦ subst (λ d. from start h (2 ^ i + d) ≡ bit_xor (from start f (2 ^ i + d)) (bit_xor (mul c (from start h d)) (sum_ahead i (from start h) d))) (sym last)
-        (ap h place ∙ both.here ∙ ap₂ bit_xor (so_far.others.above to (omega arith) ∙ ap f (sym place)) (ap₂ bit_xor (ap (mul c) (sym (kept (start + n) (far n (omega arith))))) (sym ahead)))
-    | inr other ↦ kept (start + (2 ^ i + e)) (λ s. other (omega arith)) ∙ so_far.run e (omega arith)
-        ∙ ap (bit_xor (from start f (2 ^ i + e))) (ap₂ bit_xor (ap (mul c) (sym (kept (start + e) (far e (omega arith)))))
-        (sym (ahead_same i e e (from start h) (from start g) (λ j m. kept (start + (e + 2 ^ j)) (λ s. below_so j m e (omega arith) s)))))
-  ];
+pub ahead_unset : (i start a b n : ℕ) (f g : ℕ → ℕ) → (bit_at (powers_in i) n ≡ 1 → ⊥) → AheadAdded i start a b n f g → AheadAdded i start a b (n + 1) f g
+ahead_unset i start a b n f g unset so_far = record {
+  others = so_far.others;
+  run = λ e h. so_far.run e h ∙ ap (bit_xor (from start f (2 ^ i + e))) (sym (field_sum_bit_unset n (powers_in i) (λ j. within a b (e + 2 ^ j) (from start f (e + 2 ^ j))) unset));
+}
+
+-- one more power, by a run from place s to place t of the upper half
+pub ahead_set : (i start a b n s t count : ℕ) (f g h : ℕ → ℕ) → bit_at (powers_in i) n ≡ 1 → t + count ≤ 2 ^ i
+    → ((e : ℕ) → e < count → (s + e ≡ t + e + 2 ^ n) × ((a ≤ t + e + 2 ^ n) × (t + e + 2 ^ n < b)))
+    → ((e : ℕ) → e < 2 ^ i → (e < t) ⊎ (t + count ≤ e) → (e + 2 ^ n < a) ⊎ (b ≤ e + 2 ^ n))
+    → ((e : ℕ) → e < count → from start g (s + e) ≡ from start f (s + e))
+    → AheadAdded i start a b n f g → RunAdded (start + s) (start + (2 ^ i + t)) count g h → AheadAdded i start a b (n + 1) f h
+ahead_set i start a b n s t count f g h set fits inside outside same so_far added = record {
+  others = outside_then (start + 2 ^ i) (start + 2 ^ suc i) (start + 2 ^ i) (start + 2 ^ suc i) (start + (2 ^ i + t)) (start + (2 ^ i + t) + count) f g h so_far.others added.others (omega arith) (omega arith) (omega arith) (omega (arith, double_power i));
+  run = λ e l. here e l ∙ ap (λ v. bit_xor v (ahead e n)) (so_far.run e l) ∙ xor_assoc (from start f (2 ^ i + e)) (field_sum n (λ j. bit_at (powers_in i) j * ahead e j)) (ahead e n)
+      ∙ ap (bit_xor (from start f (2 ^ i + e))) (sym (field_sum_bit_set n (powers_in i) (ahead e) set));
 }
   where
-    to : ℕ
-    to = start + 2 ^ i + n
+    ahead : ℕ → ℕ → ℕ
+    ahead e j = within a b (e + 2 ^ j) (from start f (e + 2 ^ j))
 
-    a : ℕ
-    a = mul c (g (start + n))
+    none : (e : ℕ) → (e + 2 ^ n < a) ⊎ (b ≤ e + 2 ^ n) → ahead e n ≡ 0
+    none e (inl low) = within-below a b (e + 2 ^ n) (from start f (e + 2 ^ n)) low
+    none e (inr high) = within-above a b (e + 2 ^ n) (from start f (e + 2 ^ n)) high
 
-    b : ℕ
-    b = sum_ahead i k (start + n)
+    kept : (e : ℕ) → e < 2 ^ i → (e < t) ⊎ (t + count ≤ e) → h (start + (2 ^ i + e)) ≡ g (start + (2 ^ i + e)) → from start h (2 ^ i + e) ≡ bit_xor (from start g (2 ^ i + e)) (ahead e n)
+    kept e l out is = is ∙ sym (ap (bit_xor (from start g (2 ^ i + e))) (none e (outside e l out)) ∙ xor_zero_r (from start g (2 ^ i + e)))
 
-    positive : 0 < 2 ^ i
-    positive = pow_pos i
+    changed : (e d : ℕ) → d < count → e ≡ t + d → from start h (2 ^ i + e) ≡ bit_xor (from start g (2 ^ i + e)) (ahead e n)
+    changed e d l is =
+        let facts = inside d l in
+        let at : t + d + 2 ^ n ≡ e + 2 ^ n = omega (arith, is) in
+        ap h (let p : start + (2 ^ i + e) ≡ start + (2 ^ i + t) + d = omega (arith, is) in p) ∙ added.run d l
+        ∙ ap₂ bit_xor (ap g (let p : start + (2 ^ i + t) + d ≡ start + (2 ^ i + e) = omega (arith, is) in p))
+        (ap g (add_assoc start s d) ∙ same d l ∙ ap (from start f) (facts.0 ∙ at)
+        ∙ sym (within-in a b (e + 2 ^ n) (from start f (e + 2 ^ n)) (omega (arith, facts.1.0, at)) (omega (arith, facts.1.1, at))))
 
-    place : start + (2 ^ i + n) ≡ to
-    place = omega arith
+    here : (e : ℕ) → e < 2 ^ i → from start h (2 ^ i + e) ≡ bit_xor (from start g (2 ^ i + e)) (ahead e n)
+    here e l = elim (cases_lt e t) [
+      | inl low ↦ kept e l (inl low) (added.others.below (start + (2 ^ i + e)) (omega arith))
+      | inr high ↦ elim (cases_lt e (t + count)) [
+        | inl inner ↦ changed e (e - t) (omega arith) (omega arith)
+        | inr above ↦ kept e l (inr above) (added.others.above (start + (2 ^ i + e)) (omega arith))
+      ]
+    ]
 
-    other_place : start + n + 2 ^ i ≡ to
-    other_place = omega arith
+-- what is added from the upper half is whole before
+pub ahead_whole : (i start n : ℕ) (f g : ℕ → ℕ) → n ≤ i → AheadAdded i start (2 ^ i) (2 ^ suc i) n f g → (e : ℕ) → e + e < 2 ^ i → from start g (2 ^ i + e) ≡ from start f (2 ^ i + e)
+ahead_whole i start n f g few added e low =
+    added.run e (omega arith)
+    ∙ ap (bit_xor (from start f (2 ^ i + e))) (field_sum_none n (λ j. bit_at (powers_in i) j * within (2 ^ i) (2 ^ suc i) (e + 2 ^ j) (from start f (e + 2 ^ j)))
+    (λ j l. let under : 2 ^ j + 2 ^ j ≤ 2 ^ i = power_below j i (omega arith) in
+    ap (λ v. bit_at (powers_in i) j * v) (within-below (2 ^ i) (2 ^ suc i) (e + 2 ^ j) (from start f (e + 2 ^ j)) (omega (arith, under, low))) ∙ mul-zero (bit_at (powers_in i) j)))
+    ∙ xor_zero_r (from start f (2 ^ i + e))
 
-    both : IsOneAdded to (bit_xor a b) g h
-    both = one_again to a b g k h first (one_same (start + n + 2 ^ i) to b b k h other_place refl second)
+pub raised_runs : (i c start : ℕ) (f g k h : ℕ → ℕ) → RunAddedBy (mul c) start (start + 2 ^ i) (2 ^ i) f g → AheadAdded i start 0 (2 ^ i) i g k
+    → AheadAdded i start (2 ^ i) (2 ^ suc i) i k h → IsRaised i c start f h
+raised_runs i c start f g k h scaled first second = record {
+  others = outside_then (start + 2 ^ i) end (start + 2 ^ i) end (start + 2 ^ i) end f k h
+      (outside_then (start + 2 ^ i) end (start + 2 ^ i) (start + 2 ^ i + 2 ^ i) (start + 2 ^ i) end f g k scaled.others first.others (omega arith) (omega arith) (omega (arith, double)) (omega arith)) second.others (omega arith) (omega arith) (omega arith) (omega arith);
+  run = λ e l.
+      second.run e l ∙ ap₂ bit_xor (first.run e l ∙ ap (λ v. bit_xor v (lower e)) (product e l)) refl
+      ∙ xor_assoc (bit_xor (from start f (2 ^ i + e)) (mul c (from start h e))) (lower e) (upper e)
+      ∙ xor_assoc (from start f (2 ^ i + e)) (mul c (from start h e)) (bit_xor (lower e) (upper e))
+      ∙ ap (λ v. bit_xor (from start f (2 ^ i + e)) (bit_xor (mul c (from start h e)) v)) (joined e l);
+}
+  where
+    end : ℕ
+    end = start + 2 ^ suc i
 
-    kept : (u : ℕ) → (u ≡ to → ⊥) → h u ≡ g u
-    kept u n = both.others u n
+    double : 2 ^ suc i ≡ 2 ^ i + 2 ^ i
+    double = double_power i
 
-    ahead : sum_ahead i (from start h) n ≡ b
-    ahead = ahead_same i n (start + n) (from start h) k (λ j m.
+    lower : ℕ → ℕ
+    lower e = field_sum i (λ j. bit_at (powers_in i) j * within 0 (2 ^ i) (e + 2 ^ j) (from start g (e + 2 ^ j)))
+
+    upper : ℕ → ℕ
+    upper e = field_sum i (λ j. bit_at (powers_in i) j * within (2 ^ i) (2 ^ suc i) (e + 2 ^ j) (from start k (e + 2 ^ j)))
+
+    -- the lower half stays
+    low_same : (u : ℕ) → u < 2 ^ i → from start h u ≡ from start g u
+    low_same u l = second.others.below (start + u) (omega arith) ∙ first.others.below (start + u) (omega arith)
+
+    product : (e : ℕ) → e < 2 ^ i → from start g (2 ^ i + e) ≡ bit_xor (from start f (2 ^ i + e)) (mul c (from start h e))
+    product e l =
+        ap g (sym (add_assoc start (2 ^ i) e)) ∙ scaled.run e l
+        ∙ ap₂ (λ a b. bit_xor (f a) (mul c b)) (add_assoc start (2 ^ i) e) (sym (low_same e l ∙ scaled.others.below (start + e) (omega arith)))
+
+    one : (e j : ℕ) → e < 2 ^ i → j < i → bit_xor (within 0 (2 ^ i) (e + 2 ^ j) (from start g (e + 2 ^ j))) (within (2 ^ i) (2 ^ suc i) (e + 2 ^ j) (from start k (e + 2 ^ j))) ≡ from start h (e + 2 ^ j)
+    one e j l m =
         let under : 2 ^ j + 2 ^ j ≤ 2 ^ i = power_below j i m in
-        let some : 0 < 2 ^ j = pow_pos j in
-        ap h (let e : start + (n + 2 ^ j) ≡ start + n + 2 ^ j = omega arith in e) ∙ second.others (start + n + 2 ^ j) (λ s. omega arith))
+        let p = e + 2 ^ j in
+        let v = from start h p in
+        ap₂ bit_xor (within_same 0 (2 ^ i) p (from start g p) v (λ a b. sym (low_same p b)))
+        (within_same (2 ^ i) (2 ^ suc i) p (from start k p) v (λ a b.
+        let place : 2 ^ i + (p - 2 ^ i) ≡ p = omega (arith, a) in
+        sym (subst (λ q. from start h q ≡ from start k q) place (ahead_whole i start i k h (omega arith) second (p - 2 ^ i) (omega (arith, under, l, a))))))
+        ∙ within_joined 0 (2 ^ i) (2 ^ suc i) p v (omega arith) (omega (arith, double)) ∙ within-in 0 (2 ^ suc i) p v (omega arith) (omega (arith, double, under, l))
 
-    far : (e : ℕ) → e ≤ n → start + e ≡ to → ⊥
-    far e l s = omega (arith, positive)
+    joined : (e : ℕ) → e < 2 ^ i → bit_xor (lower e) (upper e) ≡ sum_ahead i (from start h) e
+    joined e l =
+        let bits = powers_in i in
+        let a : ℕ → ℕ = λ j. within 0 (2 ^ i) (e + 2 ^ j) (from start g (e + 2 ^ j)) in
+        let b : ℕ → ℕ = λ j. within (2 ^ i) (2 ^ suc i) (e + 2 ^ j) (from start k (e + 2 ^ j)) in
+        sym (field_sum_xor i (λ j. bit_at bits j * a j) (λ j. bit_at bits j * b j))
+        ∙ field_sum_same i (λ j. bit_xor (bit_at bits j * a j) (bit_at bits j * b j)) (λ j. bit_at bits j * from start h (e + 2 ^ j))
+        (λ j m. sym (bit_times_xor bits j (a j) (b j)) ∙ ap (λ v. bit_at bits j * v) (one e j l m))
 
-    below_so : (j : ℕ) → j < i → (e : ℕ) → e < n → start + (e + 2 ^ j) ≡ to → ⊥
-    below_so j m e l s = let under : 2 ^ j + 2 ^ j ≤ 2 ^ i = power_below j i m in omega arith
-
-pub merged_runs : (i c start : ℕ) (f g h : ℕ → ℕ) → RunAdded (start + 2 ^ i) start (2 ^ i) f g → IsRaised i c start (2 ^ i) g h → OneRun start (2 ^ suc i) (IsMerged i c) f h
+pub merged_runs : (i c start : ℕ) (f g h : ℕ → ℕ) → RunAdded (start + 2 ^ i) start (2 ^ i) f g → IsRaised i c start g h → OneRun start (2 ^ suc i) (IsMerged i c) f h
 merged_runs i c start f g h first second =
     let double : 2 ^ suc i ≡ 2 ^ i + 2 ^ i = double_power i in
     record {
-      others = outside_then start (start + 2 ^ suc i) start (start + 2 ^ i) (start + 2 ^ i) (start + 2 ^ i + 2 ^ i) f g h first.others second.others (omega arith) (omega arith) (omega arith) (omega arith);
+      others = outside_then start (start + 2 ^ suc i) start (start + 2 ^ i) (start + 2 ^ i) (start + 2 ^ suc i) f g h first.others second.others (omega arith) (omega arith) (omega arith) (omega arith);
       run = record {
         low = λ e l. second.others.below (start + e) (omega arith) ∙ first.run e l ∙ ap (λ n. bit_xor (f (start + e)) (f n)) (add_assoc start (2 ^ i) e);
         high = λ e l. second.run e l ∙ ap (λ v. bit_xor v (bit_xor (mul c (from start h e)) (sum_ahead i (from start h) e))) (first.others.above (start + (2 ^ i + e)) (omega arith));
@@ -284,14 +330,17 @@ merged_of_first i c f f2 g g2 sf sg is =
 
 -- ---- at places that are equal
 
+pub run_by_at : (k : ℕ → ℕ) (at at2 to to2 n m : ℕ) (f g : ℕ → ℕ) → at ≡ at2 → to ≡ to2 → n ≡ m → RunAddedBy k at to n f g → RunAddedBy k at2 to2 m f g
+run_by_at k at at2 to to2 n m f g ea et en added = subst (λ x. RunAddedBy k x to2 m f g) ea (subst (λ x. RunAddedBy k at x m f g) et (subst (λ x. RunAddedBy k at to x f g) en added))
+
 pub run_at : (at at2 to to2 n m : ℕ) (f g : ℕ → ℕ) → at ≡ at2 → to ≡ to2 → n ≡ m → RunAdded at to n f g → RunAdded at2 to2 m f g
-run_at at at2 to to2 n m f g ea et en added = subst (λ x. RunAdded x to2 m f g) ea (subst (λ x. RunAdded at x m f g) et (subst (λ x. RunAdded at to x f g) en added))
+run_at at at2 to to2 n m f g ea et en added = run_by_at (λ x. x) at at2 to to2 n m f g ea et en added
 
 pub lowered_at : (i c c2 start start2 m : ℕ) (f g : ℕ → ℕ) → c ≡ c2 → start ≡ start2 → IsLowered i c start m f g → IsLowered i c2 start2 m f g
 lowered_at i c c2 start start2 m f g ec es lowered = subst (λ x. IsLowered i x start2 m f g) ec (subst (λ x. IsLowered i c x m f g) es lowered)
 
-pub raised_at : (i c c2 start start2 m : ℕ) (f g : ℕ → ℕ) → c ≡ c2 → start ≡ start2 → IsRaised i c start m f g → IsRaised i c2 start2 m f g
-raised_at i c c2 start start2 m f g ec es raised = subst (λ x. IsRaised i x start2 m f g) ec (subst (λ x. IsRaised i c x m f g) es raised)
+pub raised_at : (i c c2 start start2 : ℕ) (f g : ℕ → ℕ) → c ≡ c2 → start ≡ start2 → IsRaised i c start f g → IsRaised i c2 start2 f g
+raised_at i c c2 start start2 f g ec es raised = subst (λ x. IsRaised i x start2 f g) ec (subst (λ x. IsRaised i c x f g) es raised)
 
 pub run_one_at : (start start2 count : ℕ) (relation : (ℕ → ℕ) → (ℕ → ℕ) → Type 0) (f g : ℕ → ℕ) → start ≡ start2 → OneRun start count relation f g → OneRun start2 count relation f g
 run_one_at start start2 count relation f g e one = subst (λ x. OneRun x count relation f g) e one

@@ -1,36 +1,13 @@
--- Vectors of texts, whole and in two parts, and their words.
-use Rattle.std.proofs.Common.{ℕ, ◌+◌, ◌*◌, ◌/◌, ◌%◌, ◌<◌, ◌≡◌, sym, ap, ap₂, ◌∙◌, subst, arith, List, [], ◌++◌, length, get_or, set, Vec, Global, bit_xor}
-use Rattle.std.proofs.lemmas.List.{set-append_left, get_or_append_left, get_or-append-add, length-map, map-append}
+-- What is added to texts, whole and in two parts.
+use Rattle.std.proofs.Common.{ℕ, ◌+◌, ◌-◌, ◌*◌, ◌/◌, ◌%◌, ◌<◌, ◌≤◌, ◌≡◌, inl, inr, sym, ap, ap₂, ◌∙◌, arith, List, ◌++◌, length, get_or, take, drop, bit_xor}
+use Rattle.std.specs.Int.Bits.{xor_zero_r}
+use Rattle.std.proofs.lemmas.Bool.{cases_lt}
+use Rattle.std.proofs.lemmas.List.{get_or_append_left, get_or-append_right, get_or-take, get_or-drop, length-append}
 use Rattle.par2_spec.specs.Slices.{word}
-use Rattle.par2_spec.specs.Sums.{list_at, lists_of, OneChanged}
-use Rattle.par2_spec.proofs.WordLaws.{written_here, written_changed, read_at}
 use Rattle.par2_gf16.proofs.WordLaws.{word_xor}
+use Rattle.par2_transform.specs.Adding.{within, AddsTo}
 use Rattle.par2_transform.specs.Grids.{AddsWords}
-
--- ---- a text of the front part is written
-
-changed_whole : (texts front back : List (Vec ℕ Global)) (p : ℕ) (w : Vec ℕ Global) → front ++ back ≡ texts → p < length front → set front p w ++ back ≡ set texts p w
-changed_whole texts front back p w whole low = sym (set-append_left front back p w low) ∙ ap (λ (vs : List (Vec ℕ Global)). set vs p w) whole
-
-pub changed_front : (texts front back : List (Vec ℕ Global)) (p : ℕ) (w : Vec ℕ Global) → front ++ back ≡ texts → p < length front → OneChanged (lists_of texts) (lists_of (set front p w ++ back)) p
-changed_front texts front back p w whole low =
-    subst (λ (vs : List (Vec ℕ Global)). OneChanged (lists_of texts) (lists_of vs) p) (sym (changed_whole texts front back p w whole low)) (written_changed texts p w)
-
-pub front_is : (texts front back : List (Vec ℕ Global)) (p : ℕ) (w : Vec ℕ Global) → front ++ back ≡ texts → p < length front → p < length texts → list_at (lists_of (set front p w ++ back)) p ≡ w.items
-front_is texts front back p w whole low fits =
-    ap (λ (vs : List (Vec ℕ Global)). list_at (lists_of vs) p) (changed_whole texts front back p w whole low) ∙ written_here texts p w fits
-
-pub front_was : (texts front back : List (Vec ℕ Global)) (p : ℕ) (v : Vec ℕ Global) → front ++ back ≡ texts → p < length front → p < length texts → v ≡ get_or front p v → v.items ≡ list_at (lists_of texts) p
-front_was texts front back p v whole low fits is =
-    read_at texts p v fits (is ∙ sym (get_or_append_left front back v p low) ∙ ap (λ (vs : List (Vec ℕ Global)). get_or vs p v) whole)
-
--- the first text of the back part
-pub back_is : (texts front back : List (Vec ℕ Global)) → front ++ back ≡ texts → list_at (lists_of back) 0 ≡ list_at (lists_of texts) (length front)
-back_is texts front back whole =
-    let items = λ (v : Vec ℕ Global). v.items in
-    sym (get_or-append-add (lists_of front) (lists_of back) 0 [])
-    ∙ ap (λ n. get_or (lists_of front ++ lists_of back) n []) (let e : length (lists_of front) + 0 ≡ length front = omega (arith, length-map front items) in e)
-    ∙ ap (λ (ts : List (List ℕ)). get_or ts (length front) []) (sym (map-append items front back)) ∙ ap (λ (vs : List (Vec ℕ Global)). list_at (lists_of vs) (length front)) whole
+use Rattle.par2_transform.proofs.AddingLaws.{within-below, within-above, within_same, within_moved}
 
 -- ---- bytes added
 
@@ -46,3 +23,67 @@ words_added src old new same size hs ho each = record {
       ap₂ (λ x y. x + 256 * y) (each (2 * p) (omega arith) ∙ ap (bit_xor (get_or old (2 * p) 0)) (sym low)) (each (2 * p + 1) h ∙ ap (bit_xor (get_or old (2 * p + 1) 0)) (sym high))
       ∙ word_xor (get_or old (2 * p) 0) (get_or old (2 * p + 1) 0) (word p src) (ho (2 * p)) (ho (2 * p + 1)) (omega arith);
 }
+
+-- ---- words added to one of two parts
+
+word_front : (front back : List ℕ) (p : ℕ) → 2 * p + 1 < length front → word p (front ++ back) ≡ word p front
+word_front front back p low = ap₂ (λ a b. a + 256 * b) (get_or_append_left front back 0 (2 * p) (omega arith)) (get_or_append_left front back 0 (2 * p + 1) low)
+
+word_back : (front back : List ℕ) (at p : ℕ) → length front ≡ 2 * at → at ≤ p → word p (front ++ back) ≡ word (p - at) back
+word_back front back at p is high =
+    ap₂ (λ a b. a + 256 * b)
+    (get_or-append_right front back (2 * at) (2 * p) 0 is (omega arith) ∙ ap (λ m. get_or back m 0) (let e : 2 * p - 2 * at ≡ 2 * (p - at) = omega arith in e))
+    (get_or-append_right front back (2 * at) (2 * p + 1) 0 is (omega arith) ∙ ap (λ m. get_or back m 0) (let e : 2 * p + 1 - 2 * at ≡ 2 * (p - at) + 1 = omega (arith, high) in e))
+
+-- a word of a part
+pub part_word : (at k p : ℕ) (text : List ℕ) → 2 * p + 1 < k → word p (take k (drop (2 * at) text)) ≡ word (at + p) text
+part_word at k p text low =
+    ap₂ (λ a b. a + 256 * b)
+    (get_or-take k (drop (2 * at) text) (2 * p) 0 (omega arith) ∙ get_or-drop (2 * at) text (2 * p) 0 ∙ ap (λ m. get_or text m 0) (let e : 2 * at + 2 * p ≡ 2 * (at + p) = omega arith in e))
+    (get_or-take k (drop (2 * at) text) (2 * p + 1) 0 low ∙ get_or-drop (2 * at) text (2 * p + 1) 0 ∙ ap (λ m. get_or text m 0) (let e : 2 * at + (2 * p + 1) ≡ 2 * (at + p) + 1 = omega arith in e))
+
+-- the source is in the front part: what is added is f of its words
+pub added_back : (f : ℕ → ℕ) (from to n : ℕ) (text front back src new : List ℕ) → front ++ back ≡ text → length front ≡ 2 * to → from + n ≤ to
+    → ((q : ℕ) → q < n → word q src ≡ word (from + q) front)
+    → AddsTo (λ p. within 0 n p (f (word (p - 0) src))) back new
+    → AddsTo (λ p. within to (to + n) p (f (word (from + (p - to)) text))) text (front ++ new)
+added_back f from to n text front back src new whole at apart source added = record {
+  same_length = length-append front new ∙ ap (λ m. length front + m) added.same_length ∙ sym (length-append front back) ∙ ap length whole;
+  each = λ p fits.
+      let size : length text ≡ 2 * to + length back = sym (ap length whole) ∙ length-append front back ∙ ap (λ m. m + length back) at in
+      elim (cases_lt p to) [
+        | inl low ↦
+            word_front front new p (omega (arith, at, low)) ∙ sym (word_front front back p (omega (arith, at, low))) ∙ ap (word p) whole
+            ∙ sym (ap (bit_xor (word p text)) (within-below to (to + n) p (f (word (from + (p - to)) text)) low) ∙ xor_zero_r (word p text))
+        | inr high ↦
+            word_back front new to p at high ∙ added.each (p - to) (omega (arith, size, fits, high))
+            ∙ ap₂ bit_xor (sym (word_back front back to p at high) ∙ ap (word p) whole)
+            (within_same 0 n (p - to) (f (word (p - to - 0) src)) (f (word (from + (p - to)) text)) (λ a b. ap f (read (p - to) b))
+            ∙ within_moved to n (p - to) p (f (word (from + (p - to)) text)) (omega arith))
+      ];
+}
+  where
+    read : (q : ℕ) → q < n → word (q - 0) src ≡ word (from + q) text
+    read q low =
+        ap (λ m. word m src) (let e : q - 0 ≡ q = omega arith in e) ∙ source q low
+        ∙ sym (word_front front back (from + q) (omega (arith, at, apart, low))) ∙ ap (word (from + q)) whole
+
+-- the source begins the back part
+pub added_front : (f : ℕ → ℕ) (from to n : ℕ) (text front back new : List ℕ) → front ++ back ≡ text → length front ≡ 2 * from → to + n ≤ from
+    → AddsTo (λ p. within to (to + n) p (f (word (p - to) back))) front new
+    → AddsTo (λ p. within to (to + n) p (f (word (from + (p - to)) text))) text (new ++ back)
+added_front f from to n text front back new whole at apart added = record {
+  same_length = length-append new back ∙ ap (λ m. m + length back) added.same_length ∙ sym (length-append front back) ∙ ap length whole;
+  each = λ p fits. elim (cases_lt p from) [
+    | inl low ↦
+        word_front new back p (omega (arith, at, low, added.same_length)) ∙ added.each p (omega (arith, at, low))
+        ∙ ap₂ bit_xor (sym (word_front front back p (omega (arith, at, low))) ∙ ap (word p) whole)
+        (within_same to (to + n) p (f (word (p - to) back)) (f (word (from + (p - to)) text)) (λ a b. ap f (source (p - to))))
+    | inr high ↦
+        word_back new back from p (added.same_length ∙ at) high ∙ sym (word_back front back from p at high) ∙ ap (word p) whole
+        ∙ sym (ap (bit_xor (word p text)) (within-above to (to + n) p (f (word (from + (p - to)) text)) (omega arith)) ∙ xor_zero_r (word p text))
+  ];
+}
+  where
+    source : (q : ℕ) → word q back ≡ word (from + q) text
+    source q = ap (λ m. word m back) (let e : q ≡ from + q - from = omega arith in e) ∙ sym (word_back front back from (from + q) at (omega arith)) ∙ ap (word (from + q)) whole

@@ -85,7 +85,7 @@ pub record HasShape (cut : Cut) (columns : ℕ) (block : Outputs) : Type 0 where
 
 -- block j, or one of nothing
 abbrev pub block_at : List Outputs → ℕ → Outputs
-block_at blocks j = slice_index_or blocks j (record { exponent = 0; windows = 0; weights = []; sums = record { levels = 0; words = 0; texts = [] } })
+block_at blocks j = slice_index_or blocks j (record { exponent = 0; windows = 0; weights = []; sums = record { levels = 0; words = 0; bytes = [] } })
 
 -- one block becomes what the relation says of it
 pub record OneBecomes (relation : Outputs → Outputs → Type 0) (j : ℕ) (old new : List Outputs) : Type 0 where

@@ -1,35 +1,22 @@
 -- Rows of words of which there are as many as points of a subspace: a transform goes down all columns of words at once.
-use Rattle.std.specs.Prelude.{ℕ, ◌≡◌, ◌≢◌, ◌<◌, ◌≤◌, ◌+◌, ◌*◌, ◌^◌, bit_xor, List, length, slice_index}
+use Rattle.std.specs.Prelude.{ℕ, ◌≡◌, ◌≢◌, ◌<◌, ◌≤◌, ◌+◌, ◌*◌, ◌^◌, bit_xor, List, length}
 use Rattle.par2_spec.specs.Slices.{word}
-use Rattle.par2_spec.specs.Sums.{list_at}
+use Rattle.par2_transform.specs.Adding.{within}
 
--- 2 ^ levels rows of some words each
+-- 2 ^ levels rows of some words each, one after the other
 pub record Grid : Type 0 where
   pub levels : ℕ
   pub words : ℕ
-  pub texts : List (List ℕ)
+  pub bytes : List ℕ
 
--- the word at place c of each row
+-- the word at place c of each row: 0 where rows are shorter
 abbrev pub column : Grid → ℕ → ℕ → ℕ
-column grid c u = word c (list_at grid.texts u)
+column grid c u = within 0 grid.words c (word (u * grid.words + c) grid.bytes)
 
--- the texts have that many bytes
-pub record AreRows (levels words : ℕ) (texts : List (List ℕ)) : Type 0 where
+-- the rows have that many bytes
+pub record AreRows (levels words : ℕ) (bytes : List ℕ) : Type 0 where
   pub few : levels ≤ 16
-  pub count : length texts ≡ 2 ^ levels
-  pub size : (u : ℕ) → u < 2 ^ levels → length (list_at texts u) ≡ 2 * words
-
--- `count` texts of as many zeros
-pub record AreZeros (count bytes : ℕ) (texts : List (List ℕ)) : Type 0 where
-  pub number : length texts ≡ count
-  pub size : (u : ℕ) → u < count → length (list_at texts u) ≡ bytes
-  pub zero : (u p : ℕ) → slice_index (list_at texts u) p ≡ 0
-
--- the first n texts have only zeros, and all of them as many bytes as before
-pub record AreCleared (old new : List (List ℕ)) (n : ℕ) : Type 0 where
-  pub number : length new ≡ length old
-  pub size : (u : ℕ) → length (list_at new u) ≡ length (list_at old u)
-  pub zero : (u p : ℕ) → u < n → slice_index (list_at new u) p ≡ 0
+  pub count : length bytes ≡ 2 * (2 ^ levels * words)
 
 -- to each word of old, the word of src is added
 pub record AddsWords (src old new : List ℕ) : Type 0 where

@@ -1,13 +1,13 @@
 //! Power sums and values at the points of a subspace, level by level, of all columns of words.
 
-ghost use Rattle.std.specs.Prelude.{◌≡◌, ◌≢◌, ◌<◌, ◌≤◌, ◌+◌, ◌-◌, ◌*◌, ◌^◌, ◌⊎◌, suc};
+ghost use Rattle.std.specs.Prelude.{◌≡◌, ◌<◌, ◌≤◌, ◌+◌, ◌-◌, ◌*◌, ◌^◌, ◌⊎◌, suc};
 ghost use Rattle.par2_spec.specs.Field.{mul};
 ghost use Rattle.par2_transform.specs.Subspaces.{point};
-ghost use Rattle.par2_transform.specs.PowerSums.{ArePowerSums, IsMerged, sum_ahead};
+ghost use Rattle.par2_transform.specs.PowerSums.{ArePowerSums, IsMerged};
 ghost use Rattle.par2_transform.specs.Evaluations.{AreValues, IsSplit};
 ghost use Rattle.par2_transform.specs.Levels.{IsMergedLevel, IsSplitLevel};
-ghost use Rattle.par2_transform.specs.Grids.{column, EachColumn, IsAdded};
-ghost use Rattle.par2_transform.specs.Steps.{IsOneAdded, OnElements, OneRun, RunAdded, IsRaised, IsSpread, IsDivided};
+ghost use Rattle.par2_transform.specs.Grids.{EachColumn};
+ghost use Rattle.par2_transform.specs.Steps.{OnElements, OneRun, RunAddedBy, AheadAdded, IsRaised, IsSpreadAbove, IsSpreadBelow, IsDivided};
 
 use crate::basis::{point, powers_in};
 use crate::rows::Rows;
@@ -65,7 +65,7 @@ fn merge(gf: &Gf, rows: &mut Rows, i: u32, q: u16)
 {
     let half = 1usize << i;
     let start = q as usize * 2 * half;
-    add_run(rows, start + half, start, half);
+    rows.add_rows(start + half, start, half);
     raise(gf, rows, i, start, point(2 * q));
 }
 
@@ -80,93 +80,112 @@ fn split(gf: &Gf, rows: &mut Rows, i: u32, q: u16)
     let half = 1usize << i;
     let start = q as usize * 2 * half;
     divide(gf, rows, i, start, point(2 * q));
-    add_run(rows, start, start + half, half);
+    rows.add_rows(start, start + half, half);
 }
 
-// To each row of a run, adds the one of another run.
-fn add_run(rows: &mut Rows, from: usize, to: usize, count: usize)
-    requires few { rows.old.levels ≤ 16 }
+// To `count` rows from row `to` on, adds the products of c and those from row `from` on. In the first pair of each level
+// c is 0.
+fn add_scaled(gf: &Gf, rows: &mut Rows, c: u16, from: usize, to: usize, count: usize)
     requires from { from + count ≤ 2 ^ rows.old.levels }
     requires to { to + count ≤ 2 ^ rows.old.levels }
     requires apart { (from + count ≤ to) ⊎ (to + count ≤ from) }
-    ensures { EachColumn (RunAdded from to count) rows.old rows.new }
-{
-    for e in 0..count {
-        rows.add_row(from + e, to + e);
-    }
-}
-
-// To each word of row `to`, adds the product of c, whose factor this is, and the word of row `from`. In the first pair of
-// each level c is 0.
-fn add_scaled(gf: &Gf, rows: &mut Rows, c: u16, factor: &Factor, from: usize, to: usize)
-    requires factor { factor.now ≡ c }
-    requires from { from < 2 ^ rows.old.levels }
-    requires to { to < 2 ^ rows.old.levels }
-    requires apart { from ≢ to }
-    ensures { IsAdded rows.old rows.new to (λ k. mul c (column rows.old k from)) }
+    ensures { EachColumn (RunAddedBy (mul c) from to count) rows.old rows.new }
 {
     if c != 0 {
-        rows.add_product(gf, factor, from, to);
+        rows.add_products(gf, &Factor::new(c), from, to, count);
     }
 }
 
-// To each value of the upper half, adds what the higher power of its points has besides the vanishing polynomial.
+// To each value of the upper half, adds what the higher power of its points has besides the vanishing polynomial. What is
+// added from the upper half is whole by then.
 fn raise(gf: &Gf, rows: &mut Rows, i: u32, start: usize, c: u16)
     requires few { rows.old.levels ≤ 16 }
     requires level { i < rows.old.levels }
     requires fits { start + 2 ^ suc i ≤ 2 ^ rows.old.levels }
-    ensures { EachColumn (IsRaised i c start (2 ^ i)) rows.old rows.new }
+    ensures { EachColumn (IsRaised i c start) rows.old rows.new }
 {
-    let factor = Factor::new(c);
     let half = 1usize << i;
-    for e in 0..half {
-        add_scaled(gf, rows, c, &factor, start + e, start + half + e);
-        add_ahead(rows, i, start + e);
-    }
+    add_scaled(gf, rows, c, start, start + half, half);
+    add_lower_ahead(rows, i, start);
+    add_upper_ahead(rows, i, start);
 }
 
-// To the value 2 ^ i after a place, adds those that are the lower powers of the vanishing polynomial after it.
-fn add_ahead(rows: &mut Rows, i: u32, at: usize)
+// To each value of the upper half, adds those of the lower half that are as far ahead in the run as the lower powers of
+// the vanishing polynomial.
+fn add_lower_ahead(rows: &mut Rows, i: u32, start: usize)
     requires few { rows.old.levels ≤ 16 }
     requires level { i < rows.old.levels }
-    requires fits { at + 2 ^ i < 2 ^ rows.old.levels }
-    ensures { EachColumn (λ old. IsOneAdded (at + 2 ^ i) (sum_ahead i old at) old)
-        rows.old rows.new }
+    requires fits { start + 2 ^ suc i ≤ 2 ^ rows.old.levels }
+    ensures { EachColumn (AheadAdded i start 0 (2 ^ i) i) rows.old rows.new }
 {
     let powers = powers_in(i);
+    let half = 1usize << i;
     for j in 0..i {
         if (powers >> j) % 2 == 1 {
-            rows.add_row(at + (1 << j), at + (1 << i));
+            rows.add_rows(start + (1 << j), start + half, half - (1 << j));
         }
     }
 }
 
-// Divides by the vanishing polynomial less c: what is left in the lower half, the quotient in the upper one.
+// The same with those of the upper half.
+fn add_upper_ahead(rows: &mut Rows, i: u32, start: usize)
+    requires few { rows.old.levels ≤ 16 }
+    requires level { i < rows.old.levels }
+    requires fits { start + 2 ^ suc i ≤ 2 ^ rows.old.levels }
+    ensures { EachColumn (AheadAdded i start (2 ^ i) (2 ^ suc i) i) rows.old rows.new }
+{
+    let powers = powers_in(i);
+    let half = 1usize << i;
+    for j in 0..i {
+        if (powers >> j) % 2 == 1 {
+            rows.add_rows(start + half, start + 2 * half - (1 << j), 1 << j);
+        }
+    }
+}
+
+// Divides by the vanishing polynomial less c: what is left in the lower half, the quotient in the upper one. The quotient
+// is whole before anything is added from it to the lower half.
 fn divide(gf: &Gf, rows: &mut Rows, i: u32, start: usize, c: u16)
     requires few { rows.old.levels ≤ 16 }
     requires level { i < rows.old.levels }
     requires fits { start + 2 ^ suc i ≤ 2 ^ rows.old.levels }
-    ensures { EachColumn (IsDivided i c start 0) rows.old rows.new }
+    ensures { EachColumn (IsDivided i c start) rows.old rows.new }
 {
-    let factor = Factor::new(c);
     let half = 1usize << i;
-    for e in (0..half).rev() {
-        add_scaled(gf, rows, c, &factor, start + half + e, start + e);
-        spread(rows, i, start, e);
+    spread_above(rows, i, start);
+    spread_below(rows, i, start);
+    add_scaled(gf, rows, c, start + half, start, half);
+}
+
+// Adds each coefficient of the upper half to those that the lower powers of the vanishing polynomial lead to, as far as
+// these are in the upper half.
+fn spread_above(rows: &mut Rows, i: u32, start: usize)
+    requires few { rows.old.levels ≤ 16 }
+    requires level { i < rows.old.levels }
+    requires fits { start + 2 ^ suc i ≤ 2 ^ rows.old.levels }
+    ensures { EachColumn (IsSpreadAbove i start i) rows.old rows.new }
+{
+    let powers = powers_in(i);
+    let half = 1usize << i;
+    for j in 0..i {
+        if (powers >> j) % 2 == 1 {
+            rows.add_rows(start + 2 * half - (1 << j), start + half, 1 << j);
+        }
     }
 }
 
-// Adds coefficient 2 ^ i + e to those that are the lower powers of the vanishing polynomial after coefficient e.
-fn spread(rows: &mut Rows, i: u32, start: usize, e: usize)
+// The same, as far as these are in the lower half.
+fn spread_below(rows: &mut Rows, i: u32, start: usize)
     requires few { rows.old.levels ≤ 16 }
     requires level { i < rows.old.levels }
-    requires fits { start + 2 ^ i + e < 2 ^ rows.old.levels }
-    ensures { EachColumn (IsSpread i start e i) rows.old rows.new }
+    requires fits { start + 2 ^ suc i ≤ 2 ^ rows.old.levels }
+    ensures { EachColumn (IsSpreadBelow i start i) rows.old rows.new }
 {
     let powers = powers_in(i);
+    let half = 1usize << i;
     for j in 0..i {
         if (powers >> j) % 2 == 1 {
-            rows.add_row(start + (1 << i) + e, start + e + (1 << j));
+            rows.add_rows(start + half, start + (1 << j), half - (1 << j));
         }
     }
 }

@@ -4,26 +4,12 @@ ghost use Rattle.std.specs.Prelude.{◌≡◌, ℕ, ◌+◌, ◌-◌, ◌*◌, �
 ghost use Rattle.par2_spec.specs.Field.{mul};
 ghost use Rattle.par2_spec.specs.Slices.{word};
 ghost use Rattle.par2_spec.specs.Sums.{list_at, lists_of};
-ghost use Rattle.par2_transform.specs.Adding.{within, AddsTo, AddsToEach};
+ghost use Rattle.par2_transform.specs.Adding.{within, AddsToEach};
 
+use crate::texts::add_products;
 use par2_gf16::{Factor, Gf};
 
-/// To the words of the text from one place up to another, adds the products of the factor and the words of the row.
-fn add_row(gf: &Gf, c: u16, row: &[u8], text: &mut [u8], from: usize, to: usize)
-    requires order { from ≤ to }
-    requires row { 2 * to ≤ 2 * from + length row.now }
-    requires room { 2 * to ≤ length text.old }
-    ensures { AddsTo (λ p. within from to p (mul c (word (p - from) row.now))) text.old text.new }
-{
-    let factor = Factor::new(c);
-    gf.mul_add_by(
-        &factor,
-        &row[..2 * (to - from)],
-        &mut text[2 * from..2 * to],
-    );
-}
-
-/// The same with output `i`.
+/// To the words of output `i` from one place up to another, adds the products of c and the words of the row.
 pub(crate) fn add_to_output(
     gf: &Gf,
     c: u16,
@@ -40,5 +26,6 @@ pub(crate) fn add_to_output(
     ensures { AddsToEach (λ t p. within i (i + 1) t
         (within from to p (mul c (word (p - from) row.now)))) (lists_of outputs.old) (lists_of outputs.new) }
 {
-    add_row(gf, c, row, outputs[i].as_mut_slice(), from, to);
+    let factor = Factor::new(c);
+    add_products(gf, &factor, row, outputs[i].as_mut_slice(), from, to);
 }

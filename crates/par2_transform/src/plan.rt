@@ -8,9 +8,6 @@ const CLASSES: usize = 3;
 /// Of how many columns of words a row is a multiple.
 const STEP: usize = 32;
 
-/// What a row takes beside its words.
-const ROW: usize = 40;
-
 /// So many outputs are computed at once, whatever room there is.
 const FEWEST: usize = 256;
 
@@ -63,7 +60,7 @@ fn windows_for(exponents: usize, window: usize) -> usize
 fn columns_for(rows: usize, words: usize, room: usize) -> usize
     ensures { (1 ≤ result) × (result ≤ 1024) }
 {
-    let each = (room / rows.max(1)).saturating_sub(ROW) / 2;
+    let each = room / rows.max(1) / 2;
     let most = (each / STEP * STEP).clamp(STEP, 1024);
     let blocks = words.div_ceil(most).max(1);
     words
@@ -77,7 +74,7 @@ fn columns_for(rows: usize, words: usize, room: usize) -> usize
 pub(crate) fn outputs_at_once(room: usize) -> usize
     ensures { 1 ≤ result }
 {
-    let most = room / (3 * (2 * STEP + ROW));
+    let most = room / (3 * 2 * STEP);
     (most / 2 + 1).next_power_of_two().max(FEWEST)
 }
 

@@ -1,31 +1,31 @@
 //! Rows of words, as bytes.
 
-ghost use Rattle.std.specs.Prelude.{◌≡◌, ◌≢◌, ℕ, ◌*◌, ◌^◌, ◌<◌, ◌≤◌, length, IfOk};
+ghost use Rattle.std.specs.Prelude.{◌≡◌, ◌≢◌, ℕ, ◌+◌, ◌*◌, ◌^◌, ◌<◌, ◌≤◌, ◌⊎◌, length, IfOk};
 ghost use Rattle.par2_spec.specs.Field.{mul};
 ghost use Rattle.par2_spec.specs.Slices.{word};
-ghost use Rattle.par2_spec.specs.Sums.{AreElements, list_at, lists_of};
-ghost use Rattle.par2_transform.specs.Grids.{column, IsAdded};
+ghost use Rattle.par2_spec.specs.Sums.{AreElements};
+ghost use Rattle.par2_transform.specs.Grids.{column, EachColumn, IsAdded};
+ghost use Rattle.par2_transform.specs.Steps.{RunAddedBy, RunAdded};
 
 use crate::texts::{
-    add_product, add_product_within, add_within, clear, copy_padded, fit_bytes, text_at, zero_texts,
+    add_products, add_products_within, add_words_within, clear, copy_padded, fit_bytes,
 };
 use par2_gf16::{Factor, Gf};
 use std::alloc::{AllocError, Global};
 use std::marker::Model;
 
-/// As many rows of words as a subspace has points. A word is two bytes, the lower one first.
+/// As many rows of words as a subspace has points, one after the other. A word is two bytes, the lower one first.
 #[derive(Drop)]
 pub(crate) struct Rows {
     levels: u32,
     words: usize,
-    rows: Vec<Vec<u8>>,
+    bytes: Vec<u8>,
     // A text on its way to a row. Copied whole, it is read from memory faster than by products.
     source: Vec<u8>,
 }
 
 impl Model for Rows {
     ghost use Rattle.std.specs.Prelude.{◌≡◌, ◌*◌, length};
-    ghost use Rattle.par2_spec.specs.Sums.{lists_of};
     ghost use Rattle.par2_transform.specs.Grids.{Grid, AreRows};
 
     ghost Value = { Grid };
@@ -33,10 +33,10 @@ impl Model for Rows {
     ghost view = { λ a. record {
       levels = a.levels;
       words = a.words;
-      texts = lists_of a.rows.items;
+      bytes = a.bytes.items;
     } };
 
-    ghost invariant = { λ a. AreRows a.levels a.words (lists_of a.rows.items)
+    ghost invariant = { λ a. AreRows a.levels a.words a.bytes.items
         × (length a.source.items ≡ 2 * a.words) };
 }
 
@@ -44,17 +44,17 @@ impl Rows {
     /// `2 ^ levels` rows of as many zeros.
     pub(crate) fn new(alloc: Global, levels: u32, words: usize) -> Result<Rows, AllocError>
         requires few { levels ≤ 16 }
-        requires fit { 2 * words < 2 ^ 63 }
+        requires fit { words ≤ 2 ^ 16 }
         ensures levels { IfOk result (λ rows. rows.levels ≡ levels) }
         ensures words { IfOk result (λ rows. rows.words ≡ words) }
         ensures zero { IfOk result (λ rows. (c u : ℕ) → column rows c u ≡ 0) }
     {
-        let rows = zero_texts(alloc, 1 << levels, 2 * words)?;
+        let bytes = vec![in alloc; 0u8; (1 << levels) * (2 * words)]?;
         let source = vec![in alloc; 0u8; 2 * words]?;
         Ok(Rows {
             levels,
             words,
-            rows,
+            bytes,
             source,
         })
     }
@@ -73,7 +73,15 @@ impl Rows {
         ensures words { self.new.words ≡ self.old.words }
         ensures zero { (c u : ℕ) → column self.new c u ≡ 0 }
     {
-        clear(self.rows.as_mut_slice());
+        clear(self.bytes.as_mut_slice());
+    }
+
+    // Where the words of row u begin.
+    fn place(&self, u: usize) -> usize
+        requires { u ≤ 2 ^ self.now.levels }
+        ensures { result ≡ u * self.now.words }
+    {
+        u * self.words
     }
 
     /// Row u.
@@ -82,7 +90,7 @@ impl Rows {
         ensures size { length result.now ≡ 2 * self.now.words }
         ensures words { (c : ℕ) → word c result.now ≡ column self.now c u }
     {
-        text_at(&self.rows, u)
+        &self.bytes[2 * self.place(u)..2 * self.place(u + 1)]
     }
 
     /// To each word of row `to`, adds the product of the factor and the text's word at its place. Zeros follow a text that
@@ -91,8 +99,16 @@ impl Rows {
         requires place { to < 2 ^ self.old.levels }
         ensures { IsAdded self.old self.new to (λ c. mul factor.now (word c text.now)) }
     {
+        let (start, end) = (self.place(to), self.place(to + 1));
         copy_padded(text, self.source.as_mut_slice());
-        add_product(gf, self.rows.as_mut_slice(), factor, &self.source, to);
+        add_products(
+            gf,
+            factor,
+            &self.source,
+            self.bytes.as_mut_slice(),
+            start,
+            end,
+        );
     }
 
     /// To each word of row `to`, adds the product of the factor and the word of the other rows' row `from` at its place.
@@ -109,35 +125,58 @@ impl Rows {
         requires same { other.now.words ≡ self.old.words }
         ensures { IsAdded self.old self.new to (λ c. mul factor.now (column other.now c from)) }
     {
-        add_product(gf, self.rows.as_mut_slice(), factor, other.row(from), to);
+        let (start, end) = (self.place(to), self.place(to + 1));
+        add_products(
+            gf,
+            factor,
+            other.row(from),
+            self.bytes.as_mut_slice(),
+            start,
+            end,
+        );
     }
 
-    /// To each word of row `to`, adds the product of the factor and the word of row `from`.
-    pub(crate) fn add_product(&mut self, gf: &Gf, factor: &Factor, from: usize, to: usize)
-        requires from { from < 2 ^ self.old.levels }
-        requires to { to < 2 ^ self.old.levels }
-        requires apart { from ≢ to }
-        ensures { IsAdded self.old self.new to (λ c. mul factor.now (column self.old c from)) }
+    /// To each word of `count` rows from row `to` on, adds the product of the factor and the word of the rows from `from`
+    /// on.
+    pub(crate) fn add_products(
+        &mut self,
+        gf: &Gf,
+        factor: &Factor,
+        from: usize,
+        to: usize,
+        count: usize,
+    )
+        requires from { from + count ≤ 2 ^ self.old.levels }
+        requires to { to + count ≤ 2 ^ self.old.levels }
+        requires apart { (from + count ≤ to) ⊎ (to + count ≤ from) }
+        ensures { EachColumn (RunAddedBy (mul factor.now) from to count) self.old self.new }
     {
-        add_product_within(gf, self.rows.as_mut_slice(), factor, from, to);
+        let places = (self.place(from), self.place(to), self.place(count));
+        add_products_within(
+            gf,
+            factor,
+            self.bytes.as_mut_slice(),
+            places.0,
+            places.1,
+            places.2,
+        );
     }
 
-    /// To each word of row `to`, adds the word of row `from`.
-    pub(crate) fn add_row(&mut self, from: usize, to: usize)
-        requires from { from < 2 ^ self.old.levels }
-        requires to { to < 2 ^ self.old.levels }
-        requires apart { from ≢ to }
-        ensures { IsAdded self.old self.new to (λ c. column self.old c from) }
+    /// To each word of `count` rows from row `to` on, adds the word of the rows from `from` on.
+    pub(crate) fn add_rows(&mut self, from: usize, to: usize, count: usize)
+        requires from { from + count ≤ 2 ^ self.old.levels }
+        requires to { to + count ≤ 2 ^ self.old.levels }
+        requires apart { (from + count ≤ to) ⊎ (to + count ≤ from) }
+        ensures { EachColumn (RunAdded from to count) self.old self.new }
     {
-        add_within(self.rows.as_mut_slice(), from, to);
+        let places = (self.place(from), self.place(to), self.place(count));
+        add_words_within(self.bytes.as_mut_slice(), places.0, places.1, places.2);
     }
 
     /// What the type says of each word, for proofs.
     pub(crate) fn fit(&self)
         ensures { (c : ℕ) → AreElements (column self.now c) }
     {
-        for u in 0..self.rows.len() {
-            fit_bytes(text_at(&self.rows, u));
-        }
+        fit_bytes(&self.bytes);
     }
 }

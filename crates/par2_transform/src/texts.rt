@@ -1,12 +1,12 @@
 //! Sums of texts, word by word.
 
-ghost use Rattle.std.specs.Prelude.{◌≡◌, ◌≢◌, ℕ, ◌*◌, ◌%◌, ◌^◌, ◌<◌, ◌≤◌, length, slice_index, IfOk};
-ghost use Rattle.par2_spec.specs.Sums.{OneChanged, list_at, lists_of};
-ghost use Rattle.par2_gf16.specs.Products.{AddsProducts};
-ghost use Rattle.par2_transform.specs.Grids.{AddsWords, AreZeros, AreCleared};
+ghost use Rattle.std.specs.Prelude.{◌≡◌, ◌≢◌, ℕ, ◌+◌, ◌-◌, ◌*◌, ◌^◌, ◌<◌, ◌≤◌, ◌⊎◌, length, slice_index};
+ghost use Rattle.par2_spec.specs.Field.{mul};
+ghost use Rattle.par2_spec.specs.Slices.{word};
+ghost use Rattle.par2_transform.specs.Adding.{within, AddsTo};
+ghost use Rattle.par2_transform.specs.Grids.{AddsWords};
 
 use par2_gf16::{Factor, Gf};
-use std::alloc::{AllocError, Global};
 
 /// What the type says of each byte, for proofs.
 #[inline(always)]
@@ -16,49 +16,14 @@ pub(crate) fn fit_bytes(bytes: &[u8])
     let _ = bytes.len();
 }
 
-#[inline(always)]
-pub(crate) fn text_at(texts: &[Vec<u8>], i: usize) -> &[u8]
-    requires { i < length texts.now }
-    ensures { result.now ≡ list_at (lists_of texts.now) i }
-{
-    &texts[i]
-}
-
-/// `count` texts of as many zeros.
-pub(crate) fn zero_texts(
-    alloc: Global,
-    count: usize,
-    bytes: usize,
-) -> Result<Vec<Vec<u8>>, AllocError>
-    requires { bytes < 2 ^ 63 }
-    ensures { IfOk result (λ texts. AreZeros count bytes (lists_of texts.items)) }
-{
-    let mut texts = Vec::new(alloc);
-    for i in 0..count {
-        texts.push(vec![in alloc; 0u8; bytes]?)?;
-    }
-    Ok(texts)
-}
-
-// Makes all bytes zero.
-fn clear_bytes(bytes: &mut [u8])
+/// Makes all bytes zero.
+pub(crate) fn clear(bytes: &mut [u8])
     ensures size { length bytes.new ≡ length bytes.old }
     ensures zero { (k : ℕ) → slice_index bytes.new k ≡ 0 }
 {
     for k in 0..bytes.len() {
         bytes[k] = 0;
     }
-}
-
-// Makes all bytes of a text zero.
-fn clear_text(texts: &mut [Vec<u8>], to: usize)
-    requires { to < length texts.old }
-    ensures changed { OneChanged (lists_of texts.old) (lists_of texts.new) to }
-    ensures size { length (list_at (lists_of texts.new) to)
-        ≡ length (list_at (lists_of texts.old) to) }
-    ensures zero { (k : ℕ) → slice_index (list_at (lists_of texts.new) to) k ≡ 0 }
-{
-    clear_bytes(texts[to].as_mut_slice());
 }
 
 /// Makes the bytes those of the text, and zeros after them.
@@ -69,16 +34,7 @@ pub(crate) fn copy_padded(text: &[u8], to: &mut [u8])
 {
     let count = text.len().min(to.len());
     to[..count].copy_from_slice(&text[..count]);
-    clear_bytes(&mut to[count..]);
-}
-
-/// Makes all bytes zero.
-pub(crate) fn clear(texts: &mut [Vec<u8>])
-    ensures { AreCleared (lists_of texts.old) (lists_of texts.new) (length texts.old) }
-{
-    for i in 0..texts.len() {
-        clear_text(texts, i);
-    }
+    clear(&mut to[count..]);
 }
 
 // To each byte of `dst`, adds the byte of `src`.
@@ -93,61 +49,71 @@ fn add(src: &[u8], dst: &mut [u8])
     }
 }
 
-/// To each word of text `to`, adds the product of the factor and the source's word.
-pub(crate) fn add_product(gf: &Gf, texts: &mut [Vec<u8>], factor: &Factor, src: &[u8], to: usize)
-    requires to { to < length texts.old }
-    requires same { length src.now ≡ length (list_at (lists_of texts.old) to) }
-    requires even { length src.now % 2 ≡ 0 }
-    ensures changed { OneChanged (lists_of texts.old) (lists_of texts.new) to }
-    ensures added { AddsProducts factor.now src.now
-        (list_at (lists_of texts.old) to) (list_at (lists_of texts.new) to) }
+/// To the words of the text from one place up to another, adds the first words of the source.
+pub(crate) fn add_words(src: &[u8], text: &mut [u8], from: usize, to: usize)
+    requires order { from ≤ to }
+    requires source { 2 * to ≤ 2 * from + length src.now }
+    requires room { 2 * to ≤ length text.old }
+    ensures { AddsTo (λ p. within from to p (word (p - from) src.now)) text.old text.new }
 {
-    gf.mul_add_by(factor, src, texts[to].as_mut_slice());
+    add(&src[..2 * (to - from)], &mut text[2 * from..2 * to]);
 }
 
-/// To each word of text `to`, adds the product of the factor and the word of text `from`.
-pub(crate) fn add_product_within(
+/// To the words of the text from one place up to another, adds the products of the factor and the first words of the source.
+pub(crate) fn add_products(
     gf: &Gf,
-    texts: &mut [Vec<u8>],
     factor: &Factor,
+    src: &[u8],
+    text: &mut [u8],
     from: usize,
     to: usize,
 )
-    requires from { from < length texts.old }
-    requires to { to < length texts.old }
-    requires apart { from ≢ to }
-    requires same { length (list_at (lists_of texts.old) from)
-        ≡ length (list_at (lists_of texts.old) to) }
-    requires even { length (list_at (lists_of texts.old) to) % 2 ≡ 0 }
-    ensures changed { OneChanged (lists_of texts.old) (lists_of texts.new) to }
-    ensures added { AddsProducts factor.now (list_at (lists_of texts.old) from)
-        (list_at (lists_of texts.old) to) (list_at (lists_of texts.new) to) }
+    requires order { from ≤ to }
+    requires source { 2 * to ≤ 2 * from + length src.now }
+    requires room { 2 * to ≤ length text.old }
+    ensures { AddsTo (λ p. within from to p (mul factor.now (word (p - from) src.now)))
+        text.old text.new }
+{
+    gf.mul_add_by(factor, &src[..2 * (to - from)], &mut text[2 * from..2 * to]);
+}
+
+/// To `count` words of the text from place `to` on, adds those from place `from` on.
+pub(crate) fn add_words_within(text: &mut [u8], from: usize, to: usize, count: usize)
+    requires from { 2 * (from + count) ≤ length text.old }
+    requires to { 2 * (to + count) ≤ length text.old }
+    requires apart { (from + count ≤ to) ⊎ (to + count ≤ from) }
+    ensures { AddsTo (λ p. within to (to + count) p (word (from + (p - to)) text.old))
+        text.old text.new }
 {
     if from < to {
-        let (front, back) = texts.split_at_mut(to);
-        gf.mul_add_by(factor, text_at(front, from), back[0].as_mut_slice());
+        let (front, back) = text.split_at_mut(2 * to);
+        add_words(&front[2 * from..], back, 0, count);
     } else {
-        let (front, back) = texts.split_at_mut(from);
-        gf.mul_add_by(factor, text_at(back, 0), front[to].as_mut_slice());
+        let (front, back) = text.split_at_mut(2 * from);
+        add_words(back, front, to, to + count);
     }
 }
 
-/// To each word of text `to`, adds the word of text `from`.
-pub(crate) fn add_within(texts: &mut [Vec<u8>], from: usize, to: usize)
-    requires from { from < length texts.old }
-    requires to { to < length texts.old }
-    requires apart { from ≢ to }
-    requires same { length (list_at (lists_of texts.old) from)
-        ≡ length (list_at (lists_of texts.old) to) }
-    ensures changed { OneChanged (lists_of texts.old) (lists_of texts.new) to }
-    ensures added { AddsWords (list_at (lists_of texts.old) from)
-        (list_at (lists_of texts.old) to) (list_at (lists_of texts.new) to) }
+/// To `count` words of the text from place `to` on, adds the products of the factor and those from place `from` on.
+pub(crate) fn add_products_within(
+    gf: &Gf,
+    factor: &Factor,
+    text: &mut [u8],
+    from: usize,
+    to: usize,
+    count: usize,
+)
+    requires from { 2 * (from + count) ≤ length text.old }
+    requires to { 2 * (to + count) ≤ length text.old }
+    requires apart { (from + count ≤ to) ⊎ (to + count ≤ from) }
+    ensures { AddsTo (λ p. within to (to + count) p
+        (mul factor.now (word (from + (p - to)) text.old))) text.old text.new }
 {
     if from < to {
-        let (front, back) = texts.split_at_mut(to);
-        add(text_at(front, from), back[0].as_mut_slice());
+        let (front, back) = text.split_at_mut(2 * to);
+        add_products(gf, factor, &front[2 * from..], back, 0, count);
     } else {
-        let (front, back) = texts.split_at_mut(from);
-        add(text_at(back, 0), front[to].as_mut_slice());
+        let (front, back) = text.split_at_mut(2 * from);
+        add_products(gf, factor, back, front, to, to + count);
     }
 }

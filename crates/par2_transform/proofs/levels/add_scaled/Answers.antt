@@ -1,12 +1,12 @@
-use Rattle.std.proofs.Common.{◌≡◌, sym, subst, arith}
+use Rattle.std.proofs.Common.{◌≡◌, sym, subst}
 use Rattle.par2_spec.specs.Field.{mul}
 use Rattle.par2_spec.proofs.FieldOrder.{zero-product}
-use Rattle.par2_transform.specs.Grids.{column}
-use Rattle.par2_transform.proofs.GridLaws.{nothing_added}
+use Rattle.par2_transform.specs.Steps.{RunAddedBy}
+use Rattle.par2_transform.proofs.StepLaws.{run_none}
+use Rattle.par2_transform.proofs.GridLaws.{each_start}
 use Rattle.par2_transform.proofs.levels.add_scaled.Goals as goal
 
 pub returns-else-c-ne0 : goal.returns-else-c-ne0
 returns-else-c-ne0 c =
-    let zero : c.args.c ≡ 0 = omega (arith, c.if-c-ne0.false) in
-    nothing_added c.args.rows.now c.args.to (λ k. mul c.args.c (column c.args.rows.now k c.args.from))
-    (λ k. subst (λ x. mul x (column c.args.rows.now k c.args.from) ≡ 0) (sym zero) (zero-product (column c.args.rows.now k c.args.from)))
+    each_start (RunAddedBy (mul c.args.c) c.args.from c.args.to c.args.count) c.args.rows.now
+    (λ f. run_none (mul c.args.c) c.args.from c.args.to c.args.count f (λ v. subst (λ k. mul k v ≡ 0) (sym c.if-c-ne0.false) (zero-product v)))

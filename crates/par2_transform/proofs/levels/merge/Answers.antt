@@ -14,14 +14,14 @@ returns c =
     let half : shift ≡ 2 ^ i = shifted i (omega arith) in
     let start = q * 2 ^ suc i in
     let is : q * 2 * shift ≡ start = ap (λ n. q * 2 * n) half ∙ run_starts i q in
-    each_then (RunAdded (q * 2 * shift + shift) (q * 2 * shift) shift) (IsRaised i c.point.result (q * 2 * shift) (2 ^ i)) (OneRun start (2 ^ suc i) (IsMerged i (point (2 * q)))) c.args.rows.now c.add_run.new.rows c.raise.new.rows
-    c.add_run.ensures c.raise.ensures
+    each_then (RunAdded (q * 2 * shift + shift) (q * 2 * shift) shift) (IsRaised i c.point.result (q * 2 * shift)) (OneRun start (2 ^ suc i) (IsMerged i (point (2 * q)))) c.args.rows.now c.add_rows.new.self c.raise.new.rows
+    c.add_rows.ensures c.raise.ensures
     (λ f g h first second. merged_runs i (point (2 * q)) start f g h
     (run_at (q * 2 * shift + shift) (start + 2 ^ i) (q * 2 * shift) start shift (2 ^ i) f g (omega arith) is half first)
-    (raised_at i c.point.result (point (2 * q)) (q * 2 * shift) start (2 ^ i) g h c.point.ensures is second))
+    (raised_at i c.point.result (point (2 * q)) (q * 2 * shift) start g h c.point.ensures is second))
 
-pub add_run-requires-clause-from : goal.add_run-requires-clause-from
-add_run-requires-clause-from c =
+pub add_rows-requires-clause-from : goal.add_rows-requires-clause-from
+add_rows-requires-clause-from c =
     let i = c.args.i in
     let q = c.args.q in
     let shift = 1 * 2 ^ i % 18446744073709551616 in
@@ -31,8 +31,8 @@ add_run-requires-clause-from c =
     let fits : q * 2 ^ suc i + 2 ^ suc i ≤ 2 ^ c.args.rows.now.levels = pairs_fit c.args.rows.now.levels i q c.requires.level c.requires.pair in
     omega arith
 
-pub add_run-requires-clause-to : goal.add_run-requires-clause-to
-add_run-requires-clause-to c =
+pub add_rows-requires-clause-to : goal.add_rows-requires-clause-to
+add_rows-requires-clause-to c =
     let i = c.args.i in
     let q = c.args.q in
     let shift = 1 * 2 ^ i % 18446744073709551616 in
@@ -51,4 +51,4 @@ raise-requires-clause-fits c =
     let is : q * 2 * shift ≡ q * 2 ^ suc i = ap (λ n. q * 2 * n) half ∙ run_starts i q in
     let double : 2 ^ suc i ≡ 2 ^ i + 2 ^ i = double_power i in
     let fits : q * 2 ^ suc i + 2 ^ suc i ≤ 2 ^ c.args.rows.now.levels = pairs_fit c.args.rows.now.levels i q c.requires.level c.requires.pair in
-    subst (λ n. q * 2 * shift + 2 ^ suc i ≤ 2 ^ n) (sym c.add_run.ensures.levels) (omega arith)
+    subst (λ n. q * 2 * shift + 2 ^ suc i ≤ 2 ^ n) (sym c.add_rows.ensures.levels) (omega arith)

@@ -1,33 +1,35 @@
-use Rattle.std.proofs.Common.{◌+◌, ◌*◌, ◌%◌, ◌^◌, ◌<◌, ◌≡◌, refl, ap, subst, arith}
+use Rattle.std.proofs.Common.{suc, ◌+◌, ◌*◌, ◌%◌, ◌^◌, ◌≤◌, ◌≡◌, refl, sym, subst, arith}
 use Rattle.par2_spec.specs.Field.{mul}
-use Rattle.par2_transform.specs.PowerSums.{sum_ahead}
-use Rattle.par2_transform.specs.Grids.{EachColumn}
-use Rattle.par2_transform.specs.Steps.{IsOneAdded, IsRaised}
-use Rattle.par2_transform.proofs.StepLaws.{shifted, raise_start, raise_next}
-use Rattle.par2_transform.proofs.GridLaws.{each_start, each_then_two, each_product}
+use Rattle.par2_transform.specs.Steps.{RunAddedBy, AheadAdded, IsRaised}
+use Rattle.par2_transform.proofs.StepLaws.{shifted, double_power, run_by_at, raised_runs}
+use Rattle.par2_transform.proofs.GridLaws.{each_then_two}
 use Rattle.par2_transform.proofs.levels.raise.Goals as goal
-
-pub loop-e-init : goal.loop-e-init
-loop-e-init c = each_start (IsRaised c.args.i c.args.c c.args.start 0) c.args.rows.now (raise_start c.args.i c.args.c c.args.start)
-
-pub loop-e-preserved : goal.loop-e-preserved
-loop-e-preserved c =
-    let l = c.loop-e in
-    let i = c.args.i in
-    let k = c.args.c in
-    let start = c.args.start in
-    let half : 1 * 2 ^ i % 18446744073709551616 ≡ 2 ^ i = shifted i (omega arith) in
-    let low : l.e < 2 ^ i = omega arith in
-    let mid = c.add_scaled.new.rows in
-    let new = c.add_ahead.new.rows in
-    each_then_two (IsRaised i k start l.e) (λ g. IsOneAdded (start + 2 ^ i + l.e) (mul k (g (start + l.e))) g) (λ g. IsOneAdded (start + l.e + 2 ^ i) (sum_ahead i g (start + l.e)) g) (IsRaised i k start (l.e + 1))
-    c.args.rows.now l.rows mid new l.invariant
-    (each_product k k (start + l.e) (start + l.e) (start + 1 * 2 ^ i % 18446744073709551616 + l.e) (start + 2 ^ i + l.e) l.rows mid refl refl (ap (λ n. start + n + l.e) half) c.add_scaled.ensures) c.add_ahead.ensures
-    (λ f g m h first second third. raise_next i k start l.e f g m h low first second third)
 
 pub returns : goal.returns
 returns c =
-    let l = c.loop-e in
-    let half : 1 * 2 ^ c.args.i % 18446744073709551616 ≡ 2 ^ c.args.i = shifted c.args.i (omega arith) in
-    let end : l.e ≡ 2 ^ c.args.i = omega arith in
-    subst (λ n. EachColumn (IsRaised c.args.i c.args.c c.args.start n) c.args.rows.now l.rows) end l.invariant
+    let i = c.args.i in
+    let start = c.args.start in
+    let half : 1 * 2 ^ i % 18446744073709551616 ≡ 2 ^ i = shifted i (omega arith) in
+    each_then_two (RunAddedBy (mul c.args.c) start (start + 1 * 2 ^ i % 18446744073709551616) (1 * 2 ^ i % 18446744073709551616)) (AheadAdded i start 0 (2 ^ i) i) (AheadAdded i start (2 ^ i) (2 ^ suc i) i) (IsRaised i c.args.c start)
+    c.args.rows.now c.add_scaled.new.rows c.add_lower_ahead.new.rows c.add_upper_ahead.new.rows c.add_scaled.ensures c.add_lower_ahead.ensures c.add_upper_ahead.ensures
+    (λ f g k h first second third. raised_runs i c.args.c start f g k h
+    (run_by_at (mul c.args.c) start start (start + 1 * 2 ^ i % 18446744073709551616) (start + 2 ^ i) (1 * 2 ^ i % 18446744073709551616) (2 ^ i) f g refl (omega (arith, half)) half first) second third)
+
+pub add_scaled-requires-clause-from : goal.add_scaled-requires-clause-from
+add_scaled-requires-clause-from c =
+    let half = shifted c.args.i (omega arith) in
+    let double = double_power c.args.i in
+    omega (arith, half, double, c.requires.fits)
+
+pub add_scaled-requires-clause-to : goal.add_scaled-requires-clause-to
+add_scaled-requires-clause-to c =
+    let half = shifted c.args.i (omega arith) in
+    let double = double_power c.args.i in
+    omega (arith, half, double, c.requires.fits)
+
+pub add_lower_ahead-requires-clause-fits : goal.add_lower_ahead-requires-clause-fits
+add_lower_ahead-requires-clause-fits c = subst (λ n. c.args.start + 2 ^ suc c.args.i ≤ 2 ^ n) (sym c.add_scaled.ensures.levels) c.requires.fits
+
+pub add_upper_ahead-requires-clause-fits : goal.add_upper_ahead-requires-clause-fits
+add_upper_ahead-requires-clause-fits c =
+    subst (λ n. c.args.start + 2 ^ suc c.args.i ≤ 2 ^ n) (sym c.add_lower_ahead.ensures.levels) (subst (λ n. c.args.start + 2 ^ suc c.args.i ≤ 2 ^ n) (sym c.add_scaled.ensures.levels) c.requires.fits)

@@ -15,10 +15,10 @@ returns c =
     let half : shift ≡ 2 ^ i = shifted i (omega arith) in
     let start = q * 2 ^ suc i in
     let is : q * 2 * shift ≡ start = ap (λ n. q * 2 * n) half ∙ run_starts i q in
-    each_then (IsDivided i c.point.result (q * 2 * shift) 0) (RunAdded (q * 2 * shift) (q * 2 * shift + shift) shift) (OnElements (OneRun start (2 ^ suc i) (IsSplit i (point (2 * q))))) c.args.rows.now c.divide.new.rows c.add_run.new.rows
-    c.divide.ensures c.add_run.ensures
+    each_then (IsDivided i c.point.result (q * 2 * shift)) (RunAdded (q * 2 * shift) (q * 2 * shift + shift) shift) (OnElements (OneRun start (2 ^ suc i) (IsSplit i (point (2 * q))))) c.args.rows.now c.divide.new.rows c.add_rows.new.self
+    c.divide.ensures c.add_rows.ensures
     (λ f g h first second. split_runs i (point (2 * q)) start f g h
-    (divided_at i c.point.result (point (2 * q)) (q * 2 * shift) start 0 f g c.point.ensures is first)
+    (divided_at i c.point.result (point (2 * q)) (q * 2 * shift) start f g c.point.ensures is first)
     (run_at (q * 2 * shift) start (q * 2 * shift + shift) (start + 2 ^ i) shift (2 ^ i) g h is (omega arith) half second))
 
 pub divide-requires-clause-fits : goal.divide-requires-clause-fits
@@ -32,8 +32,8 @@ divide-requires-clause-fits c =
     let fits : q * 2 ^ suc i + 2 ^ suc i ≤ 2 ^ c.args.rows.now.levels = pairs_fit c.args.rows.now.levels i q c.requires.level c.requires.pair in
     omega arith
 
-pub add_run-requires-clause-from : goal.add_run-requires-clause-from
-add_run-requires-clause-from c =
+pub add_rows-requires-clause-from : goal.add_rows-requires-clause-from
+add_rows-requires-clause-from c =
     let i = c.args.i in
     let q = c.args.q in
     let shift = 1 * 2 ^ i % 18446744073709551616 in
@@ -43,8 +43,8 @@ add_run-requires-clause-from c =
     let fits : q * 2 ^ suc i + 2 ^ suc i ≤ 2 ^ c.args.rows.now.levels = pairs_fit c.args.rows.now.levels i q c.requires.level c.requires.pair in
     subst (λ n. q * 2 * shift + shift ≤ 2 ^ n) (sym c.divide.ensures.levels) (omega arith)
 
-pub add_run-requires-clause-to : goal.add_run-requires-clause-to
-add_run-requires-clause-to c =
+pub add_rows-requires-clause-to : goal.add_rows-requires-clause-to
+add_rows-requires-clause-to c =
     let i = c.args.i in
     let q = c.args.q in
     let shift = 1 * 2 ^ i % 18446744073709551616 in

@@ -1,6 +1,6 @@
-use Rattle.par2_spec.specs.Sums.{lists_of}
-use Rattle.par2_transform.specs.Grids.{AreCleared}
+use Rattle.std.proofs.Common.{ℕ, ◌<◌, ◌≡◌}
+use Rattle.std.specs.Prelude.{slice_index}
 use Rattle.par2_transform.proofs.texts.clear.Given as goal
 
-abbrev pub invariant-loop-i : goal.invariant-loop-i
-invariant-loop-i l = AreCleared (lists_of l.initial.texts) (lists_of l.texts) l.i
+abbrev pub invariant-loop-k : goal.invariant-loop-k
+invariant-loop-k l = (k : ℕ) → k < l.k → slice_index l.bytes k ≡ 0

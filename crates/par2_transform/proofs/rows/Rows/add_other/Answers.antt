@@ -1,45 +1,29 @@
-use Rattle.std.proofs.Common.{rules, ◌≡◌, ◌<◌, ◌*◌, ◌^◌, ◌∙◌, bit_xor, List, ℕ, Vec, Global, length, ap, refl, sym, subst}
+use Rattle.std.proofs.Common.{rules, ◌≡◌, ◌+◌, ◌-◌, ◌*◌, ◌^◌, ◌<◌, ◌∙◌, ap, sym, subst, List, ℕ, length, refl, bit_xor}
 use Rattle.std.proofs.lemmas.List.{with_items_is}
 use Rattle.par2_spec.specs.Field.{mul}
 use Rattle.par2_spec.specs.Slices.{word}
-use Rattle.par2_spec.specs.Sums.{list_at, lists_of, OneChanged}
-use Rattle.par2_gf16.specs.Products.{AddsProducts}
-use Rattle.par2_transform.specs.Grids.{Grid, column, AreRows, IsAdded}
-use Rattle.par2_transform.proofs.GridLaws.{rows_changed, product_added}
+use Rattle.par2_transform.specs.Adding.{within, AddsTo}
+use Rattle.par2_transform.specs.Grids.{Grid, column, IsAdded}
+use Rattle.par2_transform.proofs.GridLaws.{row_added}
 use Rattle.par2_transform.proofs.rows.Rows.add_other.Goals as goal
-
-pub invariant_of-self : goal.invariant_of-self
-invariant_of-self c =
-    let inside = c.self.inside in
-    let texts = c.add_product.new.texts in
-    let count : length texts ≡ inside.rows.len = search rules in
-    let rows = c.as_mut_slice.ensures.value in
-    let changed = subst (λ (xs : List (Vec ℕ Global)). OneChanged (lists_of xs) (lists_of texts) c.args.to) rows c.add_product.ensures.changed in
-    let same = subst (λ (xs : List (Vec ℕ Global)). length (list_at (lists_of texts) c.args.to) ≡ length (list_at (lists_of xs) c.args.to)) rows c.add_product.ensures.added.same_length in (
-      subst (λ (xs : List (Vec ℕ Global)). AreRows inside.levels inside.words (lists_of xs)) (sym (with_items_is inside.rows texts count))
-          (rows_changed inside.levels inside.words (lists_of inside.rows.items) (lists_of texts) c.args.to c.self.invariant.0 changed same),
-      c.self.invariant.1,
-    )
 
 pub returns : goal.returns
 returns c =
     let inside = c.self.inside in
-    let old = lists_of inside.rows.items in
-    let texts = c.add_product.new.texts in
-    let count : length texts ≡ inside.rows.len = search rules in
-    let rows = c.as_mut_slice.ensures.value in
-    let changed = subst (λ (xs : List (Vec ℕ Global)). OneChanged (lists_of xs) (lists_of texts) c.args.to) rows c.add_product.ensures.changed in
+    let old = inside.bytes.items in
+    let new = c.add_products.new.text in
+    let size : length new ≡ inside.bytes.len = search rules in
+    let start = c.place-start.ensures ∙ ap (λ (g : Grid). c.args.to * g.words) (sym c.self.view_is) in
+    let end = c.place-end.ensures ∙ ap (λ (g : Grid). (c.args.to + 1) * g.words) (sym c.self.view_is) in
+    let low = subst (λ (g : Grid). c.args.to < 2 ^ g.levels) (sym c.self.view_is) c.requires.place in
     let source = c.row.result.now in
-    let added = subst (λ (xs : List (Vec ℕ Global)). AddsProducts c.args.factor.now source (list_at (lists_of xs) c.args.to) (list_at (lists_of texts) c.args.to)) rows c.add_product.ensures.added in
-    let wide_to = c.self.invariant.0.size c.args.to (subst (λ (g : Grid). c.args.to < 2 ^ g.levels) (sym c.self.view_is) c.requires.place) in
-    let wide_from = c.row.ensures.size ∙ ap (λ n. 2 * n) c.requires.same ∙ ap (λ (g : Grid). 2 * g.words) (sym c.self.view_is) in
-    let all = product_added inside.levels inside.words c.args.to c.args.factor.now source source old (lists_of texts) changed added wide_to wide_from (λ i h. refl) in
+    let is_added = c.add_products.ensures in
+    let same : (k : ℕ) → k < inside.words → word k source ≡ column c.args.other.now k c.args.from = λ k h. c.row.ensures.words k in
+    let added : AddsTo (λ p. within (c.args.to * inside.words) ((c.args.to + 1) * inside.words) p (mul c.args.factor.now (word (p - c.args.to * inside.words) source))) old new =
+    subst (λ a. AddsTo (λ p. within a ((c.args.to + 1) * inside.words) p (mul c.args.factor.now (word (p - a) source))) old new) start
+    (subst (λ b. AddsTo (λ p. within c.place-start.result b p (mul c.args.factor.now (word (p - c.place-start.result) source))) old new) end
+    (subst (λ (xs : List ℕ). AddsTo (λ p. within c.place-start.result c.place-end.result p (mul c.args.factor.now (word (p - c.place-start.result) source))) xs new) c.as_mut_slice.ensures.value is_added)) in
+    let all = row_added inside.levels inside.words c.args.to (λ q. mul c.args.factor.now (word q source)) old new c.self.invariant.0 low added in
     rw (← c.self.view_is)
-    (subst (λ (xs : List (Vec ℕ Global)). IsAdded (record { levels = inside.levels; words = inside.words; texts = old }) (record { levels = inside.levels; words = inside.words; texts = lists_of xs }) c.args.to (λ k. mul c.args.factor.now (column c.args.other.now k c.args.from)))
-    (sym (with_items_is inside.rows texts count))
-    (record {
-      levels = refl;
-      words = refl;
-      others = all.others;
-      here = λ k h. all.here k h ∙ ap (λ n. bit_xor (word k (list_at old c.args.to)) (mul c.args.factor.now n)) (c.row.ensures.words k);
-    }))
+    (subst (λ (xs : List ℕ). IsAdded (record { levels = inside.levels; words = inside.words; bytes = old }) (record { levels = inside.levels; words = inside.words; bytes = xs }) c.args.to (λ k. mul c.args.factor.now (column c.args.other.now k c.args.from))) (sym (with_items_is inside.bytes new size))
+    (record { levels = refl; words = refl; others = all.others; here = λ k h. all.here k h ∙ ap (λ v. bit_xor (column (record { levels = inside.levels; words = inside.words; bytes = old }) k c.args.to) (mul c.args.factor.now v)) (same k h) }))

@@ -1,47 +1,33 @@
-use Rattle.std.proofs.Common.{rules, arith, ◌≡◌, ◌<◌, ◌*◌, ◌^◌, ◌∙◌, List, ℕ, Vec, Global, length, ap, sym, subst}
+use Rattle.std.proofs.Common.{rules, arith, ◌≡◌, ◌+◌, ◌-◌, ◌*◌, ◌^◌, ◌<◌, ◌∙◌, ap, ap₂, sym, subst, List, ℕ, length, refl, bit_xor}
 use Rattle.std.proofs.lemmas.List.{with_items_is}
-use Rattle.std.specs.Prelude.{slice_index}
 use Rattle.par2_spec.specs.Field.{mul}
 use Rattle.par2_spec.specs.Slices.{word}
-use Rattle.par2_spec.specs.Sums.{list_at, lists_of, OneChanged}
-use Rattle.par2_gf16.specs.Products.{AddsProducts}
-use Rattle.par2_transform.specs.Grids.{Grid, AreRows, IsAdded}
-use Rattle.par2_transform.proofs.GridLaws.{rows_changed, product_added}
+use Rattle.par2_transform.specs.Adding.{within, AddsTo}
+use Rattle.par2_transform.specs.Grids.{Grid, column, IsAdded}
+use Rattle.par2_transform.proofs.GridLaws.{row_added}
 use Rattle.par2_transform.proofs.rows.Rows.add_text.Goals as goal
-
-pub invariant_of-self : goal.invariant_of-self
-invariant_of-self c =
-    let inside = c.self.inside in
-    let texts = c.add_product.new.texts in
-    let source = c.copy_padded.new.to in
-    let count : length texts ≡ inside.rows.len = search rules in
-    let size : length source ≡ inside.source.len = search rules in
-    let rows = c.as_mut_slice-2.ensures.value in
-    let changed = subst (λ (xs : List (Vec ℕ Global)). OneChanged (lists_of xs) (lists_of texts) c.args.to) rows c.add_product.ensures.changed in
-    let same = subst (λ (xs : List (Vec ℕ Global)). length (list_at (lists_of texts) c.args.to) ≡ length (list_at (lists_of xs) c.args.to)) rows c.add_product.ensures.added.same_length in (
-      subst (λ (xs : List (Vec ℕ Global)). AreRows inside.levels inside.words (lists_of xs)) (sym (with_items_is inside.rows texts count))
-          (rows_changed inside.levels inside.words (lists_of inside.rows.items) (lists_of texts) c.args.to c.self.invariant.0 changed same),
-      ap (λ (xs : List ℕ). length xs) (with_items_is inside.source source size) ∙ c.copy_padded.ensures.size
-          ∙ ap (λ (xs : List ℕ). length xs) c.as_mut_slice.ensures.value ∙ c.self.invariant.1,
-    )
 
 pub returns : goal.returns
 returns c =
     let inside = c.self.inside in
-    let old = lists_of inside.rows.items in
-    let texts = c.add_product.new.texts in
+    let old = inside.bytes.items in
+    let new = c.add_products.new.text in
+    let size : length new ≡ inside.bytes.len = search rules in
+    let start = c.place-start.ensures ∙ ap (λ (g : Grid). c.args.to * g.words) (sym c.self.view_is) in
+    let end = c.place-end.ensures ∙ ap (λ (g : Grid). (c.args.to + 1) * g.words) (sym c.self.view_is) in
+    let low = subst (λ (g : Grid). c.args.to < 2 ^ g.levels) (sym c.self.view_is) c.requires.place in
     let source = c.copy_padded.new.to in
-    let count : length texts ≡ inside.rows.len = search rules in
-    let size : length source ≡ inside.source.len = search rules in
-    let rows = c.as_mut_slice-2.ensures.value in
-    let is_source = c.deref.ensures.value ∙ with_items_is inside.source source size in
-    let changed = subst (λ (xs : List (Vec ℕ Global)). OneChanged (lists_of xs) (lists_of texts) c.args.to) rows c.add_product.ensures.changed in
-    let added = subst (λ (xs : List ℕ). AddsProducts c.args.factor.now xs (list_at old c.args.to) (list_at (lists_of texts) c.args.to)) is_source
-    (subst (λ (xs : List (Vec ℕ Global)). AddsProducts c.args.factor.now c.deref.result.now (list_at (lists_of xs) c.args.to) (list_at (lists_of texts) c.args.to)) rows c.add_product.ensures.added) in
-    let wide : length source ≡ 2 * inside.words = c.copy_padded.ensures.size ∙ ap (λ (xs : List ℕ). length xs) c.as_mut_slice.ensures.value ∙ c.self.invariant.1 in
-    let place = subst (λ (g : Grid). c.args.to < 2 ^ g.levels) (sym c.self.view_is) c.requires.place in
-    let same : (i : ℕ) → i < length source → slice_index source i ≡ slice_index c.args.text.now i = λ i h. c.copy_padded.ensures.same i (omega (arith, h, c.copy_padded.ensures.size)) in
+    let wide : length source ≡ inside.source.len = search rules in
+    let is_source = c.deref.ensures.value ∙ with_items_is inside.source source wide in
+    let is_added = subst (λ (xs : List ℕ). AddsTo (λ p. within c.place-start.result c.place-end.result p (mul c.args.factor.now (word (p - c.place-start.result) xs))) c.as_mut_slice-2.result.now new) is_source c.add_products.ensures in
+    let words : length source ≡ 2 * inside.words = c.copy_padded.ensures.size ∙ ap (λ (xs : List ℕ). length xs) c.as_mut_slice.ensures.value ∙ c.self.invariant.1 in
+    let same : (k : ℕ) → k < inside.words → word k source ≡ word k c.args.text.now = λ k h.
+    ap₂ (λ x y. x + 256 * y) (c.copy_padded.ensures.same (2 * k) (omega (arith, words, h, c.copy_padded.ensures.size))) (c.copy_padded.ensures.same (2 * k + 1) (omega (arith, words, h, c.copy_padded.ensures.size))) in
+    let added : AddsTo (λ p. within (c.args.to * inside.words) ((c.args.to + 1) * inside.words) p (mul c.args.factor.now (word (p - c.args.to * inside.words) source))) old new =
+    subst (λ a. AddsTo (λ p. within a ((c.args.to + 1) * inside.words) p (mul c.args.factor.now (word (p - a) source))) old new) start
+    (subst (λ b. AddsTo (λ p. within c.place-start.result b p (mul c.args.factor.now (word (p - c.place-start.result) source))) old new) end
+    (subst (λ (xs : List ℕ). AddsTo (λ p. within c.place-start.result c.place-end.result p (mul c.args.factor.now (word (p - c.place-start.result) source))) xs new) c.as_mut_slice-2.ensures.value is_added)) in
+    let all = row_added inside.levels inside.words c.args.to (λ q. mul c.args.factor.now (word q source)) old new c.self.invariant.0 low added in
     rw (← c.self.view_is)
-    (subst (λ (xs : List (Vec ℕ Global)). IsAdded (record { levels = inside.levels; words = inside.words; texts = old }) (record { levels = inside.levels; words = inside.words; texts = lists_of xs }) c.args.to (λ k. mul c.args.factor.now (word k c.args.text.now)))
-    (sym (with_items_is inside.rows texts count))
-    (product_added inside.levels inside.words c.args.to c.args.factor.now source c.args.text.now old (lists_of texts) changed added (c.self.invariant.0.size c.args.to place) wide same))
+    (subst (λ (xs : List ℕ). IsAdded (record { levels = inside.levels; words = inside.words; bytes = old }) (record { levels = inside.levels; words = inside.words; bytes = xs }) c.args.to (λ k. mul c.args.factor.now (word k c.args.text.now))) (sym (with_items_is inside.bytes new size))
+    (record { levels = refl; words = refl; others = all.others; here = λ k h. all.here k h ∙ ap (λ v. bit_xor (column (record { levels = inside.levels; words = inside.words; bytes = old }) k c.args.to) (mul c.args.factor.now v)) (same k h) }))

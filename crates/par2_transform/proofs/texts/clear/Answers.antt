@@ -1,7 +1,7 @@
 use Rattle.std.proofs.Common.{inl, inr, arith}
 use Rattle.std.proofs.lemmas.Bool.{cases_lt}
 use Rattle.std.proofs.lemmas.List.{get_or_past}
-use Rattle.par2_transform.proofs.texts.clear_bytes.Goals as goal
+use Rattle.par2_transform.proofs.texts.clear.Goals as goal
 
 pub returns-clause-zero : goal.returns-clause-zero
 returns-clause-zero c = λ k. elim (cases_lt k c.loop-k.k) [

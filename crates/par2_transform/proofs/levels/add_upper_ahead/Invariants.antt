@@ -1,0 +1,7 @@
+use Rattle.std.proofs.Common.{suc, ◌^◌}
+use Rattle.par2_transform.specs.Grids.{EachColumn}
+use Rattle.par2_transform.specs.Steps.{AheadAdded}
+use Rattle.par2_transform.proofs.levels.add_upper_ahead.Given as goal
+
+abbrev pub invariant-loop-j : goal.invariant-loop-j
+invariant-loop-j l = EachColumn (AheadAdded l.i l.start (2 ^ l.i) (2 ^ suc l.i) l.j) l.initial.rows l.rows

@@ -1,6 +1,0 @@
-use Rattle.std.proofs.Common.{ℕ, ◌<◌, ◌≡◌}
-use Rattle.std.specs.Prelude.{slice_index}
-use Rattle.par2_transform.proofs.texts.clear_bytes.Given as goal
-
-abbrev pub invariant-loop-k : goal.invariant-loop-k
-invariant-loop-k l = (k : ℕ) → k < l.k → slice_index l.bytes k ≡ 0
