@@ -151,15 +151,8 @@ impl Rows {
         requires apart { (from + count ≤ to) ⊎ (to + count ≤ from) }
         ensures { EachColumn (RunAddedBy (mul factor.now) from to count) self.old self.new }
     {
-        let places = (self.place(from), self.place(to), self.place(count));
-        add_products_within(
-            gf,
-            factor,
-            self.bytes.as_mut_slice(),
-            places.0,
-            places.1,
-            places.2,
-        );
+        let (from, to, count) = (self.place(from), self.place(to), self.place(count));
+        add_products_within(gf, factor, self.bytes.as_mut_slice(), from, to, count);
     }
 
     /// To each word of `count` rows from row `to` on, adds the word of the rows from `from` on.
@@ -169,8 +162,8 @@ impl Rows {
         requires apart { (from + count ≤ to) ⊎ (to + count ≤ from) }
         ensures { EachColumn (RunAdded from to count) self.old self.new }
     {
-        let places = (self.place(from), self.place(to), self.place(count));
-        add_words_within(self.bytes.as_mut_slice(), places.0, places.1, places.2);
+        let (from, to, count) = (self.place(from), self.place(to), self.place(count));
+        add_words_within(self.bytes.as_mut_slice(), from, to, count);
     }
 
     /// What the type says of each word, for proofs.

@@ -10,8 +10,8 @@ use Rattle.par2_transform.proofs.rows.Rows.add_rows.Goals as goal
 pub add_words_within-requires-clause-from : goal.add_words_within-requires-clause-from
 add_words_within-requires-clause-from c =
     let inside = c.self.inside in
-    let from = c.place.ensures ∙ ap (λ (g : Grid). c.args.from * g.words) (sym c.self.view_is) in
-    let count = c.place-3.ensures ∙ ap (λ (g : Grid). c.args.count * g.words) (sym c.self.view_is) in
+    let from = c.place-from.ensures ∙ ap (λ (g : Grid). c.args.from * g.words) (sym c.self.view_is) in
+    let count = c.place-count.ensures ∙ ap (λ (g : Grid). c.args.count * g.words) (sym c.self.view_is) in
     let fits = rows_fit inside.levels inside.words c.args.from c.args.count inside.bytes.items c.self.invariant.0 (subst (λ (g : Grid). c.args.from + c.args.count ≤ 2 ^ g.levels) (sym c.self.view_is) c.requires.from) in
     let size = ap (λ (xs : List ℕ). length xs) c.as_mut_slice.ensures.value in
     omega (arith, from, count, fits, size)
@@ -19,15 +19,15 @@ add_words_within-requires-clause-from c =
 pub add_words_within-requires-clause-to : goal.add_words_within-requires-clause-to
 add_words_within-requires-clause-to c =
     let inside = c.self.inside in
-    let to = c.place-2.ensures ∙ ap (λ (g : Grid). c.args.to * g.words) (sym c.self.view_is) in
-    let count = c.place-3.ensures ∙ ap (λ (g : Grid). c.args.count * g.words) (sym c.self.view_is) in
+    let to = c.place-to.ensures ∙ ap (λ (g : Grid). c.args.to * g.words) (sym c.self.view_is) in
+    let count = c.place-count.ensures ∙ ap (λ (g : Grid). c.args.count * g.words) (sym c.self.view_is) in
     let fits = rows_fit inside.levels inside.words c.args.to c.args.count inside.bytes.items c.self.invariant.0 (subst (λ (g : Grid). c.args.to + c.args.count ≤ 2 ^ g.levels) (sym c.self.view_is) c.requires.to) in
     let size = ap (λ (xs : List ℕ). length xs) c.as_mut_slice.ensures.value in
     omega (arith, to, count, fits, size)
 
 pub add_words_within-requires-clause-apart : goal.add_words_within-requires-clause-apart
 add_words_within-requires-clause-apart c =
-    rw (c.place.ensures, c.place-2.ensures, c.place-3.ensures) (rows_apart c.args.self.now.words c.args.from c.args.to c.args.count c.requires.apart)
+    rw (c.place-from.ensures, c.place-to.ensures, c.place-count.ensures) (rows_apart c.args.self.now.words c.args.from c.args.to c.args.count c.requires.apart)
 
 pub returns : goal.returns
 returns c =
@@ -36,9 +36,9 @@ returns c =
     let new = c.add_words_within.new.text in
     let size : length new ≡ inside.bytes.len = search rules in
     let view = sym c.self.view_is in
-    let added = subst (λ (xs : List ℕ). AddsTo (λ p. within c.place-2.result (c.place-2.result + c.place-3.result) p (word (c.place.result + (p - c.place-2.result)) xs)) xs new) c.as_mut_slice.ensures.value c.add_words_within.ensures in
+    let added = subst (λ (xs : List ℕ). AddsTo (λ p. within c.place-to.result (c.place-to.result + c.place-count.result) p (word (c.place-from.result + (p - c.place-to.result)) xs)) xs new) c.as_mut_slice.ensures.value c.add_words_within.ensures in
     rw (← c.self.view_is)
     (subst (λ (xs : List ℕ). EachColumn (RunAdded c.args.from c.args.to c.args.count) (record { levels = inside.levels; words = inside.words; bytes = old }) (record { levels = inside.levels; words = inside.words; bytes = xs })) (sym (with_items_is inside.bytes new size))
-    (run_added_at (λ v. v) inside.levels inside.words c.args.from c.args.to c.args.count c.place.result c.place-2.result c.place-3.result old new c.self.invariant.0
+    (run_added_at (λ v. v) inside.levels inside.words c.args.from c.args.to c.args.count c.place-from.result c.place-to.result c.place-count.result old new c.self.invariant.0
     (subst (λ (g : Grid). c.args.to + c.args.count ≤ 2 ^ g.levels) view c.requires.to)
-    (c.place.ensures ∙ ap (λ (g : Grid). c.args.from * g.words) view) (c.place-2.ensures ∙ ap (λ (g : Grid). c.args.to * g.words) view) (c.place-3.ensures ∙ ap (λ (g : Grid). c.args.count * g.words) view) added))
+    (c.place-from.ensures ∙ ap (λ (g : Grid). c.args.from * g.words) view) (c.place-to.ensures ∙ ap (λ (g : Grid). c.args.to * g.words) view) (c.place-count.ensures ∙ ap (λ (g : Grid). c.args.count * g.words) view) added))
