@@ -6,8 +6,7 @@ ghost use Rattle.par2_spec.specs.Changes.{takes_all};
 
 use crate::calls::{bytes_in, fingerprint, lists, name};
 use par2_folder::{
-    BadName, Bytes, Change, ChangeFault, Folder, Name, fingerprints_along, fingerprints_along_from,
-    survey_folder,
+    BadName, Bytes, Change, ChangeFault, Folder, Landmarks, Name, fingerprints, survey_folder,
 };
 use std::process::Abort;
 
@@ -217,7 +216,7 @@ fn fingerprints_of_files(rt: HostRuntime) {
     }
 }
 
-// Whether these are the fingerprints of the folder and along the changes.
+// Whether these are the fingerprints of the folder and along the changes, with no landmarks.
 fn has_along(
     rt: &(impl Abort + AllocGlobal),
     folder: &Folder,
@@ -226,8 +225,9 @@ fn has_along(
 ) -> bool
     requires { IsTrue (takes_all folder.now (map change_of changes.now)) }
 {
-    let prints = fingerprints_along(rt.alloc(), folder, changes).expect(rt, "memory");
-    prints.as_slice() == wanted
+    let none = Landmarks::none(rt.alloc());
+    let found = fingerprints(rt.alloc(), folder, changes, &none, &[]).expect(rt, "memory");
+    found.along.as_slice() == wanted
 }
 
 // Whether they are so from the landmarks of a survey, and whether it gives the digest of `abc`.
@@ -240,8 +240,11 @@ fn has_from_landmarks(
     requires { IsTrue (takes_all folder.now (map change_of changes.now)) }
 {
     let survey = survey_folder(rt.alloc(), folder, b"abc").expect(rt, "memory");
-    let prints = fingerprints_along_from(rt.alloc(), &survey.landmarks, folder, changes);
-    survey.digest == DIGEST_OF_ABC && prints.expect(rt, "memory").as_slice() == wanted
+    let found = fingerprints(rt.alloc(), folder, changes, &survey.landmarks, &[b"abc"]);
+    let found = found.expect(rt, "memory");
+    survey.digest == DIGEST_OF_ABC
+        && found.beside.as_slice() == [DIGEST_OF_ABC].as_slice()
+        && found.along.as_slice() == wanted
 }
 
 // Whether these are the fingerprints of the folder with the change, and without it again.

@@ -1,7 +1,6 @@
 pub mod Texts
 pub mod SortedFiles
 pub mod Lists
-mod Ends
 pub mod Steps
 pub mod Filling
 pub mod Below

@@ -1,9 +1,10 @@
 -- States of runs of folders, on their way from a border to the next along changes.
-use Rattle.std.proofs.Common.{◌≡◌, ℕ, zero, suc, ◌+◌, ◌<◌, ◌≤◌, Bool, true, false, cond, IsTrue, List, [], ◌∷◌, ◌++◌, length, map, take, drop, get_or, refl, sym, ap, subst, ◌∙◌, append_assoc, append-nil, add-one, drop-cons, arith}
+use Rattle.std.proofs.Common.{◌≡◌, ℕ, zero, suc, ◌+◌, ◌<◌, ◌≤◌, Bool, true, false, cond, IsTrue, List, [], ◌∷◌, ◌++◌, Bor, length, map, take, drop, get_or, refl, sym, ap, subst, ◌∙◌, append_assoc, append-nil, add-one, drop-cons, arith}
 use Rattle.std.proofs.lemmas.List.{drop_all, map-append, take_more}
 use Rattle.std.proofs.lemmas.Bool.{and_parts}
 use Rattle.md5.specs.Md5.{md5}
 use Rattle.par2_digests.specs.Messages.{HasAbsorbed}
+use Rattle.par2_digests.specs.Texts.{texts_of}
 use Rattle.par2_digests.specs.declared.midstate.Midstate.{Midstate}
 use Rattle.par2_spec.specs.Folders.{Folder, fingerprint}
 use Rattle.par2_spec.specs.Changes as defined
@@ -34,6 +35,13 @@ absorbed_at [] texts i d held lt = absurd (omega arith)
 absorbed_at (s ∷ states) [] i d held lt = absurd held
 absorbed_at (s ∷ states) (t ∷ texts) zero d held lt = held.0
 absorbed_at (s ∷ states) (t ∷ texts) (suc i) d held lt = absorbed_at states texts i d held.1 (omega (arith, lt))
+
+-- one text more behind others
+pub text_more : (before : List (List ℕ)) (texts : List (Bor (List ℕ))) (i : ℕ) (none : Bor (List ℕ)) → i < length texts
+    → (before ++ texts_of (take i texts)) ++ (get_or texts i none).now ∷ [] ≡ before ++ texts_of (take (i + 1) texts)
+text_more before texts i none low =
+    append_assoc before (texts_of (take i texts)) ((get_or texts i none).now ∷ [])
+    ∙ ap (λ (some : List (List ℕ)). before ++ some) (sym (ap texts_of (take_more texts i none low) ∙ map-append (λ (t : Bor (List ℕ)). t.now) (take i texts) (get_or texts i none ∷ [])))
 
 -- the state at a place where a text is to come
 pub in_range : (states : List Midstate) (place : ℕ) (text : List ℕ) (texts : List (List ℕ)) → HaveAbsorbed (drop place states) (text ∷ texts) → place < length states

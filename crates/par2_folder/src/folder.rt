@@ -1,8 +1,8 @@
 //! A flat folder in memory.
+use crate::fingerprint::fingerprints;
 use crate::landmarks::Landmarks;
 use crate::place::{exchange_at, insert_at, remove_at, search};
 use crate::snapshot::Snapshot;
-use crate::walk::digests_along;
 use crate::{Bytes, Change, Name};
 use par2_spec::ChangeFault;
 use std::alloc::{AllocError, Global};
@@ -106,7 +106,7 @@ impl Folder {
         ensures { IfOk result (λ digest. digest ≡ fingerprint self.now.files) }
     {
         let alloc = *self.files.allocator();
-        Ok(digests_along(alloc, &Landmarks::none(alloc), self, &[])?[0])
+        Ok(fingerprints(alloc, self, &[], &Landmarks::none(alloc), &[])?.along[0])
     }
 
     // The files where they lie.

@@ -31,7 +31,7 @@ pub use change::Change;
 pub use changes::{Changes, copies_of};
 pub use count::Count;
 pub use disk::DiskStore;
-pub use fingerprint::{fingerprints_along, fingerprints_along_and_digest, fingerprints_along_from};
+pub use fingerprint::{Digests, fingerprints};
 pub use folder::Folder;
 pub use fuse::FuseStore;
 pub use landmarks::Landmarks;

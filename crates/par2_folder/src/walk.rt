@@ -6,6 +6,7 @@ ghost use Rattle.std.specs.Prelude.{◌≡◌, ◌≤◌, ◌<◌, ◌+◌, ◌+
 ghost use Rattle.md5.specs.Md5.{md5};
 ghost use Rattle.par2_digests.specs.Messages.{HasAbsorbed};
 ghost use Rattle.par2_digests.specs.Pendings.{Reaches};
+ghost use Rattle.par2_digests.specs.Texts.{texts_of};
 ghost use Rattle.par2_spec.specs.Changes.{are_applicable, effect, is_applicable};
 ghost use Rattle.par2_folder.specs.Sorting.{IsKept};
 ghost use Rattle.par2_folder.specs.Views.{change_of};
@@ -291,42 +292,23 @@ fn digests_of(alloc: Global, states: &[Midstate]) -> Result<Vec<[u8; 16]>, Alloc
     Ok(digests)
 }
 
-// The digests of what the runs come to.
-fn digests_behind(alloc: Global, runs: Runs) -> Result<Vec<[u8; 16]>, AllocError>
-    requires { length runs.pendings.items ≤ 8 }
-    ensures { (texts : List (List ℕ)) → AreTo runs.entry texts
-        → IfOk result (λ digests. digests.items ≡ map md5 texts) }
-{
-    digests_of(alloc, &runs.finish()?)
-}
-
-/// The digests of the folder's texts, and of those of the folders that the changes lead it through.
+/// The digests of the folder's text and of those of the folders that the changes lead it through, and after them those
+/// of texts beside them.
 pub fn digests_along(
     alloc: Global,
     landmarks: &Landmarks,
     folder: &Folder,
     changes: &[Change],
+    beside: &[&[u8]],
 ) -> Result<Vec<[u8; 16]>, AllocError>
     requires landmarks { AreLandmarksOf folder.now.files landmarks.now }
     requires applicable { IsTrue (are_applicable folder.now.files (map change_of changes.now)) }
-    ensures { let changes = map change_of changes.now in
-        IfOk result (λ digests. digests.items ≡ map md5 (run_texts End folder.now.files changes)) }
+    ensures { let along = run_texts End folder.now.files (map change_of changes.now) in
+        IfOk result (λ digests. digests.items ≡ map md5 (along ++ texts_of beside.now)) }
 {
-    digests_behind(alloc, runs_along(alloc, landmarks, folder, changes)?)
-}
-
-/// The same, and after them the digest of a text, which is computed side by side with them.
-pub fn digests_along_and_of(
-    alloc: Global,
-    folder: &Folder,
-    changes: &[Change],
-    text: &[u8],
-) -> Result<Vec<[u8; 16]>, AllocError>
-    requires { IsTrue (are_applicable folder.now.files (map change_of changes.now)) }
-    ensures { let texts = run_texts End folder.now.files (map change_of changes.now) in
-        IfOk result (λ digests. digests.items ≡ map md5 (texts ++ text.now ∷ [])) }
-{
-    let mut runs = runs_along(alloc, &Landmarks::none(alloc), folder, changes)?;
-    runs.push(run_of_text(alloc, Midstate::new(), text)?)?;
-    digests_behind(alloc, runs)
+    let mut runs = runs_along(alloc, landmarks, folder, changes)?;
+    for text in beside {
+        runs.push(run_of_text(alloc, Midstate::new(), text)?)?;
+    }
+    digests_of(alloc, &runs.finish()?)
 }

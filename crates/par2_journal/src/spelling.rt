@@ -13,10 +13,7 @@ ghost use Rattle.par2_journal.specs.Ahead.{AreAlong};
 ghost use Rattle.par2_journal.specs.Spelling.{Add, SpellsWhere, CompletesHalfway, entries_with, halfway_with, settled_with};
 
 use crate::Changes;
-use par2_folder::{
-    Change, Folder, Landmarks, fingerprints_along, fingerprints_along_and_digest,
-    fingerprints_along_from,
-};
+use par2_folder::{Change, Folder, Landmarks, fingerprints};
 use par2_journal_bytes::{HalfwayPartView, JournalView, Version, begin, encode, finish_both};
 use std::alloc::{AllocError, Global};
 
@@ -65,11 +62,11 @@ impl Fingerprints {
         ensures { IfOk result (λ prints.
             AreAlong prints folder.now.files (changes_in changes.now)) }
     {
-        let list = match landmarks {
-            Some(landmarks) => fingerprints_along_from(alloc, landmarks, folder, changes)?,
-            None => fingerprints_along(alloc, folder, changes)?,
+        let found = match landmarks {
+            Some(from) => fingerprints(alloc, folder, changes, from, &[])?,
+            None => fingerprints(alloc, folder, changes, &Landmarks::none(alloc), &[])?,
         };
-        Ok(Fingerprints::of_list(list))
+        Ok(Fingerprints::of_list(found.along))
     }
 
     // The same, and the digest of a text, side by side with them.
@@ -84,8 +81,9 @@ impl Fingerprints {
             AreAlong x.0 folder.now.files (changes_in changes.now)) }
         ensures digest { IfOk result (λ x. x.1 ≡ md5 text.now) }
     {
-        let (list, digest) = fingerprints_along_and_digest(alloc, folder, changes, text)?;
-        Ok((Fingerprints::of_list(list), digest))
+        let found = fingerprints(alloc, folder, changes, &Landmarks::none(alloc), &[text])?;
+        let digest = found.beside[0];
+        Ok((Fingerprints::of_list(found.along), digest))
     }
 
     // The same, computed only where they aren't known.

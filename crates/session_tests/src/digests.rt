@@ -1,6 +1,6 @@
 //! The digest of a text beside the fingerprint of a folder.
 
-use par2_folder::{Folder, fingerprints_along_and_digest};
+use par2_folder::{Digests, Folder, Landmarks, fingerprints};
 use std::alloc::{AllocError, Global};
 use std::test::Fail;
 
@@ -9,24 +9,20 @@ fn fingerprint_and_digest(
     alloc: Global,
     folder: &Folder,
     text: &[u8],
-) -> Result<(Vec<[u8; 16]>, [u8; 16]), AllocError> {
-    fingerprints_along_and_digest(alloc, folder, &[], text)
-}
-
-fn is_digest(digest: &[u8; 16], wanted: u128) -> bool {
-    u128::from_be_bytes(*digest) == wanted
+) -> Result<Digests, AllocError> {
+    fingerprints(alloc, folder, &[], &Landmarks::none(alloc), &[text])
 }
 
 // The digests of no bytes and of `abc` stand in RFC 1321.
 fn are_known(alloc: Global) -> Result<bool, AllocError> {
     let folder = Folder::new(alloc);
-    let (fingerprints, digest) = fingerprint_and_digest(alloc, &folder, b"abc")?;
-    let is_known = is_digest(&digest, 0x9001_5098_3cd2_4fb0_d696_3f7d_28e1_7f72);
-    Ok(is_known && are_of_nothing(&fingerprints))
+    let found = fingerprint_and_digest(alloc, &folder, b"abc")?;
+    let is_known = is_only(&found.beside, 0x9001_5098_3cd2_4fb0_d696_3f7d_28e1_7f72);
+    Ok(is_known && is_only(&found.along, 0xd41d_8cd9_8f00_b204_e980_0998_ecf8_427e))
 }
 
-fn are_of_nothing(fingerprints: &[[u8; 16]]) -> bool {
-    matches!(fingerprints, [one] if is_digest(one, 0xd41d_8cd9_8f00_b204_e980_0998_ecf8_427e))
+fn is_only(digests: &[[u8; 16]], wanted: u128) -> bool {
+    matches!(digests, [one] if u128::from_be_bytes(*one) == wanted)
 }
 
 #[test]

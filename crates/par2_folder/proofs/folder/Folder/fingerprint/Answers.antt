@@ -1,11 +1,12 @@
-use Rattle.std.proofs.Common.{[], ◌∙◌, rules}
-use Rattle.par2_folder.proofs.Walks.{all_fingerprints, none_applicable}
+use Rattle.std.proofs.Common.{refl, rules}
+use Rattle.par2_spec.specs.Changes.{takes_all}
 use Rattle.par2_folder.proofs.folder.Folder.fingerprint.Goals as goal
 
-pub digests_along-requires-clause-applicable : goal.digests_along-requires-clause-applicable
-digests_along-requires-clause-applicable c = none_applicable c.args.self.now.files
+pub fingerprints-requires-clause-taken : goal.fingerprints-requires-clause-taken
+unfolding takes_all
+fingerprints-requires-clause-taken c = refl
 
 pub returns : goal.returns
 returns c =
-    let all = c.in_ok-digests_along.ensures ∙ all_fingerprints c.args.self.now.files [] in
+    let all = c.in_ok-fingerprints.ensures.along in
     search rules

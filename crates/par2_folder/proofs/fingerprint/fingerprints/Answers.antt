@@ -1,0 +1,38 @@
+use Rattle.std.proofs.Common.{◌≡◌, ◌∷◌, ◌++◌, ◌-◌, ◌∙◌, ℕ, Bor, List, ap, length, map, take, drop, arith}
+use Rattle.std.proofs.Math.Seq.{drop-append_seam, take-append_seam}
+use Rattle.std.proofs.lemmas.List.{length-append, length-map, map-append}
+use Rattle.md5.specs.Md5.{md5}
+use Rattle.par2_digests.specs.Texts.{texts_of}
+use Rattle.par2_spec.specs.Folders.{fingerprint}
+use Rattle.par2_spec.specs.Changes.{folders_after}
+use Rattle.par2_spec.proofs.FolderLaws.{taken_are_applicable}
+use Rattle.par2_folder.specs.Borders.{run_texts}
+use Rattle.par2_folder.specs.Views.{change_of}
+use Rattle.par2_folder.specs.declared.border.Border.TheVariants.{End}
+use Rattle.par2_folder.proofs.Walks.{all_fingerprints}
+use Rattle.par2_folder.proofs.fingerprint.fingerprints.Goals as goal
+
+pub digests_along-requires-clause-applicable : goal.digests_along-requires-clause-applicable
+digests_along-requires-clause-applicable c = taken_are_applicable c.args.folder.now (map change_of c.args.changes.now) c.requires.taken
+
+pub overflow_sub-len : goal.overflow_sub-len
+overflow_sub-len c =
+    let along = run_texts End c.args.folder.now.files (map change_of c.args.changes.now) in
+    let beside = texts_of c.args.beside.now in
+    omega (arith, ap length c.in_ok-along.ensures, length-map (along ++ beside) md5, length-append along beside, length-map c.args.beside.now (λ (text : Bor (List ℕ)). text.now))
+
+pub returns : goal.returns
+returns c =
+    let files = c.args.folder.now.files in
+    let changes = map change_of c.args.changes.now in
+    let prints = map fingerprint (files ∷ folders_after files changes) in
+    let texts = texts_of c.args.beside.now in
+    let digests = map md5 texts in
+    let all : c.in_ok-along.along.items ≡ prints ++ digests =
+    c.in_ok-along.ensures ∙ map-append md5 (run_texts End files changes) texts ∙ ap (λ l. l ++ digests) (all_fingerprints files changes) in
+    let place : c.len.result - length c.args.beside.now ≡ length prints =
+    omega (arith, ap length all, length-append prints digests, length-map texts md5, length-map c.args.beside.now (λ (text : Bor (List ℕ)). text.now)) in
+    record {
+      along = c.in_ok-beside.ensures.items ∙ (λ i. take (place i) (all i)) ∙ take-append_seam prints digests;
+      beside = c.in_ok-beside.ensures.tail ∙ (λ i. drop (place i) (all i)) ∙ drop-append_seam prints digests;
+    }
