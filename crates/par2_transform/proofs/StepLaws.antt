@@ -33,6 +33,11 @@ shifted i h =
 pub double_power : (i : ℕ) → 2 ^ suc i ≡ 2 ^ i + 2 ^ i
 double_power i = let double : 2 ^ suc i ≡ 2 ^ i * 2 = pow-suc 2 i in omega arith
 
+-- a half of a run and a lower power, as shifts compute them
+pub shifts : (i j : ℕ) → i < 16 → j < i
+    → (1 * 2 ^ i % 18446744073709551616 ≡ 2 ^ i) × (1 * 2 ^ j % 18446744073709551616 ≡ 2 ^ j) × (2 ^ j + 2 ^ j ≤ 2 ^ i) × (2 ^ suc i ≡ 2 ^ i + 2 ^ i)
+shifts i j few low = (shifted i few, shifted j (omega arith), power_below j i low, double_power i)
+
 -- where a pair of runs begins
 pub run_starts : (i q : ℕ) → q * 2 * 2 ^ i ≡ q * 2 ^ suc i
 run_starts i q = mul_assoc q 2 (2 ^ i) ∙ ap (λ n. q * n) (let double : 2 ^ suc i ≡ 2 ^ i + 2 ^ i = double_power i in let twice : 2 * 2 ^ i ≡ 2 ^ suc i = omega arith in twice)
@@ -44,6 +49,13 @@ pairs_fit k i q h l =
     let fits : suc q * 2 ^ suc i ≤ 2 ^ (k - suc i) * 2 ^ suc i = mul-le-mul_right (2 ^ suc i) (let s : suc q ≤ 2 ^ (k - suc i) = omega arith in s) in
     let next : suc q * 2 ^ suc i ≡ q * 2 ^ suc i + 2 ^ suc i = ap (λ v. v * 2 ^ suc i) (let s : suc q ≡ q + 1 = omega arith in s) ∙ add-mul q 1 (2 ^ suc i) ∙ ap (λ v. q * 2 ^ suc i + v) (one-mul (2 ^ suc i)) in
     omega arith
+
+-- a pair of runs, as the code computes its places
+pub pair_places : (k i q : ℕ) → i < 16 → i < k → q < 2 ^ (k - suc i)
+    → (1 * 2 ^ i % 18446744073709551616 ≡ 2 ^ i) × (q * 2 * (1 * 2 ^ i % 18446744073709551616) ≡ q * 2 ^ suc i) × (2 ^ suc i ≡ 2 ^ i + 2 ^ i) × (q * 2 ^ suc i + 2 ^ suc i ≤ 2 ^ k)
+pair_places k i q few level pair =
+    let half : 1 * 2 ^ i % 18446744073709551616 ≡ 2 ^ i = shifted i few in
+    (half, ap (λ n. q * 2 * n) half ∙ run_starts i q, double_power i, pairs_fit k i q level pair)
 
 pub same_outside : (a b : ℕ) (f : ℕ → ℕ) → SameOutside a b f f
 same_outside a b f = record { below = λ u h. refl; above = λ u h. refl }

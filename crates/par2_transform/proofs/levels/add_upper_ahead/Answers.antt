@@ -1,7 +1,7 @@
 use Rattle.std.proofs.Common.{suc, ◌+◌, ◌-◌, ◌*◌, ◌%◌, ◌^◌, ◌<◌, ◌≤◌, ◌≡◌, inl, inr, sym, subst, arith}
 use Rattle.par2_transform.specs.Grids.{EachColumn}
 use Rattle.par2_transform.specs.Steps.{RunAdded, AheadAdded}
-use Rattle.par2_transform.proofs.StepLaws.{shifted, power_below, double_power, run_at, ahead_start, ahead_set, ahead_unset, ahead_whole}
+use Rattle.par2_transform.proofs.StepLaws.{shifts, run_at, ahead_start, ahead_set, ahead_unset, ahead_whole}
 use Rattle.par2_transform.proofs.GridLaws.{each_start, each_then, each_so}
 use Rattle.par2_transform.proofs.levels.add_upper_ahead.Goals.{then-powers-j-eq1, else-powers-j-eq1}
 use Rattle.par2_transform.proofs.levels.add_upper_ahead.Goals as goal
@@ -15,19 +15,17 @@ loop-j-preserved c =
     let i = c.args.i in
     let start = c.args.start in
     let low : l.j < i = c.loop-j-test.true in
-    let half : 1 * 2 ^ i % 18446744073709551616 ≡ 2 ^ i = shifted i (omega arith) in
-    let part : 1 * 2 ^ l.j % 18446744073709551616 ≡ 2 ^ l.j = shifted l.j (omega arith) in
-    let under : 2 ^ l.j + 2 ^ l.j ≤ 2 ^ i = power_below l.j i low in
+    let places = shifts i l.j (omega arith) low in
     let is = c.powers_in-powers.ensures in
     elim c.if-powers-j-eq1.branch [
       | then-powers-j-eq1 w ↦
           rw w.rows-is
           (each_then (AheadAdded i start (2 ^ i) (2 ^ suc i) l.j) (RunAdded (start + 1 * 2 ^ i % 18446744073709551616) (start + 2 * (1 * 2 ^ i % 18446744073709551616) - 1 * 2 ^ l.j % 18446744073709551616) (1 * 2 ^ l.j % 18446744073709551616)) (AheadAdded i start (2 ^ i) (2 ^ suc i) (l.j + 1)) c.args.rows.now l.rows w.add_rows.new.self l.invariant w.add_rows.ensures
-          (λ f g h first second. ahead_set i start (2 ^ i) (2 ^ suc i) l.j (2 ^ i) (2 ^ i - 2 ^ l.j) (2 ^ l.j) f g h (rw (← is) w.if-powers-j-eq1.true) (omega (arith, under))
-          (λ e m. (omega (arith, under), (omega (arith, under), (let double : 2 ^ suc i ≡ 2 ^ i + 2 ^ i = double_power i in omega (arith, under, double, m)))))
-          (λ e m out. elim out [ inl before ↦ inl (omega (arith, under, before)) | inr above ↦ absurd (omega (arith, under, above, m)) ])
-          (λ e m. ahead_whole i start l.j f g (omega arith) first e (omega (arith, under, m))) first
-          (run_at (start + 1 * 2 ^ i % 18446744073709551616) (start + 2 ^ i) (start + 2 * (1 * 2 ^ i % 18446744073709551616) - 1 * 2 ^ l.j % 18446744073709551616) (start + (2 ^ i + (2 ^ i - 2 ^ l.j))) (1 * 2 ^ l.j % 18446744073709551616) (2 ^ l.j) g h (omega (arith, half, part, under)) (omega (arith, half, part, under)) (omega (arith, half, part, under)) second)))
+          (λ f g h first second. ahead_set i start (2 ^ i) (2 ^ suc i) l.j (2 ^ i) (2 ^ i - 2 ^ l.j) (2 ^ l.j) f g h (rw (← is) w.if-powers-j-eq1.true) (omega (arith, places))
+          (λ e m. (omega (arith, places), (omega (arith, places), omega (arith, places, m))))
+          (λ e m out. elim out [ inl before ↦ inl (omega (arith, places, before)) | inr above ↦ absurd (omega (arith, places, above, m)) ])
+          (λ e m. ahead_whole i start l.j f g (omega arith) first e (omega (arith, places, m))) first
+          (run_at (start + 1 * 2 ^ i % 18446744073709551616) (start + 2 ^ i) (start + 2 * (1 * 2 ^ i % 18446744073709551616) - 1 * 2 ^ l.j % 18446744073709551616) (start + (2 ^ i + (2 ^ i - 2 ^ l.j))) (1 * 2 ^ l.j % 18446744073709551616) (2 ^ l.j) g h (omega (arith, places)) (omega (arith, places)) (omega (arith, places)) second)))
       | else-powers-j-eq1 w ↦
           rw w.rows-is
           (each_so (AheadAdded i start (2 ^ i) (2 ^ suc i) l.j) (AheadAdded i start (2 ^ i) (2 ^ suc i) (l.j + 1)) c.args.rows.now l.rows l.invariant
@@ -45,35 +43,18 @@ add_rows-requires-clause-from c =
     let l = c.loop-j in
     let i = c.args.i in
     let start = c.args.start in
-    let half : 1 * 2 ^ i % 18446744073709551616 ≡ 2 ^ i = shifted i (omega arith) in
-    let part : 1 * 2 ^ l.j % 18446744073709551616 ≡ 2 ^ l.j = shifted l.j (omega arith) in
-    let under : 2 ^ l.j + 2 ^ l.j ≤ 2 ^ i = power_below l.j i (omega arith) in
-    let double : 2 ^ suc i ≡ 2 ^ i + 2 ^ i = double_power i in
-    subst (λ n. (start + 1 * 2 ^ i % 18446744073709551616) + (1 * 2 ^ l.j % 18446744073709551616) ≤ 2 ^ n) (sym l.invariant.levels) (omega (arith, half, part, under, double, c.requires.fits))
+    subst (λ n. (start + 1 * 2 ^ i % 18446744073709551616) + (1 * 2 ^ l.j % 18446744073709551616) ≤ 2 ^ n) (sym l.invariant.levels) (omega (arith, shifts i l.j (omega arith) (omega arith), c.requires.fits))
 
 pub add_rows-requires-clause-to : goal.add_rows-requires-clause-to
 add_rows-requires-clause-to c =
     let l = c.loop-j in
     let i = c.args.i in
     let start = c.args.start in
-    let half : 1 * 2 ^ i % 18446744073709551616 ≡ 2 ^ i = shifted i (omega arith) in
-    let part : 1 * 2 ^ l.j % 18446744073709551616 ≡ 2 ^ l.j = shifted l.j (omega arith) in
-    let under : 2 ^ l.j + 2 ^ l.j ≤ 2 ^ i = power_below l.j i (omega arith) in
-    let double : 2 ^ suc i ≡ 2 ^ i + 2 ^ i = double_power i in
-    subst (λ n. (start + 2 * (1 * 2 ^ i % 18446744073709551616) - 1 * 2 ^ l.j % 18446744073709551616) + (1 * 2 ^ l.j % 18446744073709551616) ≤ 2 ^ n) (sym l.invariant.levels) (omega (arith, half, part, under, double, c.requires.fits))
+    subst (λ n. (start + 2 * (1 * 2 ^ i % 18446744073709551616) - 1 * 2 ^ l.j % 18446744073709551616) + (1 * 2 ^ l.j % 18446744073709551616) ≤ 2 ^ n) (sym l.invariant.levels) (omega (arith, shifts i l.j (omega arith) (omega arith), c.requires.fits))
 
 pub add_rows-requires-clause-apart : goal.add_rows-requires-clause-apart
 add_rows-requires-clause-apart c =
-    let l = c.loop-j in
-    let i = c.args.i in
-    let half : 1 * 2 ^ i % 18446744073709551616 ≡ 2 ^ i = shifted i (omega arith) in
-    let part : 1 * 2 ^ l.j % 18446744073709551616 ≡ 2 ^ l.j = shifted l.j (omega arith) in
-    let under : 2 ^ l.j + 2 ^ l.j ≤ 2 ^ i = power_below l.j i (omega arith) in
-    inl (omega (arith, half, part, under))
+    inl (omega (arith, shifts c.args.i c.loop-j.j (omega arith) (omega arith)))
 
 pub overflow_sub-start : goal.overflow_sub-start
-overflow_sub-start c =
-    let half : 1 * 2 ^ c.args.i % 18446744073709551616 ≡ 2 ^ c.args.i = shifted c.args.i (omega arith) in
-    let part : 1 * 2 ^ c.loop-j.j % 18446744073709551616 ≡ 2 ^ c.loop-j.j = shifted c.loop-j.j (omega arith) in
-    let under : 2 ^ c.loop-j.j + 2 ^ c.loop-j.j ≤ 2 ^ c.args.i = power_below c.loop-j.j c.args.i (omega arith) in
-    omega (arith, half, part, under)
+overflow_sub-start c = omega (arith, shifts c.args.i c.loop-j.j (omega arith) (omega arith))

@@ -2,7 +2,7 @@ use Rattle.std.proofs.Common.{suc, ◌+◌, ◌*◌, ◌%◌, ◌^◌, ◌≤◌
 use Rattle.par2_transform.specs.Subspaces.{point}
 use Rattle.par2_transform.specs.PowerSums.{IsMerged}
 use Rattle.par2_transform.specs.Steps.{OneRun, RunAdded, IsRaised}
-use Rattle.par2_transform.proofs.StepLaws.{shifted, double_power, pairs_fit, run_starts, merged_runs, run_at, raised_at}
+use Rattle.par2_transform.proofs.StepLaws.{shifted, pair_places, run_starts, merged_runs, run_at, raised_at}
 use Rattle.par2_transform.proofs.GridLaws.{each_then}
 use Rattle.par2_transform.proofs.levels.merge.Goals as goal
 
@@ -22,33 +22,15 @@ returns c =
 
 pub add_rows-requires-clause-from : goal.add_rows-requires-clause-from
 add_rows-requires-clause-from c =
-    let i = c.args.i in
-    let q = c.args.q in
-    let shift = 1 * 2 ^ i % 18446744073709551616 in
-    let half : shift ≡ 2 ^ i = shifted i (omega arith) in
-    let is : q * 2 * shift ≡ q * 2 ^ suc i = ap (λ n. q * 2 * n) half ∙ run_starts i q in
-    let double : 2 ^ suc i ≡ 2 ^ i + 2 ^ i = double_power i in
-    let fits : q * 2 ^ suc i + 2 ^ suc i ≤ 2 ^ c.args.rows.now.levels = pairs_fit c.args.rows.now.levels i q c.requires.level c.requires.pair in
-    omega arith
+    omega (arith, pair_places c.args.rows.now.levels c.args.i c.args.q (omega arith) c.requires.level c.requires.pair)
 
 pub add_rows-requires-clause-to : goal.add_rows-requires-clause-to
 add_rows-requires-clause-to c =
-    let i = c.args.i in
-    let q = c.args.q in
-    let shift = 1 * 2 ^ i % 18446744073709551616 in
-    let half : shift ≡ 2 ^ i = shifted i (omega arith) in
-    let is : q * 2 * shift ≡ q * 2 ^ suc i = ap (λ n. q * 2 * n) half ∙ run_starts i q in
-    let double : 2 ^ suc i ≡ 2 ^ i + 2 ^ i = double_power i in
-    let fits : q * 2 ^ suc i + 2 ^ suc i ≤ 2 ^ c.args.rows.now.levels = pairs_fit c.args.rows.now.levels i q c.requires.level c.requires.pair in
-    omega arith
+    omega (arith, pair_places c.args.rows.now.levels c.args.i c.args.q (omega arith) c.requires.level c.requires.pair)
 
 pub raise-requires-clause-fits : goal.raise-requires-clause-fits
 raise-requires-clause-fits c =
     let i = c.args.i in
     let q = c.args.q in
     let shift = 1 * 2 ^ i % 18446744073709551616 in
-    let half : shift ≡ 2 ^ i = shifted i (omega arith) in
-    let is : q * 2 * shift ≡ q * 2 ^ suc i = ap (λ n. q * 2 * n) half ∙ run_starts i q in
-    let double : 2 ^ suc i ≡ 2 ^ i + 2 ^ i = double_power i in
-    let fits : q * 2 ^ suc i + 2 ^ suc i ≤ 2 ^ c.args.rows.now.levels = pairs_fit c.args.rows.now.levels i q c.requires.level c.requires.pair in
-    subst (λ n. q * 2 * shift + 2 ^ suc i ≤ 2 ^ n) (sym c.add_rows.ensures.levels) (omega arith)
+    subst (λ n. q * 2 * shift + 2 ^ suc i ≤ 2 ^ n) (sym c.add_rows.ensures.levels) (omega (arith, pair_places c.args.rows.now.levels i q (omega arith) c.requires.level c.requires.pair))

@@ -2,7 +2,7 @@ use Rattle.std.proofs.Common.{suc, ◌+◌, ◌*◌, ◌%◌, ◌^◌, ◌≤◌
 use Rattle.par2_transform.specs.Subspaces.{point}
 use Rattle.par2_transform.specs.Evaluations.{IsSplit}
 use Rattle.par2_transform.specs.Steps.{OnElements, OneRun, RunAdded, IsDivided}
-use Rattle.par2_transform.proofs.StepLaws.{shifted, double_power, pairs_fit, run_starts, run_at}
+use Rattle.par2_transform.proofs.StepLaws.{shifted, pair_places, run_starts, run_at}
 use Rattle.par2_transform.proofs.Divisions.{split_runs, divided_at}
 use Rattle.par2_transform.proofs.GridLaws.{each_then}
 use Rattle.par2_transform.proofs.levels.split.Goals as goal
@@ -23,33 +23,18 @@ returns c =
 
 pub divide-requires-clause-fits : goal.divide-requires-clause-fits
 divide-requires-clause-fits c =
-    let i = c.args.i in
-    let q = c.args.q in
-    let shift = 1 * 2 ^ i % 18446744073709551616 in
-    let half : shift ≡ 2 ^ i = shifted i (omega arith) in
-    let is : q * 2 * shift ≡ q * 2 ^ suc i = ap (λ n. q * 2 * n) half ∙ run_starts i q in
-    let double : 2 ^ suc i ≡ 2 ^ i + 2 ^ i = double_power i in
-    let fits : q * 2 ^ suc i + 2 ^ suc i ≤ 2 ^ c.args.rows.now.levels = pairs_fit c.args.rows.now.levels i q c.requires.level c.requires.pair in
-    omega arith
+    omega (arith, pair_places c.args.rows.now.levels c.args.i c.args.q (omega arith) c.requires.level c.requires.pair)
 
 pub add_rows-requires-clause-from : goal.add_rows-requires-clause-from
 add_rows-requires-clause-from c =
     let i = c.args.i in
     let q = c.args.q in
     let shift = 1 * 2 ^ i % 18446744073709551616 in
-    let half : shift ≡ 2 ^ i = shifted i (omega arith) in
-    let is : q * 2 * shift ≡ q * 2 ^ suc i = ap (λ n. q * 2 * n) half ∙ run_starts i q in
-    let double : 2 ^ suc i ≡ 2 ^ i + 2 ^ i = double_power i in
-    let fits : q * 2 ^ suc i + 2 ^ suc i ≤ 2 ^ c.args.rows.now.levels = pairs_fit c.args.rows.now.levels i q c.requires.level c.requires.pair in
-    subst (λ n. q * 2 * shift + shift ≤ 2 ^ n) (sym c.divide.ensures.levels) (omega arith)
+    subst (λ n. q * 2 * shift + shift ≤ 2 ^ n) (sym c.divide.ensures.levels) (omega (arith, pair_places c.args.rows.now.levels i q (omega arith) c.requires.level c.requires.pair))
 
 pub add_rows-requires-clause-to : goal.add_rows-requires-clause-to
 add_rows-requires-clause-to c =
     let i = c.args.i in
     let q = c.args.q in
     let shift = 1 * 2 ^ i % 18446744073709551616 in
-    let half : shift ≡ 2 ^ i = shifted i (omega arith) in
-    let is : q * 2 * shift ≡ q * 2 ^ suc i = ap (λ n. q * 2 * n) half ∙ run_starts i q in
-    let double : 2 ^ suc i ≡ 2 ^ i + 2 ^ i = double_power i in
-    let fits : q * 2 ^ suc i + 2 ^ suc i ≤ 2 ^ c.args.rows.now.levels = pairs_fit c.args.rows.now.levels i q c.requires.level c.requires.pair in
-    subst (λ n. q * 2 * shift + shift + shift ≤ 2 ^ n) (sym c.divide.ensures.levels) (omega arith)
+    subst (λ n. q * 2 * shift + shift + shift ≤ 2 ^ n) (sym c.divide.ensures.levels) (omega (arith, pair_places c.args.rows.now.levels i q (omega arith) c.requires.level c.requires.pair))
