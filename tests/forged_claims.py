@@ -20,9 +20,10 @@ PROGRAM = os.path.join(ROOT, "crates/par2/out/par2")
 # What a run over small files asks for at once, and some more.
 SMALL = 1 << 19
 # What each run may ask for at once and in all, whatever it finds; then how often the bytes that it finds and writes. The
-# field's tables come to 820 KiB as they grow, and the filter of a search to 256 more, so a repair over small files asks
-# for 1,102 KiB. What all of a create's growths come to has the buffers of each slice, which are given up with it.
-AT_ONCE, IN_ALL = 1 << 18, 5 << 18
+# field's tables come to 820 KiB as they grow, and the filter of a search and the table of its groups to 256 more each, so
+# a repair over small files asks for 1,358 KiB. What all of a create's growths come to has the buffers of each slice,
+# which are given up with it.
+AT_ONCE, IN_ALL = 1 << 18, 6 << 18
 TIMES_AT_ONCE = 2
 TIMES_IN_ALL = {"create": 10, "verify": 6, "repair": 7, "purge": 6, "undo": 4, "redo": 4}
 # What each run may have at a time, whatever it finds; then how often the bytes that it finds and writes. A create has its
