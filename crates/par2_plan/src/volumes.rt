@@ -12,17 +12,11 @@ use crate::names::Volume;
 use crate::outputs::Parts;
 use par2_gf16::Gf;
 use par2_packets::{digest_recoveries, with_undigested, write_columns};
-use par2_recovery::{columns_at_once, input_slices, recovery_columns};
+use par2_recovery::{columns_at_once, exponents_at_once, input_slices, recovery_columns};
 use std::alloc::{AllocError, Global};
 
 // What a packet has beside the bytes of a recovery slice: its header, and the exponent.
 const RECOVERY_HEAD: usize = 68;
-
-// How much memory the columns of recovery slices may take, beside a 128th of the inputs: what `columns_at_once` goes by.
-const COLUMNS: usize = 256 * 1024;
-
-// What the fewest columns of a recovery slice take, 64 bytes, with what their `Vec` takes beside them.
-const FEWEST_COLUMNS: usize = 64 + 64;
 
 // The exponents from `first` up to `end`.
 #[derive(Clone, Copy)]
@@ -272,24 +266,6 @@ fn fill_group(
         from += len;
     }
     Ok(())
-}
-
-// How much memory columns of recovery slices over these inputs may take.
-fn columns_room(inputs: &[&[u8]]) -> usize {
-    let mut total = 0usize;
-    for input in inputs {
-        total = total.saturating_add(input.len());
-    }
-    (total / 128).saturating_add(COLUMNS)
-}
-
-// Of how many exponents there are columns at a time: of as many as the fewest columns have room for. A power of 2, since
-// so many outputs go through the transform at once.
-fn exponents_at_once(inputs: &[&[u8]]) -> u32
-    ensures { 1 ≤ result }
-{
-    let most = columns_room(inputs) / FEWEST_COLUMNS;
-    (most / 2 + 1).next_power_of_two().clamp(1, 65536) as u32
 }
 
 // The bytes of the volumes with all recovery slices, which are made for some exponents at a time: for all, unless they are

@@ -21,5 +21,5 @@ pub use exponents::{rank, rank_by_runs};
 pub use file_record::file_record_by_md5;
 pub use rebuild_slices::{RebuildFault, Survivors, rebuild, rebuild_lost};
 pub use recovery::{input_slices, recovery_slice, recovery_slices_over};
-pub use room::columns_at_once;
+pub use room::{columns_at_once, exponents_at_once};
 pub use set_record::{RecordFault, SetRecord, file_records};
