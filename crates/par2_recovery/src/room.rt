@@ -2,17 +2,17 @@
 
 ghost use Rattle.std.specs.Prelude.{◌≡◌, ◌%◌, ◌≤◌};
 
-// How much memory the columns of recovery slices may take, beside a 128th of the slices.
-const COLUMNS: usize = 192 * 1024;
+// How much memory columns and rows may take together, beside a 64th of the slices. A quarter is for columns.
+const ROOM: usize = 1024 * 1024;
 
-// How much the rows may take that they are computed by, beside another 128th.
-const ROWS: usize = 640 * 1024;
+// What the columns of a recovery slice take beside their bytes: their `Vec`, and what the allocator adds.
+const OVERHEAD: usize = 40;
 
-// What the columns of a recovery slice take beside their bytes.
-const OVERHEAD: usize = 64;
-
-// Of how many columns a block is a multiple. The most that a block may have are twice a multiple, where there is room.
+// Of how many columns a block is a multiple: of the bytes of 32 words, as the rows of the transform are.
 const STEP: usize = 64;
+
+// How many steps a row has at most.
+const WIDEST: usize = 32;
 
 // How many bytes the slices have.
 fn total_len(slices: &[&[u8]]) -> usize {
@@ -23,9 +23,9 @@ fn total_len(slices: &[&[u8]]) -> usize {
     total
 }
 
-// How much memory the columns of recovery slices may take.
-fn columns_room(slices: &[&[u8]]) -> usize {
-    (total_len(slices) / 128).saturating_add(COLUMNS)
+// A quarter of the room.
+fn quarter(slices: &[&[u8]]) -> usize {
+    (total_len(slices) / 256).saturating_add(ROOM / 4)
 }
 
 /// Of how many recovery slices there are columns at a time: of as many as the fewest columns have room for. A power of 2,
@@ -33,25 +33,38 @@ fn columns_room(slices: &[&[u8]]) -> usize {
 pub fn exponents_at_once(slices: &[&[u8]]) -> u32
     ensures { 1 ≤ result }
 {
-    let most = columns_room(slices) / (STEP + OVERHEAD);
+    let most = quarter(slices) / (STEP + OVERHEAD);
     (most / 2 + 1).next_power_of_two().clamp(1, 65536) as u32
 }
 
+/// How much memory rows over the slices may take: three quarters of the room.
+pub(crate) fn rows_room(slices: &[&[u8]]) -> usize {
+    quarter(slices).saturating_mul(3)
+}
+
+// How many steps the rows have that so many outputs are computed by: three rows for each, of a power of 2 of them.
+fn row_steps(slices: &[&[u8]], count: usize) -> usize
+    ensures { 1 ≤ result }
+{
+    let rows = 3 * count.clamp(1, 65536).next_power_of_two();
+    (rows_room(slices) / rows / STEP).clamp(1, WIDEST)
+}
+
 /// How many columns of so many recovery slices are made at a time over slices of `size` bytes, in blocks that are about
-/// equal. Each time these columns of all slices are read.
+/// equal, and that rows of the transform take whole. Each time these columns of all slices are read.
 pub fn columns_at_once(slices: &[&[u8]], count: usize, size: usize) -> usize
     ensures some { 1 ≤ result }
     ensures even { result % 2 ≡ 0 }
 {
-    let each = (columns_room(slices) / count.max(1)).saturating_sub(OVERHEAD);
-    let steps = each / STEP;
-    let most = (steps - steps % 2).max(1);
-    let all = size / STEP + 1;
+    let each = (quarter(slices) / count.max(1)).saturating_sub(OVERHEAD);
+    let steps = (each / STEP).max(1);
+    let row = row_steps(slices, count);
+    let most = if steps > row {
+        steps - steps % row
+    } else {
+        steps
+    };
+    let all = size.div_ceil(STEP);
     let blocks = all.div_ceil(most).max(1);
     all.div_ceil(blocks).clamp(1, most) * STEP
-}
-
-/// How much memory rows over the slices may take.
-pub(crate) fn rows_room(slices: &[&[u8]]) -> usize {
-    (total_len(slices) / 128).saturating_add(ROWS)
 }
