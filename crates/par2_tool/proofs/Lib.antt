@@ -1,6 +1,7 @@
 mod MadeChanges
 mod VerifyRuns
 mod Openings
+mod StoreOpenings
 mod Stops
 mod Remains
 mod Outcomes

@@ -1,5 +1,5 @@
 -- What a power cut may leave of changes that are written down between two journals.
-use Rattle.std.proofs.Common.{◌≡◌, ◌⊎◌, inl, inr, ℕ, ◌≤◌, List, length, map, take, sym, ap, subst, ◌∙◌, arith}
+use Rattle.std.proofs.Common.{◌≡◌, ◌⊎◌, inl, inr, ℕ, ◌≤◌, List, length, map, take, sym, ap, ◌∙◌, arith}
 use Rattle.std.proofs.lemmas.List.{length-map, take_all, take-map}
 use Rattle.par2_spec.specs.Changes as defined
 use Rattle.par2_spec.specs.Stores.{Contents, with_journal}

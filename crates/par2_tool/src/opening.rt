@@ -7,9 +7,9 @@ ghost use Rattle.par2_spec.specs.Sessions.{session_of_kept};
 ghost use Rattle.par2_spec.specs.Stores.{Contents};
 ghost use Rattle.par2_spec.specs.Views.{command_of};
 ghost use Rattle.par2_folder.specs.Cuts.{Lasts, NoMoreRemains};
-ghost use Rattle.par2_tool.specs.Calls.{CountsCalls, CountsOpening};
-ghost use Rattle.par2_tool.specs.Holding.{with_history, OpensAsBefore, TellsApartBack};
-ghost use Rattle.par2_tool.specs.Opening.{started_of, CountsFailures, IsOpened, IsRead, IsStillHalfway, IsTakenBack, LeavesUnopened, StandsFor};
+ghost use Rattle.par2_tool.specs.Calls.{CountsCalls};
+ghost use Rattle.par2_tool.specs.Holding.{with_history};
+ghost use Rattle.par2_tool.specs.Opening.{started_of, CountsFailures, IsOpened, IsRead, IsStillHalfway, IsTakenBack, LeavesUnopened, OpensStore, StandsFor};
 
 use crate::writing::write_down;
 use par2_folder::{Folder, FolderStore, ReadFault, read_folder};
@@ -166,23 +166,11 @@ fn open_with<S: FolderStore>(
     ensures opened { S.honest store.old
         → IsRead (S.contents store.old) folder.files (Some text.now) → IfOk result
         (λ started. IsOpened (S.contents store.old) (S.contents store.new) (started_of started)) }
-    ensures unopened { S.honest store.old
+    ensures opening { S.honest store.old
         → IsRead (S.contents store.old) folder.files (Some text.now)
-        → LeavesUnopened (S.contents store.old) (S.contents store.new) result }
-    ensures lasts { S.honest store.old → Lasts (S.may_remain store.old) (S.contents store.old)
-        → OnOk result (Lasts (S.may_remain store.new) (S.contents store.new)) }
-    ensures cut { S.honest store.old → Lasts (S.may_remain store.old) (S.contents store.old)
-        → IsRead (S.contents store.old) folder.files (Some text.now)
-        → TellsApartBack (S.contents store.old) → (left : Contents) → S.may_remain store.new left
-        → OpensAsBefore (S.contents store.old) left }
+        → OpensStore S.contents S.may_remain S.impossible S.writing_calls
+        store.old store.new result }
     ensures failures { CountsFailures (S.failures store.old) (S.failures store.new) result }
-    ensures possible { S.honest store.old
-        → IsRead (S.contents store.old) folder.files (Some text.now)
-        → S.impossible store.new ≡ S.impossible store.old }
-    ensures calls { S.honest store.old
-        → IsRead (S.contents store.old) folder.files (Some text.now)
-        → CountsOpening (S.contents store.old)
-        (S.writing_calls store.old) (S.writing_calls store.new) result }
 {
     match Session::open_before(alloc, folder, text, next) {
         Ok(Opened::Settled(session)) => Ok(Started {
@@ -215,17 +203,9 @@ fn open_session<S: FolderStore>(
     ensures honest { S.honest store.old → S.honest store.new }
     ensures opened { S.honest store.old → IfOk result
         (λ started. IsOpened (S.contents store.old) (S.contents store.new) (started_of started)) }
-    ensures unopened { S.honest store.old
-        → LeavesUnopened (S.contents store.old) (S.contents store.new) result }
-    ensures lasts { S.honest store.old → Lasts (S.may_remain store.old) (S.contents store.old)
-        → OnOk result (Lasts (S.may_remain store.new) (S.contents store.new)) }
-    ensures cut { S.honest store.old → Lasts (S.may_remain store.old) (S.contents store.old)
-        → TellsApartBack (S.contents store.old) → (left : Contents) → S.may_remain store.new left
-        → OpensAsBefore (S.contents store.old) left }
+    ensures opening { S.honest store.old → OpensStore S.contents S.may_remain S.impossible
+        S.writing_calls store.old store.new result }
     ensures failures { CountsFailures (S.failures store.old) (S.failures store.new) result }
-    ensures possible { S.honest store.old → S.impossible store.new ≡ S.impossible store.old }
-    ensures calls { S.honest store.old → CountsOpening (S.contents store.old)
-        (S.writing_calls store.old) (S.writing_calls store.new) result }
 {
     let (folder, journal) = read_store(alloc, store)?;
     match journal {
@@ -241,17 +221,9 @@ pub fn open_store<S: FolderStore>(alloc: Global, store: &mut S) -> Result<Starte
     ensures honest { S.honest store.old → S.honest store.new }
     ensures opened { S.honest store.old → IfOk result
         (λ started. IsOpened (S.contents store.old) (S.contents store.new) (started_of started)) }
-    ensures unopened { S.honest store.old
-        → LeavesUnopened (S.contents store.old) (S.contents store.new) result }
-    ensures lasts { S.honest store.old → Lasts (S.may_remain store.old) (S.contents store.old)
-        → OnOk result (Lasts (S.may_remain store.new) (S.contents store.new)) }
-    ensures cut { S.honest store.old → Lasts (S.may_remain store.old) (S.contents store.old)
-        → TellsApartBack (S.contents store.old) → (left : Contents) → S.may_remain store.new left
-        → OpensAsBefore (S.contents store.old) left }
+    ensures opening { S.honest store.old → OpensStore S.contents S.may_remain S.impossible
+        S.writing_calls store.old store.new result }
     ensures failures { CountsFailures (S.failures store.old) (S.failures store.new) result }
-    ensures possible { S.honest store.old → S.impossible store.new ≡ S.impossible store.old }
-    ensures calls { S.honest store.old → CountsOpening (S.contents store.old)
-        (S.writing_calls store.old) (S.writing_calls store.new) result }
 {
     open_session(alloc, store, None)
 }
@@ -263,17 +235,9 @@ fn open_for_verify<S: FolderStore>(alloc: Global, store: &mut S) -> Result<Start
     ensures opened { IfOk result (λ started. (opened : Opening)
         × (opened.session.folder ≡ (started_of started).session.folder)
         × (S.honest store.old → IsOpened (S.contents store.old) (S.contents store.new) opened)) }
-    ensures unopened { S.honest store.old
-        → LeavesUnopened (S.contents store.old) (S.contents store.new) result }
-    ensures lasts { S.honest store.old → Lasts (S.may_remain store.old) (S.contents store.old)
-        → OnOk result (Lasts (S.may_remain store.new) (S.contents store.new)) }
-    ensures cut { S.honest store.old → Lasts (S.may_remain store.old) (S.contents store.old)
-        → TellsApartBack (S.contents store.old) → (left : Contents) → S.may_remain store.new left
-        → OpensAsBefore (S.contents store.old) left }
+    ensures opening { S.honest store.old → OpensStore S.contents S.may_remain S.impossible
+        S.writing_calls store.old store.new result }
     ensures failures { CountsFailures (S.failures store.old) (S.failures store.new) result }
-    ensures possible { S.honest store.old → S.impossible store.new ≡ S.impossible store.old }
-    ensures calls { S.honest store.old → CountsOpening (S.contents store.old)
-        (S.writing_calls store.old) (S.writing_calls store.new) result }
 {
     let (mut folder, journal) = read_store(alloc, store)?;
     let Some(text) = journal else {
@@ -305,17 +269,9 @@ pub(crate) fn open_for<S: FolderStore>(
     ensures opened { IfOk result (λ started. (opened : Opening)
         × StandsFor (command_of command.now) opened (started_of started)
         × (S.honest store.old → IsOpened (S.contents store.old) (S.contents store.new) opened)) }
-    ensures unopened { S.honest store.old
-        → LeavesUnopened (S.contents store.old) (S.contents store.new) result }
-    ensures lasts { S.honest store.old → Lasts (S.may_remain store.old) (S.contents store.old)
-        → OnOk result (Lasts (S.may_remain store.new) (S.contents store.new)) }
-    ensures cut { S.honest store.old → Lasts (S.may_remain store.old) (S.contents store.old)
-        → TellsApartBack (S.contents store.old) → (left : Contents) → S.may_remain store.new left
-        → OpensAsBefore (S.contents store.old) left }
+    ensures opening { S.honest store.old → OpensStore S.contents S.may_remain S.impossible
+        S.writing_calls store.old store.new result }
     ensures failures { CountsFailures (S.failures store.old) (S.failures store.new) result }
-    ensures possible { S.honest store.old → S.impossible store.new ≡ S.impossible store.old }
-    ensures calls { S.honest store.old → CountsOpening (S.contents store.old)
-        (S.writing_calls store.old) (S.writing_calls store.new) result }
 {
     match command {
         Command::Verify { .. } => open_for_verify(alloc, store),

@@ -77,7 +77,8 @@ pub fn perform<S: FolderStore>(
     session: &mut Session,
     command: &Command,
 ) -> Result<Outcome, PerformFault>
-    ensures honest { S.honest store.old → S.honest store.new }
+    // The session is the one from after the action, whose changes lead to its folder; the answer is
+    // theirs, and the store holds that session. A verify leaves both alone.
     ensures session { OnOk result (session_after
         (session_of_kept session.old) (command_of command.now) ≡ Ok (session_of_kept session.new)) }
     ensures leads { OnOk result (LeadsToAfterAsked
@@ -89,11 +90,19 @@ pub fn perform<S: FolderStore>(
         (session_of_kept session.new) (S.contents store.old) (S.contents store.new)) }
     ensures verify { IsVerify (command_of command.now)
         → (store.new ≡ store.old) × (session.new ≡ session.old) }
+    // A refusal has a cause and leaves the session as it was; it is reported before memory is taken
+    // where it can be.
     ensures refused { IfErr result (IsRefused (command_of command.now) session.old session.new
         (S.failures store.old) (S.failures store.new)) }
     ensures early { let reason = early_refusal_of session.old.folder.files
         (command_of command.now) in (fault : Fault) → reason ≡ Some fault
         → IsErrOf result (PerformFault.Session (SessionFault.Plan fault)) }
+    ensures nothing_to_undo { command_of command.now ≡ Undo → session.old.undos ≡ []
+        → IsErrOf result (PerformFault.Session SessionFault.NothingToUndo) }
+    ensures nothing_to_redo { command_of command.now ≡ Redo → session.old.redos ≡ []
+        → IsErrOf result (PerformFault.Session SessionFault.NothingToRedo) }
+    // So it leaves an honest store. Where the store fails, it opens as before or as afterwards, and the
+    // changes are made in their order.
     ensures unchanged { S.honest store.old
         → IfErr result (λ fault. IsSession fault → S.contents store.new ≡ S.contents store.old) }
     ensures stopped { S.honest store.old
@@ -101,6 +110,10 @@ pub fn perform<S: FolderStore>(
         → TellsApartAlong (session_of_kept session.old) (command_of command.now)
         → OnErr result (OpensAsBeforeOrAfter (session_of_kept session.old)
         (command_of command.now) (S.contents store.old) (S.contents store.new)) }
+    ensures in_order { S.honest store.old → OnErr result (AreSomeMade
+        (changes_asked (session_of_kept session.old) (command_of command.now))
+        (S.contents store.old).files (S.contents store.new).files) }
+    // What a power cut leaves of it afterwards, and at any moment.
     ensures lasts { S.honest store.old → Lasts (S.may_remain store.old) (S.contents store.old)
         → OnOk result (Lasts (S.may_remain store.new) (S.contents store.new)) }
     ensures cut { S.honest store.old → Lasts (S.may_remain store.old) (S.contents store.old)
@@ -109,18 +122,13 @@ pub fn perform<S: FolderStore>(
         → (left : Contents) → S.may_remain store.new left
         → OpensAsBeforeOrAfter (session_of_kept session.old)
         (command_of command.now) (S.contents store.old) left }
-    ensures in_order { S.honest store.old → OnErr result (AreSomeMade
-        (changes_asked (session_of_kept session.old) (command_of command.now))
-        (S.contents store.old).files (S.contents store.new).files) }
-    ensures later { S.failures store.old ≤ S.failures store.new }
-    ensures steady { OnOk result (S.failures store.new ≡ S.failures store.old) }
+    // Of the store nothing is asked that can't be done. Its failures and writing calls are counted.
+    ensures honest { S.honest store.old → S.honest store.new }
     ensures possible { S.honest store.old
         → (S.contents store.old).files ≡ session.old.folder.files
         → S.impossible store.new ≡ S.impossible store.old }
-    ensures nothing_to_undo { command_of command.now ≡ Undo → session.old.undos ≡ []
-        → IsErrOf result (PerformFault.Session SessionFault.NothingToUndo) }
-    ensures nothing_to_redo { command_of command.now ≡ Redo → session.old.redos ≡ []
-        → IsErrOf result (PerformFault.Session SessionFault.NothingToRedo) }
+    ensures later { S.failures store.old ≤ S.failures store.new }
+    ensures steady { OnOk result (S.failures store.new ≡ S.failures store.old) }
     ensures calls { OnOk result (S.writing_calls store.new ≡ S.writing_calls store.old
         + calls_asked (session_of_kept session.old) (command_of command.now)) }
     ensures at_most { AreAtMost (calls_asked (session_of_kept session.old)

@@ -1,14 +1,12 @@
-use Rattle.std.proofs.Common.{Some, Ok, sym, ap, subst, ◌∙◌}
+use Rattle.std.proofs.Common.{Some, Ok, rules, sym, ap, subst, ◌∙◌}
 use Rattle.std.specs.Prelude.{IfOk, Vec, ℕ, option_map}
 use Rattle.std.specs.declared.alloc.Global.{Global}
 use Rattle.par2_spec.specs.Opening.{Started, new_session}
-use Rattle.par2_folder.specs.Cuts.{Lasts}
-use Rattle.par2_tool.specs.Holding.{with_history, OpensAsBefore, TellsApartBack}
-use Rattle.par2_tool.specs.Opening.{started_of, IsOpened, IsRead, LeavesUnopened}
-use Rattle.par2_tool.specs.Calls.{CountsOpening}
-use Rattle.par2_tool.proofs.Calls.{no_calls}
+use Rattle.par2_tool.specs.Holding.{with_history}
+use Rattle.par2_tool.specs.Opening.{started_of, IsOpened, IsRead}
 use Rattle.par2_tool.proofs.AsIs.{opened_as_is, opened_new, stands_on}
 use Rattle.par2_tool.proofs.Openings.{text_read}
+use Rattle.par2_tool.proofs.StoreOpenings.{only_read, read_before}
 use Rattle.par2_tool.proofs.opening.open_for_verify.Goals as goal
 
 pub returns-in_default-clause-opened : goal.returns-in_default-clause-opened
@@ -52,50 +50,33 @@ returns-clause-opened g c =
     (λ honest. subst (λ k. IsRead k files (Some bytes) → IfOk result (λ s. IsOpened k new (started_of s))) (c.read_store.ensures.same honest)
     (c.open_with.ensures.opened (c.read_store.ensures.honest honest)) (read honest))
 
-pub returns-clause-unopened : goal.returns-clause-unopened
-returns-clause-unopened g c honest =
-    let old = g.S.FolderStore.contents c.args.store.now in
-    let new = g.S.FolderStore.contents c.open_with.new.store in
-    let files = c.opens_as_is.new.folder.files in
-    let bytes = c.deref-2.result.now in
-    let read = text_read old files c.in_ok-folder.journal c.in-Some.text bytes
-    (subst (λ f. IsRead old f (option_map (λ (bytes : Vec ℕ Global). bytes.items) c.in_ok-folder.journal)) (sym c.opens_as_is.ensures.files) (c.in_ok-folder.ensures.read honest))
-    c.in-Some.is c.deref-2.ensures.value in
-    subst (λ k. IsRead k files (Some bytes) → LeavesUnopened k new c.open_with.result) (c.read_store.ensures.same honest)
-    (c.open_with.ensures.unopened (c.read_store.ensures.honest honest)) read
+pub returns-in_err-folder-clause-opening : goal.returns-in_err-folder-clause-opening
+returns-in_err-folder-clause-opening g c honest =
+    only_read g.S.FolderStore.contents g.S.FolderStore.may_remain g.S.FolderStore.impossible g.S.FolderStore.writing_calls c.args.store.now c.read_store.new.store c.from_residual.result
+    (c.read_store.ensures.same honest) (c.read_store.ensures.remains honest) (c.read_store.ensures.possible honest) c.read_store.ensures.unwritten (search rules)
 
-pub returns-clause-cut : goal.returns-clause-cut
-returns-clause-cut g c honest lasts apart left may =
+pub returns-in_default-clause-opening : goal.returns-in_default-clause-opening
+returns-in_default-clause-opening g c honest =
+    only_read g.S.FolderStore.contents g.S.FolderStore.may_remain g.S.FolderStore.impossible g.S.FolderStore.writing_calls c.args.store.now c.read_store.new.store _
+    (c.read_store.ensures.same honest) (c.read_store.ensures.remains honest) (c.read_store.ensures.possible honest) c.read_store.ensures.unwritten (record { refused = tt; stopped = λ _. tt })
+
+pub returns-in_err-opens_as_is-clause-opening : goal.returns-in_err-opens_as_is-clause-opening
+returns-in_err-opens_as_is-clause-opening g c honest =
+    only_read g.S.FolderStore.contents g.S.FolderStore.may_remain g.S.FolderStore.impossible g.S.FolderStore.writing_calls c.args.store.now c.read_store.new.store c.from_residual-in_err-opens_as_is.result
+    (c.read_store.ensures.same honest) (c.read_store.ensures.remains honest) (c.read_store.ensures.possible honest) c.read_store.ensures.unwritten (search rules)
+
+pub returns-then-branch-clause-opening : goal.returns-then-branch-clause-opening
+returns-then-branch-clause-opening g c honest =
+    only_read g.S.FolderStore.contents g.S.FolderStore.may_remain g.S.FolderStore.impossible g.S.FolderStore.writing_calls c.args.store.now c.read_store.new.store _
+    (c.read_store.ensures.same honest) (c.read_store.ensures.remains honest) (c.read_store.ensures.possible honest) c.read_store.ensures.unwritten (record { refused = tt; stopped = λ _. tt })
+
+pub returns-clause-opening : goal.returns-clause-opening
+returns-clause-opening g c honest =
     let files = c.opens_as_is.new.folder.files in
     let bytes = c.deref-2.result.now in
     let read = text_read (g.S.FolderStore.contents c.args.store.now) files c.in_ok-folder.journal c.in-Some.text bytes
     (subst (λ f. IsRead (g.S.FolderStore.contents c.args.store.now) f (option_map (λ (bytes : Vec ℕ Global). bytes.items) c.in_ok-folder.journal)) (sym c.opens_as_is.ensures.files) (c.in_ok-folder.ensures.read honest))
     c.in-Some.is c.deref-2.ensures.value in
-    subst (λ k. Lasts (g.S.FolderStore.may_remain c.read_store.new.store) k → IsRead k files (Some bytes) → TellsApartBack k → OpensAsBefore k left) (c.read_store.ensures.same honest)
-    (λ still is tells. c.open_with.ensures.cut (c.read_store.ensures.honest honest) still is tells left may) (λ other may_be. lasts other (c.read_store.ensures.remains honest other may_be)) read apart
-
--- the writing calls
-pub returns-in_err-folder-clause-calls : goal.returns-in_err-folder-clause-calls
-returns-in_err-folder-clause-calls g c honest = no_calls (g.S.FolderStore.contents c.args.store.now) (g.S.FolderStore.writing_calls c.args.store.now) (g.S.FolderStore.writing_calls c.read_store.new.store) c.from_residual.result c.read_store.ensures.unwritten
-
-pub returns-in_default-clause-calls : goal.returns-in_default-clause-calls
-returns-in_default-clause-calls g c honest = no_calls (g.S.FolderStore.contents c.args.store.now) (g.S.FolderStore.writing_calls c.args.store.now) (g.S.FolderStore.writing_calls c.read_store.new.store) _ c.read_store.ensures.unwritten
-
-pub returns-in_err-opens_as_is-clause-calls : goal.returns-in_err-opens_as_is-clause-calls
-returns-in_err-opens_as_is-clause-calls g c honest = no_calls (g.S.FolderStore.contents c.args.store.now) (g.S.FolderStore.writing_calls c.args.store.now) (g.S.FolderStore.writing_calls c.read_store.new.store) c.from_residual-in_err-opens_as_is.result c.read_store.ensures.unwritten
-
-pub returns-then-branch-clause-calls : goal.returns-then-branch-clause-calls
-returns-then-branch-clause-calls g c honest = no_calls (g.S.FolderStore.contents c.args.store.now) (g.S.FolderStore.writing_calls c.args.store.now) (g.S.FolderStore.writing_calls c.read_store.new.store) _ c.read_store.ensures.unwritten
-
-pub returns-clause-calls : goal.returns-clause-calls
-returns-clause-calls g c honest =
-    let old = g.S.FolderStore.contents c.args.store.now in
-    let after = g.S.FolderStore.writing_calls c.open_with.new.store in
-    let files = c.opens_as_is.new.folder.files in
-    let bytes = c.deref-2.result.now in
-    let read = text_read old files c.in_ok-folder.journal c.in-Some.text bytes
-    (subst (λ f. IsRead old f (option_map (λ (bytes : Vec ℕ Global). bytes.items) c.in_ok-folder.journal)) (sym c.opens_as_is.ensures.files) (c.in_ok-folder.ensures.read honest))
-    c.in-Some.is c.deref-2.ensures.value in
-    subst (λ before. CountsOpening old before after c.open_with.result) c.read_store.ensures.unwritten
-    (subst (λ k. IsRead k files (Some bytes) → CountsOpening k (g.S.FolderStore.writing_calls c.read_store.new.store) after c.open_with.result) (c.read_store.ensures.same honest)
-    (c.open_with.ensures.calls (c.read_store.ensures.honest honest)) read)
+    read_before g.S.FolderStore.contents g.S.FolderStore.may_remain g.S.FolderStore.impossible g.S.FolderStore.writing_calls c.args.store.now c.read_store.new.store c.open_with.result
+    (c.read_store.ensures.same honest) (c.read_store.ensures.remains honest) (c.read_store.ensures.possible honest) c.read_store.ensures.unwritten c.open_with.new.store
+    (c.open_with.ensures.opening (c.read_store.ensures.honest honest) (subst (λ k. IsRead k files (Some bytes)) (sym (c.read_store.ensures.same honest)) read))

@@ -1,14 +1,11 @@
-use Rattle.std.proofs.Common.{Some, sym, subst}
+use Rattle.std.proofs.Common.{Some, rules, sym, subst}
 use Rattle.std.specs.Prelude.{IfOk, Vec, ℕ, option_map}
 use Rattle.std.specs.declared.alloc.Global.{Global}
 use Rattle.par2_spec.specs.Opening.{Started}
-use Rattle.par2_folder.specs.Cuts.{Lasts}
-use Rattle.par2_tool.specs.Holding.{OpensAsBefore, TellsApartBack}
-use Rattle.par2_tool.specs.Opening.{started_of, IsOpened, IsRead, LeavesUnopened}
-use Rattle.par2_tool.specs.Calls.{CountsOpening}
+use Rattle.par2_tool.specs.Opening.{started_of, IsOpened, IsRead}
 use Rattle.par2_tool.proofs.AsIs.{opened_new}
-use Rattle.par2_tool.proofs.Calls.{no_calls}
 use Rattle.par2_tool.proofs.Openings.{text_read}
+use Rattle.par2_tool.proofs.StoreOpenings.{only_read, read_before}
 use Rattle.par2_tool.proofs.opening.open_session.Goals as goal
 
 pub returns-in-Some-clause-opened : goal.returns-in-Some-clause-opened
@@ -21,16 +18,6 @@ returns-in-Some-clause-opened g c honest =
     subst (λ k. IsRead k files (Some bytes) → IfOk c.open_with.result (λ s. IsOpened k new (started_of s))) (c.read_store.ensures.same honest)
     (c.open_with.ensures.opened (c.read_store.ensures.honest honest)) read
 
-pub returns-in-Some-clause-unopened : goal.returns-in-Some-clause-unopened
-returns-in-Some-clause-unopened g c honest =
-    let old = g.S.FolderStore.contents c.args.store.now in
-    let new = g.S.FolderStore.contents c.open_with.new.store in
-    let files = c.in_ok-folder.folder.files in
-    let bytes = c.deref.result.now in
-    let read = text_read old files c.in_ok-folder.journal c.in-Some.text bytes (c.in_ok-folder.ensures.read honest) c.in-Some.is c.deref.ensures.value in
-    subst (λ k. IsRead k files (Some bytes) → LeavesUnopened k new c.open_with.result) (c.read_store.ensures.same honest)
-    (c.open_with.ensures.unopened (c.read_store.ensures.honest honest)) read
-
 pub returns-in-None-clause-opened : goal.returns-in-None-clause-opened
 returns-in-None-clause-opened g c honest =
     let old = g.S.FolderStore.contents c.args.store.now in
@@ -39,28 +26,22 @@ returns-in-None-clause-opened g c honest =
     subst (λ k. IsOpened old k (started_of c.without_history.result)) (sym (c.read_store.ensures.same honest))
     (subst (λ (s : Started). IsOpened old old s) (sym c.without_history.ensures) (opened_new old files read))
 
-pub returns-in-Some-clause-cut : goal.returns-in-Some-clause-cut
-returns-in-Some-clause-cut g c honest lasts apart left may =
-    let files = c.in_ok-folder.folder.files in
-    let bytes = c.deref.result.now in
-    let read = text_read (g.S.FolderStore.contents c.args.store.now) files c.in_ok-folder.journal c.in-Some.text bytes (c.in_ok-folder.ensures.read honest) c.in-Some.is c.deref.ensures.value in
-    subst (λ k. Lasts (g.S.FolderStore.may_remain c.read_store.new.store) k → IsRead k files (Some bytes) → TellsApartBack k → OpensAsBefore k left) (c.read_store.ensures.same honest)
-    (λ still is tells. c.open_with.ensures.cut (c.read_store.ensures.honest honest) still is tells left may) (λ other may_be. lasts other (c.read_store.ensures.remains honest other may_be)) read apart
+pub returns-in_err-folder-clause-opening : goal.returns-in_err-folder-clause-opening
+returns-in_err-folder-clause-opening g c honest =
+    only_read g.S.FolderStore.contents g.S.FolderStore.may_remain g.S.FolderStore.impossible g.S.FolderStore.writing_calls c.args.store.now c.read_store.new.store c.from_residual.result
+    (c.read_store.ensures.same honest) (c.read_store.ensures.remains honest) (c.read_store.ensures.possible honest) c.read_store.ensures.unwritten (search rules)
 
--- the writing calls
-pub returns-in_err-folder-clause-calls : goal.returns-in_err-folder-clause-calls
-returns-in_err-folder-clause-calls g c honest = no_calls (g.S.FolderStore.contents c.args.store.now) (g.S.FolderStore.writing_calls c.args.store.now) (g.S.FolderStore.writing_calls c.read_store.new.store) c.from_residual.result c.read_store.ensures.unwritten
+pub returns-in-None-clause-opening : goal.returns-in-None-clause-opening
+returns-in-None-clause-opening g c honest =
+    only_read g.S.FolderStore.contents g.S.FolderStore.may_remain g.S.FolderStore.impossible g.S.FolderStore.writing_calls c.args.store.now c.read_store.new.store _
+    (c.read_store.ensures.same honest) (c.read_store.ensures.remains honest) (c.read_store.ensures.possible honest) c.read_store.ensures.unwritten (record { refused = tt; stopped = λ _. tt })
 
-pub returns-in-Some-clause-calls : goal.returns-in-Some-clause-calls
-returns-in-Some-clause-calls g c honest =
+pub returns-in-Some-clause-opening : goal.returns-in-Some-clause-opening
+returns-in-Some-clause-opening g c honest =
     let old = g.S.FolderStore.contents c.args.store.now in
-    let after = g.S.FolderStore.writing_calls c.open_with.new.store in
     let files = c.in_ok-folder.folder.files in
     let bytes = c.deref.result.now in
     let read = text_read old files c.in_ok-folder.journal c.in-Some.text bytes (c.in_ok-folder.ensures.read honest) c.in-Some.is c.deref.ensures.value in
-    subst (λ before. CountsOpening old before after c.open_with.result) c.read_store.ensures.unwritten
-    (subst (λ k. IsRead k files (Some bytes) → CountsOpening k (g.S.FolderStore.writing_calls c.read_store.new.store) after c.open_with.result) (c.read_store.ensures.same honest)
-    (c.open_with.ensures.calls (c.read_store.ensures.honest honest)) read)
-
-pub returns-in-None-clause-calls : goal.returns-in-None-clause-calls
-returns-in-None-clause-calls g c honest = no_calls (g.S.FolderStore.contents c.args.store.now) (g.S.FolderStore.writing_calls c.args.store.now) (g.S.FolderStore.writing_calls c.read_store.new.store) _ c.read_store.ensures.unwritten
+    read_before g.S.FolderStore.contents g.S.FolderStore.may_remain g.S.FolderStore.impossible g.S.FolderStore.writing_calls c.args.store.now c.read_store.new.store c.open_with.result
+    (c.read_store.ensures.same honest) (c.read_store.ensures.remains honest) (c.read_store.ensures.possible honest) c.read_store.ensures.unwritten c.open_with.new.store
+    (c.open_with.ensures.opening (c.read_store.ensures.honest honest) (subst (λ k. IsRead k files (Some bytes)) (sym (c.read_store.ensures.same honest)) read))

@@ -1,4 +1,4 @@
-use Rattle.std.proofs.Common.{inl, Ok, Err, true, false, refl, sym, ap, subst, rules, ◌∙◌}
+use Rattle.std.proofs.Common.{inl, Some, Ok, Err, true, false, refl, sym, ap, subst, rules, ◌∙◌}
 use Rattle.std.proofs.lemmas.Result.{err_from_is_err_and}
 use Rattle.par2_spec.specs.Changes.{FolderState}
 use Rattle.par2_spec.specs.Opening.{Halfway, Opens, Started}
@@ -6,45 +6,19 @@ use Rattle.par2_spec.specs.Sessions.{Session, KeptSession, session_of_kept}
 use Rattle.par2_spec.specs.Stores.{Contents}
 use Rattle.par2_spec.specs.declared.JournalFault.TheVariants.{JournalInvalid, FolderChanged}
 use Rattle.par2_journal.specs.Opening.{opened_of, session_before, way_left}
-use Rattle.par2_tool.specs.Holding.{OpensAsBefore, with_history}
-use Rattle.par2_tool.specs.Opening.{IsOpened}
+use Rattle.par2_tool.specs.Holding.{OpensAsBefore, TellsApartBack, with_history}
+use Rattle.par2_tool.specs.Opening.{IsOpened, IsRead, IsStillHalfway}
 use Rattle.par2_tool.proofs.AsIs.{opened_on}
-use Rattle.par2_tool.proofs.Calls.{back_calls, no_calls, refused_calls}
+use Rattle.par2_tool.proofs.Calls.{back_calls, refused_calls}
 use Rattle.par2_tool.proofs.MadeChanges.{is_new}
 use Rattle.par2_tool.proofs.Openings.{any_err, holds_settled, opened_taken_back, opens_refused, opens_still, way_applies}
+use Rattle.par2_tool.proofs.StoreOpenings.{only_read}
 use Rattle.par2_tool.proofs.opening.open_with.Goals.{In-Ok-Halfway}
 use Rattle.par2_tool.proofs.opening.open_with.Goals as goal
 
 -- what is to be taken back
 opens_so : (g : _) (c : In-Ok-Halfway g) → Opens c.args.folder.files c.args.text.now (Ok (Halfway (session_of_kept (session_before c.in-Ok-Halfway.halfway)) (way_left c.in-Ok-Halfway.halfway)))
 opens_so g c = subst (λ found. Opens c.args.folder.files c.args.text.now (Ok (opened_of found))) c.in-Ok-Halfway.field-0-is c.in-Ok-Halfway.ensures.opened
-
-pub returns-in_err-session-in-Ok-Halfway-clause-unopened : goal.returns-in_err-session-in-Ok-Halfway-clause-unopened
-returns-in_err-session-in-Ok-Halfway-clause-unopened g c honest read =
-    let old = g.S.FolderStore.contents c.args.store.now in
-    let new = g.S.FolderStore.contents c.take_back.new.store in
-    let files = c.args.folder.files in
-    let text = c.args.text.now in
-    let halfway = c.in-Ok-Halfway.halfway in
-    let opens = opens_so g (goal.at.returns-in_err-session-in-Ok-Halfway-clause-unopened g c).In-Ok-Halfway in
-    record {
-      refused = search rules;
-      stopped = λ apart.
-          any_err c.from_residual.result (OpensAsBefore old new)
-          (opens_still old new files text (session_of_kept (session_before halfway)) (way_left halfway) read opens apart (c.in_err-session-in-Ok-Halfway.ensures.stopped honest));
-    }
-
-pub returns-in-Err-FolderChanged-true-default-clause-unopened : goal.returns-in-Err-FolderChanged-true-default-clause-unopened
-returns-in-Err-FolderChanged-true-default-clause-unopened g c honest read =
-    let arm = c.in-Err-FolderChanged-true-default in
-    record {
-      refused = (
-        opens_refused (g.S.FolderStore.contents c.args.store.now) c.args.folder.files c.args.text.now arm.field-0-0 (FolderChanged true) (Err (FolderChanged true)) read arm.ensures.refused
-            (arm.field-0-0-is ∙ ap FolderChanged arm.field-0-0-0-test) (λ memory. cc) refl,
-        refl,
-      );
-      stopped = λ _. inl refl;
-    }
 
 pub returns-in-Err-FolderChanged-false-default-clause-opened : goal.returns-in-Err-FolderChanged-false-default-clause-opened
 returns-in-Err-FolderChanged-false-default-clause-opened g c honest read =
@@ -59,18 +33,6 @@ returns-in-Err-FolderChanged-false-default-clause-opened g c honest read =
     (arm.field-0-0-is ∙ ap FolderChanged arm.field-0-0-0-test) (λ memory. cc)
     (ap (λ (s : Session). Ok (record { session = s; dropped = true })) (is_new session files same c.new.ensures.undos c.new.ensures.redos)))
     (ap (λ (k : Contents). k.files) read ∙ sym same)
-
-pub returns-in-Err-JournalInvalid-default-clause-unopened : goal.returns-in-Err-JournalInvalid-default-clause-unopened
-returns-in-Err-JournalInvalid-default-clause-unopened g c honest read =
-    let arm = c.in-Err-JournalInvalid-default in
-    record {
-      refused = (
-        opens_refused (g.S.FolderStore.contents c.args.store.now) c.args.folder.files c.args.text.now arm.field-0-0 JournalInvalid (Err JournalInvalid) read arm.ensures.refused
-            arm.field-0-0-is (λ memory. cc) refl,
-        refl,
-      );
-      stopped = λ _. inl refl;
-    }
 
 pub returns-in-Ok-Settled-clause-opened : goal.returns-in-Ok-Settled-clause-opened
 returns-in-Ok-Settled-clause-opened g c honest read =
@@ -93,58 +55,82 @@ returns-in_ok-session-in-Ok-Halfway-clause-opened g c honest read =
     subst (λ (s : KeptSession). IsOpened old new (with_history (session_of_kept s))) (sym arm.ensures.session)
     (opened_taken_back old new files text (session_of_kept (session_before halfway)) (way_left halfway) read opens (arm.ensures.done honest))
 
-pub returns-in_err-session-in-Ok-Halfway-clause-possible : goal.returns-in_err-session-in-Ok-Halfway-clause-possible
-returns-in_err-session-in-Ok-Halfway-clause-possible g c honest read =
-    let halfway = c.in-Ok-Halfway.halfway in
-    let opens = opens_so g (goal.at.returns-in_err-session-in-Ok-Halfway-clause-possible g c).In-Ok-Halfway in
-    c.take_back.ensures.possible honest (way_applies (g.S.FolderStore.contents c.args.store.now) _ _ (session_of_kept (session_before halfway)) (way_left halfway) read opens)
+-- what is taken back opens as it did, wherever it is cut
+taken_back : (g : _) (c : In-Ok-Halfway g) → (left : Contents) → IsRead (g.S.FolderStore.contents c.args.store.now) c.args.folder.files (Some c.args.text.now) → TellsApartBack (g.S.FolderStore.contents c.args.store.now)
+    → IsStillHalfway (session_of_kept (session_before c.in-Ok-Halfway.halfway)) (way_left c.in-Ok-Halfway.halfway) (g.S.FolderStore.contents c.args.store.now) left → OpensAsBefore (g.S.FolderStore.contents c.args.store.now) left
+taken_back g c left read apart still =
+    opens_still (g.S.FolderStore.contents c.args.store.now) left c.args.folder.files c.args.text.now (session_of_kept (session_before c.in-Ok-Halfway.halfway)) (way_left c.in-Ok-Halfway.halfway) read (opens_so g c) apart still
 
-pub returns-in_ok-session-in-Ok-Halfway-clause-possible : goal.returns-in_ok-session-in-Ok-Halfway-clause-possible
-returns-in_ok-session-in-Ok-Halfway-clause-possible g c honest read =
+pub returns-in_err-session-in-Ok-Halfway-clause-opening : goal.returns-in_err-session-in-Ok-Halfway-clause-opening
+returns-in_err-session-in-Ok-Halfway-clause-opening g c honest read =
+    let old = g.S.FolderStore.contents c.args.store.now in
+    let new = g.S.FolderStore.contents c.take_back.new.store in
     let halfway = c.in-Ok-Halfway.halfway in
-    let opens = opens_so g (goal.at.returns-in_ok-session-in-Ok-Halfway-clause-possible g c).In-Ok-Halfway in
-    c.take_back.ensures.possible honest (way_applies (g.S.FolderStore.contents c.args.store.now) _ _ (session_of_kept (session_before halfway)) (way_left halfway) read opens)
-
--- a cut on the way back
-pub returns-in_err-session-in-Ok-Halfway-clause-cut : goal.returns-in_err-session-in-Ok-Halfway-clause-cut
-returns-in_err-session-in-Ok-Halfway-clause-cut g c honest lasts read apart left may =
-    let halfway = c.in-Ok-Halfway.halfway in
-    let opens = opens_so g (goal.at.returns-in_err-session-in-Ok-Halfway-clause-cut g c).In-Ok-Halfway in
-    opens_still (g.S.FolderStore.contents c.args.store.now) left c.args.folder.files c.args.text.now (session_of_kept (session_before halfway)) (way_left halfway) read opens apart (c.take_back.ensures.remains honest lasts left may)
-
-pub returns-in_ok-session-in-Ok-Halfway-clause-cut : goal.returns-in_ok-session-in-Ok-Halfway-clause-cut
-returns-in_ok-session-in-Ok-Halfway-clause-cut g c honest lasts read apart left may =
-    let halfway = c.in-Ok-Halfway.halfway in
-    let opens = opens_so g (goal.at.returns-in_ok-session-in-Ok-Halfway-clause-cut g c).In-Ok-Halfway in
-    opens_still (g.S.FolderStore.contents c.args.store.now) left c.args.folder.files c.args.text.now (session_of_kept (session_before halfway)) (way_left halfway) read opens apart (c.take_back.ensures.remains honest lasts left may)
-
--- the writing calls
-pub returns-in_err-session-in-Ok-Halfway-clause-calls : goal.returns-in_err-session-in-Ok-Halfway-clause-calls
-returns-in_err-session-in-Ok-Halfway-clause-calls g c honest read =
-    let halfway = c.in-Ok-Halfway.halfway in
-    let opens = opens_so g (goal.at.returns-in_err-session-in-Ok-Halfway-clause-calls g c).In-Ok-Halfway in
+    let arm = (goal.at.returns-in_err-session-in-Ok-Halfway-clause-opening g c).In-Ok-Halfway in
     let told = err_from_is_err_and c.from_residual.result c.from_residual.ensures.1 in
-    back_calls (g.S.FolderStore.contents c.args.store.now) c.args.folder.files c.args.text.now (session_of_kept (session_before halfway)) (way_left halfway) _ _ c.from_residual.result read opens
-    (refused_calls _ _ _ c.from_residual.result _ told.0 told.1 told.2 c.in_err-session-in-Ok-Halfway.ensures.calls.refused)
+    record {
+      unopened = record {
+        refused = search rules;
+        stopped = λ apart. any_err c.from_residual.result (OpensAsBefore old new) (taken_back g arm new read apart (c.in_err-session-in-Ok-Halfway.ensures.stopped honest));
+      };
+      lasts = search rules;
+      cut = λ lasts apart left may. taken_back g arm left read apart (c.take_back.ensures.remains honest lasts left may);
+      possible = c.take_back.ensures.possible honest (way_applies old _ _ (session_of_kept (session_before halfway)) (way_left halfway) read (opens_so g arm));
+      calls = back_calls old c.args.folder.files c.args.text.now (session_of_kept (session_before halfway)) (way_left halfway) _ _ c.from_residual.result read (opens_so g arm)
+          (refused_calls _ _ _ c.from_residual.result _ told.0 told.1 told.2 c.in_err-session-in-Ok-Halfway.ensures.calls.refused);
+    }
 
-pub returns-in_ok-session-in-Ok-Halfway-clause-calls : goal.returns-in_ok-session-in-Ok-Halfway-clause-calls
-returns-in_ok-session-in-Ok-Halfway-clause-calls g c honest read =
+pub returns-in_ok-session-in-Ok-Halfway-clause-opening : goal.returns-in_ok-session-in-Ok-Halfway-clause-opening
+returns-in_ok-session-in-Ok-Halfway-clause-opening g c honest read =
+    let old = g.S.FolderStore.contents c.args.store.now in
     let halfway = c.in-Ok-Halfway.halfway in
-    let opens = opens_so g (goal.at.returns-in_ok-session-in-Ok-Halfway-clause-calls g c).In-Ok-Halfway in
-    back_calls (g.S.FolderStore.contents c.args.store.now) c.args.folder.files c.args.text.now (session_of_kept (session_before halfway)) (way_left halfway) _ _ _ read opens
-    (record { opened = c.in_ok-session-in-Ok-Halfway.ensures.calls.opened; refused = tt })
+    let arm = (goal.at.returns-in_ok-session-in-Ok-Halfway-clause-opening g c).In-Ok-Halfway in
+    record {
+      unopened = record { refused = tt; stopped = λ _. tt };
+      lasts = λ _. c.in_ok-session-in-Ok-Halfway.ensures.lasts honest;
+      cut = λ lasts apart left may. taken_back g arm left read apart (c.take_back.ensures.remains honest lasts left may);
+      possible = c.take_back.ensures.possible honest (way_applies old _ _ (session_of_kept (session_before halfway)) (way_left halfway) read (opens_so g arm));
+      calls = back_calls old c.args.folder.files c.args.text.now (session_of_kept (session_before halfway)) (way_left halfway) _ _ _ read (opens_so g arm)
+          (record { opened = c.in_ok-session-in-Ok-Halfway.ensures.calls.opened; refused = tt });
+    }
 
-pub returns-in-Ok-Settled-clause-calls : goal.returns-in-Ok-Settled-clause-calls
-returns-in-Ok-Settled-clause-calls g c honest read = no_calls (g.S.FolderStore.contents c.args.store.now) (g.S.FolderStore.writing_calls c.args.store.now) (g.S.FolderStore.writing_calls c.args.store.now) _ refl
+pub returns-in-Ok-Settled-clause-opening : goal.returns-in-Ok-Settled-clause-opening
+returns-in-Ok-Settled-clause-opening g c honest read =
+    only_read g.S.FolderStore.contents g.S.FolderStore.may_remain g.S.FolderStore.impossible g.S.FolderStore.writing_calls c.args.store.now c.args.store.now _ refl (λ left may. may) refl refl
+    (record { refused = tt; stopped = λ _. tt })
 
-pub returns-in-Err-FolderChanged-false-default-clause-calls : goal.returns-in-Err-FolderChanged-false-default-clause-calls
-returns-in-Err-FolderChanged-false-default-clause-calls g c honest read = no_calls (g.S.FolderStore.contents c.args.store.now) (g.S.FolderStore.writing_calls c.args.store.now) (g.S.FolderStore.writing_calls c.args.store.now) _ refl
+pub returns-in-Err-FolderChanged-false-default-clause-opening : goal.returns-in-Err-FolderChanged-false-default-clause-opening
+returns-in-Err-FolderChanged-false-default-clause-opening g c honest read =
+    only_read g.S.FolderStore.contents g.S.FolderStore.may_remain g.S.FolderStore.impossible g.S.FolderStore.writing_calls c.args.store.now c.args.store.now _ refl (λ left may. may) refl refl
+    (record { refused = tt; stopped = λ _. tt })
 
-pub returns-in-Err-FolderChanged-true-default-clause-calls : goal.returns-in-Err-FolderChanged-true-default-clause-calls
-returns-in-Err-FolderChanged-true-default-clause-calls g c honest read = no_calls (g.S.FolderStore.contents c.args.store.now) (g.S.FolderStore.writing_calls c.args.store.now) (g.S.FolderStore.writing_calls c.args.store.now) _ refl
+pub returns-in-Err-FolderChanged-true-default-clause-opening : goal.returns-in-Err-FolderChanged-true-default-clause-opening
+returns-in-Err-FolderChanged-true-default-clause-opening g c honest read =
+    let arm = c.in-Err-FolderChanged-true-default in
+    only_read g.S.FolderStore.contents g.S.FolderStore.may_remain g.S.FolderStore.impossible g.S.FolderStore.writing_calls c.args.store.now c.args.store.now _ refl (λ left may. may) refl refl
+    (record {
+      refused = (
+        opens_refused (g.S.FolderStore.contents c.args.store.now) c.args.folder.files c.args.text.now arm.field-0-0 (FolderChanged true) (Err (FolderChanged true)) read arm.ensures.refused
+            (arm.field-0-0-is ∙ ap FolderChanged arm.field-0-0-0-test) (λ memory. cc) refl,
+        refl,
+      );
+      stopped = λ _. inl refl;
+    })
 
-pub returns-in-Err-JournalInvalid-default-clause-calls : goal.returns-in-Err-JournalInvalid-default-clause-calls
-returns-in-Err-JournalInvalid-default-clause-calls g c honest read = no_calls (g.S.FolderStore.contents c.args.store.now) (g.S.FolderStore.writing_calls c.args.store.now) (g.S.FolderStore.writing_calls c.args.store.now) _ refl
+pub returns-in-Err-JournalInvalid-default-clause-opening : goal.returns-in-Err-JournalInvalid-default-clause-opening
+returns-in-Err-JournalInvalid-default-clause-opening g c honest read =
+    let arm = c.in-Err-JournalInvalid-default in
+    only_read g.S.FolderStore.contents g.S.FolderStore.may_remain g.S.FolderStore.impossible g.S.FolderStore.writing_calls c.args.store.now c.args.store.now _ refl (λ left may. may) refl refl
+    (record {
+      refused = (
+        opens_refused (g.S.FolderStore.contents c.args.store.now) c.args.folder.files c.args.text.now arm.field-0-0 JournalInvalid (Err JournalInvalid) read arm.ensures.refused
+            arm.field-0-0-is (λ memory. cc) refl,
+        refl,
+      );
+      stopped = λ _. inl refl;
+    })
 
-pub returns-in-Err-Memory-default-clause-calls : goal.returns-in-Err-Memory-default-clause-calls
-returns-in-Err-Memory-default-clause-calls g c honest read = no_calls (g.S.FolderStore.contents c.args.store.now) (g.S.FolderStore.writing_calls c.args.store.now) (g.S.FolderStore.writing_calls c.args.store.now) _ refl
+pub returns-in-Err-Memory-default-clause-opening : goal.returns-in-Err-Memory-default-clause-opening
+returns-in-Err-Memory-default-clause-opening g c honest read =
+    only_read g.S.FolderStore.contents g.S.FolderStore.may_remain g.S.FolderStore.impossible g.S.FolderStore.writing_calls c.args.store.now c.args.store.now _ refl (λ left may. may) refl refl
+    (record { refused = refl; stopped = λ _. inl refl })

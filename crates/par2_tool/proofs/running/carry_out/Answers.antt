@@ -21,7 +21,7 @@ returns-in_err-session-clause-failed g c honest =
     let action = command_of c.args.command.now in
     let old = g.S.FolderStore.contents c.args.store.now in
     let new = g.S.FolderStore.contents c.open_for.new.store in
-    let unopened = c.in_err-session.ensures.unopened honest in
+    let unopened = (c.in_err-session.ensures.opening honest).unopened in
     let told = err_from_is_err_and c.from_residual.result c.from_residual.ensures.1 in
     rw told.1 (subst (λ (failure : Failure). IsFailed action old new failure) (sym told.2)
     (opening_failed action old new c.in_err-session.field-0.0 unopened.refused unopened.stopped))
@@ -89,27 +89,27 @@ returns-in_err-outcome-clause-failed g c honest =
 -- whatever a cut leaves, of the opening or of the command
 pub returns-in_err-session-clause-cut : goal.returns-in_err-session-clause-cut
 returns-in_err-session-clause-cut g c honest lasts left may =
-    stopped_opening (command_of c.args.command.now) (g.S.FolderStore.contents c.args.store.now) left (λ back. c.open_for.ensures.cut honest lasts back left may)
+    stopped_opening (command_of c.args.command.now) (g.S.FolderStore.contents c.args.store.now) left (λ back. (c.open_for.ensures.opening honest).cut lasts back left may)
 
 pub returns-then-is_back-clause-cut : goal.returns-then-is_back-clause-cut
 returns-then-is_back-clause-cut g c honest lasts left may =
-    stopped_opening (command_of c.args.command.now) (g.S.FolderStore.contents c.args.store.now) left (λ back. c.open_for.ensures.cut honest lasts back left may)
+    stopped_opening (command_of c.args.command.now) (g.S.FolderStore.contents c.args.store.now) left (λ back. (c.open_for.ensures.opening honest).cut lasts back left may)
 
 pub returns-clause-cut : goal.returns-clause-cut
 returns-clause-cut g c honest lasts left may =
     let found = c.in_ok-session.ensures.opened in
     cut_of_command (g.S.FolderStore.honest c.args.store.now) (command_of c.args.command.now) (g.S.FolderStore.contents c.args.store.now) (g.S.FolderStore.contents c.open_for.new.store) left found.0 (started_of c.in_ok-session.field-0)
     honest found.1 found.2
-    (λ files along. c.perform.ensures.cut (c.open_for.ensures.honest honest) (c.in_ok-session.ensures.lasts honest lasts) files along left may)
-    (λ verify. c.in_ok-session.ensures.lasts honest lasts left (subst (λ store. g.S.FolderStore.may_remain store left) (c.perform.ensures.verify verify).0 may))
+    (λ files along. c.perform.ensures.cut (c.open_for.ensures.honest honest) ((c.in_ok-session.ensures.opening honest).lasts lasts) files along left may)
+    (λ verify. (c.in_ok-session.ensures.opening honest).lasts lasts left (subst (λ store. g.S.FolderStore.may_remain store left) (c.perform.ensures.verify verify).0 may))
 
 pub returns-in_err-outcome-clause-cut : goal.returns-in_err-outcome-clause-cut
 returns-in_err-outcome-clause-cut g c honest lasts left may =
     let found = c.in_ok-session.ensures.opened in
     cut_of_command (g.S.FolderStore.honest c.args.store.now) (command_of c.args.command.now) (g.S.FolderStore.contents c.args.store.now) (g.S.FolderStore.contents c.open_for.new.store) left found.0 (started_of c.in_ok-session.field-0)
     honest found.1 found.2
-    (λ files along. c.perform.ensures.cut (c.open_for.ensures.honest honest) (c.in_ok-session.ensures.lasts honest lasts) files along left may)
-    (λ verify. c.in_ok-session.ensures.lasts honest lasts left (subst (λ store. g.S.FolderStore.may_remain store left) (c.perform.ensures.verify verify).0 may))
+    (λ files along. c.perform.ensures.cut (c.open_for.ensures.honest honest) ((c.in_ok-session.ensures.opening honest).lasts lasts) files along left may)
+    (λ verify. (c.in_ok-session.ensures.opening honest).lasts lasts left (subst (λ store. g.S.FolderStore.may_remain store left) (c.perform.ensures.verify verify).0 may))
 
 -- the writing calls
 pub returns-in_err-session-clause-failed_calls : goal.returns-in_err-session-clause-failed_calls
@@ -120,11 +120,11 @@ returns-in_err-session-clause-failed_calls g c honest =
     let after = g.S.FolderStore.writing_calls c.open_for.new.store in
     let told = err_from_is_err_and c.from_residual.result c.from_residual.ensures.1 in
     rw told.1 (subst (λ (failure : Failure). CountsFailedRun action old before after failure) (sym told.2)
-    (opening_calls action old before after c.in_err-session.field-0.0 (c.in_err-session.ensures.calls honest)))
+    (opening_calls action old before after c.in_err-session.field-0.0 (c.in_err-session.ensures.opening honest).calls))
 
 pub returns-then-is_back-clause-failed_calls : goal.returns-then-is_back-clause-failed_calls
 returns-then-is_back-clause-failed_calls g c honest =
-    let counted = c.in_ok-session.ensures.calls honest in
+    let counted = (c.in_ok-session.ensures.opening honest).calls in
     (counted.0, counted.1, counted.2.opened)
 
 pub returns-in_err-outcome-clause-failed_calls : goal.returns-in_err-outcome-clause-failed_calls
@@ -134,7 +134,7 @@ returns-in_err-outcome-clause-failed_calls g c honest =
     let before = g.S.FolderStore.writing_calls c.args.store.now in
     let middle = g.S.FolderStore.writing_calls c.open_for.new.store in
     let after = g.S.FolderStore.writing_calls c.perform.new.store in
-    let counted = c.in_ok-session.ensures.calls honest in
+    let counted = (c.in_ok-session.ensures.opening honest).calls in
     let found = c.in_ok-session.ensures.opened in
     let started = started_of c.in_ok-session.field-0 in
     let told = err_from_is_err_and c.from_residual-in_err-outcome.result c.from_residual-in_err-outcome.ensures.1 in
@@ -149,7 +149,7 @@ returns-clause-calls g c honest =
     let before = g.S.FolderStore.writing_calls c.args.store.now in
     let middle = g.S.FolderStore.writing_calls c.open_for.new.store in
     let after = g.S.FolderStore.writing_calls c.perform.new.store in
-    let counted = c.in_ok-session.ensures.calls honest in
+    let counted = (c.in_ok-session.ensures.opening honest).calls in
     let found = c.in_ok-session.ensures.opened in
     let started = started_of c.in_ok-session.field-0 in
     let opened : middle ≡ before + counted.0 = counted.2.opened in
