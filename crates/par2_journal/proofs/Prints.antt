@@ -6,7 +6,8 @@ use Rattle.par2_spec.specs.Folders.{Folder, fingerprint}
 use Rattle.par2_spec.specs.Changes.{Change, effect, effects, folders_after}
 use Rattle.par2_spec.specs.Sessions.{KeptSession, OnlyGrew}
 use Rattle.par2_folder.specs.Landmarks.{AreLandmarksOf}
-use Rattle.par2_journal.specs.Ahead.{AreAlong, IsAhead, next_changes}
+use Rattle.par2_journal.specs.Ahead.{IsAhead, next_changes}
+use Rattle.par2_journal.specs.Along.{AreAlong}
 use Rattle.par2_journal.specs.Ready.{next_of}
 use Rattle.par2_journal.specs.declared.ahead.Ahead.{Ahead}
 use Rattle.par2_journal.specs.declared.ahead.Ahead.TheVariants as ahead

@@ -1,0 +1,6 @@
+use Rattle.par2_journal.proofs.Readiness.{can_change}
+use Rattle.par2_journal.proofs.session.Session.make_way.Goals as goal
+
+pub returns-clause-can : goal.returns-clause-can
+returns-clause-can c =
+    can_change c.args.self.now c.make_room.new.self c.args.changes.now c.make_room.ensures.kept c.requires (rw c.len.ensures at c.in_ok-make_room.ensures.vacant) c.in_ok-make_room.ensures.room
