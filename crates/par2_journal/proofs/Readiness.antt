@@ -13,6 +13,7 @@ use Rattle.par2_spec.specs.Sessions.{KeptSession, OnlyGrew, session_of_kept, cha
 use Rattle.par2_spec.specs.Texts.{Step, step_of}
 use Rattle.par2_spec.proofs.FolderLaws.{takes_applicable}
 use Rattle.par2_spec.specs.declared.Fault.{Fault}
+use Rattle.par2_spec.specs.declared.Fault.TheVariants.{RepairFailed}
 use Rattle.par2_plan.specs.Drafts.{HasItsMd5s, IsDraft}
 use Rattle.par2_plan.specs.declared.draft.Draft.{Draft}
 use Rattle.par2_journal.specs.Along.{AreAlong, prints_of}
@@ -85,9 +86,14 @@ draft_ready old new base extras purge draft changes steps prints grew is has sam
 -- what a draft's changes lead to
 pub draft_leads : (folder : Folder) (base : List ℕ) (extras : List (List ℕ)) (purge : Bool) (draft : Draft) → IsDraft folder base extras purge draft → LeadsToAfterAsked folder (Do (Repair base extras purge))
 draft_leads folder base extras purge draft is = λ accepted. (
-      subst (λ (cs : List Change). IsTrue (are_applicable folder cs)) is.changes is.applies,
-      ap (effects folder) (sym is.changes) ∙ is.leads,
-    )
+  subst (λ (cs : List Change). IsTrue (are_applicable folder cs)) is.changes is.applies,
+  ap (effects folder) (sym is.changes) ∙ is.leads,
+)
+
+-- why a draft is refused that has a wrong MD5
+pub draft_refused : {A : Type 0} (r : Result A Fault) (s : KeptSession) (base : List ℕ) (extras : List (List ℕ)) (purge : Bool) (draft : Draft) (fault : Fault) → (y : Fault) × (r ≡ Err y) × (y ≡ fault)
+    → IsDraft s.folder.files base extras purge draft → ¬ (HasItsMd5s draft) → fault ≡ RepairFailed → IfErr r (MayFail (Repair base extras purge) s)
+draft_refused r s base extras purge draft fault p is lacks same = subst (λ x. IfErr x (MayFail (Repair base extras purge) s)) (sym (p.1 ∙ ap Err (p.2 ∙ same))) (inr (is.failed lacks))
 
 none_is_first : {F : Type 0} (fault : F) (entries : List (List Change)) → length entries ≡ 0 → first_entry fault entries ≡ Err fault
 none_is_first fault entries h = ap (first_entry fault) (nil_from_length entries h)

@@ -86,7 +86,13 @@ impl Fingerprints {
         ensures { IfOk result (λ prints.
             AreAlong prints folder.now.files (changes_in changes.now)) }
     {
-        let (fingerprints, _) = Fingerprints::and_digests(alloc, landmarks, folder, changes, &[])?;
+        let (fingerprints, _digests) = Fingerprints::and_digests(
+            alloc,
+            landmarks,
+            folder,
+            changes,
+            &[],
+        )?;
         Ok(fingerprints)
     }
 

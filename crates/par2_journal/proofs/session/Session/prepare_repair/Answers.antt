@@ -1,8 +1,34 @@
-use Rattle.std.proofs.Common.{inr, map, string_bytes, subst}
-use Rattle.par2_spec.specs.Folders.{Folder}
-use Rattle.par2_plan.specs.Drafts.{IsDraft}
-use Rattle.par2_journal.proofs.Readiness.{draft_ready, draft_leads}
+use Rattle.std.proofs.Common.{map, string_bytes}
+use Rattle.std.proofs.lemmas.Result.{err_from_is_err_and}
+use Rattle.par2_journal.proofs.Readiness.{draft_leads, draft_ready, draft_refused}
 use Rattle.par2_journal.proofs.session.Session.prepare_repair.Goals as goal
 
+pub returns-in_err-changes-clause-refused : goal.returns-in_err-changes-clause-refused
+returns-in_err-changes-clause-refused c =
+    let is = rw c.folder.ensures.folder at c.in_ok-draft.ensures.draft in
+    let refused = c.from_residual-in_err-changes in
+    draft_refused refused.result c.args.self.now c.args.base.now (map string_bytes c.args.extras.now) c.args.purge c.in_ok-draft.draft c.in_err-changes.field-0.0
+    (err_from_is_err_and refused.result refused.ensures.1) is c.in_err-changes.ensures.wrong c.in_err-changes.ensures.refused
+
 pub returns-clause-ready : goal.returns-clause-ready
-returns-clause-ready c = ?
+returns-clause-ready c =
+    let is = rw c.folder.ensures.folder at c.in_ok-draft.ensures.draft in
+    let way = c.in_ok-steps.ensures in
+    let tested = c.in_ok-changes.ensures in
+    draft_ready c.args.self.now c.make_way.new.self c.args.base.now (map string_bytes c.args.extras.now) c.args.purge c.in_ok-draft.draft c.in_ok-changes.changes c.in_ok-steps.steps c.in_ok-fingerprints.fingerprints
+    c.make_way.ensures.kept is tested.right tested.changes way.can way.steps c.in_ok-fingerprints.ensures.fingerprints
+
+pub returns-clause-leads : goal.returns-clause-leads
+returns-clause-leads c =
+    let is = rw c.folder.ensures.folder at c.in_ok-draft.ensures.draft in
+    draft_leads c.args.self.now.folder.files c.args.base.now (map string_bytes c.args.extras.now) c.args.purge c.in_ok-draft.draft is
+
+pub returns-clause-written : goal.returns-clause-written
+returns-clause-written c =
+    let is = rw c.folder.ensures.folder at c.in_ok-draft.ensures.draft in
+    is.written c.in_ok-changes.ensures.right
+
+pub returns-clause-few : goal.returns-clause-few
+returns-clause-few c =
+    let is = rw c.folder.ensures.folder at c.in_ok-draft.ensures.draft in
+    is.few
