@@ -12,7 +12,7 @@ pub spell_command-requires-clause-known : goal.spell_command-requires-clause-kno
 spell_command-requires-clause-known c =
     let kind = ap (λ (r : Ready). r.kind) (sym c.prepared.view_is) ∙ ap kind_of c.in-Change.is in
     let told = ap known_of (sym c.in-Change.is) ∙ ap (λ (r : Ready). r.known) c.prepared.view_is in
-    known_here c.as_ref-known.result c.in-Change.known c.args.prepared.now.known c.self.inside.folder.files c.args.self.now.folder.files _ (changes_by_kind c.args.prepared.now.kind c.args.self.now) c.as_ref-known.ensures.value told c.requires.known
+    known_here c.as_ref-known.result _ c.args.prepared.now.known c.self.inside.folder.files c.args.self.now.folder.files _ (changes_by_kind c.args.prepared.now.kind c.args.self.now) c.as_ref-known.ensures.value told c.requires.known
     (ap (λ (s : KeptSession). s.folder.files) c.self.view_is) (c.as_mut_slice-changes.ensures.value ∙ sym (ap (λ (k : Kind). changes_by_kind k c.args.self.now) kind))
 
 pub spell_entry-requires-clause-applies : goal.spell_entry-requires-clause-applies

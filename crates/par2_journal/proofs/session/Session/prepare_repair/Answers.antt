@@ -3,6 +3,14 @@ use Rattle.std.proofs.lemmas.Result.{err_from_is_err_and}
 use Rattle.par2_journal.proofs.Readiness.{draft_leads, draft_ready, draft_refused}
 use Rattle.par2_journal.proofs.session.Session.prepare_repair.Goals as goal
 
+pub make_way-requires : goal.make_way-requires
+make_way-requires c =
+    let is = rw c.folder.ensures.folder at c.in_ok-draft.ensures.draft in
+    is.applies
+
+pub digests_along-requires : goal.digests_along-requires
+digests_along-requires c = c.in_ok-steps.ensures.can.0
+
 pub returns-in_err-changes-clause-refused : goal.returns-in_err-changes-clause-refused
 returns-in_err-changes-clause-refused c =
     let is = rw c.folder.ensures.folder at c.in_ok-draft.ensures.draft in
