@@ -1,12 +1,15 @@
 -- The fingerprints before changes and after each.
-use Rattle.std.proofs.Common.{◌≡◌, ℕ, List, [], ◌∷◌, length, map, Option, Some, None, Vec, refl, sym, ap, subst, ◌∙◌}
-use Rattle.std.specs.Prelude.{slice_get, unwrap_or}
+use Rattle.std.proofs.Common.{◌≡◌, ℕ, List, [], ◌∷◌, length, map, Option, Some, None, Vec, Bor, refl, sym, ap, subst, ◌∙◌}
+use Rattle.std.specs.Option.{option_copied}
+use Rattle.std.specs.Prelude.{IfSome, option_map, slice_get, unwrap_or}
 use Rattle.std.specs.declared.alloc.Global.{Global}
 use Rattle.par2_spec.specs.Folders.{Folder, fingerprint}
 use Rattle.par2_spec.specs.Changes.{Change, effect, effects, folders_after}
 use Rattle.par2_spec.specs.Sessions.{KeptSession, OnlyGrew}
 use Rattle.par2_folder.specs.Landmarks.{AreLandmarksOf}
-use Rattle.par2_journal.specs.Ahead.{AreAlong, IsAhead, next_changes}
+use Rattle.par2_journal.specs.Ahead.{IsAhead, next_changes}
+use Rattle.par2_journal.specs.Along.{AreAlong, ArePrintsAlong, Prints, prints_of}
+use Rattle.par2_journal.specs.declared.spelling.Fingerprints.{Fingerprints}
 use Rattle.par2_journal.specs.Ready.{next_of}
 use Rattle.par2_journal.specs.declared.ahead.Ahead.{Ahead}
 use Rattle.par2_journal.specs.declared.ahead.Ahead.TheVariants as ahead
@@ -40,3 +43,13 @@ ahead_still (Some (ahead.Fingerprints next prints)) old new grew h = by_next nex
     by_next : (next : Next) → AreAlong prints old.folder.files (next_changes next old) → AreAlong prints new.folder.files (next_changes next new)
     by_next Undo h = along (ap next_of (sym grew.undos)) h
     by_next Redo h = along (ap next_of (sym grew.redos)) h
+
+-- ---- those of a command that was made ready
+
+-- by reference they are along the same changes on the same folder
+pub known_here : (o : Option (Bor Fingerprints)) (known : Option Fingerprints) (told : Option Prints) (f g : Folder) (cs ds : List Change) → option_copied o ≡ known → option_map prints_of known ≡ told → IfSome told (λ prints. ArePrintsAlong prints g ds)
+    → f ≡ g → cs ≡ ds → IfSome o (λ prints. AreAlong prints.now f cs)
+known_here None known told f g cs ds copied are along folder changes = tt
+known_here (Some prints) known told f g cs ds copied are along folder changes =
+    let is : Some (prints_of prints.now) ≡ told = ap (option_map prints_of) copied ∙ are in
+    subst (λ (p : Folder × List Change). AreAlong prints.now p.0 p.1) (λ i. (sym folder i, sym changes i)) (subst (λ (q : Option Prints). IfSome q (λ ps. ArePrintsAlong ps g ds)) (sym is) along)

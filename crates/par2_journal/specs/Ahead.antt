@@ -1,21 +1,14 @@
--- Fingerprints along changes, and those that a session keeps of its next undo or redo.
-use Rattle.std.specs.Prelude.{◌≡◌, List, map, Option, Some, None}
-use Rattle.par2_spec.specs.Folders.{Folder, fingerprint}
-use Rattle.par2_spec.specs.Changes.{Change, effects, folders_after}
+-- Fingerprints that a session keeps of its next undo or redo.
+use Rattle.std.specs.Prelude.{List, Option, Some, None}
+use Rattle.par2_spec.specs.Changes.{Change}
 use Rattle.par2_spec.specs.Sessions.{KeptSession}
 use Rattle.par2_folder.specs.Landmarks.{AreLandmarksOf}
+use Rattle.par2_journal.specs.Along.{AreAlong}
 use Rattle.par2_journal.specs.Ready.{next_of}
 use Rattle.par2_journal.specs.declared.ahead.Ahead.{Ahead}
 use Rattle.par2_journal.specs.declared.ahead.Ahead.TheVariants as ahead
 use Rattle.par2_journal.specs.declared.ahead.Next.{Next}
 use Rattle.par2_journal.specs.declared.ahead.Next.TheVariants.{Undo, Redo}
-use Rattle.par2_journal.specs.declared.spelling.Fingerprints.{Fingerprints}
-
--- those of the folder before the changes, after each and after all of them
-pub record AreAlong (prints : Fingerprints) (folder : Folder) (changes : List Change) : Type 0 where
-  pub before : prints.before ≡ fingerprint folder
-  pub after_each : prints.after_each.items ≡ map fingerprint (folders_after folder changes)
-  pub after_all : prints.after_all ≡ fingerprint (effects folder changes)
 
 -- the changes of the next undo or redo, none where there is none
 abbrev pub next_changes : Next → KeptSession → List Change

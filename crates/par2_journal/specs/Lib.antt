@@ -1,4 +1,5 @@
 pub mod Steps
+pub mod Along
 pub mod Ready
 pub mod Kinds
 pub mod Ahead

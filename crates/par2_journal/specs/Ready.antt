@@ -1,7 +1,7 @@
 -- What a session makes ready, when it still fits, and what committing it leaves.
-use Rattle.std.specs.Prelude.{◌≡◌, ◌≢◌, ◌<◌, ℕ, zero, suc, List, [], ◌∷◌, map, IsTrue, Ok}
+use Rattle.std.specs.Prelude.{◌≡◌, ◌≢◌, ◌<◌, ℕ, zero, suc, List, [], ◌∷◌, map, Option, IfSome, IsTrue, Ok}
 use Rattle.std.specs.Prelude.{refl}
-use Rattle.std.specs.Coded.{Coded, code_by, coded×, coded_ℕ, coded_list}
+use Rattle.std.specs.Coded.{Coded, code_by, coded×, coded_ℕ, coded_list, coded_option}
 use Rattle.par2_spec.specs.Codes.{change_code, step_code}
 use Rattle.par2_spec.specs.Changes.{Change, takes_all}
 use Rattle.par2_spec.specs.Commands.{Action, Do, Undo, Redo}
@@ -9,6 +9,7 @@ use Rattle.par2_spec.specs.Sessions.{KeptSession, session_of_kept, session_after
 use Rattle.par2_spec.specs.Opening.{JournalPair, halfway_where, settled_journal}
 use Rattle.par2_spec.specs.Texts.{Step, step_of}
 use Rattle.par2_spec.specs.declared.Version.TheVariants.{Two}
+use Rattle.par2_journal.specs.Along.{Prints, ArePrintsAlong, prints_code}
 
 -- what committing does: a command's own changes, or the next entry of one side
 pub data Kind : Type 0 where
@@ -16,10 +17,12 @@ pub data Kind : Type 0 where
   Undoing : Kind
   Redoing : Kind
 
--- what was made ready: its kind, and the steps that are reported of it
+-- what was made ready: its kind, the steps that are reported of it, and the fingerprints along its changes, where they
+-- are known
 pub record Ready : Type 0 where
   pub kind : Kind
   pub steps : List Step
+  pub known : Option Prints
 
 abbrev pub next_of : List (List Change) → List Change
 next_of [] = []
@@ -41,6 +44,7 @@ CanBe Redoing s = s.redos ≢ []
 pub record Fits (ready : Ready) (s : KeptSession) : Type 0 where
   pub can : CanBe ready.kind s
   pub steps : ready.steps ≡ map step_of (changes_by_kind ready.kind s)
+  pub known : IfSome ready.known (λ prints. ArePrintsAlong prints s.folder.files (changes_by_kind ready.kind s))
 
 -- the session afterwards
 abbrev pub after_commit : Kind → KeptSession → KeptSession
@@ -90,4 +94,6 @@ abbrev pub kind_code : Coded Kind
 kind_code = code_by (ℕ × List Change) (coded× coded_ℕ (coded_list change_code)) kind_number (λ p. numbered_kind p.0 p.1) kind_number_back
 
 abbrev pub ready_code : Coded Ready
-ready_code = code_by (Kind × List Step) (coded× kind_code (coded_list step_code)) (λ r. (r.kind, r.steps)) (λ p. record { kind = p.0; steps = p.1 }) (λ _. refl)
+ready_code =
+    code_by (Kind × (List Step × Option Prints)) (coded× kind_code (coded× (coded_list step_code) (coded_option prints_code))) (λ r. (r.kind, (r.steps, r.known)))
+    (λ p. record { kind = p.0; steps = p.1.0; known = p.1.1 }) (λ _. refl)

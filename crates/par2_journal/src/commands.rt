@@ -2,8 +2,9 @@
 //! committed, or is carried out at once; runs of actions are made of these.
 use crate::preparation::Task;
 use crate::{Changes, CreateArgs, Prepared, Session, SessionFault, Steps};
-use par2_plan::{Fault, Report, check, plan_create, plan_purge, plan_repair};
+use par2_plan::{Fault, Report, check, draft_repair, plan_create, plan_purge};
 use par2_spec::Action;
+use std::alloc::AllocError;
 
 impl Session {
     ghost use Rattle.std.specs.Prelude.{◌≡◌, [], map, string_bytes, IfOk, IfErr, IsErrOf, IsTrue, ◌⊎◌, Some, Ok, Err, drop, OnOk, OnErr};
@@ -20,7 +21,19 @@ impl Session {
     ghost use Rattle.par2_plan.specs.Repairing.{WritesAsDescribed};
     ghost use Rattle.par2_plan.specs.Views.{report_of};
     ghost use Rattle.par2_journal.specs.Refusals.{MayFail, MayRefuse};
-    ghost use Rattle.par2_journal.specs.Ready.{Changing, Fits, IsReady};
+    ghost use Rattle.par2_journal.specs.Ready.{CanBe, Changing, Fits, IsReady};
+
+    // The steps of a command with these changes, and room for it.
+    fn make_way(&mut self, changes: &Changes) -> Result<Steps, AllocError>
+        requires { IsTrue (are_applicable self.old.folder.files changes.now) }
+        ensures kept { OnlyGrew self.old self.new }
+        ensures can { OnOk result (CanBe (Changing changes.now) self.new) }
+        ensures steps { IfOk result (λ steps. steps ≡ map step_of changes.now) }
+    {
+        let steps = Steps::of(self.allocator(), changes.as_slice())?;
+        self.make_room(changes.len())?;
+        Ok(steps)
+    }
 
     // Steps and room for what a command is planned as.
     fn prepare_changes(&mut self, changes: Changes) -> Result<Prepared, Fault>
@@ -30,10 +43,9 @@ impl Session {
         ensures fits { IfOk result (λ prepared. Fits prepared self.new) }
         ensures refused { IfErr result (λ fault. fault ≡ Fault.Memory) }
     {
-        let steps = Steps::of(self.allocator(), changes.as_slice())?;
-        self.make_room(changes.len())?;
+        let steps = self.make_way(&changes)?;
         Ok(Prepared {
-            task: Task::Change(changes),
+            task: Task::Change(changes, None),
             steps,
         })
     }
@@ -53,6 +65,7 @@ impl Session {
         self.prepare_changes(changes)
     }
 
+    // The MD5s of what is written are computed side by side with the fingerprints that the repair's journals name.
     pub(crate) fn prepare_repair(
         &mut self,
         base: &str,
@@ -74,8 +87,14 @@ impl Session {
         ensures few { let command = Repair base.now (map string_bytes extras.now) purge in
             IfOk result (λ _. AreFewFor self.old.folder.files command) }
     {
-        let changes = plan_repair(self.allocator(), self.folder(), base, extras, purge)?;
-        self.prepare_changes(changes)
+        let draft = draft_repair(self.allocator(), self.folder(), base, extras, purge)?;
+        let steps = self.make_way(&draft.changes)?;
+        let (fingerprints, md5s) = self.digests_along(&draft)?;
+        let changes = draft.tested(&md5s)?;
+        Ok(Prepared {
+            task: Task::Change(changes, Some(fingerprints)),
+            steps,
+        })
     }
 
     pub(crate) fn prepare_purge(&mut self, base: &str) -> Result<Prepared, Fault>

@@ -1,4 +1,5 @@
 //! What a session has made ready, and the steps that are reported of it.
+use crate::spelling::Fingerprints;
 use crate::{NothingToRedo, NothingToUndo};
 use par2_folder::{Change, Name};
 use par2_plan::{Changes, Fault};
@@ -145,7 +146,8 @@ impl From<NothingToRedo> for SessionFault {
 // What committing does.
 #[derive(Debug, Drop)]
 pub enum Task {
-    Change(Changes),
+    // Changes, and the fingerprints along them, where they are known.
+    Change(Changes, Option<Fingerprints>),
     Undo,
     Redo,
 }
@@ -159,13 +161,17 @@ pub struct Prepared {
 
 impl Model for Prepared {
     ghost use Rattle.par2_journal.specs.Ready.{Ready, ready_code};
-    ghost use Rattle.par2_journal.specs.Kinds.{kind_of};
+    ghost use Rattle.par2_journal.specs.Kinds.{kind_of, known_of};
 
     ghost Value = { Ready };
 
     ghost coded = { ready_code };
 
-    ghost view = { λ a. record { kind = kind_of a.task; steps = a.steps } };
+    ghost view = { λ a. record {
+      kind = kind_of a.task;
+      steps = a.steps;
+      known = known_of a.task;
+    } };
 }
 
 impl Prepared {

@@ -4,6 +4,7 @@ use crate::preparation::Task;
 use crate::spelling::{Fingerprints, spell_command, spell_entry, spell_settled};
 use crate::{Changes, Journals, Next, Prepared, Steps};
 use par2_folder::{Change, Folder, survey_folder};
+use par2_plan::Draft;
 use std::alloc::{AllocError, Global};
 use std::marker::Model;
 use thiserror::Error;
@@ -62,7 +63,9 @@ impl Session {
     ghost use Rattle.par2_spec.specs.Opening.{settled_journal, journals_of};
     ghost use Rattle.par2_spec.specs.declared.Version.TheVariants.{Two};
     ghost use Rattle.par2_folder.specs.Views.{change_of};
+    ghost use Rattle.par2_plan.specs.Written.{texts_written};
     ghost use Rattle.par2_journal.specs.Ahead.{next_changes};
+    ghost use Rattle.par2_journal.specs.Along.{AreAlong};
     ghost use Rattle.par2_journal.specs.Opening.{session_at};
     ghost use Rattle.par2_journal.specs.Ready.{Fits, IsReady, changes_by_kind, after_commit, journals_for, next_of};
     ghost use Rattle.par2_journal.specs.Spelling.{AreSpelled};
@@ -264,21 +267,39 @@ impl Session {
         Ok(Digests { folder, text })
     }
 
+    // The fingerprints along a draft's changes, and the MD5s of the texts that these write, side by side with them.
+    pub(crate) fn digests_along(
+        &self,
+        draft: &Draft,
+    ) -> Result<(Fingerprints, Vec<[u8; 16]>), AllocError>
+        requires { IsTrue (takes_all self.now.folder draft.now.changes) }
+        ensures fingerprints { IfOk result
+            (λ x. AreAlong x.0 self.now.folder.files draft.now.changes) }
+        ensures md5s { IfOk result
+            (λ x. x.1.items ≡ map md5 (texts_written draft.now.changes)) }
+    {
+        let alloc = self.allocator();
+        let texts = draft.texts(alloc)?;
+        let changes = draft.changes.as_slice();
+        let landmarks = landmarks_in(&self.ahead);
+        Fingerprints::and_digests(alloc, landmarks, &self.folder, changes, &texts)
+    }
+
     /// What committing does to the folder, in order.
     pub fn changes<'a>(&'a self, prepared: &'a Prepared) -> &'a [Change]
         requires { Fits prepared.now self.now }
         ensures { map change_of result.now ≡ changes_by_kind prepared.now.kind self.now }
     {
         match &prepared.task {
-            Task::Change(changes) => changes.as_slice(),
+            Task::Change(changes, _) => changes.as_slice(),
             Task::Undo => self.next_undo(),
             Task::Redo => self.next_redo(),
         }
     }
 
     /// The journals of what was prepared for an action. The folder makes the changes and is turned back, also where
-    /// memory runs out. Of the changes no bytes are copied but into the journals. Fingerprints that stand ready are
-    /// used once.
+    /// memory runs out. Of the changes no bytes are copied but into the journals. Fingerprints that stand ready for an
+    /// undo or redo are used once.
     pub fn journals(&mut self, prepared: &mut Prepared) -> Result<Journals, AllocError>
         requires { Fits prepared.old self.old }
         ensures unchanged { self.new ≡ self.old }
@@ -294,10 +315,19 @@ impl Session {
         let cursor = self.cursor;
         let folder = &mut self.folder;
         match &mut prepared.task {
-            Task::Change(changes) => {
+            Task::Change(changes, known) => {
                 let changes = changes.as_mut_slice();
+                let known = known.as_ref();
                 let landmarks = landmarks_in(&self.ahead);
-                spell_command(alloc, landmarks, &self.entries, cursor, folder, changes)
+                spell_command(
+                    alloc,
+                    known,
+                    landmarks,
+                    &self.entries,
+                    cursor,
+                    folder,
+                    changes,
+                )
             }
             Task::Undo => {
                 let at = cursor - 1;
@@ -328,7 +358,7 @@ impl Session {
     {
         let Prepared { task, steps } = prepared;
         match task {
-            Task::Change(changes) => self.add(changes),
+            Task::Change(changes, _) => self.add(changes),
             Task::Undo => {
                 let undone = self.undo();
                 prove!(undone.is_ok());

@@ -1,6 +1,7 @@
 //! The journals of a session, and the fingerprints that stand in them.
 ghost use Rattle.std.specs.Prelude.{◌≡◌, ◌≤◌, ◌<◌, ◌∷◌, ◌++◌, ◌+◌, [], List, IfOk, IfSome, IsTrue, length, map, get_or, set, slice_get, take, Some, None, Ok};
 ghost use Rattle.md5.specs.Md5.{md5};
+ghost use Rattle.par2_digests.specs.Texts.{texts_of};
 ghost use Rattle.par2_spec.specs.Changes as defined;
 ghost use Rattle.par2_spec.specs.Changes.{effects, folders_after, state_after_all, takes_all, way_back};
 ghost use Rattle.par2_spec.specs.Folders.{Folder as Files, fingerprint};
@@ -9,7 +10,7 @@ ghost use Rattle.par2_spec.specs.declared.Version.TheVariants.{Two};
 ghost use Rattle.par2_folder.specs.Landmarks.{AreLandmarksOf};
 ghost use Rattle.par2_journal_bytes.specs.Fronts.{Begins};
 ghost use Rattle.par2_journal_bytes.specs.Views.{changes_in, lent_entries_of};
-ghost use Rattle.par2_journal.specs.Ahead.{AreAlong};
+ghost use Rattle.par2_journal.specs.Along.{AreAlong};
 ghost use Rattle.par2_journal.specs.Spelling.{Add, SpellsWhere, CompletesHalfway, entries_with, halfway_with, settled_with};
 
 use crate::Changes;
@@ -49,7 +50,30 @@ impl Fingerprints {
         }
     }
 
-    // The fingerprint before the changes, which aren't applied, and after each; from landmarks, where there are any.
+    // The fingerprint before the changes, which aren't applied, and after each, from landmarks, where there are any;
+    // and the digests of texts, side by side with them.
+    pub(crate) fn and_digests(
+        alloc: Global,
+        landmarks: Option<&Landmarks>,
+        folder: &Folder,
+        changes: &[Change],
+        texts: &[&[u8]],
+    ) -> Result<(Fingerprints, Vec<[u8; 16]>), AllocError>
+        requires landmarks { IfSome landmarks
+            (λ marks. AreLandmarksOf folder.now.files marks.now) }
+        requires applies { IsTrue (takes_all folder.now (changes_in changes.now)) }
+        ensures fingerprints { IfOk result (λ x.
+            AreAlong x.0 folder.now.files (changes_in changes.now)) }
+        ensures digests { IfOk result (λ x. x.1.items ≡ map md5 (texts_of texts.now)) }
+    {
+        let found = match landmarks {
+            Some(from) => fingerprints(alloc, folder, changes, from, texts)?,
+            None => fingerprints(alloc, folder, changes, &Landmarks::none(alloc), texts)?,
+        };
+        Ok((Fingerprints::of_list(found.along), found.beside))
+    }
+
+    // The same without texts.
     pub(crate) fn of(
         alloc: Global,
         landmarks: Option<&Landmarks>,
@@ -62,14 +86,17 @@ impl Fingerprints {
         ensures { IfOk result (λ prints.
             AreAlong prints folder.now.files (changes_in changes.now)) }
     {
-        let found = match landmarks {
-            Some(from) => fingerprints(alloc, folder, changes, from, &[])?,
-            None => fingerprints(alloc, folder, changes, &Landmarks::none(alloc), &[])?,
-        };
-        Ok(Fingerprints::of_list(found.along))
+        let (fingerprints, _digests) = Fingerprints::and_digests(
+            alloc,
+            landmarks,
+            folder,
+            changes,
+            &[],
+        )?;
+        Ok(fingerprints)
     }
 
-    // The same, and the digest of a text, side by side with them.
+    // The same without landmarks, and the digest of a text.
     pub(crate) fn and_digest(
         alloc: Global,
         folder: &Folder,
@@ -287,16 +314,48 @@ fn spell_turned(
     both(alloc, front, fingerprints, list[at], &list, cursor)
 }
 
-/// The journals of a command with these changes, which are made and turned back, also where memory runs out. Nothing of
-/// them is copied but into the journals.
+// The journals of a command with these changes, along which these are the fingerprints. The changes are made and turned
+// back, also where memory runs out. Nothing of them is copied but into the journals.
+fn spell_along(
+    alloc: Global,
+    fingerprints: &Fingerprints,
+    entries: &[Changes],
+    cursor: usize,
+    folder: &mut Folder,
+    changes: &mut [Change],
+) -> Result<Journals, AllocError>
+    requires along { AreAlong fingerprints.now folder.old.files (changes_in changes.old) }
+    requires applies { IsTrue (takes_all folder.old (changes_in changes.old)) }
+    requires cursor { cursor ≤ length entries.now }
+    ensures folder { folder.new ≡ folder.old }
+    ensures changes { changes_in changes.new ≡ changes_in changes.old }
+    ensures halfway { let given = changes_in changes.old in IfOk result (λ journals.
+        SpellsWhere journals.halfway (halfway_with (fingerprint folder.old.files) cursor entries.now
+        (map fingerprint (folders_after folder.old.files given))
+        (way_back folder.old.files given))) }
+    ensures after { let given = changes_in changes.old in IfOk result (λ journals.
+        Spells journals.after.items (settled_with (fingerprint (effects folder.old.files given))
+        (entries_with Add cursor entries.now (way_back folder.old.files given)))) }
+{
+    let front = front(alloc, entries, cursor, fingerprints.before)?;
+    folder.apply_all(changes);
+    let answer = spell_made(alloc, front, fingerprints, entries, cursor, changes);
+    folder.apply_all(changes);
+    answer
+}
+
+/// The same, where the fingerprints may be known. Else they are computed, from landmarks, where there are any.
 pub(crate) fn spell_command(
     alloc: Global,
+    known: Option<&Fingerprints>,
     landmarks: Option<&Landmarks>,
     entries: &[Changes],
     cursor: usize,
     folder: &mut Folder,
     changes: &mut [Change],
 ) -> Result<Journals, AllocError>
+    requires known { IfSome known (λ prints.
+        AreAlong prints.now folder.old.files (changes_in changes.old)) }
     requires landmarks { IfSome landmarks
         (λ marks. AreLandmarksOf folder.old.files marks.now) }
     requires applies { IsTrue (takes_all folder.old (changes_in changes.old)) }
@@ -311,12 +370,11 @@ pub(crate) fn spell_command(
         Spells journals.after.items (settled_with (fingerprint (effects folder.old.files given))
         (entries_with Add cursor entries.now (way_back folder.old.files given)))) }
 {
+    if let Some(fingerprints) = known {
+        return spell_along(alloc, fingerprints, entries, cursor, folder, changes);
+    }
     let fingerprints = Fingerprints::of(alloc, landmarks, folder, changes)?;
-    let front = front(alloc, entries, cursor, fingerprints.before)?;
-    folder.apply_all(changes);
-    let answer = spell_made(alloc, front, &fingerprints, entries, cursor, changes);
-    folder.apply_all(changes);
-    answer
+    spell_along(alloc, &fingerprints, entries, cursor, folder, changes)
 }
 
 /// The journals of an undo or redo of entry `at`, which is made and turned back, also where memory runs out. `next` is

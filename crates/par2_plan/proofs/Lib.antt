@@ -1,5 +1,6 @@
 mod ReportValues
 mod Choices
+mod Drafts
 mod MatchNumbers
 mod Ids
 mod IndexBytes

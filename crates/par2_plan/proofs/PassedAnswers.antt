@@ -1,8 +1,8 @@
 -- Answers that are passed on.
-use Rattle.std.proofs.Common.{◌≡◌, ◌⊎◌, ◌∙◌, sym, ap, Result, Ok, Err}
+use Rattle.std.proofs.Common.{◌≡◌, ◌⊎◌, ◌∙◌, inr, sym, ap, subst, Result, Ok, Err}
 use Rattle.std.proofs.lemmas.Option.{none-some, same_Some}
 use Rattle.std.proofs.Math.Logic.{⊎_map}
-use Rattle.std.specs.Prelude.{Option, Some, None, IfOk, IfErr, IsErrOf}
+use Rattle.std.specs.Prelude.{Option, Some, None, IfOk, IfErr, IsErrOf, OnOk, OnErr}
 use Rattle.par2_spec.specs.declared.Fault.{Fault}
 use Rattle.par2_spec.specs.declared.Fault.TheVariants.{Memory}
 use Rattle.par2_spec.proofs.TestLaws.{err_again}
@@ -30,3 +30,12 @@ err_passed {X} {Y} {E} r fault other p h = p.1 ∙ ap Err (p.2 ∙ same h)
 pub joined : {A E : Type 0} (P Q R : A → Type 0) (r : Result A E) → ((x : A) → P x → Q x → R x) → IfOk r P → IfOk r Q → IfOk r R
 joined P Q R (Ok x) f h k = f x h k
 joined P Q R (Err e) f h k = tt
+
+-- what follows where a test is passed, and why it is refused where it isn't
+pub passed : {A E : Type 0} (P : Type 0) (R : A → Type 0) (r : Result A E) (given : A) → IfOk r (λ x. x ≡ given) → OnOk r P → (P → R given) → IfOk r R
+passed P R (Ok x) given same holds f = subst R (sym same) (f holds)
+passed P R (Err e) given same holds f = tt
+
+pub not_passed : {A : Type 0} (P : Type 0) (r : Result A Fault) (cause : Option Fault) (fault : Fault) → IfErr r (λ y. y ≡ fault) → OnErr r (¬ P) → (¬ P → cause ≡ Some fault) → IfErr r (λ y. (y ≡ Memory) ⊎ (cause ≡ Some y))
+not_passed P (Ok x) cause fault same fails f = tt
+not_passed P (Err e) cause fault same fails f = inr (f fails ∙ ap Some (sym same))

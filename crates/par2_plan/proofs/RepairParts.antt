@@ -23,7 +23,8 @@ use Rattle.par2_spec.proofs.RankLaws.{repairable-iff}
 use Rattle.par2_spec.proofs.ReadLaws.{lost_of}
 use Rattle.par2_spec.proofs.SearchLaws.{matches_of_needing}
 use Rattle.par2_asides.specs.Asides.{long_aside}
-use Rattle.par2_restore.specs.Restoring.{known_in, undetermined_fault, wrong_digest, files_of}
+use Rattle.par2_restore.specs.Restoring.{known_in, undetermined_fault, files_of}
+use Rattle.par2_plan.specs.Drafts.{wrong_digest}
 use Rattle.par2_plan.specs.Repairing.{unmatched_names, names_given, AreNeeding, IsWholeWhereMatched, AreRestoredFor, targets_by, renames, matches_taken, writes, asides_removed, files_removed, place_by, changes_by, removals_by, with_removals, repair_by}
 use Rattle.par2_plan.specs.declared.needing_targets.Needing.{Needing}
 
@@ -123,14 +124,13 @@ module _ (folder : Folder) (set : ParSet) (searched : List (List ℕ)) where
         by_parts ∙ ap₂ (λ f g. first_fault (f ∷ g ∷ wrong_digest (rebuilt_targets folder set searched) ∷ [])) told h
 
     module _ (short : long_aside folder set (put_aside folder set) ≡ None) where
-      pub by_digests : repair_refusal folder set searched ≡ first_fault (wrong_digest (rebuilt_targets folder set searched) ∷ [])
-      by_digests = by_parts ∙ ap₂ (λ f g. first_fault (f ∷ g ∷ wrong_digest (rebuilt_targets folder set searched) ∷ [])) told short
-
-      pub failed : (fault : Fault) → wrong_digest (rebuilt_targets folder set searched) ≡ Some fault → repair_refusal folder set searched ≡ Some fault
-      failed fault h = by_digests ∙ ap (λ f. first_fault (f ∷ [])) h
-
-      pub accepted : wrong_digest (rebuilt_targets folder set searched) ≡ None → repair_refusal folder set searched ≡ None
-      accepted h = by_digests ∙ ap (λ f. first_fault (f ∷ [])) h
+      pub by_digests : repair_refusal folder set searched ≡ wrong_digest (rebuilt_targets folder set searched)
+      by_digests =
+          by_parts ∙ ap₂ (λ f g. first_fault (f ∷ g ∷ wrong_digest (rebuilt_targets folder set searched) ∷ [])) told short ∙ alone (wrong_digest (rebuilt_targets folder set searched))
+        where
+          alone : (f : Option Fault) → first_fault (f ∷ []) ≡ f
+          alone None = refl
+          alone (Some fault) = refl
 
   -- ---- slices and files
 

@@ -1,3 +1,4 @@
+pub mod Drafts
 pub mod Faults
 pub mod Findings
 pub mod Matches
@@ -7,3 +8,4 @@ pub mod Readings
 pub mod Repairing
 pub mod Views
 pub mod Volumes
+pub mod Written

@@ -4,6 +4,7 @@ use Rattle.std.specs.Borrow.{Bor}
 use Rattle.std.specs.BTreeMap.{BTreeMap, get}
 use Rattle.std.specs.List.{AllByRecursion}
 use Rattle.std.specs.Option.{MatchOption}
+use Rattle.md5.specs.Md5.{md5}
 use Rattle.par2_spec.specs.Changes.{Change, Write, Rename, Remove}
 use Rattle.par2_spec.specs.Folders.{Folder, File}
 use Rattle.par2_spec.specs.Names.{is_among}
@@ -13,7 +14,7 @@ use Rattle.par2_spec.specs.Repairs.{names_without_match, put_aside, rebuilt, reb
 use Rattle.par2_spec.specs.Search.{needing_names, known, lost}
 use Rattle.par2_spec.specs.Search as search
 use Rattle.par2_spec.specs.Sets.{all_pairs, ParSet, Target}
-use Rattle.par2_restore.specs.Restoring.{targets_among, undetermined_fault, IsAsDescribed}
+use Rattle.par2_restore.specs.Restoring.{targets_among, undetermined_fault}
 use Rattle.par2_plan.specs.Findings.{matches_given}
 use Rattle.par2_plan.specs.Matches.{name_cmp}
 use Rattle.par2_plan.specs.declared.needing_targets.Needing.{Needing}
@@ -56,6 +57,11 @@ AreRestoredFor set known names slices = MatchOption slices (names ≡ []) (AreRe
 abbrev pub targets_by : ParSet → Option (List (List ℕ)) → List (List ℕ) → List (Target × List ℕ)
 targets_by set None names = []
 targets_by set (Some slices) names = targets_among set slices names
+
+-- a file has the length and the MD5 that its target describes
+pub record IsAsDescribed (c : Target × List ℕ) : Type 0 where
+  pub length : length c.1 ≡ c.0.length
+  pub md5 : md5 c.1 ≡ c.0.md5
 
 -- each file that a repair writes from slices has the length and the MD5 that its target describes
 abbrev pub WritesAsDescribed : Folder → List ℕ → List (List ℕ) → Type 0

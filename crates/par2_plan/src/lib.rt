@@ -3,6 +3,7 @@
 
 mod candidates;
 mod create;
+mod draft;
 mod finding;
 mod index;
 mod inputs;
@@ -20,9 +21,10 @@ mod volumes;
 mod words;
 
 pub use create::plan_create;
+pub use draft::Draft;
 pub use par2_folder::Changes;
 pub use par2_spec::{CreateArgs, Fault, Verdict};
 pub use purge::plan_purge;
-pub use repair::plan_repair;
+pub use repair::{draft_repair, plan_repair};
 pub use report::{Report, State, TargetReport};
 pub use verify::check;

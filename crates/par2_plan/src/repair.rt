@@ -1,18 +1,20 @@
 //! What a repair changes.
 ghost use Rattle.std.specs.Prelude.{◌≡◌, ◌⊎◌, ◌++◌, ℕ, List, length, Some, None, map, string_bytes, IsTrue, IfOk, IfErr, IfSome, IsErrOf, OnOk};
 ghost use Rattle.std.specs.List.{AllByRecursion};
+ghost use Rattle.md5.specs.Md5.{md5};
 ghost use Rattle.par2_spec.specs.Changes.{effects, are_applicable};
 ghost use Rattle.par2_spec.specs.Commands.{Repair};
 ghost use Rattle.par2_spec.specs.Folders.{bytes_of};
 ghost use Rattle.par2_spec.specs.Plans as plans;
 ghost use Rattle.par2_spec.specs.Refusals.{early_refusal, refusal, after, repair_refusal};
-ghost use Rattle.par2_spec.specs.Repairs.{aside, par_files, rebuilt_targets, AreFew};
+ghost use Rattle.par2_spec.specs.Repairs.{aside, par_files};
 ghost use Rattle.par2_spec.specs.Search as search;
 ghost use Rattle.par2_spec.specs.Sets.{all_pairs};
-ghost use Rattle.par2_restore.specs.Restoring.{known_in, undetermined_fault, wrong_digest, files_of, IsAsDescribed};
-ghost use Rattle.par2_plan.specs.Repairing.{IsWholeWhereMatched, AreNeeding, AreRestoredFor, targets_by, changes_by, removals_by, with_removals, repair_by, WritesAsDescribed};
+ghost use Rattle.par2_restore.specs.Restoring.{known_in, undetermined_fault, files_of, md5s_of};
+ghost use Rattle.par2_plan.specs.Drafts.{IsDraft, IsDraftBy};
+ghost use Rattle.par2_plan.specs.Repairing.{IsWholeWhereMatched, AreNeeding, AreRestoredFor, targets_by, changes_by, removals_by, with_removals, WritesAsDescribed};
+ghost use Rattle.par2_plan.specs.Written.{texts_written};
 
-use crate::Changes;
 use crate::candidates::{candidates, texts_of};
 use crate::moves::{
     asides_by_name, matching_names, push_matches, push_renames, push_writes, remove_asides,
@@ -20,9 +22,11 @@ use crate::moves::{
 };
 use crate::needing_targets::{Needing, needing_of};
 use crate::reading::read;
+use crate::{Changes, Draft};
 use par2_asides::{asides, par_files};
+use par2_digests::text_digests;
 use par2_folder::{Bytes, Folder, Name};
-use par2_restore::{Slices, restored_files, restored_slices};
+use par2_restore::{RestoredFiles, Slices, restored_files, restored_slices};
 use par2_sets::ParSet;
 use par2_spec::Fault;
 use std::alloc::{AllocError, Global};
@@ -51,28 +55,29 @@ fn slices_for<'a>(
     Ok(Some(slices))
 }
 
-// The files of the targets without a match.
+// The files of the targets without a match. Each has the length that its target describes.
 fn files_for(
     alloc: Global,
     set: &ParSet,
     slices: &Option<Slices>,
     unmatched: &[Name],
-) -> Result<Vec<(Name, Bytes)>, Fault>
+) -> Result<RestoredFiles, AllocError>
     requires count { IfSome slices.now (λ all. length all ≡ length (all_pairs set.now)) }
     requires sizes { IfSome slices.now (λ all.
         AllByRecursion (λ slice. length slice ≡ set.now.slice_size) all) }
-    ensures refused { let targets = targets_by set.now slices.now unmatched.now in
-        IfErr result (λ fault. (fault ≡ Fault.Memory) ⊎ (wrong_digest targets ≡ Some fault)) }
-    ensures digests { let targets = targets_by set.now slices.now unmatched.now in
-        IfOk result (λ _. wrong_digest targets ≡ None) }
     ensures files { let targets = targets_by set.now slices.now unmatched.now in
-        IfOk result (λ files. files.items ≡ files_of targets) }
-    ensures described { let targets = targets_by set.now slices.now unmatched.now in
-        IfOk result (λ _. AllByRecursion IsAsDescribed targets) }
+        IfOk result (λ restored. restored.files.items ≡ files_of targets) }
+    ensures md5s { let targets = targets_by set.now slices.now unmatched.now in
+        IfOk result (λ restored. restored.md5s.items ≡ md5s_of targets) }
+    ensures lengths { let targets = targets_by set.now slices.now unmatched.now in
+        IfOk result (λ _. AllByRecursion (λ c. length c.1 ≡ c.0.length) targets) }
 {
     match slices {
         Some(slices) => restored_files(alloc, set, slices, unmatched),
-        None => Ok(Vec::new(alloc)),
+        None => Ok(RestoredFiles {
+            files: Vec::new(alloc),
+            md5s: Vec::new(alloc),
+        }),
     }
 }
 
@@ -137,65 +142,86 @@ fn changes_with(
     Ok(changes)
 }
 
-// The changes of a repair of this set, whose needing targets these are, with their matches among the candidates.
-fn repair_with(
+// The draft of a repair of this set, whose needing targets these are, with their matches among the candidates.
+fn draft_with(
     alloc: Global,
     folder: &Folder,
     set: &ParSet,
     candidates: &[Name],
     needing: &Needing,
     purge: bool,
-) -> Result<Changes, Fault>
+) -> Result<Draft, Fault>
     requires needing { AreNeeding folder.now.files set.now candidates.now needing.now }
     requires whole { IsWholeWhereMatched folder.now.files set.now candidates.now }
     ensures refused { let reason = repair_refusal folder.now.files set.now candidates.now in
         IfErr result (λ fault. (fault ≡ Fault.Memory) ⊎ (reason ≡ Some fault)) }
-    ensures accepted { IfOk result
-        (λ _. repair_refusal folder.now.files set.now candidates.now ≡ None) }
-    ensures changes { let all = repair_by purge folder.now.files set.now candidates.now in
-        IfOk result (λ changes. changes ≡ all) }
-    ensures few { IfOk result (λ _. AreFew folder.now.files set.now) }
-    ensures described { let written = rebuilt_targets folder.now.files set.now candidates.now in
-        IfOk result (λ _. AllByRecursion IsAsDescribed written) }
+    ensures draft { IfOk result
+        (IsDraftBy purge folder.now.files set.now candidates.now) }
 {
     let slices = slices_for(alloc, folder, set, candidates, &needing.unmatched)?;
     let asides = asides(alloc, folder, set, &needing.put_aside)?;
-    let files = files_for(alloc, set, &slices, &needing.unmatched)?;
+    let restored = files_for(alloc, set, &slices, &needing.unmatched)?;
+    let files = restored.files;
     let changes = changes_with(alloc, folder, set, needing, &asides, files, purge)?;
-    Ok(changes)
+    let md5s = restored.md5s;
+    Ok(Draft { changes, md5s })
 }
 
-// The changes of a repair of this set, with further files.
-fn repair_of(
+// The draft of a repair of this set, with further files.
+fn draft_of(
     alloc: Global,
     folder: &Folder,
     set: &ParSet,
     extras: &[Name],
     purge: bool,
-) -> Result<Changes, Fault>
+) -> Result<Draft, Fault>
     requires { let searched = search.candidates folder.now.files set.now extras.now in
         IsWholeWhereMatched folder.now.files set.now searched }
     ensures refused { let searched = search.candidates folder.now.files set.now extras.now in
         let reason = repair_refusal folder.now.files set.now searched in
         IfErr result (λ fault. (fault ≡ Fault.Memory) ⊎ (reason ≡ Some fault)) }
-    ensures accepted { let searched = search.candidates folder.now.files set.now extras.now in
-        IfOk result (λ _. repair_refusal folder.now.files set.now searched ≡ None) }
-    ensures changes { let searched = search.candidates folder.now.files set.now extras.now in
-        let all = repair_by purge folder.now.files set.now searched in
-        IfOk result (λ changes. changes ≡ all) }
-    ensures few { IfOk result (λ _. AreFew folder.now.files set.now) }
-    ensures described { let searched = search.candidates folder.now.files set.now extras.now in
-        let written = rebuilt_targets folder.now.files set.now searched in
-        IfOk result (λ _. AllByRecursion IsAsDescribed written) }
+    ensures draft { let searched = search.candidates folder.now.files set.now extras.now in
+        IfOk result (IsDraftBy purge folder.now.files set.now searched) }
 {
     let candidates = candidates(alloc, folder, set, extras)?;
     let needing = needing_of(alloc, folder, set, &candidates)?;
-    repair_with(alloc, folder, set, &candidates, &needing, purge)
+    draft_with(alloc, folder, set, &candidates, &needing, purge)
 }
 
 /// The changes of a repair: the files of needing targets are put aside, targets that have a match take it, and the others
 /// are written from slices that are found or rebuilt. A repair that purges then removes the asides that are left and the
-/// set's par files. Memory is answered only where a growth is refused.
+/// set's par files. The MD5s of what is written are left to be tested, and a wrong one is the last cause of a refusal.
+/// Memory is answered only where a growth is refused.
+pub fn draft_repair(
+    alloc: Global,
+    folder: &Folder,
+    base: &str,
+    extras: &[String],
+    purge: bool,
+) -> Result<Draft, Fault>
+    // It is refused as the definitions say, or memory ran out; what is refused first wants none.
+    ensures refused { let command = Repair base.now (map string_bytes extras.now) purge in
+        let reason = refusal folder.now.files command in
+        IfErr result (λ fault. (fault ≡ Fault.Memory) ⊎ (reason ≡ Some fault)) }
+    ensures early { let command = Repair base.now (map string_bytes extras.now) purge in
+        (fault : Fault) → early_refusal folder.now.files command ≡ Some fault
+        → IsErrOf result fault }
+    ensures draft { let words = map string_bytes extras.now in
+        IfOk result (IsDraft folder.now.files base.now words purge) }
+{
+    let reading = read(alloc, folder, base, extras)?;
+    draft_of(alloc, folder, &reading.set, &reading.extras, purge)
+}
+
+// The MD5s of what a draft's changes write, side by side.
+fn md5s_written(alloc: Global, draft: &Draft) -> Result<Vec<[u8; 16]>, AllocError>
+    ensures { IfOk result (λ md5s. md5s.items ≡ map md5 (texts_written draft.now.changes)) }
+{
+    let texts = draft.texts(alloc)?;
+    text_digests(alloc, &texts)
+}
+
+/// The changes of a repair, as its draft has them, whose written files are tested.
 pub fn plan_repair(
     alloc: Global,
     folder: &Folder,
@@ -226,6 +252,7 @@ pub fn plan_repair(
     ensures few { let command = Repair base.now (map string_bytes extras.now) purge in
         IfOk result (λ _. plans.AreFewFor folder.now.files command) }
 {
-    let reading = read(alloc, folder, base, extras)?;
-    repair_of(alloc, folder, &reading.set, &reading.extras, purge)
+    let draft = draft_repair(alloc, folder, base, extras, purge)?;
+    let md5s = md5s_written(alloc, &draft)?;
+    draft.tested(&md5s)
 }

@@ -1,8 +1,6 @@
--- What a repair gives back of a set's files, and why it refuses.
-use Rattle.std.specs.Prelude.{◌≡◌, ℕ, Bool, not, List, length, take, drop, map, filter, Option}
-use Rattle.std.specs.List.{list_all, concat}
-use Rattle.std.specs.Str.{bytes_eq}
-use Rattle.md5.specs.Md5.{md5}
+-- What a repair gives back of a set's files, and why it refuses to.
+use Rattle.std.specs.Prelude.{ℕ, not, List, length, take, drop, map, filter, Option}
+use Rattle.std.specs.List.{concat}
 use Rattle.par2_spec.specs.Faults.{fault_where}
 use Rattle.par2_spec.specs.Folders.{File}
 use Rattle.par2_spec.specs.Names.{is_among}
@@ -12,7 +10,7 @@ use Rattle.par2_spec.specs.Search.{lost, survivors}
 use Rattle.par2_spec.specs.Sets.{all_pairs, ParSet, Target}
 use Rattle.par2_spec.specs.Windows.{found}
 use Rattle.par2_spec.specs.declared.Fault.{Fault}
-use Rattle.par2_spec.specs.declared.Fault.TheVariants.{NotRepairable, RepairFailed}
+use Rattle.par2_spec.specs.declared.Fault.TheVariants.{NotRepairable}
 
 -- the slices of a set, where they are found in these texts
 abbrev pub known_in : ParSet → List (List ℕ) → List (Option (List ℕ))
@@ -32,19 +30,10 @@ targets_among set slices names = filter (λ c. is_among names c.0.name) (files_o
 abbrev pub files_of : List (Target × List ℕ) → List File
 files_of targets = map (λ c. (c.0.name, c.1)) targets
 
+-- the MD5s that such targets describe
+abbrev pub md5s_of : List (Target × List ℕ) → List (List ℕ)
+md5s_of targets = map (λ c. c.0.md5) targets
+
 -- a target whose slices begin with that of number `first`, with its bytes
 abbrev pub target_at : List (List ℕ) → ℕ → Target → Target × List ℕ
 target_at slices first t = (t, take t.length (concat (take (length t.pairs) (drop first slices))))
-
--- the bytes have the digest that the target describes
-abbrev pub has_digest : Target × List ℕ → Bool
-has_digest c = bytes_eq (md5 c.1) c.0.md5
-
--- why they are refused, if they are: one has another digest than its target
-abbrev pub wrong_digest : List (Target × List ℕ) → Option Fault
-wrong_digest targets = fault_where (not (list_all has_digest targets)) RepairFailed
-
--- a file has the length and the digest that its target describes
-pub record IsAsDescribed (c : Target × List ℕ) : Type 0 where
-  pub length : length c.1 ≡ c.0.length
-  pub md5 : md5 c.1 ≡ c.0.md5

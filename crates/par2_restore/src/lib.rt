@@ -4,5 +4,5 @@
 mod files;
 mod slices;
 
-pub use files::restored_files;
+pub use files::{RestoredFiles, restored_files};
 pub use slices::{Slices, restored_slices};

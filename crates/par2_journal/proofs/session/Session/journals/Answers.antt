@@ -1,10 +1,19 @@
 use Rattle.std.proofs.Common.{◌-◌, sym, ap, ◌∙◌, vec_len, vec_capacity}
-use Rattle.par2_journal.specs.Kinds.{kind_of}
+use Rattle.par2_spec.specs.Sessions.{KeptSession}
+use Rattle.par2_journal.specs.Kinds.{kind_of, known_of}
 use Rattle.par2_journal.specs.Ready.{Kind, Ready, changes_by_kind}
 use Rattle.par2_journal.specs.Spelling.{Add, Undo, Redo, turn_of}
+use Rattle.par2_journal.proofs.Prints.{known_here}
 use Rattle.par2_journal.proofs.SessionJournals.{ready_applies, ready_spelled, spelled_for, undo_entry, redo_entry}
 use Rattle.par2_journal.proofs.session.Session.journals.Goals.{in-Change, in-Undo, in-Redo}
 use Rattle.par2_journal.proofs.session.Session.journals.Goals as goal
+
+pub spell_command-requires-clause-known : goal.spell_command-requires-clause-known
+spell_command-requires-clause-known c =
+    let kind = ap (λ (r : Ready). r.kind) (sym c.prepared.view_is) ∙ ap kind_of c.in-Change.is in
+    let told = ap known_of (sym c.in-Change.is) ∙ ap (λ (r : Ready). r.known) c.prepared.view_is in
+    known_here c.as_ref-known.result _ c.args.prepared.now.known c.self.inside.folder.files c.args.self.now.folder.files _ (changes_by_kind c.args.prepared.now.kind c.args.self.now) c.as_ref-known.ensures.value told c.requires.known
+    (ap (λ (s : KeptSession). s.folder.files) c.self.view_is) (c.as_mut_slice-changes.ensures.value ∙ sym (ap (λ (k : Kind). changes_by_kind k c.args.self.now) kind))
 
 pub spell_entry-requires-clause-applies : goal.spell_entry-requires-clause-applies
 spell_entry-requires-clause-applies c =

@@ -2,7 +2,7 @@ use Rattle.std.proofs.Common.{◌≡◌, ◌+◌, ◌++◌, length, map, drop}
 use Rattle.std.specs.Prelude.{flat_map}
 use Rattle.par2_restore.specs.Restoring.{files_of}
 use Rattle.par2_restore.proofs.TargetWalks.{among}
-use Rattle.par2_restore.proofs.files.made_files.Given as goal
+use Rattle.par2_restore.proofs.files.restored_files.Given as goal
 
 abbrev pub invariant-loop-target : goal.invariant-loop-target
 invariant-loop-target l =

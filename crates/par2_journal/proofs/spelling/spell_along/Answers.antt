@@ -4,14 +4,14 @@ use Rattle.par2_folder.specs.Views.{change_of}
 use Rattle.par2_journal_bytes.specs.Views.{changes_in}
 use Rattle.par2_journal.proofs.Ways.{back_taken, back_leads, back_again, back_length}
 use Rattle.par2_journal.proofs.SessionJournals.{folders_count}
-use Rattle.par2_journal.proofs.spelling.spell_command.Goals as goal
+use Rattle.par2_journal.proofs.spelling.spell_along.Goals as goal
 
 pub spell_made-answer-requires-clause-each : goal.spell_made-answer-requires-clause-each
 spell_made-answer-requires-clause-each c =
     let given = changes_in c.args.changes.now in
     omega (
       arith,
-      ap length c.in_ok-fingerprints.ensures.after_each,
+      ap length c.requires.along.after_each,
       folders_count c.args.folder.now.files given,
       ap length c.apply_all.ensures.way_back,
       back_length c.args.folder.now given,

@@ -1,0 +1,30 @@
+-- Fingerprints along changes.
+use Rattle.std.specs.Prelude.{◌≡◌, ℕ, List, map, refl}
+use Rattle.std.specs.Coded.{Coded, code_by, coded×, coded_ℕ, coded_list}
+use Rattle.par2_spec.specs.Folders.{Folder, fingerprint}
+use Rattle.par2_spec.specs.Changes.{Change, effects, folders_after}
+use Rattle.par2_journal.specs.declared.spelling.Fingerprints.{Fingerprints}
+
+-- those of a folder before changes, after each and after all of them
+pub record Prints : Type 0 where
+  pub before : List ℕ
+  pub after_each : List (List ℕ)
+  pub after_all : List ℕ
+
+pub record ArePrintsAlong (prints : Prints) (folder : Folder) (changes : List Change) : Type 0 where
+  pub before : prints.before ≡ fingerprint folder
+  pub after_each : prints.after_each ≡ map fingerprint (folders_after folder changes)
+  pub after_all : prints.after_all ≡ fingerprint (effects folder changes)
+
+abbrev pub prints_of : Fingerprints → Prints
+prints_of prints = record { before = prints.before; after_each = prints.after_each.items; after_all = prints.after_all }
+
+-- the same of fingerprints as they are kept
+abbrev pub AreAlong : Fingerprints → Folder → List Change → Type 0
+AreAlong prints folder changes = ArePrintsAlong (prints_of prints) folder changes
+
+-- how a model stores them
+abbrev pub prints_code : Coded Prints
+prints_code =
+    code_by (List ℕ × (List (List ℕ) × List ℕ)) (coded× (coded_list coded_ℕ) (coded× (coded_list (coded_list coded_ℕ)) (coded_list coded_ℕ))) (λ p. (p.before, (p.after_each, p.after_all)))
+    (λ q. record { before = q.0; after_each = q.1.0; after_all = q.1.1 }) (λ _. refl)

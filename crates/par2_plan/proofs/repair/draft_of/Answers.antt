@@ -1,0 +1,40 @@
+use Rattle.std.proofs.Common.{◌≡◌, ◌∙◌, ◌⊎◌, List, ℕ, sym, subst, Some}
+use Rattle.std.specs.List.{IsDistinct}
+use Rattle.std.specs.Prelude.{IfOk, IfErr}
+use Rattle.std.specs.Str.{bytes_eq}
+use Rattle.par2_spec.specs.Refusals.{repair_refusal}
+use Rattle.par2_spec.specs.Search.{candidates}
+use Rattle.par2_spec.specs.declared.Fault.TheVariants.{Memory}
+use Rattle.par2_spec.proofs.NamesLaws.{std_from_distinct}
+use Rattle.par2_plan.specs.Drafts.{IsDraftBy}
+use Rattle.par2_plan.specs.Repairing.{AreNeeding, IsWholeWhereMatched}
+use Rattle.par2_plan.proofs.Choices.{distinct_once}
+use Rattle.par2_plan.proofs.repair.draft_of.Goals.{After-draft_with}
+use Rattle.par2_plan.proofs.repair.draft_of.Goals as goal
+
+pub needing_of-requires : goal.needing_of-requires
+needing_of-requires c =
+    let searched : List (List ℕ) = candidates c.args.folder.now.files c.args.set.now c.args.extras.now in
+    subst (IsDistinct bytes_eq) (sym (c.deref.ensures.value ∙ c.in_ok-candidates.ensures)) (std_from_distinct searched (distinct_once _))
+
+pub draft_with-requires-clause-needing : goal.draft_with-requires-clause-needing
+draft_with-requires-clause-needing c =
+    subst (λ (ns : List (List ℕ)). AreNeeding c.args.folder.now.files c.args.set.now ns c.in_ok-needing.needing) (c.deref.ensures.value ∙ sym c.deref-2.ensures.value) c.in_ok-needing.ensures
+
+pub draft_with-requires-clause-whole : goal.draft_with-requires-clause-whole
+draft_with-requires-clause-whole c =
+    subst (IsWholeWhereMatched c.args.folder.now.files c.args.set.now) (sym (c.deref-2.ensures.value ∙ c.in_ok-candidates.ensures)) c.requires
+
+-- the candidates are those that are searched
+searched : (c : After-draft_with) → c.deref-2.result.now ≡ candidates c.args.folder.now.files c.args.set.now c.args.extras.now
+searched c = c.deref-2.ensures.value ∙ c.in_ok-candidates.ensures
+
+pub returns-clause-refused : goal.returns-clause-refused
+returns-clause-refused c =
+    subst (λ (ns : List (List ℕ)). IfErr c.draft_with.result (λ y. (y ≡ Memory) ⊎ (repair_refusal c.args.folder.now.files c.args.set.now ns ≡ Some y)))
+    (searched (goal.at.returns-clause-refused c).After-draft_with) c.draft_with.ensures.refused
+
+pub returns-clause-draft : goal.returns-clause-draft
+returns-clause-draft c =
+    subst (λ (ns : List (List ℕ)). IfOk c.draft_with.result (IsDraftBy c.args.purge c.args.folder.now.files c.args.set.now ns))
+    (searched (goal.at.returns-clause-draft c).After-draft_with) c.draft_with.ensures.draft

@@ -1,0 +1,72 @@
+use Rattle.std.proofs.Common.{◌≡◌, ◌⊎◌, ◌∙◌, List, ℕ, map, sym, ap, subst, Option, Some, Err, string_bytes}
+use Rattle.std.specs.Prelude.{IfErr}
+use Rattle.std.proofs.lemmas.Result.{err_from_is_err_and, IfOk-weaker}
+use Rattle.par2_spec.specs.Commands.{Repair}
+use Rattle.par2_spec.specs.Refusals.{set_in, refusal, repair_refusal}
+use Rattle.par2_spec.specs.Search.{candidates}
+use Rattle.par2_spec.specs.declared.Fault.{Fault}
+use Rattle.par2_spec.specs.declared.Fault.TheVariants.{Memory}
+use Rattle.par2_spec.proofs.SessionLaws.{ok_no_err}
+use Rattle.par2_plan.specs.Drafts.{IsDraft, IsDraftBy}
+use Rattle.par2_plan.specs.Repairing.{IsWholeWhereMatched}
+use Rattle.par2_plan.proofs.Drafts.{is_draft}
+use Rattle.par2_plan.proofs.PassedAnswers.{refused_by, err_passed}
+use Rattle.par2_plan.proofs.PlanParts.{early_repair, repair_unread, whole_if_matched, repair_refused}
+use Rattle.par2_plan.proofs.repair.draft_repair.Goals.{After-draft_of}
+use Rattle.par2_plan.proofs.repair.draft_repair.Goals as goal
+
+pub returns-in_err-reading-clause-early : goal.returns-in_err-reading-clause-early
+returns-in_err-reading-clause-early c fault early =
+    let folder = c.args.folder.now.files in
+    let base = c.args.base.now in
+    let extras : List (List ℕ) = map string_bytes c.args.extras.now in
+    err_passed c.from_residual.result c.in_err-reading.field-0.0 fault (err_from_is_err_and c.from_residual.result c.from_residual.ensures.1)
+    (sym c.in_err-reading.was ∙ c.read.ensures.early fault (sym (early_repair folder base extras c.args.purge) ∙ early))
+
+pub returns-clause-early : goal.returns-clause-early
+returns-clause-early c fault early =
+    let folder = c.args.folder.now.files in
+    let base = c.args.base.now in
+    let extras : List (List ℕ) = map string_bytes c.args.extras.now in
+    absurd (ok_no_err c.in_ok-reading.reading fault (c.in_ok-reading.ensures.early fault (sym (early_repair folder base extras c.args.purge) ∙ early)))
+
+pub returns-in_err-reading-clause-refused : goal.returns-in_err-reading-clause-refused
+returns-in_err-reading-clause-refused c =
+    let folder = c.args.folder.now.files in
+    let base = c.args.base.now in
+    let extras : List (List ℕ) = map string_bytes c.args.extras.now in
+    let fault = c.in_err-reading.field-0.0 in
+    refused_by (λ y. set_in folder base extras ≡ Err y) (λ y. refusal folder (Repair base extras c.args.purge) ≡ Some y) c.from_residual.result fault
+    (err_from_is_err_and c.from_residual.result c.from_residual.ensures.1) c.in_err-reading.ensures.set
+    (repair_unread folder base extras c.args.purge fault)
+
+pub draft_of-requires : goal.draft_of-requires
+draft_of-requires c =
+    let folder = c.args.folder.now.files in
+    let extras : List (List ℕ) = map string_bytes c.args.extras.now in
+    let set = c.in_ok-reading.reading.set in
+    subst (λ words. IsWholeWhereMatched folder set (candidates folder set words)) (sym (c.deref.ensures.value ∙ c.in_ok-reading.ensures.extras))
+    (whole_if_matched folder c.args.base.now extras c.args.purge set c.in_ok-reading.ensures.set)
+
+-- it is refused as a repair of the set that was read
+as_of_set : (c : After-draft_of) → refusal c.args.folder.now.files (Repair c.args.base.now (map string_bytes c.args.extras.now) c.args.purge) ≡ repair_refusal c.args.folder.now.files c.in_ok-reading.reading.set (candidates c.args.folder.now.files c.in_ok-reading.reading.set c.deref.result.now)
+as_of_set c =
+    let folder = c.args.folder.now.files in
+    let set = c.in_ok-reading.reading.set in
+    repair_refused folder c.args.base.now (map string_bytes c.args.extras.now) c.args.purge set c.in_ok-reading.ensures.set
+    ∙ ap (λ words. repair_refusal folder set (candidates folder set words)) (sym (c.deref.ensures.value ∙ c.in_ok-reading.ensures.extras))
+
+pub returns-clause-refused : goal.returns-clause-refused
+returns-clause-refused c =
+    subst (λ (o : Option Fault). IfErr c.draft_of.result (λ y. (y ≡ Memory) ⊎ (o ≡ Some y))) (sym (as_of_set (goal.at.returns-clause-refused c).After-draft_of)) c.draft_of.ensures.refused
+
+pub returns-clause-draft : goal.returns-clause-draft
+returns-clause-draft c =
+    let folder = c.args.folder.now.files in
+    let base = c.args.base.now in
+    let extras : List (List ℕ) = map string_bytes c.args.extras.now in
+    let set = c.in_ok-reading.reading.set in
+    let words = c.deref.ensures.value ∙ c.in_ok-reading.ensures.extras in
+    IfOk-weaker c.draft_of.result (IsDraftBy c.args.purge folder set (candidates folder set c.deref.result.now)) (IsDraft folder base extras c.args.purge)
+    (λ draft is. is_draft folder base extras c.args.purge set c.in_ok-reading.ensures.set draft (subst (λ ns. IsDraftBy c.args.purge folder set (candidates folder set ns) draft) words is))
+    c.draft_of.ensures.draft
