@@ -19,3 +19,4 @@ mod Standings
 mod VolumeNames
 mod OutputChanges
 mod VolumeStages
+mod VolumePlaces

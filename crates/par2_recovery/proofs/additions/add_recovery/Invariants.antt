@@ -1,14 +1,12 @@
 use Rattle.std.proofs.Common.{◌≤◌, ◌-◌, length}
-use Rattle.std.specs.Prelude.{slice_index}
 use Rattle.par2_spec.specs.Sums.{lists_of}
-use Rattle.par2_transform.specs.Columns.{recovered}
 use Rattle.par2_recovery.specs.Views.{texts_of}
-use Rattle.par2_recovery.proofs.AdditionLaws.{AddsToFirst}
-use Rattle.par2_recovery.proofs.additions.with_recovery_slices.Given as goal
+use Rattle.par2_recovery.proofs.AdditionLaws.{FirstAdded}
+use Rattle.par2_recovery.proofs.additions.add_recovery.Given as goal
 
 abbrev pub invariant-loop-at : goal.invariant-loop-at
 invariant-loop-at l = record {
-  added : AddsToFirst (λ t p. recovered (texts_of l.slices) (slice_index l.exponents t) p) (texts_of l.texts) (lists_of l.sums.items) l.at;
+  added : FirstAdded l.outputs.places.now l.outputs.words l.at l.exponents (texts_of l.slices) (lists_of l.initial.texts) (lists_of l.texts);
   within : l.at ≤ length l.exponents;
 }
 

@@ -7,7 +7,7 @@ use Rattle.par2_recovery.specs.Products.{AreBytes}
 use Rattle.par2_recovery.specs.Views.{texts_of, AreBlank}
 use Rattle.par2_recovery.proofs.AdditionLaws.{same_exponents}
 use Rattle.par2_recovery.proofs.Combinations.{are_recovered, blank_texts, length-texts_of}
-use Rattle.par2_recovery.proofs.recovery.recovery_slices_within.Goals as goal
+use Rattle.par2_recovery.proofs.recovery.recovery_slices_over.Goals as goal
 
 pub with_recovery_slices-requires-clause-count : goal.with_recovery_slices-requires-clause-count
 with_recovery_slices-requires-clause-count c =
