@@ -46,7 +46,6 @@ const CALLS: &[(&str, &[&str])] = &[
             "recovery_slice",
             "recovery_slices",
             "recovery_slices_over",
-            "recovery_columns",
             "rank",
             "rebuild",
             "rebuild_lost",

@@ -9,7 +9,7 @@ use par2_packets::{
     append_recovery, digest_recoveries, with_undigested,
 };
 use par2_recovery::{
-    SetRecord, Survivors, file_records, rank, recovery_columns, recovery_slices_over,
+    SetRecord, Survivors, file_records, rank, recovery_slices_over,
 };
 use par2_slices::{Rolling, Spot, Wanted, crc32, find, find_among, pairs_of};
 use recovery_calls::{
@@ -184,10 +184,6 @@ impl Texts {
             "recovery_slices" => self.recovery_slices(alloc),
             "recovery_slices_over" => {
                 self.texts = recovery_slices_over(alloc, &self.gf, &[b"abcd", b"efg"], 4, 0, 2)?;
-                Ok(())
-            }
-            "recovery_columns" => {
-                self.texts = recovery_columns(alloc, &self.gf, &[b"abcd", b"efg"], 2, 2, 0, 2)?;
                 Ok(())
             }
             "rank" => {

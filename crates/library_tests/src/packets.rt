@@ -7,7 +7,7 @@ use crate::set_packets::{add_checksums, add_description, add_main, id_of};
 use par2_packets::{
     DescView, DuplicateId, FileRecord, Kind, Packet, Packets, append_creator, append_recoveries,
     append_recovery, digest_recoveries, file_id, read_desc, read_ifsc, read_main, read_recovery,
-    sort_ids, with_undigested, write_columns,
+    sort_ids, with_undigested,
 };
 use std::process::Abort;
 
@@ -348,48 +348,6 @@ fn volumes_are_written_one_by_one(rt: HostRuntime) {
         let volume = written_one_by_one(&rt, &file, *first, slices);
         assert!(rt; volume == decoded(&rt, texts), "from {first}");
     }
-}
-
-// A list of one text.
-fn one_text(rt: &(impl Abort + AllocGlobal), text: &[u8]) -> Vec<Vec<u8>>
-    ensures { sums.lists_of result.items ≡ text.now ∷ [] }
-{
-    let copy = text.to_vec(rt.alloc()).expect(rt, "memory");
-    vec![in rt.alloc(); copy].expect(rt, "memory")
-}
-
-// Writes over the bytes from `from` on of the recovery slice of one packet.
-fn write_into_one(rt: &(impl Abort + AllocGlobal), packets: &mut [u8], from: usize, columns: &[u8])
-    requires packet { length packets.old ≡ 72 }
-    requires columns { from + length columns.now ≤ 4 }
-{
-    let columns = one_text(rt, columns);
-    write_columns(packets, 4, from, &columns);
-}
-
-// The packet of a recovery slice, which is written two bytes at a time.
-fn written_by_columns(
-    rt: &(impl Abort + AllocGlobal),
-    id: &[u8; 16],
-    e: u32,
-    slice: &[u8; 4],
-) -> Vec<u8>
-    requires { e < 65536 }
-{
-    let mut text = with_undigested(Vec::new(rt.alloc()), id, e, 1, 4).expect(rt, "memory");
-    assert!(rt; text.len() == 72);
-    let packets = text.as_mut_slice();
-    write_into_one(rt, packets, 0, &slice[..2]);
-    write_into_one(rt, packets, 2, &slice[2..]);
-    digest_recoveries(rt.alloc(), packets, 4, 1).expect(rt, "memory");
-    text
-}
-
-#[test]
-fn packets_are_written_by_columns(rt: HostRuntime) {
-    let id = id_of(4, &record_of_a(&rt));
-    let volume = written_by_columns(&rt, &id, 1, b"\x5d\x4d\x51\x79");
-    assert!(rt; volume == decoded(&rt, &[RECOVERY_1]));
 }
 
 #[test]

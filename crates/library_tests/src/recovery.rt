@@ -6,7 +6,7 @@ use par2_folder::Folder;
 use par2_gf16::Gf;
 use par2_packets::FileRecord;
 use par2_recovery::{
-    RebuildFault, RecordFault, SetRecord, Survivors, rank, recovery_columns, recovery_slices_over,
+    RebuildFault, RecordFault, SetRecord, Survivors, rank, recovery_slices_over,
 };
 use recovery_calls::{
     folder_of, input_slices_of, lost_rebuilt, recovery_slice_of, recovery_slices_of, set_of,
@@ -244,30 +244,6 @@ fn slices_over(rt: &(impl Abort + AllocGlobal), texts: &[&[u8]; 2]) -> Vec<Vec<u
 #[test]
 fn recovery_slice_over_texts(rt: HostRuntime) {
     assert!(rt; are_texts(&slices_over(&rt, &[b"abcd", b"e"]), &[b"\x04\x62\x63\x64"]));
-}
-
-// Whether two bytes of each slice, from a place on, are these.
-fn are_columns(slices: &[Vec<u8>], columns: &[Vec<u8>], from: usize) -> bool {
-    slices.len() == columns.len()
-        && slices.iter().zip(columns.iter()).all(|(slice, some)| {
-            slice
-                .get(from..)
-                .is_some_and(|rest| rest.len() >= 2 && rest.starts_with(some))
-        })
-}
-
-#[test]
-fn columns_of_recovery_slices(rt: HostRuntime) {
-    let gf = field(&rt);
-    let texts: [&[u8]; 3] = [b"abcdefgh", b"ijk", b"lmnopq"];
-    let slices = recovery_slices_over(rt.alloc(), &gf, &texts, 8, 5, 3).expect(&rt, "memory");
-    for word in 0..4 {
-        let from = 2 * word;
-        let columns = recovery_columns(rt.alloc(), &gf, &texts, from, 2, 5, 3).expect(
-            &rt, "memory",
-        );
-        assert!(rt; are_columns(&slices, &columns, from));
-    }
 }
 
 #[test]

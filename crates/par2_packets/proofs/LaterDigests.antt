@@ -1,4 +1,4 @@
--- Recovery packets whose slices are written piece by piece.
+-- Recovery packets, whose MD5s are put in later, and what stands before their slices.
 use Rattle.std.proofs.Common.{◌≡◌, ℕ, ◌+◌, ◌-◌, ◌*◌, ◌<◌, ◌≤◌, List, [], ◌++◌, length, take, drop, replicate, refl, sym, ap, ap₂, ◌∙◌, subst, append_assoc, append-nil, arith, length-append}
 use Rattle.std.specs.Int.{w32, w64, to_le_bytes}
 use Rattle.std.proofs.lemmas.List.{length-replicate, drop-drop, drop-take}
@@ -6,9 +6,8 @@ use Rattle.md5.specs.Md5.{md5}
 use Rattle.md5.proofs.StandardFacts.{length-md5}
 use Rattle.par2_spec.specs.Packets.{magic, type_of, packet, digest_input, bytes_at}
 use Rattle.par2_spec.specs.declared.Kind.TheVariants.{Recovery}
-use Rattle.par2_spec.specs.Sums.{list_at}
 use Rattle.par2_packets.specs.Pieces.{overwritten, ArePieces, changed_below}
-use Rattle.par2_packets.specs.Recoveries.{recovery_packet, undigested, digested, digest_put, AreWritten, AreDigested}
+use Rattle.par2_packets.specs.Recoveries.{recovery_packet, undigested, digested, digest_put, AreDigested}
 use Rattle.par2_packets.proofs.Parts.{regrouped}
 use Rattle.par2_packets.proofs.Pieces.{overwritten_front, overwritten_behind, drop_behind, length-overwritten, piece_at, from_on, none_changed, next_changed, all_changed, same_pieces}
 
@@ -105,59 +104,21 @@ all_digested m n old new head done id first slice pieces =
     (done packet first n pieces.sizes (omega arith)
     (subst (λ b. ArePieces m (changed_below b put packet) first n old) start (none_changed m put packet first n old sizes pieces))))
 
--- ---- columns that are written one after the other
+-- ---- what stands before a packet's slice
 
--- what is written into the slice of a packet
-written_in_slice : (id : List ℕ) (e from : ℕ) (bytes slice : List ℕ) → length id ≡ 16 → from + length bytes ≤ length slice
-    → overwritten (68 + from) bytes (undigested id e slice) ≡ undigested id e (overwritten from bytes slice)
+-- the bytes of a packet before its slice, which has so many
+abbrev pub head_of : (id : List ℕ) (e size : ℕ) → List ℕ
+head_of id e size = (magic ++ to_le_bytes w64 (68 + size) ++ replicate 16 0) ++ ((id ++ type_of Recovery) ++ to_le_bytes w32 e)
+
+pub undigested_is : (id : List ℕ) (e : ℕ) (slice : List ℕ) → undigested id e slice ≡ head_of id e (length slice) ++ slice
 unfolding undigested
-written_in_slice id e from bytes slice sixteen fits =
-    let claim = λ (n : ℕ). magic ++ to_le_bytes w64 (68 + n) ++ replicate 16 0 in
-    let head = claim (length slice) in
+undigested_is id e slice =
+    let front : List ℕ = magic ++ to_le_bytes w64 (68 + length slice) ++ replicate 16 0 in
     let input : List ℕ = id ++ type_of Recovery in
-    let front : List ℕ = head ++ (input ++ to_le_bytes w32 e) in
-    let parts : (xs ys : List ℕ) → xs ++ (input ++ (to_le_bytes w32 e ++ ys)) ≡ (xs ++ (input ++ to_le_bytes w32 e)) ++ ys =
-    λ xs ys. ap (λ (zs : List ℕ). xs ++ zs) (sym (append_assoc input (to_le_bytes w32 e) ys)) ∙ sym (append_assoc xs (input ++ to_le_bytes w32 e) ys) in
-    let size : length front ≡ 68 =
-    length-append head (input ++ to_le_bytes w32 e) ∙ (let a = length-append input (to_le_bytes w32 e) in let b = length-append id (type_of Recovery) in omega (arith, a, b, sixteen)) in
-    ap (overwritten (68 + from) bytes) (parts head slice)
-    ∙ overwritten_behind (68 + from) from bytes front slice (omega (arith, size))
-    ∙ sym (parts head (overwritten from bytes slice))
-    ∙ ap (λ (n : ℕ). claim n ++ (input ++ (to_le_bytes w32 e ++ overwritten from bytes slice))) (sym (length-overwritten from bytes slice fits))
+    ap (λ (xs : List ℕ). front ++ xs) (sym (append_assoc input (to_le_bytes w32 e) slice)) ∙ sym (append_assoc front (input ++ to_le_bytes w32 e) slice)
 
--- of the first k packets
-abbrev pub AreWrittenBelow : (s from k : ℕ) (columns : List (List ℕ)) (old new : List ℕ) → Type 0
-AreWrittenBelow s from k columns old new =
-    (id : List ℕ) (first n : ℕ) (was is : ℕ → List ℕ) → length id ≡ 16 → ((e : ℕ) → length (was e) ≡ s) → ((e : ℕ) → length (is e) ≡ s) → k ≤ n
-    → ((j : ℕ) → j < n → overwritten from (list_at columns j) (was (first + j)) ≡ is (first + j))
-    → ArePieces (68 + s) (λ e. undigested id e (was e)) first n old
-    → ArePieces (68 + s) (changed_below (first + k) (λ e. undigested id e (is e)) (λ e. undigested id e (was e))) first n new
-
-sized : (id : List ℕ) (s : ℕ) (slice : ℕ → List ℕ) → length id ≡ 16 → ((e : ℕ) → length (slice e) ≡ s) → (e : ℕ) → length (undigested id e (slice e)) ≡ 68 + s
-sized id s slice sixteen sizes e = length-undigested id e (slice e) sixteen ∙ ap (λ n. 68 + n) (sizes e)
-
-pub none_written : (s from : ℕ) (columns : List (List ℕ)) (old : List ℕ) → AreWrittenBelow s from 0 columns old old
-none_written s from columns old id first n was is sixteen before after within each pieces =
-    subst (λ b. ArePieces (68 + s) (changed_below b (λ (e : ℕ). undigested id e (is e)) (λ (e : ℕ). undigested id e (was e))) first n old) (let e : first ≡ first + 0 = omega arith in e)
-    (none_changed (68 + s) (λ (e : ℕ). undigested id e (is e)) (λ (e : ℕ). undigested id e (was e)) first n old (sized id s is sixteen after) pieces)
-
-pub next_written : (s from k : ℕ) (columns : List (List ℕ)) (old now new bytes : List ℕ) → from + length bytes ≤ s → bytes ≡ list_at columns k → AreWrittenBelow s from k columns old now
-    → new ≡ overwritten (k * (68 + s) + (68 + from)) bytes now → AreWrittenBelow s from (k + 1) columns old new
-next_written s from k columns old now new bytes fits is_bytes so_far written id first n was is sixteen before after within each pieces =
-    let f = λ (e : ℕ). undigested id e (was e) in
-    let g = λ (e : ℕ). undigested id e (is e) in
-    let low : k < n = omega (arith, within) in
-    let whole = before (first + k) in
-    subst (λ (text : List ℕ). ArePieces (68 + s) (changed_below (first + (k + 1)) g f) first n text) (sym written)
-    (next_changed (68 + s) g f first n k (68 + from) (k * (68 + s) + (68 + from)) bytes now (sized id s is sixteen after) (sized id s was sixteen before) low refl (omega (arith, fits))
-    (written_in_slice id (first + k) from bytes (was (first + k)) sixteen (omega (arith, whole, fits))
-    ∙ ap (undigested id (first + k)) (ap (λ (xs : List ℕ). overwritten from xs (was (first + k))) is_bytes ∙ each k low))
-    (so_far id first n was is sixteen before after (omega (arith, within)) each pieces))
-
-pub all_written : (s from n : ℕ) (columns : List (List ℕ)) (old new : List ℕ) → n ≡ length columns → AreWrittenBelow s from n columns old new → AreWritten s from columns old new
-all_written s from n columns old new count done id first was is sixteen before after each pieces =
-    let f = λ (e : ℕ). undigested id e (was e) in
-    let g = λ (e : ℕ). undigested id e (is e) in
-    let m = length columns in
-    all_changed (68 + s) g f first m new (sized id s is sixteen after)
-    (subst (λ k. ArePieces (68 + s) (changed_below (first + k) g f) first m new) count (done id first m was is sixteen before after (omega (arith, count)) each pieces))
+pub length-head : (id : List ℕ) (e size : ℕ) → length id ≡ 16 → length (head_of id e size) ≡ 68
+length-head id e size sixteen =
+    let input : List ℕ = id ++ type_of Recovery in
+    length-append (magic ++ to_le_bytes w64 (68 + size) ++ replicate 16 0) (input ++ to_le_bytes w32 e)
+    ∙ (let a = length-append input (to_le_bytes w32 e) in let b = length-append id (type_of Recovery) in omega (arith, a, b, sixteen))

@@ -6,7 +6,6 @@ use Rattle.md5.specs.Md5.{md5}
 use Rattle.par2_spec.specs.Packets.{Packet, packet, magic, digest_input}
 use Rattle.par2_spec.specs.Volumes.{packet_of, recovery_bytes}
 use Rattle.par2_spec.specs.declared.Kind.TheVariants.{Recovery}
-use Rattle.par2_spec.specs.Sums.{list_at}
 use Rattle.par2_packets.specs.Pieces.{overwritten, ArePieces, changed_below}
 
 -- the packets of recovery slices whose exponents count up from the first one
@@ -26,14 +25,6 @@ undigested set_id e slice =
 -- its bytes
 abbrev pub digested : List ℕ → ℕ → List ℕ → List ℕ
 digested set_id e slice = packet (recovery_packet set_id e slice)
-
--- these columns, from `from` on, were written into the recovery slices of the packets of a text. The slices have s bytes
-abbrev pub AreWritten : (s from : ℕ) (columns : List (List ℕ)) (old new : List ℕ) → Type 0
-AreWritten s from columns old new =
-    (set_id : List ℕ) (first : ℕ) (was is : ℕ → List ℕ) → length set_id ≡ 16 → ((e : ℕ) → length (was e) ≡ s) → ((e : ℕ) → length (is e) ≡ s)
-    → ((k : ℕ) → k < length columns → overwritten from (list_at columns k) (was (first + k)) ≡ is (first + k))
-    → ArePieces (68 + s) (λ e. undigested set_id e (was e)) first (length columns) old
-    → ArePieces (68 + s) (λ e. undigested set_id e (is e)) first (length columns) new
 
 -- the bytes of a packet, with its MD5 put at its place
 abbrev pub digest_put : List ℕ → List ℕ

@@ -18,7 +18,7 @@ pub use par2_spec::Kind;
 pub use record::{FileRecord, Pair, file_id, main_id};
 pub use recoveries::append_recoveries;
 pub use scan::{Packet, Packets};
-pub use undigested::{digest_recoveries, with_undigested, write_columns};
+pub use undigested::{digest_recoveries, with_undigested};
 pub use views::{
     DescView, IfscView, MainView, RecoveryView, read_desc, read_ifsc, read_main, read_recovery,
 };

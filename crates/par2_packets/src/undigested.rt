@@ -1,14 +1,13 @@
-//! Recovery packets whose slices are written piece by piece. Zeros stand for what is still to come, and the MD5s are put
-//! in at the end.
+//! Recovery packets whose slices are written later. Zeros stand for what is still to come, and the MD5s are put in at the
+//! end.
 
-ghost use Rattle.std.specs.Prelude.{◌≡◌, ◌≤◌, ◌<◌, ◌+◌, ◌*◌, ◌^◌, ◌++◌, ℕ, List, length, map, drop, flat_map, replicate, OnOk, IfOk};
+ghost use Rattle.std.specs.Prelude.{◌≡◌, ◌≤◌, ◌+◌, ◌*◌, ◌++◌, ℕ, List, length, map, drop, flat_map, replicate, OnOk, IfOk};
 ghost use Rattle.std.specs.List.{range_with_len};
 ghost use Rattle.md5.specs.Md5.{md5};
 ghost use Rattle.par2_digests.specs.Texts.{texts_of};
 ghost use Rattle.par2_spec.specs.Packets.{bytes_at};
-ghost use Rattle.par2_spec.specs.Sums.{list_at, lists_of};
 ghost use Rattle.par2_packets.specs.Pieces.{overwritten, ArePieces};
-ghost use Rattle.par2_packets.specs.Recoveries.{undigested, digested, AreWritten, AreDigested};
+ghost use Rattle.par2_packets.specs.Recoveries.{undigested, digested, AreDigested};
 
 use crate::bytes::{u32_bytes, u64_bytes};
 use crate::kind::type_of;
@@ -76,21 +75,6 @@ fn overwrite(text: &mut [u8], at: usize, bytes: &[u8])
     ensures { text.new ≡ overwritten at bytes.now text.old }
 {
     text[at..at + bytes.len()].copy_from_slice(bytes);
-}
-
-/// Writes over the bytes from `from` on of the recovery slices of packets: at each the bytes at its place. The slices have
-/// `size` bytes.
-pub fn write_columns(packets: &mut [u8], size: usize, from: usize, columns: &[Vec<u8>])
-    requires fits { 68 + size ≤ usize.MAX }
-    requires packets { length columns.now * (68 + size) ≤ length packets.old }
-    requires columns { (k : ℕ) → k < length columns.now
-        → from + length (list_at (lists_of columns.now) k) ≤ size }
-    ensures { AreWritten size from (lists_of columns.now) packets.old packets.new }
-{
-    let len = HEAD + size;
-    for k in 0..columns.len() {
-        overwrite(packets, k * len + (HEAD + from), &columns[k]);
-    }
 }
 
 // What the MD5 of packet `k` is taken of.

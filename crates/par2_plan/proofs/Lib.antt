@@ -20,3 +20,4 @@ mod Standings
 mod VolumeNames
 mod OutputChanges
 mod VolumeStages
+mod VolumePlaces

@@ -1,56 +1,22 @@
-//! The bytes of volumes. Their packets are there from the start, with zeros for recovery slices and MD5s; the slices of
-//! all exponents, or of groups of them, are written into them by blocks of columns, and the MD5s at the end.
+//! The bytes of volumes. Their packets are there from the start, with zeros for recovery slices and MD5s; the slices are
+//! written into them, all at once, and the MD5s at the end.
 
-ghost use Rattle.std.specs.Prelude.{◌≡◌, ℕ, ◌≤◌, ◌<◌, ◌+◌, ◌-◌, ◌*◌, ◌%◌, length, map, take, drop, IfOk, OnOk};
+ghost use Rattle.std.specs.Prelude.{◌≡◌, ◌≤◌, ◌<◌, ◌+◌, ◌*◌, ◌++◌, length, map, IfOk, OnOk};
 ghost use Rattle.std.specs.List.{AllByRecursion, range_with_len};
 ghost use Rattle.par2_spec.specs.Sums.{OneChanged, list_at, lists_of};
-ghost use Rattle.par2_recovery.specs.Syndromes.{window};
 ghost use Rattle.par2_plan.specs.Outputs.{HasSlices, ListsInputs, volume_text};
-ghost use Rattle.par2_plan.specs.Volumes.{AreExponents, AreShared, HasColumns, slice_of, volume_amid, volume_before, volume_up_to};
+ghost use Rattle.par2_plan.specs.Volumes.{HavePackets, blank_volume, exponents_of, place_in, places_from, with_slices};
 
 use crate::names::Volume;
 use crate::outputs::Parts;
 use par2_gf16::Gf;
-use par2_packets::{digest_recoveries, with_undigested, write_columns};
-use par2_recovery::{columns_at_once, exponents_at_once, input_slices, recovery_columns};
+use par2_packets::{digest_recoveries, with_undigested};
+use par2_recovery::{input_slices, write_recovery_slices};
+use par2_transform::{Place, Places};
 use std::alloc::{AllocError, Global};
 
 // What a packet has beside the bytes of a recovery slice: its header, and the exponent.
 const RECOVERY_HEAD: usize = 68;
-
-// The exponents from `first` up to `end`.
-#[derive(Clone, Copy)]
-struct Exponents {
-    first: u32,
-    end: u32,
-}
-
-// Columns of the recovery slices of some exponents: the bytes from `from` on, `len` of them.
-#[derive(Drop)]
-struct Block {
-    exponents: Exponents,
-    from: usize,
-    len: usize,
-    columns: Vec<Vec<u8>>,
-}
-
-// The exponents of all volumes, and those between them.
-fn exponents_of(volumes: &[Volume]) -> Exponents
-    requires exponents { AllByRecursion
-        (λ volume. volume.first + volume.count ≤ 65536) volumes.now }
-    ensures { AreExponents result volumes.now }
-{
-    let mut first = 65536;
-    let mut end = 0;
-    for volume in volumes {
-        first = volume.first.min(first);
-        end = (volume.first + volume.count).max(end);
-    }
-    Exponents {
-        first: first.min(end),
-        end,
-    }
-}
 
 // How many bytes a volume of this many recovery slices has.
 fn volume_len(parts: &Parts, count: u32) -> usize {
@@ -63,7 +29,7 @@ fn volume_len(parts: &Parts, count: u32) -> usize {
 fn blank_volume(alloc: Global, parts: &Parts, volume: &Volume) -> Result<Vec<u8>, AllocError>
     requires fits { 68 + parts.now.set.now.slice ≤ usize.MAX }
     requires exponents { volume.now.first + volume.now.count ≤ 65536 }
-    ensures { IfOk result (λ bytes. bytes.items ≡ volume_up_to parts.now 0 volume.now) }
+    ensures { IfOk result (λ bytes. bytes.items ≡ blank_volume parts.now volume.now) }
 {
     let mut text = Vec::with_capacity(alloc, volume_len(parts, volume.count))?;
     text.extend_from_slice(&parts.index)?;
@@ -81,41 +47,13 @@ fn blank_volumes(
     requires exponents { AllByRecursion
         (λ volume. volume.first + volume.count ≤ 65536) volumes.now }
     ensures { IfOk result
-        (λ texts. lists_of texts.items ≡ map (volume_up_to parts.now 0) volumes.now) }
+        (λ texts. lists_of texts.items ≡ map (blank_volume parts.now) volumes.now) }
 {
     let mut texts = Vec::with_capacity(alloc, volumes.len())?;
     for volume in volumes {
         texts.push(blank_volume(alloc, parts, volume)?)?;
     }
     Ok(texts)
-}
-
-// Columns of the recovery slices of these exponents.
-fn block_of(
-    alloc: Global,
-    gf: &Gf,
-    parts: &Parts,
-    inputs: &[&[u8]],
-    exponents: Exponents,
-    from: usize,
-    len: usize,
-) -> Result<Block, AllocError>
-    requires parts { HasSlices parts.now }
-    requires inputs { ListsInputs parts.now inputs.now }
-    requires exponents { (exponents.first ≤ exponents.end) × (exponents.end ≤ 65536) }
-    requires even { (from % 2 ≡ 0) × (len % 2 ≡ 0) }
-    requires within { from + len ≤ parts.now.set.now.slice }
-    ensures { IfOk result (λ block. HasColumns parts.now block × (block.exponents ≡ exponents)
-        × (block.from ≡ from) × (block.len ≡ len)) }
-{
-    let count = exponents.end - exponents.first;
-    let columns = recovery_columns(alloc, gf, inputs, from, len, exponents.first, count)?;
-    Ok(Block {
-        exponents,
-        from,
-        len,
-        columns,
-    })
 }
 
 // What the type says of an identifier, for proofs.
@@ -125,151 +63,84 @@ fn fit_id(id: &[u8; 16])
     let _ = id.len();
 }
 
-// The exponents that a volume and others share. Where there are none, the first one isn't below the end.
-fn shared_exponents(volume: &Volume, exponents: Exponents) -> Exponents
+// Adds the exponents of a volume's recovery slices.
+fn append_exponents(exponents: &mut Vec<u32>, volume: &Volume) -> Result<(), AllocError>
     requires { volume.now.first + volume.now.count ≤ 65536 }
-    ensures { AreShared result volume.now exponents }
+    ensures { OnOk result (exponents.new.items
+        ≡ exponents.old.items ++ range_with_len volume.now.first volume.now.count) }
 {
-    Exponents {
-        first: volume.first.max(exponents.first),
-        end: (volume.first + volume.count).min(exponents.end),
-    }
-}
-
-// The columns of these exponents.
-fn columns_of(block: &Block, exponents: Exponents) -> &[Vec<u8>]
-    requires first { block.now.exponents.first ≤ exponents.first }
-    requires order { exponents.first ≤ exponents.end }
-    requires last { exponents.end ≤ block.now.exponents.first + length block.now.columns.items }
-    ensures { result.now ≡ take (exponents.end - exponents.first)
-        (drop (exponents.first - block.now.exponents.first) block.now.columns.items) }
-{
-    let start = (exponents.first - block.exponents.first) as usize;
-    let count = (exponents.end - exponents.first) as usize;
-    &block.columns[start..][..count]
-}
-
-// Where the packet of exponent `e` begins in a volume's bytes, or the last packet ends.
-fn place_of(text: &[u8], parts: &Parts, volume: &Volume, e: u32) -> usize
-    requires fits { 68 + parts.now.set.now.slice ≤ usize.MAX }
-    requires exponent { (volume.now.first ≤ e) × (e ≤ volume.now.first + volume.now.count) }
-    requires text { length parts.now.index.items
-        + volume.now.count * (68 + parts.now.set.now.slice) ≤ length text.now }
-    ensures place { result ≡ length parts.now.index.items
-        + (e - volume.now.first) * (68 + parts.now.set.now.slice) }
-    ensures within { result ≤ length text.now }
-{
-    let before = (e - volume.first) as usize;
-    let packet = RECOVERY_HEAD + parts.set.slice as usize;
-    parts.index.len() + before * packet
-}
-
-// Writes the columns of the exponents that a volume and the block share.
-fn fill_shared(text: &mut [u8], parts: &Parts, volume: &Volume, block: &Block, shared: Exponents)
-    requires parts { HasSlices parts.now }
-    requires fits { 68 + parts.now.set.now.slice ≤ usize.MAX }
-    requires block { HasColumns parts.now block.now }
-    requires shared { AreShared shared volume.now block.now.exponents }
-    requires some { shared.first < shared.end }
-    requires before { text.old
-        ≡ volume_amid parts.now block.now.exponents block.now.from volume.now }
-    ensures { text.new ≡ volume_amid parts.now block.now.exponents
-        (block.now.from + block.now.len) volume.now }
-{
-    fit_id(&parts.set_id);
-    let start = place_of(text, parts, volume, shared.first);
-    let end = place_of(text, parts, volume, shared.end);
-    let columns = columns_of(block, shared);
-    let size = parts.set.slice as usize;
-    write_columns(&mut text[start..end], size, block.from, columns);
-}
-
-// Writes the columns of those of a volume's exponents that the block has.
-fn fill_volume(text: &mut [u8], parts: &Parts, volume: &Volume, block: &Block)
-    requires parts { HasSlices parts.now }
-    requires fits { 68 + parts.now.set.now.slice ≤ usize.MAX }
-    requires block { HasColumns parts.now block.now }
-    requires exponents { volume.now.first + volume.now.count ≤ 65536 }
-    requires before { text.old
-        ≡ volume_amid parts.now block.now.exponents block.now.from volume.now }
-    ensures { text.new ≡ volume_amid parts.now block.now.exponents
-        (block.now.from + block.now.len) volume.now }
-{
-    let shared = shared_exponents(volume, block.exponents);
-    if shared.first < shared.end {
-        fill_shared(text, parts, volume, block, shared);
-    }
-}
-
-// Writes those of volume `i`.
-fn fill_at(texts: &mut [Vec<u8>], i: usize, parts: &Parts, volume: &Volume, block: &Block)
-    requires place { i < length texts.old }
-    requires parts { HasSlices parts.now }
-    requires fits { 68 + parts.now.set.now.slice ≤ usize.MAX }
-    requires block { HasColumns parts.now block.now }
-    requires exponents { volume.now.first + volume.now.count ≤ 65536 }
-    requires before { list_at (lists_of texts.old) i
-        ≡ volume_amid parts.now block.now.exponents block.now.from volume.now }
-    ensures changed { OneChanged (lists_of texts.old) (lists_of texts.new) i }
-    ensures here { list_at (lists_of texts.new) i ≡ volume_amid parts.now block.now.exponents
-        (block.now.from + block.now.len) volume.now }
-{
-    fill_volume(texts[i].as_mut_slice(), parts, volume, block);
-}
-
-// Writes those of all volumes.
-fn fill_volumes(texts: &mut [Vec<u8>], parts: &Parts, volumes: &[Volume], block: &Block)
-    requires parts { HasSlices parts.now }
-    requires fits { 68 + parts.now.set.now.slice ≤ usize.MAX }
-    requires block { HasColumns parts.now block.now }
-    requires exponents { AllByRecursion
-        (λ volume. volume.first + volume.count ≤ 65536) volumes.now }
-    requires before { lists_of texts.old
-        ≡ map (volume_amid parts.now block.now.exponents block.now.from) volumes.now }
-    ensures { lists_of texts.new ≡ map (volume_amid parts.now block.now.exponents
-        (block.now.from + block.now.len)) volumes.now }
-{
-    for i in 0..volumes.len() {
-        fill_at(texts, i, parts, &volumes[i], block);
-    }
-}
-
-// Writes the recovery slices of these exponents into all volumes, some columns at a time.
-fn fill_group(
-    alloc: Global,
-    gf: &Gf,
-    parts: &Parts,
-    inputs: &[&[u8]],
-    exponents: Exponents,
-    texts: &mut [Vec<u8>],
-    volumes: &[Volume],
-) -> Result<(), AllocError>
-    requires parts { HasSlices parts.now }
-    requires fits { 68 + parts.now.set.now.slice ≤ usize.MAX }
-    requires inputs { ListsInputs parts.now inputs.now }
-    requires group { (exponents.first ≤ exponents.end) × (exponents.end ≤ 65536) }
-    requires volumes { AllByRecursion
-        (λ volume. volume.first + volume.count ≤ 65536) volumes.now }
-    requires before { lists_of texts.old
-        ≡ map (volume_before parts.now exponents.first) volumes.now }
-    ensures { OnOk result
-        (lists_of texts.new ≡ map (volume_before parts.now exponents.end) volumes.now) }
-{
-    let size = parts.set.slice as usize;
-    let count = (exponents.end - exponents.first) as usize;
-    let at_once = columns_at_once(inputs, count, size);
-    let mut from = 0;
-    while from < size {
-        let len = at_once.min(size - from);
-        let block = block_of(alloc, gf, parts, inputs, exponents, from, len)?;
-        fill_volumes(texts, parts, volumes, &block);
-        from += len;
+    for k in 0..volume.count {
+        exponents.push(volume.first + k)?;
     }
     Ok(())
 }
 
-// The bytes of the volumes with all recovery slices, which are made for some exponents at a time: for all, unless they are
-// very many beside the inputs.
+// Those of all volumes, in order.
+fn exponents_of(alloc: Global, volumes: &[Volume]) -> Result<Vec<u32>, AllocError>
+    requires exponents { AllByRecursion
+        (λ volume. volume.first + volume.count ≤ 65536) volumes.now }
+    ensures { IfOk result (λ exponents. exponents.items ≡ exponents_of volumes.now) }
+{
+    let mut exponents = Vec::new(alloc);
+    for volume in volumes {
+        append_exponents(&mut exponents, volume)?;
+    }
+    Ok(exponents)
+}
+
+// Where recovery slice `k` of a volume stands in its bytes.
+fn place_of(parts: &Parts, volume: &Volume, text: &[u8], k: u32) -> usize
+    requires fits { 68 + parts.now.set.now.slice ≤ usize.MAX }
+    requires packet { k < volume.now.count }
+    requires text { length text.now ≡ length parts.now.index.items
+        + volume.now.count * (68 + parts.now.set.now.slice) }
+    ensures { result ≡ length parts.now.index.items
+        + k * (68 + parts.now.set.now.slice) + 68 }
+{
+    let packet = RECOVERY_HEAD + parts.set.slice as usize;
+    parts.index.len() + k as usize * packet + RECOVERY_HEAD
+}
+
+// Adds the places of a volume's recovery slices, which is volume `i`.
+fn append_places(
+    places: &mut Vec<Place>,
+    parts: &Parts,
+    volume: &Volume,
+    i: usize,
+    text: &[u8],
+) -> Result<(), AllocError>
+    requires fits { 68 + parts.now.set.now.slice ≤ usize.MAX }
+    requires text { length text.now ≡ length parts.now.index.items
+        + volume.now.count * (68 + parts.now.set.now.slice) }
+    ensures { OnOk result (places.new.items ≡ places.old.items
+        ++ map (place_in parts.now i) (range_with_len 0 volume.now.count)) }
+{
+    for k in 0..volume.count {
+        let at = place_of(parts, volume, text, k);
+        places.push(Place { text: i, at })?;
+    }
+    Ok(())
+}
+
+// Those of all volumes, in order.
+fn places_of(
+    alloc: Global,
+    parts: &Parts,
+    volumes: &[Volume],
+    texts: &[Vec<u8>],
+) -> Result<Vec<Place>, AllocError>
+    requires fits { 68 + parts.now.set.now.slice ≤ usize.MAX }
+    requires texts { HavePackets parts.now volumes.now (lists_of texts.now) }
+    ensures { IfOk result (λ places. places.items ≡ places_from parts.now 0 volumes.now) }
+{
+    let mut places = Vec::new(alloc);
+    for i in 0..volumes.len() {
+        append_places(&mut places, parts, &volumes[i], i, &texts[i])?;
+    }
+    Ok(places)
+}
+
+// The bytes of the volumes with all recovery slices, which are written where they belong.
 fn filled(
     alloc: Global,
     gf: &Gf,
@@ -282,27 +153,15 @@ fn filled(
     requires inputs { ListsInputs parts.now inputs.now }
     requires exponents { AllByRecursion
         (λ volume. volume.first + volume.count ≤ 65536) volumes.now }
-    ensures { IfOk result (λ texts. lists_of texts.items
-        ≡ map (volume_up_to parts.now parts.now.set.now.slice) volumes.now) }
+    ensures { IfOk result (λ texts. lists_of texts.items ≡ map (with_slices parts.now) volumes.now) }
 {
+    fit_id(&parts.set_id);
     let mut texts = blank_volumes(alloc, parts, volumes)?;
-    let all = exponents_of(volumes);
-    let at_once = exponents_at_once(inputs);
-    let mut first = all.first;
-    while first < all.end {
-        let end = first + at_once.min(all.end - first);
-        let group = Exponents { first, end };
-        fill_group(
-            alloc,
-            gf,
-            parts,
-            inputs,
-            group,
-            texts.as_mut_slice(),
-            volumes,
-        )?;
-        first = end;
-    }
+    let exponents = exponents_of(alloc, volumes)?;
+    let places = places_of(alloc, parts, volumes, &texts)?;
+    let outputs = Places::new(&places, parts.set.slice as usize / 2);
+    let bytes = texts.as_mut_slice();
+    write_recovery_slices(alloc, gf, inputs, &exponents, bytes, &outputs)?;
     Ok(texts)
 }
 
@@ -315,7 +174,7 @@ fn digest_volume(
 ) -> Result<(), AllocError>
     requires parts { HasSlices parts.now }
     requires fits { 68 + parts.now.set.now.slice ≤ usize.MAX }
-    requires before { text.old ≡ volume_up_to parts.now parts.now.set.now.slice volume.now }
+    requires before { text.old ≡ with_slices parts.now volume.now }
     ensures { OnOk result (text.new ≡ volume_text parts.now volume.now) }
 {
     fit_id(&parts.set_id);
@@ -340,7 +199,7 @@ fn digest_at(
     requires parts { HasSlices parts.now }
     requires fits { 68 + parts.now.set.now.slice ≤ usize.MAX }
     requires before { list_at (lists_of texts.old) i
-        ≡ volume_up_to parts.now parts.now.set.now.slice volume.now }
+        ≡ with_slices parts.now volume.now }
     ensures changed { OneChanged (lists_of texts.old) (lists_of texts.new) i }
     ensures here { OnOk result (list_at (lists_of texts.new) i
         ≡ volume_text parts.now volume.now) }
@@ -358,7 +217,7 @@ fn digest_volumes(
     requires parts { HasSlices parts.now }
     requires fits { 68 + parts.now.set.now.slice ≤ usize.MAX }
     requires before { lists_of texts.old
-        ≡ map (volume_up_to parts.now parts.now.set.now.slice) volumes.now }
+        ≡ map (with_slices parts.now) volumes.now }
     ensures { OnOk result (lists_of texts.new ≡ map (volume_text parts.now) volumes.now) }
 {
     for i in 0..volumes.len() {

@@ -5,23 +5,31 @@ use Rattle.std.specs.Borrow.{Bor}
 use Rattle.std.specs.List.{range_with_len}
 use Rattle.std.specs.Int.Bits.{xor_zero_l}
 use Rattle.std.proofs.lemmas.Bool.{cases_lt}
-use Rattle.std.proofs.lemmas.List.{length-map, get_or-map, get_or-take, get_or-drop, get_or_append_left, get_or-append_right, get_or_past, length-take-le, length-drop, take-map, drop-map}
+use Rattle.std.proofs.lemmas.List.{length-map, length-replicate, get_or-map, get_or-take, get_or-drop, get_or_past, length-take-le, length-drop}
 use Rattle.std.proofs.lemmas.List.FromFn.{get_or-map-range_with_len, length-range_with_len}
 use Rattle.par2_spec.specs.Field.{mul, coefficient}
-use Rattle.par2_spec.specs.Slices.{word}
-use Rattle.par2_spec.specs.Recovery.{dot, coefficients}
+use Rattle.par2_spec.specs.Slices.{padded, word}
+use Rattle.par2_spec.specs.Recovery.{dot, coefficients, recovery}
 use Rattle.par2_spec.specs.Sums.{list_at}
 use Rattle.par2_spec.proofs.FieldOrder.{product-zero}
+use Rattle.par2_spec.proofs.FieldProducts.{product_comm, product-one}
+use Rattle.par2_spec.proofs.WordLaws.{word-lt}
 use Rattle.par2_spec.proofs.SumLaws.{field_sum_same, dot_sum, product_at}
-use Rattle.par2_transform.specs.Adding.{AddsToEach, HaveWords}
+use Rattle.par2_transform.specs.Adding.{within, place_at, AddsAt, AddsToEach, AreApart, HaveWords, LieWithin}
 use Rattle.par2_transform.specs.Columns.{recovered}
+use Rattle.par2_transform.specs.declared.outputs.Place.{Place}
+use Rattle.par2_transform.proofs.AddingLaws.{adds_none, adds_more, adds_same, within-in, within-above, within_joined, within_same}
+use Rattle.par2_transform.proofs.GroupLaws.{length-group, adds_to_group}
 use Rattle.par2_recovery.specs.Inverses.{recovery_at}
 use Rattle.par2_recovery.specs.Products.{Adds, AreBytes, products}
 use Rattle.par2_recovery.specs.Survivors.{known_from, known_alone, bytes_or_none, sum_at}
-use Rattle.par2_recovery.specs.Syndromes.{all_coefficients, syndrome, AreSyndromes, AreSolved}
-use Rattle.par2_recovery.specs.Views.{texts_of}
+use Rattle.par2_recovery.specs.Syndromes.{all_coefficients, syndrome, window, AreSyndromes, AreSolved}
+use Rattle.par2_recovery.specs.Views.{texts_of, AreBlank}
+use Rattle.par2_recovery.specs.Writing.{output_at, AreWritten, AreZeros}
+use Rattle.par2_recovery.proofs.Combinations.{blank_word, recovered_by_words}
 use Rattle.par2_recovery.proofs.Inverting.{length-slices}
 use Rattle.par2_recovery.proofs.Rebuilding.{length-present}
+use Rattle.par2_recovery.proofs.Solving.{word-window}
 
 -- ---- what a slice gives that has no bytes
 
@@ -127,19 +135,15 @@ syndromes_added n words exponents slices recovery new e many sizes added = recor
         (λ i at. ap (λ x. mul x (word w (list_at slices i))) (sym (get_or-map-range_with_len (coefficient e) 0 n i i 0 (omega (arith, many, at)) (zero-add i))))
 
 -- the sums of products are recovery slices
-pub products_are : (n words : ℕ) (exponents numbers : List ℕ) (rows slices old new : List (List ℕ)) → numbers ≡ range_with_len 0 n → rows ≡ map (coefficients numbers) exponents
-    → n ≡ length slices → length exponents ≡ length old → HaveWords words old
-    → Adds rows slices old new 0 words n → AddsToEach (λ t p. recovered slices (get_or exponents t 0) p) old new
-products_are n words exponents numbers rows slices old new are rows_are e many sizes added = record {
-  count = added.count;
-  sizes = added.sizes;
-  each = λ t p low room.
-      added.inside t p low (omega arith) (let size = sizes t low in omega (arith, size, room)) room
-      ∙ ap (bit_xor (word p (list_at old t)))
-      (ap (λ m. products m rows slices t p) e
-      ∙ field_sum_same (length slices) (λ k. mul (get_or (list_at rows t) k 0) (word p (list_at slices k))) (λ k. mul (coefficient (get_or exponents t 0) k) (word p (list_at slices k)))
-      (λ k here. ap (λ x. mul x (word p (list_at slices k))) (entry t (omega (arith, many, low)) k here)));
-}
+pub products_are : (n len : ℕ) (exponents numbers : List ℕ) (rows slices old new : List (List ℕ)) (places : List Place) → numbers ≡ range_with_len 0 n → rows ≡ map (coefficients numbers) exponents
+    → n ≡ length slices → length exponents ≡ length places
+    → AddsAt places len (λ t p. products n rows slices t p) old new → AddsAt places len (λ t p. recovered slices (get_or exponents t 0) p) old new
+products_are n len exponents numbers rows slices old new places are rows_are e many added =
+    adds_same places len (λ t p. products n rows slices t p) (λ t p. recovered slices (get_or exponents t 0) p) old new added
+    (λ t p low _.
+    ap (λ m. products m rows slices t p) e
+    ∙ field_sum_same (length slices) (λ k. mul (get_or (list_at rows t) k 0) (word p (list_at slices k))) (λ k. mul (coefficient (get_or exponents t 0) k) (word p (list_at slices k)))
+    (λ k here. ap (λ x. mul x (word p (list_at slices k))) (entry t (omega (arith, many, low)) k here)))
   where
     entry : (t : ℕ) → t < length exponents → (k : ℕ) → k < length slices → get_or (list_at rows t) k 0 ≡ coefficient (get_or exponents t 0) k
     entry t low k here =
@@ -156,82 +160,157 @@ same_exponents e f slices old new same added = record {
   each = λ t p low room. added.each t p low room ∙ ap (λ n. bit_xor (word p (list_at old t)) (recovered slices n p)) (same t low);
 }
 
+-- the exponents of a run
+pub run_exponents : (first len : ℕ) (exponents : List ℕ) (slices old new : List (List ℕ)) (places : List Place) → length exponents ≡ length places
+    → ((j : ℕ) → j < length exponents → get_or exponents j 0 ≡ first + j)
+    → AddsAt places len (λ t p. recovered slices (first + t) p) old new → AddsAt places len (λ t p. recovered slices (get_or exponents t 0) p) old new
+run_exponents first len exponents slices old new places many run added =
+    adds_same places len (λ t p. recovered slices (first + t) p) (λ t p. recovered slices (get_or exponents t 0) p) old new added
+    (λ t p low _. ap (λ n. recovered slices n p) (sym (run t (omega (arith, many, low)))))
+
+-- ---- sums that are added
+
+abbrev pub sum_word : (from to : ℕ) (sums : List (List ℕ)) (t p : ℕ) → ℕ
+sum_word from to sums t p = within from to p (word (p - from) (list_at sums t))
+
+-- the first n sums were added
+abbrev pub SumsAdded : List Place → (len from to n : ℕ) (sums was texts : List (List ℕ)) → Type 0
+SumsAdded places len from to n sums was texts = AddsAt places len (λ t p. within 0 n t (sum_word from to sums t p)) was texts
+
+pub no_sum : (places : List Place) (len from to : ℕ) (sums texts : List (List ℕ)) → SumsAdded places len from to 0 sums texts texts
+no_sum places len from to sums texts = adds_none places len (λ t p. within 0 0 t (sum_word from to sums t p)) texts (λ t p. within-above 0 0 t (sum_word from to sums t p) (omega arith))
+
+pub next_sum : (places : List Place) (len from to n : ℕ) (row : List ℕ) (sums was half texts : List (List ℕ)) → row ≡ list_at sums n → AreBytes sums → SumsAdded places len from to n sums was half
+    → AddsAt places len (λ t p. within n (n + 1) t (within from to p (mul 1 (word (p - from) row)))) half texts → SumsAdded places len from to (n + 1) sums was texts
+next_sum places len from to n row sums was half texts is bytes so_far added =
+    adds_more places len (λ t p. within 0 n t (sum_word from to sums t p)) (λ t p. within n (n + 1) t (within from to p (mul 1 (word (p - from) row)))) (λ t p. within 0 (n + 1) t (sum_word from to sums t p)) was half texts so_far added
+    (λ t p _ _.
+    ap (bit_xor (within 0 n t (sum_word from to sums t p)))
+    (within_same n (n + 1) t (within from to p (mul 1 (word (p - from) row))) (sum_word from to sums t p)
+    (λ low high. let same : n ≡ t = omega (arith, low, high) in ap (within from to p) (once (p - from) ∙ ap (λ k. word (p - from) (list_at sums k)) same)))
+    ∙ within_joined 0 n (n + 1) t (sum_word from to sums t p) (omega arith) (omega arith))
+  where
+    once : (q : ℕ) → mul 1 (word q row) ≡ word q (list_at sums n)
+    once q =
+        let small : word q (list_at sums n) < 65536 = word-lt (list_at sums n) q (bytes n) in
+        ap (λ xs. mul 1 (word q xs)) is ∙ product_comm 1 (word q (list_at sums n)) (omega arith) small ∙ product-one (word q (list_at sums n)) small
+
+pub all_sums : (places : List Place) (len from to n : ℕ) (sums was texts : List (List ℕ)) → n ≡ length places → SumsAdded places len from to n sums was texts
+    → AddsAt places len (sum_word from to sums) was texts
+all_sums places len from to n sums was texts is added =
+    adds_same places len (λ t p. within 0 n t (sum_word from to sums t p)) (sum_word from to sums) was texts added
+    (λ t p low _. within-in 0 n t (sum_word from to sums t p) (omega arith) (omega (arith, low, is)))
+
+-- the sums are those of products of windows, which are parts of slices
+pub sums_are : (places : List Place) (len from to n m : ℕ) (rows slices windows zeros sums was texts : List (List ℕ)) → from ≤ to → windows ≡ map (window (2 * from) (2 * (to - from))) slices → n ≡ length slices
+    → m ≡ length windows → length rows ≡ length places → AreBlank (2 * (to - from)) (length rows) zeros → Adds rows windows zeros sums 0 (to - from) m → AddsAt places len (sum_word from to sums) was texts
+    → AddsAt places len (λ t p. within from to p (products n rows slices t p)) was texts
+sums_are places len from to n m rows slices windows zeros sums was texts order are n_is m_is many blank made added =
+    adds_same places len (sum_word from to sums) (λ t p. within from to p (products n rows slices t p)) was texts added
+    (λ t p low _. within_same from to p (word (p - from) (list_at sums t)) (products n rows slices t p) (λ p_low p_high.
+    let q : ℕ = p - from in
+    let in_rows : t < length rows = omega (arith, many, low) in
+    let size : length (list_at zeros t) ≡ 2 * (to - from) = ap length (blank.each t in_rows) ∙ length-replicate {A = ℕ} (2 * (to - from)) 0 in
+    let fits : 2 * q + 1 < 2 * (to - from) = omega (arith, p_low, p_high) in
+    made.inside t q (omega (arith, blank.count, in_rows)) (omega arith) (omega (arith, p_low, p_high)) (omega (arith, size, fits))
+    ∙ ap (λ x. bit_xor x (products m rows windows t q)) (ap (word q) (blank.each t in_rows) ∙ blank_word (2 * (to - from)) q)
+    ∙ xor_zero_l (products m rows windows t q)
+    ∙ ap (λ k. products k rows windows t q) (m_is ∙ ap length are ∙ length-map slices (window (2 * from) (2 * (to - from))))
+    ∙ field_sum_same (length slices) (λ k. mul (get_or (list_at rows t) k 0) (word q (list_at windows k))) (λ k. mul (get_or (list_at rows t) k 0) (word p (list_at slices k)))
+    (λ k here. ap (mul (get_or (list_at rows t) k 0))
+    (ap (λ xs. word q (list_at xs k)) are ∙ ap (word q) (get_or-map (window (2 * from) (2 * (to - from))) slices k [] [] here)
+    ∙ word-window (2 * from) (2 * (to - from)) from (list_at slices k) q refl fits ∙ ap (λ w. word w (list_at slices k)) (let e : from + q ≡ p = omega (arith, p_low) in e)))
+    ∙ ap (λ k. products k rows slices t p) (sym n_is)))
+
+-- ---- columns after columns
+
+abbrev pub ColumnsAdded : List Place → (len n : ℕ) (other : ℕ → ℕ → ℕ) (was texts : List (List ℕ)) → Type 0
+ColumnsAdded places len n other was texts = AddsAt places len (λ t p. within 0 n p (other t p)) was texts
+
+pub no_columns_yet : (places : List Place) (len n : ℕ) (other : ℕ → ℕ → ℕ) (texts : List (List ℕ)) → n ≡ 0 → ColumnsAdded places len n other texts texts
+no_columns_yet places len n other texts none = adds_none places len (λ t p. within 0 n p (other t p)) texts (λ t p. within-above 0 n p (other t p) (omega (arith, none)))
+
+pub next_columns : (places : List Place) (len at from to next : ℕ) (other : ℕ → ℕ → ℕ) (was half texts : List (List ℕ)) → at ≡ from → to ≡ next → from ≤ to → ColumnsAdded places len at other was half
+    → AddsAt places len (λ t p. within from to p (other t p)) half texts → ColumnsAdded places len next other was texts
+next_columns places len at from to next other was half texts is_from is_next order so_far added =
+    adds_more places len (λ t p. within 0 at p (other t p)) (λ t p. within from to p (other t p)) (λ t p. within 0 next p (other t p)) was half texts so_far added
+    (λ t p _ _.
+    ap (λ m. bit_xor (within 0 m p (other t p)) (within from to p (other t p))) is_from
+    ∙ within_joined 0 from to p (other t p) (omega arith) order
+    ∙ ap (λ m. within 0 m p (other t p)) is_next)
+
+pub all_columns_added : (places : List Place) (len n : ℕ) (other : ℕ → ℕ → ℕ) (was texts : List (List ℕ)) → len ≤ n → ColumnsAdded places len n other was texts → AddsAt places len other was texts
+all_columns_added places len n other was texts enough added =
+    adds_same places len (λ t p. within 0 n p (other t p)) other was texts added (λ t p _ low. within-in 0 n p (other t p) (omega arith) (omega (arith, enough, low)))
+
 -- ---- group by group
-
--- to each word of each of the first n texts, another one is added
-pub record AddsToFirst (other : ℕ → ℕ → ℕ) (old new : List (List ℕ)) (n : ℕ) : Type 0 where
-  pub count : length new ≡ n
-  pub sizes : (t : ℕ) → t < n → length (list_at new t) ≡ length (list_at old t)
-  pub each : (t p : ℕ) → t < n → 2 * p + 1 < length (list_at old t) → word p (list_at new t) ≡ bit_xor (word p (list_at old t)) (other t p)
-
-pub adds_none : (other : ℕ → ℕ → ℕ) (old new : List (List ℕ)) → new ≡ [] → AddsToFirst other old new 0
-adds_none other old new e = record {
-  count = ap length e;
-  sizes = λ t low. absurd (omega (arith, low));
-  each = λ t p low room. absurd (omega (arith, low));
-}
 
 abbrev pub group : {A : Type 0} → ℕ → ℕ → List A → List A
 group at to xs = take (to - at) (drop at xs)
 
-pub in_group : {A : Type 0} (at to q : ℕ) (d : A) (xs : List A) → q < to - at → get_or (group at to xs) q d ≡ get_or xs (at + q) d
-in_group at to q d xs low = get_or-take (to - at) (drop at xs) q d low ∙ get_or-drop at xs q d
+-- the first n outputs got their recovery slices
+abbrev pub FirstAdded : List Place → (len n : ℕ) (exponents : List ℕ) (slices was texts : List (List ℕ)) → Type 0
+FirstAdded places len n exponents slices was texts = AddsAt places len (λ t p. within 0 n t (recovered slices (get_or exponents t 0) p)) was texts
 
-pub length-group : {A : Type 0} (at to : ℕ) (xs : List A) → at ≤ to → to ≤ length xs → length (group at to xs) ≡ to - at
-length-group at to xs order fits = length-take-le (to - at) (drop at xs) (let e = length-drop at xs in omega (arith, e, order, fits))
-
-pub texts_in_group : (at to : ℕ) (texts : List (Bor (List ℕ))) → texts_of (group at to texts) ≡ group at to (texts_of texts)
-texts_in_group at to texts =
-    let bytes = λ (t : Bor (List ℕ)). t.now in
-    sym (take-map bytes (to - at) (drop at texts)) ∙ ap (λ (ts : List (List ℕ)). take (to - at) ts) (sym (drop-map bytes at texts))
-
-pub group_words : (words at to : ℕ) (texts : List (List ℕ)) → at ≤ to → to ≤ length texts → HaveWords words texts → HaveWords words (group at to texts)
-group_words words at to texts order fits have q low =
-    let n = length-group at to texts order fits in
-    ap length (in_group at to q [] texts (omega (arith, n, low))) ∙ have (at + q) (omega (arith, n, low, order, fits))
+pub no_output_yet : (places : List Place) (len : ℕ) (exponents : List ℕ) (slices texts : List (List ℕ)) → FirstAdded places len 0 exponents slices texts texts
+no_output_yet places len exponents slices texts =
+    adds_none places len (λ t p. within 0 0 t (recovered slices (get_or exponents t 0) p)) texts (λ t p. within-above 0 0 t (recovered slices (get_or exponents t 0) p) (omega arith))
 
 -- a group more
-pub adds_group : (at to : ℕ) (exponents : List ℕ) (slices old sums more new : List (List ℕ)) → at ≤ to → to ≤ length old
-    → AddsToFirst (λ t p. recovered slices (get_or exponents t 0) p) old sums at
-    → AddsToEach (λ t p. recovered slices (get_or (group at to exponents) t 0) p) (group at to old) more
-    → new ≡ sums ++ more → AddsToFirst (λ t p. recovered slices (get_or exponents t 0) p) old new to
-adds_group at to exponents slices old sums more new order fits so_far added is = record {
-  count = ap length is ∙ length-append sums more ∙ ap₂ (λ a b. a + b) so_far.count size ∙ omega (arith, order);
-  sizes = λ t low. elim (cases_lt t at) [
-    | inl early ↦ ap length (before t early) ∙ so_far.sizes t early
-    | inr late ↦ ap length (behind t late) ∙ added.sizes (t - at) ∙ ap length (was t late low)
-  ];
-  each = λ t p low room. elim (cases_lt t at) [
-    | inl early ↦ ap (word p) (before t early) ∙ so_far.each t p early room
-    | inr late ↦
-        let q : ℕ = t - at in
-        let here : q < to - at = omega (arith, late, low) in
-        let place : at + q ≡ t = omega (arith, late) in
-        ap (word p) (behind t late)
-        ∙ added.each q p (let n = length-group at to old order fits in omega (arith, n, here)) (subst (λ (xs : List ℕ). 2 * p + 1 < length xs) (sym (was t late low)) room)
-        ∙ ap₂ (λ (xs : List ℕ) (e : ℕ). bit_xor (word p xs) (recovered slices e p)) (was t late low) (in_group at to q 0 exponents here ∙ ap (λ i. get_or exponents i 0) place)
-  ];
-}
-  where
-    size : length more ≡ to - at
-    size = added.count ∙ length-group at to old order fits
-
-    before : (t : ℕ) → t < at → list_at new t ≡ list_at sums t
-    before t early = ap (λ xs. list_at xs t) is ∙ get_or_append_left sums more [] t (let n = so_far.count in omega (arith, n, early))
-
-    behind : (t : ℕ) → at ≤ t → list_at new t ≡ list_at more (t - at)
-    behind t late = ap (λ xs. list_at xs t) is ∙ get_or-append_right sums more at t [] so_far.count late
-
-    was : (t : ℕ) → at ≤ t → t < to → list_at (group at to old) (t - at) ≡ list_at old t
-    was t late low = in_group at to (t - at) [] old (omega (arith, late, low)) ∙ ap (list_at old) (omega (arith, late))
+pub adds_group : (places part : List Place) (len words at to : ℕ) (exponents : List ℕ) (slices was half texts : List (List ℕ)) → at ≤ to → to ≤ length places → AreApart len places → part ≡ group at to places → words ≡ len
+    → FirstAdded places len at exponents slices was half
+    → AddsAt part words (λ t p. recovered slices (get_or (group at to exponents) t 0) p) half texts
+    → FirstAdded places len to exponents slices was texts
+adds_group places part len words at to exponents slices was half texts order fits apart part_is words_is so_far added =
+    let other = λ (t p : ℕ). recovered slices (get_or exponents t 0) p in
+    let given = λ (t p : ℕ). recovered slices (get_or (group at to exponents) t 0) p in
+    let here : AddsAt (group at to places) len given half texts =
+    subst (λ (n : ℕ). AddsAt (group at to places) n given half texts) words_is (subst (λ (ps : List Place). AddsAt ps words given half texts) part_is added) in
+    let moved : AddsAt (group at to places) len (λ t p. other (at + t) p) half texts =
+    adds_same (group at to places) len given (λ t p. other (at + t) p) half texts here
+    (λ t p low _. ap (λ e. recovered slices e p) (get_or-take (to - at) (drop at exponents) t 0 (let n = length-group at to places order fits in omega (arith, n, low)) ∙ get_or-drop at exponents t 0)) in
+    adds_more places len (λ t p. within 0 at t (other t p)) (λ t p. within at to t (other t p)) (λ t p. within 0 to t (other t p)) was half texts so_far (adds_to_group at to len other places half texts order fits apart moved)
+    (λ t p _ _. within_joined 0 at to t (other t p) (omega arith) order)
 
 -- all of them
-pub adds_all : (other : ℕ → ℕ → ℕ) (old new : List (List ℕ)) (n : ℕ) → n ≡ length old → AddsToFirst other old new n → AddsToEach other old new
-adds_all other old new n e added = record {
-  count = added.count ∙ e;
-  sizes = λ t. elim (cases_lt t n) [
-    | inl low ↦ added.sizes t low
-    | inr high ↦ ap length (get_or_past new t [] (let m = added.count in omega (arith, m, high)) ∙ sym (get_or_past old t [] (omega (arith, e, high))))
-  ];
-  each = λ t p low room. added.each t p (omega (arith, e, low)) room;
+pub adds_all : (places : List Place) (len n : ℕ) (exponents : List ℕ) (slices was texts : List (List ℕ)) → length places ≤ n → FirstAdded places len n exponents slices was texts
+    → AddsAt places len (λ t p. recovered slices (get_or exponents t 0) p) was texts
+adds_all places len n exponents slices was texts enough added =
+    adds_same places len (λ t p. within 0 n t (recovered slices (get_or exponents t 0) p)) (λ t p. recovered slices (get_or exponents t 0) p) was texts added
+    (λ t p low _. within-in 0 n t (recovered slices (get_or exponents t 0) p) (omega arith) (omega (arith, low, enough)))
+
+-- ---- outputs that were zeros
+
+pub are_written : (places : List Place) (words : ℕ) (exponents : List ℕ) (slices old new : List (List ℕ)) → AreBytes slices → AreBytes new → LieWithin words places old → AreZeros words places old
+    → AddsAt places words (λ t p. recovered slices (get_or exponents t 0) p) old new → AreWritten words slices exponents places old new
+are_written places words exponents slices old new bytes fits within zeros added = record {
+  count = added.count;
+  sizes = added.sizes;
+  each = λ t low. written t low (place_at places t) refl;
+  others = added.others;
 }
+  where
+    written : (t : ℕ) → t < length places → (place : Place) → place_at places t ≡ place → output_at (2 * words) place new ≡ recovery (2 * words) (map (padded (2 * words)) slices) (get_or exponents t 0)
+    written t low place is =
+        let s : ℕ = 2 * words in
+        let text = list_at new place.text in
+        let room : place.at + s ≤ length (list_at old place.text) = subst (λ (x : Place). x.at + 2 * words ≤ length (list_at old x.text)) is (within t low).1 in
+        let long : length (drop place.at text) ≡ length text - place.at = length-drop place.at text in
+        let size : length (output_at s place new) ≡ s = length-take-le s (drop place.at text) (let e = added.sizes place.text in omega (arith, long, room, e)) in
+        let byte : (k : ℕ) → get_or (output_at s place new) k 0 < 256 =
+        λ k. elim (cases_lt k s) [
+          | inl inside ↦ subst (λ x. x < 256) (sym (get_or-take s (drop place.at text) k 0 inside ∙ get_or-drop place.at text k 0)) (fits place.text (place.at + k))
+          | inr past ↦ subst (λ x. x < 256) (sym (get_or_past (output_at s place new) k 0 (omega (arith, size, past)))) (omega arith)
+        ] in
+        recovered_by_words s (get_or exponents t 0) slices (output_at s place new) (omega arith) bytes size byte
+        (λ w here.
+        front s w (drop place.at text) here
+        ∙ ap (λ (x : Place). word w (drop x.at (list_at new x.text))) (sym is)
+        ∙ added.each t w low (omega (arith, here))
+        ∙ ap (λ x. bit_xor x (recovered slices (get_or exponents t 0) w))
+        (ap (λ (x : Place). word w (drop x.at (list_at old x.text))) is ∙ sym (front s w (drop place.at (list_at old place.text)) here)
+        ∙ ap (λ (x : Place). word w (output_at s x old)) (sym is) ∙ ap (word w) (zeros t low) ∙ blank_word s w)
+        ∙ xor_zero_l (recovered slices (get_or exponents t 0) w))
+
+    front : (s w : ℕ) (text : List ℕ) → 2 * w + 1 < s → word w (take s text) ≡ word w text
+    front s w text here = ap₂ (λ a b. a + 256 * b) (get_or-take s text (2 * w) 0 (omega (arith, here))) (get_or-take s text (2 * w + 1) 0 here)

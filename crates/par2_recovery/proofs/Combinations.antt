@@ -99,34 +99,43 @@ blank_bytes s n lists blank r k = elim (cases_lt r n) [
   | inr high ↦ subst (λ xs. get_or xs k 0 < 256) (sym (get_or_past lists r [] (omega (arith, blank.count)))) (omega arith)
 ]
 
+-- a text is the recovery slice that its words are those of
+pub recovered_by_words : (s e : ℕ) (lists : List (List ℕ)) (text : List ℕ) → s % 2 ≡ 0 → AreBytes lists → length text ≡ s → ((k : ℕ) → get_or text k 0 < 256)
+    → ((w : ℕ) → 2 * w + 1 < s → word w text ≡ recovered lists e w) → text ≡ recovery s (map (padded s) lists) e
+unfolding recovery
+recovered_by_words s e lists text even bytes size fits words =
+    let row = coefficients (range_with_len 0 (length lists)) e in
+    let long : length row ≡ length lists = length-map (range_with_len 0 (length lists)) (coefficient e) ∙ length-range_with_len 0 (length lists) in
+    let entry : (k : ℕ) → k < length lists → get_or row k 0 ≡ coefficient e k =
+    λ k h. get_or-map-range_with_len (coefficient e) 0 (length lists) k k 0 h (zero-add k) in
+    let is : recovery s (map (padded s) lists) e ≡ text =
+    ap (λ n. combination s (coefficients (range_with_len 0 n) e) (map (padded s) lists)) (length-map lists (padded s))
+    ∙ (combination_words s row (map (padded s) lists) text even
+    (λ w. dot_padded-lt s row lists w (omega (arith, long)) (coefficients-lt (range_with_len 0 (length lists)) e) bytes)
+    size fits).1
+    (λ w low.
+    dot_padded s row lists w (omega (arith, long))
+    ∙ field_sum_same (length lists) (λ k. mul (get_or row k 0) (word w (list_at lists k))) (λ k. mul (coefficient e k) (word w (list_at lists k)))
+    (λ k h. ap (λ c. mul c (word w (list_at lists k))) (entry k h))
+    ∙ sym (words w (omega (arith, low)))) in
+    sym is
+
 -- what was added to zeros, word by word, are the recovery slices
 pub are_recovered : (s first count : ℕ) (lists old new : List (List ℕ)) → s % 2 ≡ 0 → AreBytes lists → AreBytes new → AreBlank s count old
     → AddsToEach (λ t p. recovered lists (first + t) p) old new → new ≡ map (recovery s (map (padded s) lists)) (range_with_len first count)
-unfolding recovery
 are_recovered s first count lists old new even bytes fits blank added =
     ext_get_or [] new (map (recovery s (map (padded s) lists)) (range_with_len first count))
     (added.count ∙ blank.count ∙ sym (length-map-range_with_len (recovery s (map (padded s) lists)) first count))
     (λ r h.
     let low : r < count = omega (arith, added.count, blank.count) in
     let here = get_or-map-range_with_len (recovery s (map (padded s) lists)) first count r (first + r) [] low refl in
-    let row = coefficients (range_with_len 0 (length lists)) (first + r) in
-    let long : length row ≡ length lists = length-map (range_with_len 0 (length lists)) (coefficient (first + r)) ∙ length-range_with_len 0 (length lists) in
     let size : length (list_at old r) ≡ s = ap length (blank.each r low) ∙ length-replicate {A = ℕ} s 0 in
-    let entry : (k : ℕ) → k < length lists → get_or row k 0 ≡ coefficient (first + r) k =
-    λ k h. get_or-map-range_with_len (coefficient (first + r)) 0 (length lists) k k 0 h (zero-add k) in
-    let is : recovery s (map (padded s) lists) (first + r) ≡ list_at new r =
-    ap (λ n. combination s (coefficients (range_with_len 0 n) (first + r)) (map (padded s) lists)) (length-map lists (padded s))
-    ∙ (combination_words s row (map (padded s) lists) (list_at new r) even
-    (λ w. dot_padded-lt s row lists w (omega (arith, long)) (coefficients-lt (range_with_len 0 (length lists)) (first + r)) bytes)
-    (added.sizes r ∙ size) (fits r)).1
+    recovered_by_words s (first + r) lists (list_at new r) even bytes (added.sizes r ∙ size) (fits r)
     (λ w fits.
-    dot_padded s row lists w (omega (arith, long))
-    ∙ field_sum_same (length lists) (λ k. mul (get_or row k 0) (word w (list_at lists k))) (λ k. mul (coefficient (first + r) k) (word w (list_at lists k)))
-    (λ k h. ap (λ c. mul c (word w (list_at lists k))) (entry k h))
-    ∙ sym (added.each r w (omega (arith, blank.count)) (omega (arith, size))
+    added.each r w (omega (arith, blank.count)) (omega (arith, size))
     ∙ ap (λ x. bit_xor x (recovered lists (first + r) w)) (ap (λ xs. word w xs) (blank.each r low) ∙ blank_word s w)
-    ∙ xor_zero_l (recovered lists (first + r) w))) in
-    sym is ∙ sym here)
+    ∙ xor_zero_l (recovered lists (first + r) w))
+    ∙ sym here)
 
 -- ---- rows of factors
 

@@ -15,4 +15,3 @@ pub mod KnownSlices
 pub mod Quotients
 pub mod RunInverses
 pub mod Beginnings
-pub mod Windows

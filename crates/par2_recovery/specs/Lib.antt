@@ -6,3 +6,4 @@ pub mod Inverses
 pub mod Syndromes
 pub mod Rebuilding
 pub mod RunInverses
+pub mod Writing

@@ -1,10 +1,10 @@
 -- The lost slices by their syndromes. With the slices that are known taken off, the equation of an exponent is one of
 -- the lost slices alone (Parity Volume Set Specification 2.0, "Description of the algorithm").
-use Rattle.std.specs.Prelude.{◌≡◌, ◌+◌, ◌*◌, ◌%◌, ◌<◌, ◌≤◌, ◌++◌, ℕ, List, length, take, drop, map, slice_index, bit_xor}
+use Rattle.std.specs.Prelude.{◌≡◌, ◌+◌, ◌*◌, ◌<◌, ◌≤◌, ◌++◌, ℕ, List, length, take, drop, map, slice_index, bit_xor}
 use Rattle.std.specs.List.{range_with_len}
 use Rattle.par2_spec.specs.Field.{mul}
-use Rattle.par2_spec.specs.Slices.{padded, word}
-use Rattle.par2_spec.specs.Recovery.{coefficients, recovery}
+use Rattle.par2_spec.specs.Slices.{word}
+use Rattle.par2_spec.specs.Recovery.{coefficients}
 use Rattle.par2_spec.specs.Sums.{field_sum, list_at}
 use Rattle.par2_recovery.specs.Products.{AreBytes, products}
 use Rattle.par2_recovery.specs.Survivors.{sum_at}
@@ -12,13 +12,6 @@ use Rattle.par2_recovery.specs.Survivors.{sum_at}
 -- at most n bytes of a text, from `from` on
 abbrev pub window : ℕ → ℕ → List ℕ → List ℕ
 window from n text = take n (drop from text)
-
--- the bytes from `from` on, n of them, of the recovery slices of some exponents over texts that zeros follow: of slices
--- of any size that has these bytes
-abbrev pub AreColumns : (texts : List (List ℕ)) (from n first count : ℕ) (columns : List (List ℕ)) → Type 0
-AreColumns texts from n first count columns =
-    (s : ℕ) → s % 2 ≡ 0 → from + n ≤ s
-    → columns ≡ map (λ e. window from n (recovery s (map (padded s) texts) e)) (range_with_len first count)
 
 -- what each of these exponents multiplies the first n input slices by
 abbrev pub all_coefficients : (n : ℕ) (exponents : List ℕ) → List (List ℕ)

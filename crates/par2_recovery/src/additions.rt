@@ -1,19 +1,24 @@
-//! Recovery slices, added to texts: those of many exponents that follow one another together, others each as the sum of
+//! Recovery slices, added to outputs: those of many exponents that follow one another together, others each as the sum of
 //! its products.
 
-ghost use Rattle.std.specs.Prelude.{◌≡◌, ℕ, ◌+◌, ◌*◌, ◌^◌, ◌<◌, ◌≤◌, length, map, slice_index, IfOk, IfSome};
+ghost use Rattle.std.specs.Prelude.{◌≡◌, ℕ, ◌+◌, ◌-◌, ◌*◌, ◌^◌, ◌<◌, ◌≤◌, length, map, slice_index, IfOk, IfSome};
 ghost use Rattle.std.specs.List.{range_with_len};
 ghost use Rattle.par2_spec.specs.Recovery.{coefficients};
-ghost use Rattle.par2_spec.specs.Sums.{lists_of};
-ghost use Rattle.par2_transform.specs.Adding.{AddsToEach, HaveWords};
+ghost use Rattle.par2_spec.specs.Slices.{word};
+ghost use Rattle.par2_spec.specs.Sums.{list_at, lists_of};
+ghost use Rattle.par2_transform.specs.Adding.{within, AddsAt, AddsToEach, HaveWords, LieWithin};
 ghost use Rattle.par2_transform.specs.Columns.{recovered};
+ghost use Rattle.par2_recovery.specs.Products.{products};
 ghost use Rattle.par2_recovery.specs.Syndromes.{AreRun};
 ghost use Rattle.par2_recovery.specs.Views.{texts_of};
 
+use crate::elements::text_at;
 use crate::exponents::coefficients;
-use crate::products::{add_products, source_at};
+use crate::products::{BLOCK, add_products, fit_lists, source_at};
+use crate::recovery::blank;
+use crate::syndromes::windows;
 use par2_gf16::Gf;
-use par2_transform::add_recovery_slices;
+use par2_transform::{Places, add_recovery_slices_at, add_to_output, whole_texts};
 use std::alloc::{AllocError, Global};
 
 // From so many exponents and slices on, recovery slices are computed together: below, each as the sum of its products is
@@ -22,8 +27,11 @@ const MANY_EXPONENTS: usize = 32;
 
 const MANY_SLICES: usize = 32;
 
-// What a row of coefficients takes beside them.
-const OVERHEAD: usize = 64;
+// What an exponent takes beside its coefficients and the words of its sum: two `Vec`s, and what the allocator adds.
+const OVERHEAD: usize = 104;
+
+// The fewest columns of sums that are made at a time.
+const FEWEST: usize = 32;
 
 // Whether the recovery slices of a run of so many exponents are computed together.
 fn are_together(slices: usize, count: usize) -> bool {
@@ -35,7 +43,16 @@ fn rows_at_once(slices: usize, room: usize) -> usize
     requires { slices ≤ 32768 }
     ensures { 1 ≤ result }
 {
-    (room / (2 * slices + OVERHEAD)).max(1)
+    (room / (2 * slices + OVERHEAD + 2 * FEWEST)).max(1)
+}
+
+// How many columns of the sums of so many exponents are made at a time.
+fn sum_columns(slices: usize, count: usize, room: usize) -> usize
+    requires { slices ≤ 32768 }
+    ensures { 1 ≤ result }
+{
+    let each = room / count.max(1);
+    (each.saturating_sub(2 * slices + OVERHEAD) / 2).clamp(FEWEST, BLOCK)
 }
 
 /// The numbers from `first` on, `count` of them.
@@ -69,25 +86,89 @@ fn coefficient_rows(
     Ok(rows)
 }
 
-// To each text, adds the recovery slice of the exponent at its place, as the sum of products.
+// To each output, adds the text at its place, in some columns.
+fn add_sums(
+    gf: &Gf,
+    sums: &[Vec<u8>],
+    texts: &mut [Vec<u8>],
+    outputs: &Places,
+    from: usize,
+    to: usize,
+)
+    requires count { length sums.now ≡ length outputs.now.places.now }
+    requires sizes { (t : ℕ) → t < length sums.now
+        → length (list_at (lists_of sums.now) t) ≡ 2 * (to - from) }
+    requires order { from ≤ to }
+    requires inside { to ≤ outputs.now.words }
+    requires room { LieWithin outputs.now.words outputs.now.places.now (lists_of texts.old) }
+    ensures { AddsAt outputs.now.places.now outputs.now.words
+        (λ t p. within from to p (word (p - from) (list_at (lists_of sums.now) t)))
+        (lists_of texts.old) (lists_of texts.new) }
+{
+    fit_lists(sums);
+    for t in 0..sums.len() {
+        add_to_output(gf, 1, text_at(sums, t), texts, outputs, t, from, to);
+    }
+}
+
+// To each output, adds the sum of the products of its row and the slices, in some columns.
+fn add_columns(
+    alloc: Global,
+    gf: &Gf,
+    rows: &[Vec<u16>],
+    slices: &[&[u8]],
+    texts: &mut [Vec<u8>],
+    outputs: &Places,
+    from: usize,
+    to: usize,
+) -> Result<(), AllocError>
+    requires rows { length rows.now ≡ length outputs.now.places.now }
+    requires factors { (t : ℕ)
+        → t < length rows.now → length slices.now ≤ length (list_at (lists_of rows.now) t) }
+    requires order { from ≤ to }
+    requires inside { to ≤ outputs.now.words }
+    requires room { LieWithin outputs.now.words outputs.now.places.now (lists_of texts.old) }
+    ensures { IfOk result (λ _. AddsAt outputs.now.places.now outputs.now.words
+        (λ t p. within from to p
+        (products (length slices.now) (lists_of rows.now) (texts_of slices.now) t p))
+        (lists_of texts.old) (lists_of texts.new)) }
+{
+    let size = 2 * (to - from);
+    let windows = windows(alloc, slices, 2 * from, size)?;
+    let mut sums = blank(alloc, rows.len(), size)?;
+    add_products(alloc, gf, rows, &windows, sums.as_mut_slice(), to - from)?;
+    add_sums(gf, &sums, texts, outputs, from, to);
+    Ok(())
+}
+
+// To each output, adds the recovery slice of the exponent at its place, as the sum of products. All slices are read once,
+// some columns of them at a time.
 fn add_by_coefficients(
     alloc: Global,
     gf: &Gf,
     slices: &[&[u8]],
-    words: usize,
     exponents: &[u32],
     texts: &mut [Vec<u8>],
+    outputs: &Places,
+    room: usize,
 ) -> Result<(), AllocError>
     requires slices { length slices.now ≤ 32768 }
-    requires count { length exponents.now ≡ length texts.old }
-    requires size { HaveWords words (lists_of texts.old) }
-    ensures { IfOk result (λ _. AddsToEach
+    requires count { length exponents.now ≡ length outputs.now.places.now }
+    requires room { LieWithin outputs.now.words outputs.now.places.now (lists_of texts.old) }
+    ensures { IfOk result (λ _. AddsAt outputs.now.places.now outputs.now.words
         (λ t p. recovered (texts_of slices.now) (slice_index exponents.now t) p)
         (lists_of texts.old) (lists_of texts.new)) }
 {
     let numbers = numbers_from(alloc, 0, slices.len() as u32)?;
     let rows = coefficient_rows(alloc, gf, &numbers, exponents)?;
-    add_products(alloc, gf, &rows, slices, texts, words)
+    let words = outputs.words;
+    let columns = sum_columns(slices.len(), exponents.len(), room);
+    for block in 0..words.div_ceil(columns) {
+        let from = block * columns;
+        let to = from + columns.min(words - from);
+        add_columns(alloc, gf, &rows, slices, texts, outputs, from, to)?;
+    }
+    Ok(())
 }
 
 // Up to which place the exponents from place `at` on follow one another without a gap.
@@ -142,27 +223,56 @@ fn run_together(exponents: &[u32], slices: usize) -> Option<u32>
     Some(first)
 }
 
-// To each text, adds the recovery slice of the exponent at its place: of a long run together.
+// To each output, adds the recovery slice of the exponent at its place: of a long run together.
 fn add_group(
     alloc: Global,
     gf: &Gf,
     slices: &[&[u8]],
-    words: usize,
     exponents: &[u32],
     texts: &mut [Vec<u8>],
+    outputs: &Places,
     room: usize,
 ) -> Result<(), AllocError>
     requires slices { length slices.now ≤ 32768 }
-    requires count { length exponents.now ≡ length texts.old }
-    requires size { HaveWords words (lists_of texts.old) }
-    ensures { IfOk result (λ _. AddsToEach
+    requires count { length exponents.now ≡ length outputs.now.places.now }
+    requires room { LieWithin outputs.now.words outputs.now.places.now (lists_of texts.old) }
+    ensures { IfOk result (λ _. AddsAt outputs.now.places.now outputs.now.words
         (λ t p. recovered (texts_of slices.now) (slice_index exponents.now t) p)
         (lists_of texts.old) (lists_of texts.new)) }
 {
     match run_together(exponents, slices.len()) {
-        Some(first) => add_recovery_slices(alloc, gf, slices, words, first, texts, room),
-        None => add_by_coefficients(alloc, gf, slices, words, exponents, texts),
+        Some(first) => { add_recovery_slices_at(alloc, gf, slices, first, texts, outputs, room) }
+        None => add_by_coefficients(alloc, gf, slices, exponents, texts, outputs, room),
     }
+}
+
+/// To each output, adds the recovery slice of the exponent at its place. An empty slice stands for one that is absent. What
+/// computes them takes so much memory, `room`, beside the texts, or as little as it can.
+pub(crate) fn add_recovery(
+    alloc: Global,
+    gf: &Gf,
+    slices: &[&[u8]],
+    exponents: &[u32],
+    texts: &mut [Vec<u8>],
+    outputs: &Places,
+    room: usize,
+) -> Result<(), AllocError>
+    requires slices { length slices.now ≤ 32768 }
+    requires count { length exponents.now ≡ length outputs.now.places.now }
+    requires room { LieWithin outputs.now.words outputs.now.places.now (lists_of texts.old) }
+    ensures { IfOk result (λ _. AddsAt outputs.now.places.now outputs.now.words
+        (λ t p. recovered (texts_of slices.now) (slice_index exponents.now t) p)
+        (lists_of texts.old) (lists_of texts.new)) }
+{
+    let most = rows_at_once(slices.len(), room);
+    let mut at = 0;
+    while at < exponents.len() {
+        let to = group_end(exponents, at, slices.len(), most);
+        let group = outputs.part(at, to);
+        add_group(alloc, gf, slices, &exponents[at..to], texts, &group, room)?;
+        at = to;
+    }
+    Ok(())
 }
 
 // A copy of each text.
@@ -176,38 +286,7 @@ fn copies(alloc: Global, texts: &[&[u8]]) -> Result<Vec<Vec<u8>>, AllocError>
     Ok(copies)
 }
 
-// What `with_recovery_slices` answers, of one group of exponents.
-fn with_group(
-    alloc: Global,
-    gf: &Gf,
-    slices: &[&[u8]],
-    words: usize,
-    exponents: &[u32],
-    texts: &[&[u8]],
-    room: usize,
-) -> Result<Vec<Vec<u8>>, AllocError>
-    requires slices { length slices.now ≤ 32768 }
-    requires count { length exponents.now ≡ length texts.now }
-    requires size { HaveWords words (texts_of texts.now) }
-    ensures { IfOk result (λ sums. AddsToEach
-        (λ t p. recovered (texts_of slices.now) (slice_index exponents.now t) p)
-        (texts_of texts.now) (lists_of sums.items)) }
-{
-    let mut sums = copies(alloc, texts)?;
-    add_group(
-        alloc,
-        gf,
-        slices,
-        words,
-        exponents,
-        sums.as_mut_slice(),
-        room,
-    )?;
-    Ok(sums)
-}
-
-/// The texts, to each of which the recovery slice of the exponent at its place is added. An empty slice stands for one
-/// that is absent. What computes them takes so much memory, `room`, beside the texts, or as little as it can.
+/// The texts, to each of which the recovery slice of the exponent at its place is added.
 pub(crate) fn with_recovery_slices(
     alloc: Global,
     gf: &Gf,
@@ -224,15 +303,10 @@ pub(crate) fn with_recovery_slices(
         (λ t p. recovered (texts_of slices.now) (slice_index exponents.now t) p)
         (texts_of texts.now) (lists_of sums.items)) }
 {
-    let most = rows_at_once(slices.len(), room);
-    let mut sums = Vec::with_capacity(alloc, texts.len())?;
-    let mut at = 0;
-    while at < exponents.len() {
-        let to = group_end(exponents, at, slices.len(), most);
-        let group = &exponents[at..to];
-        let mut more = with_group(alloc, gf, slices, words, group, &texts[at..to], room)?;
-        sums.append(&mut more)?;
-        at = to;
-    }
+    let mut sums = copies(alloc, texts)?;
+    let places = whole_texts(alloc, texts.len())?;
+    let outputs = Places::new(&places, words);
+    let all = sums.as_mut_slice();
+    add_recovery(alloc, gf, slices, exponents, all, &outputs, room)?;
     Ok(sums)
 }

@@ -2,7 +2,6 @@
 #![tactic(auto)]
 
 mod additions;
-mod columns;
 mod elements;
 mod exponents;
 mod file_record;
@@ -16,10 +15,8 @@ mod run_inverse;
 mod set_record;
 mod syndromes;
 
-pub use columns::recovery_columns;
 pub use exponents::{rank, rank_by_runs};
 pub use file_record::file_record_by_md5;
 pub use rebuild_slices::{RebuildFault, Survivors, rebuild, rebuild_lost};
-pub use recovery::{input_slices, recovery_slice, recovery_slices_over};
-pub use room::{columns_at_once, exponents_at_once};
+pub use recovery::{input_slices, recovery_slice, recovery_slices_over, write_recovery_slices};
 pub use set_record::{RecordFault, SetRecord, file_records};

@@ -11,7 +11,7 @@ use par2_gf16::{Columns, Factor, Gf};
 use std::alloc::{AllocError, Global};
 
 /// How many words of every text are taken at a time, so that a source's nibbles and what is written stay in the caches.
-const BLOCK: usize = 4096;
+pub(crate) const BLOCK: usize = 4096;
 
 // Adds the factor times the words of the source to those of the target.
 fn add_words(gf: &Gf, factor: &Factor, source: &Columns, target: &mut [u8])

@@ -8,15 +8,18 @@ ghost use Rattle.par2_spec.specs.Volumes.{all_slices};
 ghost use Rattle.par2_spec.specs.Commands.{files_of};
 ghost use Rattle.par2_spec.specs.Recovery.{recovery};
 ghost use Rattle.par2_spec.specs.Sums.{lists_of};
+ghost use Rattle.par2_transform.specs.Adding.{LieWithin};
 ghost use Rattle.par2_recovery.specs.Views.{texts_of, names_of, AreBlank};
+ghost use Rattle.par2_recovery.specs.Writing.{AreWritten, AreZeros};
 
-use crate::additions::{numbers_from, with_recovery_slices};
+use crate::additions::{add_recovery, numbers_from, with_recovery_slices};
 use crate::products::{fit_lists, fit_texts};
-use crate::room::rows_room;
+use crate::room::{rows_room, whole_room};
 use crate::set_record::SetRecord;
 use par2_folder::{Folder, Name};
 use par2_gf16::Gf;
 use par2_slices::{slice_bytes, slice_count};
+use par2_transform::Places;
 use std::alloc::{AllocError, Global};
 
 // Zeros.
@@ -41,31 +44,6 @@ fn repeated(alloc: Global, text: &[u8], count: u32) -> Result<Vec<&[u8]>, AllocE
     Ok(texts)
 }
 
-/// What [`recovery_slices_over`] answers, where what computes it has so much room.
-pub(crate) fn recovery_slices_within(
-    alloc: Global,
-    gf: &Gf,
-    slices: &[&[u8]],
-    size: usize,
-    first: u32,
-    count: u32,
-    room: usize,
-) -> Result<Vec<Vec<u8>>, AllocError>
-    requires slices { length slices.now ≤ 32768 }
-    requires even { size % 2 ≡ 0 }
-    requires exponents { first + count ≤ 2 ^ 32 }
-    ensures { IfOk result (λ texts. lists_of texts.items ≡ map (recovery size
-        (map (spec.padded size) (texts_of slices.now))) (range_with_len first count)) }
-{
-    fit_texts(slices);
-    let exponents = numbers_from(alloc, first, count)?;
-    let zeros = vec![in alloc; 0u8; size]?;
-    let texts = repeated(alloc, &zeros, count)?;
-    let sums = with_recovery_slices(alloc, gf, slices, size / 2, &exponents, &texts, room)?;
-    fit_lists(&sums);
-    Ok(sums)
-}
-
 /// The recovery slices of `count` exponents from `first` on over slices of `size` bytes. Zeros follow a slice that is
 /// shorter, as [`input_slices`] answers the last ones of files.
 pub fn recovery_slices_over(
@@ -82,7 +60,38 @@ pub fn recovery_slices_over(
     ensures { IfOk result (λ texts. lists_of texts.items ≡ map (recovery size
         (map (spec.padded size) (texts_of slices.now))) (range_with_len first count)) }
 {
-    recovery_slices_within(alloc, gf, slices, size, first, count, rows_room(slices))
+    fit_texts(slices);
+    let exponents = numbers_from(alloc, first, count)?;
+    let zeros = vec![in alloc; 0u8; size]?;
+    let texts = repeated(alloc, &zeros, count)?;
+    let room = rows_room(slices);
+    let sums = with_recovery_slices(alloc, gf, slices, size / 2, &exponents, &texts, room)?;
+    fit_lists(&sums);
+    Ok(sums)
+}
+
+/// Writes recovery slices into texts, at the places of outputs that are zeros: to each the one of the exponent at its place.
+/// Zeros follow a slice that is shorter, as [`input_slices`] answers the last ones of files.
+pub fn write_recovery_slices(
+    alloc: Global,
+    gf: &Gf,
+    slices: &[&[u8]],
+    exponents: &[u32],
+    texts: &mut [Vec<u8>],
+    outputs: &Places,
+) -> Result<(), AllocError>
+    requires slices { length slices.now ≤ 32768 }
+    requires count { length exponents.now ≡ length outputs.now.places.now }
+    requires room { LieWithin outputs.now.words outputs.now.places.now (lists_of texts.old) }
+    requires zeros { AreZeros outputs.now.words outputs.now.places.now (lists_of texts.old) }
+    ensures { IfOk result (λ _. AreWritten outputs.now.words (texts_of slices.now) exponents.now
+        outputs.now.places.now (lists_of texts.old) (lists_of texts.new)) }
+{
+    fit_texts(slices);
+    let room = whole_room(slices);
+    add_recovery(alloc, gf, slices, exponents, texts, outputs, room)?;
+    fit_lists(texts);
+    Ok(())
 }
 
 // The bytes of a file, none where it is absent.

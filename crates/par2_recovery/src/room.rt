@@ -28,13 +28,9 @@ fn quarter(slices: &[&[u8]]) -> usize {
     (total_len(slices) / 256).saturating_add(ROOM / 4)
 }
 
-/// Of how many recovery slices there are columns at a time: of as many as the fewest columns have room for. A power of 2,
-/// since so many outputs go through the transform at once.
-pub fn exponents_at_once(slices: &[&[u8]]) -> u32
-    ensures { 1 ≤ result }
-{
-    let most = quarter(slices) / (STEP + OVERHEAD);
-    (most / 2 + 1).next_power_of_two().clamp(1, 65536) as u32
+/// How much memory what computes recovery slices may take where there are no columns beside it.
+pub(crate) fn whole_room(slices: &[&[u8]]) -> usize {
+    quarter(slices).saturating_mul(4)
 }
 
 /// How much memory rows over the slices may take: three quarters of the room.
@@ -52,7 +48,7 @@ fn row_steps(slices: &[&[u8]], count: usize) -> usize
 
 /// How many columns of so many recovery slices are made at a time over slices of `size` bytes, in blocks that are about
 /// equal, and that rows of the transform take whole. Each time these columns of all slices are read.
-pub fn columns_at_once(slices: &[&[u8]], count: usize, size: usize) -> usize
+pub(crate) fn columns_at_once(slices: &[&[u8]], count: usize, size: usize) -> usize
     ensures some { 1 ≤ result }
     ensures even { result % 2 ≡ 0 }
 {

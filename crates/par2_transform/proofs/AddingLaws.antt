@@ -1,15 +1,16 @@
 -- What is added to texts.
-use Rattle.std.proofs.Common.{inl, inr, ℕ, suc, ◌+◌, ◌-◌, ◌*◌, ◌<◌, ◌≤◌, ◌≡◌, ◌≢◌, refl, sym, ap, ap₂, subst, ◌∙◌, arith, Bool, true, false, List, ◌++◌, length, get_or, take, drop, bit_xor}
-use Rattle.std.specs.Prelude.{if◌then◌else◌, ◌&&◌, nat_le, nat_lt}
+use Rattle.std.proofs.Common.{inl, inr, ℕ, suc, ◌+◌, ◌-◌, ◌*◌, ◌<◌, ◌≤◌, ◌≡◌, ◌≢◌, refl, sym, ap, ap₂, ◌∙◌, arith, Bool, true, false, List, ◌++◌, length, get_or, take, drop, bit_xor}
+use Rattle.std.specs.Prelude.{if◌then◌else◌, ◌&&◌, nat_le, nat_lt, slice_index}
 use Rattle.std.proofs.lemmas.Bool.{cases_lt, cases_eq, lt-ltb, le-ltb, le-leb}
 use Rattle.std.proofs.lemmas.Bool.Decides.{leb_tells}
-use Rattle.std.proofs.lemmas.List.{get_or-append_right, get_or_append_left, get_or-take, get_or-drop, length-take-le}
+use Rattle.std.proofs.lemmas.List.{get_or-append_right, get_or_append_left, get_or-take, get_or-drop, length-take-le, length-drop}
 use Rattle.std.proofs.Math.Arith.{lt_of_le-ne}
 use Rattle.std.specs.Int.Bits.{xor_assoc, xor_zero_r, xor_zero_l}
 use borrow.Rule.Slice.PartMut.{put_mid, same_len_mid, mid_len}
 use Rattle.par2_spec.specs.Slices.{word}
 use Rattle.par2_spec.specs.Sums.{field_sum, list_at, OneChanged}
-use Rattle.par2_transform.specs.Adding.{within, AddsTo, AddsToEach}
+use Rattle.par2_transform.specs.Adding.{within, place_at, output_word, AddsAt, AddsTo, AddsToPart, AreApart, HasByte, LieWithin}
+use Rattle.par2_transform.specs.declared.outputs.Place.{Place}
 
 -- ---- within
 
@@ -67,64 +68,116 @@ within_moved at n q p x is = elim (cases_lt q n) [
 
 -- ---- texts
 
-pub adds_none : (other : ℕ → ℕ → ℕ) (old : List (List ℕ)) → ((t p : ℕ) → other t p ≡ 0) → AddsToEach other old old
-adds_none other old none = record {
+pub adds_none : (places : List Place) (len : ℕ) (other : ℕ → ℕ → ℕ) (old : List (List ℕ)) → ((t p : ℕ) → other t p ≡ 0) → AddsAt places len other old old
+adds_none places len other old none = record {
   count = refl;
-  sizes = λ t. refl;
-  each = λ t p low fits. sym (ap (bit_xor (word p (list_at old t))) (none t p) ∙ xor_zero_r (word p (list_at old t)));
+  sizes = λ i. refl;
+  each = λ t p low fits. sym (ap (bit_xor (output_word places t p old)) (none t p) ∙ xor_zero_r (output_word places t p old));
+  others = λ i k outside. refl;
 }
 
-pub adds_more : (first second both : ℕ → ℕ → ℕ) (old mid new : List (List ℕ)) → AddsToEach first old mid → AddsToEach second mid new
-    → ((t p : ℕ) → t < length old → 2 * p + 1 < length (list_at old t) → bit_xor (first t p) (second t p) ≡ both t p) → AddsToEach both old new
-adds_more first second both old mid new a b joined = record {
+pub adds_more : (places : List Place) (len : ℕ) (first second both : ℕ → ℕ → ℕ) (old mid new : List (List ℕ)) → AddsAt places len first old mid → AddsAt places len second mid new
+    → ((t p : ℕ) → t < length places → p < len → bit_xor (first t p) (second t p) ≡ both t p) → AddsAt places len both old new
+adds_more places len first second both old mid new a b joined = record {
   count = b.count ∙ a.count;
-  sizes = λ t. b.sizes t ∙ a.sizes t;
+  sizes = λ i. b.sizes i ∙ a.sizes i;
   each = λ t p low fits.
-      b.each t p (let e = a.count in omega (arith, e)) (let e = a.sizes t in omega (arith, e))
+      b.each t p low fits
       ∙ ap (λ x. bit_xor x (second t p)) (a.each t p low fits)
-      ∙ xor_assoc (word p (list_at old t)) (first t p) (second t p)
-      ∙ ap (bit_xor (word p (list_at old t))) (joined t p low fits);
+      ∙ xor_assoc (output_word places t p old) (first t p) (second t p)
+      ∙ ap (bit_xor (output_word places t p old)) (joined t p low fits);
+  others = λ i k outside. b.others i k outside ∙ a.others i k outside;
 }
 
-pub adds_same : (first second : ℕ → ℕ → ℕ) (old new : List (List ℕ)) → AddsToEach first old new
-    → ((t p : ℕ) → t < length old → 2 * p + 1 < length (list_at old t) → first t p ≡ second t p) → AddsToEach second old new
-adds_same first second old new a same = record {
+pub adds_same : (places : List Place) (len : ℕ) (first second : ℕ → ℕ → ℕ) (old new : List (List ℕ)) → AddsAt places len first old new
+    → ((t p : ℕ) → t < length places → p < len → first t p ≡ second t p) → AddsAt places len second old new
+adds_same places len first second old new a same = record {
   count = a.count;
   sizes = a.sizes;
-  each = λ t p low fits. a.each t p low fits ∙ ap (bit_xor (word p (list_at old t))) (same t p low fits);
+  each = λ t p low fits. a.each t p low fits ∙ ap (bit_xor (output_word places t p old)) (same t p low fits);
+  others = a.others;
 }
 
 -- one more part of a sum
-pub adds_next : (n : ℕ) (part : ℕ → ℕ → ℕ → ℕ) (old mid new : List (List ℕ)) → AddsToEach (λ t p. field_sum n (λ j. part j t p)) old mid → AddsToEach (part n) mid new
-    → AddsToEach (λ t p. field_sum (n + 1) (λ j. part j t p)) old new
+pub adds_next : (places : List Place) (len n : ℕ) (part : ℕ → ℕ → ℕ → ℕ) (old mid new : List (List ℕ)) → AddsAt places len (λ t p. field_sum n (λ j. part j t p)) old mid → AddsAt places len (part n) mid new
+    → AddsAt places len (λ t p. field_sum (n + 1) (λ j. part j t p)) old new
 unfolding field_sum
-adds_next n part old mid new a b =
-    adds_more (λ t p. field_sum n (λ j. part j t p)) (part n) (λ t p. field_sum (n + 1) (λ j. part j t p)) old mid new a b
+adds_next places len n part old mid new a b =
+    adds_more places len (λ t p. field_sum n (λ j. part j t p)) (part n) (λ t p. field_sum (n + 1) (λ j. part j t p)) old mid new a b
     (λ t p low fits. ap (λ k. field_sum k (λ j. part j t p)) (let e : suc n ≡ n + 1 = omega arith in e))
 
--- one text alone
-pub adds_to_one : (i : ℕ) (other : ℕ → ℕ) (old new : List (List ℕ)) → OneChanged old new i → AddsTo other (list_at old i) (list_at new i)
-    → AddsToEach (λ t p. within i (i + 1) t (other p)) old new
-adds_to_one i other old new changed added = record {
+-- the texts still hold the outputs
+pub still_within : (places : List Place) (len words : ℕ) (other : ℕ → ℕ → ℕ) (was texts : List (List ℕ)) → AddsAt places len other was texts → LieWithin words places was → LieWithin words places texts
+still_within places len words other was texts added within t h =
+    let place = within t h in
+    let count = added.count in
+    let size = added.sizes (place_at places t).text in
+    let low : (place_at places t).text < length texts = (let l = place.0 in omega (arith, l, count)) in
+    let fits : (place_at places t).at + 2 * words ≤ length (list_at texts (place_at places t).text) = (let l = place.1 in omega (arith, l, size)) in
+    (low, fits)
+
+-- ---- one output alone
+
+-- the bytes of the texts that aren't the output's are as they were
+byte_kept : (place : Place) (words : ℕ) (other : ℕ → ℕ) (old new : List (List ℕ)) → OneChanged old new place.text → AddsToPart place.at words other (list_at old place.text) (list_at new place.text)
+    → (i k : ℕ) → (HasByte words place i k → ⊥) → slice_index (list_at new i) k ≡ slice_index (list_at old i) k
+byte_kept place words other old new changed added i k outside = elim (cases_eq i place.text) [
+  | inl same ↦
+      ap (λ m. slice_index (list_at new m) k) same
+      ∙ elim (cases_lt k place.at) [
+        | inl before ↦ added.before k before
+        | inr from_here ↦ elim (cases_lt k (place.at + 2 * words)) [
+          | inl inside ↦ absurd (outside (sym same, (from_here, inside)))
+          | inr behind ↦ added.behind k behind
+        ]
+      ]
+      ∙ ap (λ m. slice_index (list_at old m) k) (sym same)
+  | inr another ↦ ap (λ xs. slice_index xs k) (changed.others i another)
+]
+
+-- a word of the text from a place on
+pub word_from : (at p : ℕ) (text : List ℕ) → word p (drop at text) ≡ get_or text (at + 2 * p) 0 + 256 * get_or text (at + (2 * p + 1)) 0
+word_from at p text = ap₂ (λ a b. a + 256 * b) (get_or-drop at text (2 * p) 0) (get_or-drop at text (2 * p + 1) 0)
+
+pub adds_to_one : (places : List Place) (words t : ℕ) (other : ℕ → ℕ) (old new : List (List ℕ)) → AreApart words places → t < length places → OneChanged old new (place_at places t).text
+    → AddsToPart (place_at places t).at words other (list_at old (place_at places t).text) (list_at new (place_at places t).text)
+    → AddsAt places words (λ s p. within t (t + 1) s (other p)) old new
+adds_to_one places words t other old new apart in_places changed added = record {
   count = changed.count;
-  sizes = λ t. elim (cases_eq t i) [
+  sizes = λ i. elim (cases_eq i place.text) [
     | inl same ↦ ap (λ k. length (list_at new k)) same ∙ added.same_length ∙ ap (λ k. length (list_at old k)) (sym same)
-    | inr another ↦ ap length (changed.others t another)
+    | inr another ↦ ap length (changed.others i another)
   ];
-  each = λ t p low fits. elim (cases_eq t i) [
+  each = λ s p low fits. elim (cases_eq s t) [
     | inl same ↦
-        ap (λ k. word p (list_at new k)) same ∙ added.each p (subst (λ k. 2 * p + 1 < length (list_at old k)) same fits)
-        ∙ ap₂ bit_xor (ap (λ k. word p (list_at old k)) (sym same)) (sym (within-in i (i + 1) t (other p) (omega arith) (omega arith)))
+        ap (λ k. output_word places k p new) same ∙ added.each p fits
+        ∙ ap₂ bit_xor (ap (λ k. output_word places k p old) (sym same)) (sym (within-in t (t + 1) s (other p) (omega arith) (omega arith)))
     | inr another ↦
-        ap (λ xs. word p xs) (changed.others t another)
-        ∙ sym (ap (bit_xor (word p (list_at old t))) (outside t p another) ∙ xor_zero_r (word p (list_at old t)))
+        untouched s p low fits another
+        ∙ sym (ap (bit_xor (output_word places s p old)) (outside s p another) ∙ xor_zero_r (output_word places s p old))
   ];
+  others = λ i k none. byte_kept place words other old new changed added i k (none t in_places);
 }
   where
-    outside : (t p : ℕ) → t ≢ i → within i (i + 1) t (other p) ≡ 0
-    outside t p another = elim (cases_lt t i) [
-      | inl below ↦ within-below i (i + 1) t (other p) below
-      | inr above ↦ within-above i (i + 1) t (other p) (let e : i < t = lt_of_le-ne above (λ e. another (sym e)) in omega (arith, e))
+    place : Place
+    place = place_at places t
+
+    kept : (s k : ℕ) → s < length places → s ≢ t → (place_at places s).at ≤ k → k < (place_at places s).at + 2 * words
+        → slice_index (list_at new (place_at places s).text) k ≡ slice_index (list_at old (place_at places s).text) k
+    kept s k low another from_here inside =
+        byte_kept place words other old new changed added (place_at places s).text k (λ has. another (apart s t (place_at places s).text k low in_places (refl, (from_here, inside)) has))
+
+    untouched : (s p : ℕ) → s < length places → p < words → s ≢ t → output_word places s p new ≡ output_word places s p old
+    untouched s p low fits another =
+        let at : ℕ = (place_at places s).at in
+        word_from at p (list_at new (place_at places s).text)
+        ∙ ap₂ (λ a b. a + 256 * b) (kept s (at + 2 * p) low another (omega arith) (omega (arith, fits))) (kept s (at + (2 * p + 1)) low another (omega arith) (omega (arith, fits)))
+        ∙ sym (word_from at p (list_at old (place_at places s).text))
+
+    outside : (s p : ℕ) → s ≢ t → within t (t + 1) s (other p) ≡ 0
+    outside s p another = elim (cases_lt s t) [
+      | inl below ↦ within-below t (t + 1) s (other p) below
+      | inr above ↦ within-above t (t + 1) s (other p) (let e : t < s = lt_of_le-ne above (λ e. another (sym e)) in omega (arith, e))
     ]
 
 -- ---- a part of a text that is written
@@ -148,6 +201,28 @@ part_above a k i none xs ys high fits size =
     ∙ get_or-drop k (drop a xs) (i - a - k) none
     ∙ get_or-drop a xs (k + (i - a - k)) none
     ∙ ap (λ m. get_or xs m none) (let e : a + (k + (i - a - k)) ≡ i = omega arith in e)
+
+-- what was added to a part of a text
+pub adds_within : (at words k : ℕ) (other : ℕ → ℕ) (text new : List ℕ) → k ≡ 2 * words → at + k ≤ length text → AddsTo other (take k (drop at text)) new
+    → AddsToPart at words other text (put_mid at k text new)
+adds_within at words k other text new size fits added = record {
+  same_length = same_len_mid at k text new added.same_length;
+  each = λ p low.
+      ap₂ (λ a b. a + 256 * b) (written (2 * p) (omega (arith, low, size))) (written (2 * p + 1) (omega (arith, low, size)))
+      ∙ added.each p (omega (arith, low, size, long))
+      ∙ ap (λ x. bit_xor x (other p)) (ap₂ (λ a b. a + 256 * b) (get_or-take k (drop at text) (2 * p) 0 (omega (arith, low, size))) (get_or-take k (drop at text) (2 * p + 1) 0 (omega (arith, low, size))));
+  before = λ i low. part_below at k i 0 text new low (omega (arith, fits));
+  behind = λ i high. part_above at k i 0 text new (omega (arith, high, size)) (omega (arith, fits)) new_size;
+}
+  where
+    long : length (take k (drop at text)) ≡ k
+    long = length-take-le k (drop at text) (let e = length-drop at text in omega (arith, e, fits))
+
+    new_size : length new ≡ k
+    new_size = added.same_length ∙ long
+
+    written : (i : ℕ) → i < k → get_or (drop at (put_mid at k text new)) i 0 ≡ get_or new i 0
+    written i low = get_or-drop at (put_mid at k text new) i 0 ∙ part_here at k i 0 text new low (omega (arith, fits)) new_size
 
 -- what f makes of the words of a row's front, added to a part of a text
 pub adds_to_part : (f : ℕ → ℕ) (from to : ℕ) (row text new : List ℕ) → from ≤ to → 2 * to ≤ 2 * from + length row → 2 * to ≤ length text

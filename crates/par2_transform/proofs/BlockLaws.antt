@@ -5,9 +5,10 @@ use Rattle.par2_spec.specs.Field.{mul}
 use Rattle.par2_transform.specs.Grids.{Grid, column, IsAdded}
 use Rattle.std.proofs.lemmas.Bool.{cases_eq, cases_lt}
 use Rattle.par2_spec.specs.Sums.{field_sum}
-use Rattle.par2_transform.specs.Adding.{AddsToEach}
+use Rattle.par2_transform.specs.Adding.{AddsAt}
 use Rattle.par2_transform.specs.Blocks.{Outputs, IsBlock, AreBlocks, RowsGathered, OneBecomes, BlocksBecome, Keeps, block_at, block_part}
 use Rattle.par2_transform.specs.Transforms.{Cut}
+use Rattle.par2_transform.specs.declared.outputs.Place.{Place}
 use Rattle.par2_transform.proofs.AddingLaws.{adds_none, adds_next}
 
 pub none_becomes : (relation : Outputs → Outputs → Type 0) (blocks : List Outputs) → BlocksBecome relation 0 blocks blocks
@@ -25,23 +26,23 @@ next_becomes relation n old mid new so_far one = record {
 }
 
 -- the first n blocks were added to the outputs
-pub record AddedSoFar (cut : Cut) (size r from to n : ℕ) (old blocks : List Outputs) (was texts : List (List ℕ)) : Type 0 where
+pub record AddedSoFar (places : List Place) (len : ℕ) (cut : Cut) (size r from to n : ℕ) (old blocks : List Outputs) (was texts : List (List ℕ)) : Type 0 where
   pub kept : BlocksBecome Keeps n old blocks
-  pub added : AddsToEach (λ t p. field_sum n (λ j. block_part cut size r from to (block_at old j) j t p)) was texts
+  pub added : AddsAt places len (λ t p. field_sum n (λ j. block_part cut size r from to (block_at old j) j t p)) was texts
 
-pub none_added : (cut : Cut) (size r from to : ℕ) (blocks : List Outputs) (texts : List (List ℕ)) → AddedSoFar cut size r from to 0 blocks blocks texts texts
+pub none_added : (places : List Place) (len : ℕ) (cut : Cut) (size r from to : ℕ) (blocks : List Outputs) (texts : List (List ℕ)) → AddedSoFar places len cut size r from to 0 blocks blocks texts texts
 unfolding field_sum
-none_added cut size r from to blocks texts = record {
+none_added places len cut size r from to blocks texts = record {
   kept = none_becomes Keeps blocks;
-  added = adds_none (λ t p. field_sum 0 (λ j. block_part cut size r from to (block_at blocks j) j t p)) texts (λ t p. refl);
+  added = adds_none places len (λ t p. field_sum 0 (λ j. block_part cut size r from to (block_at blocks j) j t p)) texts (λ t p. refl);
 }
 
-pub next_added : (cut : Cut) (size r from to n : ℕ) (old mid blocks : List Outputs) (was before texts : List (List ℕ)) → AddedSoFar cut size r from to n old mid was before
-    → OneBecomes Keeps n mid blocks → AddsToEach (block_part cut size r from to (block_at mid n) n) before texts → AddedSoFar cut size r from to (n + 1) old blocks was texts
-next_added cut size r from to n old mid blocks was before texts so_far kept added = record {
+pub next_added : (places : List Place) (len : ℕ) (cut : Cut) (size r from to n : ℕ) (old mid blocks : List Outputs) (was before texts : List (List ℕ)) → AddedSoFar places len cut size r from to n old mid was before
+    → OneBecomes Keeps n mid blocks → AddsAt places len (block_part cut size r from to (block_at mid n) n) before texts → AddedSoFar places len cut size r from to (n + 1) old blocks was texts
+next_added places len cut size r from to n old mid blocks was before texts so_far kept added = record {
   kept = next_becomes Keeps n old mid blocks so_far.kept kept;
-  added = adds_next n (λ j t p. block_part cut size r from to (block_at old j) j t p) was before texts so_far.added
-      (subst (λ b. AddsToEach (block_part cut size r from to b n) before texts) (so_far.kept.rest n (omega arith)) added);
+  added = adds_next places len n (λ j t p. block_part cut size r from to (block_at old j) j t p) was before texts so_far.added
+      (subst (λ b. AddsAt places len (block_part cut size r from to b n) before texts) (so_far.kept.rest n (omega arith)) added);
 }
 
 -- ---- rows

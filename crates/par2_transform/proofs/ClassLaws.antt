@@ -13,13 +13,14 @@ use Rattle.par2_spec.specs.Slices.{word}
 use Rattle.par2_spec.specs.Sums.{field_sum, list_at}
 use Rattle.par2_spec.proofs.WordLaws.{word-lt}
 use Rattle.par2_spec.proofs.SumLaws.{field_sum_same, field_sum_one, field_sum_none}
-use Rattle.par2_transform.specs.Adding.{within, AddsToEach}
+use Rattle.par2_transform.specs.Adding.{within, AddsAt}
 use Rattle.par2_transform.specs.Blocks.{Outputs, IsBlock, IsGathered, Keeps, EachBlock, AreBlocks, block_at, block_part, from_gathered, class_sum_at, weight_at}
 use Rattle.par2_transform.specs.Chirps.{chirp_inverse, spared_below, word_at_power, AreFirst}
 use Rattle.par2_transform.specs.Columns.{words_at, AreBytes, recovered}
 use Rattle.par2_transform.specs.Grids.{Grid, column}
 use Rattle.par2_transform.specs.Subspaces.{point}
 use Rattle.par2_transform.specs.Transforms.{Cut, Reaches, gathered}
+use Rattle.par2_transform.specs.declared.outputs.Place.{Place}
 use Rattle.par2_transform.proofs.AddingLaws.{adds_none, adds_next, adds_same, within-in, within-below, within-above, within_same}
 use Rattle.par2_transform.proofs.WindowLaws.{block_kept}
 use Rattle.par2_transform.proofs.Transforms.{class_by_windows, sum_by_classes}
@@ -121,55 +122,55 @@ within_sum n from to p f = elim (cases_lt p from) [
 ]
 
 -- the first n classes were added, in the columns from one place up to another
-pub record ClassesAdded (cut : Cut) (slices : List (List ℕ)) (words first size from to n : ℕ) (rows_were rows : Grid) (old blocks : List Outputs) (was texts : List (List ℕ)) : Type 0 where
+pub record ClassesAdded (places : List Place) (len : ℕ) (cut : Cut) (slices : List (List ℕ)) (words first size from to n : ℕ) (rows_were rows : Grid) (old blocks : List Outputs) (was texts : List (List ℕ)) : Type 0 where
   pub levels : rows.levels ≡ rows_were.levels
   pub words_kept : rows.words ≡ rows_were.words
   pub count : length blocks ≡ length old
   pub are : AreBlocks cut words first size blocks
-  pub added : AddsToEach (λ t p. field_sum n (λ r. within from to p (class_sum_at cut (words_at slices p) (first + t) r))) was texts
+  pub added : AddsAt places len (λ t p. field_sum n (λ r. within from to p (class_sum_at cut (words_at slices p) (first + t) r))) was texts
 
-pub no_class : (cut : Cut) (slices : List (List ℕ)) (words first size from to : ℕ) (rows : Grid) (blocks : List Outputs) (texts : List (List ℕ)) → AreBlocks cut words first size blocks
-    → ClassesAdded cut slices words first size from to 0 rows rows blocks blocks texts texts
+pub no_class : (places : List Place) (len : ℕ) (cut : Cut) (slices : List (List ℕ)) (words first size from to : ℕ) (rows : Grid) (blocks : List Outputs) (texts : List (List ℕ)) → AreBlocks cut words first size blocks
+    → ClassesAdded places len cut slices words first size from to 0 rows rows blocks blocks texts texts
 unfolding field_sum
-no_class cut slices words first size from to rows blocks texts are = record {
+no_class places len cut slices words first size from to rows blocks texts are = record {
   levels = refl;
   words_kept = refl;
   count = refl;
   are = are;
-  added = adds_none (λ t p. field_sum 0 (λ r. within from to p (class_sum_at cut (words_at slices p) (first + t) r))) texts (λ t p. refl);
+  added = adds_none places len (λ t p. field_sum 0 (λ r. within from to p (class_sum_at cut (words_at slices p) (first + t) r))) texts (λ t p. refl);
 }
 
-pub next_class : (cut : Cut) (slices : List (List ℕ)) (words first size from to n : ℕ) (rows_were mid rows : Grid) (old before blocks : List Outputs) (was half texts : List (List ℕ))
-    → ClassesAdded cut slices words first size from to n rows_were mid old before was half → rows.levels ≡ mid.levels → rows.words ≡ mid.words → length blocks ≡ length before
-    → AreBlocks cut words first size blocks → AddsToEach (λ t p. within from to p (class_sum_at cut (words_at slices p) (first + t) n)) half texts
-    → ClassesAdded cut slices words first size from to (n + 1) rows_were rows old blocks was texts
-next_class cut slices words first size from to n rows_were mid rows old before blocks was half texts so_far levels kept count are added = record {
+pub next_class : (places : List Place) (len : ℕ) (cut : Cut) (slices : List (List ℕ)) (words first size from to n : ℕ) (rows_were mid rows : Grid) (old before blocks : List Outputs) (was half texts : List (List ℕ))
+    → ClassesAdded places len cut slices words first size from to n rows_were mid old before was half → rows.levels ≡ mid.levels → rows.words ≡ mid.words → length blocks ≡ length before
+    → AreBlocks cut words first size blocks → AddsAt places len (λ t p. within from to p (class_sum_at cut (words_at slices p) (first + t) n)) half texts
+    → ClassesAdded places len cut slices words first size from to (n + 1) rows_were rows old blocks was texts
+next_class places len cut slices words first size from to n rows_were mid rows old before blocks was half texts so_far levels kept count are added = record {
   levels = levels ∙ so_far.levels;
   words_kept = kept ∙ so_far.words_kept;
   count = count ∙ so_far.count;
   are = are;
-  added = adds_next n (λ r t p. within from to p (class_sum_at cut (words_at slices p) (first + t) r)) was half texts so_far.added added;
+  added = adds_next places len n (λ r t p. within from to p (class_sum_at cut (words_at slices p) (first + t) r)) was half texts so_far.added added;
 }
 
 -- all classes together give the recovery slices
-pub all_classes : (cut : Cut) (slices : List (List ℕ)) (words first size from to : ℕ) (rows_were rows : Grid) (old blocks : List Outputs) (was texts : List (List ℕ))
+pub all_classes : (places : List Place) (len : ℕ) (cut : Cut) (slices : List (List ℕ)) (words first size from to : ℕ) (rows_were rows : Grid) (old blocks : List Outputs) (was texts : List (List ℕ))
     → length slices ≤ 32768 → AreBytes slices → Reaches (length slices) cut
-    → ClassesAdded cut slices words first size from to cut.classes rows_were rows old blocks was texts → AddsToEach (λ t p. within from to p (recovered slices (first + t) p)) was texts
-all_classes cut slices words first size from to rows_were rows old blocks was texts few bytes reaches all =
-    adds_same (λ t p. field_sum cut.classes (λ r. within from to p (class_sum_at cut (words_at slices p) (first + t) r))) (λ t p. within from to p (recovered slices (first + t) p)) was texts all.added
+    → ClassesAdded places len cut slices words first size from to cut.classes rows_were rows old blocks was texts → AddsAt places len (λ t p. within from to p (recovered slices (first + t) p)) was texts
+all_classes places len cut slices words first size from to rows_were rows old blocks was texts few bytes reaches all =
+    adds_same places len (λ t p. field_sum cut.classes (λ r. within from to p (class_sum_at cut (words_at slices p) (first + t) r))) (λ t p. within from to p (recovered slices (first + t) p)) was texts all.added
     (λ t p low fits.
     within_sum cut.classes from to p (class_sum_at cut (words_at slices p) (first + t))
     ∙ ap (within from to p) (sym (sum_by_classes (length slices) (words_at slices p) (words_are_first slices p few bytes) cut reaches (first + t))))
 
 -- ---- one class
 
-pub class_added : (cut : Cut) (slices : List (List ℕ)) (words size r from to first : ℕ) (old blocks : List Outputs) (was texts : List (List ℕ))
+pub class_added : (places : List Place) (len : ℕ) (cut : Cut) (slices : List (List ℕ)) (words size r from to first : ℕ) (old blocks : List Outputs) (was texts : List (List ℕ))
     → length slices ≤ 32768 → AreBytes slices → AreBlocks cut words first size old → EachBlock (IsGathered cut slices r from cut.windows) old blocks
-    → cut.window + size ≤ 2 ^ cut.levels + 1 → 1 ≤ size → length was ≤ length old * size → to ≤ from + words
-    → AddsToEach (λ t p. field_sum (length blocks) (λ j. block_part cut size r from to (block_at blocks j) j t p)) was texts
-    → AddsToEach (λ t p. within from to p (class_sum_at cut (words_at slices p) (first + t) r)) was texts
-class_added cut slices words size r from to first old blocks was texts few bytes are all fits some covered narrow added =
-    adds_same (λ t p. field_sum (length blocks) (λ j. block_part cut size r from to (block_at blocks j) j t p)) (λ t p. within from to p (class_sum_at cut (words_at slices p) (first + t) r)) was texts added
+    → cut.window + size ≤ 2 ^ cut.levels + 1 → 1 ≤ size → length places ≤ length old * size → to ≤ from + words
+    → AddsAt places len (λ t p. field_sum (length blocks) (λ j. block_part cut size r from to (block_at blocks j) j t p)) was texts
+    → AddsAt places len (λ t p. within from to p (class_sum_at cut (words_at slices p) (first + t) r)) was texts
+class_added places len cut slices words size r from to first old blocks was texts few bytes are all fits some covered narrow added =
+    adds_same places len (λ t p. field_sum (length blocks) (λ j. block_part cut size r from to (block_at blocks j) j t p)) (λ t p. within from to p (class_sum_at cut (words_at slices p) (first + t) r)) was texts added
     (λ t p low in_text. blocks_give (length slices) cut slices words size r from to first t p old blocks (words_are_first slices p few bytes) are all.count all.done fits some (omega arith) narrow)
 
 pub blocks_still : (cut : Cut) (slices : List (List ℕ)) (words size r from first n : ℕ) (old mid blocks : List Outputs) → AreBlocks cut words first size old
@@ -181,10 +182,10 @@ blocks_still cut slices words size r from first n old mid blocks are gathered ke
     (block_kept cut words (first + j * size) (block_at old j) (block_at mid j) (are j in_old) (gathered.done j in_old).kept) (kept.done j in_mid)
 
 -- in the first of three classes there is nothing to add
-pub nothing_added : (cut : Cut) (slices : List (List ℕ)) (first from to : ℕ) (texts : List (List ℕ)) → cut.classes ≡ 3
-    → AddsToEach (λ t p. within from to p (class_sum_at cut (words_at slices p) (first + t) 0)) texts texts
-nothing_added cut slices first from to texts three =
-    adds_none (λ t p. within from to p (class_sum_at cut (words_at slices p) (first + t) 0)) texts
+pub nothing_added : (places : List Place) (len : ℕ) (cut : Cut) (slices : List (List ℕ)) (first from to : ℕ) (texts : List (List ℕ)) → cut.classes ≡ 3
+    → AddsAt places len (λ t p. within from to p (class_sum_at cut (words_at slices p) (first + t) 0)) texts texts
+nothing_added places len cut slices first from to texts three =
+    adds_none places len (λ t p. within from to p (class_sum_at cut (words_at slices p) (first + t) 0)) texts
     (λ t p. ap (within from to p) (first_class_gives cut (words_at slices p) (first + t) three) ∙ zero from to p)
   where
     zero : (from to p : ℕ) → within from to p 0 ≡ 0

@@ -1,111 +1,103 @@
--- Texts, some at a time.
-use Rattle.std.proofs.Common.{inl, inr, ℕ, ◌+◌, ◌-◌, ◌*◌, ◌<◌, ◌≤◌, ◌≡◌, sym, ap, ap₂, subst, ◌∙◌, arith, List, [], ◌++◌, length, min, take, drop, Vec, Global, bit_xor}
+-- Outputs, some at a time.
+use Rattle.std.proofs.Common.{inl, inr, ℕ, ◌+◌, ◌-◌, ◌*◌, ◌<◌, ◌≤◌, ◌≡◌, ◌≢◌, refl, sym, ap, ap₂, subst, ◌∙◌, arith, List, length, min, take, drop, bit_xor}
 use Rattle.std.proofs.lemmas.Bool.{cases_lt}
-use Rattle.std.proofs.lemmas.List.{get_or-take, get_or-drop, map-append, take-map, drop-map, length-take-le, length-drop}
+use Rattle.std.proofs.lemmas.List.{get_or-take, get_or-drop, length-take-le, length-drop}
 use Rattle.std.specs.Int.Bits.{xor_zero_r}
-use borrow.Rule.Slice.PartMut.{put_mid, same_len_mid}
+use Rattle.std.specs.Prelude.{slice_index}
 use Rattle.par2_spec.specs.Slices.{word}
-use Rattle.par2_spec.specs.Sums.{list_at, lists_of}
-use Rattle.par2_transform.specs.Adding.{within, AddsToEach, HaveWords}
-use Rattle.par2_transform.proofs.AddingLaws.{adds_more, adds_same, within-in, within-below, within-above, within_joined, part_below, part_here, part_above}
+use Rattle.par2_spec.specs.Sums.{list_at}
+use Rattle.par2_transform.specs.Adding.{within, place_at, output_word, AddsAt, AreApart, HasByte, LieWithin}
+use Rattle.par2_transform.specs.declared.outputs.Place.{Place}
+use Rattle.par2_transform.proofs.AddingLaws.{adds_more, adds_same, within-in, within-below, within-above, within_joined, word_from}
 
--- some of the texts
-abbrev pub group_of : ℕ → ℕ → List (List ℕ) → List (List ℕ)
+-- some of the places
+abbrev pub group_of : ℕ → ℕ → List Place → List Place
 group_of from to all = take (to - from) (drop from all)
 
-pub lists_of_group : (from k : ℕ) (texts : List (Vec ℕ Global)) → lists_of (take k (drop from texts)) ≡ take k (drop from (lists_of texts))
-lists_of_group from k texts =
-    let items = λ (v : Vec ℕ Global). v.items in
-    sym (take-map items k (drop from texts)) ∙ ap (λ (ts : List (List ℕ)). take k ts) (sym (drop-map items from texts))
-
-pub lists_put : (from k : ℕ) (texts part : List (Vec ℕ Global)) → lists_of (put_mid from k texts part) ≡ put_mid from k (lists_of texts) (lists_of part)
-lists_put from k texts part =
-    let items = λ (v : Vec ℕ Global). v.items in
-    map-append items (take from texts) (part ++ drop k (drop from texts))
-    ∙ ap₂ (λ (a b : List (List ℕ)). a ++ b) (sym (take-map items from texts))
-    (map-append items part (drop k (drop from texts))
-    ∙ ap (λ (b : List (List ℕ)). lists_of part ++ b) (sym (drop-map items k (drop from texts)) ∙ ap (λ (ts : List (List ℕ)). drop k ts) (sym (drop-map items from texts))))
-
-pub length-group : (from to : ℕ) (all : List (List ℕ)) → from ≤ to → to ≤ length all → length (group_of from to all) ≡ to - from
+pub length-group : (from to : ℕ) (all : List Place) → from ≤ to → to ≤ length all → length (group_of from to all) ≡ to - from
 length-group from to all order fits = length-take-le (to - from) (drop from all) (let e = length-drop from all in omega (arith, e, order, fits))
 
-pub in_group : (from to q : ℕ) (all : List (List ℕ)) → q < to - from → list_at (group_of from to all) q ≡ list_at all (from + q)
-in_group from to q all low = get_or-take (to - from) (drop from all) q [] low ∙ get_or-drop from all q []
+pub in_group : (from to q : ℕ) (all : List Place) → q < to - from → place_at (group_of from to all) q ≡ place_at all (from + q)
+in_group from to q all low = get_or-take (to - from) (drop from all) q (record { text = 0; at = 0 }) low ∙ get_or-drop from all q (record { text = 0; at = 0 })
+
+-- they are apart too
+pub group_apart : (words from to : ℕ) (all : List Place) → from ≤ to → to ≤ length all → AreApart words all → AreApart words (group_of from to all)
+group_apart words from to all order fits apart s t i k s_low t_low in_s in_t =
+    let n = length-group from to all order fits in
+    let s_here = in_group from to s all (omega (arith, n, s_low)) in
+    let t_here = in_group from to t all (omega (arith, n, t_low)) in
+    let same : from + s ≡ from + t =
+    apart (from + s) (from + t) i k (omega (arith, n, s_low, fits, order)) (omega (arith, n, t_low, fits, order))
+    (subst (λ (place : Place). HasByte words place i k) s_here in_s) (subst (λ (place : Place). HasByte words place i k) t_here in_t) in
+    omega (arith, same)
+
+pub group_within : (words from to : ℕ) (all : List Place) (texts : List (List ℕ)) → from ≤ to → to ≤ length all → LieWithin words all texts → LieWithin words (group_of from to all) texts
+group_within words from to all texts order fits within t low =
+    let n = length-group from to all order fits in
+    subst (λ (place : Place). (place.text < length texts) × (place.at + 2 * words ≤ length (list_at texts place.text))) (sym (in_group from to t all (omega (arith, n, low))))
+    (within (from + t) (omega (arith, n, low, fits, order)))
 
 -- what was added to a group
-pub adds_to_group : (from to : ℕ) (other : ℕ → ℕ → ℕ) (all part : List (List ℕ)) → from ≤ to → to ≤ length all
-    → AddsToEach (λ t p. other (from + t) p) (group_of from to all) part
-    → AddsToEach (λ t p. within from to t (other t p)) all (put_mid from (to - from) all part)
-adds_to_group from to other all part order fits added = record {
-  count = same_len_mid from k all part added.count;
-  sizes = λ t. elim (cases_lt t from) [
-    | inl below ↦ ap length (before t below)
-    | inr from_here ↦ elim (cases_lt t to) [
-      | inl here ↦
-          let q : ℕ = t - from in
-          let place : t ≡ from + q = omega (arith, from_here) in
-          let low : q < k = omega (arith, from_here, here) in
-          ap length (ap (list_at new) place ∙ inside q low) ∙ added.sizes q ∙ ap length (in_group from to q all low ∙ ap (list_at all) (sym place))
-      | inr above ↦ ap length (behind t above)
-    ]
-  ];
+pub adds_to_group : (from to words : ℕ) (other : ℕ → ℕ → ℕ) (all : List Place) (old new : List (List ℕ)) → from ≤ to → to ≤ length all → AreApart words all
+    → AddsAt (group_of from to all) words (λ t p. other (from + t) p) old new
+    → AddsAt all words (λ t p. within from to t (other t p)) old new
+adds_to_group from to words other all old new order fits apart added = record {
+  count = added.count;
+  sizes = added.sizes;
   each = λ t p low room. elim (cases_lt t from) [
-    | inl below ↦ ap (word p) (before t below) ∙ sym (ap (bit_xor (word p (list_at all t))) (within-below from to t (other t p) below) ∙ xor_zero_r (word p (list_at all t)))
+    | inl below ↦ untouched t p low room (λ q under. λ e. omega (arith, e, below)) ∙ sym (ap (bit_xor (output_word all t p old)) (within-below from to t (other t p) below) ∙ xor_zero_r (output_word all t p old))
     | inr from_here ↦ elim (cases_lt t to) [
       | inl here ↦
           let q : ℕ = t - from in
           let place : t ≡ from + q = omega (arith, from_here) in
-          let under : q < k = omega (arith, from_here, here) in
-          let was : list_at (group_of from to all) q ≡ list_at all t = in_group from to q all under ∙ ap (list_at all) (sym place) in
-          ap (word p) (ap (list_at new) place ∙ inside q under)
-          ∙ added.each q p (let n = length-group from to all order fits in omega (arith, n, under)) (subst (λ (xs : List ℕ). 2 * p + 1 < length xs) (sym was) room)
-          ∙ ap₂ bit_xor (ap (word p) was) (ap (λ n. other n p) (sym place))
-          ∙ ap (bit_xor (word p (list_at all t))) (sym (within-in from to t (other t p) from_here here))
-      | inr above ↦ ap (word p) (behind t above) ∙ sym (ap (bit_xor (word p (list_at all t))) (within-above from to t (other t p) above) ∙ xor_zero_r (word p (list_at all t)))
+          let under : q < to - from = omega (arith, from_here, here) in
+          let output : place_at (group_of from to all) q ≡ place_at all t = in_group from to q all under ∙ ap (place_at all) (sym place) in
+          ap (λ (x : Place). word p (drop x.at (list_at new x.text))) (sym output)
+          ∙ added.each q p (let n = length-group from to all order fits in omega (arith, n, under)) room
+          ∙ ap₂ bit_xor (ap (λ (x : Place). word p (drop x.at (list_at old x.text))) output) (ap (λ n. other n p) (sym place))
+          ∙ ap (bit_xor (output_word all t p old)) (sym (within-in from to t (other t p) from_here here))
+      | inr above ↦ untouched t p low room (λ q under. λ e. omega (arith, e, above, under)) ∙ sym (ap (bit_xor (output_word all t p old)) (within-above from to t (other t p) above) ∙ xor_zero_r (output_word all t p old))
     ]
   ];
+  others = λ i k outside. added.others i k (λ q low has.
+      let n = length-group from to all order fits in
+      outside (from + q) (omega (arith, n, low, fits, order)) (subst (λ (place : Place). HasByte words place i k) (in_group from to q all (omega (arith, n, low))) has));
 }
   where
-    k : ℕ
-    k = to - from
+    kept : (t k : ℕ) → t < length all → ((q : ℕ) → q < to - from → t ≢ from + q) → (place_at all t).at ≤ k → k < (place_at all t).at + 2 * words
+        → slice_index (list_at new (place_at all t).text) k ≡ slice_index (list_at old (place_at all t).text) k
+    kept t k low apart_from at_least inside =
+        added.others (place_at all t).text k (λ q q_low has.
+        let n = length-group from to all order fits in
+        let under : q < to - from = omega (arith, n, q_low) in
+        apart_from q under
+        (apart t (from + q) (place_at all t).text k low (omega (arith, under, fits, order)) (refl, (at_least, inside))
+        (subst (λ (place : Place). HasByte words place (place_at all t).text k) (in_group from to q all under) has)))
 
-    new : List (List ℕ)
-    new = put_mid from k all part
-
-    size : length part ≡ k
-    size = added.count ∙ length-group from to all order fits
-
-    before : (t : ℕ) → t < from → list_at new t ≡ list_at all t
-    before t below = part_below from k t [] all part below (omega (arith, order, fits))
-
-    inside : (q : ℕ) → q < k → list_at new (from + q) ≡ list_at part q
-    inside q low = part_here from k q [] all part low (omega (arith, order, fits)) size
-
-    behind : (t : ℕ) → to ≤ t → list_at new t ≡ list_at all t
-    behind t above = part_above from k t [] all part (omega (arith, order, above)) (omega (arith, order, fits)) size
+    untouched : (t p : ℕ) → t < length all → p < words → ((q : ℕ) → q < to - from → t ≢ from + q) → output_word all t p new ≡ output_word all t p old
+    untouched t p low room apart_from =
+        let at : ℕ = (place_at all t).at in
+        word_from at p (list_at new (place_at all t).text)
+        ∙ ap₂ (λ a b. a + 256 * b) (kept t (at + 2 * p) low apart_from (omega arith) (omega (arith, room))) (kept t (at + (2 * p + 1)) low apart_from (omega arith) (omega (arith, room)))
+        ∙ sym (word_from at p (list_at old (place_at all t).text))
 
 -- one group more
-pub next_group : (size total n to : ℕ) (other : ℕ → ℕ → ℕ) (was half texts : List (List ℕ)) → n * size < total → to ≡ n * size + min size (total - n * size)
-    → AddsToEach (λ t p. within 0 (min total (n * size)) t (other t p)) was half → AddsToEach (λ t p. within (n * size) to t (other t p)) half texts
-    → AddsToEach (λ t p. within 0 (min total ((n + 1) * size)) t (other t p)) was texts
-next_group size total n to other was half texts low place so_far added =
+pub next_group : (places : List Place) (len : ℕ) (size total n to : ℕ) (other : ℕ → ℕ → ℕ) (was half texts : List (List ℕ)) → n * size < total → to ≡ n * size + min size (total - n * size)
+    → AddsAt places len (λ t p. within 0 (min total (n * size)) t (other t p)) was half → AddsAt places len (λ t p. within (n * size) to t (other t p)) half texts
+    → AddsAt places len (λ t p. within 0 (min total ((n + 1) * size)) t (other t p)) was texts
+next_group places len size total n to other was half texts low place so_far added =
     let here : min total (n * size) ≡ n * size = omega (arith, low) in
     let next : (n + 1) * size ≡ n * size + size = omega arith in
     let there : to ≡ min total ((n + 1) * size) = omega (arith, place, next, low) in
-    adds_more (λ t p. within 0 (min total (n * size)) t (other t p)) (λ t p. within (n * size) to t (other t p)) (λ t p. within 0 (min total ((n + 1) * size)) t (other t p)) was half texts so_far added
+    adds_more places len (λ t p. within 0 (min total (n * size)) t (other t p)) (λ t p. within (n * size) to t (other t p)) (λ t p. within 0 (min total ((n + 1) * size)) t (other t p)) was half texts so_far added
     (λ t p h fits.
     ap (λ m. bit_xor (within 0 m t (other t p)) (within (n * size) to t (other t p))) here
     ∙ within_joined 0 (n * size) to t (other t p) (omega arith) (omega (arith, place))
     ∙ ap (λ m. within 0 m t (other t p)) there)
 
 -- all of them
-pub all_groups : (size total n : ℕ) (other : ℕ → ℕ → ℕ) (was texts : List (List ℕ)) → total ≤ n * size → length was ≡ total
-    → AddsToEach (λ t p. within 0 (min total (n * size)) t (other t p)) was texts → AddsToEach other was texts
-all_groups size total n other was texts enough count added =
-    adds_same (λ t p. within 0 (min total (n * size)) t (other t p)) other was texts added
+pub all_groups : (places : List Place) (len : ℕ) (size total n : ℕ) (other : ℕ → ℕ → ℕ) (was texts : List (List ℕ)) → total ≤ n * size → length places ≡ total
+    → AddsAt places len (λ t p. within 0 (min total (n * size)) t (other t p)) was texts → AddsAt places len other was texts
+all_groups places len size total n other was texts enough count added =
+    adds_same places len (λ t p. within 0 (min total (n * size)) t (other t p)) other was texts added
     (λ t p h fits. within-in 0 (min total (n * size)) t (other t p) (omega arith) (omega (arith, enough, count, h)))
-
-pub group_has_words : (words from to : ℕ) (all : List (List ℕ)) → from ≤ to → to ≤ length all → HaveWords words all → HaveWords words (group_of from to all)
-group_has_words words from to all order fits have t h =
-    let n = length-group from to all order fits in
-    ap length (in_group from to t all (omega (arith, n, h))) ∙ have (from + t) (omega (arith, n, h, order, fits))

@@ -11,11 +11,12 @@ mod Divisions
 mod GridLaws
 mod Cycles
 mod NumberLaws
-mod AddingLaws
+pub mod AddingLaws
 mod BlockLaws
 mod WeightRows
 mod WindowLaws
 mod ClassLaws
 mod OutputLaws
 mod ColumnLaws
-mod GroupLaws
+pub mod GroupLaws
+pub mod WholeTexts

@@ -5,13 +5,14 @@ use Rattle.par2_spec.specs.Field.{mul, pow}
 use Rattle.par2_spec.specs.Slices.{word}
 use Rattle.par2_spec.specs.Sums.{field_sum}
 use Rattle.par2_spec.proofs.SumLaws.{field_sum_same}
-use Rattle.par2_transform.specs.Adding.{within, AddsToEach}
+use Rattle.par2_transform.specs.Adding.{within, AddsAt}
 use Rattle.par2_transform.specs.Blocks.{from_gathered}
 use Rattle.par2_transform.specs.Chirps.{chirp_inverse}
 use Rattle.par2_transform.specs.Grids.{Grid, column, EachColumn}
 use Rattle.par2_transform.specs.PowerSums.{member, power_sum, ArePowerSums}
 use Rattle.par2_transform.specs.Subspaces.{point}
 use Rattle.par2_transform.specs.Transforms.{Cut}
+use Rattle.par2_transform.specs.declared.outputs.Place.{Place}
 use Rattle.par2_transform.proofs.AddingLaws.{adds_none, adds_more, adds_same, within-in, within-below, within-above, within_joined, within_same}
 
 -- the first coset's power sums are sums over the points
@@ -26,12 +27,12 @@ abbrev pub output_part : Cut → Grid → ℕ → ℕ → ℕ → ℕ → ℕ �
 output_part cut sums e r from to first t p = within from to p (from_gathered cut (column sums (p - from)) e (t - first) r)
 
 -- the first n outputs of the block got it
-abbrev pub OutputsAdded : Cut → Grid → ℕ → ℕ → ℕ → ℕ → ℕ → ℕ → List (List ℕ) → List (List ℕ) → Type 0
-OutputsAdded cut sums e r from to first n was texts =
-    AddsToEach (λ t p. within first (first + n) t (output_part cut sums e r from to first t p)) was texts
+abbrev pub OutputsAdded : List Place → ℕ → Cut → Grid → ℕ → ℕ → ℕ → ℕ → ℕ → ℕ → List (List ℕ) → List (List ℕ) → Type 0
+OutputsAdded places len cut sums e r from to first n was texts =
+    AddsAt places len (λ t p. within first (first + n) t (output_part cut sums e r from to first t p)) was texts
 
-pub no_output : (cut : Cut) (sums : Grid) (e r from to first : ℕ) (texts : List (List ℕ)) → OutputsAdded cut sums e r from to first 0 texts texts
-no_output cut sums e r from to first texts = adds_none (λ t p. within first (first + 0) t (output_part cut sums e r from to first t p)) texts (λ t p. empty t (output_part cut sums e r from to first t p))
+pub no_output : (places : List Place) (len : ℕ) (cut : Cut) (sums : Grid) (e r from to first : ℕ) (texts : List (List ℕ)) → OutputsAdded places len cut sums e r from to first 0 texts texts
+no_output places len cut sums e r from to first texts = adds_none places len (λ t p. within first (first + 0) t (output_part cut sums e r from to first t p)) texts (λ t p. empty t (output_part cut sums e r from to first t p))
   where
     empty : (t x : ℕ) → within first (first + 0) t x ≡ 0
     empty t x = elim (cases_lt t first) [
@@ -39,14 +40,14 @@ no_output cut sums e r from to first texts = adds_none (λ t p. within first (fi
       | inr above ↦ within-above first (first + 0) t x (omega arith)
     ]
 
-pub next_output : (cut : Cut) (was_sums sums : Grid) (e r from to first n factor : ℕ) (row : List ℕ) (was before texts : List (List ℕ))
+pub next_output : (places : List Place) (len : ℕ) (cut : Cut) (was_sums sums : Grid) (e r from to first n factor : ℕ) (row : List ℕ) (was before texts : List (List ℕ))
     → EachColumn (ArePowerSums was_sums.levels) was_sums sums → was_sums.levels ≡ cut.levels → n < 2 ^ cut.levels → to ≤ from + was_sums.words
     → factor ≡ mul (pow 2 ((e + n) * r)) (chirp_inverse cut.classes (e + n)) → ((c : ℕ) → word c row ≡ column sums c n)
-    → OutputsAdded cut was_sums e r from to first n was before
-    → AddsToEach (λ t p. within (first + n) (first + n + 1) t (within from to p (mul factor (word (p - from) row)))) before texts
-    → OutputsAdded cut was_sums e r from to first (n + 1) was texts
-next_output cut was_sums sums e r from to first n factor row was before texts sums_are levels low narrow factor_is row_is so_far added =
-    adds_more (λ t p. within first (first + n) t (part t p)) (λ t p. within (first + n) (first + n + 1) t (within from to p (mul factor (word (p - from) row))))
+    → OutputsAdded places len cut was_sums e r from to first n was before
+    → AddsAt places len (λ t p. within (first + n) (first + n + 1) t (within from to p (mul factor (word (p - from) row)))) before texts
+    → OutputsAdded places len cut was_sums e r from to first (n + 1) was texts
+next_output places len cut was_sums sums e r from to first n factor row was before texts sums_are levels low narrow factor_is row_is so_far added =
+    adds_more places len (λ t p. within first (first + n) t (part t p)) (λ t p. within (first + n) (first + n + 1) t (within from to p (mul factor (word (p - from) row))))
     (λ t p. within first (first + (n + 1)) t (part t p)) was before texts so_far added
     (λ t p h fits.
     ap (bit_xor (within first (first + n) t (part t p)))
@@ -66,15 +67,15 @@ next_output cut was_sums sums e r from to first n factor row was before texts su
         ∙ ap (λ k. power_sum (column was_sums (p - from)) k 0 n) levels ∙ power_sum_plain (column was_sums (p - from)) cut.levels n)
 
 -- outputs past the end are none
-pub all_outputs : (cut : Cut) (sums : Grid) (e r from to first size n : ℕ) (was texts : List (List ℕ)) → n ≡ min size (length was - first)
-    → OutputsAdded cut sums e r from to first n was texts → OutputsAdded cut sums e r from to first size was texts
-all_outputs cut sums e r from to first size n was texts is added =
-    adds_same (λ t p. within first (first + n) t (part t p)) (λ t p. within first (first + size) t (part t p)) was texts added (λ t p h fits. same t (part t p) h)
+pub all_outputs : (places : List Place) (len : ℕ) (cut : Cut) (sums : Grid) (e r from to first size n : ℕ) (was texts : List (List ℕ)) → n ≡ min size (length places - first)
+    → OutputsAdded places len cut sums e r from to first n was texts → OutputsAdded places len cut sums e r from to first size was texts
+all_outputs places len cut sums e r from to first size n was texts is added =
+    adds_same places len (λ t p. within first (first + n) t (part t p)) (λ t p. within first (first + size) t (part t p)) was texts added (λ t p h fits. same t (part t p) h)
   where
     part : ℕ → ℕ → ℕ
     part t p = output_part cut sums e r from to first t p
 
-    same : (t x : ℕ) → t < length was → within first (first + n) t x ≡ within first (first + size) t x
+    same : (t x : ℕ) → t < length places → within first (first + n) t x ≡ within first (first + size) t x
     same t x h = elim (cases_lt t first) [
       | inl below ↦ within-below first (first + n) t x below ∙ sym (within-below first (first + size) t x below)
       | inr at_least ↦ elim (cases_lt t (first + size)) [

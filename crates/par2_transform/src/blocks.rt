@@ -3,7 +3,7 @@
 ghost use Rattle.std.specs.Prelude.{◌≡◌, ℕ, ◌+◌, ◌-◌, ◌*◌, ◌^◌, ◌<◌, ◌≤◌, length, slice_index, IfOk};
 ghost use Rattle.par2_spec.specs.Field.{mul, pow};
 ghost use Rattle.par2_spec.specs.Sums.{field_sum, list_at, lists_of};
-ghost use Rattle.par2_transform.specs.Adding.{within, AddsToEach, HaveRoom};
+ghost use Rattle.par2_transform.specs.Adding.{within, AddsAt, LieWithin};
 ghost use Rattle.par2_transform.specs.Blocks.{IsBlock, IsCleared, RowsGathered, Gathers, Takes, Keeps, AreWeightRows, EachBlock, OneBecomes, from_gathered, block_at, block_part, weight_at};
 ghost use Rattle.par2_transform.specs.Chirps.{chirp, chirp_inverse};
 ghost use Rattle.par2_transform.specs.Grids.{column};
@@ -11,7 +11,7 @@ ghost use Rattle.par2_transform.specs.Plans.{cut_of};
 ghost use Rattle.par2_transform.specs.Transforms.{HasWeights};
 
 use crate::levels::power_sums;
-use crate::outputs::add_to_output;
+use crate::outputs::{Places, add_to_output};
 use crate::plan::Plan;
 use crate::powers::{chirp, chirp_inverse, power};
 use crate::rows::Rows;
@@ -149,7 +149,8 @@ impl Block {
         r: usize,
         from: usize,
         to: usize,
-        outputs: &mut [Vec<u8>],
+        texts: &mut [Vec<u8>],
+        outputs: &Places,
         first: usize,
     )
         requires exponent { self.old.exponent ≤ 2 ^ 34 }
@@ -158,16 +159,27 @@ impl Block {
         requires words { self.old.sums.words ≡ plan.now.columns }
         requires order { from ≤ to }
         requires columns { to ≤ from + plan.now.columns }
-        requires room { HaveRoom to (lists_of outputs.old) }
+        requires inside { to ≤ outputs.now.words }
+        requires room { LieWithin outputs.now.words outputs.now.places.now (lists_of texts.old) }
         ensures kept { Keeps self.old self.new }
-        ensures added { AddsToEach (λ t p. within first (first + plan.now.block) t
+        ensures added { AddsAt outputs.now.places.now outputs.now.words
+            (λ t p. within first (first + plan.now.block) t
             (within from to p (from_gathered (cut_of plan.now) (column self.old.sums (p - from))
-            self.old.exponent (t - first) r))) (lists_of outputs.old) (lists_of outputs.new) }
+            self.old.exponent (t - first) r))) (lists_of texts.old) (lists_of texts.new) }
     {
         power_sums(gf, &mut self.sums);
         for t in 0..plan.block.min(outputs.len().saturating_sub(first)) {
             let factor = factor_of(gf, plan, r, self.exponent + t as u64);
-            add_to_output(gf, factor, self.sums.row(t), outputs, first + t, from, to);
+            add_to_output(
+                gf,
+                factor,
+                self.sums.row(t),
+                texts,
+                outputs,
+                first + t,
+                from,
+                to,
+            );
         }
     }
 }
@@ -229,7 +241,8 @@ fn add_one(
     to: usize,
     blocks: &mut [Block],
     j: usize,
-    outputs: &mut [Vec<u8>],
+    texts: &mut [Vec<u8>],
+    outputs: &Places,
 )
     requires place { j < length blocks.old }
     requires few { length blocks.old * plan.now.block ≤ 2 ^ 34 }
@@ -239,12 +252,14 @@ fn add_one(
     requires words { (block_at blocks.old j).sums.words ≡ plan.now.columns }
     requires order { from ≤ to }
     requires columns { to ≤ from + plan.now.columns }
-    requires room { HaveRoom to (lists_of outputs.old) }
+    requires inside { to ≤ outputs.now.words }
+    requires room { LieWithin outputs.now.words outputs.now.places.now (lists_of texts.old) }
     ensures kept { OneBecomes Keeps j blocks.old blocks.new }
-    ensures added { AddsToEach (block_part (cut_of plan.now) plan.now.block r from to
-        (block_at blocks.old j) j) (lists_of outputs.old) (lists_of outputs.new) }
+    ensures added { AddsAt outputs.now.places.now outputs.now.words
+        (block_part (cut_of plan.now) plan.now.block r from to (block_at blocks.old j) j)
+        (lists_of texts.old) (lists_of texts.new) }
 {
-    blocks[j].add_to(gf, plan, r, from, to, outputs, j * plan.block);
+    blocks[j].add_to(gf, plan, r, from, to, texts, outputs, j * plan.block);
 }
 
 /// To some columns of the outputs, adds what class r gives by what is gathered.
@@ -255,7 +270,8 @@ pub(crate) fn add_all(
     from: usize,
     to: usize,
     blocks: &mut [Block],
-    outputs: &mut [Vec<u8>],
+    texts: &mut [Vec<u8>],
+    outputs: &Places,
 )
     requires few { length blocks.old * plan.now.block ≤ 2 ^ 34 }
     requires exponents { (j : ℕ) → j < length blocks.old
@@ -267,13 +283,15 @@ pub(crate) fn add_all(
         → (block_at blocks.old j).sums.words ≡ plan.now.columns }
     requires order { from ≤ to }
     requires columns { to ≤ from + plan.now.columns }
-    requires room { HaveRoom to (lists_of outputs.old) }
+    requires inside { to ≤ outputs.now.words }
+    requires room { LieWithin outputs.now.words outputs.now.places.now (lists_of texts.old) }
     ensures kept { EachBlock Keeps blocks.old blocks.new }
-    ensures added { AddsToEach (λ t p. field_sum (length blocks.old) (λ j.
+    ensures added { AddsAt outputs.now.places.now outputs.now.words
+        (λ t p. field_sum (length blocks.old) (λ j.
         block_part (cut_of plan.now) plan.now.block r from to (block_at blocks.old j) j t p))
-        (lists_of outputs.old) (lists_of outputs.new) }
+        (lists_of texts.old) (lists_of texts.new) }
 {
     for j in 0..blocks.len() {
-        add_one(gf, plan, r, from, to, blocks, j, outputs);
+        add_one(gf, plan, r, from, to, blocks, j, texts, outputs);
     }
 }

@@ -16,4 +16,5 @@ mod texts;
 mod weights;
 mod windows;
 
-pub use recovery::add_recovery_slices;
+pub use outputs::{Place, Places, add_to_output};
+pub use recovery::{add_recovery_slices, add_recovery_slices_at, whole_texts};

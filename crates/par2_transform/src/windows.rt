@@ -2,7 +2,7 @@
 
 ghost use Rattle.std.specs.Prelude.{◌≡◌, ℕ, ◌+◌, ◌-◌, ◌*◌, ◌^◌, ◌<◌, ◌≤◌, length, IfOk};
 ghost use Rattle.par2_spec.specs.Sums.{field_sum, lists_of};
-ghost use Rattle.par2_transform.specs.Adding.{within, AddsToEach, HaveRoom};
+ghost use Rattle.par2_transform.specs.Adding.{within, AddsAt, LieWithin};
 ghost use Rattle.par2_transform.specs.Blocks.{AreBlocks, AreCoefficients, AreWindowValues, EachBlock, GathersWindow, HaveShape, IsGathered, class_sum_at};
 ghost use Rattle.par2_transform.specs.Chirps.{chirp_inverse, AreInverses};
 ghost use Rattle.par2_transform.specs.Columns.{texts_of, words_at, recovered, AreBytes};
@@ -13,6 +13,7 @@ ghost use Rattle.par2_transform.specs.Transforms.{Reaches, coefficient_of};
 use crate::blocks::{Block, add_all, clear_all, gather_all};
 use crate::exponents::{Slices, text_from};
 use crate::levels::values_at_points;
+use crate::outputs::Places;
 use crate::plan::Plan;
 use crate::powers::chirp_inverse;
 use crate::rows::Rows;
@@ -165,32 +166,34 @@ impl<'a> Windows<'a> {
         to: usize,
         rows: &mut Rows,
         blocks: &mut [Block],
-        outputs: &mut [Vec<u8>],
+        texts: &mut [Vec<u8>],
+        outputs: &Places,
     )
         requires class { r < self.now.plan.classes }
         requires levels { rows.old.levels ≡ self.now.plan.levels }
         requires words { rows.old.words ≡ self.now.plan.columns }
         requires blocks { AreBlocks (cut_of self.now.plan) self.now.plan.columns self.now.first
             self.now.plan.block blocks.old }
-        requires covered { length outputs.old ≤ length blocks.old * self.now.plan.block }
+        requires covered { length outputs.now.places.now ≤ length blocks.old * self.now.plan.block }
         requires few { self.now.first + length blocks.old * self.now.plan.block ≤ 2 ^ 34 }
         requires order { from ≤ to }
         requires columns { to ≤ from + self.now.plan.columns }
-        requires room { HaveRoom to (lists_of outputs.old) }
+        requires inside { to ≤ outputs.now.words }
+        requires room { LieWithin outputs.now.words outputs.now.places.now (lists_of texts.old) }
         ensures levels { rows.new.levels ≡ rows.old.levels }
         ensures words { rows.new.words ≡ rows.old.words }
         ensures count { length blocks.new ≡ length blocks.old }
         ensures blocks { AreBlocks (cut_of self.now.plan) self.now.plan.columns
             self.now.first self.now.plan.block blocks.new }
-        ensures added { AddsToEach (λ t p. within from to p
+        ensures added { AddsAt outputs.now.places.now outputs.now.words (λ t p. within from to p
             (class_sum_at (cut_of self.now.plan) (words_at self.now.slices p) (self.now.first + t) r))
-            (lists_of outputs.old) (lists_of outputs.new) }
+            (lists_of texts.old) (lists_of texts.new) }
     {
         if r == 0 && self.plan.classes == 3 {
             return;
         }
         self.gather(r, from, rows, blocks);
-        add_all(self.gf, &self.plan, r, from, to, blocks, outputs);
+        add_all(self.gf, &self.plan, r, from, to, blocks, texts, outputs);
     }
 
     /// To some columns of the outputs, adds what all classes give.
@@ -200,27 +203,29 @@ impl<'a> Windows<'a> {
         to: usize,
         rows: &mut Rows,
         blocks: &mut [Block],
-        outputs: &mut [Vec<u8>],
+        texts: &mut [Vec<u8>],
+        outputs: &Places,
     )
         requires levels { rows.old.levels ≡ self.now.plan.levels }
         requires words { rows.old.words ≡ self.now.plan.columns }
         requires blocks { AreBlocks (cut_of self.now.plan) self.now.plan.columns self.now.first
             self.now.plan.block blocks.old }
-        requires covered { length outputs.old ≤ length blocks.old * self.now.plan.block }
+        requires covered { length outputs.now.places.now ≤ length blocks.old * self.now.plan.block }
         requires few { self.now.first + length blocks.old * self.now.plan.block ≤ 2 ^ 34 }
         requires order { from ≤ to }
         requires columns { to ≤ from + self.now.plan.columns }
-        requires room { HaveRoom to (lists_of outputs.old) }
+        requires inside { to ≤ outputs.now.words }
+        requires room { LieWithin outputs.now.words outputs.now.places.now (lists_of texts.old) }
         ensures levels { rows.new.levels ≡ rows.old.levels }
         ensures words { rows.new.words ≡ rows.old.words }
         ensures count { length blocks.new ≡ length blocks.old }
         ensures blocks { AreBlocks (cut_of self.now.plan) self.now.plan.columns
             self.now.first self.now.plan.block blocks.new }
-        ensures added { AddsToEach (λ t p. within from to p
-            (recovered self.now.slices (self.now.first + t) p)) (lists_of outputs.old) (lists_of outputs.new) }
+        ensures added { AddsAt outputs.now.places.now outputs.now.words (λ t p. within from to p
+            (recovered self.now.slices (self.now.first + t) p)) (lists_of texts.old) (lists_of texts.new) }
     {
         for r in 0..self.plan.classes {
-            self.add_class(r, from, to, rows, blocks, outputs);
+            self.add_class(r, from, to, rows, blocks, texts, outputs);
         }
     }
 }

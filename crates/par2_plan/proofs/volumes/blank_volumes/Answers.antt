@@ -2,7 +2,7 @@ use Rattle.std.proofs.Common.{◌∙◌, ◌≤◌, ◌+◌, ◌++◌, ◌∷◌
 use Rattle.std.proofs.lemmas.List.{map-append, map_more, take_all}
 use Rattle.std.proofs.lemmas.List.Elements.{All-from_recursion}
 use Rattle.par2_spec.specs.Sums.{lists_of}
-use Rattle.par2_plan.specs.Volumes.{volume_up_to}
+use Rattle.par2_plan.specs.Volumes.{blank_volume}
 use Rattle.par2_plan.specs.declared.names.Volume.{Volume}
 use Rattle.par2_plan.proofs.volumes.blank_volumes.Goals as goal
 
@@ -17,7 +17,7 @@ loop-volume-init c = ap (λ (texts : List (Vec ℕ Global)). lists_of texts) c.i
 
 pub loop-volume-preserved : goal.loop-volume-preserved
 loop-volume-preserved c =
-    let text = volume_up_to c.args.parts.now 0 in
+    let text = blank_volume c.args.parts.now in
     let volumes : List Volume = c.args.volumes.now in
     let volume : Volume = c.volume-item.result in
     ap (λ (texts : List (Vec ℕ Global)). lists_of texts) c.in_ok-push.ensures.items
@@ -27,4 +27,4 @@ loop-volume-preserved c =
 
 pub returns : goal.returns
 returns c =
-    c.loop-volume.invariant ∙ ap (map (volume_up_to c.args.parts.now 0)) (take_all c.loop-volume.volume-index c.args.volumes.now c.loop-volume-test.false)
+    c.loop-volume.invariant ∙ ap (map (blank_volume c.args.parts.now)) (take_all c.loop-volume.volume-index c.args.volumes.now c.loop-volume-test.false)

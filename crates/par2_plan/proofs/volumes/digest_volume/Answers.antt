@@ -3,7 +3,7 @@ use Rattle.std.specs.Prelude.{flat_map}
 use Rattle.std.specs.List.{range_with_len}
 use Rattle.std.proofs.lemmas.Result.{on_ok_weaker}
 use Rattle.par2_packets.specs.Recoveries.{undigested}
-use Rattle.par2_plan.specs.Volumes.{slice_up_to}
+use Rattle.par2_plan.specs.Volumes.{slice_of}
 use Rattle.par2_plan.proofs.VolumeStages.{behind_index, index_kept, length-packets, packets_digested}
 use Rattle.par2_plan.proofs.volumes.digest_volume.Goals as goal
 
@@ -11,20 +11,18 @@ pub digest_recoveries-requires-clause-packets : goal.digest_recoveries-requires-
 digest_recoveries-requires-clause-packets c =
     let parts = c.args.parts.now in
     let volume = c.args.volume.now in
-    let s : ℕ = parts.set.now.slice in
-    let packets = flat_map (λ (e : ℕ). undigested parts.set_id e (slice_up_to parts s e)) (range_with_len volume.first volume.count) in
+    let packets = flat_map (λ (e : ℕ). undigested parts.set_id e (slice_of parts e)) (range_with_len volume.first volume.count) in
     let n : c.len.result ≡ length parts.index.items = search rules in
     let part = ap length (behind_index c.args.text.now parts.index.items packets c.len.result n c.requires.before) in
-    let size = length-packets parts c.requires.parts c.fit_id.ensures s volume.first volume.count (omega arith) in
+    let size = length-packets parts c.requires.parts c.fit_id.ensures volume.first volume.count in
     omega (arith, part, size)
 
 pub returns : goal.returns
 returns c =
     let parts = c.args.parts.now in
     let volume = c.args.volume.now in
-    let s : ℕ = parts.set.now.slice in
     let index : List ℕ = parts.index.items in
-    let packets = flat_map (λ (e : ℕ). undigested parts.set_id e (slice_up_to parts s e)) (range_with_len volume.first volume.count) in
+    let packets = flat_map (λ (e : ℕ). undigested parts.set_id e (slice_of parts e)) (range_with_len volume.first volume.count) in
     let n : c.len.result ≡ length index = search rules in
     let new = c.digest_recoveries.new.packets in
     on_ok_weaker c.digest_recoveries.result

@@ -2,7 +2,7 @@ use Rattle.std.proofs.Common.{◌≡◌, ◌∙◌, List, length, map, sym, ap, 
 use Rattle.std.proofs.lemmas.List.{length-map}
 use Rattle.par2_spec.specs.Sums.{lists_of}
 use Rattle.par2_plan.specs.Outputs.{volume_text}
-use Rattle.par2_plan.specs.Volumes.{volume_up_to}
+use Rattle.par2_plan.specs.Volumes.{with_slices}
 use Rattle.par2_plan.specs.declared.names.Volume.{Volume}
 use Rattle.par2_plan.proofs.VolumeStages.{none_changed_to, all_changed_to}
 use Rattle.par2_plan.proofs.volumes.digest_volumes.Goals as goal
@@ -17,5 +17,5 @@ returns c =
     let volumes : List Volume = c.args.volumes.now in
     let target = map (volume_text c.args.parts.now) volumes in
     let size : length target ≡ length volumes = length-map volumes (volume_text c.args.parts.now) in
-    let old : length (lists_of c.args.texts.now) ≡ length volumes = ap length c.requires.before ∙ length-map volumes (volume_up_to c.args.parts.now c.args.parts.now.set.now.slice) in
+    let old : length (lists_of c.args.texts.now) ≡ length volumes = ap length c.requires.before ∙ length-map volumes (with_slices c.args.parts.now) in
     all_changed_to target (lists_of c.args.texts.now) (lists_of c.loop-i.texts) c.loop-i.i (size ∙ sym old) (omega (arith, size, c.loop-i-test.false)) c.loop-i.invariant

@@ -1,8 +1,9 @@
-use Rattle.std.proofs.Common.{◌≤◌, ◌+◌, ◌-◌, ℕ, arith, mul-le-mul_right}
+use Rattle.std.proofs.Common.{◌≤◌, ◌+◌, ◌*◌, ℕ, arith, length}
+use Rattle.par2_plan.proofs.VolumePlaces.{packet_ends}
 use Rattle.par2_plan.proofs.volumes.place_of.Goals as goal
 
-pub returns-clause-within : goal.returns-clause-within
-returns-clause-within c =
-    let m : ℕ = 68 + c.args.parts.now.set.now.slice in
-    let most = mul-le-mul_right m (let few : c.args.e - c.args.volume.now.first ≤ c.args.volume.now.count = omega (arith, c.requires.exponent.0, c.requires.exponent.1) in few) in
-    omega (arith, most, c.requires.text)
+pub overflow_mul-k : goal.overflow_mul-k
+overflow_mul-k c =
+    let parts = c.args.parts.now in
+    let ends = packet_ends (length parts.index.items) c.args.k c.args.volume.now.count (68 + parts.set.now.slice) (length c.args.text.now) c.requires.packet c.requires.text in
+    omega (arith, ends)

@@ -1,36 +1,49 @@
-use Rattle.std.proofs.Common.{ℕ, ◌≤◌, ◌∙◌, List, Vec, Global, sym, ap, subst, arith, get_or, length}
-use Rattle.std.proofs.lemmas.List.{map-append}
+use Rattle.std.proofs.Common.{ℕ, ◌≡◌, ◌∙◌, List, Vec, Global, sym, ap, subst, arith, rules, get_or, length}
+use Rattle.std.proofs.lemmas.List.{with_items_is}
 use Rattle.par2_spec.specs.Sums.{lists_of}
-use Rattle.par2_transform.specs.Adding.{AddsToEach, HaveWords}
+use Rattle.par2_spec.proofs.WordLaws.{length-lists_of}
+use Rattle.par2_transform.specs.Adding.{AddsAt, AddsToEach, AreApart, AreWholeTexts, HaveWords, LieWithin}
 use Rattle.par2_transform.specs.Columns.{recovered}
+use Rattle.par2_transform.specs.declared.outputs.Place.{Place}
+use Rattle.par2_transform.proofs.WholeTexts.{whole_apart, whole_within, whole_added}
 use Rattle.par2_recovery.specs.Views.{texts_of}
-use Rattle.par2_recovery.proofs.AdditionLaws.{adds_group, group, texts_in_group, group_words}
 use Rattle.par2_recovery.proofs.Combinations.{length-texts_of}
 use Rattle.par2_recovery.proofs.additions.with_recovery_slices.Goals as goal
 
-pub with_group-requires-clause-size : goal.with_group-requires-clause-size
-with_group-requires-clause-size c =
-    let at = c.loop-at.at in
-    let to = c.group_end-to.result in
-    let texts = c.args.texts.now in
-    let order : at ≤ to = (let h = c.group_end-to.ensures.beyond in omega (arith, h)) in
-    let fits : to ≤ length (texts_of texts) = (let h = c.group_end-to.ensures.within in let e = c.requires.count in let n = length-texts_of texts in omega (arith, h, e, n)) in
-    subst (λ (xs : List (List ℕ)). HaveWords c.args.words xs) (sym (texts_in_group at to texts)) (group_words c.args.words at to (texts_of texts) order fits c.requires.size)
+pub new-outputs-requires : goal.new-outputs-requires
+new-outputs-requires c = record {
+  apart = subst (λ (places : List Place). AreApart c.args.words places) (sym c.deref.ensures.value) (whole_apart c.args.words (length c.args.texts.now) c.in_ok-places.places.items c.in_ok-places.ensures);
+}
 
-pub loop-at-preserved : goal.loop-at-preserved
-loop-at-preserved c =
-    let at = c.loop-at.at in
-    let to = c.group_end-to.result in
-    let texts = c.args.texts.now in
-    let slices = texts_of c.args.slices.now in
-    let exponents = c.args.exponents.now in
-    let order : at ≤ to = (let h = c.group_end-to.ensures.beyond in omega (arith, h)) in
-    let fits : to ≤ length (texts_of texts) = (let h = c.group_end-to.ensures.within in let e = c.requires.count in let n = length-texts_of texts in omega (arith, h, e, n)) in
-    let more = lists_of c.in_ok-more.more.items in
-    let added : AddsToEach (λ t p. recovered slices (get_or (group at to exponents) t 0) p) (group at to (texts_of texts)) more =
-    subst (λ (xs : List (List ℕ)). AddsToEach (λ t p. recovered slices (get_or (group at to exponents) t 0) p) xs more) (texts_in_group at to texts) c.in_ok-more.ensures in
-    record {
-      added = adds_group at to exponents slices (texts_of texts) (lists_of c.loop-at.sums.items) more (lists_of c.append.new.self.items) order fits c.loop-at.invariant.added added
-          (ap (λ (vs : List (Vec ℕ Global)). lists_of vs) c.in_ok-append.ensures.items ∙ map-append (λ (v : Vec ℕ Global). v.items) c.loop-at.sums.items c.in_ok-more.more.items);
-      within = c.group_end-to.ensures.within;
-    }
+pub add_recovery-requires-clause-count : goal.add_recovery-requires-clause-count
+add_recovery-requires-clause-count c =
+    let same = ap (λ (places : List Place). length places) (c.new-outputs.ensures.places ∙ c.deref.ensures.value) in
+    let count = c.in_ok-places.ensures.count in
+    omega (arith, same, count, c.requires.count)
+
+pub add_recovery-requires-clause-room : goal.add_recovery-requires-clause-room
+add_recovery-requires-clause-room c =
+    let texts = texts_of c.args.texts.now in
+    let places = c.in_ok-places.places.items in
+    let outputs = c.new-outputs.result in
+    let whole : AreWholeTexts (length texts) places = subst (λ (n : ℕ). AreWholeTexts n places) (sym (length-texts_of c.args.texts.now)) c.in_ok-places.ensures in
+    subst (λ (xs : List (List ℕ)). LieWithin outputs.words outputs.places.now xs) (sym (ap lists_of c.as_mut_slice-all.ensures.value ∙ c.in_ok-sums.ensures))
+    (subst (λ (all : List Place). LieWithin outputs.words all texts) (sym (c.new-outputs.ensures.places ∙ c.deref.ensures.value))
+    (subst (λ (words : ℕ). LieWithin words places texts) (sym c.new-outputs.ensures.words) (whole_within c.args.words places texts whole c.requires.size)))
+
+pub returns : goal.returns
+returns c =
+    let was = texts_of c.args.texts.now in
+    let new = c.add_recovery.new.texts in
+    let places = c.in_ok-places.places.items in
+    let outputs = c.new-outputs.result in
+    let given = λ (t p : ℕ). recovered (texts_of c.args.slices.now) (get_or c.args.exponents.now t 0) p in
+    let size : length new ≡ c.in_ok-sums.sums.len = search rules in
+    let whole : AreWholeTexts (length was) places = subst (λ (n : ℕ). AreWholeTexts n places) (sym (length-texts_of c.args.texts.now)) c.in_ok-places.ensures in
+    let from_was : AddsAt outputs.places.now outputs.words given was (lists_of new) =
+    subst (λ (xs : List (List ℕ)). AddsAt outputs.places.now outputs.words given xs (lists_of new)) (ap lists_of c.as_mut_slice-all.ensures.value ∙ c.in_ok-sums.ensures) c.in_ok-add_recovery.ensures in
+    let added : AddsToEach given was (lists_of new) =
+    whole_added c.args.words given places was (lists_of new) whole c.requires.size
+    (subst (λ (all : List Place). AddsAt all c.args.words given was (lists_of new)) (c.new-outputs.ensures.places ∙ c.deref.ensures.value)
+    (subst (λ (words : ℕ). AddsAt outputs.places.now words given was (lists_of new)) c.new-outputs.ensures.words from_was)) in
+    subst (λ (xs : List (Vec ℕ Global)). AddsToEach given was (lists_of xs)) (sym (with_items_is c.in_ok-sums.sums new size)) added

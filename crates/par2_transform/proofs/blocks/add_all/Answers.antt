@@ -2,11 +2,12 @@ use Rattle.std.proofs.Common.{subst, sym, ap, ◌∙◌, arith, ◌≤◌, ◌^�
 use Rattle.par2_spec.specs.Sums.{lists_of}
 use Rattle.par2_transform.specs.Blocks.{Outputs}
 use Rattle.par2_transform.specs.Plans.{cut_of}
+use Rattle.par2_transform.proofs.AddingLaws.{still_within}
 use Rattle.par2_transform.proofs.BlockLaws.{none_added, next_added}
 use Rattle.par2_transform.proofs.blocks.add_all.Goals as goal
 
 pub loop-j-init : goal.loop-j-init
-loop-j-init c = none_added (cut_of c.args.plan.now) c.args.plan.now.block c.args.r c.args.from c.args.to c.args.blocks.now (lists_of c.args.outputs.now)
+loop-j-init c = none_added c.args.outputs.now.places.now c.args.outputs.now.words (cut_of c.args.plan.now) c.args.plan.now.block c.args.r c.args.from c.args.to c.args.blocks.now (lists_of c.args.texts.now)
 
 pub add_one-requires-clause-exponent : goal.add_one-requires-clause-exponent
 add_one-requires-clause-exponent c =
@@ -21,10 +22,9 @@ add_one-requires-clause-words c =
     ap (λ (b : Outputs). b.sums.words) (c.loop-j.invariant.kept.rest c.loop-j.j (omega arith)) ∙ c.requires.words c.loop-j.j (omega (arith, c.loop-j.invariant.kept.count, c.loop-j-test.true))
 
 pub add_one-requires-clause-room : goal.add_one-requires-clause-room
-add_one-requires-clause-room c = λ t h.
-    omega (arith, c.loop-j.invariant.added.sizes t, c.requires.room t (omega (arith, h, c.loop-j.invariant.added.count)))
+add_one-requires-clause-room c = still_within c.args.outputs.now.places.now c.args.outputs.now.words c.args.outputs.now.words _ (lists_of c.args.texts.now) (lists_of c.loop-j.texts) c.loop-j.invariant.added c.requires.room
 
 pub loop-j-preserved : goal.loop-j-preserved
 loop-j-preserved c =
-    next_added (cut_of c.args.plan.now) c.args.plan.now.block c.args.r c.args.from c.args.to c.loop-j.j c.args.blocks.now c.loop-j.blocks c.add_one.new.blocks
-    (lists_of c.args.outputs.now) (lists_of c.loop-j.outputs) (lists_of c.add_one.new.outputs) c.loop-j.invariant c.add_one.ensures.kept c.add_one.ensures.added
+    next_added c.args.outputs.now.places.now c.args.outputs.now.words (cut_of c.args.plan.now) c.args.plan.now.block c.args.r c.args.from c.args.to c.loop-j.j c.args.blocks.now c.loop-j.blocks c.add_one.new.blocks
+    (lists_of c.args.texts.now) (lists_of c.loop-j.texts) (lists_of c.add_one.new.texts) c.loop-j.invariant c.add_one.ensures.kept c.add_one.ensures.added

@@ -1,19 +1,35 @@
-use Rattle.std.proofs.Common.{rules, ◌≡◌, ◌-◌, length, get_or, ◌∙◌, subst}
-use Rattle.std.proofs.lemmas.List.{with_items_is}
-use Rattle.std.specs.Vec.{with_items}
+use Rattle.std.proofs.Common.{◌-◌, ℕ, ap, subst, arith, length}
 use Rattle.par2_spec.specs.Field.{mul}
 use Rattle.par2_spec.specs.Slices.{word}
-use Rattle.par2_spec.specs.Sums.{list_at, lists_of}
-use Rattle.par2_spec.proofs.WordLaws.{read_at, written_here, written_changed}
-use Rattle.par2_transform.specs.Adding.{within, AddsTo}
+use Rattle.par2_spec.specs.Sums.{OneChanged, list_at, lists_of}
+use Rattle.par2_spec.proofs.WordLaws.{length-lists_of}
+use Rattle.par2_transform.specs.Adding.{within, AddsToPart}
+use Rattle.par2_transform.specs.declared.outputs.Place.{Place}
 use Rattle.par2_transform.proofs.AddingLaws.{adds_to_one}
 use Rattle.par2_transform.proofs.outputs.add_to_output.Goals as goal
 
+pub add_to_text-requires-clause-place : goal.add_to_text-requires-clause-place
+add_to_text-requires-clause-place c =
+    let low = (c.requires.room c.args.t c.requires.place).0 in
+    let same = ap (λ (place : Place). place.text) c.place_of-place.ensures in
+    let count = length-lists_of c.args.texts.now in
+    omega (arith, low, same, count)
+
+pub add_to_text-requires-clause-room : goal.add_to_text-requires-clause-room
+add_to_text-requires-clause-room c =
+    let texts = lists_of c.args.texts.now in
+    let fits = (c.requires.room c.args.t c.requires.place).1 in
+    let at = ap (λ (place : Place). place.at) c.place_of-place.ensures in
+    let size = ap (λ (place : Place). length (list_at texts place.text)) c.place_of-place.ensures in
+    omega (arith, fits, at, size)
+
 pub returns : goal.returns
 returns c =
-    let was = get_or c.args.outputs.now c.args.i c.index-outputs-i.result in
-    let size : length c.add_products.new.text ≡ was.len = search rules in
-    let after = written_here c.args.outputs.now c.args.i (with_items was c.add_products.new.text) c.requires.place ∙ with_items_is was c.add_products.new.text size in
-    let before : c.as_mut_slice.result.now ≡ list_at (lists_of c.args.outputs.now) c.args.i = search (rules, read_at) in
-    adds_to_one c.args.i (λ p. within c.args.from c.args.to p (mul c.args.c (word (p - c.args.from) c.args.row.now))) (lists_of c.args.outputs.now) (lists_of _)
-    (written_changed c.args.outputs.now c.args.i _) (rw (after, ← before) (subst (λ k. AddsTo (λ p. within c.args.from c.args.to p (mul k (word (p - c.args.from) c.args.row.now))) c.as_mut_slice.result.now c.add_products.new.text) c.new-factor.ensures c.add_products.ensures))
+    let was = lists_of c.args.texts.now in
+    let new = lists_of c.add_to_text.new.texts in
+    let place = c.place_of-place.result in
+    let product = λ (k p : ℕ). within c.args.from c.args.to p (mul k (word (p - c.args.from) c.args.row.now)) in
+    adds_to_one c.args.outputs.now.places.now c.args.outputs.now.words c.args.t (product c.args.c) was new c.args.outputs.now.apart c.requires.place
+    (subst (λ (x : Place). OneChanged was new x.text) c.place_of-place.ensures c.add_to_text.ensures.changed)
+    (subst (λ (x : Place). AddsToPart x.at c.args.outputs.now.words (product c.args.c) (list_at was x.text) (list_at new x.text)) c.place_of-place.ensures
+    (subst (λ (k : ℕ). AddsToPart place.at c.args.outputs.now.words (product k) (list_at was place.text) (list_at new place.text)) c.new-factor.ensures c.add_to_text.ensures.added))

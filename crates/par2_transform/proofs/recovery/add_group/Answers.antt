@@ -1,37 +1,51 @@
-use Rattle.std.proofs.Common.{◌≤◌, ◌+◌, ◌-◌, ℕ, List, length, sym, ap, subst, arith, add_assoc}
+use Rattle.std.proofs.Common.{◌≤◌, ◌+◌, ℕ, List, length, sym, ap, subst, arith, add_assoc}
 use Rattle.std.proofs.lemmas.Result.{IfOk-weaker}
 use Rattle.par2_spec.specs.Sums.{lists_of}
-use Rattle.par2_spec.proofs.WordLaws.{length-lists_of}
-use Rattle.par2_transform.specs.Adding.{within, AddsToEach, HaveWords}
+use Rattle.par2_transform.specs.Adding.{AddsAt, LieWithin}
 use Rattle.par2_transform.specs.Columns.{texts_of, recovered}
+use Rattle.par2_transform.specs.declared.outputs.Place.{Place}
 use Rattle.par2_transform.proofs.AddingLaws.{adds_same}
-use Rattle.par2_transform.proofs.GroupLaws.{group_of, lists_of_group, lists_put, adds_to_group, group_has_words}
+use Rattle.par2_transform.proofs.GroupLaws.{group_of, length-group, group_within, adds_to_group}
 use Rattle.par2_transform.proofs.recovery.add_group.Goals as goal
 
-pub add_together-requires-clause-size : goal.add_together-requires-clause-size
-add_together-requires-clause-size c =
+pub add_together-requires-clause-exponents : goal.add_together-requires-clause-exponents
+add_together-requires-clause-exponents c =
+    let group = c.requires.group in
+    let order : c.args.from ≤ c.args.to = (let h = group.0 in omega (arith, h)) in
+    let size = length-group c.args.from c.args.to c.args.outputs.now.places.now order group.1 in
+    let same = ap (λ (places : List Place). length places) c.part-group.ensures.places in
+    let fits = group.1 in
+    omega (arith, same, size, order, fits, c.requires.exponents)
+
+pub add_together-requires-clause-room : goal.add_together-requires-clause-room
+add_together-requires-clause-room c =
     let from = c.args.from in
     let to = c.args.to in
-    let texts = c.args.texts.now in
+    let texts = lists_of c.args.texts.now in
+    let group = c.part-group.result in
     let order : from ≤ to = (let h = c.requires.group.0 in omega (arith, h)) in
-    let fits : to ≤ length (lists_of texts) = (let n = length-lists_of texts in let h = c.requires.group.1 in omega (arith, n, h)) in
-    subst (λ (xs : List (List ℕ)). HaveWords c.args.words xs) (sym (lists_of_group from (to - from) texts)) (group_has_words c.args.words from to (lists_of texts) order fits c.requires.size)
+    subst (λ (places : List Place). LieWithin group.words places texts) (sym c.part-group.ensures.places)
+    (subst (λ (words : ℕ). LieWithin words (group_of from to c.args.outputs.now.places.now) texts) (sym c.part-group.ensures.words)
+    (group_within c.args.outputs.now.words from to c.args.outputs.now.places.now texts order c.requires.group.1 c.requires.room))
 
 pub returns : goal.returns
 returns c =
     let from = c.args.from in
     let to = c.args.to in
-    let texts = c.args.texts.now in
-    let new = c.add_together.new.texts in
+    let was = lists_of c.args.texts.now in
+    let new = lists_of c.add_together.new.texts in
     let slices = texts_of c.args.slices.now in
     let first = c.args.first in
+    let group = c.part-group.result in
+    let all : List Place = c.args.outputs.now.places.now in
+    let words : ℕ = c.args.outputs.now.words in
     let order : from ≤ to = (let h = c.requires.group.0 in omega (arith, h)) in
-    let fits : to ≤ length (lists_of texts) = (let n = length-lists_of texts in let h = c.requires.group.1 in omega (arith, n, h)) in
-    IfOk-weaker c.add_together.result (λ _. AddsToEach (λ t p. recovered slices (first + from + t) p) (lists_of _) (lists_of new)) _
+    let given = λ (t p : ℕ). recovered slices (first + from + t) p in
+    IfOk-weaker c.add_together.result (λ _. AddsAt group.places.now group.words given was new) _
     (λ _ added.
-    subst (λ (xs : List (List ℕ)). AddsToEach (λ t p. within from to t (recovered slices (first + t) p)) (lists_of texts) xs) (sym (lists_put from (to - from) texts new))
-    (adds_to_group from to (λ t p. recovered slices (first + t) p) (lists_of texts) (lists_of new) order fits
-    (adds_same (λ t p. recovered slices (first + from + t) p) (λ t p. recovered slices (first + (from + t)) p) (group_of from to (lists_of texts)) (lists_of new)
-    (subst (λ (xs : List (List ℕ)). AddsToEach (λ t p. recovered slices (first + from + t) p) xs (lists_of new)) (lists_of_group from (to - from) texts) added)
-    (λ t p h room. ap (λ (n : ℕ). recovered slices n p) (add_assoc first from t)))))
+    adds_to_group from to words (λ t p. recovered slices (first + t) p) all was new order c.requires.group.1 c.args.outputs.now.apart
+    (adds_same (group_of from to all) words given (λ t p. recovered slices (first + (from + t)) p) was new
+    (subst (λ (places : List Place). AddsAt places words given was new) c.part-group.ensures.places
+    (subst (λ (n : ℕ). AddsAt group.places.now n given was new) c.part-group.ensures.words added))
+    (λ t p h room. ap (λ (n : ℕ). recovered slices n p) (add_assoc first from t))))
     c.add_together.ensures

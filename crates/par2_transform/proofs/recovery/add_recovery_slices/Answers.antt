@@ -1,29 +1,44 @@
-use Rattle.std.proofs.Common.{◌≡◌, ◌<◌, ◌≤◌, ◌+◌, ◌-◌, ◌*◌, ◌∙◌, ℕ, length, min, sym, ap, subst, arith}
-use Rattle.std.proofs.lemmas.Grind.{div_ceil_times}
+use Rattle.std.proofs.Common.{◌∙◌, ◌+◌, ℕ, List, length, sym, ap, subst, arith}
+use Rattle.std.proofs.lemmas.Result.{IfOk-weaker}
 use Rattle.par2_spec.specs.Sums.{lists_of}
-use Rattle.par2_spec.proofs.FoundLaws.{slice_begins}
 use Rattle.par2_spec.proofs.WordLaws.{length-lists_of}
+use Rattle.par2_transform.specs.Adding.{AddsAt, AreApart, AreWholeTexts, LieWithin}
 use Rattle.par2_transform.specs.Columns.{texts_of, recovered}
-use Rattle.par2_transform.proofs.GroupLaws.{next_group, all_groups}
+use Rattle.par2_transform.specs.declared.outputs.Place.{Place}
+use Rattle.par2_transform.proofs.WholeTexts.{whole_apart, whole_within, whole_added}
 use Rattle.par2_transform.proofs.recovery.add_recovery_slices.Goals as goal
 
-pub loop-k-preserved : goal.loop-k-preserved
-loop-k-preserved c =
-    let size = c.outputs_at_once-at_once.result in
-    let some = c.outputs_at_once-at_once.ensures in
-    let total = length c.args.texts.now in
-    let k = c.loop-k.k in
-    let low : k * size < total = slice_begins total size k (omega (arith, some)) (subst (λ n. k < n) c.div_ceil-k-end.ensures c.loop-k-test.true) in
-    let place : k * size + c.min.result ≡ k * size + min size (total - k * size) = ap (λ n. k * size + n) (c.min.ensures ∙ ap (λ (m : ℕ). min size (m - k * size)) c.loop-k.auto.texts) in
-    next_group size total k (k * size + c.min.result) (λ t p. recovered (texts_of c.args.slices.now) (c.args.first + t) p) (lists_of c.args.texts.now) (lists_of c.loop-k.texts) (lists_of c.add_group.new.texts)
-    low place c.loop-k.invariant c.in_ok-add_group.ensures
+pub new-outputs-requires : goal.new-outputs-requires
+new-outputs-requires c = record {
+  apart = subst (λ (places : List Place). AreApart c.args.words places) (sym c.deref.ensures.value) (whole_apart c.args.words (length c.args.texts.now) c.in_ok-places.places.items c.in_ok-places.ensures);
+}
+
+pub add_recovery_slices_at-requires-clause-exponents : goal.add_recovery_slices_at-requires-clause-exponents
+add_recovery_slices_at-requires-clause-exponents c =
+    let same = ap (λ (places : List Place). length places) (c.new-outputs.ensures.places ∙ c.deref.ensures.value) in
+    let count = c.in_ok-places.ensures.count in
+    omega (arith, same, count, c.requires.exponents)
+
+pub add_recovery_slices_at-requires-clause-room : goal.add_recovery_slices_at-requires-clause-room
+add_recovery_slices_at-requires-clause-room c =
+    let texts = lists_of c.args.texts.now in
+    let places = c.in_ok-places.places.items in
+    let outputs = c.new-outputs.result in
+    let whole : AreWholeTexts (length texts) places = subst (λ (n : ℕ). AreWholeTexts n places) (sym (length-lists_of c.args.texts.now)) c.in_ok-places.ensures in
+    subst (λ (all : List Place). LieWithin outputs.words all texts) (sym (c.new-outputs.ensures.places ∙ c.deref.ensures.value))
+    (subst (λ (words : ℕ). LieWithin words places texts) (sym c.new-outputs.ensures.words) (whole_within c.args.words places texts whole c.requires.size))
 
 pub returns : goal.returns
 returns c =
-    let size = c.outputs_at_once-at_once.result in
-    let some = c.outputs_at_once-at_once.ensures in
-    let total = length c.args.texts.now in
-    let k = c.loop-k.k in
-    let end : k ≡ c.div_ceil-k-end.result = omega (arith, c.loop-k-test.false, c.loop-k.auto.k-end) in
-    let enough : total ≤ k * size = subst (λ n. total ≤ n * size) (sym (end ∙ c.div_ceil-k-end.ensures)) (div_ceil_times total size (omega (arith, some))).0 in
-    all_groups size total k (λ t p. recovered (texts_of c.args.slices.now) (c.args.first + t) p) (lists_of c.args.texts.now) (lists_of c.loop-k.texts) enough (length-lists_of c.args.texts.now) c.loop-k.invariant
+    let was = lists_of c.args.texts.now in
+    let new = lists_of c.add_recovery_slices_at.new.texts in
+    let places = c.in_ok-places.places.items in
+    let outputs = c.new-outputs.result in
+    let given = λ (t p : ℕ). recovered (texts_of c.args.slices.now) (c.args.first + t) p in
+    let whole : AreWholeTexts (length was) places = subst (λ (n : ℕ). AreWholeTexts n places) (sym (length-lists_of c.args.texts.now)) c.in_ok-places.ensures in
+    IfOk-weaker c.add_recovery_slices_at.result (λ _. AddsAt outputs.places.now outputs.words given was new) _
+    (λ _ added.
+    whole_added c.args.words given places was new whole c.requires.size
+    (subst (λ (all : List Place). AddsAt all c.args.words given was new) (c.new-outputs.ensures.places ∙ c.deref.ensures.value)
+    (subst (λ (words : ℕ). AddsAt outputs.places.now words given was new) c.new-outputs.ensures.words added)))
+    c.add_recovery_slices_at.ensures

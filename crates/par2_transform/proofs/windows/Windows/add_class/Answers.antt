@@ -1,7 +1,6 @@
-use Rattle.std.proofs.Common.{arith, ◌+◌, ◌≤◌, ◌<◌, ◌*◌, sym, subst, length}
+use Rattle.std.proofs.Common.{arith, ◌+◌, ◌<◌, sym, subst, length}
 use Rattle.par2_spec.specs.Sums.{lists_of}
-use Rattle.par2_spec.proofs.WordLaws.{length-lists_of}
-use Rattle.par2_transform.specs.Adding.{within, AddsToEach}
+use Rattle.par2_transform.specs.Adding.{within, AddsAt}
 use Rattle.par2_transform.specs.Blocks.{class_sum_at}
 use Rattle.par2_transform.specs.Columns.{words_at}
 use Rattle.par2_transform.specs.Plans.{cut_of}
@@ -15,9 +14,9 @@ gather-requires-clause-blocks c = let self = c.args.self.now in blocks_have_shap
 pub returns-then-self-eq3-clause-added : goal.returns-then-self-eq3-clause-added
 returns-then-self-eq3-clause-added c =
     let self = c.args.self.now in
-    let outputs = lists_of c.args.outputs.now in
-    subst (λ r. AddsToEach (λ t p. within c.args.from c.args.to p (class_sum_at (cut_of self.plan) (words_at self.slices p) (self.first + t) r)) outputs outputs) (sym c.if-r-eq0.true)
-    (nothing_added (cut_of self.plan) self.slices self.first c.args.from c.args.to outputs c.if-self-eq3.true)
+    let texts = lists_of c.args.texts.now in
+    subst (λ r. AddsAt c.args.outputs.now.places.now c.args.outputs.now.words (λ t p. within c.args.from c.args.to p (class_sum_at (cut_of self.plan) (words_at self.slices p) (self.first + t) r)) texts texts) (sym c.if-r-eq0.true)
+    (nothing_added c.args.outputs.now.places.now c.args.outputs.now.words (cut_of self.plan) self.slices self.first c.args.from c.args.to texts c.if-self-eq3.true)
 
 pub add_all-requires-clause-exponents : goal.add_all-requires-clause-exponents
 add_all-requires-clause-exponents c = λ j h.
@@ -32,7 +31,5 @@ add_all-requires-clause-exponents c = λ j h.
 pub returns-clause-added : goal.returns-clause-added
 returns-clause-added c =
     let self = c.args.self.now in
-    let outputs = lists_of c.args.outputs.now in
-    let covered : length outputs ≤ length c.args.blocks.now * self.plan.block = (let size = length-lists_of c.args.outputs.now in omega (arith, size, c.requires.covered)) in
-    class_added (cut_of self.plan) self.slices self.plan.columns self.plan.block c.args.r c.args.from c.args.to self.first c.args.blocks.now c.gather.new.blocks outputs (lists_of c.add_all.new.outputs)
-    self.few self.bytes c.requires.blocks c.gather.ensures.gathered self.plan.fit self.plan.some.1.0 covered c.requires.columns c.add_all.ensures.added
+    class_added c.args.outputs.now.places.now c.args.outputs.now.words (cut_of self.plan) self.slices self.plan.columns self.plan.block c.args.r c.args.from c.args.to self.first c.args.blocks.now c.gather.new.blocks (lists_of c.args.texts.now) (lists_of c.add_all.new.texts)
+    self.few self.bytes c.requires.blocks c.gather.ensures.gathered self.plan.fit self.plan.some.1.0 c.requires.covered c.requires.columns c.add_all.ensures.added

@@ -5,4 +5,4 @@ use Rattle.par2_transform.proofs.windows.Windows.add_classes.Given as goal
 
 abbrev pub invariant-loop-r : goal.invariant-loop-r
 invariant-loop-r l =
-    ClassesAdded (cut_of l.self.plan) l.self.slices l.self.plan.columns l.self.first l.self.plan.block l.from l.to l.r l.fn.rows l.rows l.fn.blocks l.blocks (lists_of l.fn.outputs) (lists_of l.outputs)
+    ClassesAdded l.outputs.places.now l.outputs.words (cut_of l.self.plan) l.self.slices l.self.plan.columns l.self.first l.self.plan.block l.from l.to l.r l.fn.rows l.rows l.fn.blocks l.blocks (lists_of l.fn.texts) (lists_of l.texts)

@@ -1,0 +1,18 @@
+use Rattle.std.proofs.Common.{◌≡◌, ◌∙◌, ◌+◌, ◌++◌, ◌∷◌, [], ℕ, List, map, sym, ap, append_assoc, zero-add}
+use Rattle.std.specs.List.{range_with_len}
+use Rattle.std.proofs.lemmas.List.FromFn.{map-range_with_len_more}
+use Rattle.par2_transform.specs.declared.outputs.Place.{Place}
+use Rattle.par2_plan.specs.Volumes.{place_in}
+use Rattle.par2_plan.proofs.volumes.append_places.Goals as goal
+
+pub loop-k-preserved : goal.loop-k-preserved
+loop-k-preserved c =
+    let k : ℕ = c.loop-k.k in
+    let i : ℕ = c.args.i in
+    let place = place_in c.args.parts.now i in
+    let was : List Place = c.args.places.now.items in
+    c.in_ok-push.ensures.items
+    ∙ ap (λ (at : ℕ). c.loop-k.places.items ++ record { text = i; at = at } ∷ []) c.place_of-at.ensures
+    ∙ ap (λ (xs : List Place). xs ++ place k ∷ []) c.loop-k.invariant
+    ∙ append_assoc was (map place (range_with_len 0 k)) (place k ∷ [])
+    ∙ ap (λ (xs : List Place). was ++ xs) (sym (map-range_with_len_more place 0 k k (zero-add k)))

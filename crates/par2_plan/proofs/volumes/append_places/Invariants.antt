@@ -1,0 +1,7 @@
+use Rattle.std.proofs.Common.{◌≡◌, ◌++◌, map}
+use Rattle.std.specs.List.{range_with_len}
+use Rattle.par2_plan.specs.Volumes.{place_in}
+use Rattle.par2_plan.proofs.volumes.append_places.Given as goal
+
+abbrev pub invariant-loop-k : goal.invariant-loop-k
+invariant-loop-k l = l.places.items ≡ l.initial.places.items ++ map (place_in l.parts l.i) (range_with_len 0 l.k)

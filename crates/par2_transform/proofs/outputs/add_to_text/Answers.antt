@@ -1,0 +1,17 @@
+use Rattle.std.proofs.Common.{rules, ◌≡◌, ◌∙◌, length, get_or}
+use Rattle.std.proofs.lemmas.List.{with_items_is}
+use Rattle.std.specs.Vec.{with_items}
+use Rattle.par2_spec.specs.Sums.{list_at, lists_of}
+use Rattle.par2_spec.proofs.WordLaws.{read_at, written_here, written_changed}
+use Rattle.par2_transform.proofs.outputs.add_to_text.Goals as goal
+
+pub returns-clause-changed : goal.returns-clause-changed
+returns-clause-changed c = written_changed c.args.texts.now c.args.i _
+
+pub returns-clause-added : goal.returns-clause-added
+returns-clause-added c =
+    let was = get_or c.args.texts.now c.args.i c.index-texts-i.result in
+    let size : length c.add_within.new.text ≡ was.len = search rules in
+    let after = written_here c.args.texts.now c.args.i (with_items was c.add_within.new.text) c.requires.place ∙ with_items_is was c.add_within.new.text size in
+    let before : c.as_mut_slice.result.now ≡ list_at (lists_of c.args.texts.now) c.args.i = search (rules, read_at) in
+    rw (after, ← before) c.add_within.ensures

@@ -1,9 +1,0 @@
-use Rattle.std.proofs.Common.{◌+◌, ◌*◌, length, min}
-use Rattle.par2_spec.specs.Sums.{lists_of}
-use Rattle.par2_transform.specs.Adding.{within, AddsToEach}
-use Rattle.par2_transform.specs.Columns.{texts_of, recovered}
-use Rattle.par2_transform.proofs.recovery.add_recovery_slices.Given as goal
-
-abbrev pub invariant-loop-k : goal.invariant-loop-k
-invariant-loop-k l =
-    AddsToEach (λ t p. within 0 (min (length l.fn.texts) (l.k * l.at_once)) t (recovered (texts_of l.slices) (l.first + t) p)) (lists_of l.fn.texts) (lists_of l.texts)

@@ -1,0 +1,35 @@
+use Rattle.std.proofs.Common.{◌≡◌, ◌<◌, ◌≤◌, ◌+◌, ◌-◌, ◌*◌, ◌∙◌, ℕ, length, min, refl, sym, ap, subst, arith}
+use Rattle.std.specs.Int.{div_ceil}
+use Rattle.std.proofs.lemmas.Grind.{div_ceil_times}
+use Rattle.par2_spec.specs.Sums.{lists_of}
+use Rattle.par2_spec.proofs.FoundLaws.{slice_begins}
+use Rattle.par2_transform.specs.Columns.{texts_of, recovered}
+use Rattle.par2_transform.proofs.AddingLaws.{still_within}
+use Rattle.par2_transform.proofs.GroupLaws.{next_group, all_groups}
+use Rattle.par2_transform.proofs.recovery.add_recovery_slices_at.Goals as goal
+
+pub add_group-requires-clause-room : goal.add_group-requires-clause-room
+add_group-requires-clause-room c = still_within c.args.outputs.now.places.now c.args.outputs.now.words c.args.outputs.now.words _ (lists_of c.args.texts.now) (lists_of c.loop-k.texts) c.loop-k.invariant c.requires.room
+
+pub loop-k-preserved : goal.loop-k-preserved
+loop-k-preserved c =
+    let size = c.outputs_at_once-at_once.result in
+    let some = c.outputs_at_once-at_once.ensures in
+    let total = length c.args.outputs.now.places.now in
+    let k = c.loop-k.k in
+    let end = c.div_ceil-k-end.ensures ∙ ap (λ (m : ℕ). div_ceil m size) c.len-count.ensures in
+    let low : k * size < total = slice_begins total size k (omega (arith, some)) (subst (λ n. k < n) end c.loop-k-test.true) in
+    let place : k * size + c.min.result ≡ k * size + min size (total - k * size) = ap (λ n. k * size + n) (c.min.ensures ∙ ap (λ (m : ℕ). min size (m - k * size)) c.len-count.ensures) in
+    next_group c.args.outputs.now.places.now c.args.outputs.now.words size total k (k * size + c.min.result) (λ t p. recovered (texts_of c.args.slices.now) (c.args.first + t) p) (lists_of c.args.texts.now) (lists_of c.loop-k.texts) (lists_of c.add_group.new.texts)
+    low place c.loop-k.invariant c.in_ok-add_group.ensures
+
+pub returns : goal.returns
+returns c =
+    let size = c.outputs_at_once-at_once.result in
+    let some = c.outputs_at_once-at_once.ensures in
+    let total = length c.args.outputs.now.places.now in
+    let k = c.loop-k.k in
+    let end : k ≡ c.div_ceil-k-end.result = omega (arith, c.loop-k-test.false, c.loop-k.auto.k-end) in
+    let all = c.div_ceil-k-end.ensures ∙ ap (λ (m : ℕ). div_ceil m size) c.len-count.ensures in
+    let enough : total ≤ k * size = subst (λ n. total ≤ n * size) (sym (end ∙ all)) (div_ceil_times total size (omega (arith, some))).0 in
+    all_groups c.args.outputs.now.places.now c.args.outputs.now.words size total k (λ t p. recovered (texts_of c.args.slices.now) (c.args.first + t) p) (lists_of c.args.texts.now) (lists_of c.loop-k.texts) enough refl c.loop-k.invariant
