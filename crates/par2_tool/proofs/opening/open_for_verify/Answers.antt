@@ -13,7 +13,7 @@ use Rattle.par2_tool.proofs.opening.open_for_verify.Goals as goal
 
 pub returns-in_default-clause-opened : goal.returns-in_default-clause-opened
 returns-in_default-clause-opened g c =
-    let old = g.S.FolderStore.contents c.args.store.now in
+    let old = g.S.Store.contents c.args.store.now in
     let files = c.in_ok-folder.folder.files in
     let opened = with_history (new_session files) in (
       opened,
@@ -25,7 +25,7 @@ returns-in_default-clause-opened g c =
 
 pub returns-then-branch-clause-opened : goal.returns-then-branch-clause-opened
 returns-then-branch-clause-opened g c =
-    let old = g.S.FolderStore.contents c.args.store.now in
+    let old = g.S.Store.contents c.args.store.now in
     let files = c.in_ok-folder.folder.files in
     let bytes = c.deref.result.now in
     let found = c.in_ok-opens_as_is.ensures.opens (ap Ok c.if-branch.true) in
@@ -39,23 +39,23 @@ returns-then-branch-clause-opened g c =
 
 pub returns-clause-opened : goal.returns-clause-opened
 returns-clause-opened g c =
-    let old = g.S.FolderStore.contents c.args.store.now in
-    let new = g.S.FolderStore.contents c.open_with.new.store in
+    let old = g.S.Store.contents c.args.store.now in
+    let new = g.S.Store.contents c.open_with.new.store in
     let files = c.opens_as_is.new.folder.files in
     let bytes = c.deref-2.result.now in
     let result = c.open_with.result in
-    let read = (λ (honest : g.S.FolderStore.honest c.args.store.now).
+    let read = (λ (honest : g.S.Store.honest c.args.store.now).
     text_read old files c.in_ok-folder.journal c.in-Some.text bytes
     (subst (λ f. IsRead old f (option_map (λ (bytes : Vec ℕ Global). bytes.items) c.in_ok-folder.journal)) (sym c.opens_as_is.ensures.files) (c.in_ok-folder.ensures.read honest))
     c.in-Some.is c.deref-2.ensures.value) in
-    stands_on (g.S.FolderStore.honest c.args.store.now) result old new
+    stands_on (g.S.Store.honest c.args.store.now) result old new
     (λ honest. subst (λ k. IsRead k files (Some bytes) → IfOk result (λ s. IsOpened k new (started_of s))) (c.read_store.ensures.same honest)
     (c.open_with.ensures.opened (c.read_store.ensures.honest honest)) (read honest))
 
 pub returns-clause-unopened : goal.returns-clause-unopened
 returns-clause-unopened g c honest =
-    let old = g.S.FolderStore.contents c.args.store.now in
-    let new = g.S.FolderStore.contents c.open_with.new.store in
+    let old = g.S.Store.contents c.args.store.now in
+    let new = g.S.Store.contents c.open_with.new.store in
     let files = c.opens_as_is.new.folder.files in
     let bytes = c.deref-2.result.now in
     let read = text_read old files c.in_ok-folder.journal c.in-Some.text bytes
@@ -68,34 +68,34 @@ pub returns-clause-cut : goal.returns-clause-cut
 returns-clause-cut g c honest lasts apart left may =
     let files = c.opens_as_is.new.folder.files in
     let bytes = c.deref-2.result.now in
-    let read = text_read (g.S.FolderStore.contents c.args.store.now) files c.in_ok-folder.journal c.in-Some.text bytes
-    (subst (λ f. IsRead (g.S.FolderStore.contents c.args.store.now) f (option_map (λ (bytes : Vec ℕ Global). bytes.items) c.in_ok-folder.journal)) (sym c.opens_as_is.ensures.files) (c.in_ok-folder.ensures.read honest))
+    let read = text_read (g.S.Store.contents c.args.store.now) files c.in_ok-folder.journal c.in-Some.text bytes
+    (subst (λ f. IsRead (g.S.Store.contents c.args.store.now) f (option_map (λ (bytes : Vec ℕ Global). bytes.items) c.in_ok-folder.journal)) (sym c.opens_as_is.ensures.files) (c.in_ok-folder.ensures.read honest))
     c.in-Some.is c.deref-2.ensures.value in
-    subst (λ k. Lasts (g.S.FolderStore.may_remain c.read_store.new.store) k → IsRead k files (Some bytes) → TellsApartBack k → OpensAsBefore k left) (c.read_store.ensures.same honest)
+    subst (λ k. Lasts (g.S.Store.may_remain c.read_store.new.store) k → IsRead k files (Some bytes) → TellsApartBack k → OpensAsBefore k left) (c.read_store.ensures.same honest)
     (λ still is tells. c.open_with.ensures.cut (c.read_store.ensures.honest honest) still is tells left may) (λ other may_be. lasts other (c.read_store.ensures.remains honest other may_be)) read apart
 
 -- the writing calls
 pub returns-in_err-folder-clause-calls : goal.returns-in_err-folder-clause-calls
-returns-in_err-folder-clause-calls g c honest = no_calls (g.S.FolderStore.contents c.args.store.now) (g.S.FolderStore.writing_calls c.args.store.now) (g.S.FolderStore.writing_calls c.read_store.new.store) c.from_residual.result c.read_store.ensures.unwritten
+returns-in_err-folder-clause-calls g c honest = no_calls (g.S.Store.contents c.args.store.now) (g.S.Store.writing_calls c.args.store.now) (g.S.Store.writing_calls c.read_store.new.store) c.from_residual.result c.read_store.ensures.unwritten
 
 pub returns-in_default-clause-calls : goal.returns-in_default-clause-calls
-returns-in_default-clause-calls g c honest = no_calls (g.S.FolderStore.contents c.args.store.now) (g.S.FolderStore.writing_calls c.args.store.now) (g.S.FolderStore.writing_calls c.read_store.new.store) _ c.read_store.ensures.unwritten
+returns-in_default-clause-calls g c honest = no_calls (g.S.Store.contents c.args.store.now) (g.S.Store.writing_calls c.args.store.now) (g.S.Store.writing_calls c.read_store.new.store) _ c.read_store.ensures.unwritten
 
 pub returns-in_err-opens_as_is-clause-calls : goal.returns-in_err-opens_as_is-clause-calls
-returns-in_err-opens_as_is-clause-calls g c honest = no_calls (g.S.FolderStore.contents c.args.store.now) (g.S.FolderStore.writing_calls c.args.store.now) (g.S.FolderStore.writing_calls c.read_store.new.store) c.from_residual-in_err-opens_as_is.result c.read_store.ensures.unwritten
+returns-in_err-opens_as_is-clause-calls g c honest = no_calls (g.S.Store.contents c.args.store.now) (g.S.Store.writing_calls c.args.store.now) (g.S.Store.writing_calls c.read_store.new.store) c.from_residual-in_err-opens_as_is.result c.read_store.ensures.unwritten
 
 pub returns-then-branch-clause-calls : goal.returns-then-branch-clause-calls
-returns-then-branch-clause-calls g c honest = no_calls (g.S.FolderStore.contents c.args.store.now) (g.S.FolderStore.writing_calls c.args.store.now) (g.S.FolderStore.writing_calls c.read_store.new.store) _ c.read_store.ensures.unwritten
+returns-then-branch-clause-calls g c honest = no_calls (g.S.Store.contents c.args.store.now) (g.S.Store.writing_calls c.args.store.now) (g.S.Store.writing_calls c.read_store.new.store) _ c.read_store.ensures.unwritten
 
 pub returns-clause-calls : goal.returns-clause-calls
 returns-clause-calls g c honest =
-    let old = g.S.FolderStore.contents c.args.store.now in
-    let after = g.S.FolderStore.writing_calls c.open_with.new.store in
+    let old = g.S.Store.contents c.args.store.now in
+    let after = g.S.Store.writing_calls c.open_with.new.store in
     let files = c.opens_as_is.new.folder.files in
     let bytes = c.deref-2.result.now in
     let read = text_read old files c.in_ok-folder.journal c.in-Some.text bytes
     (subst (λ f. IsRead old f (option_map (λ (bytes : Vec ℕ Global). bytes.items) c.in_ok-folder.journal)) (sym c.opens_as_is.ensures.files) (c.in_ok-folder.ensures.read honest))
     c.in-Some.is c.deref-2.ensures.value in
     subst (λ before. CountsOpening old before after c.open_with.result) c.read_store.ensures.unwritten
-    (subst (λ k. IsRead k files (Some bytes) → CountsOpening k (g.S.FolderStore.writing_calls c.read_store.new.store) after c.open_with.result) (c.read_store.ensures.same honest)
+    (subst (λ k. IsRead k files (Some bytes) → CountsOpening k (g.S.Store.writing_calls c.read_store.new.store) after c.open_with.result) (c.read_store.ensures.same honest)
     (c.open_with.ensures.calls (c.read_store.ensures.honest honest)) read)

@@ -21,8 +21,8 @@ opens_so g c = subst (λ found. Opens c.args.folder.files c.args.text.now (Ok (o
 
 pub returns-in_err-session-in-Ok-Halfway-clause-unopened : goal.returns-in_err-session-in-Ok-Halfway-clause-unopened
 returns-in_err-session-in-Ok-Halfway-clause-unopened g c honest read =
-    let old = g.S.FolderStore.contents c.args.store.now in
-    let new = g.S.FolderStore.contents c.take_back.new.store in
+    let old = g.S.Store.contents c.args.store.now in
+    let new = g.S.Store.contents c.take_back.new.store in
     let files = c.args.folder.files in
     let text = c.args.text.now in
     let halfway = c.in-Ok-Halfway.halfway in
@@ -39,7 +39,7 @@ returns-in-Err-FolderChanged-true-default-clause-unopened g c honest read =
     let arm = c.in-Err-FolderChanged-true-default in
     record {
       refused = (
-        opens_refused (g.S.FolderStore.contents c.args.store.now) c.args.folder.files c.args.text.now arm.field-0-0 (FolderChanged true) (Err (FolderChanged true)) read arm.ensures.refused
+        opens_refused (g.S.Store.contents c.args.store.now) c.args.folder.files c.args.text.now arm.field-0-0 (FolderChanged true) (Err (FolderChanged true)) read arm.ensures.refused
             (arm.field-0-0-is ∙ ap FolderChanged arm.field-0-0-0-test) (λ memory. cc) refl,
         refl,
       );
@@ -49,7 +49,7 @@ returns-in-Err-FolderChanged-true-default-clause-unopened g c honest read =
 pub returns-in-Err-FolderChanged-false-default-clause-opened : goal.returns-in-Err-FolderChanged-false-default-clause-opened
 returns-in-Err-FolderChanged-false-default-clause-opened g c honest read =
     let arm = c.in-Err-FolderChanged-false-default in
-    let contents = g.S.FolderStore.contents c.args.store.now in
+    let contents = g.S.Store.contents c.args.store.now in
     let session = c.new.result in
     let files = c.args.folder.files in
     let started : Started = record { session = session_of_kept session; dropped = true } in
@@ -65,7 +65,7 @@ returns-in-Err-JournalInvalid-default-clause-unopened g c honest read =
     let arm = c.in-Err-JournalInvalid-default in
     record {
       refused = (
-        opens_refused (g.S.FolderStore.contents c.args.store.now) c.args.folder.files c.args.text.now arm.field-0-0 JournalInvalid (Err JournalInvalid) read arm.ensures.refused
+        opens_refused (g.S.Store.contents c.args.store.now) c.args.folder.files c.args.text.now arm.field-0-0 JournalInvalid (Err JournalInvalid) read arm.ensures.refused
             arm.field-0-0-is (λ memory. cc) refl,
         refl,
       );
@@ -78,13 +78,13 @@ returns-in-Ok-Settled-clause-opened g c honest read =
     let text = c.args.text.now in
     let session = c.in-Ok-Settled.session in
     let opens = subst (λ found. Opens files text (Ok (opened_of found))) c.in-Ok-Settled.field-0-is c.in-Ok-Settled.ensures.opened in
-    let holds = holds_settled (g.S.FolderStore.contents c.args.store.now) files text (session_of_kept session) read opens in
+    let holds = holds_settled (g.S.Store.contents c.args.store.now) files text (session_of_kept session) read opens in
     record { opens = holds.opens; holds = holds; left = inl refl }
 
 pub returns-in_ok-session-in-Ok-Halfway-clause-opened : goal.returns-in_ok-session-in-Ok-Halfway-clause-opened
 returns-in_ok-session-in-Ok-Halfway-clause-opened g c honest read =
-    let old = g.S.FolderStore.contents c.args.store.now in
-    let new = g.S.FolderStore.contents c.take_back.new.store in
+    let old = g.S.Store.contents c.args.store.now in
+    let new = g.S.Store.contents c.take_back.new.store in
     let files = c.args.folder.files in
     let text = c.args.text.now in
     let halfway = c.in-Ok-Halfway.halfway in
@@ -97,26 +97,26 @@ pub returns-in_err-session-in-Ok-Halfway-clause-possible : goal.returns-in_err-s
 returns-in_err-session-in-Ok-Halfway-clause-possible g c honest read =
     let halfway = c.in-Ok-Halfway.halfway in
     let opens = opens_so g (goal.at.returns-in_err-session-in-Ok-Halfway-clause-possible g c).In-Ok-Halfway in
-    c.take_back.ensures.possible honest (way_applies (g.S.FolderStore.contents c.args.store.now) _ _ (session_of_kept (session_before halfway)) (way_left halfway) read opens)
+    c.take_back.ensures.possible honest (way_applies (g.S.Store.contents c.args.store.now) _ _ (session_of_kept (session_before halfway)) (way_left halfway) read opens)
 
 pub returns-in_ok-session-in-Ok-Halfway-clause-possible : goal.returns-in_ok-session-in-Ok-Halfway-clause-possible
 returns-in_ok-session-in-Ok-Halfway-clause-possible g c honest read =
     let halfway = c.in-Ok-Halfway.halfway in
     let opens = opens_so g (goal.at.returns-in_ok-session-in-Ok-Halfway-clause-possible g c).In-Ok-Halfway in
-    c.take_back.ensures.possible honest (way_applies (g.S.FolderStore.contents c.args.store.now) _ _ (session_of_kept (session_before halfway)) (way_left halfway) read opens)
+    c.take_back.ensures.possible honest (way_applies (g.S.Store.contents c.args.store.now) _ _ (session_of_kept (session_before halfway)) (way_left halfway) read opens)
 
 -- a cut on the way back
 pub returns-in_err-session-in-Ok-Halfway-clause-cut : goal.returns-in_err-session-in-Ok-Halfway-clause-cut
 returns-in_err-session-in-Ok-Halfway-clause-cut g c honest lasts read apart left may =
     let halfway = c.in-Ok-Halfway.halfway in
     let opens = opens_so g (goal.at.returns-in_err-session-in-Ok-Halfway-clause-cut g c).In-Ok-Halfway in
-    opens_still (g.S.FolderStore.contents c.args.store.now) left c.args.folder.files c.args.text.now (session_of_kept (session_before halfway)) (way_left halfway) read opens apart (c.take_back.ensures.remains honest lasts left may)
+    opens_still (g.S.Store.contents c.args.store.now) left c.args.folder.files c.args.text.now (session_of_kept (session_before halfway)) (way_left halfway) read opens apart (c.take_back.ensures.remains honest lasts left may)
 
 pub returns-in_ok-session-in-Ok-Halfway-clause-cut : goal.returns-in_ok-session-in-Ok-Halfway-clause-cut
 returns-in_ok-session-in-Ok-Halfway-clause-cut g c honest lasts read apart left may =
     let halfway = c.in-Ok-Halfway.halfway in
     let opens = opens_so g (goal.at.returns-in_ok-session-in-Ok-Halfway-clause-cut g c).In-Ok-Halfway in
-    opens_still (g.S.FolderStore.contents c.args.store.now) left c.args.folder.files c.args.text.now (session_of_kept (session_before halfway)) (way_left halfway) read opens apart (c.take_back.ensures.remains honest lasts left may)
+    opens_still (g.S.Store.contents c.args.store.now) left c.args.folder.files c.args.text.now (session_of_kept (session_before halfway)) (way_left halfway) read opens apart (c.take_back.ensures.remains honest lasts left may)
 
 -- the writing calls
 pub returns-in_err-session-in-Ok-Halfway-clause-calls : goal.returns-in_err-session-in-Ok-Halfway-clause-calls
@@ -124,27 +124,27 @@ returns-in_err-session-in-Ok-Halfway-clause-calls g c honest read =
     let halfway = c.in-Ok-Halfway.halfway in
     let opens = opens_so g (goal.at.returns-in_err-session-in-Ok-Halfway-clause-calls g c).In-Ok-Halfway in
     let told = err_from_is_err_and c.from_residual.result c.from_residual.ensures.1 in
-    back_calls (g.S.FolderStore.contents c.args.store.now) c.args.folder.files c.args.text.now (session_of_kept (session_before halfway)) (way_left halfway) _ _ c.from_residual.result read opens
+    back_calls (g.S.Store.contents c.args.store.now) c.args.folder.files c.args.text.now (session_of_kept (session_before halfway)) (way_left halfway) _ _ c.from_residual.result read opens
     (refused_calls _ _ _ c.from_residual.result _ told.0 told.1 told.2 c.in_err-session-in-Ok-Halfway.ensures.calls.refused)
 
 pub returns-in_ok-session-in-Ok-Halfway-clause-calls : goal.returns-in_ok-session-in-Ok-Halfway-clause-calls
 returns-in_ok-session-in-Ok-Halfway-clause-calls g c honest read =
     let halfway = c.in-Ok-Halfway.halfway in
     let opens = opens_so g (goal.at.returns-in_ok-session-in-Ok-Halfway-clause-calls g c).In-Ok-Halfway in
-    back_calls (g.S.FolderStore.contents c.args.store.now) c.args.folder.files c.args.text.now (session_of_kept (session_before halfway)) (way_left halfway) _ _ _ read opens
+    back_calls (g.S.Store.contents c.args.store.now) c.args.folder.files c.args.text.now (session_of_kept (session_before halfway)) (way_left halfway) _ _ _ read opens
     (record { opened = c.in_ok-session-in-Ok-Halfway.ensures.calls.opened; refused = tt })
 
 pub returns-in-Ok-Settled-clause-calls : goal.returns-in-Ok-Settled-clause-calls
-returns-in-Ok-Settled-clause-calls g c honest read = no_calls (g.S.FolderStore.contents c.args.store.now) (g.S.FolderStore.writing_calls c.args.store.now) (g.S.FolderStore.writing_calls c.args.store.now) _ refl
+returns-in-Ok-Settled-clause-calls g c honest read = no_calls (g.S.Store.contents c.args.store.now) (g.S.Store.writing_calls c.args.store.now) (g.S.Store.writing_calls c.args.store.now) _ refl
 
 pub returns-in-Err-FolderChanged-false-default-clause-calls : goal.returns-in-Err-FolderChanged-false-default-clause-calls
-returns-in-Err-FolderChanged-false-default-clause-calls g c honest read = no_calls (g.S.FolderStore.contents c.args.store.now) (g.S.FolderStore.writing_calls c.args.store.now) (g.S.FolderStore.writing_calls c.args.store.now) _ refl
+returns-in-Err-FolderChanged-false-default-clause-calls g c honest read = no_calls (g.S.Store.contents c.args.store.now) (g.S.Store.writing_calls c.args.store.now) (g.S.Store.writing_calls c.args.store.now) _ refl
 
 pub returns-in-Err-FolderChanged-true-default-clause-calls : goal.returns-in-Err-FolderChanged-true-default-clause-calls
-returns-in-Err-FolderChanged-true-default-clause-calls g c honest read = no_calls (g.S.FolderStore.contents c.args.store.now) (g.S.FolderStore.writing_calls c.args.store.now) (g.S.FolderStore.writing_calls c.args.store.now) _ refl
+returns-in-Err-FolderChanged-true-default-clause-calls g c honest read = no_calls (g.S.Store.contents c.args.store.now) (g.S.Store.writing_calls c.args.store.now) (g.S.Store.writing_calls c.args.store.now) _ refl
 
 pub returns-in-Err-JournalInvalid-default-clause-calls : goal.returns-in-Err-JournalInvalid-default-clause-calls
-returns-in-Err-JournalInvalid-default-clause-calls g c honest read = no_calls (g.S.FolderStore.contents c.args.store.now) (g.S.FolderStore.writing_calls c.args.store.now) (g.S.FolderStore.writing_calls c.args.store.now) _ refl
+returns-in-Err-JournalInvalid-default-clause-calls g c honest read = no_calls (g.S.Store.contents c.args.store.now) (g.S.Store.writing_calls c.args.store.now) (g.S.Store.writing_calls c.args.store.now) _ refl
 
 pub returns-in-Err-Memory-default-clause-calls : goal.returns-in-Err-Memory-default-clause-calls
-returns-in-Err-Memory-default-clause-calls g c honest read = no_calls (g.S.FolderStore.contents c.args.store.now) (g.S.FolderStore.writing_calls c.args.store.now) (g.S.FolderStore.writing_calls c.args.store.now) _ refl
+returns-in-Err-Memory-default-clause-calls g c honest read = no_calls (g.S.Store.contents c.args.store.now) (g.S.Store.writing_calls c.args.store.now) (g.S.Store.writing_calls c.args.store.now) _ refl
