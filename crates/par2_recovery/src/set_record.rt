@@ -38,8 +38,12 @@ fn text_at(names: &[Name], i: usize) -> &str
     names[i].as_str()
 }
 
-// The bytes of the files of these names.
-fn texts<'a>(alloc: Global, folder: &'a Folder, names: &[Name]) -> Result<Vec<&'a [u8]>, AllocError>
+/// The bytes of the files of these names, none for an absent one.
+pub fn file_texts<'a>(
+    alloc: Global,
+    folder: &'a Folder,
+    names: &[Name],
+) -> Result<Vec<&'a [u8]>, AllocError>
     ensures { IfOk result (λ texts.
         texts_of texts.items ≡ map (spec.bytes_of folder.now.files) names.now) }
 {
@@ -50,29 +54,19 @@ fn texts<'a>(alloc: Global, folder: &'a Folder, names: &[Name]) -> Result<Vec<&'
     Ok(texts)
 }
 
-// The MD5s of the files of these names.
-fn md5s(alloc: Global, folder: &Folder, names: &[Name]) -> Result<Vec<[u8; 16]>, AllocError>
-    ensures value { IfOk result (λ md5s.
-        md5s.items ≡ map md5 (map (spec.bytes_of folder.now.files) names.now)) }
-    ensures count { IfOk result (λ md5s. length md5s.items ≡ length names.now) }
-{
-    let texts = texts(alloc, folder, names)?;
-    let md5s = text_digests(alloc, &texts)?;
-    Ok(md5s)
-}
-
-/// What a set of slice size `s` says of the files of these names, in their order.
+/// What a set of slice size `s` says of the files of these names, in their order; the MD5 digests of the files are known.
 pub fn file_records(
     alloc: Global,
     folder: &Folder,
     names: &[Name],
+    md5s: &[[u8; 16]],
     s: u64,
 ) -> Result<Vec<FileRecord>, AllocError>
-    requires { 1 ≤ s }
+    requires size { 1 ≤ s }
+    requires md5s { md5s.now ≡ map md5 (map (spec.bytes_of folder.now.files) names.now) }
     ensures { IfOk result (λ records.
         AreRecords s (files_of folder.now.files names.now) records.items) }
 {
-    let md5s = md5s(alloc, folder, names)?;
     let mut records = Vec::with_capacity(alloc, names.len())?;
     for i in 0..names.len() {
         let name = text_at(names, i);
@@ -126,7 +120,9 @@ impl SetRecord {
         ensures duplicate { result ≡ Err RecordFault.DuplicateId
             → ¬ IsDistinct bytes_eq (map id_of (files_of folder.now.files names.now)) }
     {
-        let records = file_records(alloc, folder, names, s)?;
+        let texts = file_texts(alloc, folder, names)?;
+        let md5s = text_digests(alloc, &texts)?;
+        let records = file_records(alloc, folder, names, &md5s, s)?;
         match SetRecord::of_records(records, s) {
             Ok(set) => Ok(set),
             Err(DuplicateId) => Err(RecordFault::DuplicateId),
