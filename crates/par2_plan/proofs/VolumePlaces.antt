@@ -46,7 +46,7 @@ pub record IsNumbered (parts : Parts) (i : ℕ) (volumes : List Volume) (t j k :
   pub place : place_at (places_from parts i volumes) t ≡ place_in parts (i + j) k
   pub exponent : get_or (exponents_of volumes) t 0 ≡ (nth_volume volumes j).first + k
 
-nowhere : Place
+abbrev nowhere : Place
 nowhere = record { text = 0; at = 0 }
 
 pub numbered : (parts : Parts) (i : ℕ) (volumes : List Volume) (j k : ℕ) → j < length volumes → k < (nth_volume volumes j).count → IsNumbered parts i volumes (before volumes j + k) j k
@@ -99,6 +99,12 @@ located parts i (v ∷ volumes) t low = elim (cases_lt t v.count) [
         number = (let n = next.number in omega (arith, n, later));
       }
 ]
+
+-- where it lies, among those of volumes of which the first one has the number 0
+stands : (parts : Parts) (volumes : List Volume) (t : ℕ) (x : Located parts 0 volumes t) → place_at (places_from parts 0 volumes) t ≡ place_in parts x.volume x.packet
+stands parts volumes t x =
+    ap (place_at (places_from parts 0 volumes)) x.number ∙ (numbered parts 0 volumes x.volume x.packet x.in_volumes x.in_packets).place
+    ∙ ap (λ (n : ℕ). place_in parts n x.packet) (zero-add x.volume)
 
 -- ---- one volume more
 
@@ -173,14 +179,11 @@ places_apart parts words volumes size s t i b s_low t_low in_s in_t =
     let m : ℕ = 68 + parts.set.now.slice in
     let x = located parts 0 volumes s s_low in
     let y = located parts 0 volumes t t_low in
-    let p = in_packet parts words i (0 + x.volume) x.packet b (place_at (places_from parts 0 volumes) s) size (place_here s x) in_s in
-    let q = in_packet parts words i (0 + y.volume) y.packet b (place_at (places_from parts 0 volumes) t) size (place_here t y) in_t in
-    let volume : x.volume ≡ y.volume = (let a = p.0 in let c = q.0 in omega (arith, a, c)) in
+    let p = in_packet parts words i x.volume x.packet b (place_at (places_from parts 0 volumes) s) size (stands parts volumes s x) in_s in
+    let q = in_packet parts words i y.volume y.packet b (place_at (places_from parts 0 volumes) t) size (stands parts volumes t y) in_t in
+    let volume : x.volume ≡ y.volume = p.0 ∙ sym q.0 in
     let packet : x.packet ≡ y.packet = same_packet m (length parts.index.items) x.packet y.packet b (let l = p.1.0 in omega (arith, l)) p.1.1 (let l = q.1.0 in omega (arith, l)) q.1.1 in
     x.number ∙ ap₂ (λ (j k : ℕ). before volumes j + k) volume packet ∙ sym y.number
-  where
-    place_here : (t : ℕ) (x : Located parts 0 volumes t) → place_at (places_from parts 0 volumes) t ≡ place_in parts (0 + x.volume) x.packet
-    place_here t x = ap (place_at (places_from parts 0 volumes)) x.number ∙ (numbered parts 0 volumes x.volume x.packet x.in_volumes x.in_packets).place
 
 -- a packet ends in its volume
 pub packet_ends : (a k n m size : ℕ) → k < n → size ≡ a + n * m → a + k * m + m ≤ size
@@ -193,14 +196,12 @@ pub places_within : (parts : Parts) (words : ℕ) (volumes : List Volume) (texts
 places_within parts words volumes texts size have t low =
     let m : ℕ = 68 + parts.set.now.slice in
     let x = located parts 0 volumes t low in
-    let is : place_at (places_from parts 0 volumes) t ≡ place_in parts (0 + x.volume) x.packet =
-    ap (place_at (places_from parts 0 volumes)) x.number ∙ (numbered parts 0 volumes x.volume x.packet x.in_volumes x.in_packets).place in
     let count = have.0 in
     let j = x.in_volumes in
     let long = have.1 x.volume x.in_volumes in
     let ends = packet_ends (length parts.index.items) x.packet (nth_volume volumes x.volume).count m (length (list_at texts x.volume)) x.in_packets long in
     let here : (x.volume < length texts) × (length parts.index.items + x.packet * m + 68 + 2 * words ≤ length (list_at texts x.volume)) = (omega (arith, count, j), omega (arith, ends, size)) in
-    subst (λ (place : Place). (place.text < length texts) × (place.at + 2 * words ≤ length (list_at texts place.text))) (sym is) here
+    subst (λ (place : Place). (place.text < length texts) × (place.at + 2 * words ≤ length (list_at texts place.text))) (sym (stands parts volumes t x)) here
 
 -- ---- bytes of packets
 
@@ -280,10 +281,10 @@ places_blank parts words volumes texts size sixteen are t low =
     volume = nth_volume volumes x.volume
 
     here : Place
-    here = place_in parts (0 + x.volume) x.packet
+    here = place_in parts x.volume x.packet
 
     is : place_at (places_from parts 0 volumes) t ≡ here
-    is = ap (place_at (places_from parts 0 volumes)) x.number ∙ (numbered parts 0 volumes x.volume x.packet x.in_volumes x.in_packets).place
+    is = stands parts volumes t x
 
     text : list_at texts x.volume ≡ volume_with parts zeros volume
     text = ap (λ (xs : List (List ℕ)). list_at xs x.volume) are ∙ get_or-map (volume_with parts zeros) volumes x.volume (record { name = []; first = 0; count = 0 }) [] x.in_volumes
@@ -326,10 +327,8 @@ volumes_written parts words volumes slices exponents old new can size sixteen in
     kept i b low none =
         written.others i b (λ t t_low has.
         let x = located parts 0 volumes t t_low in
-        let is = ap (place_at (places_from parts 0 volumes)) x.number ∙ (numbered parts 0 volumes x.volume x.packet x.in_volumes x.in_packets).place in
-        let at = in_packet parts words i (0 + x.volume) x.packet b (place_at (places_from parts 0 volumes) t) size is has in
-        let same : x.volume ≡ i = (let e = at.0 in omega (arith, e)) in
-        none x.packet (subst (λ (j : ℕ). x.packet < (nth_volume volumes j).count) same x.in_packets) at.1.0 at.1.1)
+        let at = in_packet parts words i x.volume x.packet b (place_at (places_from parts 0 volumes) t) size (stands parts volumes t x) has in
+        none x.packet (subst (λ (j : ℕ). x.packet < (nth_volume volumes j).count) at.0 x.in_packets) at.1.0 at.1.1)
         ∙ ap (λ (xs : List ℕ). get_or xs b 0) (was i low)
 
     -- a byte of a packet's head
@@ -357,12 +356,12 @@ volumes_written parts words volumes slices exponents old new can size sixteen in
         let t : ℕ = before volumes i + k in
         let number = numbered parts 0 volumes i k low here in
         let inside : r < 2 * words = omega (arith, small, size) in
-        let given : output_at (2 * words) (place_in parts (0 + i) k) new ≡ slice_of parts (volume.first + k) =
-        ap (λ (place : Place). output_at (2 * words) place new) (sym number.place) ∙ written.each t number.low
+        let place : place_at (places_from parts 0 volumes) t ≡ place_in parts i k = number.place ∙ ap (λ (n : ℕ). place_in parts n k) (zero-add i) in
+        let given : output_at (2 * words) (place_in parts i k) new ≡ slice_of parts (volume.first + k) =
+        ap (λ (at : Place). output_at (2 * words) at new) (sym place) ∙ written.each t number.low
         ∙ ap (λ n. recovery n (map (padded n) slices) (get_or exponents t 0)) size
         ∙ ap₂ (λ (xs : List (List ℕ)) (e : ℕ). recovery parts.set.now.slice xs e) inputs (ap (λ (es : List ℕ). get_or es t 0) numbers ∙ number.exponent) in
         sym (get_or-drop at (list_at new i) r 0) ∙ sym (get_or-take (2 * words) (drop at (list_at new i)) r 0 inside)
-        ∙ ap (λ n. get_or (take (2 * words) (drop at (list_at new n))) r 0) (let e : i ≡ 0 + i = omega arith in e)
         ∙ ap (λ (xs : List ℕ). get_or xs r 0) given
         ∙ sym (byte_in_volume parts (slice_of parts) volume k r sixteen slice_size here small)
 
