@@ -2,7 +2,7 @@ use Rattle.std.proofs.Common.{◌≡◌, ◌<◌, ◌≤◌, ◌+◌, ◌-◌, �
 use Rattle.std.specs.List.{range_with_len}
 use Rattle.std.proofs.lemmas.Grind.{div_ceil_times}
 use Rattle.par2_spec.specs.Recovery.{coefficients}
-use Rattle.par2_spec.specs.Sums.{list_at, lists_of}
+use Rattle.par2_spec.specs.Sums.{lists_of}
 use Rattle.par2_spec.proofs.FoundLaws.{slice_begins}
 use Rattle.par2_transform.specs.Adding.{within, AddsAt}
 use Rattle.par2_transform.proofs.AddingLaws.{still_within}
