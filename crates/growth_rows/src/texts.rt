@@ -12,8 +12,10 @@ use par2_recovery::{
     SetRecord, Survivors, file_records, rank, recovery_slices_over,
 };
 use par2_slices::{Rolling, Spot, Wanted, crc32, find, find_among, pairs_of};
+use par2_transform::{Place, whole_texts};
 use recovery_calls::{
-    folder_of, lost_rebuilt, rebuilt, recovery_slice_of, recovery_slices_of, set_of,
+    folder_of, lost_rebuilt, rebuilt, recovery_slice_of, recovery_slices_of, set_of, slices_added,
+    slices_written,
 };
 use std::alloc::{AllocError, Global};
 use std::slice::from_ref;
@@ -26,6 +28,9 @@ const SECOND: &[u8] = b"efgh";
 const SUM: &[u8] = b"\x04\x04\x04\x0c";
 
 const SET_ID: &[u8; 16] = b"0123456789abcdef";
+
+// Two outputs of four bytes in a text of ten.
+const OUTPUTS: &[Place] = &[Place { text: 0, at: 1 }, Place { text: 0, at: 6 }];
 
 /// What the calls need: the field, the file and what a set says of it, the checksums of its slices and nine recovery
 /// slices. Then what they answer.
@@ -168,6 +173,23 @@ impl Texts {
         Ok(())
     }
 
+    // Two recovery slices, at their places in a text of zeros.
+    fn place(&mut self, alloc: Global, name: &str) -> Result<(), Refusal> {
+        let text = vec![in alloc; 0u8; 10]?;
+        let mut texts = vec![in alloc; text]?;
+        let all = texts.as_mut_slice();
+        let slices: [&[u8]; 2] = [b"abcd", SECOND];
+        let answer = match name {
+            "write_recovery_slices" => {
+                slices_written(alloc, &self.gf, &slices, &[1, 0], all, OUTPUTS, 2)?
+            }
+            _ => slices_added(alloc, &self.gf, &slices, 0, all, OUTPUTS, 2)?,
+        };
+        answer.ok_or(Refusal::Other)?;
+        self.texts = texts;
+        Ok(())
+    }
+
     fn rebuild(&mut self, alloc: Global, name: &str) -> Result<(), Refusal> {
         let survivors = survivors(alloc)?;
         let answer = match name {
@@ -184,6 +206,11 @@ impl Texts {
             "recovery_slices" => self.recovery_slices(alloc),
             "recovery_slices_over" => {
                 self.texts = recovery_slices_over(alloc, &self.gf, &[b"abcd", b"efg"], 4, 0, 2)?;
+                Ok(())
+            }
+            "write_recovery_slices" | "add_recovery_slices_at" => self.place(alloc, name),
+            "whole_texts" => {
+                self.number = whole_texts(alloc, 3)?.len();
                 Ok(())
             }
             "rank" => {

@@ -2,6 +2,7 @@
 //! type alone.
 
 use par2_folder::{Folder, FolderStore, Name, ReadFault, StoreFault, read_folder};
+use par2_transform::Place;
 use std::alloc::Global;
 use std::process::Abort;
 
@@ -34,6 +35,27 @@ pub fn are_named(names: &[Name], wanted: &[&str]) -> bool {
 /// Whether the folder has these names and no others.
 pub fn lists(rt: &(impl Abort + AllocGlobal), folder: &Folder, wanted: &[&str]) -> bool {
     are_named(&names_in(rt, folder), wanted)
+}
+
+/// These texts, each as a list of its own.
+pub fn lists_of(rt: &(impl Abort + AllocGlobal), texts: &[&[u8]]) -> Vec<Vec<u8>> {
+    let mut lists = Vec::new(rt.alloc());
+    for text in texts {
+        lists
+            .push(text.to_vec(rt.alloc()).expect(rt, "memory"))
+            .expect(rt, "memory");
+    }
+    lists
+}
+
+/// The places of outputs: in which text, and from which byte on.
+pub fn places_of(rt: &(impl Abort + AllocGlobal), pairs: &[(usize, usize)]) -> Vec<Place> {
+    let mut places = Vec::new(rt.alloc());
+    for (text, at) in pairs {
+        let place = Place { text: *text, at: *at };
+        places.push(place).expect(rt, "memory");
+    }
+    places
 }
 
 /// Whether these are the texts, in this order.

@@ -1,8 +1,8 @@
 //! The expected texts were made by another program, from the format alone.
 
 ghost use Rattle.std.specs.Prelude.{◌≡◌, ◌+◌, ◌%◌, ◌<◌, ◌≤◌, ◌∷◌, [], length};
-ghost use Rattle.par2_spec.specs.Sums as sums;
 
+use crate::calls::lists_of;
 use crate::set_packets::{add_checksums, add_description, add_main, id_of};
 use par2_packets::{
     DescView, DuplicateId, FileRecord, Kind, Packet, Packets, append_creator, append_recoveries,
@@ -261,17 +261,6 @@ fn add_recoveries(
     requires { first + length slices.now ≤ 65536 }
 {
     append_recoveries(rt.alloc(), out, id, first, slices).expect(rt, "memory");
-}
-
-// These texts, each as a list of its own.
-fn lists_of(rt: &(impl Abort + AllocGlobal), texts: &[&[u8]]) -> Vec<Vec<u8>> {
-    let mut lists = Vec::new(rt.alloc());
-    for text in texts {
-        lists
-            .push(text.to_vec(rt.alloc()).expect(rt, "memory"))
-            .expect(rt, "memory");
-    }
-    lists
 }
 
 // After the index of a set of this file the recovery slices from an exponent on.

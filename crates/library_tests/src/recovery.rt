@@ -1,6 +1,6 @@
 //! Worked examples of recovery slices and of rebuilding.
 
-use crate::calls::are_texts;
+use crate::calls::{are_texts, lists_of, places_of};
 use crate::field::field;
 use par2_folder::Folder;
 use par2_gf16::Gf;
@@ -10,6 +10,7 @@ use par2_recovery::{
 };
 use recovery_calls::{
     folder_of, input_slices_of, lost_rebuilt, recovery_slice_of, recovery_slices_of, set_of,
+    slices_written,
 };
 use std::process::Abort;
 
@@ -244,6 +245,54 @@ fn slices_over(rt: &(impl Abort + AllocGlobal), texts: &[&[u8]; 2]) -> Vec<Vec<u
 #[test]
 fn recovery_slice_over_texts(rt: HostRuntime) {
     assert!(rt; are_texts(&slices_over(&rt, &[b"abcd", b"e"]), &[b"\x04\x62\x63\x64"]));
+}
+
+// The exponents, where their recovery slices are written, in which text and from which byte on, and the texts before and
+// after.
+type Written = (
+    &'static [u32],
+    &'static [(usize, usize)],
+    &'static [&'static [u8]],
+    &'static [&'static [u8]],
+);
+
+const WRITTEN: &[Written] = &[
+    (
+        &[2, 0, 1],
+        &[(1, 1), (0, 0), (1, 5)],
+        &[b"\0\0\0\0>", b"<\0\0\0\0\0\0\0\0>", b"..."],
+        &[
+            b"\x04\x04\x04\x0c>",
+            b"<\xe5\x9f\xcd\x67\x5d\x4d\x51\x79>",
+            b"...",
+        ],
+    ),
+    (
+        &[1],
+        &[(0, 4)],
+        &[b"\0\0\0\0\0\0\0\0"],
+        &[b"\0\0\0\0\x5d\x4d\x51\x79"],
+    ),
+    (&[], &[], &[b"<>"], &[b"<>"]),
+];
+
+// The texts, into which the recovery slices of `abcd` and `efgh` are written.
+fn written(rt: &(impl Abort + AllocGlobal), row: &Written) -> Vec<Vec<u8>> {
+    let (exponents, pairs, before, _) = row;
+    let mut texts = lists_of(rt, before);
+    let places = places_of(rt, pairs);
+    let slices: [&[u8]; 2] = [b"abcd", b"efgh"];
+    let all = texts.as_mut_slice();
+    let answer = slices_written(rt.alloc(), &field(rt), &slices, exponents, all, &places, 2);
+    answer.expect(rt, "memory").expect(rt, "outputs");
+    texts
+}
+
+#[test]
+fn recovery_slices_are_written_at_their_places(rt: HostRuntime) {
+    for (k, row) in WRITTEN.iter().enumerate() {
+        assert!(rt; are_texts(&written(&rt, row), row.3), "row {k}");
+    }
 }
 
 #[test]

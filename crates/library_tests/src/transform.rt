@@ -4,9 +4,11 @@ ghost use Rattle.std.specs.Prelude.{◌≡◌, ◌<◌, ◌*◌, length, IsTrue}
 ghost use Rattle.par2_spec.specs.Sums.{list_at, lists_of};
 ghost use Rattle.par2_transform.specs.Adding.{HaveWords};
 
+use crate::calls::{are_texts, lists_of, places_of};
 use crate::field::field;
 use par2_gf16::Gf;
-use par2_transform::add_recovery_slices;
+use par2_transform::{Place, add_recovery_slices, whole_texts};
+use recovery_calls::slices_added;
 use std::process::Abort;
 
 // Room for some columns of few outputs.
@@ -296,4 +298,61 @@ fn random_sizes(rt: HostRuntime) {
 fn groups_of_exponents(rt: HostRuntime) {
     let gf = field(&rt);
     assert!(rt; are_as_directly(&rt, &gf, 40, 600, 5, 3));
+}
+
+// The first exponent, the outputs, in which text and from which byte on, and the texts before and after.
+type Added = (
+    u32,
+    &'static [(usize, usize)],
+    &'static [&'static [u8]],
+    &'static [&'static [u8]],
+);
+
+const ADDED: &[Added] = &[
+    (
+        0,
+        &[(1, 1), (0, 0), (1, 5)],
+        &[b"\0\0\0\0>", b"<\x01\x01\x01\x01\0\0\0\0>", b"..."],
+        &[
+            b"\x5d\x4d\x51\x79>",
+            b"<\x05\x05\x05\x0d\xe5\x9f\xcd\x67>",
+            b"...",
+        ],
+    ),
+    (
+        1,
+        &[(0, 4)],
+        &[b"\0\0\0\0\0\0\0\0"],
+        &[b"\0\0\0\0\x5d\x4d\x51\x79"],
+    ),
+    (7, &[], &[b"<>"], &[b"<>"]),
+];
+
+// The texts, to which the recovery slices of `abcd` and `efgh` are added.
+fn added(rt: &(impl Abort + AllocGlobal), row: &Added) -> Vec<Vec<u8>> {
+    let (first, pairs, before, _) = row;
+    let mut texts = lists_of(rt, before);
+    let places = places_of(rt, pairs);
+    let slices: [&[u8]; 2] = [b"abcd", b"efgh"];
+    let all = texts.as_mut_slice();
+    let answer = slices_added(rt.alloc(), &field(rt), &slices, *first, all, &places, 2);
+    answer.expect(rt, "memory").expect(rt, "outputs");
+    texts
+}
+
+#[test]
+fn recovery_slices_are_added_at_their_places(rt: HostRuntime) {
+    for (k, row) in ADDED.iter().enumerate() {
+        assert!(rt; are_texts(&added(&rt, row), row.3), "row {k}");
+    }
+}
+
+fn is_whole(place: &Place, text: usize) -> bool {
+    place.text == text && place.at == 0
+}
+
+#[test]
+fn places_of_whole_texts(rt: HostRuntime) {
+    let places = whole_texts(rt.alloc(), 3).expect(&rt, "memory");
+    assert!(rt; places.len() == 3 && places.iter().enumerate().all(|(t, place)| is_whole(place, t)));
 }

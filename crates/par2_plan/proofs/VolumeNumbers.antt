@@ -15,7 +15,7 @@ use Rattle.par2_spec.proofs.ListsLaws.{all-map, any-map, range-append, map-cond}
 use Rattle.par2_spec.proofs.NameTests.{name_is_short}
 use Rattle.par2_plan.specs.declared.names.Volume.{Volume}
 use Rattle.par2_plan.specs.Faults.{long_name}
-use Rattle.par2_plan.specs.Outputs.{volume_at, volume_if, volumes_of, names_of}
+use Rattle.par2_plan.specs.Outputs.{HasExponents, HaveExponents, volume_at, volume_if, volumes_of, names_of}
 
 -- those with numbers below n
 abbrev pub volumes_below : List ℕ → ℕ → ℕ → ℕ → List Volume
@@ -80,8 +80,8 @@ long_without_base base names h =
 
 -- ---- their exponents
 
-pub volumes_end : (base : List ℕ) (f c : ℕ) → f + c ≤ 65536 → AllByRecursion (λ (volume : Volume). volume.first + volume.count ≤ 65536) (volumes_of base f c)
+pub volumes_end : (base : List ℕ) (f c : ℕ) → f + c ≤ 65536 → HaveExponents (volumes_of base f c)
 volumes_end base f c few =
-    all-map (λ i. nat_lt (volumes_before i) c ≡ true) (λ (volume : Volume). volume.first + volume.count ≤ 65536) (volume_at base f c)
+    all-map (λ i. nat_lt (volumes_before i) c ≡ true) HasExponents (volume_at base f c)
     (λ i low. omega (arith, ltb-true (volumes_before i) c low, few)) (volume_numbers c)
     (recursion_from_All (λ i. nat_lt (volumes_before i) c ≡ true) (volume_numbers c) (filter_passes (λ i. nat_lt (volumes_before i) c) (range_with_len 0 17)))

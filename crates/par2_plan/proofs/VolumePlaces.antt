@@ -19,7 +19,7 @@ use Rattle.par2_transform.specs.Adding.{place_at, AreApart, HasByte, LieWithin}
 use Rattle.par2_transform.specs.declared.outputs.Place.{Place}
 use Rattle.par2_recovery.specs.Writing.{output_at, AreWritten, AreZeros}
 use Rattle.par2_plan.specs.Outputs.{HasSlices, inputs_of}
-use Rattle.par2_plan.specs.Volumes.{HavePackets, exponents_of, nth_volume, place_in, places_from, slice_of, volume_with}
+use Rattle.par2_plan.specs.Volumes.{HavePackets, exponents_in, exponents_of, length_with, nth_volume, place_in, places_from, places_in, slice_of, volume_with}
 use Rattle.par2_plan.specs.declared.names.Volume.{Volume}
 use Rattle.par2_plan.specs.declared.outputs.Parts.{Parts}
 use Rattle.par2_plan.proofs.VolumeStages.{length-slice}
@@ -46,16 +46,16 @@ pub record IsNumbered (parts : Parts) (i : ℕ) (volumes : List Volume) (t j k :
   pub place : place_at (places_from parts i volumes) t ≡ place_in parts (i + j) k
   pub exponent : get_or (exponents_of volumes) t 0 ≡ (nth_volume volumes j).first + k
 
-nowhere : Place
+abbrev nowhere : Place
 nowhere = record { text = 0; at = 0 }
 
 pub numbered : (parts : Parts) (i : ℕ) (volumes : List Volume) (j k : ℕ) → j < length volumes → k < (nth_volume volumes j).count → IsNumbered parts i volumes (before volumes j + k) j k
 numbered parts i [] j k low here = absurd (omega (arith, low))
 numbered parts i (v ∷ volumes) zero k low here =
-    let front = map (place_in parts i) (range_with_len 0 v.count) in
+    let front = places_in parts i v in
     let rest = places_from parts (i + 1) volumes in
     let size : length front ≡ v.count = length-map-range_with_len (place_in parts i) 0 v.count in
-    let numbers : length (range_with_len v.first v.count) ≡ v.count = length-range_with_len v.first v.count in
+    let numbers : length (exponents_in v) ≡ v.count = length-range_with_len v.first v.count in
     subst (λ (t : ℕ). IsNumbered parts i (v ∷ volumes) t zero k) (sym (zero-add k))
     (record {
       low = (let both = length-append front rest in omega (arith, both, size, here));
@@ -63,14 +63,14 @@ numbered parts i (v ∷ volumes) zero k low here =
           get_or_append_left front rest nowhere k (omega (arith, size, here))
           ∙ get_or-map-range_with_len (place_in parts i) 0 v.count k k nowhere here (zero-add k)
           ∙ ap (λ (n : ℕ). place_in parts n k) (let e : i ≡ i + 0 = omega arith in e);
-      exponent = get_or_append_left (range_with_len v.first v.count) (exponents_of volumes) 0 k (omega (arith, numbers, here)) ∙ get_or-range_with_len v.first v.count k 0 here;
+      exponent = get_or_append_left (exponents_in v) (exponents_of volumes) 0 k (omega (arith, numbers, here)) ∙ get_or-range_with_len v.first v.count k 0 here;
     })
 numbered parts i (v ∷ volumes) (suc j) k low here =
     let t : ℕ = v.count + before volumes j + k in
-    let front = map (place_in parts i) (range_with_len 0 v.count) in
+    let front = places_in parts i v in
     let rest = places_from parts (i + 1) volumes in
     let size : length front ≡ v.count = length-map-range_with_len (place_in parts i) 0 v.count in
-    let numbers : length (range_with_len v.first v.count) ≡ v.count = length-range_with_len v.first v.count in
+    let numbers : length (exponents_in v) ≡ v.count = length-range_with_len v.first v.count in
     let behind : t - v.count ≡ before volumes j + k = omega arith in
     let next = numbered parts (i + 1) volumes j k (omega (arith, low)) here in
     record {
@@ -78,7 +78,7 @@ numbered parts i (v ∷ volumes) (suc j) k low here =
       place =
           get_or-append_right front rest v.count t nowhere size (omega arith) ∙ ap (place_at rest) behind ∙ next.place
           ∙ ap (λ (n : ℕ). place_in parts n k) (let e : i + 1 + j ≡ i + suc j = omega arith in e);
-      exponent = get_or-append_right (range_with_len v.first v.count) (exponents_of volumes) v.count t 0 numbers (omega arith) ∙ ap (λ m. get_or (exponents_of volumes) m 0) behind ∙ next.exponent;
+      exponent = get_or-append_right (exponents_in v) (exponents_of volumes) v.count t 0 numbers (omega arith) ∙ ap (λ m. get_or (exponents_of volumes) m 0) behind ∙ next.exponent;
     }
 
 pub located : (parts : Parts) (i : ℕ) (volumes : List Volume) (t : ℕ) → t < length (places_from parts i volumes) → Located parts i volumes t
@@ -86,7 +86,7 @@ located parts i [] t low = absurd (omega (arith, low))
 located parts i (v ∷ volumes) t low = elim (cases_lt t v.count) [
   | inl here ↦ record { volume = 0; packet = t; in_volumes = omega arith; in_packets = here; number = sym (zero-add t) }
   | inr later ↦
-      let front = map (place_in parts i) (range_with_len 0 v.count) in
+      let front = places_in parts i v in
       let rest = places_from parts (i + 1) volumes in
       let size : length front ≡ v.count = length-map-range_with_len (place_in parts i) 0 v.count in
       let less : t - v.count < length rest = (let both = length-append front rest in omega (arith, both, size, low, later)) in
@@ -100,46 +100,52 @@ located parts i (v ∷ volumes) t low = elim (cases_lt t v.count) [
       }
 ]
 
+-- where it lies, among those of volumes of which the first one has the number 0
+stands : (parts : Parts) (volumes : List Volume) (t : ℕ) (x : Located parts 0 volumes t) → place_at (places_from parts 0 volumes) t ≡ place_in parts x.volume x.packet
+stands parts volumes t x =
+    ap (place_at (places_from parts 0 volumes)) x.number ∙ (numbered parts 0 volumes x.volume x.packet x.in_volumes x.in_packets).place
+    ∙ ap (λ (n : ℕ). place_in parts n x.packet) (zero-add x.volume)
+
 -- ---- one volume more
 
 pub nth_is : (volumes : List Volume) (i : ℕ) (volume : Volume) → i < length volumes → volume ≡ get_or volumes i volume → volume ≡ nth_volume volumes i
 nth_is volumes i volume low is = is ∙ get_or_default volumes i volume (record { name = []; first = 0; count = 0 }) low
 
 exponents_next : (volumes : List Volume) (i : ℕ) (none : Volume) → i < length volumes
-    → exponents_of (take i volumes) ++ range_with_len (get_or volumes i none).first (get_or volumes i none).count ≡ exponents_of (take (suc i) volumes)
+    → exponents_of (take i volumes) ++ exponents_in (get_or volumes i none) ≡ exponents_of (take (suc i) volumes)
 exponents_next [] i none low = absurd (omega (arith, low))
-exponents_next (v ∷ volumes) zero none low = sym (append-nil (range_with_len v.first v.count))
+exponents_next (v ∷ volumes) zero none low = sym (append-nil (exponents_in v))
 exponents_next (v ∷ volumes) (suc i) none low =
-    append_assoc (range_with_len v.first v.count) (exponents_of (take i volumes)) (range_with_len (get_or volumes i none).first (get_or volumes i none).count)
-    ∙ ap (λ (xs : List ℕ). range_with_len v.first v.count ++ xs) (exponents_next volumes i none (omega (arith, low)))
+    append_assoc (exponents_in v) (exponents_of (take i volumes)) (exponents_in (get_or volumes i none))
+    ∙ ap (λ (xs : List ℕ). exponents_in v ++ xs) (exponents_next volumes i none (omega (arith, low)))
 
 pub exponents_more : (volumes : List Volume) (i : ℕ) (none : Volume) → i < length volumes
-    → exponents_of (take i volumes) ++ range_with_len (get_or volumes i none).first (get_or volumes i none).count ≡ exponents_of (take (i + 1) volumes)
+    → exponents_of (take i volumes) ++ exponents_in (get_or volumes i none) ≡ exponents_of (take (i + 1) volumes)
 exponents_more volumes i none low = exponents_next volumes i none low ∙ ap (λ (n : ℕ). exponents_of (take n volumes)) (let e : suc i ≡ i + 1 = omega arith in e)
 
 places_next : (parts : Parts) (n : ℕ) (volumes : List Volume) (i j : ℕ) (none : Volume) → i < length volumes → j ≡ n + i
-    → places_from parts n (take i volumes) ++ map (place_in parts j) (range_with_len 0 (get_or volumes i none).count) ≡ places_from parts n (take (suc i) volumes)
+    → places_from parts n (take i volumes) ++ places_in parts j (get_or volumes i none) ≡ places_from parts n (take (suc i) volumes)
 places_next parts n [] i j none low is = absurd (omega (arith, low))
 places_next parts n (v ∷ volumes) zero j none low is =
-    ap (λ (k : ℕ). map (place_in parts k) (range_with_len 0 v.count)) (let e : j ≡ n = omega (arith, is) in e) ∙ sym (append-nil (map (place_in parts n) (range_with_len 0 v.count)))
+    ap (λ (k : ℕ). places_in parts k v) (let e : j ≡ n = omega (arith, is) in e) ∙ sym (append-nil (places_in parts n v))
 places_next parts n (v ∷ volumes) (suc i) j none low is =
-    let front = map (place_in parts n) (range_with_len 0 v.count) in
-    append_assoc front (places_from parts (n + 1) (take i volumes)) (map (place_in parts j) (range_with_len 0 (get_or volumes i none).count))
+    let front = places_in parts n v in
+    append_assoc front (places_from parts (n + 1) (take i volumes)) (places_in parts j (get_or volumes i none))
     ∙ ap (λ (xs : List Place). front ++ xs) (places_next parts (n + 1) volumes i j none (omega (arith, low)) (omega (arith, is)))
 
 pub places_more : (parts : Parts) (volumes : List Volume) (i : ℕ) (volume : Volume) → i < length volumes → volume ≡ get_or volumes i volume
-    → places_from parts 0 (take i volumes) ++ map (place_in parts i) (range_with_len 0 volume.count) ≡ places_from parts 0 (take (i + 1) volumes)
+    → places_from parts 0 (take i volumes) ++ places_in parts i volume ≡ places_from parts 0 (take (i + 1) volumes)
 places_more parts volumes i volume low is =
-    ap (λ (v : Volume). places_from parts 0 (take i volumes) ++ map (place_in parts i) (range_with_len 0 v.count)) is ∙ places_next parts 0 volumes i i volume low (omega arith)
+    ap (λ (v : Volume). places_from parts 0 (take i volumes) ++ places_in parts i v) is ∙ places_next parts 0 volumes i i volume low (omega arith)
     ∙ ap (λ (n : ℕ). places_from parts 0 (take n volumes)) (let e : suc i ≡ i + 1 = omega arith in e)
 
 -- there are as many places as exponents
 pub length-places : (parts : Parts) (i : ℕ) (volumes : List Volume) → length (exponents_of volumes) ≡ length (places_from parts i volumes)
 length-places parts i [] = refl
 length-places parts i (v ∷ volumes) =
-    let front = map (place_in parts i) (range_with_len 0 v.count) in
+    let front = places_in parts i v in
     let rest = length-places parts (i + 1) volumes in
-    let a = length-append (range_with_len v.first v.count) (exponents_of volumes) in
+    let a = length-append (exponents_in v) (exponents_of volumes) in
     let b = length-append front (places_from parts (i + 1) volumes) in
     let n = length-range_with_len v.first v.count in
     let m = length-map-range_with_len (place_in parts i) 0 v.count in
@@ -161,7 +167,7 @@ same_packet m a k l b k_low k_high l_low l_high = elim (cases_lt k l) [
 
 -- a byte of a recovery slice is one of its packet
 in_packet : (parts : Parts) (words i j k b : ℕ) (place : Place) → 2 * words ≡ parts.set.now.slice → place ≡ place_in parts j k → HasByte words place i b
-    → (j ≡ i) × ((length parts.index.items + k * (68 + parts.set.now.slice) + 68 ≤ b) × (b < length parts.index.items + k * (68 + parts.set.now.slice) + (68 + parts.set.now.slice)))
+    → (j ≡ i) × ((length_with parts k + 68 ≤ b) × (b < length_with parts k + (68 + parts.set.now.slice)))
 in_packet parts words i j k b place size is has =
     let here : HasByte words (place_in parts j k) i b = subst (λ (x : Place). HasByte words x i b) is has in
     let low = here.1.0 in
@@ -173,14 +179,11 @@ places_apart parts words volumes size s t i b s_low t_low in_s in_t =
     let m : ℕ = 68 + parts.set.now.slice in
     let x = located parts 0 volumes s s_low in
     let y = located parts 0 volumes t t_low in
-    let p = in_packet parts words i (0 + x.volume) x.packet b (place_at (places_from parts 0 volumes) s) size (place_here s x) in_s in
-    let q = in_packet parts words i (0 + y.volume) y.packet b (place_at (places_from parts 0 volumes) t) size (place_here t y) in_t in
-    let volume : x.volume ≡ y.volume = (let a = p.0 in let c = q.0 in omega (arith, a, c)) in
+    let p = in_packet parts words i x.volume x.packet b (place_at (places_from parts 0 volumes) s) size (stands parts volumes s x) in_s in
+    let q = in_packet parts words i y.volume y.packet b (place_at (places_from parts 0 volumes) t) size (stands parts volumes t y) in_t in
+    let volume : x.volume ≡ y.volume = p.0 ∙ sym q.0 in
     let packet : x.packet ≡ y.packet = same_packet m (length parts.index.items) x.packet y.packet b (let l = p.1.0 in omega (arith, l)) p.1.1 (let l = q.1.0 in omega (arith, l)) q.1.1 in
     x.number ∙ ap₂ (λ (j k : ℕ). before volumes j + k) volume packet ∙ sym y.number
-  where
-    place_here : (t : ℕ) (x : Located parts 0 volumes t) → place_at (places_from parts 0 volumes) t ≡ place_in parts (0 + x.volume) x.packet
-    place_here t x = ap (place_at (places_from parts 0 volumes)) x.number ∙ (numbered parts 0 volumes x.volume x.packet x.in_volumes x.in_packets).place
 
 -- a packet ends in its volume
 pub packet_ends : (a k n m size : ℕ) → k < n → size ≡ a + n * m → a + k * m + m ≤ size
@@ -193,14 +196,12 @@ pub places_within : (parts : Parts) (words : ℕ) (volumes : List Volume) (texts
 places_within parts words volumes texts size have t low =
     let m : ℕ = 68 + parts.set.now.slice in
     let x = located parts 0 volumes t low in
-    let is : place_at (places_from parts 0 volumes) t ≡ place_in parts (0 + x.volume) x.packet =
-    ap (place_at (places_from parts 0 volumes)) x.number ∙ (numbered parts 0 volumes x.volume x.packet x.in_volumes x.in_packets).place in
     let count = have.0 in
     let j = x.in_volumes in
     let long = have.1 x.volume x.in_volumes in
     let ends = packet_ends (length parts.index.items) x.packet (nth_volume volumes x.volume).count m (length (list_at texts x.volume)) x.in_packets long in
-    let here : (x.volume < length texts) × (length parts.index.items + x.packet * m + 68 + 2 * words ≤ length (list_at texts x.volume)) = (omega (arith, count, j), omega (arith, ends, size)) in
-    subst (λ (place : Place). (place.text < length texts) × (place.at + 2 * words ≤ length (list_at texts place.text))) (sym is) here
+    let here : (x.volume < length texts) × (length_with parts x.packet + 68 + 2 * words ≤ length (list_at texts x.volume)) = (omega (arith, count, j), omega (arith, ends, size)) in
+    subst (λ (place : Place). (place.text < length texts) × (place.at + 2 * words ≤ length (list_at texts place.text))) (sym (stands parts volumes t x)) here
 
 -- ---- bytes of packets
 
@@ -233,7 +234,7 @@ sized : (parts : Parts) (f : ℕ → List ℕ) → length parts.set_id ≡ 16 �
 sized parts f sixteen sizes e = length-undigested parts.set_id e (f e) sixteen ∙ ap (λ n. 68 + n) (sizes e)
 
 pub length-volume : (parts : Parts) (f : ℕ → List ℕ) (volume : Volume) → length parts.set_id ≡ 16 → ((e : ℕ) → length (f e) ≡ parts.set.now.slice)
-    → length (volume_with parts f volume) ≡ length parts.index.items + volume.count * (68 + parts.set.now.slice)
+    → length (volume_with parts f volume) ≡ length_with parts volume.count
 length-volume parts f volume sixteen sizes =
     let packets = length-pieces (68 + parts.set.now.slice) (λ (e : ℕ). undigested parts.set_id e (f e)) (sized parts f sixteen sizes) volume.first volume.count in
     length-append parts.index.items (flat_map (λ (e : ℕ). undigested parts.set_id e (f e)) (range_with_len volume.first volume.count)) ∙ ap (λ n. length parts.index.items + n) packets
@@ -250,7 +251,7 @@ blank_packets parts volumes texts sixteen are =
 
 -- a byte of a slice in a volume
 pub byte_in_volume : (parts : Parts) (f : ℕ → List ℕ) (volume : Volume) (k r : ℕ) → length parts.set_id ≡ 16 → ((e : ℕ) → length (f e) ≡ parts.set.now.slice) → k < volume.count → r < parts.set.now.slice
-    → get_or (volume_with parts f volume) (length parts.index.items + k * (68 + parts.set.now.slice) + 68 + r) 0 ≡ get_or (f (volume.first + k)) r 0
+    → get_or (volume_with parts f volume) (length_with parts k + 68 + r) 0 ≡ get_or (f (volume.first + k)) r 0
 byte_in_volume parts f volume k r sixteen sizes low here =
     let m : ℕ = 68 + parts.set.now.slice in
     let e : ℕ = volume.first + k in
@@ -280,10 +281,10 @@ places_blank parts words volumes texts size sixteen are t low =
     volume = nth_volume volumes x.volume
 
     here : Place
-    here = place_in parts (0 + x.volume) x.packet
+    here = place_in parts x.volume x.packet
 
     is : place_at (places_from parts 0 volumes) t ≡ here
-    is = ap (place_at (places_from parts 0 volumes)) x.number ∙ (numbered parts 0 volumes x.volume x.packet x.in_volumes x.in_packets).place
+    is = stands parts volumes t x
 
     text : list_at texts x.volume ≡ volume_with parts zeros volume
     text = ap (λ (xs : List (List ℕ)). list_at xs x.volume) are ∙ get_or-map (volume_with parts zeros) volumes x.volume (record { name = []; first = 0; count = 0 }) [] x.in_volumes
@@ -321,25 +322,23 @@ volumes_written parts words volumes slices exponents old new can size sixteen in
     was i low = ap (λ (xs : List (List ℕ)). list_at xs i) are ∙ get_or-map (volume_with parts zeros) volumes i (record { name = []; first = 0; count = 0 }) [] low
 
     -- a byte that no packet's slice has
-    kept : (i b : ℕ) → i < length volumes → ((k : ℕ) → k < (nth_volume volumes i).count → length parts.index.items + k * (68 + parts.set.now.slice) + 68 ≤ b → b < length parts.index.items + k * (68 + parts.set.now.slice) + (68 + parts.set.now.slice) → ⊥)
+    kept : (i b : ℕ) → i < length volumes → ((k : ℕ) → k < (nth_volume volumes i).count → length_with parts k + 68 ≤ b → b < length_with parts k + (68 + parts.set.now.slice) → ⊥)
         → get_or (list_at new i) b 0 ≡ get_or (volume_with parts zeros (nth_volume volumes i)) b 0
     kept i b low none =
         written.others i b (λ t t_low has.
         let x = located parts 0 volumes t t_low in
-        let is = ap (place_at (places_from parts 0 volumes)) x.number ∙ (numbered parts 0 volumes x.volume x.packet x.in_volumes x.in_packets).place in
-        let at = in_packet parts words i (0 + x.volume) x.packet b (place_at (places_from parts 0 volumes) t) size is has in
-        let same : x.volume ≡ i = (let e = at.0 in omega (arith, e)) in
-        none x.packet (subst (λ (j : ℕ). x.packet < (nth_volume volumes j).count) same x.in_packets) at.1.0 at.1.1)
+        let at = in_packet parts words i x.volume x.packet b (place_at (places_from parts 0 volumes) t) size (stands parts volumes t x) has in
+        none x.packet (subst (λ (j : ℕ). x.packet < (nth_volume volumes j).count) at.0 x.in_packets) at.1.0 at.1.1)
         ∙ ap (λ (xs : List ℕ). get_or xs b 0) (was i low)
 
     -- a byte of a packet's head
     in_head : (i k r : ℕ) → i < length volumes → k < (nth_volume volumes i).count → r < 68
-        → get_or (list_at new i) (length parts.index.items + k * (68 + parts.set.now.slice) + r) 0 ≡ get_or (volume_with parts (slice_of parts) (nth_volume volumes i)) (length parts.index.items + k * (68 + parts.set.now.slice) + r) 0
+        → get_or (list_at new i) (length_with parts k + r) 0 ≡ get_or (volume_with parts (slice_of parts) (nth_volume volumes i)) (length_with parts k + r) 0
     in_head i k r low here small =
         let volume = nth_volume volumes i in
         let e : ℕ = volume.first + k in
-        kept i (length parts.index.items + k * (68 + parts.set.now.slice) + r) low (λ l _ l_low l_high.
-        let same : l ≡ k = same_packet (68 + parts.set.now.slice) (length parts.index.items) l k (length parts.index.items + k * (68 + parts.set.now.slice) + r) (omega (arith, l_low)) l_high (omega arith) (omega (arith, small)) in
+        kept i (length_with parts k + r) low (λ l _ l_low l_high.
+        let same : l ≡ k = same_packet (68 + parts.set.now.slice) (length parts.index.items) l k (length_with parts k + r) (omega (arith, l_low)) l_high (omega arith) (omega (arith, small)) in
         let place : l * (68 + parts.set.now.slice) ≡ k * (68 + parts.set.now.slice) = ap (λ n. n * (68 + parts.set.now.slice)) same in
         omega (arith, place, l_low, small))
         ∙ byte_of_packet parts.index.items (68 + parts.set.now.slice) (λ (e : ℕ). undigested parts.set_id e (zeros e)) volume.first volume.count k r (sized parts zeros sixteen zeros_size) here (omega (arith, small))
@@ -350,19 +349,19 @@ volumes_written parts words volumes slices exponents old new can size sixteen in
 
     -- a byte of its slice
     in_slice : (i k r : ℕ) → i < length volumes → k < (nth_volume volumes i).count → r < parts.set.now.slice
-        → get_or (list_at new i) (length parts.index.items + k * (68 + parts.set.now.slice) + 68 + r) 0 ≡ get_or (volume_with parts (slice_of parts) (nth_volume volumes i)) (length parts.index.items + k * (68 + parts.set.now.slice) + 68 + r) 0
+        → get_or (list_at new i) (length_with parts k + 68 + r) 0 ≡ get_or (volume_with parts (slice_of parts) (nth_volume volumes i)) (length_with parts k + 68 + r) 0
     in_slice i k r low here small =
         let volume = nth_volume volumes i in
-        let at : ℕ = length parts.index.items + k * (68 + parts.set.now.slice) + 68 in
+        let at : ℕ = length_with parts k + 68 in
         let t : ℕ = before volumes i + k in
         let number = numbered parts 0 volumes i k low here in
         let inside : r < 2 * words = omega (arith, small, size) in
-        let given : output_at (2 * words) (place_in parts (0 + i) k) new ≡ slice_of parts (volume.first + k) =
-        ap (λ (place : Place). output_at (2 * words) place new) (sym number.place) ∙ written.each t number.low
+        let place : place_at (places_from parts 0 volumes) t ≡ place_in parts i k = number.place ∙ ap (λ (n : ℕ). place_in parts n k) (zero-add i) in
+        let given : output_at (2 * words) (place_in parts i k) new ≡ slice_of parts (volume.first + k) =
+        ap (λ (at : Place). output_at (2 * words) at new) (sym place) ∙ written.each t number.low
         ∙ ap (λ n. recovery n (map (padded n) slices) (get_or exponents t 0)) size
         ∙ ap₂ (λ (xs : List (List ℕ)) (e : ℕ). recovery parts.set.now.slice xs e) inputs (ap (λ (es : List ℕ). get_or es t 0) numbers ∙ number.exponent) in
         sym (get_or-drop at (list_at new i) r 0) ∙ sym (get_or-take (2 * words) (drop at (list_at new i)) r 0 inside)
-        ∙ ap (λ n. get_or (take (2 * words) (drop at (list_at new n))) r 0) (let e : i ≡ 0 + i = omega arith in e)
         ∙ ap (λ (xs : List ℕ). get_or xs r 0) given
         ∙ sym (byte_in_volume parts (slice_of parts) volume k r sixteen slice_size here small)
 

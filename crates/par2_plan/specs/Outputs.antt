@@ -1,5 +1,6 @@
 -- The outputs of a create, by parts.
 use Rattle.std.specs.Prelude.{ℕ, ◌≡◌, ◌≤◌, ◌+◌, ◌%◌, nat_lt, List, [], ◌∷◌, ◌++◌, length, map, flat_map, if◌then◌else◌}
+use Rattle.std.specs.List.{AllByRecursion}
 use Rattle.std.specs.Borrow.{Bor}
 use Rattle.par2_spec.specs.Packets.{Packet, packet}
 use Rattle.par2_spec.specs.Folders.{Folder, File, has}
@@ -27,6 +28,14 @@ volume_if base f c i = if nat_lt (volumes_before i) c then volume_at base f c i 
 -- all of them, in order
 abbrev pub volumes_of : List ℕ → ℕ → ℕ → List Volume
 volumes_of base f c = map (volume_at base f c) (volume_numbers c)
+
+-- its exponents are among the 65,536 that recovery slices can have
+abbrev pub HasExponents : Volume → Type 0
+HasExponents volume = volume.first + volume.count ≤ 65536
+
+-- so are those of all volumes
+abbrev pub HaveExponents : List Volume → Type 0
+HaveExponents volumes = AllByRecursion HasExponents volumes
 
 abbrev pub names_of : List Volume → List (List ℕ)
 names_of volumes = map (λ volume. volume.name) volumes

@@ -29,20 +29,32 @@ with_slices parts volume = volume_with parts (slice_of parts) volume
 abbrev pub nth_volume : List Volume → ℕ → Volume
 nth_volume volumes j = slice_index_or volumes j (record { name = []; first = 0; count = 0 })
 
--- the exponents of the volumes' recovery slices, in order
-abbrev pub exponents_of : List Volume → List ℕ
-exponents_of volumes = flat_map (λ volume. range_with_len volume.first volume.count) volumes
+-- the exponents of a volume's recovery slices, in order
+abbrev pub exponents_in : Volume → List ℕ
+exponents_in volume = range_with_len volume.first volume.count
 
--- where recovery slice k of volume i lies
+-- those of all volumes
+abbrev pub exponents_of : List Volume → List ℕ
+exponents_of volumes = flat_map exponents_in volumes
+
+-- how many bytes the index and so many packets of recovery slices have
+abbrev pub length_with : Parts → ℕ → ℕ
+length_with parts packets = length parts.index.items + packets * (68 + parts.set.now.slice)
+
+-- where recovery slice k of volume i lies: in its packet, behind the header and the exponent
 abbrev pub place_in : Parts → (i k : ℕ) → Place
-place_in parts i k = record { text = i; at = length parts.index.items + k * (68 + parts.set.now.slice) + 68 }
+place_in parts i k = record { text = i; at = length_with parts k + 68 }
+
+-- where those of volume i lie, in order
+abbrev pub places_in : Parts → ℕ → Volume → List Place
+places_in parts i volume = map (place_in parts i) (range_with_len 0 volume.count)
 
 -- where those of volumes lie, in order, of which the first one has the number i
 abbrev pub places_from : Parts → ℕ → List Volume → List Place
 places_from parts i [] = []
-places_from parts i (volume ∷ volumes) = map (place_in parts i) (range_with_len 0 volume.count) ++ places_from parts (i + 1) volumes
+places_from parts i (volume ∷ volumes) = places_in parts i volume ++ places_from parts (i + 1) volumes
 
 -- the texts are as long as the volumes
 abbrev pub HavePackets : Parts → List Volume → List (List ℕ) → Type 0
 HavePackets parts volumes texts =
-    (length texts ≡ length volumes) × ((j : ℕ) → j < length volumes → length (list_at texts j) ≡ length parts.index.items + (nth_volume volumes j).count * (68 + parts.set.now.slice))
+    (length texts ≡ length volumes) × ((j : ℕ) → j < length volumes → length (list_at texts j) ≡ length_with parts (nth_volume volumes j).count)

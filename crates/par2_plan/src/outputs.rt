@@ -1,8 +1,7 @@
 //! The files that a create writes.
-ghost use Rattle.std.specs.Prelude.{◌≡◌, ◌≤◌, ◌+◌, IfOk};
-ghost use Rattle.std.specs.List.{AllByRecursion};
+ghost use Rattle.std.specs.Prelude.{◌≡◌, IfOk};
 ghost use Rattle.par2_folder.specs.Views.{change_of};
-ghost use Rattle.par2_plan.specs.Outputs.{HasSlices, put_change, output_changes};
+ghost use Rattle.par2_plan.specs.Outputs.{HasSlices, HaveExponents, put_change, output_changes};
 
 use crate::Changes;
 use crate::names::Volume;
@@ -40,8 +39,7 @@ pub fn changes_of(
     volumes: &[Volume],
 ) -> Result<Changes, AllocError>
     requires parts { HasSlices parts }
-    requires exponents { AllByRecursion
-        (λ volume. volume.first + volume.count ≤ 65536) volumes.now }
+    requires exponents { HaveExponents volumes.now }
     ensures { IfOk result (λ changes. changes ≡ output_changes base parts.entry volumes.now) }
 {
     let mut texts = volume_texts(alloc, &parts, volumes)?;

@@ -1,11 +1,10 @@
 //! The bytes of volumes. Their packets are there from the start, with zeros for recovery slices and MD5s; the slices are
 //! written into them, all at once, and the MD5s at the end.
 
-ghost use Rattle.std.specs.Prelude.{◌≡◌, ◌≤◌, ◌<◌, ◌+◌, ◌*◌, ◌++◌, length, map, IfOk, OnOk};
-ghost use Rattle.std.specs.List.{AllByRecursion, range_with_len};
+ghost use Rattle.std.specs.Prelude.{◌≡◌, ◌≤◌, ◌<◌, ◌+◌, ◌++◌, length, map, IfOk, OnOk};
 ghost use Rattle.par2_spec.specs.Sums.{OneChanged, list_at, lists_of};
-ghost use Rattle.par2_plan.specs.Outputs.{HasSlices, ListsInputs, volume_text};
-ghost use Rattle.par2_plan.specs.Volumes.{HavePackets, blank_volume, exponents_of, place_in, places_from, with_slices};
+ghost use Rattle.par2_plan.specs.Outputs.{HasExponents, HasSlices, HaveExponents, ListsInputs, volume_text};
+ghost use Rattle.par2_plan.specs.Volumes.{HavePackets, blank_volume, exponents_in, exponents_of, length_with, places_from, places_in, with_slices};
 
 use crate::names::Volume;
 use crate::outputs::Parts;
@@ -28,7 +27,7 @@ fn volume_len(parts: &Parts, count: u32) -> usize {
 // The bytes of a volume whose recovery slices and MD5s are still to come.
 fn blank_volume(alloc: Global, parts: &Parts, volume: &Volume) -> Result<Vec<u8>, AllocError>
     requires fits { 68 + parts.now.set.now.slice ≤ usize.MAX }
-    requires exponents { volume.now.first + volume.now.count ≤ 65536 }
+    requires exponents { HasExponents volume.now }
     ensures { IfOk result (λ bytes. bytes.items ≡ blank_volume parts.now volume.now) }
 {
     let mut text = Vec::with_capacity(alloc, volume_len(parts, volume.count))?;
@@ -44,10 +43,8 @@ fn blank_volumes(
     volumes: &[Volume],
 ) -> Result<Vec<Vec<u8>>, AllocError>
     requires fits { 68 + parts.now.set.now.slice ≤ usize.MAX }
-    requires exponents { AllByRecursion
-        (λ volume. volume.first + volume.count ≤ 65536) volumes.now }
-    ensures { IfOk result
-        (λ texts. lists_of texts.items ≡ map (blank_volume parts.now) volumes.now) }
+    requires exponents { HaveExponents volumes.now }
+    ensures { IfOk result (λ made. lists_of made.items ≡ map (blank_volume parts.now) volumes.now) }
 {
     let mut texts = Vec::with_capacity(alloc, volumes.len())?;
     for volume in volumes {
@@ -65,9 +62,8 @@ fn fit_id(id: &[u8; 16])
 
 // Adds the exponents of a volume's recovery slices.
 fn append_exponents(exponents: &mut Vec<u32>, volume: &Volume) -> Result<(), AllocError>
-    requires { volume.now.first + volume.now.count ≤ 65536 }
-    ensures { OnOk result (exponents.new.items
-        ≡ exponents.old.items ++ range_with_len volume.now.first volume.now.count) }
+    requires { HasExponents volume.now }
+    ensures { OnOk result (exponents.new.items ≡ exponents.old.items ++ exponents_in volume.now) }
 {
     for k in 0..volume.count {
         exponents.push(volume.first + k)?;
@@ -77,8 +73,7 @@ fn append_exponents(exponents: &mut Vec<u32>, volume: &Volume) -> Result<(), All
 
 // Those of all volumes, in order.
 fn exponents_of(alloc: Global, volumes: &[Volume]) -> Result<Vec<u32>, AllocError>
-    requires exponents { AllByRecursion
-        (λ volume. volume.first + volume.count ≤ 65536) volumes.now }
+    requires exponents { HaveExponents volumes.now }
     ensures { IfOk result (λ exponents. exponents.items ≡ exponents_of volumes.now) }
 {
     let mut exponents = Vec::new(alloc);
@@ -92,10 +87,8 @@ fn exponents_of(alloc: Global, volumes: &[Volume]) -> Result<Vec<u32>, AllocErro
 fn place_of(parts: &Parts, volume: &Volume, text: &[u8], k: u32) -> usize
     requires fits { 68 + parts.now.set.now.slice ≤ usize.MAX }
     requires packet { k < volume.now.count }
-    requires text { length text.now ≡ length parts.now.index.items
-        + volume.now.count * (68 + parts.now.set.now.slice) }
-    ensures { result ≡ length parts.now.index.items
-        + k * (68 + parts.now.set.now.slice) + 68 }
+    requires text { length text.now ≡ length_with parts.now volume.now.count }
+    ensures { result ≡ length_with parts.now k + 68 }
 {
     let packet = RECOVERY_HEAD + parts.set.slice as usize;
     parts.index.len() + k as usize * packet + RECOVERY_HEAD
@@ -110,10 +103,8 @@ fn append_places(
     text: &[u8],
 ) -> Result<(), AllocError>
     requires fits { 68 + parts.now.set.now.slice ≤ usize.MAX }
-    requires text { length text.now ≡ length parts.now.index.items
-        + volume.now.count * (68 + parts.now.set.now.slice) }
-    ensures { OnOk result (places.new.items ≡ places.old.items
-        ++ map (place_in parts.now i) (range_with_len 0 volume.now.count)) }
+    requires text { length text.now ≡ length_with parts.now volume.now.count }
+    ensures { OnOk result (places.new.items ≡ places.old.items ++ places_in parts.now i volume.now) }
 {
     for k in 0..volume.count {
         let at = place_of(parts, volume, text, k);
@@ -151,9 +142,8 @@ fn filled(
     requires parts { HasSlices parts.now }
     requires fits { 68 + parts.now.set.now.slice ≤ usize.MAX }
     requires inputs { ListsInputs parts.now inputs.now }
-    requires exponents { AllByRecursion
-        (λ volume. volume.first + volume.count ≤ 65536) volumes.now }
-    ensures { IfOk result (λ texts. lists_of texts.items ≡ map (with_slices parts.now) volumes.now) }
+    requires exponents { HaveExponents volumes.now }
+    ensures { IfOk result (λ made. lists_of made.items ≡ map (with_slices parts.now) volumes.now) }
 {
     fit_id(&parts.set_id);
     let mut texts = blank_volumes(alloc, parts, volumes)?;
@@ -198,11 +188,9 @@ fn digest_at(
     requires place { i < length texts.old }
     requires parts { HasSlices parts.now }
     requires fits { 68 + parts.now.set.now.slice ≤ usize.MAX }
-    requires before { list_at (lists_of texts.old) i
-        ≡ with_slices parts.now volume.now }
+    requires before { list_at (lists_of texts.old) i ≡ with_slices parts.now volume.now }
     ensures changed { OneChanged (lists_of texts.old) (lists_of texts.new) i }
-    ensures here { OnOk result (list_at (lists_of texts.new) i
-        ≡ volume_text parts.now volume.now) }
+    ensures here { OnOk result (list_at (lists_of texts.new) i ≡ volume_text parts.now volume.now) }
 {
     digest_volume(alloc, texts[i].as_mut_slice(), parts, volume)
 }
@@ -216,8 +204,7 @@ fn digest_volumes(
 ) -> Result<(), AllocError>
     requires parts { HasSlices parts.now }
     requires fits { 68 + parts.now.set.now.slice ≤ usize.MAX }
-    requires before { lists_of texts.old
-        ≡ map (with_slices parts.now) volumes.now }
+    requires before { lists_of texts.old ≡ map (with_slices parts.now) volumes.now }
     ensures { OnOk result (lists_of texts.new ≡ map (volume_text parts.now) volumes.now) }
 {
     for i in 0..volumes.len() {
@@ -236,10 +223,8 @@ fn texts_over(
 ) -> Result<Vec<Vec<u8>>, AllocError>
     requires parts { HasSlices parts.now }
     requires inputs { ListsInputs parts.now inputs.now }
-    requires exponents { AllByRecursion
-        (λ volume. volume.first + volume.count ≤ 65536) volumes.now }
-    ensures { IfOk result
-        (λ texts. lists_of texts.items ≡ map (volume_text parts.now) volumes.now) }
+    requires exponents { HaveExponents volumes.now }
+    ensures { IfOk result (λ made. lists_of made.items ≡ map (volume_text parts.now) volumes.now) }
 {
     // Memory holds no packet that is longer.
     if parts.set.slice > (usize::MAX - RECOVERY_HEAD) as u64 {
@@ -257,10 +242,8 @@ pub(crate) fn volume_texts(
     volumes: &[Volume],
 ) -> Result<Vec<Vec<u8>>, AllocError>
     requires parts { HasSlices parts.now }
-    requires exponents { AllByRecursion
-        (λ volume. volume.first + volume.count ≤ 65536) volumes.now }
-    ensures { IfOk result
-        (λ texts. lists_of texts.items ≡ map (volume_text parts.now) volumes.now) }
+    requires exponents { HaveExponents volumes.now }
+    ensures { IfOk result (λ made. lists_of made.items ≡ map (volume_text parts.now) volumes.now) }
 {
     if volumes.is_empty() {
         return Ok(Vec::new(alloc));

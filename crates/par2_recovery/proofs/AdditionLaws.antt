@@ -1,5 +1,5 @@
 -- Recovery slices, added to texts, and the syndromes over all slices, of which a lost one has no bytes.
-use Rattle.std.proofs.Common.{inl, inr, ℕ, zero, suc, ◌+◌, ◌-◌, ◌*◌, ◌<◌, ◌≤◌, ◌≡◌, refl, sym, ap, ap₂, ◌∙◌, subst, arith, List, [], ◌∷◌, ◌++◌, length, length-append, take, drop, get_or, map, bit_xor, zero-add}
+use Rattle.std.proofs.Common.{inl, inr, ℕ, zero, suc, ◌+◌, ◌-◌, ◌*◌, ◌<◌, ◌≤◌, ◌≡◌, refl, sym, ap, ap₂, ◌∙◌, subst, arith, List, [], ◌∷◌, length, take, drop, get_or, map, bit_xor, zero-add}
 use Rattle.std.specs.Prelude.{Option, Some, None}
 use Rattle.std.specs.Borrow.{Bor}
 use Rattle.std.specs.List.{range_with_len}
@@ -290,6 +290,9 @@ are_written places words exponents slices old new bytes fits within zeros added 
   others = added.others;
 }
   where
+    front : (s w : ℕ) (text : List ℕ) → 2 * w + 1 < s → word w (take s text) ≡ word w text
+    front s w text here = ap₂ (λ a b. a + 256 * b) (get_or-take s text (2 * w) 0 (omega (arith, here))) (get_or-take s text (2 * w + 1) 0 here)
+
     written : (t : ℕ) → t < length places → (place : Place) → place_at places t ≡ place → output_at (2 * words) place new ≡ recovery (2 * words) (map (padded (2 * words)) slices) (get_or exponents t 0)
     written t low place is =
         let s : ℕ = 2 * words in
@@ -311,6 +314,3 @@ are_written places words exponents slices old new bytes fits within zeros added 
         (ap (λ (x : Place). word w (drop x.at (list_at old x.text))) is ∙ sym (front s w (drop place.at (list_at old place.text)) here)
         ∙ ap (λ (x : Place). word w (output_at s x old)) (sym is) ∙ ap (word w) (zeros t low) ∙ blank_word s w)
         ∙ xor_zero_l (recovered slices (get_or exponents t 0) w))
-
-    front : (s w : ℕ) (text : List ℕ) → 2 * w + 1 < s → word w (take s text) ≡ word w text
-    front s w text here = ap₂ (λ a b. a + 256 * b) (get_or-take s text (2 * w) 0 (omega (arith, here))) (get_or-take s text (2 * w + 1) 0 here)

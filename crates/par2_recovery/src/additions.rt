@@ -111,6 +111,15 @@ fn add_sums(
     }
 }
 
+// What the type says of how long a text is that an output lies in, for proofs.
+fn fit_output(texts: &[Vec<u8>], outputs: &Places)
+    requires some { 0 < length outputs.now.places.now }
+    requires room { LieWithin outputs.now.words outputs.now.places.now (lists_of texts.now) }
+    ensures { 2 * outputs.now.words < 2 ^ 64 }
+{
+    let _ = text_at(texts, outputs.places[0].text).len();
+}
+
 // To each output, adds the sum of the products of its row and the slices, in some columns.
 fn add_columns(
     alloc: Global,
@@ -122,6 +131,7 @@ fn add_columns(
     from: usize,
     to: usize,
 ) -> Result<(), AllocError>
+    requires some { 0 < length rows.now }
     requires rows { length rows.now ≡ length outputs.now.places.now }
     requires factors { (t : ℕ)
         → t < length rows.now → length slices.now ≤ length (list_at (lists_of rows.now) t) }
@@ -133,6 +143,7 @@ fn add_columns(
         (products (length slices.now) (lists_of rows.now) (texts_of slices.now) t p))
         (lists_of texts.old) (lists_of texts.new)) }
 {
+    fit_output(texts, outputs);
     let size = 2 * (to - from);
     let windows = windows(alloc, slices, 2 * from, size)?;
     let mut sums = blank(alloc, rows.len(), size)?;
@@ -153,6 +164,7 @@ fn add_by_coefficients(
     room: usize,
 ) -> Result<(), AllocError>
     requires slices { length slices.now ≤ 32768 }
+    requires some { 0 < length exponents.now }
     requires count { length exponents.now ≡ length outputs.now.places.now }
     requires room { LieWithin outputs.now.words outputs.now.places.now (lists_of texts.old) }
     ensures { IfOk result (λ _. AddsAt outputs.now.places.now outputs.now.words
@@ -234,6 +246,7 @@ fn add_group(
     room: usize,
 ) -> Result<(), AllocError>
     requires slices { length slices.now ≤ 32768 }
+    requires some { 0 < length exponents.now }
     requires count { length exponents.now ≡ length outputs.now.places.now }
     requires room { LieWithin outputs.now.words outputs.now.places.now (lists_of texts.old) }
     ensures { IfOk result (λ _. AddsAt outputs.now.places.now outputs.now.words

@@ -6,6 +6,10 @@ ghost use Rattle.std.specs.List.{AllAdjacentBelow};
 ghost use Rattle.std.specs.List.Sorted.{IsStrictlyIncreasing};
 ghost use Rattle.par2_recovery.specs.Rebuilding.{CanRebuild};
 
+mod outputs;
+
+pub use outputs::{slices_added, slices_written};
+
 use par2_folder::{Bytes, Change, Folder, Name};
 use par2_gf16::Gf;
 use par2_recovery::{
@@ -15,7 +19,7 @@ use par2_recovery::{
 use std::alloc::{AllocError, Global};
 
 // How many slices a set may have.
-const MOST_SLICES: usize = 32768;
+pub(crate) const MOST_SLICES: usize = 32768;
 
 /// A folder of these files. A text that is no name is left out.
 pub fn folder_of(alloc: Global, files: &[(&str, &[u8])]) -> Result<Folder, AllocError> {

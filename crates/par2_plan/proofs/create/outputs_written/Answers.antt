@@ -1,6 +1,5 @@
 use Rattle.std.proofs.Common.{◌≡◌, ℕ, List, ◌∙◌, ◌≤◌, ◌+◌, ◌%◌, length, map, sym, ap, ap₂, subst, string_bytes}
 use Rattle.std.specs.Prelude.{flat_map, IfOk}
-use Rattle.std.specs.List.{AllByRecursion}
 use Rattle.std.proofs.lemmas.List.{length-map}
 use Rattle.par2_spec.specs.Folders.{Folder}
 use Rattle.par2_spec.specs.Packets.{packet}
@@ -10,7 +9,7 @@ use Rattle.par2_spec.specs.Views.{create_args_of}
 use Rattle.par2_packets.specs.Views.{file_record_of}
 use Rattle.par2_packets.specs.declared.record.FileRecord.{FileRecord}
 use Rattle.par2_recovery.specs.Views.{names_of}
-use Rattle.par2_plan.specs.declared.names.Volume.{Volume}
+use Rattle.par2_plan.specs.Outputs.{HaveExponents}
 use Rattle.par2_plan.proofs.VolumeNumbers.{volumes_end}
 use Rattle.par2_plan.proofs.GoodWords.{IsHead, AreInputs, head_passed, inputs_passed, few_slices, few_in_order}
 use Rattle.par2_plan.proofs.OutputChanges.{written, create_written}
@@ -50,7 +49,7 @@ changes_of-requires-clause-parts c =
 pub changes_of-requires-clause-exponents : goal.changes_of-requires-clause-exponents
 changes_of-requires-clause-exponents c =
     let head : IsHead (create_args_of c.args.args.now) = head_passed _ c.requires.head in
-    subst (AllByRecursion (λ (volume : Volume). volume.first + volume.count ≤ 65536)) (sym c.requires.volumes)
+    subst HaveExponents (sym c.requires.volumes)
     (volumes_end (string_bytes c.args.args.now.base) c.args.args.now.first c.args.args.now.count head.exponents)
 
 pub returns : goal.returns

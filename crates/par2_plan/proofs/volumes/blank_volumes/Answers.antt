@@ -1,16 +1,16 @@
-use Rattle.std.proofs.Common.{◌∙◌, ◌≤◌, ◌+◌, ◌++◌, ◌∷◌, [], List, ℕ, Vec, Global, map, sym, ap, ap₂, subst}
+use Rattle.std.proofs.Common.{◌∙◌, ◌++◌, ◌∷◌, [], List, ℕ, Vec, Global, map, sym, ap, ap₂, subst}
 use Rattle.std.proofs.lemmas.List.{map-append, map_more, take_all}
 use Rattle.std.proofs.lemmas.List.Elements.{All-from_recursion}
 use Rattle.par2_spec.specs.Sums.{lists_of}
+use Rattle.par2_plan.specs.Outputs.{HasExponents}
 use Rattle.par2_plan.specs.Volumes.{blank_volume}
 use Rattle.par2_plan.specs.declared.names.Volume.{Volume}
 use Rattle.par2_plan.proofs.volumes.blank_volumes.Goals as goal
 
 pub blank_volume-requires-clause-exponents : goal.blank_volume-requires-clause-exponents
 blank_volume-requires-clause-exponents c =
-    let fits = λ (volume : Volume). volume.first + volume.count ≤ 65536 in
     let volumes : List Volume = c.args.volumes.now in
-    subst fits (sym c.volume-item.is) (All-from_recursion fits volumes c.requires.exponents c.loop-volume.volume-index _ c.loop-volume-test.true)
+    subst HasExponents (sym c.volume-item.is) (All-from_recursion HasExponents volumes c.requires.exponents c.loop-volume.volume-index _ c.loop-volume-test.true)
 
 pub loop-volume-init : goal.loop-volume-init
 loop-volume-init c = ap (λ (texts : List (Vec ℕ Global)). lists_of texts) c.in_ok-texts.ensures.items

@@ -1,24 +1,23 @@
-use Rattle.std.proofs.Common.{◌≡◌, ◌∙◌, ◌≤◌, ◌+◌, ◌++◌, List, ℕ, sym, ap, ap₂, subst}
-use Rattle.std.specs.List.{range_with_len}
+use Rattle.std.proofs.Common.{◌≡◌, ◌∙◌, ◌++◌, List, ℕ, sym, ap, ap₂, subst}
 use Rattle.std.proofs.lemmas.List.{take_all}
 use Rattle.std.proofs.lemmas.List.Elements.{All-from_recursion}
-use Rattle.par2_plan.specs.Volumes.{exponents_of}
+use Rattle.par2_plan.specs.Outputs.{HasExponents}
+use Rattle.par2_plan.specs.Volumes.{exponents_in, exponents_of}
 use Rattle.par2_plan.specs.declared.names.Volume.{Volume}
 use Rattle.par2_plan.proofs.VolumePlaces.{exponents_more}
 use Rattle.par2_plan.proofs.volumes.exponents_of.Goals as goal
 
 pub append_exponents-requires : goal.append_exponents-requires
 append_exponents-requires c =
-    let fits = λ (volume : Volume). volume.first + volume.count ≤ 65536 in
     let volumes : List Volume = c.args.volumes.now in
-    subst fits (sym c.volume-item.is) (All-from_recursion fits volumes c.requires.exponents c.loop-volume.volume-index _ c.loop-volume-test.true)
+    subst HasExponents (sym c.volume-item.is) (All-from_recursion HasExponents volumes c.requires.exponents c.loop-volume.volume-index _ c.loop-volume-test.true)
 
 pub loop-volume-preserved : goal.loop-volume-preserved
 loop-volume-preserved c =
     let volumes : List Volume = c.args.volumes.now in
     let volume : Volume = c.volume-item.result in
     c.in_ok-append_exponents.ensures
-    ∙ ap₂ (λ (xs : List ℕ) (v : Volume). xs ++ range_with_len v.first v.count) c.loop-volume.invariant c.volume-item.is
+    ∙ ap₂ (λ (xs : List ℕ) (v : Volume). xs ++ exponents_in v) c.loop-volume.invariant c.volume-item.is
     ∙ exponents_more volumes c.loop-volume.volume-index volume c.loop-volume-test.true
 
 pub returns : goal.returns

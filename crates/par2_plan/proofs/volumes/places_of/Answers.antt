@@ -1,10 +1,9 @@
-use Rattle.std.proofs.Common.{◌≡◌, ◌∙◌, ◌<◌, ◌+◌, ◌*◌, ◌++◌, List, ℕ, map, sym, ap, subst, arith, length}
-use Rattle.std.specs.List.{range_with_len}
+use Rattle.std.proofs.Common.{◌≡◌, ◌∙◌, ◌<◌, ◌++◌, List, ℕ, sym, ap, arith, length}
 use Rattle.std.proofs.lemmas.List.{take_all}
 use Rattle.par2_spec.specs.Sums.{list_at, lists_of}
 use Rattle.par2_spec.proofs.WordLaws.{read_at, length-lists_of}
 use Rattle.par2_transform.specs.declared.outputs.Place.{Place}
-use Rattle.par2_plan.specs.Volumes.{places_from, place_in}
+use Rattle.par2_plan.specs.Volumes.{length_with, places_from, places_in}
 use Rattle.par2_plan.specs.declared.names.Volume.{Volume}
 use Rattle.par2_plan.proofs.VolumePlaces.{places_more, nth_is}
 use Rattle.par2_plan.proofs.volumes.places_of.Goals as goal
@@ -22,7 +21,7 @@ append_places-requires-clause-text c =
     let volume : Volume = c.index-volumes-i.result in
     let text = c.deref.ensures.value ∙ read_at c.args.texts.now i _ low c.index-texts-i.is in
     ap (λ (xs : List ℕ). length xs) text ∙ c.requires.texts.1 i c.loop-i-test.true
-    ∙ ap (λ (v : Volume). length parts.index.items + v.count * (68 + parts.set.now.slice)) (sym (nth_is c.args.volumes.now i _ c.loop-i-test.true c.index-volumes-i.is))
+    ∙ ap (λ (v : Volume). length_with parts v.count) (sym (nth_is c.args.volumes.now i _ c.loop-i-test.true c.index-volumes-i.is))
 
 pub loop-i-preserved : goal.loop-i-preserved
 loop-i-preserved c =
@@ -30,7 +29,7 @@ loop-i-preserved c =
     let volumes : List Volume = c.args.volumes.now in
     let volume : Volume = c.index-volumes-i.result in
     c.in_ok-append_places.ensures
-    ∙ ap (λ (xs : List Place). xs ++ map (place_in c.args.parts.now i) (range_with_len 0 volume.count)) c.loop-i.invariant
+    ∙ ap (λ (xs : List Place). xs ++ places_in c.args.parts.now i volume) c.loop-i.invariant
     ∙ places_more c.args.parts.now volumes i volume c.loop-i-test.true c.index-volumes-i.is
 
 pub returns : goal.returns

@@ -2,7 +2,7 @@ use Rattle.std.proofs.Common.{◌≡◌, ◌<◌, ◌≤◌, ◌+◌, ◌-◌, �
 use Rattle.std.specs.List.{range_with_len}
 use Rattle.std.proofs.lemmas.Grind.{div_ceil_times}
 use Rattle.par2_spec.specs.Recovery.{coefficients}
-use Rattle.par2_spec.specs.Sums.{list_at, lists_of}
+use Rattle.par2_spec.specs.Sums.{lists_of}
 use Rattle.par2_spec.proofs.FoundLaws.{slice_begins}
 use Rattle.par2_transform.specs.Adding.{within, AddsAt}
 use Rattle.par2_transform.proofs.AddingLaws.{still_within}
@@ -19,16 +19,16 @@ coefficient_rows-requires c = λ i.
 
 pub add_columns-requires-clause-rows : goal.add_columns-requires-clause-rows
 add_columns-requires-clause-rows c =
-    let rows : lists_of c.deref-2.result.now ≡ map (coefficients c.deref.result.now) c.args.exponents.now = ap lists_of c.deref-2.ensures.value ∙ c.in_ok-rows.ensures in
-    length-rows c.deref.result.now c.args.exponents.now c.deref-2.result.now rows ∙ c.requires.count
+    let rows : lists_of c.deref-in-loop-block.result.now ≡ map (coefficients c.deref.result.now) c.args.exponents.now = ap lists_of c.deref-in-loop-block.ensures.value ∙ c.in_ok-rows.ensures in
+    length-rows c.deref.result.now c.args.exponents.now c.deref-in-loop-block.result.now rows ∙ c.requires.count
 
 pub add_columns-requires-clause-factors : goal.add_columns-requires-clause-factors
 add_columns-requires-clause-factors c = λ r h.
     let n = length c.args.slices.now in
     let are : c.deref.result.now ≡ range_with_len 0 n = c.deref.ensures.value ∙ c.in_ok-numbers.ensures in
-    let rows : lists_of c.deref-2.result.now ≡ map (coefficients c.deref.result.now) c.args.exponents.now = ap lists_of c.deref-2.ensures.value ∙ c.in_ok-rows.ensures in
-    let count = length-rows c.deref.result.now c.args.exponents.now c.deref-2.result.now rows in
-    let long = rows_long n c.deref.result.now c.args.exponents.now (lists_of c.deref-2.result.now) are rows r (omega (arith, h, count)) in
+    let rows : lists_of c.deref-in-loop-block.result.now ≡ map (coefficients c.deref.result.now) c.args.exponents.now = ap lists_of c.deref-in-loop-block.ensures.value ∙ c.in_ok-rows.ensures in
+    let count = length-rows c.deref.result.now c.args.exponents.now c.deref-in-loop-block.result.now rows in
+    let long = rows_long n c.deref.result.now c.args.exponents.now (lists_of c.deref-in-loop-block.result.now) are rows r (omega (arith, h, count)) in
     omega (arith, long)
 
 pub add_columns-requires-clause-room : goal.add_columns-requires-clause-room
@@ -57,7 +57,7 @@ loop-block-preserved c =
     let here : min words (k * size) ≡ k * size = omega (arith, low) in
     let there : k * size + c.min.result ≡ min words ((k + 1) * size) = omega (arith, place, next, low) in
     let added : AddsAt c.args.outputs.now.places.now c.args.outputs.now.words (λ t p. within from to p (products n (lists_of rows) slices t p)) half texts =
-    subst (λ (xs : List (Vec ℕ Global)). AddsAt c.args.outputs.now.places.now c.args.outputs.now.words (λ t p. within from to p (products n (lists_of xs) slices t p)) half texts) c.deref-2.ensures.value c.in_ok-add_columns.ensures in
+    subst (λ (xs : List (Vec ℕ Global)). AddsAt c.args.outputs.now.places.now c.args.outputs.now.words (λ t p. within from to p (products n (lists_of xs) slices t p)) half texts) c.deref-in-loop-block.ensures.value c.in_ok-add_columns.ensures in
     next_columns c.args.outputs.now.places.now c.args.outputs.now.words (min words (k * size)) from to (min words ((k + 1) * size)) (products n (lists_of rows) slices) (lists_of c.args.texts.now) half texts
     here there (omega (arith, place)) c.loop-block.invariant added
 

@@ -1,5 +1,5 @@
 use Rattle.std.proofs.Common.{◌≡◌, ◌≤◌, ◌<◌, ◌-◌, ◌*◌, ◌∙◌, ℕ, List, Vec, Global, map, sym, ap, subst, arith, rules, length}
-use Rattle.std.proofs.lemmas.List.{length-map, length-replicate}
+use Rattle.std.proofs.lemmas.List.{length-map, length-replicate, with_items_is}
 use Rattle.par2_spec.specs.Sums.{list_at, lists_of}
 use Rattle.par2_spec.proofs.WordLaws.{length-lists_of}
 use Rattle.par2_recovery.specs.Products.{Adds}
@@ -36,7 +36,9 @@ add_products-requires-clause-room c = λ r h.
 pub add_sums-requires-clause-count : goal.add_sums-requires-clause-count
 add_sums-requires-clause-count c =
     let count = c.in_ok-add_products.ensures.count in
-    let now = ap (λ (xs : List (Vec ℕ Global)). length xs) c.deref-2.ensures.value in
+    let many_now : length c.add_products.new.targets ≡ c.in_ok-sums.sums.len = search rules in
+    let made = c.deref-2.ensures.value ∙ with_items_is c.in_ok-sums.sums c.add_products.new.targets many_now in
+    let now = ap (λ (xs : List (Vec ℕ Global)). length xs) made in
     let was = ap (λ (xs : List (Vec ℕ Global)). lists_of xs) c.as_mut_slice.ensures.value in
     omega (arith, now, length-lists_of c.add_products.new.targets, count, ap length was, c.in_ok-sums.ensures.count, c.requires.rows)
 
@@ -44,10 +46,12 @@ pub add_sums-requires-clause-sizes : goal.add_sums-requires-clause-sizes
 add_sums-requires-clause-sizes c = λ t h.
     let size : ℕ = 2 * (c.args.to - c.args.from) in
     let count = c.in_ok-add_products.ensures.count in
-    let now = ap (λ (xs : List (Vec ℕ Global)). length xs) c.deref-2.ensures.value in
+    let many_now : length c.add_products.new.targets ≡ c.in_ok-sums.sums.len = search rules in
+    let made = c.deref-2.ensures.value ∙ with_items_is c.in_ok-sums.sums c.add_products.new.targets many_now in
+    let now = ap (λ (xs : List (Vec ℕ Global)). length xs) made in
     let was = ap (λ (xs : List (Vec ℕ Global)). lists_of xs) c.as_mut_slice.ensures.value in
     let low : t < length c.args.rows.now = omega (arith, h, now, length-lists_of c.add_products.new.targets, count, ap length was, c.in_ok-sums.ensures.count) in
-    ap (λ (xs : List (Vec ℕ Global)). length (list_at (lists_of xs) t)) c.deref-2.ensures.value
+    ap (λ (xs : List (Vec ℕ Global)). length (list_at (lists_of xs) t)) made
     ∙ c.in_ok-add_products.ensures.sizes t ∙ ap (λ (xs : List (List ℕ)). length (list_at xs t)) was
     ∙ ap length (c.in_ok-sums.ensures.each t low) ∙ length-replicate {A = ℕ} size 0
 
@@ -65,8 +69,9 @@ returns c =
     let are : windows ≡ map (window (2 * from) size) slices = ap texts_of c.deref.ensures.value ∙ c.in_ok-windows.ensures in
     let many : length rows ≡ length c.args.outputs.now.places.now = length-lists_of c.args.rows.now ∙ c.requires.rows in
     let blank : AreBlank size (length rows) zeros = subst (λ n. AreBlank size n zeros) (sym (length-lists_of c.args.rows.now)) c.in_ok-sums.ensures in
+    let many_now : length c.add_products.new.targets ≡ c.in_ok-sums.sums.len = search rules in
     let made : Adds rows windows zeros sums 0 (to - from) m =
-    subst (λ (xs : List (Vec ℕ Global)). Adds rows windows zeros (lists_of xs) 0 (to - from) m) (sym c.deref-2.ensures.value)
+    subst (λ (xs : List (Vec ℕ Global)). Adds rows windows zeros (lists_of xs) 0 (to - from) m) (sym (c.deref-2.ensures.value ∙ with_items_is c.in_ok-sums.sums c.add_products.new.targets many_now))
     (subst (λ (xs : List (Vec ℕ Global)). Adds rows windows (lists_of xs) (lists_of c.add_products.new.targets) 0 (to - from) m) c.as_mut_slice.ensures.value c.in_ok-add_products.ensures) in
     sums_are c.args.outputs.now.places.now c.args.outputs.now.words from to (length c.args.slices.now) m rows slices windows zeros sums (lists_of c.args.texts.now) (lists_of c.add_sums.new.texts) c.requires.order are
     (sym (length-texts_of c.args.slices.now)) (sym (length-texts_of c.deref.result.now)) many blank made c.add_sums.ensures

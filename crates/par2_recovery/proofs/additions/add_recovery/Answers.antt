@@ -1,4 +1,4 @@
-use Rattle.std.proofs.Common.{◌≡◌, ◌≤◌, ◌-◌, ◌∙◌, ℕ, List, sym, ap, subst, arith, length, drop}
+use Rattle.std.proofs.Common.{◌≤◌, ◌-◌, ◌∙◌, ℕ, List, sym, ap, subst, arith, length, drop}
 use Rattle.std.proofs.lemmas.List.{length-take-le, length-drop}
 use Rattle.par2_spec.specs.Sums.{lists_of}
 use Rattle.par2_transform.specs.Adding.{LieWithin}

@@ -1,8 +1,7 @@
 use Rattle.std.proofs.Common.{ℕ, ◌≡◌, ◌∙◌, List, Vec, Global, sym, ap, subst, arith, rules, get_or, length}
 use Rattle.std.proofs.lemmas.List.{with_items_is}
 use Rattle.par2_spec.specs.Sums.{lists_of}
-use Rattle.par2_spec.proofs.WordLaws.{length-lists_of}
-use Rattle.par2_transform.specs.Adding.{AddsAt, AddsToEach, AreApart, AreWholeTexts, HaveWords, LieWithin}
+use Rattle.par2_transform.specs.Adding.{AddsAt, AddsToEach, AreApart, AreWholeTexts, LieWithin}
 use Rattle.par2_transform.specs.Columns.{recovered}
 use Rattle.par2_transform.specs.declared.outputs.Place.{Place}
 use Rattle.par2_transform.proofs.WholeTexts.{whole_apart, whole_within, whole_added}
