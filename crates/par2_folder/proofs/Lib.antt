@@ -3,6 +3,7 @@ pub mod SortedFiles
 pub mod Lists
 pub mod Steps
 pub mod Filling
+pub mod Stores
 pub mod Below
 mod LentChanges
 pub mod Snapshots

@@ -1,6 +1,12 @@
 -- A store that passes calls on, and then fails.
-use Rattle.std.specs.Prelude.{◌≡◌, ℕ, ◌+◌, Bool, true, false}
+use Rattle.std.specs.Prelude.{◌≡◌, ◌⊎◌, ℕ, ◌+◌, ◌<◌, Bool, true, false, List, Result, IsErr, IsErrOf}
+use Rattle.par2_spec.specs.Changes.{Change}
+use Rattle.par2_spec.specs.Stores.{Contents, with_change, with_journal}
 use Rattle.par2_folder.specs.declared.fuse.FuseStore.{FuseStore}
+use Rattle.par2_folder.specs.declared.store.ReadFault.{ReadFault}
+use Rattle.par2_folder.specs.declared.store.ReadFault.TheVariants.{Store}
+use Rattle.par2_folder.specs.declared.store.StoreFault.{StoreFault}
+use Rattle.par2_folder.specs.declared.view.Store.{Ghosts as StoreOf}
 
 -- the store that it passes calls on to
 abbrev pub inner_store : {S : Type 0} → FuseStore S → S
@@ -39,3 +45,32 @@ pub record IsBlown {S : Type 0} (old new : FuseStore S) : Type 0 where
   pub works : does_work new ≡ false
   pub failures : fuse_failures new ≡ fuse_failures old + 1
   pub idle : does_work old ≡ false → inner_store new ≡ inner_store old
+
+-- what contracts see of it, by what they see of the other store
+abbrev pub fuse : {S : Type 0} → StoreOf S → StoreOf (FuseStore S)
+fuse store = record {
+  honest = λ it. store.honest (inner_store it);
+  contents = λ it. store.contents (inner_store it);
+  may_remain = λ it. store.may_remain (inner_store it);
+  failures = λ it. store.failures (inner_store it) + fuse_failures it;
+  impossible = λ it. store.impossible (inner_store it);
+  writing_calls = fuse_writing_calls;
+}
+
+-- a reading call was passed on, or failed
+pub record FusesRead {S T : Type 0} (old new : FuseStore S) (result : Result T ReadFault) : Type 0 where
+  pub passed : 0 < calls_left old → HasPassed old new
+  pub blown : calls_left old ≡ 0 → IsErrOf result Store × IsBlown old new
+
+-- a writing call was passed on, or failed. The first that fails may do its work, where the other store doesn't fail: it
+-- leaves these contents
+pub record Fuses {S : Type 0} (store : StoreOf S) (old new : FuseStore S) (after : Contents) (result : Result (Unit {0}) StoreFault) : Type 0 where
+  pub passed : 0 < calls_left old → HasPassed old new
+  pub worked : store.honest (inner_store old) → WorksNext old → (store.failures (inner_store old) < store.failures (inner_store new)) ⊎ (store.contents (inner_store new) ≡ after)
+  pub blown : calls_left old ≡ 0 → IsErr result × IsBlown old new
+
+abbrev pub FusesChange : {S : Type 0} → StoreOf S → FuseStore S → FuseStore S → Change → Result (Unit {0}) StoreFault → Type 0
+FusesChange store old new change result = Fuses store old new (with_change (store.contents (inner_store old)) change) result
+
+abbrev pub FusesJournal : {S : Type 0} → StoreOf S → FuseStore S → FuseStore S → List ℕ → Result (Unit {0}) StoreFault → Type 0
+FusesJournal store old new bytes result = Fuses store old new (with_journal (store.contents (inner_store old)) bytes) result

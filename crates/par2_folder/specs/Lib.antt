@@ -2,6 +2,7 @@ pub mod Sorting
 pub mod Views
 pub mod Memory
 pub mod Cuts
+pub mod Stores
 pub mod Directories
 pub mod Disk
 pub mod Fuse

@@ -1,11 +1,13 @@
 //! The current directory.
-ghost use Rattle.std.specs.Prelude.{◌≡◌, ◌+◌, ◌⊎◌, ◌↔◌, IfOk, IsOk, IsErr, IsTrue, OnOk, OnErr};
+ghost use Rattle.std.specs.Prelude.{◌≡◌, ◌+◌, ◌⊎◌, ◌↔◌, IfOk, IsOk, IsErr, IsTrue, OnErr};
 ghost use Rattle.std.specs.IoError.{error_kind};
 ghost use Rattle.par2_folder.specs.Directories.{IsFoundBy};
+ghost use Rattle.par2_folder.specs.Stores.{CountsFailures};
 
 use crate::directory::{Directory, Found, Place};
 use crate::listing::names_listed;
 use crate::reading::read_opened;
+use crate::view::Disk;
 use crate::waiting::{wait_for, written_to};
 use crate::{Count, Name, ReadFault, StoreFault};
 use std::alloc::Global;
@@ -61,7 +63,7 @@ impl<'r, R: Files + AllocGlobal> CurrentDirectory<'r, R> {
     fn counted(&mut self, answer: io::Result<()>) -> Result<(), StoreFault>
         ensures made { IsOk result ↔ IsOk answer }
         ensures failed { OnErr result (self.new.failures.count ≡ self.old.failures.count + 1) }
-        ensures steady { OnOk result (self.new.failures.count ≡ self.old.failures.count) }
+        ensures failures { CountsFailures (λ it. it.failures.count) self.old self.new result }
     {
         match answer {
             Ok(()) => Ok(()),
@@ -106,7 +108,7 @@ impl<'r, R: Files + AllocGlobal> CurrentDirectory<'r, R> {
     }
 }
 
-impl<'r, R: Files + AllocGlobal> Directory for CurrentDirectory<'r, R> {
+impl<'r, R: Files + AllocGlobal> Disk for CurrentDirectory<'r, R> {
     ghost use Rattle.std.specs.Prelude.{None, ⊤};
     ghost use Rattle.std.specs.FinMap.{empty};
 
@@ -125,7 +127,9 @@ impl<'r, R: Files + AllocGlobal> Directory for CurrentDirectory<'r, R> {
     ghost may_fail = { λ _ _. ⊤ };
 
     ghost failures = { λ directory. directory.failures.count };
+}
 
+impl<'r, R: Files + AllocGlobal> Directory for CurrentDirectory<'r, R> {
     fn names(&self, alloc: Global) -> Result<Vec<Name>, ReadFault> {
         names_listed(fs::read_dir(&self.rt, "."), alloc)
     }

@@ -2,7 +2,7 @@
 ghost use Rattle.std.specs.Prelude.{◌≡◌, ◌+◌, ◌-◌, nat_lt, false};
 ghost use Rattle.par2_folder.specs.Fuse.{inner_store, fuse_failures, fuse_writing_calls, calls_left, does_work};
 
-use crate::{Count, FolderStore, Name, ReadFault, StoreFault};
+use crate::{Count, FolderStore, Name, ReadFault, Store, StoreFault};
 use std::alloc::Global;
 use std::mem;
 
@@ -70,14 +70,9 @@ impl<S: FolderStore> FuseStore<S> {
     }
 }
 
-impl<S: FolderStore> FolderStore for FuseStore<S> {
-    ghost use Rattle.std.specs.Prelude.{◌≡◌, ◌⊎◌, ◌+◌, ◌<◌, ◌≤◌, IfOk, OnOk, OnErr, IsErr, IsErrOf, IsTrue, IsFalse, Some, None, option_map};
-    ghost use Rattle.std.specs.FinMap.{get};
-    ghost use Rattle.par2_spec.specs.Folders.{has, names};
-    ghost use Rattle.par2_spec.specs.Changes.{Write, Replace, Rename, Remove, is_applicable};
-    ghost use Rattle.par2_spec.specs.Stores.{with_change, with_journal};
-    ghost use Rattle.par2_folder.specs.Cuts.{Lasts, NoMoreRemains, RemainsEither};
-    ghost use Rattle.par2_folder.specs.Fuse.{inner_store, fuse_failures, fuse_writing_calls, calls_left, HasPassed, IsBlown, WorksNext};
+impl<S: FolderStore> Store for FuseStore<S> {
+    ghost use Rattle.std.specs.Prelude.{◌+◌};
+    ghost use Rattle.par2_folder.specs.Fuse.{inner_store, fuse_failures, fuse_writing_calls};
 
     ghost honest = { λ store. S.honest (inner_store store) };
 
@@ -90,29 +85,19 @@ impl<S: FolderStore> FolderStore for FuseStore<S> {
     ghost impossible = { λ store. S.impossible (inner_store store) };
 
     ghost writing_calls = { fuse_writing_calls };
+}
+
+impl<S: FolderStore> FolderStore for FuseStore<S> {
+    ghost use Rattle.std.specs.Prelude.{◌≡◌, ◌+◌};
+    ghost use Rattle.par2_spec.specs.Changes.{Write, Replace, Rename, Remove};
+    ghost use Rattle.par2_folder.specs.Fuse.{fuse, fuse_writing_calls, FusesChange, FusesJournal, FusesRead};
+    ghost use Rattle.par2_folder.specs.Stores.{CountsFailures, CountsReadFailures, Makes, OnlyReads, PutsJournal, ReadsFile, ReadsJournal, ReadsNames};
 
     fn names(&mut self, alloc: Global) -> Result<Vec<Name>, ReadFault>
-        ensures honest { S.honest (inner_store self.old) → S.honest (inner_store self.new) }
-        ensures names { S.honest (inner_store self.old)
-            → IfOk result (λ list. list.items ≡ names (S.contents (inner_store self.old)).files) }
-        ensures same { S.honest (inner_store self.old)
-            → S.contents (inner_store self.new) ≡ S.contents (inner_store self.old) }
-        ensures remains { S.honest (inner_store self.old) → NoMoreRemains
-            (S.may_remain (inner_store self.old)) (S.may_remain (inner_store self.new)) }
-        ensures later { S.failures (inner_store self.old) + fuse_failures self.old
-            ≤ S.failures (inner_store self.new) + fuse_failures self.new }
-        ensures cause { IsErrOf result ReadFault.Store → S.failures (inner_store self.old)
-            + fuse_failures self.old < S.failures (inner_store self.new) + fuse_failures self.new }
-        ensures steady { OnOk result (S.failures (inner_store self.new) + fuse_failures self.new
-            ≡ S.failures (inner_store self.old) + fuse_failures self.old) }
-        ensures memory { IsErrOf result ReadFault.Memory → S.failures (inner_store self.new)
-            + fuse_failures self.new ≡ S.failures (inner_store self.old) + fuse_failures self.old }
-        ensures possible { S.impossible (inner_store self.new)
-            ≡ S.impossible (inner_store self.old) }
-        ensures unwritten { fuse_writing_calls self.new ≡ fuse_writing_calls self.old }
-        ensures passed { 0 < calls_left self.old → HasPassed self.old self.new }
-        ensures blown { calls_left self.old ≡ 0
-            → IsErrOf result ReadFault.Store × IsBlown self.old self.new }
+        ensures names { ReadsNames (fuse S.Store) self.old self.new result }
+        ensures reads { OnlyReads (fuse S.Store) self.old self.new }
+        ensures failures { CountsReadFailures (fuse S.Store).failures self.old self.new result }
+        ensures fused { FusesRead self.old self.new result }
     {
         if self.passes() {
             return self.inner.names(alloc);
@@ -122,33 +107,10 @@ impl<S: FolderStore> FolderStore for FuseStore<S> {
     }
 
     fn read(&mut self, alloc: Global, name: &Name) -> Result<Vec<u8>, ReadFault>
-        ensures honest { S.honest (inner_store self.old) → S.honest (inner_store self.new) }
-        ensures bytes { S.honest (inner_store self.old) → IfOk result
-            (λ bytes. get (S.contents (inner_store self.old)).files name.now ≡ Some bytes.items) }
-        ensures absent { S.honest (inner_store self.old)
-            → get (S.contents (inner_store self.old)).files name.now ≡ None
-            → IsErrOf result ReadFault.Store }
-        ensures same { S.honest (inner_store self.old)
-            → S.contents (inner_store self.new) ≡ S.contents (inner_store self.old) }
-        ensures remains { S.honest (inner_store self.old) → NoMoreRemains
-            (S.may_remain (inner_store self.old)) (S.may_remain (inner_store self.new)) }
-        ensures later { S.failures (inner_store self.old) + fuse_failures self.old
-            ≤ S.failures (inner_store self.new) + fuse_failures self.new }
-        ensures cause { IsErrOf result ReadFault.Store → S.failures (inner_store self.old)
-            + fuse_failures self.old < S.failures (inner_store self.new) + fuse_failures self.new }
-        ensures steady { OnOk result (S.failures (inner_store self.new) + fuse_failures self.new
-            ≡ S.failures (inner_store self.old) + fuse_failures self.old) }
-        ensures memory { IsErrOf result ReadFault.Memory → S.failures (inner_store self.new)
-            + fuse_failures self.new ≡ S.failures (inner_store self.old) + fuse_failures self.old }
-        ensures possible { S.honest (inner_store self.old)
-            → IsTrue (has (S.contents (inner_store self.old)).files name.now)
-            → S.impossible (inner_store self.new) ≡ S.impossible (inner_store self.old) }
-        ensures grows { S.impossible (inner_store self.old)
-            ≤ S.impossible (inner_store self.new) }
-        ensures unwritten { fuse_writing_calls self.new ≡ fuse_writing_calls self.old }
-        ensures passed { 0 < calls_left self.old → HasPassed self.old self.new }
-        ensures blown { calls_left self.old ≡ 0
-            → IsErrOf result ReadFault.Store × IsBlown self.old self.new }
+        ensures file { ReadsFile (fuse S.Store) self.old self.new name.now result }
+        ensures reads { OnlyReads (fuse S.Store) self.old self.new }
+        ensures failures { CountsReadFailures (fuse S.Store).failures self.old self.new result }
+        ensures fused { FusesRead self.old self.new result }
     {
         if self.passes() {
             return self.inner.read(alloc, name);
@@ -158,27 +120,10 @@ impl<S: FolderStore> FolderStore for FuseStore<S> {
     }
 
     fn read_journal(&mut self, alloc: Global) -> Result<Option<Vec<u8>>, ReadFault>
-        ensures honest { S.honest (inner_store self.old) → S.honest (inner_store self.new) }
-        ensures journal { S.honest (inner_store self.old) → IfOk result (λ journal. option_map
-            (λ bytes. bytes.items) journal ≡ (S.contents (inner_store self.old)).journal) }
-        ensures same { S.honest (inner_store self.old)
-            → S.contents (inner_store self.new) ≡ S.contents (inner_store self.old) }
-        ensures remains { S.honest (inner_store self.old) → NoMoreRemains
-            (S.may_remain (inner_store self.old)) (S.may_remain (inner_store self.new)) }
-        ensures later { S.failures (inner_store self.old) + fuse_failures self.old
-            ≤ S.failures (inner_store self.new) + fuse_failures self.new }
-        ensures cause { IsErrOf result ReadFault.Store → S.failures (inner_store self.old)
-            + fuse_failures self.old < S.failures (inner_store self.new) + fuse_failures self.new }
-        ensures steady { OnOk result (S.failures (inner_store self.new) + fuse_failures self.new
-            ≡ S.failures (inner_store self.old) + fuse_failures self.old) }
-        ensures memory { IsErrOf result ReadFault.Memory → S.failures (inner_store self.new)
-            + fuse_failures self.new ≡ S.failures (inner_store self.old) + fuse_failures self.old }
-        ensures possible { S.impossible (inner_store self.new)
-            ≡ S.impossible (inner_store self.old) }
-        ensures unwritten { fuse_writing_calls self.new ≡ fuse_writing_calls self.old }
-        ensures passed { 0 < calls_left self.old → HasPassed self.old self.new }
-        ensures blown { calls_left self.old ≡ 0
-            → IsErrOf result ReadFault.Store × IsBlown self.old self.new }
+        ensures journal { ReadsJournal (fuse S.Store) self.old self.new result }
+        ensures reads { OnlyReads (fuse S.Store) self.old self.new }
+        ensures failures { CountsReadFailures (fuse S.Store).failures self.old self.new result }
+        ensures fused { FusesRead self.old self.new result }
     {
         if self.passes() {
             return self.inner.read_journal(alloc);
@@ -188,42 +133,10 @@ impl<S: FolderStore> FolderStore for FuseStore<S> {
     }
 
     fn write(&mut self, name: &Name, bytes: &[u8]) -> Result<(), StoreFault>
-        ensures honest { S.honest (inner_store self.old) → S.honest (inner_store self.new) }
-        ensures impossible { S.honest (inner_store self.old)
-            → IsFalse (is_applicable (S.contents (inner_store self.old)).files (Write name.now bytes.now))
-            → IsErr result
-            × (S.contents (inner_store self.new) ≡ S.contents (inner_store self.old)) }
-        ensures done { S.honest (inner_store self.old)
-            → OnOk result (S.contents (inner_store self.new)
-            ≡ with_change (S.contents (inner_store self.old)) (Write name.now bytes.now)) }
-        ensures all_or_none { S.honest (inner_store self.old)
-            → OnErr result ((S.contents (inner_store self.new) ≡ S.contents (inner_store self.old))
-            ⊎ (S.contents (inner_store self.new)
-            ≡ with_change (S.contents (inner_store self.old)) (Write name.now bytes.now))) }
-        ensures lasts { S.honest (inner_store self.old) → OnOk result
-            (Lasts (S.may_remain (inner_store self.new)) (S.contents (inner_store self.new))) }
-        ensures remains { S.honest (inner_store self.old)
-            → Lasts (S.may_remain (inner_store self.old)) (S.contents (inner_store self.old))
-            → RemainsEither (S.may_remain (inner_store self.new))
-            (S.contents (inner_store self.old)) (with_change (S.contents (inner_store self.old)) (Write name.now bytes.now)) }
-        ensures later { S.failures (inner_store self.old) + fuse_failures self.old
-            ≤ S.failures (inner_store self.new) + fuse_failures self.new }
-        ensures cause { OnErr result (S.failures (inner_store self.old) + fuse_failures self.old
-            < S.failures (inner_store self.new) + fuse_failures self.new) }
-        ensures steady { OnOk result (S.failures (inner_store self.new) + fuse_failures self.new
-            ≡ S.failures (inner_store self.old) + fuse_failures self.old) }
-        ensures possible { S.honest (inner_store self.old) → IsTrue (is_applicable
-            (S.contents (inner_store self.old)).files (Write name.now bytes.now))
-            → S.impossible (inner_store self.new) ≡ S.impossible (inner_store self.old) }
-        ensures grows { S.impossible (inner_store self.old)
-            ≤ S.impossible (inner_store self.new) }
+        ensures made { Makes (fuse S.Store) self.old self.new (Write name.now bytes.now) result }
+        ensures failures { CountsFailures (fuse S.Store).failures self.old self.new result }
         ensures counted { fuse_writing_calls self.new ≡ fuse_writing_calls self.old + 1 }
-        ensures passed { 0 < calls_left self.old → HasPassed self.old self.new }
-        ensures worked { S.honest (inner_store self.old) → WorksNext self.old
-            → (S.failures (inner_store self.old) < S.failures (inner_store self.new))
-            ⊎ (S.contents (inner_store self.new)
-            ≡ with_change (S.contents (inner_store self.old)) (Write name.now bytes.now)) }
-        ensures blown { calls_left self.old ≡ 0 → IsErr result × IsBlown self.old self.new }
+        ensures fused { FusesChange S.Store self.old self.new (Write name.now bytes.now) result }
     {
         self.writing_calls.rise();
         if self.passes() {
@@ -236,42 +149,10 @@ impl<S: FolderStore> FolderStore for FuseStore<S> {
     }
 
     fn replace(&mut self, name: &Name, bytes: &[u8]) -> Result<(), StoreFault>
-        ensures honest { S.honest (inner_store self.old) → S.honest (inner_store self.new) }
-        ensures impossible { S.honest (inner_store self.old)
-            → IsFalse (is_applicable (S.contents (inner_store self.old)).files (Replace name.now bytes.now))
-            → IsErr result
-            × (S.contents (inner_store self.new) ≡ S.contents (inner_store self.old)) }
-        ensures done { S.honest (inner_store self.old)
-            → OnOk result (S.contents (inner_store self.new)
-            ≡ with_change (S.contents (inner_store self.old)) (Replace name.now bytes.now)) }
-        ensures all_or_none { S.honest (inner_store self.old)
-            → OnErr result ((S.contents (inner_store self.new) ≡ S.contents (inner_store self.old))
-            ⊎ (S.contents (inner_store self.new)
-            ≡ with_change (S.contents (inner_store self.old)) (Replace name.now bytes.now))) }
-        ensures lasts { S.honest (inner_store self.old) → OnOk result
-            (Lasts (S.may_remain (inner_store self.new)) (S.contents (inner_store self.new))) }
-        ensures remains { S.honest (inner_store self.old)
-            → Lasts (S.may_remain (inner_store self.old)) (S.contents (inner_store self.old))
-            → RemainsEither (S.may_remain (inner_store self.new))
-            (S.contents (inner_store self.old)) (with_change (S.contents (inner_store self.old)) (Replace name.now bytes.now)) }
-        ensures later { S.failures (inner_store self.old) + fuse_failures self.old
-            ≤ S.failures (inner_store self.new) + fuse_failures self.new }
-        ensures cause { OnErr result (S.failures (inner_store self.old) + fuse_failures self.old
-            < S.failures (inner_store self.new) + fuse_failures self.new) }
-        ensures steady { OnOk result (S.failures (inner_store self.new) + fuse_failures self.new
-            ≡ S.failures (inner_store self.old) + fuse_failures self.old) }
-        ensures possible { S.honest (inner_store self.old) → IsTrue (is_applicable
-            (S.contents (inner_store self.old)).files (Replace name.now bytes.now))
-            → S.impossible (inner_store self.new) ≡ S.impossible (inner_store self.old) }
-        ensures grows { S.impossible (inner_store self.old)
-            ≤ S.impossible (inner_store self.new) }
+        ensures made { Makes (fuse S.Store) self.old self.new (Replace name.now bytes.now) result }
+        ensures failures { CountsFailures (fuse S.Store).failures self.old self.new result }
         ensures counted { fuse_writing_calls self.new ≡ fuse_writing_calls self.old + 1 }
-        ensures passed { 0 < calls_left self.old → HasPassed self.old self.new }
-        ensures worked { S.honest (inner_store self.old) → WorksNext self.old
-            → (S.failures (inner_store self.old) < S.failures (inner_store self.new))
-            ⊎ (S.contents (inner_store self.new)
-            ≡ with_change (S.contents (inner_store self.old)) (Replace name.now bytes.now)) }
-        ensures blown { calls_left self.old ≡ 0 → IsErr result × IsBlown self.old self.new }
+        ensures fused { FusesChange S.Store self.old self.new (Replace name.now bytes.now) result }
     {
         self.writing_calls.rise();
         if self.passes() {
@@ -284,41 +165,10 @@ impl<S: FolderStore> FolderStore for FuseStore<S> {
     }
 
     fn rename(&mut self, from: &Name, to: &Name) -> Result<(), StoreFault>
-        ensures honest { S.honest (inner_store self.old) → S.honest (inner_store self.new) }
-        ensures impossible { S.honest (inner_store self.old) → IsFalse (is_applicable
-            (S.contents (inner_store self.old)).files (Rename from.now to.now)) → IsErr result
-            × (S.contents (inner_store self.new) ≡ S.contents (inner_store self.old)) }
-        ensures done { S.honest (inner_store self.old)
-            → OnOk result (S.contents (inner_store self.new)
-            ≡ with_change (S.contents (inner_store self.old)) (Rename from.now to.now)) }
-        ensures all_or_none { S.honest (inner_store self.old)
-            → OnErr result ((S.contents (inner_store self.new) ≡ S.contents (inner_store self.old))
-            ⊎ (S.contents (inner_store self.new)
-            ≡ with_change (S.contents (inner_store self.old)) (Rename from.now to.now))) }
-        ensures lasts { S.honest (inner_store self.old) → OnOk result
-            (Lasts (S.may_remain (inner_store self.new)) (S.contents (inner_store self.new))) }
-        ensures remains { S.honest (inner_store self.old)
-            → Lasts (S.may_remain (inner_store self.old)) (S.contents (inner_store self.old))
-            → RemainsEither (S.may_remain (inner_store self.new))
-            (S.contents (inner_store self.old)) (with_change (S.contents (inner_store self.old)) (Rename from.now to.now)) }
-        ensures later { S.failures (inner_store self.old) + fuse_failures self.old
-            ≤ S.failures (inner_store self.new) + fuse_failures self.new }
-        ensures cause { OnErr result (S.failures (inner_store self.old) + fuse_failures self.old
-            < S.failures (inner_store self.new) + fuse_failures self.new) }
-        ensures steady { OnOk result (S.failures (inner_store self.new) + fuse_failures self.new
-            ≡ S.failures (inner_store self.old) + fuse_failures self.old) }
-        ensures possible { S.honest (inner_store self.old) → IsTrue (is_applicable
-            (S.contents (inner_store self.old)).files (Rename from.now to.now))
-            → S.impossible (inner_store self.new) ≡ S.impossible (inner_store self.old) }
-        ensures grows { S.impossible (inner_store self.old)
-            ≤ S.impossible (inner_store self.new) }
+        ensures made { Makes (fuse S.Store) self.old self.new (Rename from.now to.now) result }
+        ensures failures { CountsFailures (fuse S.Store).failures self.old self.new result }
         ensures counted { fuse_writing_calls self.new ≡ fuse_writing_calls self.old + 1 }
-        ensures passed { 0 < calls_left self.old → HasPassed self.old self.new }
-        ensures worked { S.honest (inner_store self.old) → WorksNext self.old
-            → (S.failures (inner_store self.old) < S.failures (inner_store self.new))
-            ⊎ (S.contents (inner_store self.new)
-            ≡ with_change (S.contents (inner_store self.old)) (Rename from.now to.now)) }
-        ensures blown { calls_left self.old ≡ 0 → IsErr result × IsBlown self.old self.new }
+        ensures fused { FusesChange S.Store self.old self.new (Rename from.now to.now) result }
     {
         self.writing_calls.rise();
         if self.passes() {
@@ -331,42 +181,10 @@ impl<S: FolderStore> FolderStore for FuseStore<S> {
     }
 
     fn remove(&mut self, name: &Name) -> Result<(), StoreFault>
-        ensures honest { S.honest (inner_store self.old) → S.honest (inner_store self.new) }
-        ensures impossible { S.honest (inner_store self.old)
-            → IsFalse (is_applicable (S.contents (inner_store self.old)).files (Remove name.now))
-            → IsErr result
-            × (S.contents (inner_store self.new) ≡ S.contents (inner_store self.old)) }
-        ensures done { S.honest (inner_store self.old)
-            → OnOk result (S.contents (inner_store self.new)
-            ≡ with_change (S.contents (inner_store self.old)) (Remove name.now)) }
-        ensures all_or_none { S.honest (inner_store self.old)
-            → OnErr result ((S.contents (inner_store self.new) ≡ S.contents (inner_store self.old))
-            ⊎ (S.contents (inner_store self.new)
-            ≡ with_change (S.contents (inner_store self.old)) (Remove name.now))) }
-        ensures lasts { S.honest (inner_store self.old) → OnOk result
-            (Lasts (S.may_remain (inner_store self.new)) (S.contents (inner_store self.new))) }
-        ensures remains { S.honest (inner_store self.old)
-            → Lasts (S.may_remain (inner_store self.old)) (S.contents (inner_store self.old))
-            → RemainsEither (S.may_remain (inner_store self.new))
-            (S.contents (inner_store self.old)) (with_change (S.contents (inner_store self.old)) (Remove name.now)) }
-        ensures later { S.failures (inner_store self.old) + fuse_failures self.old
-            ≤ S.failures (inner_store self.new) + fuse_failures self.new }
-        ensures cause { OnErr result (S.failures (inner_store self.old) + fuse_failures self.old
-            < S.failures (inner_store self.new) + fuse_failures self.new) }
-        ensures steady { OnOk result (S.failures (inner_store self.new) + fuse_failures self.new
-            ≡ S.failures (inner_store self.old) + fuse_failures self.old) }
-        ensures possible { S.honest (inner_store self.old) → IsTrue (is_applicable
-            (S.contents (inner_store self.old)).files (Remove name.now))
-            → S.impossible (inner_store self.new) ≡ S.impossible (inner_store self.old) }
-        ensures grows { S.impossible (inner_store self.old)
-            ≤ S.impossible (inner_store self.new) }
+        ensures made { Makes (fuse S.Store) self.old self.new (Remove name.now) result }
+        ensures failures { CountsFailures (fuse S.Store).failures self.old self.new result }
         ensures counted { fuse_writing_calls self.new ≡ fuse_writing_calls self.old + 1 }
-        ensures passed { 0 < calls_left self.old → HasPassed self.old self.new }
-        ensures worked { S.honest (inner_store self.old) → WorksNext self.old
-            → (S.failures (inner_store self.old) < S.failures (inner_store self.new))
-            ⊎ (S.contents (inner_store self.new)
-            ≡ with_change (S.contents (inner_store self.old)) (Remove name.now)) }
-        ensures blown { calls_left self.old ≡ 0 → IsErr result × IsBlown self.old self.new }
+        ensures fused { FusesChange S.Store self.old self.new (Remove name.now) result }
     {
         self.writing_calls.rise();
         if self.passes() {
@@ -379,34 +197,10 @@ impl<S: FolderStore> FolderStore for FuseStore<S> {
     }
 
     fn put_journal(&mut self, bytes: &[u8]) -> Result<(), StoreFault>
-        ensures honest { S.honest (inner_store self.old) → S.honest (inner_store self.new) }
-        ensures done { S.honest (inner_store self.old) → OnOk result (S.contents
-            (inner_store self.new) ≡ with_journal (S.contents (inner_store self.old)) bytes.now) }
-        ensures all_or_none { S.honest (inner_store self.old)
-            → OnErr result ((S.contents (inner_store self.new) ≡ S.contents (inner_store self.old))
-            ⊎ (S.contents (inner_store self.new)
-            ≡ with_journal (S.contents (inner_store self.old)) bytes.now)) }
-        ensures lasts { S.honest (inner_store self.old) → OnOk result
-            (Lasts (S.may_remain (inner_store self.new)) (S.contents (inner_store self.new))) }
-        ensures remains { S.honest (inner_store self.old)
-            → Lasts (S.may_remain (inner_store self.old)) (S.contents (inner_store self.old))
-            → RemainsEither (S.may_remain (inner_store self.new))
-            (S.contents (inner_store self.old)) (with_journal (S.contents (inner_store self.old)) bytes.now) }
-        ensures later { S.failures (inner_store self.old) + fuse_failures self.old
-            ≤ S.failures (inner_store self.new) + fuse_failures self.new }
-        ensures cause { OnErr result (S.failures (inner_store self.old) + fuse_failures self.old
-            < S.failures (inner_store self.new) + fuse_failures self.new) }
-        ensures steady { OnOk result (S.failures (inner_store self.new) + fuse_failures self.new
-            ≡ S.failures (inner_store self.old) + fuse_failures self.old) }
-        ensures possible { S.impossible (inner_store self.new)
-            ≡ S.impossible (inner_store self.old) }
+        ensures put { PutsJournal (fuse S.Store) self.old self.new bytes.now result }
+        ensures failures { CountsFailures (fuse S.Store).failures self.old self.new result }
         ensures counted { fuse_writing_calls self.new ≡ fuse_writing_calls self.old + 1 }
-        ensures passed { 0 < calls_left self.old → HasPassed self.old self.new }
-        ensures worked { S.honest (inner_store self.old) → WorksNext self.old
-            → (S.failures (inner_store self.old) < S.failures (inner_store self.new))
-            ⊎ (S.contents (inner_store self.new)
-            ≡ with_journal (S.contents (inner_store self.old)) bytes.now) }
-        ensures blown { calls_left self.old ≡ 0 → IsErr result × IsBlown self.old self.new }
+        ensures fused { FusesJournal S.Store self.old self.new bytes.now result }
     {
         self.writing_calls.rise();
         if self.passes() {

@@ -23,6 +23,7 @@ mod runs;
 mod snapshot;
 mod store;
 mod survey;
+mod view;
 mod waiting;
 mod walk;
 
@@ -42,3 +43,4 @@ pub use par2_spec::ChangeFault;
 pub use reading::read_within;
 pub use store::{FolderStore, ReadFault, StoreFault};
 pub use survey::{Survey, survey_folder};
+pub use view::Store;

@@ -1,9 +1,7 @@
 //! Reading the folder of a store into memory.
-ghost use Rattle.std.specs.Prelude.{◌≡◌, ◌<◌, ◌≤◌, List, ℕ, Some, IfOk, OnOk, IsErrOf, IsTrue};
-ghost use Rattle.std.specs.FinMap.{get};
-ghost use Rattle.par2_spec.specs.Folders.{has};
-ghost use Rattle.par2_folder.specs.Cuts.{NoMoreRemains};
-ghost use Rattle.par2_folder.specs.Filling.{IsTried};
+ghost use Rattle.std.specs.Prelude.{◌≡◌, IfOk};
+ghost use Rattle.par2_folder.specs.Filling.{HasFilesOf, IsTried, LoadsFile};
+ghost use Rattle.par2_folder.specs.Stores.{CountsReadFailures, OnlyReads};
 
 use crate::{Bytes, Change, Folder, FolderStore, Name, ReadFault};
 use std::alloc::{AllocError, Global};
@@ -23,21 +21,9 @@ fn load_file<S: FolderStore>(
     name: &Name,
     folder: &mut Folder,
 ) -> Result<(), ReadFault>
-    ensures honest { S.honest store.old → S.honest store.new }
-    ensures tried { OnOk result ((bytes : List ℕ) × (IsTried folder.old folder.new name.now bytes
-        × (S.honest store.old → get (S.contents store.old).files name.now ≡ Some bytes))) }
-    ensures same { S.honest store.old → S.contents store.new ≡ S.contents store.old }
-    ensures remains { S.honest store.old
-        → NoMoreRemains (S.may_remain store.old) (S.may_remain store.new) }
-    ensures later { S.failures store.old ≤ S.failures store.new }
-    ensures cause { IsErrOf result ReadFault.Store → S.failures store.old < S.failures store.new }
-    ensures steady { OnOk result (S.failures store.new ≡ S.failures store.old) }
-    ensures memory { IsErrOf result ReadFault.Memory
-        → S.failures store.new ≡ S.failures store.old }
-    ensures unwritten { S.writing_calls store.new ≡ S.writing_calls store.old }
-    ensures possible { S.honest store.old
-        → IsTrue (has (S.contents store.old).files name.now)
-        → S.impossible store.new ≡ S.impossible store.old }
+    ensures file { LoadsFile S.Store store.old store.new folder.old folder.new name.now result }
+    ensures reads { OnlyReads S.Store store.old store.new }
+    ensures failures { CountsReadFailures S.failures store.old store.new result }
 {
     match store.read(alloc, name) {
         Ok(bytes) => {
@@ -51,18 +37,9 @@ fn load_file<S: FolderStore>(
 /// The folder of a store: its names are read, and then each file in their order. Where a store that is not honest
 /// lists a name twice, the bytes that it gave first count.
 pub fn read_folder<S: FolderStore>(alloc: Global, store: &mut S) -> Result<Folder, ReadFault>
-    ensures honest { S.honest store.old → S.honest store.new }
-    ensures files { S.honest store.old
-        → IfOk result (λ folder. folder.files ≡ (S.contents store.old).files) }
-    ensures same { S.honest store.old → S.contents store.new ≡ S.contents store.old }
-    ensures remains { S.honest store.old
-        → NoMoreRemains (S.may_remain store.old) (S.may_remain store.new) }
-    ensures later { S.failures store.old ≤ S.failures store.new }
-    ensures cause { IsErrOf result ReadFault.Store → S.failures store.old < S.failures store.new }
-    ensures steady { OnOk result (S.failures store.new ≡ S.failures store.old) }
-    ensures memory { IsErrOf result ReadFault.Memory
-        → S.failures store.new ≡ S.failures store.old }
-    ensures unwritten { S.writing_calls store.new ≡ S.writing_calls store.old }
+    ensures files { S.honest store.old → IfOk result (HasFilesOf (S.contents store.old)) }
+    ensures reads { OnlyReads S.Store store.old store.new }
+    ensures failures { CountsReadFailures S.failures store.old store.new result }
     ensures possible { S.honest store.old → S.impossible store.new ≡ S.impossible store.old }
 {
     let names = match store.names(alloc) {

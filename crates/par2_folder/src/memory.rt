@@ -1,5 +1,5 @@
 //! A store in memory.
-use crate::{Bytes, Change, Count, Folder, FolderStore, Name, ReadFault, StoreFault};
+use crate::{Bytes, Change, Count, Folder, FolderStore, Name, ReadFault, Store, StoreFault};
 use std::alloc::{AllocError, Global};
 
 /// A folder and a journal in memory. It is honest, and where a growth is refused in a writing call it fails. It has no
@@ -124,7 +124,7 @@ impl MemoryStore {
     }
 }
 
-impl FolderStore for MemoryStore {
+impl Store for MemoryStore {
     ghost use Rattle.std.specs.Prelude.{◌≡◌};
     ghost use Rattle.par2_folder.specs.Memory.{memory_contents, memory_failures, memory_impossible, memory_writing_calls};
 
@@ -139,7 +139,9 @@ impl FolderStore for MemoryStore {
     ghost impossible = { memory_impossible };
 
     ghost writing_calls = { memory_writing_calls };
+}
 
+impl FolderStore for MemoryStore {
     fn names(&mut self, _alloc: Global) -> Result<Vec<Name>, ReadFault> {
         match self.folder.names() {
             Ok(names) => Ok(names),

@@ -4,7 +4,7 @@ ghost use Rattle.std.specs.Prelude.{◌≡◌};
 use crate::files::copy_of;
 use crate::rows::{show, status_told};
 use anyhow::Result;
-use par2_folder::{FolderStore, MemoryStore, Name, ReadFault, StoreFault};
+use par2_folder::{FolderStore, MemoryStore, Name, ReadFault, Store, StoreFault};
 use std::alloc::Global;
 
 // More reading calls than a run below makes of its store.
@@ -43,7 +43,7 @@ impl WantingStore {
     }
 }
 
-impl FolderStore for WantingStore {
+impl Store for WantingStore {
     ghost use Rattle.std.specs.Prelude.{None};
     ghost use Rattle.std.specs.FinMap.{empty};
     ghost use Rattle.par2_folder.specs.Memory.{memory_failures, memory_impossible, memory_writing_calls};
@@ -59,7 +59,9 @@ impl FolderStore for WantingStore {
     ghost impossible = { λ store. memory_impossible store.inner };
 
     ghost writing_calls = { λ store. memory_writing_calls store.inner };
+}
 
+impl FolderStore for WantingStore {
     fn names(&mut self, alloc: Global) -> Result<Vec<Name>, ReadFault> {
         if self.has_memory() {
             return self.inner.names(alloc);

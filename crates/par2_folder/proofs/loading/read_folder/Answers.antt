@@ -4,42 +4,37 @@ use Rattle.std.specs.FinMap.{entries}
 use Rattle.par2_spec.specs.Folders.{names}
 use Rattle.par2_folder.proofs.SortedFiles.{begins_empty, still_there, next_file, is_whole}
 use Rattle.par2_spec.specs.Stores.{Contents}
+use Rattle.par2_folder.proofs.Stores.{reads_on}
 use Rattle.par2_folder.proofs.loading.read_folder.Goals as goal
 
 pub loop-name-init : goal.loop-name-init
 loop-name-init g c = record {
-  honest = c.in-Ok.ensures.honest;
-  same = c.in-Ok.ensures.same;
-  remains = c.in-Ok.ensures.remains;
-  later = c.in-Ok.ensures.later;
-  steady = c.in-Ok.ensures.steady;
-  unwritten = c.in-Ok.ensures.unwritten;
-  possible = λ _. c.in-Ok.ensures.possible;
-  listed = λ h. c.deref-name-items.ensures.value ∙ c.in-Ok.ensures.names h;
-  files = λ h. ap entries (c.in-Ok-reserve.ensures.files ∙ c.new-folder.ensures.files) ∙ begins_empty (g.S.FolderStore.contents c.args.store.now).files;
+  reads = c.in-Ok.ensures.reads;
+  later = c.in-Ok.ensures.failures.later;
+  steady = c.in-Ok.ensures.failures.steady;
+  possible = λ _. c.in-Ok.ensures.names.possible;
+  listed = λ h. c.deref-name-items.ensures.value ∙ c.in-Ok.ensures.names.names h;
+  files = λ h. ap entries (c.in-Ok-reserve.ensures.files ∙ c.new-folder.ensures.files) ∙ begins_empty (g.S.Store.contents c.args.store.now).files;
   places = let room = c.in-Ok-reserve.ensures.ok in omega (arith, c.len.ensures, c.deref-name-items.ensures.len);
 }
 
 pub loop-name-preserved : goal.loop-name-preserved
 loop-name-preserved g c =
     let so_far = c.loop-name.invariant in
-    let added = c.in_ok-load_file.ensures.tried in
+    let added = c.in_ok-load_file.ensures.file.tried in
     record {
-      honest = λ h. c.in_ok-load_file.ensures.honest (so_far.honest h);
-      same = λ h. c.in_ok-load_file.ensures.same (so_far.honest h) ∙ so_far.same h;
-      remains = λ h left may. so_far.remains h left (c.in_ok-load_file.ensures.remains (so_far.honest h) left may);
-      later = omega (arith, so_far.later, c.in_ok-load_file.ensures.later);
-      steady = c.in_ok-load_file.ensures.steady ∙ so_far.steady;
-      unwritten = c.in_ok-load_file.ensures.unwritten ∙ so_far.unwritten;
+      reads = reads_on so_far.reads c.in_ok-load_file.ensures.reads;
+      later = omega (arith, so_far.later, c.in_ok-load_file.ensures.failures.later);
+      steady = c.in_ok-load_file.ensures.failures.steady ∙ so_far.steady;
       possible = λ h.
-          let files = ap (λ (k : Contents). k.files) (so_far.same h) in
-          c.in_ok-load_file.ensures.possible (so_far.honest h) (still_there _ _ _ _ _ files (so_far.listed h) c.loop-name-test.true c.name-item.is) ∙ so_far.possible h;
+          let files = ap (λ (k : Contents). k.files) (so_far.reads.same h) in
+          c.in_ok-load_file.ensures.file.possible (so_far.reads.honest h) (still_there _ _ _ _ _ files (so_far.listed h) c.loop-name-test.true c.name-item.is) ∙ so_far.possible h;
       listed = so_far.listed;
       files = λ h.
-          let whole = (g.S.FolderStore.contents c.args.store.now).files in
+          let whole = (g.S.Store.contents c.args.store.now).files in
           let i = c.loop-name.name-index in
           let named : c.name-item.result ≡ get_or (names whole) i c.name-item.result = c.name-item.is ∙ ap (λ l. get_or l i c.name-item.result) (so_far.listed h) in
-          let found : map_of.get whole c.name-item.result ≡ Some added.0 = subst (λ (k : Contents). map_of.get k.files c.name-item.result ≡ Some added.0) (so_far.same h) (added.1.1 (so_far.honest h)) in
+          let found : map_of.get whole c.name-item.result ≡ Some added.0 = subst (λ (k : Contents). map_of.get k.files c.name-item.result ≡ Some added.0) (so_far.reads.same h) (added.1.1 (so_far.reads.honest h)) in
           let in_range : i < length (names whole) = subst (λ l. i < length l) (so_far.listed h) c.loop-name-test.true in
           let next = next_file whole c.loop-name.folder.files i _ _ c.name-item.result (so_far.files h) in_range named found in
           let room : 0 < c.loop-name.folder.vacant = omega (arith, so_far.places, c.loop-name-test.true) in
@@ -50,8 +45,8 @@ loop-name-preserved g c =
 pub returns-in_err-load_file-clause-possible : goal.returns-in_err-load_file-clause-possible
 returns-in_err-load_file-clause-possible g c h =
     let so_far = c.loop-name.invariant in
-    let files = ap (λ (k : Contents). k.files) (so_far.same h) in
-    c.in_err-load_file.ensures.possible (so_far.honest h) (still_there _ _ _ _ _ files (so_far.listed h) c.loop-name-test.true c.name-item.is) ∙ so_far.possible h
+    let files = ap (λ (k : Contents). k.files) (so_far.reads.same h) in
+    c.in_err-load_file.ensures.file.possible (so_far.reads.honest h) (still_there _ _ _ _ _ files (so_far.listed h) c.loop-name-test.true c.name-item.is) ∙ so_far.possible h
 
 pub returns-clause-files : goal.returns-clause-files
 returns-clause-files g c h = is_whole _ _ c.loop-name.name-index (c.loop-name.invariant.files h) (subst (λ l. length l ≤ c.loop-name.name-index) (c.loop-name.invariant.listed h) c.loop-name-test.false)

@@ -23,13 +23,13 @@ status_of_run g c =
 -- ---- a repair
 
 -- one that ends with a status below 6 other than 0 and 3 is refused
-refused_repair : (g : _) (c : After-run g) (folder : Folder) (base : List ℕ) (extras : List (List ℕ)) → g.S.FolderStore.honest c.args.store.now
-    → (asks : AskForRepair (map string_bytes c.args.words.now) (g.S.FolderStore.contents c.args.store.now) folder base extras) → (n : ℕ) → c.run.result ≡ n → n ≢ 0 → n ≢ 3 → n < 6
-    → IsRefused folder (g.S.FolderStore.contents c.args.store.now) (g.S.FolderStore.contents c.run.new.store) (Repair base extras asks.purge) n
+refused_repair : (g : _) (c : After-run g) (folder : Folder) (base : List ℕ) (extras : List (List ℕ)) → g.S.Store.honest c.args.store.now
+    → (asks : AskForRepair (map string_bytes c.args.words.now) (g.S.Store.contents c.args.store.now) folder base extras) → (n : ℕ) → c.run.result ≡ n → n ≢ 0 → n ≢ 3 → n < 6
+    → IsRefused folder (g.S.Store.contents c.args.store.now) (g.S.Store.contents c.run.new.store) (Repair base extras asks.purge) n
 refused_repair g c folder base extras honest asks n is zero three low =
     let words = map string_bytes c.args.words.now in
-    let old = g.S.FolderStore.contents c.args.store.now in
-    let new = g.S.FolderStore.contents c.run.new.store in
+    let old = g.S.Store.contents c.args.store.now in
+    let new = g.S.Store.contents c.run.new.store in
     let told = c.run.ensures.told in
     subst (IsRefused folder old new (Repair base extras asks.purge)) is
     (repair_refused c.stores_open_in_one_way.ensures words old new folder base extras asks told.0 c.run.result (status_of_run g c) (told.3 honest)
@@ -38,7 +38,7 @@ refused_repair g c folder base extras honest asks n is zero three low =
 pub returns-clause-restored : goal.returns-clause-restored
 returns-clause-restored g c folder base extras originals s honest asks original zero =
     let told = c.run.ensures.told in
-    let is = repaired c.stores_open_in_one_way.ensures (map string_bytes c.args.words.now) (g.S.FolderStore.contents c.args.store.now) (g.S.FolderStore.contents c.run.new.store)
+    let is = repaired c.stores_open_in_one_way.ensures (map string_bytes c.args.words.now) (g.S.Store.contents c.args.store.now) (g.S.Store.contents c.run.new.store)
     folder base extras asks told.0 c.run.result (status_of_run g c) (told.3 honest) zero in
     subst (λ (left : Folder). AllByRecursion (λ file. map_of.get left file.0 ≡ Some file.1) originals) (sym is.left)
     (c.accepted_repair_leaves_the_files.ensures folder base extras asks.purge originals s original is.accepted)
@@ -62,7 +62,7 @@ returns-clause-unchanged g c folder base extras honest asks two =
 pub returns-clause-inputs_restored : goal.returns-clause-inputs_restored
 returns-clause-inputs_restored g c before damaged a base extras honest asks follows zero =
     let told = c.run.ensures.told in
-    let is = repaired c.stores_open_in_one_way.ensures (map string_bytes c.args.words.now) (g.S.FolderStore.contents c.args.store.now) (g.S.FolderStore.contents c.run.new.store)
+    let is = repaired c.stores_open_in_one_way.ensures (map string_bytes c.args.words.now) (g.S.Store.contents c.args.store.now) (g.S.Store.contents c.run.new.store)
     damaged base extras asks told.0 c.run.result (status_of_run g c) (told.3 honest) zero in
     subst (λ (left : Folder). AllByRecursion (λ name. map_of.get left name ≡ map_of.get before name) a.inputs) (sym is.left)
     (c.repair_gives_the_created_files_back.ensures before damaged a base extras asks.purge follows is.accepted)
@@ -89,8 +89,8 @@ returns-clause-inputs_undetermined g c before damaged a base extras honest asks 
 
 pub returns-clause-undone : goal.returns-clause-undone
 returns-clause-undone g c started honest asked opens zero =
-    let old = g.S.FolderStore.contents c.args.store.now in
-    let new = g.S.FolderStore.contents c.run.new.store in
+    let old = g.S.Store.contents c.args.store.now in
+    let new = g.S.Store.contents c.run.new.store in
     let told = c.run.ensures.told in
     let effect : TakesEffect Undo old new = inl (accepted_with_zero (map string_bytes c.args.words.now) old new Undo asked told.0 c.run.result (status_of_run g c) (told.3 honest) zero) in
     let laws = c.runs_keep_one_history.ensures in
@@ -98,8 +98,8 @@ returns-clause-undone g c started honest asked opens zero =
 
 pub returns-clause-done : goal.returns-clause-done
 returns-clause-done g c action honest asked zero =
-    let old = g.S.FolderStore.contents c.args.store.now in
-    let new = g.S.FolderStore.contents c.run.new.store in
+    let old = g.S.Store.contents c.args.store.now in
+    let new = g.S.Store.contents c.run.new.store in
     let told = c.run.ensures.told in
     let effect : TakesEffect action old new = inl (accepted_with_zero (map string_bytes c.args.words.now) old new action asked told.0 c.run.result (status_of_run g c) (told.3 honest) zero) in
     (effect, c.runs_keep_one_history.ensures.settled old new action effect)
@@ -107,14 +107,14 @@ returns-clause-done g c action honest asked zero =
 pub returns-clause-effect : goal.returns-clause-effect
 returns-clause-effect g c action honest asked apart =
     let told = c.run.ensures.told in
-    effect_of (map string_bytes c.args.words.now) (g.S.FolderStore.contents c.args.store.now) (g.S.FolderStore.contents c.run.new.store) action asked told.0 (told.3 honest) apart
+    effect_of (map string_bytes c.args.words.now) (g.S.Store.contents c.args.store.now) (g.S.Store.contents c.run.new.store) action asked told.0 (told.3 honest) apart
 
 pub returns-clause-cut : goal.returns-clause-cut
 returns-clause-cut g c action honest lasts asked apart left may =
-    stopped_effect (g.S.FolderStore.contents c.args.store.now) left action (c.run.ensures.cut action honest lasts asked left may apart.back apart.along)
+    stopped_effect (g.S.Store.contents c.args.store.now) left action (c.run.ensures.cut action honest lasts asked left may apart.back apart.along)
 
 pub returns-clause-unwritten : goal.returns-clause-unwritten
 returns-clause-unwritten g c base extras honest asked none =
     let told = c.run.ensures.told in
-    verify_makes_none (map string_bytes c.args.words.now) (g.S.FolderStore.contents c.args.store.now) (g.S.FolderStore.writing_calls c.args.store.now) (g.S.FolderStore.writing_calls c.run.new.store)
+    verify_makes_none (map string_bytes c.args.words.now) (g.S.Store.contents c.args.store.now) (g.S.Store.writing_calls c.args.store.now) (g.S.Store.writing_calls c.run.new.store)
     base extras none asked told.0 (told.4 honest)

@@ -23,7 +23,7 @@ opens_so g c = subst (λ found. Opens c.args.folder.files c.args.text.now (Ok (o
 pub returns-in-Err-FolderChanged-false-default-clause-opened : goal.returns-in-Err-FolderChanged-false-default-clause-opened
 returns-in-Err-FolderChanged-false-default-clause-opened g c honest read =
     let arm = c.in-Err-FolderChanged-false-default in
-    let contents = g.S.FolderStore.contents c.args.store.now in
+    let contents = g.S.Store.contents c.args.store.now in
     let session = c.new.result in
     let files = c.args.folder.files in
     let started : Started = record { session = session_of_kept session; dropped = true } in
@@ -40,13 +40,13 @@ returns-in-Ok-Settled-clause-opened g c honest read =
     let text = c.args.text.now in
     let session = c.in-Ok-Settled.session in
     let opens = subst (λ found. Opens files text (Ok (opened_of found))) c.in-Ok-Settled.field-0-is c.in-Ok-Settled.ensures.opened in
-    let holds = holds_settled (g.S.FolderStore.contents c.args.store.now) files text (session_of_kept session) read opens in
+    let holds = holds_settled (g.S.Store.contents c.args.store.now) files text (session_of_kept session) read opens in
     record { opens = holds.opens; holds = holds; left = inl refl }
 
 pub returns-in_ok-session-in-Ok-Halfway-clause-opened : goal.returns-in_ok-session-in-Ok-Halfway-clause-opened
 returns-in_ok-session-in-Ok-Halfway-clause-opened g c honest read =
-    let old = g.S.FolderStore.contents c.args.store.now in
-    let new = g.S.FolderStore.contents c.take_back.new.store in
+    let old = g.S.Store.contents c.args.store.now in
+    let new = g.S.Store.contents c.take_back.new.store in
     let files = c.args.folder.files in
     let text = c.args.text.now in
     let halfway = c.in-Ok-Halfway.halfway in
@@ -56,15 +56,15 @@ returns-in_ok-session-in-Ok-Halfway-clause-opened g c honest read =
     (opened_taken_back old new files text (session_of_kept (session_before halfway)) (way_left halfway) read opens (arm.ensures.done honest))
 
 -- what is taken back opens as it did, wherever it is cut
-taken_back : (g : _) (c : In-Ok-Halfway g) → (left : Contents) → IsRead (g.S.FolderStore.contents c.args.store.now) c.args.folder.files (Some c.args.text.now) → TellsApartBack (g.S.FolderStore.contents c.args.store.now)
-    → IsStillHalfway (session_of_kept (session_before c.in-Ok-Halfway.halfway)) (way_left c.in-Ok-Halfway.halfway) (g.S.FolderStore.contents c.args.store.now) left → OpensAsBefore (g.S.FolderStore.contents c.args.store.now) left
+taken_back : (g : _) (c : In-Ok-Halfway g) → (left : Contents) → IsRead (g.S.Store.contents c.args.store.now) c.args.folder.files (Some c.args.text.now) → TellsApartBack (g.S.Store.contents c.args.store.now)
+    → IsStillHalfway (session_of_kept (session_before c.in-Ok-Halfway.halfway)) (way_left c.in-Ok-Halfway.halfway) (g.S.Store.contents c.args.store.now) left → OpensAsBefore (g.S.Store.contents c.args.store.now) left
 taken_back g c left read apart still =
-    opens_still (g.S.FolderStore.contents c.args.store.now) left c.args.folder.files c.args.text.now (session_of_kept (session_before c.in-Ok-Halfway.halfway)) (way_left c.in-Ok-Halfway.halfway) read (opens_so g c) apart still
+    opens_still (g.S.Store.contents c.args.store.now) left c.args.folder.files c.args.text.now (session_of_kept (session_before c.in-Ok-Halfway.halfway)) (way_left c.in-Ok-Halfway.halfway) read (opens_so g c) apart still
 
 pub returns-in_err-session-in-Ok-Halfway-clause-opening : goal.returns-in_err-session-in-Ok-Halfway-clause-opening
 returns-in_err-session-in-Ok-Halfway-clause-opening g c honest read =
-    let old = g.S.FolderStore.contents c.args.store.now in
-    let new = g.S.FolderStore.contents c.take_back.new.store in
+    let old = g.S.Store.contents c.args.store.now in
+    let new = g.S.Store.contents c.take_back.new.store in
     let halfway = c.in-Ok-Halfway.halfway in
     let arm = (goal.at.returns-in_err-session-in-Ok-Halfway-clause-opening g c).In-Ok-Halfway in
     let told = err_from_is_err_and c.from_residual.result c.from_residual.ensures.1 in
@@ -82,7 +82,7 @@ returns-in_err-session-in-Ok-Halfway-clause-opening g c honest read =
 
 pub returns-in_ok-session-in-Ok-Halfway-clause-opening : goal.returns-in_ok-session-in-Ok-Halfway-clause-opening
 returns-in_ok-session-in-Ok-Halfway-clause-opening g c honest read =
-    let old = g.S.FolderStore.contents c.args.store.now in
+    let old = g.S.Store.contents c.args.store.now in
     let halfway = c.in-Ok-Halfway.halfway in
     let arm = (goal.at.returns-in_ok-session-in-Ok-Halfway-clause-opening g c).In-Ok-Halfway in
     record {
@@ -96,21 +96,21 @@ returns-in_ok-session-in-Ok-Halfway-clause-opening g c honest read =
 
 pub returns-in-Ok-Settled-clause-opening : goal.returns-in-Ok-Settled-clause-opening
 returns-in-Ok-Settled-clause-opening g c honest read =
-    only_read g.S.FolderStore.contents g.S.FolderStore.may_remain g.S.FolderStore.impossible g.S.FolderStore.writing_calls c.args.store.now c.args.store.now _ refl (λ left may. may) refl refl
+    only_read g.S.Store.contents g.S.Store.may_remain g.S.Store.impossible g.S.Store.writing_calls c.args.store.now c.args.store.now _ refl (λ left may. may) refl refl
     (record { refused = tt; stopped = λ _. tt })
 
 pub returns-in-Err-FolderChanged-false-default-clause-opening : goal.returns-in-Err-FolderChanged-false-default-clause-opening
 returns-in-Err-FolderChanged-false-default-clause-opening g c honest read =
-    only_read g.S.FolderStore.contents g.S.FolderStore.may_remain g.S.FolderStore.impossible g.S.FolderStore.writing_calls c.args.store.now c.args.store.now _ refl (λ left may. may) refl refl
+    only_read g.S.Store.contents g.S.Store.may_remain g.S.Store.impossible g.S.Store.writing_calls c.args.store.now c.args.store.now _ refl (λ left may. may) refl refl
     (record { refused = tt; stopped = λ _. tt })
 
 pub returns-in-Err-FolderChanged-true-default-clause-opening : goal.returns-in-Err-FolderChanged-true-default-clause-opening
 returns-in-Err-FolderChanged-true-default-clause-opening g c honest read =
     let arm = c.in-Err-FolderChanged-true-default in
-    only_read g.S.FolderStore.contents g.S.FolderStore.may_remain g.S.FolderStore.impossible g.S.FolderStore.writing_calls c.args.store.now c.args.store.now _ refl (λ left may. may) refl refl
+    only_read g.S.Store.contents g.S.Store.may_remain g.S.Store.impossible g.S.Store.writing_calls c.args.store.now c.args.store.now _ refl (λ left may. may) refl refl
     (record {
       refused = (
-        opens_refused (g.S.FolderStore.contents c.args.store.now) c.args.folder.files c.args.text.now arm.field-0-0 (FolderChanged true) (Err (FolderChanged true)) read arm.ensures.refused
+        opens_refused (g.S.Store.contents c.args.store.now) c.args.folder.files c.args.text.now arm.field-0-0 (FolderChanged true) (Err (FolderChanged true)) read arm.ensures.refused
             (arm.field-0-0-is ∙ ap FolderChanged arm.field-0-0-0-test) (λ memory. cc) refl,
         refl,
       );
@@ -120,10 +120,10 @@ returns-in-Err-FolderChanged-true-default-clause-opening g c honest read =
 pub returns-in-Err-JournalInvalid-default-clause-opening : goal.returns-in-Err-JournalInvalid-default-clause-opening
 returns-in-Err-JournalInvalid-default-clause-opening g c honest read =
     let arm = c.in-Err-JournalInvalid-default in
-    only_read g.S.FolderStore.contents g.S.FolderStore.may_remain g.S.FolderStore.impossible g.S.FolderStore.writing_calls c.args.store.now c.args.store.now _ refl (λ left may. may) refl refl
+    only_read g.S.Store.contents g.S.Store.may_remain g.S.Store.impossible g.S.Store.writing_calls c.args.store.now c.args.store.now _ refl (λ left may. may) refl refl
     (record {
       refused = (
-        opens_refused (g.S.FolderStore.contents c.args.store.now) c.args.folder.files c.args.text.now arm.field-0-0 JournalInvalid (Err JournalInvalid) read arm.ensures.refused
+        opens_refused (g.S.Store.contents c.args.store.now) c.args.folder.files c.args.text.now arm.field-0-0 JournalInvalid (Err JournalInvalid) read arm.ensures.refused
             arm.field-0-0-is (λ memory. cc) refl,
         refl,
       );
@@ -132,5 +132,5 @@ returns-in-Err-JournalInvalid-default-clause-opening g c honest read =
 
 pub returns-in-Err-Memory-default-clause-opening : goal.returns-in-Err-Memory-default-clause-opening
 returns-in-Err-Memory-default-clause-opening g c honest read =
-    only_read g.S.FolderStore.contents g.S.FolderStore.may_remain g.S.FolderStore.impossible g.S.FolderStore.writing_calls c.args.store.now c.args.store.now _ refl (λ left may. may) refl refl
+    only_read g.S.Store.contents g.S.Store.may_remain g.S.Store.impossible g.S.Store.writing_calls c.args.store.now c.args.store.now _ refl (λ left may. may) refl refl
     (record { refused = refl; stopped = λ _. inl refl })

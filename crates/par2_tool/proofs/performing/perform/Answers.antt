@@ -46,14 +46,14 @@ returns-in-Err-clause-refused g c =
     )
 
 pub returns-in-Err-clause-in_order : goal.returns-in-Err-clause-in_order
-returns-in-Err-clause-in_order g c honest = none_made (g.S.FolderStore.contents c.args.store.now).files (changes_asked (session_of_kept c.args.session.now) (command_of c.args.command.now))
+returns-in-Err-clause-in_order g c honest = none_made (g.S.Store.contents c.args.store.now).files (changes_asked (session_of_kept c.args.session.now) (command_of c.args.command.now))
 
 pub returns-in-Err-prepare-clause-in_order : goal.returns-in-Err-prepare-clause-in_order
-returns-in-Err-prepare-clause-in_order g c honest = none_made (g.S.FolderStore.contents c.args.store.now).files (changes_asked (session_of_kept c.args.session.now) (command_of c.args.command.now))
+returns-in-Err-prepare-clause-in_order g c honest = none_made (g.S.Store.contents c.args.store.now).files (changes_asked (session_of_kept c.args.session.now) (command_of c.args.command.now))
 
 pub returns-in_err-journals-clause-in_order : goal.returns-in_err-journals-clause-in_order
 returns-in_err-journals-clause-in_order g c honest =
-    let files = (g.S.FolderStore.contents c.args.store.now).files in
+    let files = (g.S.Store.contents c.args.store.now).files in
     let asked = changes_asked (session_of_kept c.args.session.now) (command_of c.args.command.now) in
     any_err c.from_residual.result (AreSomeMade asked files files) (none_made files asked)
 
@@ -73,8 +73,8 @@ returns-in-Ok-write_down-clause-written g c honest files =
     let made = made_of g at in
     let journals = c.in_ok-journals.journals in
     let given = c.in-Act.action in
-    let start = g.S.FolderStore.contents c.args.store.now in
-    let new = g.S.FolderStore.contents c.write_down.new.store in
+    let start = g.S.Store.contents c.args.store.now in
+    let new = g.S.Store.contents c.write_down.new.store in
     let spelled = c.in_ok-journals.ensures.journals (action_of given) old made.grew made.is in
     let changed = changed_so g at in
     let there : new ≡ after_write_down start journals (changes_by_kind ready.kind mid) = c.in-Ok-write_down.ensures.done honest ∙ ap (after_write_down start journals) changed in
@@ -97,8 +97,8 @@ returns-in-Err-write_down-clause-stopped g c honest files apart =
     let made = made_of g at in
     let journals = c.in_ok-journals.journals in
     let action = action_of c.in-Act.action in
-    let start = g.S.FolderStore.contents c.args.store.now in
-    let new = g.S.FolderStore.contents c.write_down.new.store in
+    let start = g.S.Store.contents c.args.store.now in
+    let new = g.S.Store.contents c.write_down.new.store in
     let changed = changed_so g at in
     let stop = subst (λ (cs : List defined.Change). IsStoppedAt start journals cs new) changed (c.in-Err-write_down.ensures.stopped honest) in
     let apart_from : TellsApartAlong (session_of_kept old) action = subst (λ (x : Command). TellsApartAlong (session_of_kept old) (command_of x)) c.in-Act.is apart in
@@ -113,8 +113,8 @@ returns-in-Err-write_down-clause-in_order g c honest =
     let at = (goal.at.returns-in-Err-write_down-clause-in_order g c).After-write_down in
     let made = made_of g at in
     let journals = c.in_ok-journals.journals in
-    let start = g.S.FolderStore.contents c.args.store.now in
-    let new = g.S.FolderStore.contents c.write_down.new.store in
+    let start = g.S.Store.contents c.args.store.now in
+    let new = g.S.Store.contents c.write_down.new.store in
     let changed = changed_so g at in
     let stop = subst (λ (cs : List defined.Change). IsStoppedAt start journals cs new) changed (c.in-Err-write_down.ensures.stopped honest) in
     subst (λ (x : Command). AreSomeMade (changes_asked (session_of_kept old) (command_of x)) start.files new.files) (sym c.in-Act.is)
@@ -124,18 +124,18 @@ pub returns-in-Ok-write_down-clause-possible : goal.returns-in-Ok-write_down-cla
 returns-in-Ok-write_down-clause-possible g c honest files =
     let at = (goal.at.returns-in-Ok-write_down-clause-possible g c).After-write_down in
     c.write_down.ensures.possible honest
-    (ready_applies (action_of c.in-Act.action) c.args.session.now c.in-Ok-prepare.prepared c.prepare.new.self (made_of g at) (g.S.FolderStore.contents c.args.store.now) files _ (changed_so g at))
+    (ready_applies (action_of c.in-Act.action) c.args.session.now c.in-Ok-prepare.prepared c.prepare.new.self (made_of g at) (g.S.Store.contents c.args.store.now) files _ (changed_so g at))
 
 pub returns-in-Err-write_down-clause-possible : goal.returns-in-Err-write_down-clause-possible
 returns-in-Err-write_down-clause-possible g c honest files =
     let at = (goal.at.returns-in-Err-write_down-clause-possible g c).After-write_down in
     c.write_down.ensures.possible honest
-    (ready_applies (action_of c.in-Act.action) c.args.session.now c.in-Ok-prepare.prepared c.prepare.new.self (made_of g at) (g.S.FolderStore.contents c.args.store.now) files _ (changed_so g at))
+    (ready_applies (action_of c.in-Act.action) c.args.session.now c.in-Ok-prepare.prepared c.prepare.new.self (made_of g at) (g.S.Store.contents c.args.store.now) files _ (changed_so g at))
 
 -- whatever a cut leaves while the changes are written, or after it
-cut_opens : (g : _) (c : After-write_down g) → g.S.FolderStore.honest c.args.store.now → Lasts (g.S.FolderStore.may_remain c.args.store.now) (g.S.FolderStore.contents c.args.store.now)
-    → (g.S.FolderStore.contents c.args.store.now).files ≡ c.args.session.now.folder.files → TellsApartAlong (session_of_kept c.args.session.now) (command_of c.args.command.now) → (left : Contents) → g.S.FolderStore.may_remain c.write_down.new.store left
-    → OpensAsBeforeOrAfter (session_of_kept c.args.session.now) (command_of c.args.command.now) (g.S.FolderStore.contents c.args.store.now) left
+cut_opens : (g : _) (c : After-write_down g) → g.S.Store.honest c.args.store.now → Lasts (g.S.Store.may_remain c.args.store.now) (g.S.Store.contents c.args.store.now)
+    → (g.S.Store.contents c.args.store.now).files ≡ c.args.session.now.folder.files → TellsApartAlong (session_of_kept c.args.session.now) (command_of c.args.command.now) → (left : Contents) → g.S.Store.may_remain c.write_down.new.store left
+    → OpensAsBeforeOrAfter (session_of_kept c.args.session.now) (command_of c.args.command.now) (g.S.Store.contents c.args.store.now) left
 cut_opens g c honest lasts files apart left may =
     let ready = c.in-Ok-prepare.prepared in
     let old = c.args.session.now in
@@ -143,7 +143,7 @@ cut_opens g c honest lasts files apart left may =
     let made = made_of g c in
     let journals = c.in_ok-journals.journals in
     let action = action_of c.in-Act.action in
-    let start = g.S.FolderStore.contents c.args.store.now in
+    let start = g.S.Store.contents c.args.store.now in
     let stop = subst (λ (cs : List defined.Change). IsStoppedAt start journals cs left) (changed_so g c) (c.write_down.ensures.remains honest lasts left may) in
     let apart_from : TellsApartAlong (session_of_kept old) action = subst (λ (x : Command). TellsApartAlong (session_of_kept old) (command_of x)) c.in-Act.is apart in
     subst (λ (x : Command). OpensAsBeforeOrAfter (session_of_kept old) (command_of x) start left) (sym c.in-Act.is)
@@ -159,7 +159,7 @@ returns-in-Err-write_down-clause-cut g c honest lasts files apart left may = cut
 
 pub returns-in-Ok-clause-calls : goal.returns-in-Ok-clause-calls
 returns-in-Ok-clause-calls g c =
-    let made = g.S.FolderStore.writing_calls c.args.store.now in
+    let made = g.S.Store.writing_calls c.args.store.now in
     subst (λ (x : Command). made ≡ made + calls_asked (session_of_kept c.args.session.now) (command_of x)) (sym c.in-Verify.is) (omega arith)
 
 calls_so : (g : _) (c : After-write_down g) → calls_to_write c.in_ok-journals.journals (length c.changes.result.now) ≡ calls_asked (session_of_kept c.args.session.now) (command_of c.args.command.now)
@@ -175,12 +175,12 @@ calls_so g c =
 
 pub returns-in-Ok-write_down-clause-calls : goal.returns-in-Ok-write_down-clause-calls
 returns-in-Ok-write_down-clause-calls g c =
-    c.in-Ok-write_down.ensures.calls ∙ ap (λ n. g.S.FolderStore.writing_calls c.args.store.now + n) (calls_so g (goal.at.returns-in-Ok-write_down-clause-calls g c).After-write_down)
+    c.in-Ok-write_down.ensures.calls ∙ ap (λ n. g.S.Store.writing_calls c.args.store.now + n) (calls_so g (goal.at.returns-in-Ok-write_down-clause-calls g c).After-write_down)
 
 pub returns-in-Ok-write_down-clause-at_most : goal.returns-in-Ok-write_down-clause-at_most
 returns-in-Ok-write_down-clause-at_most g c =
-    subst (λ n. AreAtMost n (g.S.FolderStore.writing_calls c.args.store.now) (g.S.FolderStore.writing_calls c.write_down.new.store)) (calls_so g (goal.at.returns-in-Ok-write_down-clause-at_most g c).After-write_down) c.write_down.ensures.at_most
+    subst (λ n. AreAtMost n (g.S.Store.writing_calls c.args.store.now) (g.S.Store.writing_calls c.write_down.new.store)) (calls_so g (goal.at.returns-in-Ok-write_down-clause-at_most g c).After-write_down) c.write_down.ensures.at_most
 
 pub returns-in-Err-write_down-clause-at_most : goal.returns-in-Err-write_down-clause-at_most
 returns-in-Err-write_down-clause-at_most g c =
-    subst (λ n. AreAtMost n (g.S.FolderStore.writing_calls c.args.store.now) (g.S.FolderStore.writing_calls c.write_down.new.store)) (calls_so g (goal.at.returns-in-Err-write_down-clause-at_most g c).After-write_down) c.write_down.ensures.at_most
+    subst (λ n. AreAtMost n (g.S.Store.writing_calls c.args.store.now) (g.S.Store.writing_calls c.write_down.new.store)) (calls_so g (goal.at.returns-in-Err-write_down-clause-at_most g c).After-write_down) c.write_down.ensures.at_most

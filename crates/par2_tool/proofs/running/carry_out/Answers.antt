@@ -19,8 +19,8 @@ use Rattle.par2_tool.proofs.running.carry_out.Goals.{else-dropped-via-then-dropp
 pub returns-in_err-session-clause-failed : goal.returns-in_err-session-clause-failed
 returns-in_err-session-clause-failed g c honest =
     let action = command_of c.args.command.now in
-    let old = g.S.FolderStore.contents c.args.store.now in
-    let new = g.S.FolderStore.contents c.open_for.new.store in
+    let old = g.S.Store.contents c.args.store.now in
+    let new = g.S.Store.contents c.open_for.new.store in
     let unopened = (c.in_err-session.ensures.opening honest).unopened in
     let told = err_from_is_err_and c.from_residual.result c.from_residual.ensures.1 in
     rw told.1 (subst (λ (failure : Failure). IsFailed action old new failure) (sym told.2)
@@ -41,8 +41,8 @@ returns-clause-done g c =
     let action = command_of c.args.command.now in
     let started = c.in_ok-session.field-0 in
     let found = c.in_ok-session.ensures.opened in
-    done_for (g.S.FolderStore.honest c.args.store.now)
-    (g.S.FolderStore.contents c.args.store.now) (g.S.FolderStore.contents c.open_for.new.store) (g.S.FolderStore.contents c.perform.new.store)
+    done_for (g.S.Store.honest c.args.store.now)
+    (g.S.Store.contents c.args.store.now) (g.S.Store.contents c.open_for.new.store) (g.S.Store.contents c.perform.new.store)
     found.0 (session_of_kept started.session) (session_of_kept c.perform.new.session) started.dropped (outcome_of c.in_ok-outcome.outcome) found.2
     action found.1 c.in_ok-outcome.ensures.answer c.in_ok-outcome.ensures.session c.in_ok-outcome.ensures.leads
     (λ honest files. c.in_ok-outcome.ensures.written (c.open_for.ensures.honest honest) files)
@@ -50,9 +50,9 @@ returns-clause-done g c =
 pub returns-in_err-outcome-clause-cause : goal.returns-in_err-outcome-clause-cause
 returns-in_err-outcome-clause-cause g c =
     let action = command_of c.args.command.now in
-    let before = g.S.FolderStore.failures c.args.store.now in
-    let middle = g.S.FolderStore.failures c.open_for.new.store in
-    let after = g.S.FolderStore.failures c.perform.new.store in
+    let before = g.S.Store.failures c.args.store.now in
+    let middle = g.S.Store.failures c.open_for.new.store in
+    let after = g.S.Store.failures c.perform.new.store in
     let told = err_from_is_err_and c.from_residual-in_err-outcome.result c.from_residual-in_err-outcome.ensures.1 in
     rw told.1 (subst (λ (failure : Failure). IsCause action before after failure) (sym told.2)
     (perform_cause action c.in_ok-session.field-0.session c.perform.new.session before middle after c.in_err-outcome.field-0.0 c.in_ok-session.ensures.failures.steady c.in_err-outcome.ensures.refused))
@@ -60,11 +60,11 @@ returns-in_err-outcome-clause-cause g c =
 pub returns-in_err-outcome-clause-failed : goal.returns-in_err-outcome-clause-failed
 returns-in_err-outcome-clause-failed g c honest =
     let action = command_of c.args.command.now in
-    let old = g.S.FolderStore.contents c.args.store.now in
-    let mid = g.S.FolderStore.contents c.open_for.new.store in
-    let new = g.S.FolderStore.contents c.perform.new.store in
-    let middle = g.S.FolderStore.failures c.open_for.new.store in
-    let after = g.S.FolderStore.failures c.perform.new.store in
+    let old = g.S.Store.contents c.args.store.now in
+    let mid = g.S.Store.contents c.open_for.new.store in
+    let new = g.S.Store.contents c.perform.new.store in
+    let middle = g.S.Store.failures c.open_for.new.store in
+    let after = g.S.Store.failures c.perform.new.store in
     let kept_honest = c.open_for.ensures.honest honest in
     let started = c.in_ok-session.field-0 in
     let session = started.session in
@@ -81,7 +81,7 @@ returns-in_err-outcome-clause-failed g c honest =
           perform_failed action old mid new session c.perform.new.session started.dropped opened back middle after
           fault refused (c.in_err-outcome.ensures.unchanged kept_honest) (c.in_err-outcome.ensures.stopped kept_honest opened.holds.files))
       | inr verify ↦ verify_failed action old mid new found.0 session c.perform.new.session verify.0 verify.1 (found.2 honest)
-          (ap g.S.FolderStore.contents (c.perform.ensures.verify verify.0).0) middle after fault refused
+          (ap g.S.Store.contents (c.perform.ensures.verify verify.0).0) middle after fault refused
     ]) in
     let told = err_from_is_err_and c.from_residual-in_err-outcome.result c.from_residual-in_err-outcome.ensures.1 in
     rw told.1 (subst (λ (failure : Failure). IsFailed action old new failure) (sym told.2) failing)
@@ -89,35 +89,35 @@ returns-in_err-outcome-clause-failed g c honest =
 -- whatever a cut leaves, of the opening or of the command
 pub returns-in_err-session-clause-cut : goal.returns-in_err-session-clause-cut
 returns-in_err-session-clause-cut g c honest lasts left may =
-    stopped_opening (command_of c.args.command.now) (g.S.FolderStore.contents c.args.store.now) left (λ back. (c.open_for.ensures.opening honest).cut lasts back left may)
+    stopped_opening (command_of c.args.command.now) (g.S.Store.contents c.args.store.now) left (λ back. (c.open_for.ensures.opening honest).cut lasts back left may)
 
 pub returns-then-is_back-clause-cut : goal.returns-then-is_back-clause-cut
 returns-then-is_back-clause-cut g c honest lasts left may =
-    stopped_opening (command_of c.args.command.now) (g.S.FolderStore.contents c.args.store.now) left (λ back. (c.open_for.ensures.opening honest).cut lasts back left may)
+    stopped_opening (command_of c.args.command.now) (g.S.Store.contents c.args.store.now) left (λ back. (c.open_for.ensures.opening honest).cut lasts back left may)
 
 pub returns-clause-cut : goal.returns-clause-cut
 returns-clause-cut g c honest lasts left may =
     let found = c.in_ok-session.ensures.opened in
-    cut_of_command (g.S.FolderStore.honest c.args.store.now) (command_of c.args.command.now) (g.S.FolderStore.contents c.args.store.now) (g.S.FolderStore.contents c.open_for.new.store) left found.0 (started_of c.in_ok-session.field-0)
+    cut_of_command (g.S.Store.honest c.args.store.now) (command_of c.args.command.now) (g.S.Store.contents c.args.store.now) (g.S.Store.contents c.open_for.new.store) left found.0 (started_of c.in_ok-session.field-0)
     honest found.1 found.2
     (λ files along. c.perform.ensures.cut (c.open_for.ensures.honest honest) ((c.in_ok-session.ensures.opening honest).lasts lasts) files along left may)
-    (λ verify. (c.in_ok-session.ensures.opening honest).lasts lasts left (subst (λ store. g.S.FolderStore.may_remain store left) (c.perform.ensures.verify verify).0 may))
+    (λ verify. (c.in_ok-session.ensures.opening honest).lasts lasts left (subst (λ store. g.S.Store.may_remain store left) (c.perform.ensures.verify verify).0 may))
 
 pub returns-in_err-outcome-clause-cut : goal.returns-in_err-outcome-clause-cut
 returns-in_err-outcome-clause-cut g c honest lasts left may =
     let found = c.in_ok-session.ensures.opened in
-    cut_of_command (g.S.FolderStore.honest c.args.store.now) (command_of c.args.command.now) (g.S.FolderStore.contents c.args.store.now) (g.S.FolderStore.contents c.open_for.new.store) left found.0 (started_of c.in_ok-session.field-0)
+    cut_of_command (g.S.Store.honest c.args.store.now) (command_of c.args.command.now) (g.S.Store.contents c.args.store.now) (g.S.Store.contents c.open_for.new.store) left found.0 (started_of c.in_ok-session.field-0)
     honest found.1 found.2
     (λ files along. c.perform.ensures.cut (c.open_for.ensures.honest honest) ((c.in_ok-session.ensures.opening honest).lasts lasts) files along left may)
-    (λ verify. (c.in_ok-session.ensures.opening honest).lasts lasts left (subst (λ store. g.S.FolderStore.may_remain store left) (c.perform.ensures.verify verify).0 may))
+    (λ verify. (c.in_ok-session.ensures.opening honest).lasts lasts left (subst (λ store. g.S.Store.may_remain store left) (c.perform.ensures.verify verify).0 may))
 
 -- the writing calls
 pub returns-in_err-session-clause-failed_calls : goal.returns-in_err-session-clause-failed_calls
 returns-in_err-session-clause-failed_calls g c honest =
     let action = command_of c.args.command.now in
-    let old = g.S.FolderStore.contents c.args.store.now in
-    let before = g.S.FolderStore.writing_calls c.args.store.now in
-    let after = g.S.FolderStore.writing_calls c.open_for.new.store in
+    let old = g.S.Store.contents c.args.store.now in
+    let before = g.S.Store.writing_calls c.args.store.now in
+    let after = g.S.Store.writing_calls c.open_for.new.store in
     let told = err_from_is_err_and c.from_residual.result c.from_residual.ensures.1 in
     rw told.1 (subst (λ (failure : Failure). CountsFailedRun action old before after failure) (sym told.2)
     (opening_calls action old before after c.in_err-session.field-0.0 (c.in_err-session.ensures.opening honest).calls))
@@ -130,10 +130,10 @@ returns-then-is_back-clause-failed_calls g c honest =
 pub returns-in_err-outcome-clause-failed_calls : goal.returns-in_err-outcome-clause-failed_calls
 returns-in_err-outcome-clause-failed_calls g c honest =
     let action = command_of c.args.command.now in
-    let old = g.S.FolderStore.contents c.args.store.now in
-    let before = g.S.FolderStore.writing_calls c.args.store.now in
-    let middle = g.S.FolderStore.writing_calls c.open_for.new.store in
-    let after = g.S.FolderStore.writing_calls c.perform.new.store in
+    let old = g.S.Store.contents c.args.store.now in
+    let before = g.S.Store.writing_calls c.args.store.now in
+    let middle = g.S.Store.writing_calls c.open_for.new.store in
+    let after = g.S.Store.writing_calls c.perform.new.store in
     let counted = (c.in_ok-session.ensures.opening honest).calls in
     let found = c.in_ok-session.ensures.opened in
     let started = started_of c.in_ok-session.field-0 in
@@ -145,10 +145,10 @@ returns-in_err-outcome-clause-failed_calls g c honest =
 pub returns-clause-calls : goal.returns-clause-calls
 returns-clause-calls g c honest =
     let action = command_of c.args.command.now in
-    let old = g.S.FolderStore.contents c.args.store.now in
-    let before = g.S.FolderStore.writing_calls c.args.store.now in
-    let middle = g.S.FolderStore.writing_calls c.open_for.new.store in
-    let after = g.S.FolderStore.writing_calls c.perform.new.store in
+    let old = g.S.Store.contents c.args.store.now in
+    let before = g.S.Store.writing_calls c.args.store.now in
+    let middle = g.S.Store.writing_calls c.open_for.new.store in
+    let after = g.S.Store.writing_calls c.perform.new.store in
     let counted = (c.in_ok-session.ensures.opening honest).calls in
     let found = c.in_ok-session.ensures.opened in
     let started = started_of c.in_ok-session.field-0 in

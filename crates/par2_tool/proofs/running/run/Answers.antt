@@ -56,8 +56,8 @@ returns-in-Err-clause-cut g c action honest lasts asked left may = λ _ _. inl (
 
 pub returns-in-Ok-carry_out-clause-cut : goal.returns-in-Ok-carry_out-clause-cut
 returns-in-Ok-carry_out-clause-cut g c action honest lasts asked left may =
-    subst (λ (a : Action). IsStopped a (g.S.FolderStore.contents c.args.store.now) left) (same_Some (command_of c.in-Ok.command) action (sym c.in-Ok.ensures.command ∙ asked.asked)) (c.carry_out.ensures.cut honest lasts left may)
+    subst (λ (a : Action). IsStopped a (g.S.Store.contents c.args.store.now) left) (same_Some (command_of c.in-Ok.command) action (sym c.in-Ok.ensures.command ∙ asked.asked)) (c.carry_out.ensures.cut honest lasts left may)
 
 pub returns-clause-cut : goal.returns-clause-cut
 returns-clause-cut g c action honest lasts asked left may =
-    subst (λ (a : Action). IsStopped a (g.S.FolderStore.contents c.args.store.now) left) (same_Some (command_of c.in-Ok.command) action (sym c.in-Ok.ensures.command ∙ asked.asked)) (c.carry_out.ensures.cut honest lasts left may)
+    subst (λ (a : Action). IsStopped a (g.S.Store.contents c.args.store.now) left) (same_Some (command_of c.in-Ok.command) action (sym c.in-Ok.ensures.command ∙ asked.asked)) (c.carry_out.ensures.cut honest lasts left may)

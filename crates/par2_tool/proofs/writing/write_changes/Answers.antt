@@ -13,8 +13,8 @@ returns-in-Err-clause-stopped g c honest =
     let i = c.loop-change.change-index in
     let changes = c.args.changes.now in
     let item = c.change-item.result in
-    let start = g.S.FolderStore.contents c.args.store.now in
-    let now = g.S.FolderStore.contents c.write_change.new.store in
+    let start = g.S.Store.contents c.args.store.now in
+    let now = g.S.Store.contents c.write_change.new.store in
     let made = held.made honest in
     elim (c.in-Err.ensures.stopped (held.honest honest)) as (λ _. (n : ℕ) × (n ≤ length changes) × (now ≡ with_all_changes start (take n (map change_of changes)))) [
       | inl none ↦ (i, omega (arith, c.loop-change-test.true), none ∙ made ∙ ap (with_all_changes start) (sym (take-map change_of i changes)))
@@ -34,7 +34,7 @@ returns-in-Err-clause-remains g c honest lasts left may =
     let i = c.loop-change.change-index in
     let changes = c.args.changes.now in
     let item = c.change-item.result in
-    let start = g.S.FolderStore.contents c.args.store.now in
+    let start = g.S.Store.contents c.args.store.now in
     let made = held.made honest in
     elim (c.write_change.ensures.remains (held.honest honest) (held.lasts honest lasts) left may) as (λ _. (n : ℕ) × (n ≤ length changes) × (left ≡ with_all_changes start (take n (map change_of changes)))) [
       | inl none ↦ (i, omega (arith, c.loop-change-test.true), none ∙ made ∙ ap (with_all_changes start) (sym (take-map change_of i changes)))
@@ -51,7 +51,7 @@ returns-in-Err-clause-remains g c honest lasts left may =
 pub returns-clause-remains : goal.returns-clause-remains
 returns-clause-remains g c honest lasts left may =
     let held = c.loop-change.invariant in
-    all_remain (g.S.FolderStore.contents c.args.store.now) (g.S.FolderStore.contents c.loop-change.store) left c.args.changes.now c.loop-change.change-index c.loop-change-test.false (held.made honest) (held.lasts honest lasts left may)
+    all_remain (g.S.Store.contents c.args.store.now) (g.S.Store.contents c.loop-change.store) left c.args.changes.now c.loop-change.change-index c.loop-change-test.false (held.made honest) (held.lasts honest lasts left may)
 
 pub returns-in-Err-clause-possible : goal.returns-in-Err-clause-possible
 returns-in-Err-clause-possible g c h all =
@@ -67,7 +67,7 @@ loop-change-preserved g c =
       made = λ h.
           c.in-Ok.ensures.done (held.honest h)
           ∙ ap (λ (k : Contents). with_change k (change_of item)) (held.made h)
-          ∙ made_next (g.S.FolderStore.contents c.args.store.now) c.args.changes.now c.loop-change.change-index item c.loop-change-test.true c.change-item.is;
+          ∙ made_next (g.S.Store.contents c.args.store.now) c.args.changes.now c.loop-change.change-index item c.loop-change-test.true c.change-item.is;
       lasts = λ h _. c.in-Ok.ensures.lasts (held.honest h);
       later = omega (arith, held.later, c.write_change.ensures.later);
       steady = c.in-Ok.ensures.steady ∙ held.steady;
