@@ -7,7 +7,7 @@ use Rattle.std.specs.Cmp.Lexicographic.{pointwise}
 use Rattle.std.specs.Str.{bytes_eq}
 use Rattle.par2_spec.specs.Folders.{Folder, fingerprint}
 use Rattle.par2_spec.specs.Changes.{Change, FolderState, effect, effects, is_applicable, are_applicable, places_taken, takes_all, state_after_all, folders_after}
-use Rattle.par2_spec.specs.Sessions.{Session}
+use Rattle.par2_spec.specs.Sessions.{Session, KeptSession, session_of_kept}
 use Rattle.par2_spec.specs.Journals.{Journal, HalfwayPart, Spells}
 use Rattle.par2_spec.specs.Opening as defined
 use Rattle.par2_spec.specs.Opening.{leads_through, is_valid}
@@ -17,8 +17,9 @@ use Rattle.md5.specs.Md5.{md5}
 use Rattle.par2_journal_bytes.specs.Untested.{IsUntested}
 use Rattle.par2_journal_bytes.specs.Views.{journal_of}
 use Rattle.par2_journal_bytes.specs.declared.reading.Untested.{Untested}
-use Rattle.par2_journal.specs.Opening.{session_at, journal_with, halfway_as, opened_of, AnswersOpening, OpensAsIs}
+use Rattle.par2_journal.specs.Opening.{session_at, journal_with, halfway_as, opened_of, AnswersDigests, AnswersOpening, OpensAsIs}
 use Rattle.par2_journal.specs.declared.opening.Opened.{Opened}
+use Rattle.par2_journal.specs.declared.session.Digests.{Digests}
 use Rattle.par2_spec.proofs.FolderLaws.{takes_applicable, taken_are_applicable, more_room_all, state_files}
 use Rattle.par2_spec.proofs.StopLaws.{through_applies}
 
@@ -137,11 +138,11 @@ settled_as_is f text j spells settled valid = by_test (bytes_eq (fingerprint f) 
 
 -- ---- where the digest of the journal is tested last
 
-module _ (folder : FolderState) (text : List ℕ) (untested : Untested) (j : Journal) (sum print : List ℕ) (s : Session)
-    (found : IsUntested text untested) (is : journal_of untested.journal ≡ j) (settled : j.halfway ≡ None) (sum_is : sum ≡ md5 untested.body.now) (print_is : print ≡ fingerprint s.folder)
-    (session : s ≡ session_at folder.files j.cursor j.entries) (valid : is_valid (session_at folder.files j.cursor j.entries) ≡ true) where
+module _ (folder : FolderState) (text : List ℕ) (untested : Untested) (j : Journal) (digests : Digests) (kept : KeptSession)
+    (found : IsUntested text untested) (is : journal_of untested.journal ≡ j) (settled : j.halfway ≡ None) (sum_is : digests.text ≡ md5 untested.body.now) (print_is : digests.folder ≡ fingerprint kept.folder.files)
+    (session : session_of_kept kept ≡ session_at folder.files j.cursor j.entries) (valid : is_valid (session_at folder.files j.cursor j.entries) ≡ true) where
   abbrev Right : Type 0
-  Right = untested.digest.now ≡ sum
+  Right = untested.digest.now ≡ digests.text
 
   right : Right → untested.digest.now ≡ md5 untested.body.now
   right h = h ∙ sum_is
@@ -149,19 +150,12 @@ module _ (folder : FolderState) (text : List ℕ) (untested : Untested) (j : Jou
   spells : Right → Spells text j
   spells h = subst (Spells text) is (found.right (right h))
 
-  printed : (b : Bool) → bytes_eq print j.fingerprint ≡ b → bytes_eq (fingerprint folder.files) j.fingerprint ≡ b
+  printed : (b : Bool) → bytes_eq digests.folder j.fingerprint ≡ b → bytes_eq (fingerprint folder.files) j.fingerprint ≡ b
   printed b h = (λ i. bytes_eq ((ap fingerprint (sym (ap (λ (s : Session). s.folder) session)) ∙ sym print_is) i) j.fingerprint) ∙ h
 
-  pub answers : (r : Result Opened (JournalFault × FolderState)) → IfOk r (λ opened. opened_of opened ≡ defined.Settled s) → IfOk r (λ _. Right × IsTrue (bytes_eq print j.fingerprint))
-      → IfErr r (λ e. ((e.0 ≡ JournalInvalid) × ¬ Right) ⊎ ((e.0 ≡ FolderChanged false) × Right × IsFalse (bytes_eq print j.fingerprint))) → IfErr r (λ e. e.1.files ≡ s.folder)
-      → AnswersOpening folder text r
-  answers (Ok opened) opens same _ _ = record {
-    opened = subst (λ o. defined.Opens folder.files text (Ok o)) (ap defined.Settled (sym session) ∙ sym opens) (settled_opens folder.files text j (spells same.0) settled (printed true same.1) valid);
-    refused = tt;
-    unsealed = λ un. un (found.sealed (right same.0));
-    files = tt;
-  }
-  answers (Err e) _ _ (inl (fault, wrong)) files =
+  wrong_way : (e : JournalFault × FolderState) → e.1.files ≡ kept.folder.files → ((e.0 ≡ JournalInvalid) × ¬ Right) ⊎ ((e.0 ≡ FolderChanged false) × Right × IsFalse (bytes_eq digests.folder j.fingerprint))
+      → AnswersOpening folder text (Err e)
+  wrong_way e files (inl (fault, wrong)) =
       let foreign = found.wrong (λ h. wrong (h ∙ sym sum_is)) in
       record {
         opened = tt;
@@ -169,9 +163,19 @@ module _ (folder : FolderState) (text : List ℕ) (untested : Untested) (j : Jou
         unsealed = λ _. fault;
         files = files ∙ ap (λ (s : Session). s.folder) session;
       }
-  answers (Err e) _ _ (inr (fault, same, other)) files = record {
+  wrong_way e files (inr (fault, same, other)) = record {
     opened = tt;
     refused = inr (subst (λ x. defined.Opens folder.files text (Err x)) (sym fault) (settled_changed folder.files text j (spells same) settled (printed false other)));
     unsealed = λ un. absurd (un (found.sealed (right same)));
     files = files ∙ ap (λ (s : Session). s.folder) session;
   }
+
+  pub answers : (r : Result Opened (JournalFault × FolderState)) → AnswersDigests kept digests j.fingerprint untested.digest.now r → AnswersOpening folder text r
+  answers (Ok opened) told = record {
+    opened = subst (λ o. defined.Opens folder.files text (Ok o)) (ap defined.Settled (sym session) ∙ sym told.session)
+        (settled_opens folder.files text j (spells told.right) settled (printed true told.same) valid);
+    refused = tt;
+    unsealed = λ un. un (found.sealed (right told.right));
+    files = tt;
+  }
+  answers (Err e) told = wrong_way e told.files told.refused

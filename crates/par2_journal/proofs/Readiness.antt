@@ -72,14 +72,14 @@ module _ (old new : KeptSession) (command : Command) (changes : List Change) (ch
 
 -- a draft that was tested, with the fingerprints along its changes
 pub draft_ready : (old new : KeptSession) (base : List ℕ) (extras : List (List ℕ)) (purge : Bool) (draft : Draft) (changes : List Change) (steps : List Step) (prints : Fingerprints) → OnlyGrew old new
-    → IsDraft old.folder.files base extras purge draft → HasItsMd5s draft → changes ≡ draft.changes → CanBe (Changing draft.changes) new → steps ≡ map step_of draft.changes → AreAlong prints new.folder.files draft.changes
+    → IsDraft old.folder.files base extras purge draft → HasItsMd5s draft → changes ≡ draft.changes → CanBe (Changing draft.changes) new → steps ≡ map step_of draft.changes → AreAlong new.folder.files draft.changes prints
     → IsReady (Do (Repair base extras purge)) old (record { kind = Changing changes; steps = steps; known = Some (prints_of prints) }) new
 draft_ready old new base extras purge draft changes steps prints grew is has same can told along =
     let ready : Ready = record { kind = Changing changes; steps = steps; known = Some (prints_of prints) } in
     let fits : Fits ready new = record {
       can = subst (λ (cs : List Change). CanBe (Changing cs) new) (sym same) can;
       steps = told ∙ ap (map step_of) (sym same);
-      known = subst (λ (cs : List Change). AreAlong prints new.folder.files cs) (sym same) along;
+      known = subst (λ (cs : List Change). AreAlong new.folder.files cs prints) (sym same) along;
     } in
     ready_command old new (Repair base extras purge) changes tt grew (is.accepted has) (same ∙ is.changes) ready refl fits
 

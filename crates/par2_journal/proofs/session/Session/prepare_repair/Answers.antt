@@ -24,7 +24,7 @@ returns-clause-ready c =
     let way = c.in_ok-steps.ensures in
     let tested = c.in_ok-changes.ensures in
     draft_ready c.args.self.now c.make_way.new.self c.args.base.now (map string_bytes c.args.extras.now) c.args.purge c.in_ok-draft.draft c.in_ok-changes.changes c.in_ok-steps.steps c.in_ok-fingerprints.fingerprints
-    c.make_way.ensures.kept is tested.right tested.changes way.can way.steps c.in_ok-fingerprints.ensures.fingerprints
+    c.make_way.ensures.kept is tested.right tested.changes way.can way.steps c.in_ok-fingerprints.ensures.along
 
 pub returns-clause-leads : goal.returns-clause-leads
 returns-clause-leads c =
