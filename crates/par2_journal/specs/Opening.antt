@@ -91,18 +91,18 @@ pub record AnswersTest (folder : FolderState) (test : Bool) (wanted : Session) (
   pub files : IfErr result (λ e. e.1.files ≡ folder.files)
 
 -- the answer of the definitions, as this view says it, or that memory ran out
-pub record Answers {A : Type 0} (view : A → defined.Opened) (files : Folder) (answer : Result defined.Opened JournalFault) (result : Result A (JournalFault × FolderState)) : Type 0 where
+pub record Answers {A : Type 0} (view : A → defined.Opened) (folder : Folder) (answer : Result defined.Opened JournalFault) (result : Result A (JournalFault × FolderState)) : Type 0 where
   pub opened : IfOk result (λ found. answer ≡ Ok (view found))
   pub refused : IfErr result (λ e. (e.0 ≡ Memory) ⊎ (answer ≡ Err e.0))
-  pub files : IfErr result (λ e. e.1.files ≡ files)
+  pub files : IfErr result (λ e. e.1.files ≡ folder)
 
 -- the session, where the text of its journal ends with its digest, and the folder has the fingerprint in it
-pub record AnswersDigests (session : KeptSession) (found : Digests) (print digest : List ℕ) (result : Result Opened (JournalFault × FolderState)) : Type 0 where
-  pub session : IfOk result (λ opened. opened_of opened ≡ settled_by session)
+pub record AnswersDigests (kept : KeptSession) (found : Digests) (print digest : List ℕ) (result : Result Opened (JournalFault × FolderState)) : Type 0 where
+  pub session : IfOk result (λ opened. opened_of opened ≡ settled_by kept)
   pub right : OnOk result (digest ≡ found.text)
   pub same : OnOk result (IsTrue (bytes_eq found.folder print))
   pub refused : IfErr result (λ e. ((e.0 ≡ JournalInvalid) × ¬ (digest ≡ found.text)) ⊎ ((e.0 ≡ FolderChanged false) × (digest ≡ found.text) × IsFalse (bytes_eq found.folder print)))
-  pub files : IfErr result (λ e. e.1.files ≡ session.folder.files)
+  pub files : IfErr result (λ e. e.1.files ≡ kept.folder.files)
 
 -- what the opening of a folder with these bytes as its journal answers
 pub record AnswersOpening (folder : FolderState) (text : List ℕ) (result : Result Opened (JournalFault × FolderState)) : Type 0 where

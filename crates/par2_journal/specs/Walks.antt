@@ -32,10 +32,10 @@ pub record AreUntouched (old new : FolderState) (before after : List given.Chang
   pub changes : changes_in after ≡ changes_in before
 
 -- files went forth by changes to a kept folder, which can go back
-pub record WentForth (files : Folder) (after : FolderState) (way back : List given.Change) : Type 0 where
-  pub files : after.files ≡ effects files (changes_in way)
-  pub taken : IsTrue (takes_all after (changes_in back))
-  pub leads : (state_after_all after (changes_in back)).files ≡ files
+pub record WentForth (old : Folder) (new : FolderState) (way back : List given.Change) : Type 0 where
+  pub files : new.files ≡ effects old (changes_in way)
+  pub taken : IsTrue (takes_all new (changes_in back))
+  pub leads : (state_after_all new (changes_in back)).files ≡ old
 
 -- ---- the first of them, up to one that is refused
 
