@@ -65,14 +65,11 @@ module _ (f : Folder) (print : List ℕ) (n : ℕ) (entries : List (List Change)
       ap (defined.opened_if_found f (journal_with print n entries) (record { fingerprints = prints; back = back })) place
       ∙ (λ i. answer (sym cut i) (sym list i))
 
-  pub halfway_ok : (s : Session) → leads_through f cs wanted ≡ true → is_valid (session_at (effects f cs) n entries) ≡ true → s ≡ session_at (effects f cs) n entries → halfway_as f print n entries prints back ≡ Ok (defined.Halfway s cs)
+  pub halfway_ok : (s : Session) → (leads_through f cs wanted && is_valid (session_at (effects f cs) n entries)) ≡ true → s ≡ session_at (effects f cs) n entries → halfway_as f print n entries prints back ≡ Ok (defined.Halfway s cs)
   unfolding answer
-  halfway_ok s leads valid is =
+  halfway_ok s passed is =
       let t = session_at (effects f cs) n entries in
-      halfway_is
-      ∙ ap (λ b. if b && is_valid t then Ok (defined.Halfway t cs) else Err JournalInvalid) leads
-      ∙ ap (λ b. if b then Ok (defined.Halfway t cs) else Err JournalInvalid) valid
-      ∙ ap (λ x. Ok (defined.Halfway x cs)) (sym is)
+      halfway_is ∙ ap (λ b. if b then Ok (defined.Halfway t cs) else Err JournalInvalid) passed ∙ ap (λ x. Ok (defined.Halfway x cs)) (sym is)
 
   pub halfway_refused : (leads_through f cs wanted && is_valid (session_at (effects f cs) n entries)) ≡ false → halfway_as f print n entries prints back ≡ Err JournalInvalid
   unfolding answer

@@ -223,8 +223,8 @@ fn both(
 ) -> Result<Journals, AllocError>
     requires cursor { cursor ≤ length entries.now }
     requires each { length fingerprints.now.after_each.items ≡ length back.now }
-    ensures { let later = (lent_entries_of entries.now, cursor) in
-        IfOk result (CompletesBoth front fingerprints.now (changes_in back.now) later) }
+    ensures { let back = changes_in back.now in let entries = lent_entries_of entries.now in
+        IfOk result (CompletesBoth front fingerprints.now back (entries, cursor)) }
 {
     let after = settled(entries, cursor, fingerprints.after_all);
     if back.is_empty() {
@@ -290,8 +290,8 @@ fn spell_turned(
     requires cursor { cursor ≤ length entries.now }
     requires place { at < length entries.now }
     requires each { length fingerprints.now.after_each.items ≡ length (get_or entries.now at []) }
-    ensures { let later = (entries.now, cursor) in
-        IfOk result (CompletesBoth front fingerprints.now (get_or entries.now at []) later) }
+    ensures { let back = get_or entries.now at [] in
+        IfOk result (CompletesBoth front fingerprints.now back (entries.now, cursor)) }
 {
     let list = lent(alloc, &entries)?;
     both(alloc, front, fingerprints, list[at], &list, cursor)
