@@ -2,7 +2,7 @@
 use Rattle.std.proofs.Common.{◌≡◌, ◌⊎◌, inl, inr, ℕ, ◌+◌, ◌-◌, ◌≤◌, Bool, true, false, not, ◌&&◌, List, [], ◌∷◌, length, map, take, drop, Some, None, Result, Ok, Err, refl, sym, ap, subst, ◌∙◌, arith}
 use Rattle.std.proofs.lemmas.Bool.{and_parts, both_ways, false_from_ne_true}
 use Rattle.std.proofs.Math.Logic.{⊎_map}
-use Rattle.std.specs.Prelude.{reverse, position, IfOk, IfErr, IsTrue, IsFalse, if◌then◌else◌}
+use Rattle.std.specs.Prelude.{reverse, position, IfOk, IfErr, IsFalse, if◌then◌else◌}
 use Rattle.std.specs.Cmp.Lexicographic.{pointwise}
 use Rattle.std.specs.Str.{bytes_eq}
 use Rattle.par2_spec.specs.Folders.{Folder, fingerprint}
@@ -17,7 +17,7 @@ use Rattle.md5.specs.Md5.{md5}
 use Rattle.par2_journal_bytes.specs.Untested.{IsUntested}
 use Rattle.par2_journal_bytes.specs.Views.{journal_of}
 use Rattle.par2_journal_bytes.specs.declared.reading.Untested.{Untested}
-use Rattle.par2_journal.specs.Opening.{session_at, journal_with, halfway_as, opened_of, AnswersDigests, AnswersOpening, OpensAsIs}
+use Rattle.par2_journal.specs.Opening.{session_at, journal_with, halfway_as, AnswersDigests, AnswersOpening, OpensAsIs}
 use Rattle.par2_journal.specs.declared.opening.Opened.{Opened}
 use Rattle.par2_journal.specs.declared.session.Digests.{Digests}
 use Rattle.par2_spec.proofs.FolderLaws.{takes_applicable, taken_are_applicable, more_room_all, state_files}

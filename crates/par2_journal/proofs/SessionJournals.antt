@@ -5,14 +5,14 @@ use Rattle.std.specs.declared.alloc.Global.{Global}
 use Rattle.std.proofs.lemmas.List.{reverse-reverse, take-append-drop, length-reverse, length-take-le, reverse-append, get_or_default, drop_all, map-append, take-map}
 use Rattle.std.proofs.lemmas.Bool.{cases_lt}
 use Rattle.par2_spec.specs.Folders.{Folder, fingerprint}
-use Rattle.par2_spec.specs.Changes.{Change, FolderState, effect, effects, folders_after, state_after_all, takes_all, way_back}
+use Rattle.par2_spec.specs.Changes.{Change, FolderState, effect, folders_after, state_after_all, takes_all, way_back}
 use Rattle.par2_spec.specs.Commands.{Action}
 use Rattle.par2_spec.specs.Sessions.{KeptSession, OnlyGrew, CanWalk, walks, session_of_kept, session_after, session_with, session_unless, kept_done, kept_undone, kept_redone}
 use Rattle.par2_spec.specs.Journals.{Journal, Spells}
 use Rattle.par2_spec.specs.Opening.{settled_journal, halfway_journal, halfway_where, journals_of}
 use Rattle.par2_spec.specs.declared.Version.TheVariants.{Two}
 use Rattle.par2_journal.proofs.Readiness.{same_changes}
-use Rattle.par2_journal.specs.Ready.{Kind, Changing, Undoing, Redoing, Ready, IsReady, CanBe, next_of, changes_by_kind, after_commit, journals_for}
+use Rattle.par2_journal.specs.Ready.{Kind, Changing, Undoing, Redoing, Ready, IsReady, CanBe, next_of, changes_by_kind, after_commit}
 use Rattle.par2_journal.specs.Ahead.{next_changes}
 use Rattle.par2_journal.specs.declared.ahead.Next.{Next}
 use Rattle.par2_journal.specs.declared.ahead.Next.TheVariants as ahead

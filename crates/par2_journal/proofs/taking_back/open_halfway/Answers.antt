@@ -1,16 +1,11 @@
-use Rattle.std.proofs.Common.{◌≡◌, ◌⊎◌, ◌-◌, ◌&&◌, ◌∷◌, List, Ok, Err, Some, length, drop, sym, ap, ◌∙◌, arith}
-use Rattle.std.specs.Prelude.{position, reverse, take, IfErr}
-use Rattle.std.specs.Str.{bytes_eq}
+use Rattle.std.proofs.Common.{◌≡◌, ◌-◌, ◌&&◌, List, Ok, Err, length, drop, sym, ap, ◌∙◌, arith}
 use Rattle.std.proofs.lemmas.List.{length-map, drop-map}
 use Rattle.std.proofs.lemmas.Result.{err_from_is_err_and}
 use Rattle.std.proofs.Math.Logic.{⊎_map}
-use Rattle.par2_spec.specs.Changes.{Change, FolderState, effects}
-use Rattle.par2_spec.specs.Folders.{fingerprint}
+use Rattle.par2_spec.specs.Changes.{Change, effects}
 use Rattle.par2_spec.specs.Opening as defined
 use Rattle.par2_spec.specs.Opening.{is_valid, leads_through}
 use Rattle.par2_spec.specs.Sessions.{session_of_kept}
-use Rattle.par2_spec.specs.declared.JournalFault.{JournalFault}
-use Rattle.par2_spec.specs.declared.JournalFault.TheVariants.{Memory}
 use Rattle.par2_spec.proofs.TestLaws.{err_again}
 use Rattle.par2_folder.specs.Views.{change_of}
 use Rattle.par2_journal_bytes.specs.Views.{changes_in, entries_of}
