@@ -53,22 +53,20 @@ impl Model for Session {
 }
 
 impl Session {
-    ghost use Rattle.std.specs.Prelude.{◌≡◌, ◌↔◌, ◌<◌, ◌≤◌, ◌≢◌, [], map, length, take, drop, reverse, IsErr, IfOk, OnOk, OnErr, IsTrue};
+    ghost use Rattle.std.specs.Prelude.{◌≡◌, ◌↔◌, ◌<◌, ◌≤◌, ◌≢◌, [], map, length, IsErr, IfOk, OnOk, OnErr, IsTrue};
     ghost use Rattle.md5.specs.Md5.{md5};
     ghost use Rattle.par2_spec.specs.Changes.{takes_all};
     ghost use Rattle.par2_spec.specs.Folders.{fingerprint};
-    ghost use Rattle.par2_spec.specs.Sessions.{CanWalk, OnlyGrew, KeptSession, walks, session_of_kept, kept_done, kept_undone, kept_redone};
-    ghost use Rattle.par2_spec.specs.Commands.{Action as Asked};
+    ghost use Rattle.par2_spec.specs.Sessions.{CanWalk, OnlyGrew, session_of_kept, kept_done, kept_undone, kept_redone};
     ghost use Rattle.par2_spec.specs.Journals.{Spells};
-    ghost use Rattle.par2_spec.specs.Opening.{settled_journal, journals_of};
-    ghost use Rattle.par2_spec.specs.declared.Version.TheVariants.{Two};
     ghost use Rattle.par2_folder.specs.Views.{change_of};
     ghost use Rattle.par2_plan.specs.Written.{texts_written};
     ghost use Rattle.par2_journal.specs.Ahead.{next_changes};
     ghost use Rattle.par2_journal.specs.Along.{AreAlong};
     ghost use Rattle.par2_journal.specs.Opening.{session_at};
-    ghost use Rattle.par2_journal.specs.Ready.{Fits, IsReady, changes_by_kind, after_commit, journals_for, next_of};
-    ghost use Rattle.par2_journal.specs.Spelling.{AreSpelled};
+    ghost use Rattle.par2_journal.specs.Ready.{Fits, changes_by_kind, after_commit, kept_journal, next_of};
+    ghost use Rattle.par2_journal.specs.Spelling.{SpellsAction, SpellsReady};
+    ghost use Rattle.par2_journal.specs.Walks.{EntriesWalk};
 
     /// The session on this folder, without a history.
     pub fn new(alloc: Global, folder: Folder) -> Session
@@ -87,8 +85,7 @@ impl Session {
     // The session of these entries.
     pub(crate) fn from_entries(folder: Folder, entries: Vec<Changes>, cursor: usize) -> Session
         requires within { cursor ≤ length entries.items }
-        requires back { IsTrue (walks folder (reverse (take cursor entries.items))) }
-        requires forth { IsTrue (walks folder (drop cursor entries.items)) }
+        requires walks { EntriesWalk folder cursor entries.items }
         ensures { session_of_kept result ≡ session_at folder.files cursor entries.items }
     {
         Session {
@@ -178,8 +175,7 @@ impl Session {
 
     /// The bytes of the session's journal. Nothing but the result is made of the bytes of its changes.
     pub fn encode(&self) -> Result<Vec<u8>, AllocError>
-        ensures { IfOk result
-            (λ bytes. Spells bytes.items (settled_journal Two (session_of_kept self.now))) }
+        ensures { IfOk result (λ bytes. Spells bytes.items (kept_journal self.now)) }
     {
         let fingerprint = self.fingerprint()?;
         spell_settled(self.allocator(), &self.entries, self.cursor, fingerprint)
@@ -249,9 +245,8 @@ impl Session {
         text: &[u8],
     ) -> Result<Digests, AllocError>
         ensures unchanged { self.new ≡ self.old }
-        ensures folder { IfOk result
-            (λ found. found.folder ≡ fingerprint self.old.folder.files) }
-        ensures text { IfOk result (λ found. found.text ≡ md5 text.now) }
+        ensures folder { IfOk result (λ x. x.folder ≡ fingerprint self.old.folder.files) }
+        ensures text { IfOk result (λ x. x.text ≡ md5 text.now) }
     {
         let alloc = self.allocator();
         let Some(next) = next else {
@@ -273,10 +268,8 @@ impl Session {
         draft: &Draft,
     ) -> Result<(Fingerprints, Vec<[u8; 16]>), AllocError>
         requires { IsTrue (takes_all self.now.folder draft.now.changes) }
-        ensures fingerprints { IfOk result
-            (λ x. AreAlong x.0 self.now.folder.files draft.now.changes) }
-        ensures md5s { IfOk result
-            (λ x. x.1.items ≡ map md5 (texts_written draft.now.changes)) }
+        ensures along { IfOk result (λ x. AreAlong self.now.folder.files draft.now.changes x.0) }
+        ensures md5s { IfOk result (λ x. x.1.items ≡ map md5 (texts_written draft.now.changes)) }
     {
         let alloc = self.allocator();
         let texts = draft.texts(alloc)?;
@@ -304,12 +297,8 @@ impl Session {
         requires { Fits prepared.old self.old }
         ensures unchanged { self.new ≡ self.old }
         ensures prepared { prepared.new ≡ prepared.old }
-        ensures spelled { IfOk result
-            (λ journals. AreSpelled journals (journals_for prepared.old.kind self.old)) }
-        ensures journals { let changes = changes_by_kind prepared.old.kind self.old in
-            IfOk result (λ journals. (action : Asked) (before : KeptSession)
-            → OnlyGrew before self.old → IsReady action before prepared.old self.old
-            → AreSpelled journals (journals_of Two (session_of_kept self.old) action changes)) }
+        ensures spelled { IfOk result (SpellsReady prepared.old.kind self.old) }
+        ensures journals { IfOk result (SpellsAction prepared.old self.old) }
     {
         let alloc = self.allocator();
         let cursor = self.cursor;
