@@ -2,6 +2,7 @@
 //! committed, or is carried out at once; runs of actions are made of these.
 use crate::preparation::Task;
 use crate::{Changes, CreateArgs, Prepared, Session, SessionFault, Steps};
+use par2_folder::Landmarks;
 use par2_plan::{Fault, Report, check, draft_repair, plan_create, plan_purge};
 use par2_spec::Action;
 use std::alloc::AllocError;
@@ -46,11 +47,15 @@ impl Session {
         })
     }
 
+    // The landmark that is computed side by side with the MD5s of the inputs is kept for the create's journals.
     pub(crate) fn prepare_create(&mut self, args: &CreateArgs) -> Result<Prepared, Fault>
         ensures { MakesReady (Create (create_args_of args.now)) self.old self.new result }
     {
-        let changes = plan_create(self.allocator(), self.folder(), args)?;
-        self.prepare_changes(changes)
+        let alloc = self.allocator();
+        let none = Landmarks::none(alloc);
+        let creation = plan_create(alloc, self.folder(), args, self.landmarks_or(&none))?;
+        self.keep_landmarks(creation.landmarks);
+        self.prepare_changes(creation.changes)
     }
 
     // The MD5s of what is written are computed side by side with the fingerprints that the repair's journals name.

@@ -3,7 +3,7 @@ use crate::ahead::{Ahead, fingerprints_for, landmarks_in};
 use crate::preparation::Task;
 use crate::spelling::{Fingerprints, spell_command, spell_entry, spell_settled};
 use crate::{Changes, Journals, Next, Prepared, Steps};
-use par2_folder::{Change, Folder, survey_folder};
+use par2_folder::{Change, Folder, Landmarks, survey_folder};
 use par2_plan::Draft;
 use std::alloc::{AllocError, Global};
 use std::marker::Model;
@@ -59,6 +59,7 @@ impl Session {
     ghost use Rattle.par2_spec.specs.Folders.{fingerprint};
     ghost use Rattle.par2_spec.specs.Sessions.{CanWalk, OnlyGrew, session_of_kept, kept_done, kept_undone, kept_redone};
     ghost use Rattle.par2_spec.specs.Journals.{Spells};
+    ghost use Rattle.par2_folder.specs.Landmarks.{AreLandmarksOf};
     ghost use Rattle.par2_folder.specs.Views.{change_of};
     ghost use Rattle.par2_plan.specs.Written.{texts_written};
     ghost use Rattle.par2_journal.specs.Ahead.{next_changes};
@@ -235,6 +236,22 @@ impl Session {
             Next::Redo if self.redo_depth() == 0 => &[],
             Next::Redo => self.next_redo(),
         }
+    }
+
+    // Landmarks of the folder, and these where none stand ready.
+    pub(crate) fn landmarks_or<'a>(&'a self, none: &'a Landmarks) -> &'a Landmarks
+        requires { AreLandmarksOf self.now.folder.files none.now }
+        ensures { AreLandmarksOf self.now.folder.files result.now }
+    {
+        landmarks_in(&self.ahead).unwrap_or(none)
+    }
+
+    // Keeps landmarks of the folder for the next journals.
+    pub(crate) fn keep_landmarks(&mut self, landmarks: Landmarks)
+        requires { AreLandmarksOf self.old.folder.files landmarks }
+        ensures { self.new ≡ self.old }
+    {
+        self.ahead = Some(Ahead::Landmarks(landmarks));
     }
 
     // The digests of the folder and of a text, side by side. Where an undo or redo is next, the fingerprints along its
