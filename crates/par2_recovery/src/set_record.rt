@@ -76,6 +76,22 @@ pub fn file_records(
     Ok(records)
 }
 
+// The same, where the MD5 digests aren't known.
+fn records_of(
+    alloc: Global,
+    folder: &Folder,
+    names: &[Name],
+    s: u64,
+) -> Result<Vec<FileRecord>, AllocError>
+    requires { 1 ≤ s }
+    ensures { IfOk result (λ records.
+        AreRecords s (files_of folder.now.files names.now) records.items) }
+{
+    let texts = file_texts(alloc, folder, names)?;
+    let md5s = text_digests(alloc, &texts)?;
+    file_records(alloc, folder, names, &md5s, s)
+}
+
 /// Why there is no record of a set.
 #[derive(Debug, Error, Clone, Copy, PartialEq, Eq, Drop)]
 pub enum RecordFault {
@@ -120,9 +136,7 @@ impl SetRecord {
         ensures duplicate { result ≡ Err RecordFault.DuplicateId
             → ¬ IsDistinct bytes_eq (map id_of (files_of folder.now.files names.now)) }
     {
-        let texts = file_texts(alloc, folder, names)?;
-        let md5s = text_digests(alloc, &texts)?;
-        let records = file_records(alloc, folder, names, &md5s, s)?;
+        let records = records_of(alloc, folder, names, s)?;
         match SetRecord::of_records(records, s) {
             Ok(set) => Ok(set),
             Err(DuplicateId) => Err(RecordFault::DuplicateId),

@@ -14,8 +14,7 @@ bounds-md5s-i c = omega (arith, many_digests c.args.folder.now.files c.args.name
 pub file_record_by_md5-requires-clause-digest : goal.file_record_by_md5-requires-clause-digest
 file_record_by_md5-requires-clause-digest c =
     let files = c.args.folder.now.files in
-    c.index.ensures
-    ∙ digest_at_name files c.args.names.now c.args.md5s.now c.loop-i.i c.index.result.now c.requires.md5s c.loop-i-test.true
+    digest_at_name files c.args.names.now c.args.md5s.now c.loop-i.i [] c.requires.md5s c.loop-i-test.true
     ∙ sym (ap md5 (c.bytes_of-bytes.ensures ∙ ap (bytes_of files) c.text_at-name.ensures))
 
 pub loop-i-preserved : goal.loop-i-preserved

@@ -1,16 +1,10 @@
-use Rattle.std.proofs.Common.{◌∙◌, ap, map, refl, subst, sym}
+use Rattle.std.proofs.Common.{refl, subst, sym}
 use Rattle.std.specs.List.{IsDistinct}
 use Rattle.std.specs.Str.{bytes_eq}
 use Rattle.std.proofs.lemmas.Bool.{false≢true}
-use Rattle.md5.specs.Md5.{md5}
-use Rattle.par2_digests.specs.Texts.{texts_of}
 use Rattle.par2_spec.specs.Commands.{files_of}
 use Rattle.par2_recovery.proofs.Records.{ids_of_records}
 use Rattle.par2_recovery.proofs.set_record.SetRecord.of_files.Goals as goal
-
-pub file_records-requires-clause-md5s : goal.file_records-requires-clause-md5s
-file_records-requires-clause-md5s c =
-    c.deref-2.ensures.value ∙ c.in_ok-md5s.ensures ∙ ap (λ ts. map md5 (texts_of ts)) c.deref.ensures.value ∙ ap (map md5) c.in_ok-texts.ensures
 
 pub returns-in-Ok-clause-files : goal.returns-in-Ok-clause-files
 returns-in-Ok-clause-files c = c.in-Ok.ensures.files (files_of c.args.folder.now.files c.args.names.now) c.in_ok-records.ensures
