@@ -66,8 +66,8 @@ returns-in-Some-clause-early c fault early =
     let bad = bad_word (goal.at.returns-in-Some-clause-early c).In-Some in
     answered_so _ _ c.in-Some.fault fault refl (early_by_name c.args.folder.now.files (create_args_of c.args.args.now) c.in_ok-base.ensures.accepted c.in-Some.fault bad) early
 
-pub set_of_inputs-requires : goal.set_of_inputs-requires
-set_of_inputs-requires c = (head_passed _ c.in_ok-base.ensures.accepted).positive
+pub set_of_inputs-requires-clause-slice : goal.set_of_inputs-requires-clause-slice
+set_of_inputs-requires-clause-slice c = (head_passed _ c.in_ok-base.ensures.accepted).positive
 
 pub returns-in_err-set-clause-refused : goal.returns-in_err-set-clause-refused
 returns-in_err-set-clause-refused c =
