@@ -52,11 +52,11 @@ module _ {S X : Type 0} (takes : S → List X → Bool) (after : S → List X �
     unfolding done
     done_length le = length-reverse (back start (take i given)) ∙ back_length start (take i given) ∙ length-take-le i given le
 
-    pub rest_left : i ≤ length given → drop i now ≡ drop i given
+    rest_left : i ≤ length given → drop i now ≡ drop i given
     unfolding done
     rest_left le = ap (drop i) so_far.items ∙ ap (λ n. drop n (done ++ drop i given)) (sym (done_length le)) ∙ drop-append_seam done (drop i given)
 
-    pub same_length : i ≤ length given → length now ≡ length given
+    same_length : i ≤ length given → length now ≡ length given
     unfolding done
     same_length le = ap length so_far.items ∙ length-append done (drop i given) ∙ omega (arith, done_length le, length-drop i given, le)
 
@@ -67,7 +67,7 @@ module _ {S X : Type 0} (takes : S → List X → Bool) (after : S → List X �
       lt_now : i < length now
       lt_now = omega (arith, lt, same_length le)
 
-      pub is_given : x ≡ get_or given i x
+      is_given : x ≡ get_or given i x
       is_given =
           let e : get_or now i x ∷ drop (suc i) now ≡ get_or given i x ∷ drop (suc i) given = sym (drop-cons now i x lt_now) ∙ rest_left le ∙ drop-cons given i x lt in
           cc
@@ -96,7 +96,7 @@ module _ {S X : Type 0} (takes : S → List X → Bool) (after : S → List X �
             ∙ ap reverse (sym (back_more start (take i given) x) ∙ ap (back start) (sym whole)));
       }
 
-      pub is_stuck : one state x ≡ false → takes start given ≡ false
+      is_stuck : one state x ≡ false → takes start given ≡ false
       is_stuck refused =
           ap (takes start) all ∙ takes_more start (take i given) (x ∷ drop (i + 1) given) so_far.taken ∙ ap (λ s. takes s (x ∷ drop (i + 1) given)) (sym so_far.state)
           ∙ takes_next state x (drop (i + 1) given) ∙ ap (λ b. b && takes (step state x) (drop (i + 1) given)) refused

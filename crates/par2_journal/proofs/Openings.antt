@@ -24,7 +24,7 @@ use Rattle.par2_spec.proofs.FolderLaws.{takes_applicable, taken_are_applicable, 
 use Rattle.par2_spec.proofs.StopLaws.{through_applies}
 
 -- changes that apply lead through these fingerprints where they leave them
-pub through_is : (f : Folder) (cs : List Change) (ps : List (List ℕ)) → length ps ≡ length cs → are_applicable f cs ≡ true → leads_through f cs ps ≡ pointwise bytes_eq (map fingerprint (folders_after f cs)) ps
+through_is : (f : Folder) (cs : List Change) (ps : List (List ℕ)) → length ps ≡ length cs → are_applicable f cs ≡ true → leads_through f cs ps ≡ pointwise bytes_eq (map fingerprint (folders_after f cs)) ps
 unfolding leads_through are_applicable folders_after
 through_is f [] [] same h = refl
 through_is f [] (p ∷ ps) same h = absurd (omega (arith, same))

@@ -3,7 +3,7 @@ use Rattle.std.proofs.Common.{◌≡◌, ◌≢◌, inl, inr, ℕ, Bool, ◌<◌
 use Rattle.std.proofs.lemmas.List.{nil_from_length}
 use Rattle.std.specs.Prelude.{IfOk, IfErr, IsErrAnd}
 use Rattle.par2_spec.specs.Changes.{Change, Write, Replace, Rename, Remove, places_taken, are_applicable, effects}
-use Rattle.par2_spec.specs.Commands.{Action, Command, Do, Undo, Redo, Repair}
+use Rattle.par2_spec.specs.Commands.{Command, Do, Undo, Redo, Repair}
 use Rattle.par2_spec.specs.Folders.{Folder}
 use Rattle.par2_spec.specs.Plans.{LeadsToAfterAsked}
 use Rattle.par2_spec.specs.Refusals.{refusal, after, early_refusal}
@@ -17,9 +17,9 @@ use Rattle.par2_spec.specs.declared.Fault.TheVariants.{Memory, RepairFailed}
 use Rattle.par2_plan.specs.Drafts.{HasItsMd5s, IsDraft}
 use Rattle.par2_plan.specs.declared.draft.Draft.{Draft}
 use Rattle.par2_journal.specs.Along.{AreAlong, prints_of}
-use Rattle.par2_journal.specs.Commands.{MakesReady, Performs, Prepares}
+use Rattle.par2_journal.specs.Commands.{MakesReady, Prepares}
 use Rattle.par2_journal.specs.declared.spelling.Fingerprints.{Fingerprints}
-use Rattle.par2_journal.specs.Ready.{Kind, Ready, Changing, Undoing, Redoing, CanBe, Fits, IsKindOf, IsReady, after_commit, changes_by_kind, next_of}
+use Rattle.par2_journal.specs.Ready.{Kind, Ready, Changing, Undoing, Redoing, CanBe, Fits, IsKindOf, IsReady, changes_by_kind, next_of}
 use Rattle.par2_journal.specs.Refusals.{MayFail, MayRefuse}
 use Rattle.par2_spec.specs.History.{IsChanging}
 use Rattle.par2_journal.proofs.Actions.{command_done, undo_done, redo_done}
@@ -69,7 +69,7 @@ leads_asked_by folder command changes are applies leads = λ accepted. (
 -- an accepted command, of which the changes were made ready
 module _ (old new : KeptSession) (command : Command) (changes : List Change) (changing : IsChanging (Do command)) (grew : OnlyGrew old new)
     (accepted : refusal old.folder.files command ≡ None) (are : changes ≡ plans.changes_of old.folder.files command) where
-  pub ready_command : (ready : Ready) → ready.kind ≡ Changing changes → Fits ready new → IsReady (Do command) old ready new
+  ready_command : (ready : Ready) → ready.kind ≡ Changing changes → Fits ready new → IsReady (Do command) old ready new
   unfolding changes_asked
   ready_command ready is fits =
       let kind : IsKindOf (Do command) ready.kind = subst (IsKindOf (Do command)) (sym is) tt in
@@ -174,27 +174,9 @@ ready_redo s steps some told = record {
   leads = redo_done s (some_there s.redos some);
 }
 
--- ---- what is reported of what was committed
+-- ---- what is ready while the session only grew
 
 pub same_changes : (kind : Kind) (old new : KeptSession) → OnlyGrew old new → changes_by_kind kind new ≡ changes_by_kind kind old
 same_changes (Changing changes) old new grew = refl
 same_changes Undoing old new grew = ap next_of grew.undos
 same_changes Redoing old new grew = ap next_of grew.redos
-
--- the steps are those of the changes that were asked for
-steps_asked : (action : Action) (old new : KeptSession) (ready : Ready) (steps : List Step) → IsReady action old ready new → OnlyGrew old new → steps ≡ ready.steps
-    → IfOk (changes_asked (session_of_kept old) action) (λ changes. steps ≡ map step_of changes)
-steps_asked action old new ready steps is grew told =
-    subst (λ r. IfOk r (λ changes. steps ≡ map step_of changes)) (sym is.asked) (told ∙ is.fits.steps ∙ ap (map step_of) (same_changes ready.kind old new grew))
-
--- what was made ready and committed is done
-pub performed : (command : Command) (old mid new : KeptSession) (ready : Ready) (steps : List Step) → MakesReady command old mid (Ok ready) → new ≡ after_commit ready.kind mid → steps ≡ ready.steps
-    → Performs command old new (Ok steps)
-performed command old mid new ready steps made committed told = record {
-  done = made.ready.leads ∙ ap (λ (s : KeptSession). Ok (session_of_kept s)) (sym committed);
-  leads = made.leads;
-  steps = steps_asked (Do command) old mid ready steps made.ready made.kept told;
-  unchanged = tt;
-  refused = tt;
-  early = λ fault found. let refused = made.early fault found in cc;
-}

@@ -24,10 +24,10 @@ use Rattle.par2_journal.proofs.Turns.{at, undone_to, redone_to, next_undo_is, ne
 use Rattle.par2_journal.proofs.Ways.{back_length}
 
 module _ (xs : List (List Change)) (n : ℕ) (within : n ≤ length xs) where
-  pub all_entries : reverse (reverse (take n xs)) ++ drop n xs ≡ xs
+  all_entries : reverse (reverse (take n xs)) ++ drop n xs ≡ xs
   all_entries = ap (λ l. l ++ drop n xs) (reverse-reverse (take n xs)) ∙ take-append-drop n xs
 
-  pub undo_count : length (reverse (take n xs)) ≡ n
+  undo_count : length (reverse (take n xs)) ≡ n
   undo_count = length-reverse (take n xs) ∙ length-take-le n xs within
 
   pub settled_at : (folder : FolderState) (room : ℕ) → settled_with (fingerprint folder.files) (xs, n) ≡ settled_journal Two (session_of_kept (at folder xs n room))
@@ -35,7 +35,7 @@ module _ (xs : List (List Change)) (n : ℕ) (within : n ≤ length xs) where
   settled_at folder room = λ i. record { version = Two; fingerprint = fingerprint folder.files; cursor = sym undo_count i; entries = sym all_entries i; halfway = None }
 
   -- while changes are made
-  pub halfway_at : (folder : FolderState) (room : ℕ) (text : Option (Vec ℕ Global)) (cs back : List Change) → back ≡ way_back folder.files cs
+  halfway_at : (folder : FolderState) (room : ℕ) (text : Option (Vec ℕ Global)) (cs back : List Change) → back ≡ way_back folder.files cs
       → SpellsWhere text (halfway_with (fingerprint folder.files) n xs (map fingerprint (folders_after folder.files cs)) back)
       → SpellsWhere text (halfway_where Two (session_of_kept (at folder xs n room)) cs)
   unfolding halfway_journal settled_journal way_back
@@ -83,7 +83,7 @@ done_after xs n within folder room cs =
     sym (append-nil (reverse (way_back folder.files cs ∷ reverse (take n xs))) ∙ reverse-append (way_back folder.files cs ∷ []) (reverse (take n xs)) ∙ ap (λ l. l ++ way_back folder.files cs ∷ []) (reverse-reverse (take n xs))) in
     λ i. record { version = Two; fingerprint = fingerprint (state_after_all folder cs).files; cursor = count i; entries = entries i; halfway = None }
 
-pub after_at : (xs : List (List Change)) (n : ℕ) (folder : FolderState) (room : ℕ) (kind : Kind) → HasNext kind n (length xs)
+after_at : (xs : List (List Change)) (n : ℕ) (folder : FolderState) (room : ℕ) (kind : Kind) → HasNext kind n (length xs)
     → settled_with (fingerprint (state_after_all folder (changes_by_kind kind (at folder xs n room))).files) (entries_with (turn_of kind n) n xs (way_back folder.files (changes_by_kind kind (at folder xs n room))))
     ≡ settled_journal Two (session_of_kept (after_commit kind (at folder xs n room)))
 after_at xs n folder room (Changing cs) next = done_after xs n next folder room cs

@@ -71,12 +71,12 @@ walks_more s (e ∷ es) ds h =
     let both = and_parts (takes_all s e) (walks (state_after_all s e) es) h in
     ap (λ b. b && walks (state_after_all s e) (es ++ ds)) both.0 ∙ walks_more (state_after_all s e) es ds both.1
 
-pub along_more : (s : FolderState) (es ds : List (List Change)) → state_along s (es ++ ds) ≡ state_along (state_along s es) ds
+along_more : (s : FolderState) (es ds : List (List Change)) → state_along s (es ++ ds) ≡ state_along (state_along s es) ds
 unfolding state_along
 along_more s [] ds = refl
 along_more s (e ∷ es) ds = along_more (state_after_all s e) es ds
 
-pub ways_append : (s : FolderState) (es ds : List (List Change)) → ways_back s (es ++ ds) ≡ ways_back (state_along s es) ds ++ ways_back s es
+ways_append : (s : FolderState) (es ds : List (List Change)) → ways_back s (es ++ ds) ≡ ways_back (state_along s es) ds ++ ways_back s es
 unfolding state_along ways_back
 ways_append s [] ds = sym (append-nil (ways_back s ds))
 ways_append s (e ∷ es) ds =
