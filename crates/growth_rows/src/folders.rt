@@ -4,7 +4,7 @@ use crate::calls::{folder_in, names_of, put_journal, read, read_journal, replace
 use crate::inputs::{args_of, damaged, name_of, protected};
 use crate::scene::{Refusal, Scene};
 use anyhow::Result;
-use par2_folder::{Change, Folder, MemoryStore, Name};
+use par2_folder::{Change, Folder, Landmarks, MemoryStore, Name};
 use par2_journal::CreateArgs;
 use par2_plan::{Changes, check, plan_create, plan_purge, plan_repair};
 use par2_slices::crc32;
@@ -103,7 +103,9 @@ impl Folders {
 
     fn plan(&mut self, alloc: Global, name: &str) -> Result<(), Refusal> {
         self.changes = match name {
-            "plan_create" => plan_create(alloc, &self.folder, &self.args)?,
+            "plan_create" => {
+                plan_create(alloc, &self.folder, &self.args, &Landmarks::none(alloc))?.changes
+            }
             "plan_purge" => plan_purge(alloc, &self.whole, "t.par2")?,
             _ => plan_repair(alloc, &self.folder, "t.par2", &[], true)?,
         };

@@ -1,7 +1,7 @@
 //! Folders and words that the calls work on.
 
 use anyhow::{Error, Result};
-use par2_folder::{Bytes, Change, Folder, Name, copies_of};
+use par2_folder::{Bytes, Change, Folder, Landmarks, Name, copies_of};
 use par2_journal::CreateArgs;
 use par2_plan::plan_create;
 use recovery_calls::folder_of;
@@ -38,8 +38,9 @@ fn change(folder: &mut Folder, mut change: Change) -> Result<()> {
 
 // The changes of a create of `t.par2`.
 fn created(alloc: Global, folder: &Folder) -> Result<Vec<Change>> {
-    match plan_create(alloc, folder, &args_of(alloc, "t.par2")?) {
-        Ok(changes) => Ok(copies_of(alloc, changes.as_slice())?),
+    let none = Landmarks::none(alloc);
+    match plan_create(alloc, folder, &args_of(alloc, "t.par2")?, &none) {
+        Ok(creation) => Ok(copies_of(alloc, creation.changes.as_slice())?),
         Err(_) => Err(Error::msg("a create is refused")),
     }
 }

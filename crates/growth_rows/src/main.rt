@@ -41,7 +41,6 @@ const CALLS: &[(&str, &[&str])] = &[
             "append_recovery",
             "append_recoveries",
             "digest_recoveries",
-            "file_records",
             "SetRecord::of_files",
             "recovery_slice",
             "recovery_slices",

@@ -8,9 +8,7 @@ use par2_packets::{
     FileRecord, Pair, append_creator, append_desc, append_ifsc, append_main, append_recoveries,
     append_recovery, digest_recoveries, with_undigested,
 };
-use par2_recovery::{
-    SetRecord, Survivors, file_records, rank, recovery_slices_over,
-};
+use par2_recovery::{SetRecord, Survivors, rank, recovery_slices_over};
 use par2_slices::{Rolling, Spot, Wanted, crc32, find, find_among, pairs_of};
 use par2_transform::{Place, whole_texts};
 use recovery_calls::{
@@ -152,12 +150,9 @@ impl Texts {
         Ok(())
     }
 
-    fn record(&mut self, alloc: Global, name: &str) -> Result<(), Refusal> {
+    fn record(&mut self, alloc: Global) -> Result<(), Refusal> {
         let file = Name::new("a").map_err(|_| Refusal::Other)?;
-        self.records = match name {
-            "file_records" => file_records(alloc, &self.folder, from_ref(&file), 4)?,
-            _ => SetRecord::of_files(alloc, &self.folder, from_ref(&file), 4)?.files,
-        };
+        self.records = SetRecord::of_files(alloc, &self.folder, from_ref(&file), 4)?.files;
         Ok(())
     }
 
@@ -232,7 +227,7 @@ impl Scene for Texts {
             "digest_recoveries" => self.digest(alloc),
             "append_main" | "append_desc" | "append_ifsc" | "append_recovery" | "append_creator" =>
                 { self.append(alloc, name) }
-            "file_records" | "SetRecord::of_files" => self.record(alloc, name),
+            "SetRecord::of_files" => self.record(alloc),
             _ => self.recover(alloc, name),
         }
     }

@@ -52,7 +52,10 @@ pub fn lists_of(rt: &(impl Abort + AllocGlobal), texts: &[&[u8]]) -> Vec<Vec<u8>
 pub fn places_of(rt: &(impl Abort + AllocGlobal), pairs: &[(usize, usize)]) -> Vec<Place> {
     let mut places = Vec::new(rt.alloc());
     for (text, at) in pairs {
-        let place = Place { text: *text, at: *at };
+        let place = Place {
+            text: *text,
+            at: *at,
+        };
         places.push(place).expect(rt, "memory");
     }
     places

@@ -6,7 +6,8 @@ ghost use Rattle.par2_spec.specs.Changes.{takes_all};
 
 use crate::calls::{bytes_in, fingerprint, lists, name};
 use par2_folder::{
-    BadName, Bytes, Change, ChangeFault, Folder, Landmarks, Name, fingerprints, survey_folder,
+    BadName, Bytes, Change, ChangeFault, Folder, Landmarks, Name, fingerprints, mark_folder,
+    survey_folder,
 };
 use std::process::Abort;
 
@@ -247,6 +248,23 @@ fn has_from_landmarks(
         && found.along.as_slice() == wanted
 }
 
+// Whether they are so from a landmark at `b`, and whether the digest of `abc` is computed side by side with it.
+fn has_from_mark(
+    rt: &(impl Abort + AllocGlobal),
+    folder: &Folder,
+    changes: &[Change],
+    wanted: &[[u8; 16]],
+) -> bool
+    requires { IsTrue (takes_all folder.now (map change_of changes.now)) }
+{
+    let name = Name::new("b").expect(rt, "a name");
+    let none = Landmarks::none(rt.alloc());
+    let marked = mark_folder(rt.alloc(), folder, &none, &name, &[b"abc"]).expect(rt, "memory");
+    let found = fingerprints(rt.alloc(), folder, changes, &marked.landmarks, &[]);
+    marked.beside.as_slice() == [DIGEST_OF_ABC].as_slice()
+        && found.expect(rt, "memory").along.as_slice() == wanted
+}
+
 // Whether these are the fingerprints of the folder with the change, and without it again.
 fn has_back(
     rt: &(impl Abort + AllocGlobal),
@@ -256,7 +274,11 @@ fn has_back(
 ) -> Result<bool, ChangeFault> {
     folder.apply(&mut change)?;
     let back = [change];
-    Ok(has_along(rt, &folder, &back, wanted) && has_from_landmarks(rt, &folder, &back, wanted))
+    Ok(
+        has_along(rt, &folder, &back, wanted)
+            && has_from_landmarks(rt, &folder, &back, wanted)
+            && has_from_mark(rt, &folder, &back, wanted),
+    )
 }
 
 #[test]

@@ -5,9 +5,7 @@ use crate::field::field;
 use par2_folder::Folder;
 use par2_gf16::Gf;
 use par2_packets::FileRecord;
-use par2_recovery::{
-    RebuildFault, RecordFault, SetRecord, Survivors, rank, recovery_slices_over,
-};
+use par2_recovery::{RebuildFault, RecordFault, SetRecord, Survivors, rank, recovery_slices_over};
 use recovery_calls::{
     folder_of, input_slices_of, lost_rebuilt, recovery_slice_of, recovery_slices_of, set_of,
     slices_written,

@@ -354,5 +354,11 @@ fn is_whole(place: &Place, text: usize) -> bool {
 #[test]
 fn places_of_whole_texts(rt: HostRuntime) {
     let places = whole_texts(rt.alloc(), 3).expect(&rt, "memory");
-    assert!(rt; places.len() == 3 && places.iter().enumerate().all(|(t, place)| is_whole(place, t)));
+    assert!(rt;
+        places.len() == 3
+            && places
+                .iter()
+                .enumerate()
+                .all(|(t, place)| is_whole(place, t))
+    );
 }

@@ -56,7 +56,7 @@ absorbed_here [] (suc place) d text texts held = absurd held
 absorbed_here (s ∷ states) zero d text texts held = held.0
 absorbed_here (s ∷ states) (suc place) d text texts held = absorbed_here states place d text texts held
 
-absorbed_behind : (states : List Midstate) (place : ℕ) (text : List ℕ) (texts : List (List ℕ)) → HaveAbsorbed (drop place states) (text ∷ texts) → HaveAbsorbed (drop (suc place) states) texts
+pub absorbed_behind : (states : List Midstate) (place : ℕ) (text : List ℕ) (texts : List (List ℕ)) → HaveAbsorbed (drop place states) (text ∷ texts) → HaveAbsorbed (drop (suc place) states) texts
 absorbed_behind [] zero text texts held = absurd held
 absorbed_behind [] (suc place) text texts held = absurd held
 absorbed_behind (s ∷ []) zero text texts held = held.1

@@ -1,12 +1,14 @@
 //! States within a folder's fingerprint, from which other fingerprints set out.
 ghost use Rattle.std.specs.Prelude.{◌≡◌, ◌++◌, ◌∷◌, [], map, OnOk, IsTrue};
+ghost use Rattle.par2_digests.specs.Messages.{HasAbsorbed};
 ghost use Rattle.par2_spec.specs.Folders.{Folder};
-ghost use Rattle.par2_folder.specs.Borders.{run_texts};
+ghost use Rattle.par2_folder.specs.Borders.{IsFurther, run_texts, text_before};
 ghost use Rattle.par2_folder.specs.Landmarks.{AreBehind, AreLandmarksOf};
 ghost use Rattle.par2_folder.specs.Runs.{HaveAbsorbed};
 ghost use Rattle.par2_folder.specs.Views.{change_of};
+ghost use Rattle.par2_folder.specs.declared.border.Border.TheVariants.{At};
 
-use crate::border::{Border, touches};
+use crate::border::{Border, is_further, touches};
 use crate::{Change, Name};
 use par2_digests::Midstate;
 use std::alloc::{AllocError, Global};
@@ -70,5 +72,22 @@ impl Landmarks {
             start = (border, mark.state);
         }
         start
+    }
+
+    /// The last landmark before a name, or the beginning, and the state there.
+    pub(crate) fn before(&self, name: &Name) -> (Border<'_>, Midstate)
+        ensures further { IsFurther result.0 (At name.entry) }
+        ensures absorbed { (folder : Folder) → AreLandmarksOf folder self.now
+            → HasAbsorbed result.1 (text_before result.0 folder) }
+    {
+        let mut last = (Border::Beginning, Midstate::new());
+        for mark in &self.list {
+            let border = Border::At(&mark.name);
+            if !is_further(&border, name) {
+                return last;
+            }
+            last = (border, mark.state);
+        }
+        last
     }
 }

@@ -42,5 +42,5 @@ pub use name::{BadName, Name};
 pub use par2_spec::ChangeFault;
 pub use reading::read_within;
 pub use store::{FolderStore, ReadFault, StoreFault};
-pub use survey::{Survey, survey_folder};
+pub use survey::{Marked, Survey, mark_folder, survey_folder};
 pub use view::Store;

@@ -1,7 +1,8 @@
 //! A folder's fingerprint and a text's digest in one pass, with landmarks on the way.
-ghost use Rattle.std.specs.Prelude.{◌≡◌, ◌<◌, ◌++◌, ℕ, List, length, IfOk};
+ghost use Rattle.std.specs.Prelude.{◌≡◌, ◌<◌, ◌++◌, ℕ, List, length, map, IfOk};
 ghost use Rattle.md5.specs.Md5.{md5};
 ghost use Rattle.par2_digests.specs.Messages.{HasAbsorbed};
+ghost use Rattle.par2_digests.specs.Texts.{texts_of};
 ghost use Rattle.par2_spec.specs.Folders.{fingerprint};
 ghost use Rattle.par2_folder.specs.Borders.{IsFurther};
 ghost use Rattle.par2_folder.specs.Landmarks.{AreLandmarksOf, HasLandmark};
@@ -12,7 +13,7 @@ ghost use Rattle.par2_folder.specs.Surveys.{IsAt};
 use crate::border::{Border, is_further};
 use crate::landmarks::{Landmark, Landmarks};
 use crate::snapshot::Snapshot;
-use crate::walk::{run_of, run_of_text};
+use crate::walk::{run_of, run_of_text, state_before};
 use crate::{Folder, Name};
 use par2_digests::{Midstate, Part, absorb_each};
 use std::alloc::{AllocError, Global};
@@ -141,4 +142,37 @@ pub fn survey_folder<'a>(
         digest: digest_behind(end.text, &text[end.taken..]),
         landmarks,
     })
+}
+
+/// A landmark of a folder, and digests of texts that were computed side by side with it.
+#[derive(Debug, Drop)]
+pub struct Marked {
+    pub landmarks: Landmarks,
+    /// The MD5 digests of the texts.
+    pub beside: Vec<[u8; 16]>,
+}
+
+/// A landmark of the folder at a name, for fingerprints along changes of which none touches a lesser name, and the MD5
+/// digests of texts. They are computed side by side, the landmark from the last one before the name.
+pub fn mark_folder(
+    alloc: Global,
+    folder: &Folder,
+    from: &Landmarks,
+    name: &Name,
+    beside: &[&[u8]],
+) -> Result<Marked, AllocError>
+    requires { AreLandmarksOf folder.now.files from.now }
+    ensures landmarks { IfOk result
+        (λ marked. AreLandmarksOf folder.now.files marked.landmarks) }
+    ensures some { IfOk result (λ marked. HasLandmark folder.now.files marked.landmarks) }
+    ensures beside { IfOk result
+        (λ marked. marked.beside.items ≡ map md5 (texts_of beside.now)) }
+{
+    let (state, beside) = state_before(alloc, from, folder, name, beside)?;
+    let mut landmarks = Landmarks::none(alloc);
+    landmarks.push(Landmark {
+        name: name.copied(),
+        state,
+    })?;
+    Ok(Marked { landmarks, beside })
 }

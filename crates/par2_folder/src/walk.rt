@@ -14,7 +14,7 @@ ghost use Rattle.par2_folder.specs.Borders.{IsFurther, new_run, run_texts, text_
 ghost use Rattle.par2_folder.specs.Landmarks.{AreLandmarksOf};
 ghost use Rattle.par2_folder.specs.Runs.{AreTo, HaveAbsorbed};
 ghost use Rattle.par2_folder.specs.Snapshots.{files_in, folder_in};
-ghost use Rattle.par2_folder.specs.declared.border.Border.TheVariants.{End};
+ghost use Rattle.par2_folder.specs.declared.border.Border.TheVariants.{At, End};
 
 use crate::border::{Border, is_further, parts_between, touches};
 use crate::landmarks::Landmarks;
@@ -292,6 +292,23 @@ fn digests_of(alloc: Global, states: &[Midstate]) -> Result<Vec<[u8; 16]>, Alloc
     Ok(digests)
 }
 
+// The runs, and after them those of texts that are digested side by side with them.
+fn with_texts<'a>(
+    alloc: Global,
+    mut runs: Runs<'a>,
+    texts: &[&'a [u8]],
+) -> Result<Runs<'a>, AllocError>
+    requires { length runs.pendings.items ≤ 8 }
+    ensures few { IfOk result (λ runs. length runs.pendings.items ≤ 8) }
+    ensures texts { (before : List (List ℕ)) → AreTo runs.entry before
+        → IfOk result (λ runs. AreTo runs (before ++ texts_of texts.now)) }
+{
+    for text in texts {
+        runs.push(run_of_text(alloc, Midstate::new(), text)?)?;
+    }
+    Ok(runs)
+}
+
 /// The digests of the folder's text and of those of the folders that the changes lead it through, and after them those
 /// of texts beside them.
 pub fn digests_along(
@@ -306,9 +323,52 @@ pub fn digests_along(
     ensures { let along = run_texts End folder.now.files (map change_of changes.now) in
         IfOk result (λ digests. digests.items ≡ map md5 (along ++ texts_of beside.now)) }
 {
-    let mut runs = runs_along(alloc, landmarks, folder, changes)?;
-    for text in beside {
-        runs.push(run_of_text(alloc, Midstate::new(), text)?)?;
-    }
-    digests_of(alloc, &runs.finish()?)
+    let runs = runs_along(alloc, landmarks, folder, changes)?;
+    let all = with_texts(alloc, runs, beside)?;
+    digests_of(alloc, &all.finish()?)
+}
+
+// The run up to the name, from the last landmark before it, and after it those of texts.
+fn runs_up_to<'a>(
+    alloc: Global,
+    landmarks: &Landmarks,
+    folder: &'a Folder,
+    name: &Name,
+    beside: &[&'a [u8]],
+) -> Result<Runs<'a>, AllocError>
+    requires { AreLandmarksOf folder.now.files landmarks.now }
+    ensures few { IfOk result (λ runs. length runs.pendings.items ≤ 8) }
+    ensures texts { let first = text_before (At name.entry) folder.now.files in
+        IfOk result (λ runs. AreTo runs (first ∷ texts_of beside.now)) }
+{
+    let snapshot = folder.snapshot()?;
+    let (border, state) = landmarks.before(name);
+    let mut runs = Runs::new(alloc);
+    add_run(
+        alloc,
+        &mut runs,
+        state,
+        &snapshot,
+        &border,
+        &Border::At(name),
+    )?;
+    with_texts(alloc, runs, beside)
+}
+
+/// The state of the folder before a name, from the last landmark there, and the digests of texts beside it.
+pub fn state_before(
+    alloc: Global,
+    landmarks: &Landmarks,
+    folder: &Folder,
+    name: &Name,
+    beside: &[&[u8]],
+) -> Result<(Midstate, Vec<[u8; 16]>), AllocError>
+    requires { AreLandmarksOf folder.now.files landmarks.now }
+    ensures state { let before = text_before (At name.entry) folder.now.files in
+        IfOk result (λ found. HasAbsorbed found.0 before) }
+    ensures beside { IfOk result (λ found. found.1.items ≡ map md5 (texts_of beside.now)) }
+{
+    let states = runs_up_to(alloc, landmarks, folder, name, beside)?.finish()?;
+    let digests = digests_of(alloc, &states[1..])?;
+    Ok((states[0], digests))
 }

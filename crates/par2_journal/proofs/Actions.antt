@@ -70,7 +70,7 @@ of_error (Ok a) h = tt
 of_error (Err e) h = h
 
 -- the history goes along
-pub leads_asked : (s t : Session) (action : Action) → is_valid s ≡ true → LeadsToAfterAsked s.folder action → session_after s action ≡ Ok t → history_after (history_of s) action ≡ Ok (history_of t)
+leads_asked : (s t : Session) (action : Action) → is_valid s ≡ true → LeadsToAfterAsked s.folder action → session_after s action ≡ Ok t → history_after (history_of s) action ≡ Ok (history_of t)
 leads_asked s t action valid leads h = (accepted_next s t action valid leads h).0
 
 -- a run of what is left goes on from an accepted and from a refused action

@@ -4,6 +4,7 @@ use Rattle.std.specs.Prelude.{reverse}
 use Rattle.std.proofs.Math.Seq.{drop-append_seam, set-append_seam, take-append_seam}
 use Rattle.std.proofs.lemmas.List.{take_more, take-append-drop, length-take-le, length-reverse, reverse-append, reverse-reverse, get_or-map, map-set, length-map, take-map, drop-map, drop_more}
 use Rattle.par2_spec.proofs.ListsLaws.{map-reverse}
+use Rattle.par2_journal.specs.Walks.{AreFirstTaken}
 
 -- a list of which the front was turned: seen by v, the front is w in reverse
 module _ {A X : Type 0} (v : A → X) (now : List A) (w rest : List X) (seen : map v now ≡ reverse w ++ rest) where
@@ -29,12 +30,6 @@ reached m zero b h k = omega arith
 reached zero (suc n) b h k = let no : b ≡ false = k (omega arith) in cc
 reached (suc m) (suc n) b h k = let le : n ≤ m = reached m n b h (λ lt. k (omega (arith, lt))) in omega (arith, le)
 
--- the first i of the given items were taken and turned
-pub record IsTurned {S X : Type 0} (takes : S → List X → Bool) (after : S → List X → S) (back : S → List X → List X) (start state : S) (given now : List X) (i : ℕ) : Type 0 where
-  pub taken : takes start (take i given) ≡ true
-  pub after_them : state ≡ after start (take i given)
-  pub items : now ≡ reverse (back start (take i given)) ++ drop i given
-
 module _ {S X : Type 0} (takes : S → List X → Bool) (after : S → List X → S) (back : S → List X → List X) (one : S → X → Bool) (step : S → X → S) (turn : S → X → X)
     (takes_none : (s : S) → takes s [] ≡ true) (after_none : (s : S) → after s [] ≡ s) (back_none : (s : S) → back s [] ≡ [])
     (takes_next : (s : S) (x : X) (xs : List X) → takes s (x ∷ xs) ≡ (one s x && takes (step s x) xs))
@@ -42,14 +37,14 @@ module _ {S X : Type 0} (takes : S → List X → Bool) (after : S → List X �
     (after_more : (s : S) (xs : List X) (x : X) → after s (xs ++ x ∷ []) ≡ step (after s xs) x)
     (back_more : (s : S) (xs : List X) (x : X) → back s (xs ++ x ∷ []) ≡ turn (after s xs) x ∷ back s xs)
     (back_length : (s : S) (xs : List X) → length (back s xs) ≡ length xs) where
-  pub sets_out : (start : S) (given : List X) → IsTurned takes after back start start given given 0
+  pub sets_out : (start : S) (given : List X) → AreFirstTaken takes after back start start given given 0
   sets_out start given = record {
     taken = takes_none start;
-    after_them = sym (after_none start);
+    state = sym (after_none start);
     items = ap (λ l. reverse l ++ given) (sym (back_none start));
   }
 
-  module _ (start state : S) (given now : List X) (i : ℕ) (so_far : IsTurned takes after back start state given now i) where
+  module _ (start state : S) (given now : List X) (i : ℕ) (so_far : AreFirstTaken takes after back start state given now i) where
     done : List X
     done = reverse (back start (take i given))
 
@@ -57,11 +52,11 @@ module _ {S X : Type 0} (takes : S → List X → Bool) (after : S → List X �
     unfolding done
     done_length le = length-reverse (back start (take i given)) ∙ back_length start (take i given) ∙ length-take-le i given le
 
-    pub rest_left : i ≤ length given → drop i now ≡ drop i given
+    rest_left : i ≤ length given → drop i now ≡ drop i given
     unfolding done
     rest_left le = ap (drop i) so_far.items ∙ ap (λ n. drop n (done ++ drop i given)) (sym (done_length le)) ∙ drop-append_seam done (drop i given)
 
-    pub same_length : i ≤ length given → length now ≡ length given
+    same_length : i ≤ length given → length now ≡ length given
     unfolding done
     same_length le = ap length so_far.items ∙ length-append done (drop i given) ∙ omega (arith, done_length le, length-drop i given, le)
 
@@ -72,7 +67,7 @@ module _ {S X : Type 0} (takes : S → List X → Bool) (after : S → List X �
       lt_now : i < length now
       lt_now = omega (arith, lt, same_length le)
 
-      pub is_given : x ≡ get_or given i x
+      is_given : x ≡ get_or given i x
       is_given =
           let e : get_or now i x ∷ drop (suc i) now ≡ get_or given i x ∷ drop (suc i) given = sym (drop-cons now i x lt_now) ∙ rest_left le ∙ drop-cons given i x lt in
           cc
@@ -86,28 +81,28 @@ module _ {S X : Type 0} (takes : S → List X → Bool) (after : S → List X �
       all : given ≡ take i given ++ x ∷ drop (i + 1) given
       all = sym (take-append-drop i given) ∙ ap (λ l. take i given ++ l) next
 
-      pub goes_on : (new : S) (y : X) → one state x ≡ true → new ≡ step state x → y ≡ turn state x → IsTurned takes after back start new given (set now i y) (i + 1)
+      pub goes_on : (new : S) (y : X) → one state x ≡ true → new ≡ step state x → y ≡ turn state x → AreFirstTaken takes after back start new given (set now i y) (i + 1)
       unfolding done
       goes_on new y taken moved turned = record {
-        taken = ap (takes start) whole ∙ takes_more start (take i given) (x ∷ []) so_far.taken ∙ ap (λ s. takes s (x ∷ [])) (sym so_far.after_them) ∙ takes_next state x []
+        taken = ap (takes start) whole ∙ takes_more start (take i given) (x ∷ []) so_far.taken ∙ ap (λ s. takes s (x ∷ [])) (sym so_far.state) ∙ takes_next state x []
             ∙ ap (λ b. b && takes (step state x) []) taken ∙ takes_none (step state x);
-        after_them = moved ∙ ap (λ s. step s x) so_far.after_them ∙ sym (after_more start (take i given) x) ∙ ap (after start) (sym whole);
+        state = moved ∙ ap (λ s. step s x) so_far.state ∙ sym (after_more start (take i given) x) ∙ ap (after start) (sym whole);
         items = ap (λ l. set l i y) (so_far.items ∙ ap (λ l. done ++ l) next)
             ∙ ap (λ n. set (done ++ x ∷ drop (i + 1) given) n y) (sym (done_length le))
             ∙ set-append_seam done x (drop (i + 1) given) y
             ∙ sym (append_assoc done (y ∷ []) (drop (i + 1) given))
-            ∙ ap (λ l. l ++ drop (i + 1) given) (ap (λ z. done ++ z ∷ []) (turned ∙ ap (λ s. turn s x) so_far.after_them)
+            ∙ ap (λ l. l ++ drop (i + 1) given) (ap (λ z. done ++ z ∷ []) (turned ∙ ap (λ s. turn s x) so_far.state)
             ∙ sym (reverse-append (turn (after start (take i given)) x ∷ []) (back start (take i given)))
             ∙ ap reverse (sym (back_more start (take i given) x) ∙ ap (back start) (sym whole)));
       }
 
-      pub is_stuck : one state x ≡ false → takes start given ≡ false
+      is_stuck : one state x ≡ false → takes start given ≡ false
       is_stuck refused =
-          ap (takes start) all ∙ takes_more start (take i given) (x ∷ drop (i + 1) given) so_far.taken ∙ ap (λ s. takes s (x ∷ drop (i + 1) given)) (sym so_far.after_them)
+          ap (takes start) all ∙ takes_more start (take i given) (x ∷ drop (i + 1) given) so_far.taken ∙ ap (λ s. takes s (x ∷ drop (i + 1) given)) (sym so_far.state)
           ∙ takes_next state x (drop (i + 1) given) ∙ ap (λ b. b && takes (step state x) (drop (i + 1) given)) refused
 
   -- the same of a list whose items are seen by v
-  module _ {A : Type 0} (v : A → X) (start state : S) (given now : List A) (i : ℕ) (so_far : IsTurned takes after back start state (map v given) (map v now) i) (lt : i < length given) (a : A) (is : a ≡ get_or now i a) where
+  module _ {A : Type 0} (v : A → X) (start state : S) (given now : List A) (i : ℕ) (so_far : AreFirstTaken takes after back start state (map v given) (map v now) i) (lt : i < length given) (a : A) (is : a ≡ get_or now i a) where
     lt_given : i < length (map v given)
     lt_given = omega (arith, lt, length-map given v)
 
@@ -117,9 +112,9 @@ module _ {S X : Type 0} (takes : S → List X → Bool) (after : S → List X �
     seen : v a ≡ get_or (map v now) i (v a)
     seen = ap v is ∙ sym (get_or-map v now i a (v a) lt_seen)
 
-    pub turned_one : (new : S) (b : A) → one state (v a) ≡ true → new ≡ step state (v a) → v b ≡ turn state (v a) → IsTurned takes after back start new (map v given) (map v (set now i b)) (i + 1)
+    pub turned_one : (new : S) (b : A) → one state (v a) ≡ true → new ≡ step state (v a) → v b ≡ turn state (v a) → AreFirstTaken takes after back start new (map v given) (map v (set now i b)) (i + 1)
     turned_one new b taken moved turned =
-        subst (λ l. IsTurned takes after back start new (map v given) l (i + 1)) (sym (map-set v now i b))
+        subst (λ l. AreFirstTaken takes after back start new (map v given) l (i + 1)) (sym (map-set v now i b))
         (goes_on start state (map v given) (map v now) i so_far lt_given (v a) seen new (v b) taken moved turned)
 
     pub refused_one : one state (v a) ≡ false → takes start (map v given) ≡ false

@@ -2,12 +2,12 @@
 use Rattle.std.proofs.Common.{◌≡◌, ◌⊎◌, inl, inr, ℕ, ◌+◌, ◌-◌, ◌≤◌, Bool, true, false, not, ◌&&◌, List, [], ◌∷◌, length, map, take, drop, Some, None, Result, Ok, Err, refl, sym, ap, subst, ◌∙◌, arith}
 use Rattle.std.proofs.lemmas.Bool.{and_parts, both_ways, false_from_ne_true}
 use Rattle.std.proofs.Math.Logic.{⊎_map}
-use Rattle.std.specs.Prelude.{reverse, position, IfOk, IfErr, IsTrue, IsFalse, if◌then◌else◌}
+use Rattle.std.specs.Prelude.{reverse, position, IfOk, IfErr, IsFalse, if◌then◌else◌}
 use Rattle.std.specs.Cmp.Lexicographic.{pointwise}
 use Rattle.std.specs.Str.{bytes_eq}
 use Rattle.par2_spec.specs.Folders.{Folder, fingerprint}
 use Rattle.par2_spec.specs.Changes.{Change, FolderState, effect, effects, is_applicable, are_applicable, places_taken, takes_all, state_after_all, folders_after}
-use Rattle.par2_spec.specs.Sessions.{Session}
+use Rattle.par2_spec.specs.Sessions.{Session, KeptSession, session_of_kept}
 use Rattle.par2_spec.specs.Journals.{Journal, HalfwayPart, Spells}
 use Rattle.par2_spec.specs.Opening as defined
 use Rattle.par2_spec.specs.Opening.{leads_through, is_valid}
@@ -17,13 +17,14 @@ use Rattle.md5.specs.Md5.{md5}
 use Rattle.par2_journal_bytes.specs.Untested.{IsUntested}
 use Rattle.par2_journal_bytes.specs.Views.{journal_of}
 use Rattle.par2_journal_bytes.specs.declared.reading.Untested.{Untested}
-use Rattle.par2_journal.specs.Opening.{session_at, journal_with, halfway_as, opened_of, AnswersOpening, OpensAsIs}
+use Rattle.par2_journal.specs.Opening.{session_at, journal_with, halfway_as, AnswersDigests, AnswersOpening, OpensAsIs}
 use Rattle.par2_journal.specs.declared.opening.Opened.{Opened}
+use Rattle.par2_journal.specs.declared.session.Digests.{Digests}
 use Rattle.par2_spec.proofs.FolderLaws.{takes_applicable, taken_are_applicable, more_room_all, state_files}
 use Rattle.par2_spec.proofs.StopLaws.{through_applies}
 
 -- changes that apply lead through these fingerprints where they leave them
-pub through_is : (f : Folder) (cs : List Change) (ps : List (List ℕ)) → length ps ≡ length cs → are_applicable f cs ≡ true → leads_through f cs ps ≡ pointwise bytes_eq (map fingerprint (folders_after f cs)) ps
+through_is : (f : Folder) (cs : List Change) (ps : List (List ℕ)) → length ps ≡ length cs → are_applicable f cs ≡ true → leads_through f cs ps ≡ pointwise bytes_eq (map fingerprint (folders_after f cs)) ps
 unfolding leads_through are_applicable folders_after
 through_is f [] [] same h = refl
 through_is f [] (p ∷ ps) same h = absurd (omega (arith, same))
@@ -64,14 +65,11 @@ module _ (f : Folder) (print : List ℕ) (n : ℕ) (entries : List (List Change)
       ap (defined.opened_if_found f (journal_with print n entries) (record { fingerprints = prints; back = back })) place
       ∙ (λ i. answer (sym cut i) (sym list i))
 
-  pub halfway_ok : (s : Session) → leads_through f cs wanted ≡ true → is_valid (session_at (effects f cs) n entries) ≡ true → s ≡ session_at (effects f cs) n entries → halfway_as f print n entries prints back ≡ Ok (defined.Halfway s cs)
+  pub halfway_ok : (s : Session) → (leads_through f cs wanted && is_valid (session_at (effects f cs) n entries)) ≡ true → s ≡ session_at (effects f cs) n entries → halfway_as f print n entries prints back ≡ Ok (defined.Halfway s cs)
   unfolding answer
-  halfway_ok s leads valid is =
+  halfway_ok s passed is =
       let t = session_at (effects f cs) n entries in
-      halfway_is
-      ∙ ap (λ b. if b && is_valid t then Ok (defined.Halfway t cs) else Err JournalInvalid) leads
-      ∙ ap (λ b. if b then Ok (defined.Halfway t cs) else Err JournalInvalid) valid
-      ∙ ap (λ x. Ok (defined.Halfway x cs)) (sym is)
+      halfway_is ∙ ap (λ b. if b then Ok (defined.Halfway t cs) else Err JournalInvalid) passed ∙ ap (λ x. Ok (defined.Halfway x cs)) (sym is)
 
   pub halfway_refused : (leads_through f cs wanted && is_valid (session_at (effects f cs) n entries)) ≡ false → halfway_as f print n entries prints back ≡ Err JournalInvalid
   unfolding answer
@@ -137,11 +135,11 @@ settled_as_is f text j spells settled valid = by_test (bytes_eq (fingerprint f) 
 
 -- ---- where the digest of the journal is tested last
 
-module _ (folder : FolderState) (text : List ℕ) (untested : Untested) (j : Journal) (sum print : List ℕ) (s : Session)
-    (found : IsUntested text untested) (is : journal_of untested.journal ≡ j) (settled : j.halfway ≡ None) (sum_is : sum ≡ md5 untested.body.now) (print_is : print ≡ fingerprint s.folder)
-    (session : s ≡ session_at folder.files j.cursor j.entries) (valid : is_valid (session_at folder.files j.cursor j.entries) ≡ true) where
+module _ (folder : FolderState) (text : List ℕ) (untested : Untested) (j : Journal) (digests : Digests) (kept : KeptSession)
+    (found : IsUntested text untested) (is : journal_of untested.journal ≡ j) (settled : j.halfway ≡ None) (sum_is : digests.text ≡ md5 untested.body.now) (print_is : digests.folder ≡ fingerprint kept.folder.files)
+    (session : session_of_kept kept ≡ session_at folder.files j.cursor j.entries) (valid : is_valid (session_at folder.files j.cursor j.entries) ≡ true) where
   abbrev Right : Type 0
-  Right = untested.digest.now ≡ sum
+  Right = untested.digest.now ≡ digests.text
 
   right : Right → untested.digest.now ≡ md5 untested.body.now
   right h = h ∙ sum_is
@@ -149,19 +147,12 @@ module _ (folder : FolderState) (text : List ℕ) (untested : Untested) (j : Jou
   spells : Right → Spells text j
   spells h = subst (Spells text) is (found.right (right h))
 
-  printed : (b : Bool) → bytes_eq print j.fingerprint ≡ b → bytes_eq (fingerprint folder.files) j.fingerprint ≡ b
+  printed : (b : Bool) → bytes_eq digests.folder j.fingerprint ≡ b → bytes_eq (fingerprint folder.files) j.fingerprint ≡ b
   printed b h = (λ i. bytes_eq ((ap fingerprint (sym (ap (λ (s : Session). s.folder) session)) ∙ sym print_is) i) j.fingerprint) ∙ h
 
-  pub answers : (r : Result Opened (JournalFault × FolderState)) → IfOk r (λ opened. opened_of opened ≡ defined.Settled s) → IfOk r (λ _. Right × IsTrue (bytes_eq print j.fingerprint))
-      → IfErr r (λ e. ((e.0 ≡ JournalInvalid) × ¬ Right) ⊎ ((e.0 ≡ FolderChanged false) × Right × IsFalse (bytes_eq print j.fingerprint))) → IfErr r (λ e. e.1.files ≡ s.folder)
-      → AnswersOpening folder text r
-  answers (Ok opened) opens same _ _ = record {
-    opened = subst (λ o. defined.Opens folder.files text (Ok o)) (ap defined.Settled (sym session) ∙ sym opens) (settled_opens folder.files text j (spells same.0) settled (printed true same.1) valid);
-    refused = tt;
-    unsealed = λ un. un (found.sealed (right same.0));
-    files = tt;
-  }
-  answers (Err e) _ _ (inl (fault, wrong)) files =
+  wrong_way : (e : JournalFault × FolderState) → e.1.files ≡ kept.folder.files → ((e.0 ≡ JournalInvalid) × ¬ Right) ⊎ ((e.0 ≡ FolderChanged false) × Right × IsFalse (bytes_eq digests.folder j.fingerprint))
+      → AnswersOpening folder text (Err e)
+  wrong_way e files (inl (fault, wrong)) =
       let foreign = found.wrong (λ h. wrong (h ∙ sym sum_is)) in
       record {
         opened = tt;
@@ -169,9 +160,19 @@ module _ (folder : FolderState) (text : List ℕ) (untested : Untested) (j : Jou
         unsealed = λ _. fault;
         files = files ∙ ap (λ (s : Session). s.folder) session;
       }
-  answers (Err e) _ _ (inr (fault, same, other)) files = record {
+  wrong_way e files (inr (fault, same, other)) = record {
     opened = tt;
     refused = inr (subst (λ x. defined.Opens folder.files text (Err x)) (sym fault) (settled_changed folder.files text j (spells same) settled (printed false other)));
     unsealed = λ un. absurd (un (found.sealed (right same)));
     files = files ∙ ap (λ (s : Session). s.folder) session;
   }
+
+  pub answers : (r : Result Opened (JournalFault × FolderState)) → AnswersDigests kept digests j.fingerprint untested.digest.now r → AnswersOpening folder text r
+  answers (Ok opened) told = record {
+    opened = subst (λ o. defined.Opens folder.files text (Ok o)) (ap defined.Settled (sym session) ∙ sym told.session)
+        (settled_opens folder.files text j (spells told.right) settled (printed true told.same) valid);
+    refused = tt;
+    unsealed = λ un. un (found.sealed (right told.right));
+    files = tt;
+  }
+  answers (Err e) told = wrong_way e told.files told.refused

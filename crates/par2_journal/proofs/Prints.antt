@@ -24,7 +24,7 @@ print_at_end f (c ∷ cs) = print_at_end (effect f c) cs
 
 -- the first fingerprint, the others and the last of them, as they are computed of a folder along changes
 pub prints_along : (f : Folder) (cs : List Change) (before : List ℕ) (each : Vec (List ℕ) Global) (after : List ℕ) → before ≡ fingerprint f → each.items ≡ map fingerprint (folders_after f cs)
-    → slice_get (before ∷ each.items) (length each.items) ≡ Some after → AreAlong (record { before = before; after_each = each; after_all = after }) f cs
+    → slice_get (before ∷ each.items) (length each.items) ≡ Some after → AreAlong f cs (record { before = before; after_each = each; after_all = after })
 prints_along f cs before each after b es is =
     let at_end : Some after ≡ Some (fingerprint (effects f cs)) = sym is ∙ (λ i. slice_get (b i ∷ es i) (length (es i))) ∙ print_at_end f cs in
     record { before = b; after_each = es; after_all = ap (λ o. unwrap_or o after) at_end }
@@ -37,10 +37,10 @@ ahead_still None old new grew h = tt
 ahead_still (Some (ahead.Landmarks landmarks)) old new grew h = subst (λ f. AreLandmarksOf f landmarks) (sym grew.files) h
 ahead_still (Some (ahead.Fingerprints next prints)) old new grew h = by_next next h
   where
-    along : {a b : List Change} → a ≡ b → AreAlong prints old.folder.files a → AreAlong prints new.folder.files b
-    along same h = subst (λ (p : Folder × List Change). AreAlong prints p.0 p.1) (λ i. (sym grew.files i, same i)) h
+    along : {a b : List Change} → a ≡ b → AreAlong old.folder.files a prints → AreAlong new.folder.files b prints
+    along same h = subst (λ (p : Folder × List Change). AreAlong p.0 p.1 prints) (λ i. (sym grew.files i, same i)) h
 
-    by_next : (next : Next) → AreAlong prints old.folder.files (next_changes next old) → AreAlong prints new.folder.files (next_changes next new)
+    by_next : (next : Next) → AreAlong old.folder.files (next_changes next old) prints → AreAlong new.folder.files (next_changes next new) prints
     by_next Undo h = along (ap next_of (sym grew.undos)) h
     by_next Redo h = along (ap next_of (sym grew.redos)) h
 
@@ -48,8 +48,8 @@ ahead_still (Some (ahead.Fingerprints next prints)) old new grew h = by_next nex
 
 -- by reference they are along the same changes on the same folder
 pub known_here : (o : Option (Bor Fingerprints)) (known : Option Fingerprints) (told : Option Prints) (f g : Folder) (cs ds : List Change) → option_copied o ≡ known → option_map prints_of known ≡ told → IfSome told (λ prints. ArePrintsAlong prints g ds)
-    → f ≡ g → cs ≡ ds → IfSome o (λ prints. AreAlong prints.now f cs)
+    → f ≡ g → cs ≡ ds → IfSome o (λ prints. AreAlong f cs prints.now)
 known_here None known told f g cs ds copied are along folder changes = tt
 known_here (Some prints) known told f g cs ds copied are along folder changes =
     let is : Some (prints_of prints.now) ≡ told = ap (option_map prints_of) copied ∙ are in
-    subst (λ (p : Folder × List Change). AreAlong prints.now p.0 p.1) (λ i. (sym folder i, sym changes i)) (subst (λ (q : Option Prints). IfSome q (λ ps. ArePrintsAlong ps g ds)) (sym is) along)
+    subst (λ (p : Folder × List Change). AreAlong p.0 p.1 prints.now) (λ i. (sym folder i, sym changes i)) (subst (λ (q : Option Prints). IfSome q (λ ps. ArePrintsAlong ps g ds)) (sym is) along)

@@ -3,20 +3,21 @@ use Rattle.std.proofs.Common.{◌≡◌, ◌≢◌, inl, inr, ℕ, Bool, ◌<◌
 use Rattle.std.proofs.lemmas.List.{nil_from_length}
 use Rattle.std.specs.Prelude.{IfOk, IfErr, IsErrAnd}
 use Rattle.par2_spec.specs.Changes.{Change, Write, Replace, Rename, Remove, places_taken, are_applicable, effects}
-use Rattle.par2_spec.specs.Commands.{Action, Command, Do, Undo, Redo, Repair}
+use Rattle.par2_spec.specs.Commands.{Command, Do, Undo, Redo, Repair}
 use Rattle.par2_spec.specs.Folders.{Folder}
 use Rattle.par2_spec.specs.Plans.{LeadsToAfterAsked}
-use Rattle.par2_spec.specs.Refusals.{refusal}
+use Rattle.par2_spec.specs.Refusals.{refusal, after, early_refusal}
 use Rattle.par2_spec.specs.Plans as plans
 use Rattle.par2_spec.specs.History as history
 use Rattle.par2_spec.specs.Sessions.{KeptSession, OnlyGrew, session_of_kept, changes_asked, changes_unless, first_entry}
 use Rattle.par2_spec.specs.Texts.{Step, step_of}
 use Rattle.par2_spec.proofs.FolderLaws.{takes_applicable}
 use Rattle.par2_spec.specs.declared.Fault.{Fault}
-use Rattle.par2_spec.specs.declared.Fault.TheVariants.{RepairFailed}
+use Rattle.par2_spec.specs.declared.Fault.TheVariants.{Memory, RepairFailed}
 use Rattle.par2_plan.specs.Drafts.{HasItsMd5s, IsDraft}
 use Rattle.par2_plan.specs.declared.draft.Draft.{Draft}
 use Rattle.par2_journal.specs.Along.{AreAlong, prints_of}
+use Rattle.par2_journal.specs.Commands.{MakesReady, Prepares}
 use Rattle.par2_journal.specs.declared.spelling.Fingerprints.{Fingerprints}
 use Rattle.par2_journal.specs.Ready.{Kind, Ready, Changing, Undoing, Redoing, CanBe, Fits, IsKindOf, IsReady, changes_by_kind, next_of}
 use Rattle.par2_journal.specs.Refusals.{MayFail, MayRefuse}
@@ -31,10 +32,18 @@ unfolding changes_asked
 refused_plan s command fault (inl memory) = inl (ap Plan memory)
 refused_plan s command fault (inr cause) = inr (ap (λ r. changes_unless r (plans.changes_of s.folder.files command)) cause)
 
-pub refused_for : {A : Type 0} (r : Result A SessionFault) (s : KeptSession) (command : Command) (fault : Fault) → IsErrAnd r (λ e. e ≡ Plan fault) → MayFail command s fault
-    → IfErr r (MayRefuse (Do command) s)
-refused_for (Ok a) s command fault is may = tt
-refused_for (Err e) s command fault is may = subst (MayRefuse (Do command) s) (sym is) (refused_plan s command fault may)
+pub refused_for : (r : Result Ready SessionFault) (old new : KeptSession) (command : Command) (fault : Fault) → IsErrAnd r (λ e. e ≡ Plan fault) → MakesReady command old new (Err fault)
+    → Prepares (Do command) old new r
+refused_for (Ok ready) old new command fault is made = absurd is
+refused_for (Err e) old new command fault is made = record {
+  kept = made.kept;
+  ready = tt;
+  leads = tt;
+  refused = subst (MayRefuse (Do command) old) (sym is) (refused_plan old command fault made.refused);
+  early = λ found first. let same = made.early found first in cc;
+  nothing_to_undo = λ asked none. absurd (cc);
+  nothing_to_redo = λ asked none. absurd (cc);
+}
 
 -- each write takes one place
 pub places_within : (changes : List Change) → places_taken changes ≤ length changes
@@ -49,10 +58,18 @@ pub can_change : (old new : KeptSession) (changes : List Change) → OnlyGrew ol
 can_change old new changes grew applies room entry =
     (takes_applicable new.folder changes (ap (λ f. are_applicable f changes) grew.files ∙ applies) (omega (arith, places_within changes, room)), entry)
 
+-- changes that lead where the definitions say are those of the command
+leads_asked_by : (folder : Folder) (command : Command) (changes : List Change) → changes ≡ plans.changes_of folder command → are_applicable folder changes ≡ true → effects folder changes ≡ after folder command
+    → LeadsToAfterAsked folder (Do command)
+leads_asked_by folder command changes are applies leads = λ accepted. (
+  subst (λ (cs : List Change). IsTrue (are_applicable folder cs)) are applies,
+  ap (effects folder) (sym are) ∙ leads,
+)
+
 -- an accepted command, of which the changes were made ready
 module _ (old new : KeptSession) (command : Command) (changes : List Change) (changing : IsChanging (Do command)) (grew : OnlyGrew old new)
     (accepted : refusal old.folder.files command ≡ None) (are : changes ≡ plans.changes_of old.folder.files command) where
-  pub ready_command : (ready : Ready) → ready.kind ≡ Changing changes → Fits ready new → IsReady (Do command) old ready new
+  ready_command : (ready : Ready) → ready.kind ≡ Changing changes → Fits ready new → IsReady (Do command) old ready new
   unfolding changes_asked
   ready_command ready is fits =
       let kind : IsKindOf (Do command) ready.kind = subst (IsKindOf (Do command)) (sym is) tt in
@@ -65,35 +82,58 @@ module _ (old new : KeptSession) (command : Command) (changes : List Change) (ch
         leads = command_done old new command ready.kind changing grew kind asked;
       }
 
-  pub plan_ready : {F : Type 0} (r : Result Ready F) → IfOk r (λ ready. ready.kind ≡ Changing changes) → IfOk r (λ ready. Fits ready new)
-      → IfOk r (λ ready. IsReady (Do command) old ready new)
-  plan_ready (Ok ready) is fits = ready_command ready is fits
-  plan_ready (Err fault) is fits = tt
+  -- where nothing was found before memory was taken
+  pub plan_ready : IsTrue (are_applicable old.folder.files changes) → effects old.folder.files changes ≡ after old.folder.files command
+      → ((fault : Fault) → early_refusal old.folder.files command ≡ Some fault → ⊥)
+      → (r : Result Ready Fault) → IfOk r (λ ready. ready.kind ≡ Changing changes) → IfOk r (λ ready. Fits ready new) → IfErr r (λ fault. fault ≡ Memory)
+      → MakesReady command old new r
+  plan_ready applies leads early (Ok ready) is fits memory = record {
+    kept = grew;
+    ready = ready_command ready is fits;
+    leads = leads_asked_by old.folder.files command changes are applies leads;
+    refused = tt;
+    early = λ fault found. absurd (early fault found);
+  }
+  plan_ready applies leads early (Err fault) is fits memory = record {
+    kept = grew;
+    ready = tt;
+    leads = tt;
+    refused = inl memory;
+    early = λ fault found. absurd (early fault found);
+  }
 
 -- a draft that was tested, with the fingerprints along its changes
 pub draft_ready : (old new : KeptSession) (base : List ℕ) (extras : List (List ℕ)) (purge : Bool) (draft : Draft) (changes : List Change) (steps : List Step) (prints : Fingerprints) → OnlyGrew old new
-    → IsDraft old.folder.files base extras purge draft → HasItsMd5s draft → changes ≡ draft.changes → CanBe (Changing draft.changes) new → steps ≡ map step_of draft.changes → AreAlong prints new.folder.files draft.changes
-    → IsReady (Do (Repair base extras purge)) old (record { kind = Changing changes; steps = steps; known = Some (prints_of prints) }) new
-draft_ready old new base extras purge draft changes steps prints grew is has same can told along =
+    → IsDraft old.folder.files base extras purge draft → HasItsMd5s draft → changes ≡ draft.changes → CanBe (Changing draft.changes) new → steps ≡ map step_of draft.changes → AreAlong new.folder.files draft.changes prints
+    → ((fault : Fault) → early_refusal old.folder.files (Repair base extras purge) ≡ Some fault → ⊥)
+    → MakesReady (Repair base extras purge) old new (Ok (record { kind = Changing changes; steps = steps; known = Some (prints_of prints) }))
+draft_ready old new base extras purge draft changes steps prints grew is has same can told along early =
     let ready : Ready = record { kind = Changing changes; steps = steps; known = Some (prints_of prints) } in
     let fits : Fits ready new = record {
       can = subst (λ (cs : List Change). CanBe (Changing cs) new) (sym same) can;
       steps = told ∙ ap (map step_of) (sym same);
-      known = subst (λ (cs : List Change). AreAlong prints new.folder.files cs) (sym same) along;
+      known = subst (λ (cs : List Change). AreAlong new.folder.files cs prints) (sym same) along;
     } in
-    ready_command old new (Repair base extras purge) changes tt grew (is.accepted has) (same ∙ is.changes) ready refl fits
+    record {
+      kept = grew;
+      ready = ready_command old new (Repair base extras purge) changes tt grew (is.accepted has) (same ∙ is.changes) ready refl fits;
+      leads = leads_asked_by old.folder.files (Repair base extras purge) draft.changes is.changes is.applies is.leads;
+      refused = tt;
+      early = λ fault found. absurd (early fault found);
+    }
 
--- what a draft's changes lead to
-pub draft_leads : (folder : Folder) (base : List ℕ) (extras : List (List ℕ)) (purge : Bool) (draft : Draft) → IsDraft folder base extras purge draft → LeadsToAfterAsked folder (Do (Repair base extras purge))
-draft_leads folder base extras purge draft is = λ accepted. (
-  subst (λ (cs : List Change). IsTrue (are_applicable folder cs)) is.changes is.applies,
-  ap (effects folder) (sym is.changes) ∙ is.leads,
-)
-
--- why a draft is refused that has a wrong MD5
-pub draft_refused : {A : Type 0} (r : Result A Fault) (s : KeptSession) (base : List ℕ) (extras : List (List ℕ)) (purge : Bool) (draft : Draft) (fault : Fault) → (y : Fault) × (r ≡ Err y) × (y ≡ fault)
-    → IsDraft s.folder.files base extras purge draft → ¬ (HasItsMd5s draft) → fault ≡ RepairFailed → IfErr r (MayFail (Repair base extras purge) s)
-draft_refused r s base extras purge draft fault p is lacks same = subst (λ x. IfErr x (MayFail (Repair base extras purge) s)) (sym (p.1 ∙ ap Err (p.2 ∙ same))) (inr (is.failed lacks))
+-- a repair is refused whose draft has a wrong MD5
+pub draft_refused : (r : Result Ready Fault) (old new : KeptSession) (base : List ℕ) (extras : List (List ℕ)) (purge : Bool) (draft : Draft) (fault : Fault) → (y : Fault) × (r ≡ Err y) × (y ≡ fault) → OnlyGrew old new
+    → IsDraft old.folder.files base extras purge draft → ¬ (HasItsMd5s draft) → fault ≡ RepairFailed → ((fault : Fault) → early_refusal old.folder.files (Repair base extras purge) ≡ Some fault → ⊥)
+    → MakesReady (Repair base extras purge) old new r
+draft_refused r old new base extras purge draft fault p grew is lacks same early =
+    subst (MakesReady (Repair base extras purge) old new) (sym (p.1 ∙ ap Err (p.2 ∙ same))) (record {
+      kept = grew;
+      ready = tt;
+      leads = tt;
+      refused = inr (is.failed lacks);
+      early = λ fault found. absurd (early fault found);
+    })
 
 none_is_first : {F : Type 0} (fault : F) (entries : List (List Change)) → length entries ≡ 0 → first_entry fault entries ≡ Err fault
 none_is_first fault entries h = ap (first_entry fault) (nil_from_length entries h)
@@ -134,15 +174,9 @@ ready_redo s steps some told = record {
   leads = redo_done s (some_there s.redos some);
 }
 
--- ---- what is reported of what was committed
+-- ---- what is ready while the session only grew
 
 pub same_changes : (kind : Kind) (old new : KeptSession) → OnlyGrew old new → changes_by_kind kind new ≡ changes_by_kind kind old
 same_changes (Changing changes) old new grew = refl
 same_changes Undoing old new grew = ap next_of grew.undos
 same_changes Redoing old new grew = ap next_of grew.redos
-
--- the steps are those of the changes that were asked for
-pub steps_asked : (action : Action) (old new : KeptSession) (ready : Ready) (steps : List Step) → IsReady action old ready new → OnlyGrew old new → steps ≡ ready.steps
-    → IfOk (changes_asked (session_of_kept old) action) (λ changes. steps ≡ map step_of changes)
-steps_asked action old new ready steps is grew told =
-    subst (λ r. IfOk r (λ changes. steps ≡ map step_of changes)) (sym is.asked) (told ∙ is.fits.steps ∙ ap (map step_of) (same_changes ready.kind old new grew))

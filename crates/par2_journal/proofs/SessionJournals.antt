@@ -5,18 +5,18 @@ use Rattle.std.specs.declared.alloc.Global.{Global}
 use Rattle.std.proofs.lemmas.List.{reverse-reverse, take-append-drop, length-reverse, length-take-le, reverse-append, get_or_default, drop_all, map-append, take-map}
 use Rattle.std.proofs.lemmas.Bool.{cases_lt}
 use Rattle.par2_spec.specs.Folders.{Folder, fingerprint}
-use Rattle.par2_spec.specs.Changes.{Change, FolderState, effect, effects, folders_after, state_after_all, takes_all, way_back}
+use Rattle.par2_spec.specs.Changes.{Change, FolderState, effect, folders_after, state_after_all, takes_all, way_back}
 use Rattle.par2_spec.specs.Commands.{Action}
 use Rattle.par2_spec.specs.Sessions.{KeptSession, OnlyGrew, CanWalk, walks, session_of_kept, session_after, session_with, session_unless, kept_done, kept_undone, kept_redone}
 use Rattle.par2_spec.specs.Journals.{Journal, Spells}
 use Rattle.par2_spec.specs.Opening.{settled_journal, halfway_journal, halfway_where, journals_of}
 use Rattle.par2_spec.specs.declared.Version.TheVariants.{Two}
 use Rattle.par2_journal.proofs.Readiness.{same_changes}
-use Rattle.par2_journal.specs.Ready.{Kind, Changing, Undoing, Redoing, Ready, IsReady, CanBe, next_of, changes_by_kind, after_commit, journals_for}
+use Rattle.par2_journal.specs.Ready.{Kind, Changing, Undoing, Redoing, Ready, IsReady, CanBe, next_of, changes_by_kind, after_commit}
 use Rattle.par2_journal.specs.Ahead.{next_changes}
 use Rattle.par2_journal.specs.declared.ahead.Next.{Next}
 use Rattle.par2_journal.specs.declared.ahead.Next.TheVariants as ahead
-use Rattle.par2_journal.specs.Spelling.{Turn, SpellsWhere, AreSpelled, HasNext, turn_of, entries_with, halfway_with, settled_with}
+use Rattle.par2_journal.specs.Spelling.{Turn, SpellsAction, SpellsReady, SpellsTurn, SpellsWhere, AreSpelled, HasNext, turn_of, entries_with, halfway_with, settled_with}
 use Rattle.par2_journal.specs.declared.spelling.Journals.{Journals}
 use Rattle.par2_spec.proofs.FolderLaws.{state_files, takes_none}
 use Rattle.par2_spec.proofs.SessionLaws.{next_taken, same_session, same_ok}
@@ -24,10 +24,10 @@ use Rattle.par2_journal.proofs.Turns.{at, undone_to, redone_to, next_undo_is, ne
 use Rattle.par2_journal.proofs.Ways.{back_length}
 
 module _ (xs : List (List Change)) (n : ℕ) (within : n ≤ length xs) where
-  pub all_entries : reverse (reverse (take n xs)) ++ drop n xs ≡ xs
+  all_entries : reverse (reverse (take n xs)) ++ drop n xs ≡ xs
   all_entries = ap (λ l. l ++ drop n xs) (reverse-reverse (take n xs)) ∙ take-append-drop n xs
 
-  pub undo_count : length (reverse (take n xs)) ≡ n
+  undo_count : length (reverse (take n xs)) ≡ n
   undo_count = length-reverse (take n xs) ∙ length-take-le n xs within
 
   pub settled_at : (folder : FolderState) (room : ℕ) → settled_with (fingerprint folder.files) (xs, n) ≡ settled_journal Two (session_of_kept (at folder xs n room))
@@ -35,7 +35,7 @@ module _ (xs : List (List Change)) (n : ℕ) (within : n ≤ length xs) where
   settled_at folder room = λ i. record { version = Two; fingerprint = fingerprint folder.files; cursor = sym undo_count i; entries = sym all_entries i; halfway = None }
 
   -- while changes are made
-  pub halfway_at : (folder : FolderState) (room : ℕ) (text : Option (Vec ℕ Global)) (cs back : List Change) → back ≡ way_back folder.files cs
+  halfway_at : (folder : FolderState) (room : ℕ) (text : Option (Vec ℕ Global)) (cs back : List Change) → back ≡ way_back folder.files cs
       → SpellsWhere text (halfway_with (fingerprint folder.files) n xs (map fingerprint (folders_after folder.files cs)) back)
       → SpellsWhere text (halfway_where Two (session_of_kept (at folder xs n room)) cs)
   unfolding halfway_journal settled_journal way_back
@@ -83,8 +83,8 @@ done_after xs n within folder room cs =
     sym (append-nil (reverse (way_back folder.files cs ∷ reverse (take n xs))) ∙ reverse-append (way_back folder.files cs ∷ []) (reverse (take n xs)) ∙ ap (λ l. l ++ way_back folder.files cs ∷ []) (reverse-reverse (take n xs))) in
     λ i. record { version = Two; fingerprint = fingerprint (state_after_all folder cs).files; cursor = count i; entries = entries i; halfway = None }
 
-pub after_at : (xs : List (List Change)) (n : ℕ) (folder : FolderState) (room : ℕ) (kind : Kind) → HasNext (turn_of kind) n (length xs)
-    → settled_with (fingerprint (state_after_all folder (changes_by_kind kind (at folder xs n room))).files) (entries_with (turn_of kind) n xs (way_back folder.files (changes_by_kind kind (at folder xs n room))))
+after_at : (xs : List (List Change)) (n : ℕ) (folder : FolderState) (room : ℕ) (kind : Kind) → HasNext kind n (length xs)
+    → settled_with (fingerprint (state_after_all folder (changes_by_kind kind (at folder xs n room))).files) (entries_with (turn_of kind n) n xs (way_back folder.files (changes_by_kind kind (at folder xs n room))))
     ≡ settled_journal Two (session_of_kept (after_commit kind (at folder xs n room)))
 after_at xs n folder room (Changing cs) next = done_after xs n next folder room cs
 after_at xs n folder room Undoing next =
@@ -104,7 +104,7 @@ after_at xs n folder room Redoing next =
     (redone_after xs n next folder room entry is)
 
 -- what fits has an entry at its cursor
-has_next : (xs : List (List Change)) (n : ℕ) (folder : FolderState) (room : ℕ) (kind : Kind) → n ≤ length xs → CanBe kind (at folder xs n room) → HasNext (turn_of kind) n (length xs)
+has_next : (xs : List (List Change)) (n : ℕ) (folder : FolderState) (room : ℕ) (kind : Kind) → n ≤ length xs → CanBe kind (at folder xs n room) → HasNext kind n (length xs)
 has_next xs n folder room (Changing cs) within can = within
 has_next xs zero folder room Undoing within can = absurd (can refl)
 has_next xs (suc n) folder room Undoing within can = (omega arith, within)
@@ -151,25 +151,22 @@ ahead_taken ahead.Undo s h = next_entry s.folder s.undos h.back
 ahead_taken ahead.Redo s h = next_entry s.folder s.redos h.forth
 
 fit_spelled : {E : Type 0} (r : Result Journals E) (xs entries : List (List Change)) (n : ℕ) → n ≤ length xs → (folder : FolderState) (room : ℕ) (turn : Turn) (ready : Ready) (cs : List Change)
-    → turn ≡ turn_of ready.kind → entries ≡ xs → cs ≡ changes_by_kind ready.kind (at folder xs n room) → CanBe ready.kind (at folder xs n room)
-    → IfOk r (λ j. SpellsWhere j.halfway (halfway_with (fingerprint folder.files) n entries (map fingerprint (folders_after folder.files cs)) (way_back folder.files cs)))
-    → IfOk r (λ j. Spells j.after.items (settled_with (fingerprint (effects folder.files cs)) (entries_with turn n entries (way_back folder.files cs))))
-    → IfOk r (λ j. AreSpelled j (journals_for ready.kind (at folder xs n room)))
-fit_spelled (Err e) xs entries n within folder room turn ready cs te ee ce can half after = tt
-fit_spelled (Ok j) xs entries n within folder room turn ready cs te ee ce can half after = (
+    → turn ≡ turn_of ready.kind n → entries ≡ xs → cs ≡ changes_by_kind ready.kind (at folder xs n room) → CanBe ready.kind (at folder xs n room)
+    → IfOk r (SpellsTurn turn folder n entries cs) → IfOk r (SpellsReady ready.kind (at folder xs n room))
+fit_spelled (Err e) xs entries n within folder room turn ready cs te ee ce can spells = tt
+fit_spelled (Ok j) xs entries n within folder room turn ready cs te ee ce can spells = (
   halfway_at xs n within folder room j.halfway (changes_by_kind ready.kind (at folder xs n room)) (way_back folder.files (changes_by_kind ready.kind (at folder xs n room))) refl
       (subst (λ d. SpellsWhere j.halfway (halfway_with (fingerprint folder.files) n xs (map fingerprint (folders_after folder.files d)) (way_back folder.files d))) ce
-      (subst (λ es. SpellsWhere j.halfway (halfway_with (fingerprint folder.files) n es (map fingerprint (folders_after folder.files cs)) (way_back folder.files cs))) ee half)),
+      (subst (λ es. SpellsWhere j.halfway (halfway_with (fingerprint folder.files) n es (map fingerprint (folders_after folder.files cs)) (way_back folder.files cs))) ee spells.halfway)),
   subst (λ (t : Journal). Spells j.after.items t)
       (ap (λ f. settled_with (fingerprint f) (entries_with turn n entries (way_back folder.files cs))) (sym (state_files folder cs))
       ∙ (λ i. settled_with (fingerprint (state_after_all folder (ce i)).files) (entries_with (te i) n (ee i) (way_back folder.files (ce i))))
       ∙ after_at xs n folder room ready.kind (has_next xs n folder room ready.kind within can))
-      after,
+      spells.after,
 )
 
 -- they are those of the action for which it was made ready
-pub spelled_for : {E : Type 0} (r : Result Journals E) (s : KeptSession) (ready : Ready) → IfOk r (λ j. AreSpelled j (journals_for ready.kind s))
-    → IfOk r (λ j. (action : Action) (before : KeptSession) → OnlyGrew before s → IsReady action before ready s → AreSpelled j (journals_of Two (session_of_kept s) action (changes_by_kind ready.kind s)))
+pub spelled_for : {E : Type 0} (r : Result Journals E) (s : KeptSession) (ready : Ready) → IfOk r (SpellsReady ready.kind s) → IfOk r (SpellsAction ready s)
 spelled_for (Err e) s ready h = tt
 spelled_for (Ok j) s ready h = λ action before grew is. both_spelled j action s ready before grew is h.0 h.1
 
@@ -182,8 +179,8 @@ module _ (xs : List (List Change)) (n : ℕ) (within : n ≤ length xs) (folder 
   can_here : CanBe ready.kind (at folder xs n room)
   can_here = subst (CanBe ready.kind) (sym same) can
 
-  next_here : (kind : Kind) → ready.kind ≡ kind → HasNext (turn_of kind) n (length xs)
-  next_here kind is = subst (λ k. HasNext (turn_of k) n (length xs)) is (has_next xs n folder room ready.kind within can_here)
+  next_here : (kind : Kind) → ready.kind ≡ kind → HasNext kind n (length xs)
+  next_here kind is = subst (λ k. HasNext k n (length xs)) is (has_next xs n folder room ready.kind within can_here)
 
   pub undo_entry : ready.kind ≡ Undoing → (entries : List (List Change)) → entries ≡ xs → get_or entries (n - 1) [] ≡ changes_by_kind ready.kind s
   undo_entry is entries lent =
@@ -200,12 +197,10 @@ module _ (xs : List (List Change)) (n : ℕ) (within : n ≤ length xs) (folder 
       ap (λ l. get_or l n []) lent ∙ sym (next_redo_is xs n lt (get_or xs n []) (get_or_default xs n [] (get_or xs n []) lt))
       ∙ ap (λ (t : KeptSession). next_of t.redos) same ∙ ap (λ k. changes_by_kind k s) (sym is)
 
-  module _ (turn : Turn) (does : turn ≡ turn_of ready.kind) (entries : List (List Change)) (lent : entries ≡ xs) where
-    pub ready_spelled : {E : Type 0} (r q : Result Journals E) → q ≡ r → (cs : List Change) → cs ≡ changes_by_kind ready.kind s
-        → IfOk r (λ j. SpellsWhere j.halfway (halfway_with (fingerprint folder.files) n entries (map fingerprint (folders_after folder.files cs)) (way_back folder.files cs)))
-        → IfOk r (λ j. Spells j.after.items (settled_with (fingerprint (effects folder.files cs)) (entries_with turn n entries (way_back folder.files cs))))
-        → IfOk q (λ j. AreSpelled j (journals_for ready.kind s))
-    ready_spelled r q is cs are half after =
-        let told = λ (o : Result Journals _) (t : KeptSession). IfOk o (λ j. AreSpelled j (journals_for ready.kind t)) in
+  module _ (turn : Turn) (does : turn ≡ turn_of ready.kind n) (entries : List (List Change)) (lent : entries ≡ xs) where
+    pub ready_spelled : {E : Type 0} (r q : Result Journals E) → q ≡ r → (cs : List Change) → cs ≡ changes_by_kind ready.kind s → IfOk r (SpellsTurn turn folder n entries cs)
+        → IfOk q (SpellsReady ready.kind s)
+    ready_spelled r q is cs are spells =
+        let told = λ (o : Result Journals _) (t : KeptSession). IfOk o (SpellsReady ready.kind t) in
         subst (λ o. told o s) (sym is)
-        (subst (told r) same (fit_spelled r xs entries n within folder room turn ready cs does lent (are ∙ ap (changes_by_kind ready.kind) (sym same)) can_here half after))
+        (subst (told r) same (fit_spelled r xs entries n within folder room turn ready cs does lent (are ∙ ap (changes_by_kind ready.kind) (sym same)) can_here spells))

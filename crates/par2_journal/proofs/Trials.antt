@@ -6,16 +6,16 @@ use Rattle.par2_spec.specs.Sessions.{walks}
 use Rattle.par2_spec.specs.declared.ChangeFault.{ChangeFault}
 use Rattle.par2_spec.proofs.FolderLaws.{changes_back, takes_none}
 use Rattle.std.proofs.lemmas.List.{length-take-le, length-map, map-append, take_all, drop_all, take-append-drop}
-use Rattle.par2_journal.specs.Walks.{state_along, ways_back}
-use Rattle.par2_journal.proofs.Each.{IsTurned, all_reversed, front_reversed, rest_seen, reached}
+use Rattle.par2_journal.specs.Walks.{AreFirstTaken, state_along, ways_back}
+use Rattle.par2_journal.proofs.Each.{all_reversed, front_reversed, rest_seen, reached}
 use Rattle.par2_journal.proofs.Each as each
 use Rattle.par2_journal.proofs.Ways.{takes_next, takes_more, after_none, after_more, back_none, back_more, back_length, walks_none, walks_next, walks_more, along_none, along_one, ways_none, ways_more, ways_length, ways_walk, ways_lead, ways_twice}
 
 abbrev pub AreTurned : FolderState → FolderState → List Change → List Change → ℕ → Type 0
-AreTurned start state given now i = IsTurned takes_all state_after_all (λ (s : FolderState). way_back s.files) start state given now i
+AreTurned start state given now i = AreFirstTaken takes_all state_after_all (λ (s : FolderState). way_back s.files) start state given now i
 
 abbrev pub AreWalked : FolderState → FolderState → List (List Change) → List (List Change) → ℕ → Type 0
-AreWalked start state given now i = IsTurned walks state_along ways_back start state given now i
+AreWalked start state given now i = AreFirstTaken walks state_along ways_back start state given now i
 
 pub changes_set_out : (start : FolderState) (given : List Change) → AreTurned start start given given 0
 changes_set_out = each.sets_out takes_all state_after_all (λ (s : FolderState). way_back s.files) (λ s c. is_none (change_refusal s c)) state_after (λ (s : FolderState). inverse s.files)

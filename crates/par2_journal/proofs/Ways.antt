@@ -7,7 +7,9 @@ use Rattle.par2_spec.specs.Folders.{Folder}
 use Rattle.par2_spec.specs.Changes.{Change, FolderState, change_refusal, effect, effects, inverse, state_after, takes_all, state_after_all, way_back}
 use Rattle.par2_spec.specs.Sessions.{walks}
 use Rattle.par2_spec.proofs.FolderLaws.{state_files, state_all_back, way_back_taken, changes_back, way_back-append, state_after_all-append}
-use Rattle.par2_journal.specs.Walks.{state_along, ways_back, WentForth}
+use Rattle.par2_folder.specs.declared.change.Change as given
+use Rattle.par2_journal_bytes.specs.Views.{changes_in}
+use Rattle.par2_journal.specs.Walks.{state_along, ways_back, AreMade, WentForth}
 
 module _ (s : FolderState) where
   pub takes_next : (c : Change) (cs : List Change) → takes_all s (c ∷ cs) ≡ (is_none (change_refusal s c) && takes_all (state_after s c) cs)
@@ -69,12 +71,12 @@ walks_more s (e ∷ es) ds h =
     let both = and_parts (takes_all s e) (walks (state_after_all s e) es) h in
     ap (λ b. b && walks (state_after_all s e) (es ++ ds)) both.0 ∙ walks_more (state_after_all s e) es ds both.1
 
-pub along_more : (s : FolderState) (es ds : List (List Change)) → state_along s (es ++ ds) ≡ state_along (state_along s es) ds
+along_more : (s : FolderState) (es ds : List (List Change)) → state_along s (es ++ ds) ≡ state_along (state_along s es) ds
 unfolding state_along
 along_more s [] ds = refl
 along_more s (e ∷ es) ds = along_more (state_after_all s e) es ds
 
-pub ways_append : (s : FolderState) (es ds : List (List Change)) → ways_back s (es ++ ds) ≡ ways_back (state_along s es) ds ++ ways_back s es
+ways_append : (s : FolderState) (es ds : List (List Change)) → ways_back s (es ++ ds) ≡ ways_back (state_along s es) ds ++ ways_back s es
 unfolding state_along ways_back
 ways_append s [] ds = sym (append-nil (ways_back s ds))
 ways_append s (e ∷ es) ds =
@@ -166,9 +168,9 @@ module _ (f g : FolderState) (xs : List (List Change)) (i : ℕ) (within : i < l
 
 -- ---- what went forth by changes, and can go back
 
-pub went_forth : (f : Folder) (start after : FolderState) (way back : List Change) → start.files ≡ f → takes_all start way ≡ true → after ≡ state_after_all start way → back ≡ way_back start.files way → WentForth f after way back
-went_forth f start after way back same taken moved turned = record {
-  files = ap (λ (s : FolderState). s.files) moved ∙ state_files start way ∙ ap (λ g. effects g way) same;
-  taken = back_taken start after way back taken moved turned;
-  leads = ap (λ (s : FolderState). s.files) (back_leads start after way back taken moved turned) ∙ same;
+pub went_forth : (f : Folder) (start after : FolderState) (way back : List given.Change) → start.files ≡ f → AreMade start after way back → WentForth f after way back
+went_forth f start after way back same made = record {
+  files = ap (λ (s : FolderState). s.files) made.folder ∙ state_files start (changes_in way) ∙ ap (λ g. effects g (changes_in way)) same;
+  taken = back_taken start after (changes_in way) (changes_in back) made.taken made.folder made.way_back;
+  leads = ap (λ (s : FolderState). s.files) (back_leads start after (changes_in way) (changes_in back) made.taken made.folder made.way_back) ∙ same;
 }

@@ -2,7 +2,9 @@
 use Rattle.std.specs.Prelude.{◌≡◌, ℕ, List, map, refl}
 use Rattle.std.specs.Coded.{Coded, code_by, coded×, coded_ℕ, coded_list}
 use Rattle.par2_spec.specs.Folders.{Folder, fingerprint}
-use Rattle.par2_spec.specs.Changes.{Change, effects, folders_after}
+use Rattle.par2_spec.specs.Changes.{Change, FolderState, effects, folders_after}
+use Rattle.par2_folder.specs.declared.change.Change as given
+use Rattle.par2_journal_bytes.specs.Views.{changes_in}
 use Rattle.par2_journal.specs.declared.spelling.Fingerprints.{Fingerprints}
 
 -- those of a folder before changes, after each and after all of them
@@ -20,8 +22,12 @@ abbrev pub prints_of : Fingerprints → Prints
 prints_of prints = record { before = prints.before; after_each = prints.after_each.items; after_all = prints.after_all }
 
 -- the same of fingerprints as they are kept
-abbrev pub AreAlong : Fingerprints → Folder → List Change → Type 0
-AreAlong prints folder changes = ArePrintsAlong (prints_of prints) folder changes
+abbrev pub AreAlong : Folder → List Change → Fingerprints → Type 0
+AreAlong folder changes prints = ArePrintsAlong (prints_of prints) folder changes
+
+-- along changes as the code has them
+abbrev pub ArePrintsOf : FolderState → List given.Change → Fingerprints → Type 0
+ArePrintsOf folder changes prints = AreAlong folder.files (changes_in changes) prints
 
 -- how a model stores them
 abbrev pub prints_code : Coded Prints

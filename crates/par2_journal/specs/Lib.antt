@@ -5,6 +5,7 @@ pub mod Kinds
 pub mod Ahead
 pub mod Sessions
 pub mod Refusals
+pub mod Commands
 pub mod Walks
 pub mod Spelling
 pub mod Opening

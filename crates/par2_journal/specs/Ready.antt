@@ -6,6 +6,7 @@ use Rattle.par2_spec.specs.Codes.{change_code, step_code}
 use Rattle.par2_spec.specs.Changes.{Change, takes_all}
 use Rattle.par2_spec.specs.Commands.{Action, Do, Undo, Redo}
 use Rattle.par2_spec.specs.Sessions.{KeptSession, session_of_kept, session_after, changes_asked, kept_done, kept_undone, kept_redone}
+use Rattle.par2_spec.specs.Journals.{Journal}
 use Rattle.par2_spec.specs.Opening.{JournalPair, halfway_where, settled_journal}
 use Rattle.par2_spec.specs.Texts.{Step, step_of}
 use Rattle.par2_spec.specs.declared.Version.TheVariants.{Two}
@@ -52,11 +53,15 @@ after_commit (Changing changes) s = kept_done s changes
 after_commit Undoing s = kept_undone s (next_of s.undos)
 after_commit Redoing s = kept_redone s (next_of s.redos)
 
+-- the settled journal of a session as it is kept
+abbrev pub kept_journal : KeptSession → Journal
+kept_journal s = settled_journal Two (session_of_kept s)
+
 -- the journals of it: the one while its changes are made, and that of the session afterwards
 abbrev pub journals_for : Kind → KeptSession → JournalPair
 journals_for kind s = record {
   before = halfway_where Two (session_of_kept s) (changes_by_kind kind s);
-  after = settled_journal Two (session_of_kept (after_commit kind s));
+  after = kept_journal (after_commit kind s);
 }
 
 -- what is made ready is of the kind that was asked for

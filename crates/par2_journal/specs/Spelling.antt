@@ -1,12 +1,18 @@
 -- The journals of a session, as its fields spell them.
-use Rattle.std.specs.Prelude.{◌+◌, ◌-◌, ◌<◌, ◌≤◌, ℕ, List, [], ◌∷◌, ◌++◌, take, set, Option, Some, None, Vec}
+use Rattle.std.specs.Prelude.{◌+◌, ◌-◌, ◌<◌, ◌≤◌, ℕ, List, [], ◌∷◌, ◌++◌, map, take, get_or, set, Option, Some, None, Vec}
 use Rattle.std.specs.declared.alloc.Global.{Global}
-use Rattle.par2_spec.specs.Changes.{Change}
+use Rattle.par2_spec.specs.Changes.{Change, FolderState, effects, folders_after, way_back}
+use Rattle.par2_spec.specs.Commands.{Action}
+use Rattle.par2_spec.specs.Folders.{fingerprint}
 use Rattle.par2_spec.specs.Journals.{Journal, Spells}
-use Rattle.par2_spec.specs.Opening.{JournalPair}
+use Rattle.par2_spec.specs.Opening.{JournalPair, journals_of}
+use Rattle.par2_spec.specs.Sessions.{KeptSession, OnlyGrew, session_of_kept}
 use Rattle.par2_spec.specs.declared.Version.TheVariants.{Two}
-use Rattle.par2_journal.specs.Ready.{Kind, Changing, Undoing, Redoing}
+use Rattle.par2_folder.specs.declared.change.Change as given
 use Rattle.par2_journal_bytes.specs.Fronts.{Begins}
+use Rattle.par2_journal_bytes.specs.Views.{changes_in}
+use Rattle.par2_journal.specs.Ready.{Kind, Changing, Undoing, Redoing, Ready, IsReady, changes_by_kind, journals_for}
+use Rattle.par2_journal.specs.declared.spelling.Fingerprints.{Fingerprints}
 use Rattle.par2_journal.specs.declared.spelling.Journals.{Journals}
 
 -- a text that spells the journal, or neither
@@ -20,30 +26,38 @@ SpellsWhere (Some text) (Some j) = Spells text.items j
 abbrev pub AreSpelled : Journals → JournalPair → Type 0
 AreSpelled journals pair = SpellsWhere journals.halfway pair.before × Spells journals.after.items pair.after
 
+-- the texts spell the journals of what is ready
+abbrev pub SpellsReady : Kind → KeptSession → Journals → Type 0
+SpellsReady kind s journals = AreSpelled journals (journals_for kind s)
+
+-- they spell those of the action for which it was made ready
+abbrev pub SpellsAction : Ready → KeptSession → Journals → Type 0
+SpellsAction ready s journals =
+    (action : Action) (before : KeptSession) → OnlyGrew before s → IsReady action before ready s
+    → AreSpelled journals (journals_of Two (session_of_kept s) action (changes_by_kind ready.kind s))
+
 -- What an action does to the list of entries. The way back of a command becomes the entry before the cursor, and those
--- after it go; or the way back takes the place of the entry before the cursor, or of that after it.
+-- after it go; or the way back takes the place of an entry, and the cursor goes to a next place.
 pub data Turn : Type 0 where
   Add : Turn
-  Undo : Turn
-  Redo : Turn
+  Replace : ℕ → ℕ → Turn
 
--- what committing does to the entries
-abbrev pub turn_of : Kind → Turn
-turn_of (Changing changes) = Add
-turn_of Undoing = Undo
-turn_of Redoing = Redo
+-- what committing does to the entries: an undo turns the entry before the cursor, a redo that after it
+abbrev pub turn_of : Kind → ℕ → Turn
+turn_of (Changing changes) cursor = Add
+turn_of Undoing cursor = Replace (cursor - 1) (cursor - 1)
+turn_of Redoing cursor = Replace cursor (cursor + 1)
 
 -- the cursor of a session with n entries has an entry for what is to be done
-abbrev pub HasNext : Turn → ℕ → ℕ → Type 0
-HasNext Add cursor n = cursor ≤ n
-HasNext Undo cursor n = (0 < cursor) × (cursor ≤ n)
-HasNext Redo cursor n = cursor < n
+abbrev pub HasNext : Kind → ℕ → ℕ → Type 0
+HasNext (Changing changes) cursor n = cursor ≤ n
+HasNext Undoing cursor n = (0 < cursor) × (cursor ≤ n)
+HasNext Redoing cursor n = cursor < n
 
 -- the entries and the cursor afterwards
 abbrev pub entries_with : Turn → ℕ → List (List Change) → List Change → List (List Change) × ℕ
 entries_with Add cursor entries back = (take cursor entries ++ back ∷ [], cursor + 1)
-entries_with Undo cursor entries back = (set entries (cursor - 1) back, cursor - 1)
-entries_with Redo cursor entries back = (set entries cursor back, cursor + 1)
+entries_with (Replace at next) cursor entries back = (set entries at back, next)
 
 -- the journal of entries while changes are made, of which there is at least one
 abbrev pub halfway_with : List ℕ → ℕ → List (List Change) → List (List ℕ) → List Change → Option Journal
@@ -60,3 +74,27 @@ CompletesHalfway front text prints back =
 -- the settled journal of these entries and this cursor
 abbrev pub settled_with : List ℕ → List (List Change) × ℕ → Journal
 settled_with print p = record { version = Two; fingerprint = print; cursor = p.1; entries = p.0; halfway = None }
+
+-- a text spells it
+abbrev pub SpellsSettled : List ℕ → List (List Change) × ℕ → Vec ℕ Global → Type 0
+SpellsSettled print p text = Spells text.items (settled_with print p)
+
+-- both journals of an action with this way back: the halfway one, which the front begins, and the settled one of the
+-- entries and the cursor afterwards
+pub record CompletesBoth (front : Vec ℕ Global) (prints : Fingerprints) (back : List Change) (later : List (List Change) × ℕ) (journals : Journals) : Type 0 where
+  pub halfway : CompletesHalfway front.items journals.halfway prints.after_each.items back
+  pub after : SpellsSettled prints.after_all later journals.after
+
+-- the journals of changes to a folder, of a session with these entries: the halfway one where there are changes, and
+-- the settled one of what the turn makes of the entries
+pub record SpellsTurn (turn : Turn) (folder : FolderState) (cursor : ℕ) (entries : List (List Change)) (changes : List Change) (journals : Journals) : Type 0 where
+  pub halfway : SpellsWhere journals.halfway (halfway_with (fingerprint folder.files) cursor entries (map fingerprint (folders_after folder.files changes)) (way_back folder.files changes))
+  pub after : SpellsSettled (fingerprint (effects folder.files changes)) (entries_with turn cursor entries (way_back folder.files changes)) journals.after
+
+-- those of a command with these changes
+abbrev pub SpellsCommand : FolderState → ℕ → List (List Change) → List given.Change → Journals → Type 0
+SpellsCommand folder cursor entries changes journals = SpellsTurn Add folder cursor entries (changes_in changes) journals
+
+-- those of an undo or redo of the entry at this place
+abbrev pub SpellsEntry : FolderState → ℕ → List (List Change) → ℕ → ℕ → Journals → Type 0
+SpellsEntry folder cursor entries at next journals = SpellsTurn (Replace at next) folder cursor entries (get_or entries at []) journals

@@ -2,7 +2,7 @@
 ghost use Rattle.std.specs.Prelude.{◌≡◌, is_some, IfSome, IsTrue, Some};
 ghost use Rattle.par2_folder.specs.declared.landmarks.Landmarks.{Landmarks as Marks};
 ghost use Rattle.par2_journal.specs.declared.spelling.Fingerprints.{Fingerprints as Prints};
-ghost use Rattle.par2_journal.specs.declared.ahead.Ahead.TheVariants as ahead;
+ghost use Rattle.par2_journal.specs.Ahead.{AreFor, AreIn};
 
 use crate::spelling::Fingerprints;
 use par2_folder::Landmarks;
@@ -25,9 +25,8 @@ pub enum Ahead {
 
 // The fingerprints, where they were computed for this.
 pub(crate) fn fingerprints_for(found: Option<Ahead>, next: Next) -> Option<Fingerprints>
-    ensures known { IfSome result (λ prints. found ≡ Some (ahead.Fingerprints next prints)) }
-    ensures used { (prints : Prints) → found ≡ Some (ahead.Fingerprints next prints)
-        → result ≡ Some prints }
+    ensures known { IfSome result (AreFor found next) }
+    ensures used { (prints : Prints) → AreFor found next prints → result ≡ Some prints }
 {
     match found {
         Some(Ahead::Fingerprints(of, fingerprints)) => (of == next).then_some(fingerprints),
@@ -37,9 +36,8 @@ pub(crate) fn fingerprints_for(found: Option<Ahead>, next: Next) -> Option<Finge
 
 // The landmarks, where there are any.
 pub(crate) fn landmarks_in(found: &Option<Ahead>) -> Option<&Landmarks>
-    ensures known { IfSome result (λ marks. found.now ≡ Some (ahead.Landmarks marks.now)) }
-    ensures used { (marks : Marks) → found.now ≡ Some (ahead.Landmarks marks)
-        → IsTrue (is_some result) }
+    ensures known { IfSome result (λ marks. AreIn found.now marks.now) }
+    ensures used { (marks : Marks) → AreIn found.now marks → IsTrue (is_some result) }
 {
     match found {
         Some(Ahead::Landmarks(landmarks)) => Some(landmarks),

@@ -2,25 +2,22 @@
 //! committed, or is carried out at once; runs of actions are made of these.
 use crate::preparation::Task;
 use crate::{Changes, CreateArgs, Prepared, Session, SessionFault, Steps};
+use par2_folder::Landmarks;
 use par2_plan::{Fault, Report, check, draft_repair, plan_create, plan_purge};
 use par2_spec::Action;
 use std::alloc::AllocError;
 
 impl Session {
-    ghost use Rattle.std.specs.Prelude.{◌≡◌, [], map, string_bytes, IfOk, IfErr, IsErrOf, IsTrue, ◌⊎◌, Some, Ok, Err, drop, OnOk, OnErr};
+    ghost use Rattle.std.specs.Prelude.{◌≡◌, [], map, IfOk, IfErr, IsErrOf, IsTrue, drop, OnOk, OnErr};
     ghost use Rattle.std.specs.List.{AllByRecursion};
     ghost use Rattle.par2_spec.specs.Changes.{are_applicable};
-    ghost use Rattle.par2_spec.specs.Commands.{Do, Undo, Redo, Create, Verify, Repair, Purge};
-    ghost use Rattle.par2_spec.specs.History.{Run, MayBeRefused, folders, IsChanging};
-    ghost use Rattle.par2_spec.specs.Refusals.{early_refusal, early_refusal_of};
-    ghost use Rattle.par2_spec.specs.Reports.{report_in};
-    ghost use Rattle.par2_spec.specs.Plans.{AreFewFor, LeadsToAfterAsked};
-    ghost use Rattle.par2_spec.specs.Sessions.{OnlyGrew, CanWalk, session_of_kept, session_after, changes_asked, history_of};
+    ghost use Rattle.par2_spec.specs.Commands.{Undo, Redo, Create, Purge};
+    ghost use Rattle.par2_spec.specs.History.{Run, folders, IsChanging};
+    ghost use Rattle.par2_spec.specs.Sessions.{OnlyGrew, CanWalk};
     ghost use Rattle.par2_spec.specs.Texts.{step_of};
     ghost use Rattle.par2_spec.specs.Views.{action_of, create_args_of};
-    ghost use Rattle.par2_plan.specs.Repairing.{WritesAsDescribed};
-    ghost use Rattle.par2_plan.specs.Views.{report_of};
-    ghost use Rattle.par2_journal.specs.Refusals.{MayFail, MayRefuse};
+    ghost use Rattle.par2_journal.specs.Commands.{IsAfter, LeadsFrom, MakesReady, MayBePassed, Performs, Prepares, Verifies, WritesFiles, kept_history, repair_of};
+    ghost use Rattle.par2_journal.specs.Refusals.{MayRefuse};
     ghost use Rattle.par2_journal.specs.Ready.{CanBe, Changing, Fits, IsReady};
 
     // The steps of a command with these changes, and room for it.
@@ -50,19 +47,15 @@ impl Session {
         })
     }
 
+    // The landmark that is computed side by side with the MD5s of the inputs is kept for the create's journals.
     pub(crate) fn prepare_create(&mut self, args: &CreateArgs) -> Result<Prepared, Fault>
-        ensures kept { OnlyGrew self.old self.new }
-        ensures ready { let action = Do (Create (create_args_of args.now)) in
-            IfOk result (λ prepared. IsReady action self.old prepared self.new) }
-        ensures leads { let action = Do (Create (create_args_of args.now)) in
-            IfOk result (λ _. LeadsToAfterAsked self.old.folder.files action) }
-        ensures refused { IfErr result (MayFail (Create (create_args_of args.now)) self.old) }
-        ensures early { let command = Create (create_args_of args.now) in
-            (fault : Fault) → early_refusal self.old.folder.files command ≡ Some fault
-            → IsErrOf result fault }
+        ensures { MakesReady (Create (create_args_of args.now)) self.old self.new result }
     {
-        let changes = plan_create(self.allocator(), self.folder(), args)?;
-        self.prepare_changes(changes)
+        let alloc = self.allocator();
+        let none = Landmarks::none(alloc);
+        let creation = plan_create(alloc, self.folder(), args, self.landmarks_or(&none))?;
+        self.keep_landmarks(creation.landmarks);
+        self.prepare_changes(creation.changes)
     }
 
     // The MD5s of what is written are computed side by side with the fingerprints that the repair's journals name.
@@ -72,20 +65,8 @@ impl Session {
         extras: &[String],
         purge: bool,
     ) -> Result<Prepared, Fault>
-        ensures kept { OnlyGrew self.old self.new }
-        ensures ready { let action = Do (Repair base.now (map string_bytes extras.now) purge) in
-            IfOk result (λ prepared. IsReady action self.old prepared self.new) }
-        ensures leads { let action = Do (Repair base.now (map string_bytes extras.now) purge) in
-            IfOk result (λ _. LeadsToAfterAsked self.old.folder.files action) }
-        ensures refused { let command = Repair base.now (map string_bytes extras.now) purge in
-            IfErr result (MayFail command self.old) }
-        ensures early { let command = Repair base.now (map string_bytes extras.now) purge in
-            (fault : Fault) → early_refusal self.old.folder.files command ≡ Some fault
-            → IsErrOf result fault }
-        ensures written { let words = map string_bytes extras.now in
-            IfOk result (λ _. WritesAsDescribed self.old.folder.files base.now words) }
-        ensures few { let command = Repair base.now (map string_bytes extras.now) purge in
-            IfOk result (λ _. AreFewFor self.old.folder.files command) }
+        ensures ready { MakesReady (repair_of base.now extras.now purge) self.old self.new result }
+        ensures written { WritesFiles base.now extras.now purge self.old result }
     {
         let draft = draft_repair(self.allocator(), self.folder(), base, extras, purge)?;
         let steps = self.make_way(&draft.changes)?;
@@ -98,15 +79,7 @@ impl Session {
     }
 
     pub(crate) fn prepare_purge(&mut self, base: &str) -> Result<Prepared, Fault>
-        ensures kept { OnlyGrew self.old self.new }
-        ensures ready { IfOk result (λ prepared.
-            IsReady (Do (Purge base.now)) self.old prepared self.new) }
-        ensures leads { IfOk result (λ _.
-            LeadsToAfterAsked self.old.folder.files (Do (Purge base.now))) }
-        ensures refused { IfErr result (MayFail (Purge base.now) self.old) }
-        ensures early { (fault : Fault)
-            → early_refusal self.old.folder.files (Purge base.now) ≡ Some fault
-            → IsErrOf result fault }
+        ensures { MakesReady (Purge base.now) self.old self.new result }
     {
         let changes = plan_purge(self.allocator(), self.folder(), base)?;
         self.prepare_changes(changes)
@@ -144,19 +117,7 @@ impl Session {
 
     /// Makes ready what committing an action will need, memory included. Names, bytes and history stay as they are.
     pub fn prepare(&mut self, action: &Action) -> Result<Prepared, SessionFault>
-        ensures kept { OnlyGrew self.old self.new }
-        ensures ready { IfOk result (λ prepared.
-            IsReady (action_of action.now) self.old prepared self.new) }
-        ensures leads { IfOk result (λ _.
-            LeadsToAfterAsked self.old.folder.files (action_of action.now)) }
-        ensures refused { IfErr result (MayRefuse (action_of action.now) self.old) }
-        ensures early { (fault : Fault)
-            → early_refusal_of self.old.folder.files (action_of action.now) ≡ Some fault
-            → IsErrOf result (SessionFault.Plan fault) }
-        ensures nothing_to_undo { action_of action.now ≡ Undo → self.old.undos ≡ []
-            → IsErrOf result SessionFault.NothingToUndo }
-        ensures nothing_to_redo { action_of action.now ≡ Redo → self.old.redos ≡ []
-            → IsErrOf result SessionFault.NothingToRedo }
+        ensures { Prepares (action_of action.now) self.old self.new result }
     {
         match action {
             Action::Create(args) => Ok(self.prepare_create(args)?),
@@ -173,32 +134,14 @@ impl Session {
 
     /// What a verify of this base, with further files, reports.
     pub fn verify(&self, base: &str, extras: &[String]) -> Result<Report, Fault>
-        ensures refused { IfErr result (λ fault. (fault ≡ Fault.Memory) ⊎ (report_in
-            self.now.folder.files base.now (map string_bytes extras.now) ≡ Err fault)) }
-        ensures early { let command = Verify base.now (map string_bytes extras.now) in
-            (fault : Fault) → early_refusal self.now.folder.files command ≡ Some fault
-            → IsErrOf result fault }
-        ensures report { IfOk result (λ report. report_in
-            self.now.folder.files base.now (map string_bytes extras.now)
-            ≡ Ok (report_of report)) }
+        ensures { Verifies base.now extras.now self.now.folder.files result }
     {
         check(self.allocator(), self.folder(), base, extras)
     }
 
     /// Creates, and answers the steps. After a refusal names, bytes and history are as before.
     pub fn create(&mut self, args: &CreateArgs) -> Result<Steps, Fault>
-        ensures done { OnOk result (session_after (session_of_kept self.old)
-            (Do (Create (create_args_of args.now))) ≡ Ok (session_of_kept self.new)) }
-        ensures leads { OnOk result (LeadsToAfterAsked
-            self.old.folder.files (Do (Create (create_args_of args.now)))) }
-        ensures steps { IfOk result (λ steps. IfOk
-            (changes_asked (session_of_kept self.old) (Do (Create (create_args_of args.now))))
-            (λ changes. steps ≡ map step_of changes)) }
-        ensures unchanged { OnErr result (OnlyGrew self.old self.new) }
-        ensures refused { IfErr result (MayFail (Create (create_args_of args.now)) self.old) }
-        ensures early { let command = Create (create_args_of args.now) in
-            (fault : Fault) → early_refusal self.old.folder.files command ≡ Some fault
-            → IsErrOf result fault }
+        ensures { Performs (Create (create_args_of args.now)) self.old self.new result }
     {
         let prepared = self.prepare_create(args)?;
         Ok(self.commit(prepared))
@@ -208,29 +151,8 @@ impl Session {
     /// file that it writes from slices has the length and the MD5 that the set describes. After a refusal names, bytes
     /// and history are as before.
     pub fn repair(&mut self, base: &str, extras: &[String], purge: bool) -> Result<Steps, Fault>
-        // The session is the one from after the action, whose changes lead to its folder; the steps
-        // are theirs.
-        ensures done { let action = Do (Repair base.now (map string_bytes extras.now) purge) in
-            OnOk result (session_after (session_of_kept self.old) action
-            ≡ Ok (session_of_kept self.new)) }
-        ensures leads { let action = Do (Repair base.now (map string_bytes extras.now) purge) in
-            OnOk result (LeadsToAfterAsked self.old.folder.files action) }
-        ensures steps { let action = Do (Repair base.now (map string_bytes extras.now) purge) in
-            IfOk result (λ steps. IfOk (changes_asked (session_of_kept self.old) action)
-            (λ changes. steps ≡ map step_of changes)) }
-        // Each file that is written from slices has the described length and MD5, whatever the files
-        // of the folder hold; and there were so few names that asides could be numbered.
-        ensures written { let words = map string_bytes extras.now in
-            OnOk result (WritesAsDescribed self.old.folder.files base.now words) }
-        ensures few { let command = Repair base.now (map string_bytes extras.now) purge in
-            OnOk result (AreFewFor self.old.folder.files command) }
-        // A refusal leaves the session as it was, and is reported before memory is taken where it can be.
-        ensures unchanged { OnErr result (OnlyGrew self.old self.new) }
-        ensures refused { let command = Repair base.now (map string_bytes extras.now) purge in
-            IfErr result (MayFail command self.old) }
-        ensures early { let command = Repair base.now (map string_bytes extras.now) purge in
-            (fault : Fault) → early_refusal self.old.folder.files command ≡ Some fault
-            → IsErrOf result fault }
+        ensures repairs { Performs (repair_of base.now extras.now purge) self.old self.new result }
+        ensures written { WritesFiles base.now extras.now purge self.old result }
     {
         let prepared = self.prepare_repair(base, extras, purge)?;
         Ok(self.commit(prepared))
@@ -238,18 +160,7 @@ impl Session {
 
     /// Removes the set's par files, and answers the steps. After a refusal names, bytes and history are as before.
     pub fn purge(&mut self, base: &str) -> Result<Steps, Fault>
-        ensures done { OnOk result (session_after (session_of_kept self.old)
-            (Do (Purge base.now)) ≡ Ok (session_of_kept self.new)) }
-        ensures leads { OnOk result (LeadsToAfterAsked
-            self.old.folder.files (Do (Purge base.now))) }
-        ensures steps { IfOk result (λ steps. IfOk
-            (changes_asked (session_of_kept self.old) (Do (Purge base.now)))
-            (λ changes. steps ≡ map step_of changes)) }
-        ensures unchanged { OnErr result (OnlyGrew self.old self.new) }
-        ensures refused { IfErr result (MayFail (Purge base.now) self.old) }
-        ensures early { (fault : Fault)
-            → early_refusal self.old.folder.files (Purge base.now) ≡ Some fault
-            → IsErrOf result fault }
+        ensures { Performs (Purge base.now) self.old self.new result }
     {
         let prepared = self.prepare_purge(base)?;
         Ok(self.commit(prepared))
@@ -257,13 +168,10 @@ impl Session {
 
     // One action. Undo and redo take no memory.
     fn act(&mut self, action: &Action) -> Result<(), SessionFault>
-        ensures done { OnOk result (session_after (session_of_kept self.old)
-            (action_of action.now) ≡ Ok (session_of_kept self.new)) }
-        ensures leads { OnOk result (LeadsToAfterAsked
-            self.old.folder.files (action_of action.now)) }
+        ensures done { OnOk result (IsAfter (action_of action.now) self.old self.new) }
+        ensures leads { OnOk result (LeadsFrom (action_of action.now) self.old) }
         ensures unchanged { OnErr result (OnlyGrew self.old self.new) }
-        ensures refused { OnErr result (MayBeRefused
-            (history_of (session_of_kept self.old)) (action_of action.now)) }
+        ensures refused { OnErr result (MayBePassed (action_of action.now) self.old) }
         ensures walks { CanWalk self.old }
     {
         let _folder = self.folder();
@@ -290,11 +198,10 @@ impl Session {
     /// Performs the actions in order, goes on after a refused one, and answers how many were accepted. As many
     /// undos as commands were accepted lead back.
     pub fn play(&mut self, actions: &[Action]) -> usize
-        ensures run { Run (history_of (session_of_kept self.old)) (map action_of actions.now)
-            result (history_of (session_of_kept self.new)) }
+        ensures run { Run (kept_history self.old) (map action_of actions.now) result
+            (kept_history self.new) }
         ensures undos { AllByRecursion IsChanging (map action_of actions.now)
-            → drop result (folders (history_of (session_of_kept self.new)))
-            ≡ folders (history_of (session_of_kept self.old)) }
+            → drop result (folders (kept_history self.new)) ≡ folders (kept_history self.old) }
     {
         let mut accepted = 0;
         for action in actions {

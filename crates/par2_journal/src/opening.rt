@@ -1,17 +1,14 @@
 //! A folder with a journal is opened as a session.
-ghost use Rattle.std.specs.Prelude.{◌≡◌, ◌≤◌, ◌<◌, ◌⊎◌, ◌&&◌, if◌then◌else◌, reverse, take, Some, IfSome, IfOk, IfErr, IsTrue, IsFalse, length, MatchResult, Ok, Err, None, true, false, drop, sum_by, ◌++◌};
-ghost use Rattle.std.specs.Str.{bytes_eq};
-ghost use Rattle.par2_spec.specs.Folders.{fingerprint};
-ghost use Rattle.par2_spec.specs.Changes.{places_taken, takes_all, state_after_all, way_back};
-ghost use Rattle.par2_spec.specs.Sessions.{session_of_kept, walks};
+ghost use Rattle.std.specs.Prelude.{◌≡◌, ◌≤◌, ◌<◌, ◌⊎◌, if◌then◌else◌, IfSome, IfOk, IfErr, OnOk, IsTrue, IsFalse, length, Ok, None, true, false, sum_by};
+ghost use Rattle.par2_spec.specs.Changes.{places_taken, takes_all};
+ghost use Rattle.par2_spec.specs.Sessions.{walks};
 ghost use Rattle.par2_spec.specs.Journals.{IsJournal};
-ghost use Rattle.par2_spec.specs.Opening as defined;
-ghost use Rattle.par2_spec.specs.Opening.{is_valid, leads, Opens};
+ghost use Rattle.par2_spec.specs.Opening.{is_valid, opened, opened_by_part};
 ghost use Rattle.par2_spec.specs.declared.JournalFault.TheVariants.{JournalInvalid, FolderChanged, Memory};
 ghost use Rattle.par2_journal_bytes.specs.Reading.{IsSealed};
 ghost use Rattle.par2_journal_bytes.specs.Views.{changes_in, entries_of, journal_of};
-ghost use Rattle.par2_journal.specs.Opening.{session_at, journal_with, opened_of, AnswersOpening, OpensAsIs};
-ghost use Rattle.par2_journal.specs.Walks.{state_along, ways_back};
+ghost use Rattle.par2_journal.specs.Opening.{Answers, AnswersDigests, AnswersOpening, AnswersTest, OpensAsIs, are_valid, has_print, journal_with, opened_of, session_at, settled_by};
+ghost use Rattle.par2_journal.specs.Walks.{AreFirstMade, AreFirstWalked, AreMade, AreUntouched, EntriesWalk, walk_both};
 
 use crate::session::Digests;
 use crate::taking_back::{Halfway, open_halfway};
@@ -27,11 +24,7 @@ use std::alloc::{AllocError, Global};
 // become the change that takes it back.
 fn apply_first(folder: &mut Folder, changes: &mut [Change]) -> usize
     ensures within { result ≤ length changes.old }
-    ensures taken { IsTrue (takes_all folder.old (take result (changes_in changes.old))) }
-    ensures folder { folder.new
-        ≡ state_after_all folder.old (take result (changes_in changes.old)) }
-    ensures changes { changes_in changes.new ≡ reverse (way_back folder.old.files
-        (take result (changes_in changes.old))) ++ drop result (changes_in changes.old) }
+    ensures first { AreFirstMade folder.old folder.new changes.old changes.new result }
     ensures refused { result < length changes.old
         → IsFalse (takes_all folder.old (changes_in changes.old)) }
 {
@@ -48,12 +41,8 @@ fn apply_first(folder: &mut Folder, changes: &mut [Change]) -> usize
 // Applies all of the changes in order, so that they become the way back, or none where one is refused.
 fn turn_whole(folder: &mut Folder, changes: &mut [Change]) -> bool
     ensures result { result ≡ takes_all folder.old (changes_in changes.old) }
-    ensures folder { IsTrue result
-        → folder.new ≡ state_after_all folder.old (changes_in changes.old) }
-    ensures way_back { IsTrue result
-        → changes_in changes.new ≡ way_back folder.old.files (changes_in changes.old) }
-    ensures unchanged { IsFalse result
-        → (folder.new ≡ folder.old) × (changes_in changes.new ≡ changes_in changes.old) }
+    ensures made { IsTrue result → AreMade folder.old folder.new changes.old changes.new }
+    ensures same { IsFalse result → AreUntouched folder.old folder.new changes.old changes.new }
 {
     let applied = apply_first(folder, changes);
     if applied == changes.len() {
@@ -69,8 +58,7 @@ fn turn_whole(folder: &mut Folder, changes: &mut [Change]) -> bool
 // Whether all of the changes can be applied in order. Folder and changes are as before.
 pub(crate) fn can_apply(folder: &mut Folder, changes: &mut [Change]) -> bool
     ensures result { result ≡ takes_all folder.old (changes_in changes.old) }
-    ensures folder { folder.new ≡ folder.old }
-    ensures changes { changes_in changes.new ≡ changes_in changes.old }
+    ensures same { AreUntouched folder.old folder.new changes.old changes.new }
 {
     if !turn_whole(folder, changes) {
         return false;
@@ -83,10 +71,7 @@ pub(crate) fn can_apply(folder: &mut Folder, changes: &mut [Change]) -> bool
 // become its way back.
 fn walk_first(folder: &mut Folder, entries: &mut [Vec<Change>]) -> usize
     ensures within { result ≤ length entries.old }
-    ensures taken { IsTrue (walks folder.old (take result (entries_of entries.old))) }
-    ensures folder { folder.new ≡ state_along folder.old (take result (entries_of entries.old)) }
-    ensures entries { entries_of entries.new ≡ reverse (ways_back folder.old
-        (take result (entries_of entries.old))) ++ drop result (entries_of entries.old) }
+    ensures first { AreFirstWalked folder.old folder.new entries.old entries.new result }
     ensures refused { result < length entries.old
         → IsFalse (walks folder.old (entries_of entries.old)) }
 {
@@ -132,8 +117,7 @@ fn change_count(entries: &[Vec<Change>]) -> Option<usize>
 // before.
 fn can_walk_both(folder: &mut Folder, entries: &mut [Vec<Change>], cursor: usize) -> bool
     requires { cursor ≤ length entries.old }
-    ensures result { result ≡ (walks folder.old (reverse (take cursor
-        (entries_of entries.old))) && walks folder.old (drop cursor (entries_of entries.old))) }
+    ensures result { result ≡ walk_both folder.old cursor (entries_of entries.old) }
     ensures folder { folder.new ≡ folder.old }
     ensures entries { entries_of entries.new ≡ entries_of entries.old }
 {
@@ -156,13 +140,8 @@ fn settle(
     ensures files { folder.new.files ≡ folder.old.files }
     ensures vacant { folder.old.vacant ≤ folder.new.vacant }
     ensures entries { entries_of entries.new ≡ entries_of entries.old }
-    ensures valid { IfOk result (λ valid. valid
-        ≡ (leads folder.old.files (reverse (take cursor (entries_of entries.old)))
-        && leads folder.old.files (drop cursor (entries_of entries.old)))) }
-    ensures back { result ≡ Ok true
-        → IsTrue (walks folder.new (reverse (take cursor (entries_of entries.old)))) }
-    ensures forth { result ≡ Ok true
-        → IsTrue (walks folder.new (drop cursor (entries_of entries.old))) }
+    ensures valid { IfOk result (λ x. x ≡ are_valid folder.old.files cursor entries.old) }
+    ensures walks { result ≡ Ok true → EntriesWalk folder.new cursor (entries_of entries.old) }
 {
     let Some(count) = change_count(entries) else {
         return Err(AllocError);
@@ -200,13 +179,8 @@ pub(crate) fn session_from(
     cursor: usize,
 ) -> Result<Session, (JournalFault, Folder)>
     requires { cursor ≤ length entries.items }
-    ensures valid { IfOk result
-        (λ _. IsTrue (is_valid (session_at folder.files cursor (entries_of entries.items)))) }
-    ensures session { IfOk result (λ session. session_of_kept session
-        ≡ session_at folder.files cursor (entries_of entries.items)) }
-    ensures refused { IfErr result (λ e. (e.0 ≡ Memory) ⊎ ((e.0 ≡ JournalInvalid)
-        × IsFalse (is_valid (session_at folder.files cursor (entries_of entries.items))))) }
-    ensures files { IfErr result (λ e. e.1.files ≡ folder.files) }
+    ensures answer { let wanted = session_at folder.files cursor (entries_of entries.items) in
+        AnswersTest folder (is_valid wanted) wanted result }
     ensures vacant { IfErr result (λ e. folder.vacant ≤ e.1.vacant) }
 {
     match settle(&mut folder, &mut entries, cursor) {
@@ -233,9 +207,9 @@ pub enum Opened {
 // The session, where its folder has this fingerprint.
 fn unless_changed(session: Session, wanted: [u8; 16]) -> Result<Session, (JournalFault, Folder)>
     ensures session { IfOk result (λ kept. kept ≡ session) }
-    ensures same { IfOk result (λ _. IsTrue (bytes_eq (fingerprint session.folder.files) wanted)) }
-    ensures refused { IfErr result (λ e. (e.0 ≡ Memory) ⊎ ((e.0 ≡ FolderChanged false)
-        × IsFalse (bytes_eq (fingerprint session.folder.files) wanted))) }
+    ensures same { OnOk result (IsTrue (has_print session.folder.files wanted)) }
+    ensures refused { IfErr result (λ e. (e.0 ≡ Memory)
+        ⊎ ((e.0 ≡ FolderChanged false) × IsFalse (has_print session.folder.files wanted))) }
     ensures files { IfErr result (λ e. e.1.files ≡ session.folder.files) }
 {
     let print = match session.fingerprint() {
@@ -251,9 +225,8 @@ fn unless_changed(session: Session, wanted: [u8; 16]) -> Result<Session, (Journa
 
 // Why nothing opens by a journal whose entries can't be applied to the folder: that it changed comes first.
 fn invalid_unless_changed(alloc: Global, folder: Folder, wanted: [u8; 16]) -> (JournalFault, Folder)
-    ensures cause { (result.0 ≡ Memory) ⊎ (result.0
-        ≡ (if bytes_eq (fingerprint folder.files) wanted then JournalInvalid
-        else FolderChanged false)) }
+    ensures cause { let same = has_print folder.files wanted in (result.0 ≡ Memory)
+        ⊎ (result.0 ≡ (if same then JournalInvalid else FolderChanged false)) }
     ensures files { result.1.files ≡ folder.files }
 {
     match unless_changed(Session::new(alloc, folder), wanted) {
@@ -271,12 +244,8 @@ fn open_settled(
     cursor: usize,
 ) -> Result<Session, (JournalFault, Folder)>
     requires { cursor ≤ length entries.items }
-    ensures opened { IfOk result (λ session. defined.opened_by_part folder.files
-        (journal_with fingerprint cursor (entries_of entries.items)) None
-        ≡ Ok (defined.Settled (session_of_kept session))) }
-    ensures refused { IfErr result (λ e. (e.0 ≡ Memory) ⊎ (defined.opened_by_part folder.files
-        (journal_with fingerprint cursor (entries_of entries.items)) None ≡ Err e.0)) }
-    ensures files { IfErr result (λ e. e.1.files ≡ folder.files) }
+    ensures { let journal = journal_with fingerprint cursor (entries_of entries.items) in
+        Answers settled_by folder.files (opened_by_part folder.files journal None) result }
 {
     match session_from(alloc, folder, entries, cursor) {
         Ok(session) => unless_changed(session, fingerprint),
@@ -294,11 +263,7 @@ fn open_journal(
     journal: Journal,
 ) -> Result<Opened, (JournalFault, Folder)>
     requires { IsJournal (journal_of journal) }
-    ensures opened { IfOk result (λ found. defined.opened folder.files (journal_of journal)
-        ≡ Ok (opened_of found)) }
-    ensures refused { IfErr result (λ e. (e.0 ≡ Memory)
-        ⊎ (defined.opened folder.files (journal_of journal) ≡ Err e.0)) }
-    ensures files { IfErr result (λ e. e.1.files ≡ folder.files) }
+    ensures { Answers opened_of folder.files (opened folder.files (journal_of journal)) result }
 {
     let Journal {
         fingerprint,
@@ -350,15 +315,7 @@ fn answer_of(
     fingerprint: [u8; 16],
     digest: &[u8],
 ) -> Result<Opened, (JournalFault, Folder)>
-    ensures session { IfOk result (λ opened.
-        opened_of opened ≡ defined.Settled (session_of_kept session)) }
-    ensures same { IfOk result (λ _. (digest.now ≡ found.now.text)
-        × IsTrue (bytes_eq found.now.folder fingerprint)) }
-    ensures refused { IfErr result (λ e.
-        ((e.0 ≡ JournalInvalid) × ¬ (digest.now ≡ found.now.text))
-        ⊎ ((e.0 ≡ FolderChanged false) × (digest.now ≡ found.now.text)
-        × IsFalse (bytes_eq found.now.folder fingerprint))) }
-    ensures files { IfErr result (λ e. e.1.files ≡ session.folder.files) }
+    ensures { AnswersDigests session found.now fingerprint digest.now result }
 {
     if digest != found.text.as_slice() {
         return Err((JournalFault::JournalInvalid, session.into_folder()));

@@ -161,17 +161,13 @@ pub struct Prepared {
 
 impl Model for Prepared {
     ghost use Rattle.par2_journal.specs.Ready.{Ready, ready_code};
-    ghost use Rattle.par2_journal.specs.Kinds.{kind_of, known_of};
+    ghost use Rattle.par2_journal.specs.Kinds.{ready_of};
 
     ghost Value = { Ready };
 
     ghost coded = { ready_code };
 
-    ghost view = { λ a. record {
-      kind = kind_of a.task;
-      steps = a.steps;
-      known = known_of a.task;
-    } };
+    ghost view = { ready_of };
 }
 
 impl Prepared {

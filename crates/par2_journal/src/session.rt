@@ -3,7 +3,7 @@ use crate::ahead::{Ahead, fingerprints_for, landmarks_in};
 use crate::preparation::Task;
 use crate::spelling::{Fingerprints, spell_command, spell_entry, spell_settled};
 use crate::{Changes, Journals, Next, Prepared, Steps};
-use par2_folder::{Change, Folder, survey_folder};
+use par2_folder::{Change, Folder, Landmarks, survey_folder};
 use par2_plan::Draft;
 use std::alloc::{AllocError, Global};
 use std::marker::Model;
@@ -53,22 +53,21 @@ impl Model for Session {
 }
 
 impl Session {
-    ghost use Rattle.std.specs.Prelude.{◌≡◌, ◌↔◌, ◌<◌, ◌≤◌, ◌≢◌, [], map, length, take, drop, reverse, IsErr, IfOk, OnOk, OnErr, IsTrue};
+    ghost use Rattle.std.specs.Prelude.{◌≡◌, ◌↔◌, ◌<◌, ◌≤◌, ◌≢◌, [], map, length, IsErr, IfOk, OnOk, OnErr, IsTrue};
     ghost use Rattle.md5.specs.Md5.{md5};
     ghost use Rattle.par2_spec.specs.Changes.{takes_all};
     ghost use Rattle.par2_spec.specs.Folders.{fingerprint};
-    ghost use Rattle.par2_spec.specs.Sessions.{CanWalk, OnlyGrew, KeptSession, walks, session_of_kept, kept_done, kept_undone, kept_redone};
-    ghost use Rattle.par2_spec.specs.Commands.{Action as Asked};
+    ghost use Rattle.par2_spec.specs.Sessions.{CanWalk, OnlyGrew, session_of_kept, kept_done, kept_undone, kept_redone};
     ghost use Rattle.par2_spec.specs.Journals.{Spells};
-    ghost use Rattle.par2_spec.specs.Opening.{settled_journal, journals_of};
-    ghost use Rattle.par2_spec.specs.declared.Version.TheVariants.{Two};
+    ghost use Rattle.par2_folder.specs.Landmarks.{AreLandmarksOf};
     ghost use Rattle.par2_folder.specs.Views.{change_of};
     ghost use Rattle.par2_plan.specs.Written.{texts_written};
     ghost use Rattle.par2_journal.specs.Ahead.{next_changes};
     ghost use Rattle.par2_journal.specs.Along.{AreAlong};
     ghost use Rattle.par2_journal.specs.Opening.{session_at};
-    ghost use Rattle.par2_journal.specs.Ready.{Fits, IsReady, changes_by_kind, after_commit, journals_for, next_of};
-    ghost use Rattle.par2_journal.specs.Spelling.{AreSpelled};
+    ghost use Rattle.par2_journal.specs.Ready.{Fits, changes_by_kind, after_commit, kept_journal, next_of};
+    ghost use Rattle.par2_journal.specs.Spelling.{SpellsAction, SpellsReady};
+    ghost use Rattle.par2_journal.specs.Walks.{EntriesWalk};
 
     /// The session on this folder, without a history.
     pub fn new(alloc: Global, folder: Folder) -> Session
@@ -87,8 +86,7 @@ impl Session {
     // The session of these entries.
     pub(crate) fn from_entries(folder: Folder, entries: Vec<Changes>, cursor: usize) -> Session
         requires within { cursor ≤ length entries.items }
-        requires back { IsTrue (walks folder (reverse (take cursor entries.items))) }
-        requires forth { IsTrue (walks folder (drop cursor entries.items)) }
+        requires walks { EntriesWalk folder cursor entries.items }
         ensures { session_of_kept result ≡ session_at folder.files cursor entries.items }
     {
         Session {
@@ -178,8 +176,7 @@ impl Session {
 
     /// The bytes of the session's journal. Nothing but the result is made of the bytes of its changes.
     pub fn encode(&self) -> Result<Vec<u8>, AllocError>
-        ensures { IfOk result
-            (λ bytes. Spells bytes.items (settled_journal Two (session_of_kept self.now))) }
+        ensures { IfOk result (λ bytes. Spells bytes.items (kept_journal self.now)) }
     {
         let fingerprint = self.fingerprint()?;
         spell_settled(self.allocator(), &self.entries, self.cursor, fingerprint)
@@ -241,6 +238,22 @@ impl Session {
         }
     }
 
+    // Landmarks of the folder, and these where none stand ready.
+    pub(crate) fn landmarks_or<'a>(&'a self, none: &'a Landmarks) -> &'a Landmarks
+        requires { AreLandmarksOf self.now.folder.files none.now }
+        ensures { AreLandmarksOf self.now.folder.files result.now }
+    {
+        landmarks_in(&self.ahead).unwrap_or(none)
+    }
+
+    // Keeps landmarks of the folder for the next journals.
+    pub(crate) fn keep_landmarks(&mut self, landmarks: Landmarks)
+        requires { AreLandmarksOf self.old.folder.files landmarks }
+        ensures { self.new ≡ self.old }
+    {
+        self.ahead = Some(Ahead::Landmarks(landmarks));
+    }
+
     // The digests of the folder and of a text, side by side. Where an undo or redo is next, the fingerprints along its
     // changes, side by side with these, take little longer, and are kept for its journals; else landmarks are kept.
     pub(crate) fn digests_before(
@@ -249,9 +262,8 @@ impl Session {
         text: &[u8],
     ) -> Result<Digests, AllocError>
         ensures unchanged { self.new ≡ self.old }
-        ensures folder { IfOk result
-            (λ found. found.folder ≡ fingerprint self.old.folder.files) }
-        ensures text { IfOk result (λ found. found.text ≡ md5 text.now) }
+        ensures folder { IfOk result (λ x. x.folder ≡ fingerprint self.old.folder.files) }
+        ensures text { IfOk result (λ x. x.text ≡ md5 text.now) }
     {
         let alloc = self.allocator();
         let Some(next) = next else {
@@ -273,10 +285,8 @@ impl Session {
         draft: &Draft,
     ) -> Result<(Fingerprints, Vec<[u8; 16]>), AllocError>
         requires { IsTrue (takes_all self.now.folder draft.now.changes) }
-        ensures fingerprints { IfOk result
-            (λ x. AreAlong x.0 self.now.folder.files draft.now.changes) }
-        ensures md5s { IfOk result
-            (λ x. x.1.items ≡ map md5 (texts_written draft.now.changes)) }
+        ensures along { IfOk result (λ x. AreAlong self.now.folder.files draft.now.changes x.0) }
+        ensures md5s { IfOk result (λ x. x.1.items ≡ map md5 (texts_written draft.now.changes)) }
     {
         let alloc = self.allocator();
         let texts = draft.texts(alloc)?;
@@ -304,12 +314,8 @@ impl Session {
         requires { Fits prepared.old self.old }
         ensures unchanged { self.new ≡ self.old }
         ensures prepared { prepared.new ≡ prepared.old }
-        ensures spelled { IfOk result
-            (λ journals. AreSpelled journals (journals_for prepared.old.kind self.old)) }
-        ensures journals { let changes = changes_by_kind prepared.old.kind self.old in
-            IfOk result (λ journals. (action : Asked) (before : KeptSession)
-            → OnlyGrew before self.old → IsReady action before prepared.old self.old
-            → AreSpelled journals (journals_of Two (session_of_kept self.old) action changes)) }
+        ensures spelled { IfOk result (SpellsReady prepared.old.kind self.old) }
+        ensures journals { IfOk result (SpellsAction prepared.old self.old) }
     {
         let alloc = self.allocator();
         let cursor = self.cursor;

@@ -1,17 +1,17 @@
 //! The journals of a session, and the fingerprints that stand in them.
-ghost use Rattle.std.specs.Prelude.{◌≡◌, ◌≤◌, ◌<◌, ◌∷◌, ◌++◌, ◌+◌, [], List, IfOk, IfSome, IsTrue, length, map, get_or, set, slice_get, take, Some, None, Ok};
+ghost use Rattle.std.specs.Prelude.{◌≡◌, ◌≤◌, ◌<◌, ◌∷◌, ◌++◌, ◌+◌, [], List, IfOk, IfSome, IsTrue, length, map, get_or, slice_get, take, Some, None, Ok};
 ghost use Rattle.md5.specs.Md5.{md5};
 ghost use Rattle.par2_digests.specs.Texts.{texts_of};
 ghost use Rattle.par2_spec.specs.Changes as defined;
-ghost use Rattle.par2_spec.specs.Changes.{effects, folders_after, state_after_all, takes_all, way_back};
+ghost use Rattle.par2_spec.specs.Changes.{folders_after, takes_all};
 ghost use Rattle.par2_spec.specs.Folders.{Folder as Files, fingerprint};
-ghost use Rattle.par2_spec.specs.Journals.{Spells};
 ghost use Rattle.par2_spec.specs.declared.Version.TheVariants.{Two};
 ghost use Rattle.par2_folder.specs.Landmarks.{AreLandmarksOf};
 ghost use Rattle.par2_journal_bytes.specs.Fronts.{Begins};
 ghost use Rattle.par2_journal_bytes.specs.Views.{changes_in, lent_entries_of};
-ghost use Rattle.par2_journal.specs.Along.{AreAlong};
-ghost use Rattle.par2_journal.specs.Spelling.{Add, SpellsWhere, CompletesHalfway, entries_with, halfway_with, settled_with};
+ghost use Rattle.par2_journal.specs.Along.{AreAlong, ArePrintsOf};
+ghost use Rattle.par2_journal.specs.Spelling.{Add, CompletesBoth, SpellsCommand, SpellsEntry, SpellsSettled, entries_with};
+ghost use Rattle.par2_journal.specs.Walks.{AreMade, AreUntouched};
 
 use crate::Changes;
 use par2_folder::{Change, Folder, Landmarks, fingerprints};
@@ -39,7 +39,7 @@ impl Fingerprints {
         requires { 0 < length list.items }
         ensures { (files : Files) (changes : List defined.Change)
             → list.items ≡ map fingerprint (files ∷ folders_after files changes)
-            → AreAlong result files changes }
+            → AreAlong files changes result }
     {
         let before = list.remove(0);
         let after_all = last_of(before, &list);
@@ -59,11 +59,9 @@ impl Fingerprints {
         changes: &[Change],
         texts: &[&[u8]],
     ) -> Result<(Fingerprints, Vec<[u8; 16]>), AllocError>
-        requires landmarks { IfSome landmarks
-            (λ marks. AreLandmarksOf folder.now.files marks.now) }
+        requires landmarks { IfSome landmarks (λ from. AreLandmarksOf folder.now.files from.now) }
         requires applies { IsTrue (takes_all folder.now (changes_in changes.now)) }
-        ensures fingerprints { IfOk result (λ x.
-            AreAlong x.0 folder.now.files (changes_in changes.now)) }
+        ensures along { IfOk result (λ x. ArePrintsOf folder.now changes.now x.0) }
         ensures digests { IfOk result (λ x. x.1.items ≡ map md5 (texts_of texts.now)) }
     {
         let found = match landmarks {
@@ -80,11 +78,9 @@ impl Fingerprints {
         folder: &Folder,
         changes: &[Change],
     ) -> Result<Fingerprints, AllocError>
-        requires landmarks { IfSome landmarks
-            (λ marks. AreLandmarksOf folder.now.files marks.now) }
+        requires landmarks { IfSome landmarks (λ from. AreLandmarksOf folder.now.files from.now) }
         requires applies { IsTrue (takes_all folder.now (changes_in changes.now)) }
-        ensures { IfOk result (λ prints.
-            AreAlong prints folder.now.files (changes_in changes.now)) }
+        ensures { IfOk result (ArePrintsOf folder.now changes.now) }
     {
         let (fingerprints, _digests) = Fingerprints::and_digests(
             alloc,
@@ -104,8 +100,7 @@ impl Fingerprints {
         text: &[u8],
     ) -> Result<(Fingerprints, [u8; 16]), AllocError>
         requires { IsTrue (takes_all folder.now (changes_in changes.now)) }
-        ensures fingerprints { IfOk result (λ x.
-            AreAlong x.0 folder.now.files (changes_in changes.now)) }
+        ensures along { IfOk result (λ x. ArePrintsOf folder.now changes.now x.0) }
         ensures digest { IfOk result (λ x. x.1 ≡ md5 text.now) }
     {
         let found = fingerprints(alloc, folder, changes, &Landmarks::none(alloc), &[text])?;
@@ -121,10 +116,8 @@ impl Fingerprints {
         changes: &[Change],
     ) -> Result<Fingerprints, AllocError>
         requires applies { IsTrue (takes_all folder.now (changes_in changes.now)) }
-        requires known { IfSome known (λ prints.
-            AreAlong prints folder.now.files (changes_in changes.now)) }
-        ensures along { IfOk result (λ prints.
-            AreAlong prints folder.now.files (changes_in changes.now)) }
+        requires known { IfSome known (ArePrintsOf folder.now changes.now) }
+        ensures along { IfOk result (ArePrintsOf folder.now changes.now) }
         ensures used { IfSome known (λ prints. result ≡ Ok prints) }
     {
         match known {
@@ -134,23 +127,20 @@ impl Fingerprints {
     }
 }
 
-// Applies the changes in order, so that they become the way back, and answers the fingerprint after each. Where memory
-// runs out for these, the changes are applied all the same.
+// Applies the changes in order, so that they become the way back, and answers the fingerprints along them. Where
+// memory runs out for these, the changes are applied all the same.
 pub(crate) fn pass_through(
     alloc: Global,
     folder: &mut Folder,
     changes: &mut [Change],
-) -> Result<Vec<[u8; 16]>, AllocError>
+) -> Result<Fingerprints, AllocError>
     requires { IsTrue (takes_all folder.old (changes_in changes.old)) }
-    ensures folder { folder.new ≡ state_after_all folder.old (changes_in changes.old) }
-    ensures way_back { changes_in changes.new
-        ≡ way_back folder.old.files (changes_in changes.old) }
-    ensures fingerprints { IfOk result (λ list. list.items
-        ≡ map fingerprint (folders_after folder.old.files (changes_in changes.old))) }
+    ensures made { AreMade folder.old folder.new changes.old changes.new }
+    ensures along { IfOk result (ArePrintsOf folder.old changes.old) }
 {
     let fingerprints = Fingerprints::of(alloc, None, folder, changes);
     folder.apply_all(changes);
-    Ok(fingerprints?.after_each)
+    fingerprints
 }
 
 // The entries, lent: no bytes are copied. They are lent for as long as the reference to them, since the parts of a
@@ -201,8 +191,7 @@ pub(crate) fn spell_settled(
     fingerprint: [u8; 16],
 ) -> Result<Vec<u8>, AllocError>
     requires { cursor ≤ length entries.now }
-    ensures { IfOk result (λ text.
-        Spells text.items (settled_with fingerprint (entries.now, cursor))) }
+    ensures { IfOk result (SpellsSettled fingerprint (entries.now, cursor)) }
 {
     let entries = lent(alloc, &entries)?;
     encode(alloc, &settled(&entries, cursor, fingerprint))
@@ -234,10 +223,8 @@ fn both(
 ) -> Result<Journals, AllocError>
     requires cursor { cursor ≤ length entries.now }
     requires each { length fingerprints.now.after_each.items ≡ length back.now }
-    ensures halfway { IfOk result (λ journals. CompletesHalfway front.items journals.halfway
-        fingerprints.now.after_each.items (changes_in back.now)) }
-    ensures after { IfOk result (λ journals. Spells journals.after.items (settled_with
-        fingerprints.now.after_all (lent_entries_of entries.now, cursor))) }
+    ensures { let back = changes_in back.now in let entries = lent_entries_of entries.now in
+        IfOk result (CompletesBoth front fingerprints.now back (entries, cursor)) }
 {
     let after = settled(entries, cursor, fingerprints.after_all);
     if back.is_empty() {
@@ -285,10 +272,8 @@ fn spell_made(
 ) -> Result<Journals, AllocError>
     requires cursor { cursor ≤ length entries.now }
     requires each { length fingerprints.now.after_each.items ≡ length back.now }
-    ensures halfway { IfOk result (λ journals. CompletesHalfway front.items journals.halfway
-        fingerprints.now.after_each.items (changes_in back.now)) }
-    ensures after { IfOk result (λ journals. Spells journals.after.items (settled_with
-        fingerprints.now.after_all (entries_with Add cursor entries.now (changes_in back.now)))) }
+    ensures { let later = entries_with Add cursor entries.now (changes_in back.now) in
+        IfOk result (CompletesBoth front fingerprints.now (changes_in back.now) later) }
 {
     let list = with_command(alloc, &entries, cursor, back)?;
     both(alloc, front, fingerprints, back, &list, cursor + 1)
@@ -305,10 +290,8 @@ fn spell_turned(
     requires cursor { cursor ≤ length entries.now }
     requires place { at < length entries.now }
     requires each { length fingerprints.now.after_each.items ≡ length (get_or entries.now at []) }
-    ensures halfway { IfOk result (λ journals. CompletesHalfway front.items journals.halfway
-        fingerprints.now.after_each.items (get_or entries.now at [])) }
-    ensures after { IfOk result (λ journals. Spells journals.after.items (settled_with
-        fingerprints.now.after_all (entries.now, cursor))) }
+    ensures { let back = get_or entries.now at [] in
+        IfOk result (CompletesBoth front fingerprints.now back (entries.now, cursor)) }
 {
     let list = lent(alloc, &entries)?;
     both(alloc, front, fingerprints, list[at], &list, cursor)
@@ -324,18 +307,11 @@ fn spell_along(
     folder: &mut Folder,
     changes: &mut [Change],
 ) -> Result<Journals, AllocError>
-    requires along { AreAlong fingerprints.now folder.old.files (changes_in changes.old) }
+    requires along { ArePrintsOf folder.old changes.old fingerprints.now }
     requires applies { IsTrue (takes_all folder.old (changes_in changes.old)) }
     requires cursor { cursor ≤ length entries.now }
-    ensures folder { folder.new ≡ folder.old }
-    ensures changes { changes_in changes.new ≡ changes_in changes.old }
-    ensures halfway { let given = changes_in changes.old in IfOk result (λ journals.
-        SpellsWhere journals.halfway (halfway_with (fingerprint folder.old.files) cursor entries.now
-        (map fingerprint (folders_after folder.old.files given))
-        (way_back folder.old.files given))) }
-    ensures after { let given = changes_in changes.old in IfOk result (λ journals.
-        Spells journals.after.items (settled_with (fingerprint (effects folder.old.files given))
-        (entries_with Add cursor entries.now (way_back folder.old.files given)))) }
+    ensures same { AreUntouched folder.old folder.new changes.old changes.new }
+    ensures spelled { IfOk result (SpellsCommand folder.old cursor entries.now changes.old) }
 {
     let front = front(alloc, entries, cursor, fingerprints.before)?;
     folder.apply_all(changes);
@@ -354,21 +330,12 @@ pub(crate) fn spell_command(
     folder: &mut Folder,
     changes: &mut [Change],
 ) -> Result<Journals, AllocError>
-    requires known { IfSome known (λ prints.
-        AreAlong prints.now folder.old.files (changes_in changes.old)) }
-    requires landmarks { IfSome landmarks
-        (λ marks. AreLandmarksOf folder.old.files marks.now) }
+    requires known { IfSome known (λ prints. ArePrintsOf folder.old changes.old prints.now) }
+    requires landmarks { IfSome landmarks (λ from. AreLandmarksOf folder.old.files from.now) }
     requires applies { IsTrue (takes_all folder.old (changes_in changes.old)) }
     requires cursor { cursor ≤ length entries.now }
-    ensures folder { folder.new ≡ folder.old }
-    ensures changes { changes_in changes.new ≡ changes_in changes.old }
-    ensures halfway { let given = changes_in changes.old in IfOk result (λ journals.
-        SpellsWhere journals.halfway (halfway_with (fingerprint folder.old.files) cursor entries.now
-        (map fingerprint (folders_after folder.old.files given))
-        (way_back folder.old.files given))) }
-    ensures after { let given = changes_in changes.old in IfOk result (λ journals.
-        Spells journals.after.items (settled_with (fingerprint (effects folder.old.files given))
-        (entries_with Add cursor entries.now (way_back folder.old.files given)))) }
+    ensures same { AreUntouched folder.old folder.new changes.old changes.new }
+    ensures spelled { IfOk result (SpellsCommand folder.old cursor entries.now changes.old) }
 {
     if let Some(fingerprints) = known {
         return spell_along(alloc, fingerprints, entries, cursor, folder, changes);
@@ -390,21 +357,13 @@ pub(crate) fn spell_entry(
     folder: &mut Folder,
 ) -> Result<Journals, AllocError>
     requires applies { IsTrue (takes_all folder.old (get_or entries.old at [])) }
-    requires known { IfSome known (λ prints.
-        AreAlong prints folder.old.files (get_or entries.old at [])) }
+    requires known { IfSome known (AreAlong folder.old.files (get_or entries.old at [])) }
     requires place { at < length entries.old }
     requires cursor { cursor ≤ length entries.old }
     requires next { next ≤ length entries.old }
     ensures folder { folder.new ≡ folder.old }
     ensures entries { entries.new ≡ entries.old }
-    ensures halfway { let changes = get_or entries.old at [] in IfOk result (λ journals.
-        SpellsWhere journals.halfway (halfway_with (fingerprint folder.old.files) cursor entries.old
-        (map fingerprint (folders_after folder.old.files changes))
-        (way_back folder.old.files changes))) }
-    ensures after { let changes = get_or entries.old at [] in IfOk result (λ journals.
-        Spells journals.after.items (settled_with
-        (fingerprint (effects folder.old.files changes))
-        (set entries.old at (way_back folder.old.files changes), next))) }
+    ensures spelled { IfOk result (SpellsEntry folder.old cursor entries.old at next) }
 {
     let fingerprints = Fingerprints::known_or_of(alloc, known, folder, entries[at].as_slice())?;
     let front = front(alloc, entries, cursor, fingerprints.before)?;

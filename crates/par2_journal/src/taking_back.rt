@@ -1,17 +1,13 @@
 //! A command that a stop left halfway is taken back.
-ghost use Rattle.std.specs.Prelude.{◌≡◌, ◌≤◌, ◌<◌, ◌⊎◌, ◌&&◌, ◌∷◌, reverse, take, Some, IfSome, IfOk, IfErr, OnOk, OnErr, IsTrue, IsFalse, length, position, Ok, Err, None, true};
+ghost use Rattle.std.specs.Prelude.{◌≡◌, ◌≤◌, ◌<◌, ◌&&◌, ◌∷◌, IfSome, IfOk, IfErr, OnOk, OnErr, IsTrue, length, position, Ok, None, true};
 ghost use Rattle.std.specs.Str.{bytes_eq};
-ghost use Rattle.par2_spec.specs.Changes.{effects, places_taken, takes_all, state_after_all, way_back};
-ghost use Rattle.par2_spec.specs.Folders.{fingerprint};
-ghost use Rattle.par2_spec.specs.Sessions.{session_of_kept};
+ghost use Rattle.par2_spec.specs.Changes.{places_taken};
 ghost use Rattle.par2_spec.specs.Journals.{Spells};
-ghost use Rattle.par2_spec.specs.Opening as defined;
-ghost use Rattle.par2_spec.specs.Opening.{is_valid, leads_through, settled_journal};
-ghost use Rattle.par2_spec.specs.declared.JournalFault.TheVariants.{JournalInvalid, Memory};
-ghost use Rattle.par2_spec.specs.declared.Version.TheVariants.{Two};
+ghost use Rattle.par2_spec.specs.Opening.{is_valid};
 ghost use Rattle.par2_journal_bytes.specs.Views.{changes_in, entries_of};
-ghost use Rattle.par2_journal.specs.Opening.{session_at, session_before, way_left, halfway_as};
-ghost use Rattle.par2_journal.specs.Walks.{WentForth};
+ghost use Rattle.par2_journal.specs.Opening.{Answers, AnswersTest, FailsTest, LeadBack, go_through, halfway_as, halfway_by, place_among, session_after_way, session_before, way_left};
+ghost use Rattle.par2_journal.specs.Ready.{kept_journal};
+ghost use Rattle.par2_journal.specs.Walks.{AreMade, WentForth};
 
 use crate::Session;
 use crate::opening::{can_apply, session_from};
@@ -44,8 +40,7 @@ impl Halfway {
 
     /// The journal that is to stand then.
     pub fn settled(&self) -> Result<Vec<u8>, AllocError>
-        ensures { IfOk result (λ bytes.
-            Spells bytes.items (settled_journal Two (session_of_kept (session_before self.now)))) }
+        ensures { IfOk result (λ x. Spells x.items (kept_journal (session_before self.now))) }
     {
         self.session.encode()
     }
@@ -76,13 +71,8 @@ fn goes_back(
 ) -> Result<bool, AllocError>
     requires room { places_taken (changes_in back.old) ≤ folder.old.vacant }
     requires each { length wanted.now ≡ length back.old }
-    ensures leads { IfOk result (λ leads. leads
-        ≡ leads_through folder.old.files (changes_in back.old) wanted.now) }
-    ensures taken { result ≡ Ok true → IsTrue (takes_all folder.old (changes_in back.old)) }
-    ensures folder { result ≡ Ok true
-        → folder.new ≡ state_after_all folder.old (changes_in back.old) }
-    ensures way_back { result ≡ Ok true
-        → changes_in back.new ≡ way_back folder.old.files (changes_in back.old) }
+    ensures leads { IfOk result (λ x. x ≡ go_through folder.old.files back.old wanted.now) }
+    ensures made { result ≡ Ok true → AreMade folder.old folder.new back.old back.new }
     ensures unchanged { (result ≡ Ok true → ⊥) → folder.new ≡ folder.old }
 {
     if !can_apply(folder, back) {
@@ -90,7 +80,7 @@ fn goes_back(
     }
     match pass_through(alloc, folder, back) {
         Ok(prints) => {
-            if prints.as_slice() == wanted {
+            if prints.after_each.as_slice() == wanted {
                 return Ok(true);
             }
             folder.apply_all(back);
@@ -111,12 +101,9 @@ fn go_back(
     wanted: &[[u8; 16]],
 ) -> Result<(), JournalFault>
     requires { length wanted.now ≡ length way.old }
-    ensures leads { OnOk result
-        (IsTrue (leads_through folder.old.files (changes_in way.old) wanted.now)) }
-    ensures went { OnOk result
-        (WentForth folder.old.files folder.new (changes_in way.old) (changes_in way.new)) }
-    ensures refused { IfErr result (λ fault. (fault ≡ Memory) ⊎ ((fault ≡ JournalInvalid)
-        × IsFalse (leads_through folder.old.files (changes_in way.old) wanted.now))) }
+    ensures leads { OnOk result (IsTrue (go_through folder.old.files way.old wanted.now)) }
+    ensures went { OnOk result (WentForth folder.old.files folder.new way.old way.new) }
+    ensures refused { IfErr result (FailsTest (go_through folder.old.files way.old wanted.now)) }
     ensures files { OnErr result (folder.new.files ≡ folder.old.files) }
 {
     folder.reserve(way.len())?;
@@ -137,16 +124,9 @@ fn take_back(
 ) -> Result<Session, (JournalFault, Folder)>
     requires cursor { cursor ≤ length entries.items }
     requires each { length wanted.now ≡ length way.old }
-    ensures leads { IfOk result
-        (λ _. IsTrue (leads_through folder.files (changes_in way.old) wanted.now)) }
-    ensures valid { IfOk result (λ _. IsTrue (is_valid (session_at
-        (effects folder.files (changes_in way.old)) cursor (entries_of entries.items)))) }
-    ensures session { IfOk result (λ session. session_of_kept session ≡ session_at
-        (effects folder.files (changes_in way.old)) cursor (entries_of entries.items)) }
-    ensures refused { IfErr result (λ e. (e.0 ≡ Memory) ⊎ ((e.0 ≡ JournalInvalid) × IsFalse
-        (leads_through folder.files (changes_in way.old) wanted.now && is_valid (session_at
-        (effects folder.files (changes_in way.old)) cursor (entries_of entries.items))))) }
-    ensures files { IfErr result (λ e. e.1.files ≡ folder.files) }
+    ensures { let passed = go_through folder.files way.old wanted.now in
+        let before = session_after_way folder.files way.old cursor entries.items in
+        AnswersTest folder (passed && is_valid before) before result }
 {
     match go_back(alloc, &mut folder, way, wanted) {
         Ok(()) => {}
@@ -182,14 +162,8 @@ fn fingerprints_back(
     first: [u8; 16],
     others: &[[u8; 16]],
 ) -> Result<Option<Vec<[u8; 16]>>, AllocError>
-    ensures none { result ≡ Ok None
-        → position (bytes_eq (fingerprint folder.now.files)) (first ∷ others.now) ≡ None }
-    ensures place { IfOk result (λ found. IfSome found (λ list. position (bytes_eq
-        (fingerprint folder.now.files)) (first ∷ others.now) ≡ Some (length list.items))) }
-    ensures list { IfOk result (λ found. IfSome found (λ list. list.items
-        ≡ reverse (take (length list.items) (first ∷ others.now)))) }
-    ensures within { IfOk result
-        (λ found. IfSome found (λ list. length list.items ≤ length others.now)) }
+    ensures none { result ≡ Ok None → place_among folder.now.files first others.now ≡ None }
+    ensures back { IfOk result (λ x. IfSome x (LeadBack folder.now.files first others.now)) }
 {
     let print = folder.fingerprint()?;
     let mut known = with_first(alloc, first, others)?;
@@ -213,12 +187,9 @@ pub(crate) fn open_halfway(
 ) -> Result<Halfway, (JournalFault, Folder)>
     requires cursor { cursor ≤ length entries.items }
     requires each { length others.now ≡ length back.items }
-    ensures opened { IfOk result (λ halfway. halfway_as folder.files first cursor
-        (entries_of entries.items) others.now (changes_in back.items)
-        ≡ Ok (defined.Halfway (session_of_kept (session_before halfway)) (way_left halfway))) }
-    ensures refused { IfErr result (λ e. (e.0 ≡ Memory) ⊎ (halfway_as folder.files first cursor
-        (entries_of entries.items) others.now (changes_in back.items) ≡ Err e.0)) }
-    ensures files { IfErr result (λ e. e.1.files ≡ folder.files) }
+    ensures { let entries = entries_of entries.items in let back = changes_in back.items in
+        let answer = halfway_as folder.files first cursor entries others.now back in
+        Answers halfway_by folder.files answer result }
 {
     let wanted = match fingerprints_back(alloc, &folder, first, others) {
         Ok(Some(wanted)) => wanted,

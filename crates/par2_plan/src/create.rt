@@ -7,7 +7,8 @@ ghost use Rattle.par2_spec.specs.Volumes.{record_of, in_id_order};
 ghost use Rattle.par2_spec.specs.Plans as plans;
 ghost use Rattle.par2_spec.specs.Views.{create_args_of};
 ghost use Rattle.par2_packets.specs.Views.{file_record_of};
-ghost use Rattle.par2_recovery.specs.Views.{names_of};
+ghost use Rattle.par2_recovery.specs.Views.{AreRecords, names_of};
+ghost use Rattle.par2_folder.specs.Landmarks.{AreLandmarksOf};
 ghost use Rattle.par2_plan.specs.Faults.{inputs_fault};
 ghost use Rattle.par2_plan.specs.Outputs.{volumes_of};
 
@@ -17,35 +18,73 @@ use crate::inputs::{files_fault, no_duplicate, set_of};
 use crate::names::{Volume, there_already, volumes};
 use crate::outputs::{Parts, changes_of};
 use crate::words::{bad_name, index_name, input_names};
-use par2_folder::{Folder, Name};
-use par2_packets::main_id;
-use par2_recovery::{SetRecord, file_records};
+use par2_folder::{Folder, Landmarks, Name, mark_folder};
+use par2_packets::{FileRecord, main_id};
+use par2_recovery::{SetRecord, file_records, file_texts};
 use par2_spec::{CreateArgs, Fault};
 use std::alloc::{AllocError, Global};
 
-// What a set says of the inputs, where nothing is wrong with them.
+/// What a create does.
+#[derive(Debug, Drop)]
+pub struct Creation {
+    pub changes: Changes,
+    /// A landmark of the folder, for the fingerprints along these changes: it was computed side by side with the MD5s of
+    /// the inputs.
+    pub landmarks: Landmarks,
+}
+
+// What a set says of files. Their MD5s are computed side by side with a landmark of the folder at a name.
+fn records_beside(
+    alloc: Global,
+    folder: &Folder,
+    names: &[Name],
+    size: u64,
+    from: &Landmarks,
+    name: &Name,
+) -> Result<(Vec<FileRecord>, Landmarks), AllocError>
+    requires size { 1 ≤ size }
+    requires landmarks { AreLandmarksOf folder.now.files from.now }
+    ensures records { let files = files_of folder.now.files names.now in
+        IfOk result (λ found. AreRecords size files found.0.items) }
+    ensures landmarks { IfOk result (λ found. AreLandmarksOf folder.now.files found.1) }
+{
+    let texts = file_texts(alloc, folder, names)?;
+    let marked = mark_folder(alloc, folder, from, name, &texts)?;
+    let records = file_records(alloc, folder, names, &marked.beside, size)?;
+    Ok((records, marked.landmarks))
+}
+
+// What a set says of the inputs, where nothing is wrong with them, and a landmark of the folder at a name.
 #[tactic(auto, unfolding(crate::specs::Faults::inputs_fault))]
-fn set_of_inputs(alloc: Global, folder: &Folder, args: &CreateArgs) -> Result<SetRecord, Fault>
-    requires { 1 ≤ args.now.slice }
+fn set_of_inputs(
+    alloc: Global,
+    folder: &Folder,
+    args: &CreateArgs,
+    from: &Landmarks,
+    name: &Name,
+) -> Result<(SetRecord, Landmarks), Fault>
+    requires slice { 1 ≤ args.now.slice }
+    requires landmarks { AreLandmarksOf folder.now.files from.now }
     ensures refused { IfErr result (λ fault. (fault ≡ Fault.Memory) ⊎ (inputs_fault
         folder.now.files args.now.slice (map string_bytes args.now.inputs.items)
         ≡ Some fault)) }
     ensures accepted { IfOk result (λ _. inputs_fault folder.now.files args.now.slice
         (map string_bytes args.now.inputs.items) ≡ None) }
-    ensures slice { IfOk result (λ set. set.slice ≡ args.now.slice) }
-    ensures files { IfOk result (λ set. map file_record_of set.files.items
+    ensures slice { IfOk result (λ found. found.0.slice ≡ args.now.slice) }
+    ensures files { IfOk result (λ found. map file_record_of found.0.files.items
         ≡ map (record_of args.now.slice)
         (in_id_order (files_of folder.now.files (map string_bytes args.now.inputs.items)))) }
-    ensures order { IfOk result (λ set. files_of folder.now.files (names_of set)
+    ensures order { IfOk result (λ found. files_of folder.now.files (names_of found.0)
         ≡ in_id_order (files_of folder.now.files (map string_bytes args.now.inputs.items))) }
+    ensures landmarks { IfOk result (λ found. AreLandmarksOf folder.now.files found.1) }
 {
     let names = input_names(alloc, &args.inputs)?;
     no_duplicate(alloc, &names)?;
     if let Some(fault) = files_fault(folder, &names, args.slice) {
         return Err(fault);
     }
-    let records = file_records(alloc, folder, &names, args.slice)?;
-    set_of(records, args.slice)
+    let (records, landmarks) = records_beside(alloc, folder, &names, args.slice, from, name)?;
+    Ok((set_of(records, args.slice)?, landmarks))
 }
 
 // The changes that write the outputs of a create with which nothing is wrong.
@@ -80,8 +119,15 @@ fn outputs_written(
     changes_of(alloc, base, parts, volumes)
 }
 
-/// The changes of a create: its outputs are written in order. Memory is answered only where a growth is refused.
-pub fn plan_create(alloc: Global, folder: &Folder, args: &CreateArgs) -> Result<Changes, Fault>
+/// What a create does: its outputs are written in order. Memory is answered only where a growth is refused. Landmarks of
+/// the folder spare it the files before them.
+pub fn plan_create(
+    alloc: Global,
+    folder: &Folder,
+    args: &CreateArgs,
+    from: &Landmarks,
+) -> Result<Creation, Fault>
+    requires { AreLandmarksOf folder.now.files from.now }
     ensures refused { IfErr result (λ fault. (fault ≡ Fault.Memory)
         ⊎ (refusal folder.now.files (Create (create_args_of args.now)) ≡ Some fault)) }
     ensures accepted { IfOk result
@@ -89,20 +135,24 @@ pub fn plan_create(alloc: Global, folder: &Folder, args: &CreateArgs) -> Result<
     ensures early { (fault : Fault)
         → early_refusal folder.now.files (Create (create_args_of args.now)) ≡ Some fault
         → IsErrOf result fault }
-    ensures changes { IfOk result (λ changes. changes
+    ensures changes { IfOk result (λ creation. creation.changes
         ≡ plans.changes_of folder.now.files (Create (create_args_of args.now))) }
-    ensures applies { IfOk result (λ changes. IsTrue (are_applicable folder.now.files changes)) }
-    ensures leads { IfOk result (λ changes. effects folder.now.files changes
+    ensures applies { IfOk result
+        (λ creation. IsTrue (are_applicable folder.now.files creation.changes)) }
+    ensures leads { IfOk result (λ creation. effects folder.now.files creation.changes
         ≡ after folder.now.files (Create (create_args_of args.now))) }
+    ensures landmarks { IfOk result
+        (λ creation. AreLandmarksOf folder.now.files creation.landmarks) }
 {
     let base = index_name(args)?;
     if let Some(fault) = bad_name(&args.inputs) {
         return Err(fault);
     }
-    let set = set_of_inputs(alloc, folder, args)?;
+    let (set, landmarks) = set_of_inputs(alloc, folder, args, from, &base)?;
     let volumes = volumes(alloc, &base, args.first, args.count)?;
     if let Some(fault) = there_already(folder, args.overwrite, &base, &volumes) {
         return Err(fault);
     }
-    Ok(outputs_written(alloc, folder, args, base, &set, &volumes)?)
+    let changes = outputs_written(alloc, folder, args, base, &set, &volumes)?;
+    Ok(Creation { changes, landmarks })
 }

@@ -20,7 +20,7 @@ mod verify;
 mod volumes;
 mod words;
 
-pub use create::plan_create;
+pub use create::{Creation, plan_create};
 pub use draft::Draft;
 pub use par2_folder::Changes;
 pub use par2_spec::{CreateArgs, Fault, Verdict};

@@ -19,4 +19,4 @@ pub use exponents::{rank, rank_by_runs};
 pub use file_record::file_record_by_md5;
 pub use rebuild_slices::{RebuildFault, Survivors, rebuild, rebuild_lost};
 pub use recovery::{input_slices, recovery_slice, recovery_slices_over, write_recovery_slices};
-pub use set_record::{RecordFault, SetRecord, file_records};
+pub use set_record::{RecordFault, SetRecord, file_records, file_texts};

@@ -38,8 +38,12 @@ fn text_at(names: &[Name], i: usize) -> &str
     names[i].as_str()
 }
 
-// The bytes of the files of these names.
-fn texts<'a>(alloc: Global, folder: &'a Folder, names: &[Name]) -> Result<Vec<&'a [u8]>, AllocError>
+/// The bytes of the files of these names, none for an absent one.
+pub fn file_texts<'a>(
+    alloc: Global,
+    folder: &'a Folder,
+    names: &[Name],
+) -> Result<Vec<&'a [u8]>, AllocError>
     ensures { IfOk result (λ texts.
         texts_of texts.items ≡ map (spec.bytes_of folder.now.files) names.now) }
 {
@@ -50,19 +54,30 @@ fn texts<'a>(alloc: Global, folder: &'a Folder, names: &[Name]) -> Result<Vec<&'
     Ok(texts)
 }
 
-// The MD5s of the files of these names.
-fn md5s(alloc: Global, folder: &Folder, names: &[Name]) -> Result<Vec<[u8; 16]>, AllocError>
-    ensures value { IfOk result (λ md5s.
-        md5s.items ≡ map md5 (map (spec.bytes_of folder.now.files) names.now)) }
-    ensures count { IfOk result (λ md5s. length md5s.items ≡ length names.now) }
+/// What a set of slice size `s` says of the files of these names, in their order; the MD5 digests of the files are known.
+pub fn file_records(
+    alloc: Global,
+    folder: &Folder,
+    names: &[Name],
+    md5s: &[[u8; 16]],
+    s: u64,
+) -> Result<Vec<FileRecord>, AllocError>
+    requires size { 1 ≤ s }
+    requires md5s { md5s.now ≡ map md5 (map (spec.bytes_of folder.now.files) names.now) }
+    ensures { IfOk result (λ records.
+        AreRecords s (files_of folder.now.files names.now) records.items) }
 {
-    let texts = texts(alloc, folder, names)?;
-    let md5s = text_digests(alloc, &texts)?;
-    Ok(md5s)
+    let mut records = Vec::with_capacity(alloc, names.len())?;
+    for i in 0..names.len() {
+        let name = text_at(names, i);
+        let bytes = bytes_of(folder, name);
+        records.push(file_record_by_md5(alloc, name, bytes, md5s[i], s)?)?;
+    }
+    Ok(records)
 }
 
-/// What a set of slice size `s` says of the files of these names, in their order.
-pub fn file_records(
+// The same, where the MD5 digests aren't known.
+fn records_of(
     alloc: Global,
     folder: &Folder,
     names: &[Name],
@@ -72,14 +87,9 @@ pub fn file_records(
     ensures { IfOk result (λ records.
         AreRecords s (files_of folder.now.files names.now) records.items) }
 {
-    let md5s = md5s(alloc, folder, names)?;
-    let mut records = Vec::with_capacity(alloc, names.len())?;
-    for i in 0..names.len() {
-        let name = text_at(names, i);
-        let bytes = bytes_of(folder, name);
-        records.push(file_record_by_md5(alloc, name, bytes, md5s[i], s)?)?;
-    }
-    Ok(records)
+    let texts = file_texts(alloc, folder, names)?;
+    let md5s = text_digests(alloc, &texts)?;
+    file_records(alloc, folder, names, &md5s, s)
 }
 
 /// Why there is no record of a set.
@@ -126,7 +136,7 @@ impl SetRecord {
         ensures duplicate { result ≡ Err RecordFault.DuplicateId
             → ¬ IsDistinct bytes_eq (map id_of (files_of folder.now.files names.now)) }
     {
-        let records = file_records(alloc, folder, names, s)?;
+        let records = records_of(alloc, folder, names, s)?;
         match SetRecord::of_records(records, s) {
             Ok(set) => Ok(set),
             Err(DuplicateId) => Err(RecordFault::DuplicateId),

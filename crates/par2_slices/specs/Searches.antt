@@ -9,6 +9,7 @@ use Rattle.par2_spec.specs.Windows.{first_match, is_match, window}
 use Rattle.par2_slices.specs.Filters.{AreAlike, Groups, Marks}
 use Rattle.par2_slices.specs.declared.batch.Candidate.{Candidate}
 use Rattle.par2_slices.specs.declared.batch.Spot.{Spot}
+use Rattle.par2_slices.specs.declared.search.Search.{Search}
 use Rattle.par2_slices.specs.declared.wanted_pairs.Place.{Place}
 
 -- what a look beyond a list gives
@@ -40,10 +41,22 @@ pub record IsPlace (pairs : List Pair) (place : Place) : Type 0 where
   pub within : place.index < length pairs
   pub crc : (pair_at pairs place.index).1 ≡ place.crc
 
+-- places of pairs, with their checksums
+abbrev pub ArePlaces : List Pair → List Place → Type 0
+ArePlaces pairs places = (k : ℕ) → k < length places → IsPlace pairs (place_at places k)
+
+-- each is the place of an answer
+abbrev pub AreAmong : List (Option Spot) → List Place → Type 0
+AreAmong found places = (k : ℕ) → k < length places → (place_at places k).index < length found
+
+-- no pair has an answer
+abbrev pub AreOpen : List (Option Spot) → Type 0
+AreOpen found = (i : ℕ) → answer_at found i ≡ None
+
 -- the places of all pairs, by rising checksums
 pub record IsIndex (pairs : List Pair) (places : List Place) : Type 0 where
   pub rising : IsNonDecreasingBy (λ place. place.crc) places
-  pub each : (k : ℕ) → k < length places → IsPlace pairs (place_at places k)
+  pub each : ArePlaces pairs places
   pub whole : (i : ℕ) → i < length pairs → (k : ℕ) × (k < length places) × ((place_at places k).index ≡ i)
 
 -- the places of a group, or of the groups above it, begin here; a group is those whose checksums have the same bits from
@@ -61,7 +74,7 @@ pub record AreStarts (places : List Place) (starts : List ℕ) : Type 0 where
 -- these places are those of the pairs whose checksums are of the group
 pub record HoldsGroup (pairs : List Pair) (crc : ℕ) (group : List Place) : Type 0 where
   pub only : (k : ℕ) → k < length group → (place_at group k).crc / 2 ^ 17 ≡ crc / 2 ^ 17
-  pub each : (k : ℕ) → k < length group → IsPlace pairs (place_at group k)
+  pub each : ArePlaces pairs group
   pub whole : (i : ℕ) → i < length pairs → (pair_at pairs i).1 / 2 ^ 17 ≡ crc / 2 ^ 17 → (k : ℕ) × (k < length group) × ((place_at group k).index ≡ i)
 
 -- whether the pair of a place has this checksum and no answer
@@ -103,6 +116,13 @@ pub record IsWindow (s : ℕ) (text : List ℕ) (candidate : Candidate) : Type 0
   pub within : candidate.spot.offset + s ≤ length text
   pub crc : candidate.crc ≡ crc32 (window s text candidate.spot.offset)
 
+abbrev pub AreWindows : ℕ → List ℕ → List Candidate → Type 0
+AreWindows s text candidates = (k : ℕ) → k < length candidates → IsWindow s text (candidate_at candidates k)
+
+-- the checksums of so many windows, from this offset on
+abbrev pub AreChecksums : ℕ → List ℕ → ℕ → ℕ → List ℕ → Type 0
+AreChecksums s text offset count crcs = (k : ℕ) → k < count → slice_index crcs k ≡ crc32 (window s text (offset + k))
+
 -- an answer once the windows of the candidates have been compared with the pair, one after the other
 unfoldable pub after_candidates : ℕ → List ℕ → Pair → List Candidate → Option Spot → Option Spot
 after_candidates s text pair candidates answer = fold (λ so_far candidate. after_window (is_match pair (window s text candidate.spot.offset)) candidate.spot so_far) answer candidates
@@ -122,7 +142,10 @@ pub record IsTally (pairs : List Pair) (found : List (Option Spot)) (left : ℕ)
 pub record IsAt (s : ℕ) (text : List ℕ) (earlier : Earlier) (offset : ℕ) (pairs : List Pair) (found : List (Option Spot)) (left : ℕ) (filter : Groups) (batch : List Candidate) : Type 0 where
   pub tally : IsTally pairs found left filter
   pub answers : (i : ℕ) → i < length pairs → after_candidates s text (pair_at pairs i) batch (answer_at found i) ≡ answer_below s text earlier offset pairs i
-  pub candidates : (k : ℕ) → k < length batch → IsWindow s text (candidate_at batch k)
+  pub candidates : AreWindows s text batch
+
+abbrev pub IsSearching : ℕ → List ℕ → Earlier → ℕ → List Pair → Search → Type 0
+IsSearching s text earlier offset pairs search = IsAt s text earlier offset pairs search.found.items search.left search.filter search.batch.items
 
 -- where a slice of these checksums first stands, in texts of which the first has this number: the first text with a window
 -- that matches, and the least offset there

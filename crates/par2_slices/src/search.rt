@@ -5,7 +5,7 @@ ghost use Rattle.std.specs.List.{count_by};
 ghost use Rattle.std.specs.Option.{is_none};
 ghost use Rattle.par2_spec.specs.Checksums.{crc32};
 ghost use Rattle.par2_spec.specs.Windows.{first_match, window};
-ghost use Rattle.par2_slices.specs.Searches.{after_window, candidate_at, has_checksums, is_awaited, answer_at, pair_at, place_at, first_spot, after_candidates, Earlier, IsAt, IsPlace, IsTally, IsWaiting, IsWindow};
+ghost use Rattle.par2_slices.specs.Searches.{after_window, candidate_at, has_checksums, is_awaited, answer_at, pair_at, place_at, first_spot, after_candidates, Earlier, AreAmong, AreChecksums, AreOpen, ArePlaces, AreWindows, IsSearching, IsTally, IsWaiting};
 
 use crate::batch::{Candidate, Spot, digests};
 use crate::cutting::window_bytes;
@@ -19,8 +19,7 @@ use std::alloc::{AllocError, Global};
 
 /// How many pairs of the group have this CRC-32 and no answer yet.
 fn awaited(group: &[Place], crc: u32, found: &[Option<Spot>]) -> usize
-    requires { (k : ℕ)
-        → k < length group.now → (place_at group.now k).index < length found.now }
+    requires { AreAmong found.now group.now }
     ensures { result ≡ count_by (is_awaited crc found.now) group.now }
 {
     let mut count = 0;
@@ -34,8 +33,7 @@ fn awaited(group: &[Place], crc: u32, found: &[Option<Spot>]) -> usize
 
 /// Whether a pair of the group, whose CRC-32 has the same low six bits, has no answer yet.
 fn is_waiting(group: &[Place], crc: u32, found: &[Option<Spot>]) -> bool
-    requires { (k : ℕ)
-        → k < length group.now → (place_at group.now k).index < length found.now }
+    requires { AreAmong found.now group.now }
     ensures { IsTrue result ↔ IsWaiting group.now crc found.now }
 {
     for place in group {
@@ -55,8 +53,7 @@ fn settle(
     spot: Spot,
     found: &mut [Option<Spot>],
 ) -> usize
-    requires places { (k : ℕ)
-        → k < length group.now → IsPlace pairs.now (place_at group.now k) }
+    requires places { ArePlaces pairs.now group.now }
     requires len { length found.old ≡ length pairs.now }
     ensures each { (i : ℕ) → i < length pairs.now
         → (answer_at found.new i ≡ answer_at found.old i) ⊎ (answer_at found.new i
@@ -95,8 +92,7 @@ impl Search {
     fn new(alloc: Global, wanted: &Wanted) -> Result<Search, AllocError>
         ensures tally { IfOk result
             (λ search. IsTally wanted.now search.found.items search.left search.filter) }
-        ensures open { IfOk result (λ search. (i : ℕ)
-            → answer_at search.found.items i ≡ None) }
+        ensures open { IfOk result (λ search. AreOpen search.found.items) }
         ensures batch { IfOk result (λ search. search.batch.items ≡ []) }
     {
         let pairs = wanted.pairs();
@@ -141,8 +137,7 @@ impl Search {
     /// Compares the candidates of the batch, in the order of their offsets, and empties it.
     fn settle_batch(&mut self, wanted: &Wanted, bytes: &[u8], s: u64)
         requires tally { IsTally wanted.now self.old.found.items self.old.left self.old.filter }
-        requires candidates { (k : ℕ) → k < length self.old.batch.items
-            → IsWindow s bytes.now (candidate_at self.old.batch.items k) }
+        requires candidates { AreWindows s bytes.now self.old.batch.items }
         ensures tally { IsTally wanted.now self.new.found.items self.new.left self.new.filter }
         ensures each { (i : ℕ)
             → i < length wanted.now → answer_at self.new.found.items i
@@ -180,11 +175,9 @@ impl Search {
     // Of windows of one CRC-32 the first mostly answers each pair that waits for it: then the others need no MD5.
     fn make_room(&mut self, wanted: &Wanted, bytes: &[u8], s: u64, offset: usize, crc: u32)
         ghost earlier: { Earlier }
-        requires at { IsAt s bytes.now earlier offset
-            wanted.now self.old.found.items self.old.left self.old.filter self.old.batch.items }
+        requires at { IsSearching s bytes.now earlier offset wanted.now self.old }
         requires within { offset < length bytes.now }
-        ensures at { IsAt s bytes.now earlier offset
-            wanted.now self.new.found.items self.new.left self.new.filter self.new.batch.items }
+        ensures at { IsSearching s bytes.now earlier offset wanted.now self.new }
         ensures room { length self.new.batch.items < 8 }
         ensures short { length bytes.now < offset + s → self.new.batch.items ≡ [] }
     {
@@ -198,16 +191,14 @@ impl Search {
     /// is compared at once, since the batch has whole windows only.
     fn put(&mut self, wanted: &Wanted, bytes: &[u8], s: u64, candidate: Candidate, pairs: usize)
         ghost earlier: { Earlier }
-        requires at { IsAt s bytes.now earlier candidate.spot.offset
-            wanted.now self.old.found.items self.old.left self.old.filter self.old.batch.items }
+        requires at { IsSearching s bytes.now earlier candidate.spot.offset wanted.now self.old }
         requires within { candidate.spot.offset < length bytes.now }
         requires text { candidate.spot.text ≡ earlier.text }
         requires crc { candidate.crc ≡ crc32 (window s bytes.now candidate.spot.offset) }
         requires room { length self.old.batch.items < 8 }
         requires short { length bytes.now < candidate.spot.offset + s
             → self.old.batch.items ≡ [] }
-        ensures { IsAt s bytes.now earlier (candidate.spot.offset + 1)
-            wanted.now self.new.found.items self.new.left self.new.filter self.new.batch.items }
+        ensures { IsSearching s bytes.now earlier (candidate.spot.offset + 1) wanted.now self.new }
     {
         let window = window_bytes(bytes, s, candidate.spot.offset);
         if (window.len() as u64) < s {
@@ -228,13 +219,11 @@ impl Search {
     #[inline(never)]
     fn look(&mut self, wanted: &Wanted, bytes: &[u8], s: u64, spot: Spot, crc: u32)
         ghost earlier: { Earlier }
-        requires at { IsAt s bytes.now earlier spot.offset
-            wanted.now self.old.found.items self.old.left self.old.filter self.old.batch.items }
+        requires at { IsSearching s bytes.now earlier spot.offset wanted.now self.old }
         requires text { spot.text ≡ earlier.text }
         requires within { spot.offset < length bytes.now }
         requires crc { crc ≡ crc32 (window s bytes.now spot.offset) }
-        ensures { IsAt s bytes.now earlier (spot.offset + 1)
-            wanted.now self.new.found.items self.new.left self.new.filter self.new.batch.items }
+        ensures { IsSearching s bytes.now earlier (spot.offset + 1) wanted.now self.new }
     {
         self.make_room(wanted, bytes, s, spot.offset, crc);
         let pairs = awaited(wanted.group(crc), crc, &self.found);
@@ -246,13 +235,11 @@ impl Search {
     /// Looks at the window at `offset`, whose CRC-32 is `crc`.
     fn test(&mut self, wanted: &Wanted, bytes: &[u8], s: u64, spot: Spot, crc: u32)
         ghost earlier: { Earlier }
-        requires at { IsAt s bytes.now earlier spot.offset
-            wanted.now self.old.found.items self.old.left self.old.filter self.old.batch.items }
+        requires at { IsSearching s bytes.now earlier spot.offset wanted.now self.old }
         requires text { spot.text ≡ earlier.text }
         requires within { spot.offset < length bytes.now }
         requires crc { crc ≡ crc32 (window s bytes.now spot.offset) }
-        ensures { IsAt s bytes.now earlier (spot.offset + 1)
-            wanted.now self.new.found.items self.new.left self.new.filter self.new.batch.items }
+        ensures { IsSearching s bytes.now earlier (spot.offset + 1) wanted.now self.new }
     {
         if self.filter.contains(crc) {
             self.look(wanted, bytes, s, spot, crc);
@@ -262,14 +249,11 @@ impl Search {
     /// Looks at four windows, the first of them at `offset`.
     fn test_four(&mut self, wanted: &Wanted, bytes: &[u8], s: u64, spot: Spot, crcs: &[u32; 4])
         ghost earlier: { Earlier }
-        requires at { IsAt s bytes.now earlier spot.offset
-            wanted.now self.old.found.items self.old.left self.old.filter self.old.batch.items }
+        requires at { IsSearching s bytes.now earlier spot.offset wanted.now self.old }
         requires text { spot.text ≡ earlier.text }
         requires within { spot.offset + 4 ≤ length bytes.now }
-        requires crcs { (k : ℕ)
-            → k < 4 → slice_index crcs.now k ≡ crc32 (window s bytes.now (spot.offset + k)) }
-        ensures { IsAt s bytes.now earlier (spot.offset + 4)
-            wanted.now self.new.found.items self.new.left self.new.filter self.new.batch.items }
+        requires crcs { AreChecksums s bytes.now spot.offset 4 crcs.now }
+        ensures { IsSearching s bytes.now earlier (spot.offset + 4) wanted.now self.new }
     {
         let Spot { text, offset } = spot;
         for (k, &crc) in crcs.iter().enumerate() {
@@ -293,13 +277,11 @@ impl Search {
         ghost earlier: { Earlier }
         requires text { text ≡ earlier.text }
         requires some { 1 ≤ s }
-        requires at { IsAt s bytes.now earlier
-            0 wanted.now self.old.found.items self.old.left self.old.filter self.old.batch.items }
+        requires at { IsSearching s bytes.now earlier 0 wanted.now self.old }
         requires size { rolling.old.size ≡ s }
         requires value { rolling.old.value ≡ crc32 (window s bytes.now 0) }
         ensures within { result ≤ length bytes.now }
-        ensures at { IsAt s bytes.now earlier result
-            wanted.now self.new.found.items self.new.left self.new.filter self.new.batch.items }
+        ensures at { IsSearching s bytes.now earlier result wanted.now self.new }
         ensures size { rolling.new.size ≡ s }
         ensures value { rolling.new.value ≡ crc32 (window s bytes.now result) }
     {
@@ -330,12 +312,10 @@ impl Search {
         requires text { start.text ≡ earlier.text }
         requires some { 1 ≤ s }
         requires within { start.offset ≤ length bytes.now }
-        requires at { IsAt s bytes.now earlier start.offset
-            wanted.now self.old.found.items self.old.left self.old.filter self.old.batch.items }
+        requires at { IsSearching s bytes.now earlier start.offset wanted.now self.old }
         requires size { rolling.old.size ≡ s }
         requires value { rolling.old.value ≡ crc32 (window s bytes.now start.offset) }
-        ensures at { IsAt s bytes.now earlier (length bytes.now)
-            wanted.now self.new.found.items self.new.left self.new.filter self.new.batch.items }
+        ensures at { IsSearching s bytes.now earlier (length bytes.now) wanted.now self.new }
         ensures size { rolling.new.size ≡ s }
     {
         let incoming = bytes_from(bytes, s);
@@ -364,12 +344,10 @@ impl Search {
         ghost earlier: { Earlier }
         requires text { text ≡ earlier.text }
         requires some { 1 ≤ s }
-        requires at { IsAt s bytes.now earlier
-            0 wanted.now self.old.found.items self.old.left self.old.filter self.old.batch.items }
+        requires at { IsSearching s bytes.now earlier 0 wanted.now self.old }
         requires empty { self.old.batch.items ≡ [] }
         requires size { rolling.old.size ≡ s }
-        ensures at { IsAt s bytes.now earlier (length bytes.now)
-            wanted.now self.new.found.items self.new.left self.new.filter self.new.batch.items }
+        ensures at { IsSearching s bytes.now earlier (length bytes.now) wanted.now self.new }
         ensures empty { self.new.batch.items ≡ [] }
         ensures size { rolling.new.size ≡ s }
     {

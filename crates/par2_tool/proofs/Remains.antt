@@ -1,23 +1,39 @@
 -- What a power cut may leave of changes that are written down between two journals.
-use Rattle.std.proofs.Common.{◌≡◌, ◌⊎◌, inl, inr, ℕ, ◌≤◌, List, length, map, take, sym, ap, ◌∙◌, arith}
+use Rattle.std.proofs.Common.{◌≡◌, ◌⊎◌, inl, inr, ◌+◌, ℕ, ◌<◌, ◌≤◌, List, length, get_or, map, take, sym, ap, ◌∙◌, arith}
 use Rattle.std.proofs.lemmas.List.{length-map, take_all, take-map}
 use Rattle.par2_spec.specs.Changes as defined
-use Rattle.par2_spec.specs.Stores.{Contents, with_journal}
+use Rattle.par2_spec.specs.Stores.{Contents, with_change, with_journal}
 use Rattle.par2_folder.specs.declared.change.Change.{Change}
 use Rattle.par2_folder.specs.Views.{change_of}
 use Rattle.par2_journal.specs.declared.spelling.Journals.{Journals}
 use Rattle.par2_tool.specs.Performing.{with_all_changes, with_halfway, IsStoppedAt}
+use Rattle.par2_tool.specs.Writing.{AreSomeWritten}
+use Rattle.par2_tool.proofs.MadeChanges.{made_next}
 
 -- where all changes were made, as many of them were as there are
 pub all_remain : (start now left : Contents) (changes : List Change) (i : ℕ) → length changes ≤ i → now ≡ with_all_changes start (map change_of (take i changes)) → left ≡ now
-    → (n : ℕ) × (n ≤ length changes) × (left ≡ with_all_changes start (take n (map change_of changes)))
+    → AreSomeWritten start (map change_of changes) left
 all_remain start now left changes i whole made is = (
   length changes,
-  omega arith,
+  omega (arith, length-map changes change_of),
   is
       ∙ made
       ∙ ap (λ cs. with_all_changes start (map change_of cs)) (take_all i changes whole ∙ sym (take_all (length changes) changes (omega arith)))
       ∙ ap (with_all_changes start) (sym (take-map change_of (length changes) changes)),
+)
+
+-- where the first ones were made, and the next one was or wasn't
+pub next_remains : (start now left : Contents) (changes : List Change) (i : ℕ) (item : Change) → i < length changes → item ≡ get_or changes i item → now ≡ with_all_changes start (map change_of (take i changes))
+    → (left ≡ now) ⊎ (left ≡ with_change now (change_of item)) → AreSomeWritten start (map change_of changes) left
+next_remains start now left changes i item within at made (inl none) =
+    (i, omega (arith, within, length-map changes change_of), none ∙ made ∙ ap (with_all_changes start) (sym (take-map change_of i changes)))
+next_remains start now left changes i item within at made (inr one) = (
+  i + 1,
+  omega (arith, within, length-map changes change_of),
+  one
+      ∙ ap (λ (k : Contents). with_change k (change_of item)) made
+      ∙ made_next start changes i item within at
+      ∙ ap (with_all_changes start) (sym (take-map change_of (i + 1) changes)),
 )
 
 module _ (old : Contents) (journals : Journals) where
@@ -27,10 +43,8 @@ module _ (old : Contents) (journals : Journals) where
   begun_remains cs left (inr begun) = inr (inl (0, omega arith, begun))
 
   -- when the changes were made, or some of them
-  pub some_remain : (changes : List Change) (mid left : Contents) → mid ≡ with_halfway old journals.halfway → (n : ℕ) × (n ≤ length changes) × (left ≡ with_all_changes mid (take n (map change_of changes)))
-      → IsStoppedAt old journals (map change_of changes) left
-  some_remain changes mid left begun some =
-      inr (inl (some.0, omega (arith, some.1, length-map changes change_of), some.2 ∙ ap (λ k. with_all_changes k (take some.0 (map change_of changes))) begun))
+  pub some_remain : (cs : List defined.Change) (mid left : Contents) → mid ≡ with_halfway old journals.halfway → AreSomeWritten mid cs left → IsStoppedAt old journals cs left
+  some_remain cs mid left begun some = inr (inl (some.0, some.1, some.2 ∙ ap (λ k. with_all_changes k (take some.0 cs)) begun))
 
   -- when the journal of afterwards was put
   pub ended_remains : (cs : List defined.Change) (mid done left : Contents) → mid ≡ with_halfway old journals.halfway → done ≡ with_all_changes mid cs → (left ≡ done) ⊎ (left ≡ with_journal done journals.after.items)

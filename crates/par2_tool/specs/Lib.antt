@@ -2,6 +2,8 @@ pub mod Performing
 pub mod Holding
 pub mod Opening
 pub mod Calls
+pub mod Writing
+pub mod StoreOpenings
 pub mod Refusals
 pub mod Asking
 pub mod Telling

@@ -10,10 +10,8 @@ use Rattle.par2_spec.specs.Sessions.{Session, session_of_kept}
 use Rattle.par2_spec.specs.Stores.{Contents, with_journal}
 use Rattle.par2_spec.specs.declared.JournalFault.TheVariants as journal
 use Rattle.par2_spec.specs.declared.Version.TheVariants.{Two}
-use Rattle.par2_folder.specs.Cuts.{Lasts}
 use Rattle.par2_folder.specs.declared.store.ReadFault.{ReadFault}
 use Rattle.par2_folder.specs.declared.store.ReadFault.TheVariants as read
-use Rattle.par2_tool.specs.Calls.{CountsOpening}
 use Rattle.par2_tool.specs.Holding.{IsOpening, Holds, OpensAsBefore, TellsApartBack}
 use Rattle.par2_tool.specs.Performing.{with_all_changes, IsVerify}
 use Rattle.par2_tool.specs.declared.opening.OpenFault.{OpenFault}
@@ -80,16 +78,6 @@ pub record LeavesUnopened {T : Type 0} (old new : Contents) (result : Result T O
   pub refused : IfErr result (IsUnopened old new)
   -- where fingerprints tell apart the folders that are passed through
   pub stopped : TellsApartBack old → OnErr result (OpensAsBefore old new)
-
--- what an opening does to an honest store, by what the store holds, what may remain of it, and what is counted of it
-pub record OpensStore {S T : Type 0} (contents : S → Contents) (may_remain : S → Contents → Type 0) (impossible writing_calls : S → ℕ) (old new : S) (result : Result T OpenFault) : Type 0 where
-  pub unopened : LeavesUnopened (contents old) (contents new) result
-  -- what a power cut leaves of it afterwards, and at any moment
-  pub lasts : Lasts (may_remain old) (contents old) → OnOk result (Lasts (may_remain new) (contents new))
-  pub cut : Lasts (may_remain old) (contents old) → TellsApartBack (contents old) → (left : Contents) → may_remain new left → OpensAsBefore (contents old) left
-  -- nothing is asked of it that can't be done, and the calls that an opening takes are made
-  pub possible : impossible new ≡ impossible old
-  pub calls : CountsOpening (contents old) (writing_calls old) (writing_calls new) result
 
 -- how often the store has failed, before an opening and after it
 pub record CountsFailures {T : Type 0} (before after : ℕ) (result : Result T OpenFault) : Type 0 where

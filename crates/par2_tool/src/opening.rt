@@ -1,15 +1,14 @@
 //! A store is opened as a session.
-ghost use Rattle.std.specs.Prelude.{◌≡◌, ◌+◌, IfOk, IsErrOf, IsTrue, OnErr, OnOk, Some, length, option_map};
+ghost use Rattle.std.specs.Prelude.{◌≡◌, ◌+◌, IfOk, IsErrOf, Some, length};
 ghost use Rattle.par2_journal.specs.Opening.{session_before, way_left};
-ghost use Rattle.par2_spec.specs.Changes.{are_applicable};
-ghost use Rattle.par2_spec.specs.Opening.{Started as Opening, new_session};
+ghost use Rattle.par2_spec.specs.Opening.{new_session};
 ghost use Rattle.par2_spec.specs.Sessions.{session_of_kept};
-ghost use Rattle.par2_spec.specs.Stores.{Contents};
 ghost use Rattle.par2_spec.specs.Views.{command_of};
-ghost use Rattle.par2_folder.specs.Cuts.{Lasts, NoMoreRemains};
+ghost use Rattle.par2_folder.specs.Stores.{OnlyReads};
 ghost use Rattle.par2_tool.specs.Calls.{CountsCalls};
 ghost use Rattle.par2_tool.specs.Holding.{with_history};
-ghost use Rattle.par2_tool.specs.Opening.{started_of, CountsFailures, IsOpened, IsRead, IsStillHalfway, IsTakenBack, LeavesUnopened, OpensStore, StandsFor};
+ghost use Rattle.par2_tool.specs.Opening.{started_of, CountsFailures, IsRead};
+ghost use Rattle.par2_tool.specs.StoreOpenings.{AreOnOneFolder, KeepsStore, Opens, ReadsStore, Starts, StartsAlike, StartsFor, TakesWayBack};
 
 use crate::writing::write_down;
 use par2_folder::{Folder, FolderStore, ReadFault, read_folder};
@@ -96,17 +95,8 @@ fn read_store<S: FolderStore>(
     alloc: Global,
     store: &mut S,
 ) -> Result<(Folder, Option<Vec<u8>>), OpenFault>
-    ensures honest { S.honest store.old → S.honest store.new }
-    ensures read { S.honest store.old → IfOk result (λ read. IsRead (S.contents store.old)
-        read.0.files (option_map (λ text. text.items) read.1)) }
-    ensures same { S.honest store.old → S.contents store.new ≡ S.contents store.old }
-    ensures remains { S.honest store.old
-        → NoMoreRemains (S.may_remain store.old) (S.may_remain store.new) }
-    ensures unopened { S.honest store.old
-        → LeavesUnopened (S.contents store.old) (S.contents store.new) result }
-    ensures failures { CountsFailures (S.failures store.old) (S.failures store.new) result }
-    ensures possible { S.honest store.old → S.impossible store.new ≡ S.impossible store.old }
-    ensures unwritten { S.writing_calls store.new ≡ S.writing_calls store.old }
+    ensures read { ReadsStore S.Store store.old store.new result }
+    ensures reads { OnlyReads S.Store store.old store.new }
 {
     let folder = read_folder(alloc, store)?;
     let journal = store.read_journal(alloc)?;
@@ -119,27 +109,13 @@ fn take_back<S: FolderStore>(
     store: &mut S,
     halfway: Halfway,
 ) -> Result<Session, OpenFault>
-    ensures honest { S.honest store.old → S.honest store.new }
     ensures session { IfOk result (λ session. session ≡ session_before halfway) }
-    ensures done { S.honest store.old → OnOk result (IsTakenBack
-        (session_of_kept (session_before halfway)) (way_left halfway)
-        (S.contents store.old) (S.contents store.new)) }
-    ensures stopped { S.honest store.old → OnErr result (IsStillHalfway
-        (session_of_kept (session_before halfway)) (way_left halfway)
-        (S.contents store.old) (S.contents store.new)) }
-    ensures lasts { S.honest store.old
-        → OnOk result (Lasts (S.may_remain store.new) (S.contents store.new)) }
-    ensures remains { S.honest store.old → Lasts (S.may_remain store.old) (S.contents store.old)
-        → (left : Contents) → S.may_remain store.new left → IsStillHalfway
-        (session_of_kept (session_before halfway)) (way_left halfway) (S.contents store.old) left }
-    ensures memory { IsErrOf result OpenFault.Memory
-        → S.honest store.old → S.contents store.new ≡ S.contents store.old }
+    ensures taken { S.honest store.old → TakesWayBack S.Store store.old store.new
+        (session_of_kept (session_before halfway)) (way_left halfway) result }
+    ensures honest { S.honest store.old → S.honest store.new }
+    ensures failures { CountsFailures (S.failures store.old) (S.failures store.new) result }
     ensures no_journal { (IsErrOf result OpenFault.JournalInvalid → ⊥)
         × (IsErrOf result OpenFault.FolderChanged → ⊥) }
-    ensures failures { CountsFailures (S.failures store.old) (S.failures store.new) result }
-    ensures possible { S.honest store.old
-        → IsTrue (are_applicable (S.contents store.old).files (way_left halfway))
-        → S.impossible store.new ≡ S.impossible store.old }
     ensures calls { CountsCalls (length (way_left halfway) + 1)
         (S.writing_calls store.old) (S.writing_calls store.new) result }
 {
@@ -162,15 +138,13 @@ fn open_with<S: FolderStore>(
     text: &[u8],
     next: Option<Next>,
 ) -> Result<Started, OpenFault>
-    ensures honest { S.honest store.old → S.honest store.new }
     ensures opened { S.honest store.old
-        → IsRead (S.contents store.old) folder.files (Some text.now) → IfOk result
-        (λ started. IsOpened (S.contents store.old) (S.contents store.new) (started_of started)) }
-    ensures opening { S.honest store.old
         → IsRead (S.contents store.old) folder.files (Some text.now)
-        → OpensStore S.contents S.may_remain S.impossible S.writing_calls
-        store.old store.new result }
-    ensures failures { CountsFailures (S.failures store.old) (S.failures store.new) result }
+        → Starts S.Store store.old store.new result }
+    ensures opens { S.honest store.old
+        → IsRead (S.contents store.old) folder.files (Some text.now)
+        → Opens S.Store store.old store.new result }
+    ensures keeps { KeepsStore S.Store store.old store.new result }
 {
     match Session::open_before(alloc, folder, text, next) {
         Ok(Opened::Settled(session)) => Ok(Started {
@@ -200,12 +174,9 @@ fn open_session<S: FolderStore>(
     store: &mut S,
     next: Option<Next>,
 ) -> Result<Started, OpenFault>
-    ensures honest { S.honest store.old → S.honest store.new }
-    ensures opened { S.honest store.old → IfOk result
-        (λ started. IsOpened (S.contents store.old) (S.contents store.new) (started_of started)) }
-    ensures opening { S.honest store.old → OpensStore S.contents S.may_remain S.impossible
-        S.writing_calls store.old store.new result }
-    ensures failures { CountsFailures (S.failures store.old) (S.failures store.new) result }
+    ensures opened { S.honest store.old → Starts S.Store store.old store.new result }
+    ensures opens { S.honest store.old → Opens S.Store store.old store.new result }
+    ensures keeps { KeepsStore S.Store store.old store.new result }
 {
     let (folder, journal) = read_store(alloc, store)?;
     match journal {
@@ -218,12 +189,9 @@ fn open_session<S: FolderStore>(
 /// Where the folder isn't as the journal of a finished command left it, the session is a new one. Nothing else is done
 /// to the store. After Store and Memory it opens as it did, and so does what a power cut leaves at any moment.
 pub fn open_store<S: FolderStore>(alloc: Global, store: &mut S) -> Result<Started, OpenFault>
-    ensures honest { S.honest store.old → S.honest store.new }
-    ensures opened { S.honest store.old → IfOk result
-        (λ started. IsOpened (S.contents store.old) (S.contents store.new) (started_of started)) }
-    ensures opening { S.honest store.old → OpensStore S.contents S.may_remain S.impossible
-        S.writing_calls store.old store.new result }
-    ensures failures { CountsFailures (S.failures store.old) (S.failures store.new) result }
+    ensures opened { S.honest store.old → Starts S.Store store.old store.new result }
+    ensures opens { S.honest store.old → Opens S.Store store.old store.new result }
+    ensures keeps { KeepsStore S.Store store.old store.new result }
 {
     open_session(alloc, store, None)
 }
@@ -231,13 +199,9 @@ pub fn open_store<S: FolderStore>(alloc: Global, store: &mut S) -> Result<Starte
 // Opens a store for a verify, which asks for the folder alone: where the folder opens as it is, its history is not
 // looked at, and the session is a new one.
 fn open_for_verify<S: FolderStore>(alloc: Global, store: &mut S) -> Result<Started, OpenFault>
-    ensures honest { S.honest store.old → S.honest store.new }
-    ensures opened { IfOk result (λ started. (opened : Opening)
-        × (opened.session.folder ≡ (started_of started).session.folder)
-        × (S.honest store.old → IsOpened (S.contents store.old) (S.contents store.new) opened)) }
-    ensures opening { S.honest store.old → OpensStore S.contents S.may_remain S.impossible
-        S.writing_calls store.old store.new result }
-    ensures failures { CountsFailures (S.failures store.old) (S.failures store.new) result }
+    ensures opened { StartsAlike S.Store store.old store.new AreOnOneFolder result }
+    ensures opens { S.honest store.old → Opens S.Store store.old store.new result }
+    ensures keeps { KeepsStore S.Store store.old store.new result }
 {
     let (mut folder, journal) = read_store(alloc, store)?;
     let Some(text) = journal else {
@@ -265,13 +229,9 @@ pub(crate) fn open_for<S: FolderStore>(
     store: &mut S,
     command: &Command,
 ) -> Result<Started, OpenFault>
-    ensures honest { S.honest store.old → S.honest store.new }
-    ensures opened { IfOk result (λ started. (opened : Opening)
-        × StandsFor (command_of command.now) opened (started_of started)
-        × (S.honest store.old → IsOpened (S.contents store.old) (S.contents store.new) opened)) }
-    ensures opening { S.honest store.old → OpensStore S.contents S.may_remain S.impossible
-        S.writing_calls store.old store.new result }
-    ensures failures { CountsFailures (S.failures store.old) (S.failures store.new) result }
+    ensures opened { StartsFor S.Store store.old store.new (command_of command.now) result }
+    ensures opens { S.honest store.old → Opens S.Store store.old store.new result }
+    ensures keeps { KeepsStore S.Store store.old store.new result }
 {
     match command {
         Command::Verify { .. } => open_for_verify(alloc, store),

@@ -6,11 +6,11 @@ ghost use Rattle.par2_spec.specs.Refusals.{early_refusal_of};
 ghost use Rattle.par2_spec.specs.Sessions.{session_of_kept, session_after, changes_asked};
 ghost use Rattle.par2_spec.specs.Stores.{Contents};
 ghost use Rattle.par2_spec.specs.Views.{command_of};
-ghost use Rattle.par2_folder.specs.Cuts.{Lasts};
 ghost use Rattle.par2_tool.specs.Calls.{AreAtMost, calls_asked};
 ghost use Rattle.par2_tool.specs.Holding.{TellsApartAlong, OpensAsBeforeOrAfter};
 ghost use Rattle.par2_tool.specs.Performing.{outcome_of, AreSomeMade, IsAnswer, IsVerify, IsWritten};
 ghost use Rattle.par2_tool.specs.Refusals.{IsRefused, IsSession};
+ghost use Rattle.par2_tool.specs.Writing.{IsKept, StaysKept};
 
 use crate::writing::write_down;
 use par2_folder::FolderStore;
@@ -114,9 +114,8 @@ pub fn perform<S: FolderStore>(
         (changes_asked (session_of_kept session.old) (command_of command.now))
         (S.contents store.old).files (S.contents store.new).files) }
     // What a power cut leaves of it afterwards, and at any moment.
-    ensures lasts { S.honest store.old → Lasts (S.may_remain store.old) (S.contents store.old)
-        → OnOk result (Lasts (S.may_remain store.new) (S.contents store.new)) }
-    ensures cut { S.honest store.old → Lasts (S.may_remain store.old) (S.contents store.old)
+    ensures lasts { StaysKept S.Store store.old store.new result }
+    ensures cut { S.honest store.old → IsKept S.Store store.old
         → (S.contents store.old).files ≡ session.old.folder.files
         → TellsApartAlong (session_of_kept session.old) (command_of command.now)
         → (left : Contents) → S.may_remain store.new left

@@ -4,11 +4,11 @@ ghost use Rattle.par2_spec.specs.Commands.{Action as Asked};
 ghost use Rattle.par2_spec.specs.Sessions.{Session};
 ghost use Rattle.par2_spec.specs.Stores.{Contents};
 ghost use Rattle.par2_spec.specs.Views.{command_of};
-ghost use Rattle.par2_folder.specs.Cuts.{Lasts};
 ghost use Rattle.par2_tool.specs.Asking.{AskFor};
 ghost use Rattle.par2_tool.specs.Calls.{CountsFailedRun, CountsRun};
 ghost use Rattle.par2_tool.specs.Performing.{outcome_of, IsAnswer};
 ghost use Rattle.par2_tool.specs.Telling.{Telling, IsBack, IsCause, MakesCalls, IsDone, IsFailed, IsStopped, IsTold, Leaves, SameOutput, IsShown};
+ghost use Rattle.par2_tool.specs.Writing.{IsKept, StaysKept};
 
 use crate::opening::{Started, open_for};
 use crate::performing::{Outcome, perform};
@@ -53,9 +53,8 @@ fn carry_out<S: FolderStore>(
         (S.contents store.old) (S.contents store.new) dropped (outcome_of accepted.outcome))) }
     ensures failed { S.honest store.old → IfErr result (IsFailed (command_of command.now)
         (S.contents store.old) (S.contents store.new)) }
-    ensures lasts { S.honest store.old → Lasts (S.may_remain store.old) (S.contents store.old)
-        → OnOk result (Lasts (S.may_remain store.new) (S.contents store.new)) }
-    ensures cut { S.honest store.old → Lasts (S.may_remain store.old) (S.contents store.old)
+    ensures lasts { StaysKept S.Store store.old store.new result }
+    ensures cut { S.honest store.old → IsKept S.Store store.old
         → (left : Contents) → S.may_remain store.new left
         → IsStopped (command_of command.now) (S.contents store.old) left }
     ensures later { S.failures store.old ≤ S.failures store.new }
@@ -97,8 +96,7 @@ pub fn run<S: FolderStore, O: Write, E: Write>(
         (S.contents store.old) (S.contents store.new))
         × (S.honest store.old → MakesCalls (map string_bytes words.now) told
         (S.contents store.old) (S.writing_calls store.old) (S.writing_calls store.new)) }
-    ensures cut { (action : Asked) → S.honest store.old
-        → Lasts (S.may_remain store.old) (S.contents store.old)
+    ensures cut { (action : Asked) → S.honest store.old → IsKept S.Store store.old
         → AskFor (map string_bytes words.now) action
         → (left : Contents) → S.may_remain store.new left
         → IsStopped action (S.contents store.old) left }

@@ -9,7 +9,6 @@ ghost use Rattle.par2_recovery.specs.Rebuilding.{CanRebuild};
 mod outputs;
 
 pub use outputs::{slices_added, slices_written};
-
 use par2_folder::{Bytes, Change, Folder, Name};
 use par2_gf16::Gf;
 use par2_recovery::{

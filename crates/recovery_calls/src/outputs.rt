@@ -2,8 +2,9 @@
 
 ghost use Rattle.std.specs.Prelude.{◌≡◌, ◌+◌, ◌*◌, ◌<◌, ◌≤◌, ℕ, length, replicate, IsTrue};
 ghost use Rattle.par2_spec.specs.Sums.{list_at, lists_of};
-ghost use Rattle.par2_transform.specs.Adding.{place_at, AreApart, HasByte, LieWithin};
+ghost use Rattle.par2_transform.specs.Adding.{place_at, AreApart, LieWithin};
 ghost use Rattle.par2_recovery.specs.Writing.{output_at, AreZeros};
+ghost use Rattle.recovery_calls.specs.Outputs.{AreBeside};
 
 use crate::MOST_SLICES;
 use par2_gf16::Gf;
@@ -27,7 +28,7 @@ fn ends_before(first: Place, second: Place, words: usize) -> bool
 
 // Whether two outputs have no byte in common.
 fn are_two(first: Place, second: Place, words: usize) -> bool
-    ensures { IsTrue result → (i k : ℕ) → HasByte words first i k → HasByte words second i k → ⊥ }
+    ensures { IsTrue result → AreBeside words first second }
 {
     first.text != second.text
         || ends_before(first, second, words)
@@ -37,8 +38,8 @@ fn are_two(first: Place, second: Place, words: usize) -> bool
 // Whether output `t` has no byte in common with those before it.
 fn is_apart(places: &[Place], t: usize, words: usize) -> bool
     requires { t < length places.now }
-    ensures { IsTrue result → (s i k : ℕ) → s < t
-        → HasByte words (place_at places.now s) i k → HasByte words (place_at places.now t) i k → ⊥ }
+    ensures { IsTrue result → (s : ℕ) → s < t
+        → AreBeside words (place_at places.now s) (place_at places.now t) }
 {
     for s in 0..t {
         if !are_two(place_of(places, s), place_of(places, t), words) {

@@ -19,7 +19,7 @@ Is c = IsRepaired c.args.session.now.folder.files c.repair.new.self.folder.files
 repaired : (c : goal.After-repair) → OnOk c.repair.result (Is c)
 repaired c =
     answered (session_of_kept c.args.session.now) (session_of_kept c.repair.new.self) c.args.base.now (map string_bytes c.args.extras.now) c.args.purge
-    c.repair.result c.repair.ensures.done c.repair.ensures.leads
+    c.repair.result c.repair.ensures.repairs.done c.repair.ensures.repairs.leads
 
 pub returns-clause-restored : goal.returns-clause-restored
 returns-clause-restored c originals s original =
@@ -50,7 +50,7 @@ returns-clause-holds c set without_purge read =
     let fits = (λ (few : AreFewFor old (Repair base extras c.args.purge)). c.candidates_fit.ensures old base set extras reads (of_base.there old base extras set read) (few set reads)) in
     let same = ap (λ purge. after old (Repair base extras purge)) without_purge ∙ c.folder_is_that_of_the_set.ensures.repaired old base extras set read in
     on_ok_weaker c.repair.result (λ (both : Is c × AreFewFor old (Repair base extras c.args.purge)).
-    subst (HoldsRepaired old set searched) (sym (both.0.left ∙ same)) (c.repaired_folder_holds.ensures old set searched (fits both.1))) (together (Is c) (AreFewFor old (Repair base extras c.args.purge)) c.repair.result (repaired c) c.repair.ensures.few)
+    subst (HoldsRepaired old set searched) (sym (both.0.left ∙ same)) (c.repaired_folder_holds.ensures old set searched (fits both.1))) (together (Is c) (AreFewFor old (Repair base extras c.args.purge)) c.repair.result (repaired c) c.repair.ensures.written.few)
 
 pub returns-clause-done : goal.returns-clause-done
 returns-clause-done c = on_ok_weaker c.repair.result (λ (is : Is c). is.left) (repaired c)
@@ -59,23 +59,23 @@ pub returns-clause-undoable : goal.returns-clause-undoable
 returns-clause-undoable c =
     stands_in_front (session_of_kept c.args.session.now) (session_of_kept c.repair.new.self) c.args.base.now (map string_bytes c.args.extras.now) c.args.purge
     c.repair.result c.session_is_a_history.ensures.accepted (c.kept_session_keeps_its_room.ensures.valid c.args.session.now c.folder-folder.ensures.walks)
-    c.repair.ensures.done c.repair.ensures.leads
+    c.repair.ensures.repairs.done c.repair.ensures.repairs.leads
 
 pub returns-clause-steps : goal.returns-clause-steps
 returns-clause-steps c =
     told (session_of_kept c.args.session.now) (session_of_kept c.repair.new.self) c.args.base.now (map string_bytes c.args.extras.now) c.args.purge
-    c.repair.result (repaired c) c.repair.ensures.steps
+    c.repair.result (repaired c) c.repair.ensures.repairs.steps
 
 pub returns-clause-right : goal.returns-clause-right
 returns-clause-right c originals s original =
     IfErr-weaker c.repair.result _ _ (λ fault why failed. elim why [
       | inl memory ↦ let clash : Memory ≡ RepairFailed = sym memory ∙ failed in absurd (cc)
       | inr refused ↦ c.repair_never_fails.ensures _ _ _ c.args.purge originals s original (refused ∙ ap Some failed)
-    ]) c.repair.ensures.refused
+    ]) c.repair.ensures.repairs.refused
 
 pub returns-clause-undetermined : goal.returns-clause-undetermined
 returns-clause-undetermined c originals s missing rank original =
     IfErr-weaker c.repair.result _ _ (λ fault why few. elim why [
       | inl memory ↦ let clash = sym memory ∙ few in absurd (cc)
       | inr refused ↦ c.refused_repair_leaves_a_choice.ensures _ _ _ c.args.purge originals s missing rank original (refused ∙ ap Some few)
-    ]) c.repair.ensures.refused
+    ]) c.repair.ensures.repairs.refused

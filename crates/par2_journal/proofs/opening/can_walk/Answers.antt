@@ -11,8 +11,8 @@ returns-clause-folder c =
     let e = c.walk_first-walked.ensures in
     let b = c.walk_first-back.ensures in
     let turned = c.reverse.ensures.after ∙ ap reverse c.split_at_mut-front.ensures.front in
-    walked_home (λ (entry : Vec Change Global). changes_in entry.items) c.args.folder.now _ c.args.entries.now _ _ e.within e.taken e.folder e.entries
-    _ turned _ c.walk_first-back.new.entries _ b.refused b.folder b.entries
+    walked_home (λ (entry : Vec Change Global). changes_in entry.items) c.args.folder.now _ c.args.entries.now _ _ e.within e.first.taken e.first.state e.first.items
+    _ turned _ c.walk_first-back.new.entries _ b.refused b.first.state b.first.items
 
 pub returns-clause-entries : goal.returns-clause-entries
 returns-clause-entries c =
@@ -20,5 +20,5 @@ returns-clause-entries c =
     let b = c.walk_first-back.ensures in
     let turned = c.reverse.ensures.after ∙ ap reverse c.split_at_mut-front.ensures.front in
     ap entries_of (λ i. c.reverse-2.ensures.after i ++ c.split_at_mut-front.ensures.back i)
-    ∙ entries_home (λ (entry : Vec Change Global). changes_in entry.items) c.args.folder.now _ c.args.entries.now _ _ e.within e.taken e.folder e.entries
-    _ turned _ c.walk_first-back.new.entries _ b.refused b.folder b.entries
+    ∙ entries_home (λ (entry : Vec Change Global). changes_in entry.items) c.args.folder.now _ c.args.entries.now _ _ e.within e.first.taken e.first.state e.first.items
+    _ turned _ c.walk_first-back.new.entries _ b.refused b.first.state b.first.items

@@ -14,6 +14,6 @@ returns-in-Ok-digests_before-clause-told c =
     let settled = ap halfway_of (none_if untested.journal.halfway (sym c.is_some.ensures ∙ c.if-is_some.false)) in
     let still = c.in-Ok-digests_before.ensures.unchanged in
     let print = c.in-Ok-digests_before.ensures.folder ∙ ap (λ (kept : KeptSession). fingerprint kept.folder.files) (sym still) in
-    answers c.args.folder c.args.bytes.now untested (journal_of untested.journal) found.text found.folder (session_of_kept c.digests_before.new.self) c.in-Ok.ensures.found refl settled
-    c.in-Ok-digests_before.ensures.text print (ap session_of_kept still ∙ opened.ensures.session) opened.ensures.valid
-    c.answer_of.result c.answer_of.ensures.session c.answer_of.ensures.same c.answer_of.ensures.refused c.answer_of.ensures.files
+    answers c.args.folder c.args.bytes.now untested (journal_of untested.journal) found c.digests_before.new.self c.in-Ok.ensures.found refl settled
+    c.in-Ok-digests_before.ensures.text print (ap session_of_kept still ∙ opened.ensures.answer.session) opened.ensures.answer.passed
+    c.answer_of.result c.answer_of.ensures

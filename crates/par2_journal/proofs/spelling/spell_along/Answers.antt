@@ -23,14 +23,12 @@ apply_all-requires-2 c =
     let made = c.apply_all.ensures in
     back_taken c.args.folder.now c.apply_all.new.self (changes_in c.args.changes.now) (changes_in c.apply_all.new.changes) c.requires.applies made.folder made.way_back
 
-pub returns-clause-folder : goal.returns-clause-folder
-returns-clause-folder c =
+pub returns-clause-same : goal.returns-clause-same
+returns-clause-same c =
     let made = c.apply_all.ensures in
-    c.apply_all-2.ensures.folder
-    ∙ back_leads c.args.folder.now c.apply_all.new.self (changes_in c.args.changes.now) (changes_in c.apply_all.new.changes) c.requires.applies made.folder made.way_back
-
-pub returns-clause-changes : goal.returns-clause-changes
-returns-clause-changes c =
-    let made = c.apply_all.ensures in
-    c.apply_all-2.ensures.way_back
-    ∙ back_again c.args.folder.now c.apply_all.new.self (changes_in c.args.changes.now) (changes_in c.apply_all.new.changes) c.requires.applies made.folder made.way_back
+    let given = changes_in c.args.changes.now in
+    let back = changes_in c.apply_all.new.changes in
+    record {
+      folder = c.apply_all-2.ensures.folder ∙ back_leads c.args.folder.now c.apply_all.new.self given back c.requires.applies made.folder made.way_back;
+      changes = c.apply_all-2.ensures.way_back ∙ back_again c.args.folder.now c.apply_all.new.self given back c.requires.applies made.folder made.way_back;
+    }

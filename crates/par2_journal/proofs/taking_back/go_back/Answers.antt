@@ -17,5 +17,4 @@ pub returns-clause-went : goal.returns-clause-went
 returns-clause-went c =
     let yes : c.in_ok-goes_back.field-0 ≡ true = grind (arith, c.if-not-branch.false) in
     let back = c.in_ok-goes_back.ensures in
-    went_forth c.args.folder.now.files c.reserve.new.self c.goes_back.new.folder (changes_in c.args.way.now) (changes_in c.goes_back.new.back) c.reserve.ensures.files
-    (back.taken (ap Ok yes)) (back.folder (ap Ok yes)) (back.way_back (ap Ok yes))
+    went_forth c.args.folder.now.files c.reserve.new.self c.goes_back.new.folder c.args.way.now c.goes_back.new.back c.reserve.ensures.files (back.made (ap Ok yes))

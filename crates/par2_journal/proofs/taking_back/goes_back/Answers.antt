@@ -18,10 +18,10 @@ taken : (c : After-pass_through) → takes_all c.args.folder.now (changes_in c.a
 taken c = sym c.can_apply.ensures.result ∙ c.if-not-can_apply.false
 
 moved : (c : After-pass_through) → c.pass_through.new.folder ≡ state_after_all c.args.folder.now (changes_in c.args.back.now)
-moved c = c.pass_through.ensures.folder ∙ (λ i. state_after_all (c.can_apply.ensures.folder i) (c.can_apply.ensures.changes i))
+moved c = c.pass_through.ensures.made.folder ∙ (λ i. state_after_all (c.can_apply.ensures.same.folder i) (c.can_apply.ensures.same.changes i))
 
 turned : (c : After-pass_through) → changes_in c.pass_through.new.changes ≡ way_back c.args.folder.now.files (changes_in c.args.back.now)
-turned c = c.pass_through.ensures.way_back ∙ (λ i. way_back (c.can_apply.ensures.folder i).files (c.can_apply.ensures.changes i))
+turned c = c.pass_through.ensures.made.way_back ∙ (λ i. way_back (c.can_apply.ensures.same.folder i).files (c.can_apply.ensures.same.changes i))
 
 home_taken : (c : After-pass_through) → takes_all c.pass_through.new.folder (changes_in c.pass_through.new.changes) ≡ true
 home_taken c = back_taken c.args.folder.now c.pass_through.new.folder (changes_in c.args.back.now) (changes_in c.pass_through.new.changes) (taken c) (moved c) (turned c)
@@ -30,11 +30,11 @@ home : (c : After-pass_through) → state_after_all c.pass_through.new.folder (c
 home c = back_leads c.args.folder.now c.pass_through.new.folder (changes_in c.args.back.now) (changes_in c.pass_through.new.changes) (taken c) (moved c) (turned c)
 
 -- the fingerprints that were left are those wanted where the changes lead through these
-leads : (c : In-Ok) → pointwise bytes_eq c.in-Ok.prints.items c.args.wanted.now ≡ leads_through c.args.folder.now.files (changes_in c.args.back.now) c.args.wanted.now
+leads : (c : In-Ok) → pointwise bytes_eq c.in-Ok.prints.after_each.items c.args.wanted.now ≡ leads_through c.args.folder.now.files (changes_in c.args.back.now) c.args.wanted.now
 leads c =
-    let prints = c.in-Ok.ensures.fingerprints ∙ (λ i. map fingerprint (folders_after (c.can_apply.ensures.folder i).files (c.can_apply.ensures.changes i))) in
+    let prints = c.in-Ok.ensures.along.after_each ∙ (λ i. map fingerprint (folders_after (c.can_apply.ensures.same.folder i).files (c.can_apply.ensures.same.changes i))) in
     let each : length c.args.wanted.now ≡ length (changes_in c.args.back.now) = omega (arith, c.requires.each, length-map c.args.back.now change_of) in
-    goes c.args.folder.now (changes_in c.args.back.now) c.args.wanted.now c.in-Ok.prints.items each (sym c.can_apply.ensures.result ∙ c.if-not-can_apply.false) prints
+    goes c.args.folder.now (changes_in c.args.back.now) c.args.wanted.now c.in-Ok.prints.after_each.items each (sym c.can_apply.ensures.result ∙ c.if-not-can_apply.false) prints
 
 -- ---- the goals
 
@@ -42,16 +42,15 @@ pub returns-then-not-can_apply-clause-leads : goal.returns-then-not-can_apply-cl
 returns-then-not-can_apply-clause-leads c = goes_not c.args.folder.now (changes_in c.args.back.now) c.args.wanted.now c.requires.room (sym c.can_apply.ensures.result ∙ c.if-not-can_apply.true)
 
 pub pass_through-requires : goal.pass_through-requires
-pass_through-requires c = (λ i. takes_all (c.can_apply.ensures.folder i) (c.can_apply.ensures.changes i)) ∙ sym c.can_apply.ensures.result ∙ c.if-not-can_apply.false
+pass_through-requires c = (λ i. takes_all (c.can_apply.ensures.same.folder i) (c.can_apply.ensures.same.changes i)) ∙ sym c.can_apply.ensures.result ∙ c.if-not-can_apply.false
 
 pub returns-then-eq-clause-leads : goal.returns-then-eq-clause-leads
 returns-then-eq-clause-leads c = sym c.if-eq.true ∙ c.eq.ensures ∙ ap (λ l. pointwise bytes_eq l c.args.wanted.now) c.as_slice.ensures.value ∙ leads (goal.at.returns-then-eq-clause-leads c).In-Ok
 
-pub returns-then-eq-clause-folder : goal.returns-then-eq-clause-folder
-returns-then-eq-clause-folder c = λ _. moved (goal.at.returns-then-eq-clause-folder c).After-pass_through
-
-pub returns-then-eq-clause-way_back : goal.returns-then-eq-clause-way_back
-returns-then-eq-clause-way_back c = λ _. turned (goal.at.returns-then-eq-clause-way_back c).After-pass_through
+pub returns-then-eq-clause-made : goal.returns-then-eq-clause-made
+returns-then-eq-clause-made c =
+    let here = (goal.at.returns-then-eq-clause-made c).After-pass_through in
+    λ _. record { taken = taken here; folder = moved here; way_back = turned here }
 
 pub returns-else-eq-clause-leads : goal.returns-else-eq-clause-leads
 returns-else-eq-clause-leads c = sym c.if-eq.false ∙ c.eq.ensures ∙ ap (λ l. pointwise bytes_eq l c.args.wanted.now) c.as_slice.ensures.value ∙ leads (goal.at.returns-else-eq-clause-leads c).In-Ok

@@ -66,8 +66,8 @@ returns-in-Some-clause-early c fault early =
     let bad = bad_word (goal.at.returns-in-Some-clause-early c).In-Some in
     answered_so _ _ c.in-Some.fault fault refl (early_by_name c.args.folder.now.files (create_args_of c.args.args.now) c.in_ok-base.ensures.accepted c.in-Some.fault bad) early
 
-pub set_of_inputs-requires : goal.set_of_inputs-requires
-set_of_inputs-requires c = (head_passed _ c.in_ok-base.ensures.accepted).positive
+pub set_of_inputs-requires-clause-slice : goal.set_of_inputs-requires-clause-slice
+set_of_inputs-requires-clause-slice c = (head_passed _ c.in_ok-base.ensures.accepted).positive
 
 pub returns-in_err-set-clause-refused : goal.returns-in_err-set-clause-refused
 returns-in_err-set-clause-refused c =
@@ -127,13 +127,13 @@ returns-clause-accepted c =
     not_refused c.args.folder.now.files (create_args_of c.args.args.now) c.in_ok-base.ensures.accepted c.in_ok-set.ensures.accepted is.0 (is.1 ∙ c.in_default-there_already.is)
 
 pub returns-clause-changes : goal.returns-clause-changes
-returns-clause-changes c = are_planned c.args.folder.now.files (create_args_of c.args.args.now) _ c.in_ok-outputs_written.ensures
+returns-clause-changes c = are_planned c.args.folder.now.files (create_args_of c.args.args.now) _ c.in_ok-changes.ensures
 
 pub returns-clause-applies : goal.returns-clause-applies
-returns-clause-applies c = apply_in_order c.args.folder.now.files (create_args_of c.args.args.now) _ c.in_ok-outputs_written.ensures
+returns-clause-applies c = apply_in_order c.args.folder.now.files (create_args_of c.args.args.now) _ c.in_ok-changes.ensures
 
 pub returns-clause-leads : goal.returns-clause-leads
-returns-clause-leads c = lead_to_folder c.args.folder.now.files (create_args_of c.args.args.now) _ c.in_ok-outputs_written.ensures
+returns-clause-leads c = lead_to_folder c.args.folder.now.files (create_args_of c.args.args.now) _ c.in_ok-changes.ensures
 
 pub returns-in_err-set-clause-early : goal.returns-in_err-set-clause-early
 returns-in_err-set-clause-early c fault early = absurd (never_found _ fault (none_early (goal.at.returns-in_err-set-clause-early c).After-set_of_inputs) early)
@@ -144,8 +144,8 @@ returns-in_err-volumes-clause-early c fault early = absurd (never_found _ fault 
 pub returns-in-Some-there_already-clause-early : goal.returns-in-Some-there_already-clause-early
 returns-in-Some-there_already-clause-early c fault early = absurd (never_found _ fault (none_early (goal.at.returns-in-Some-there_already-clause-early c).After-set_of_inputs) early)
 
-pub returns-in_err-outputs_written-clause-early : goal.returns-in_err-outputs_written-clause-early
-returns-in_err-outputs_written-clause-early c fault early = absurd (never_found _ fault (none_early (goal.at.returns-in_err-outputs_written-clause-early c).After-set_of_inputs) early)
+pub returns-in_err-changes-clause-early : goal.returns-in_err-changes-clause-early
+returns-in_err-changes-clause-early c fault early = absurd (never_found _ fault (none_early (goal.at.returns-in_err-changes-clause-early c).After-set_of_inputs) early)
 
 pub returns-clause-early : goal.returns-clause-early
 returns-clause-early c fault early = absurd (never_found _ fault (none_early (goal.at.returns-clause-early c).After-set_of_inputs) early)

@@ -1,18 +1,20 @@
-use Rattle.std.proofs.Common.{◌≡◌, ◌++◌, ◌∷◌, ◌+◌, ◌∙◌, [], ap, sym, subst, map, rules}
+use Rattle.std.proofs.Common.{arith, ◌≡◌, ◌++◌, ◌∷◌, ◌+◌, ◌∙◌, [], ap, sym, subst, map, rules}
 use Rattle.std.specs.Prelude.{take}
 use Rattle.md5.specs.Md5.{md5}
 use Rattle.par2_spec.specs.Folders.{bytes_of}
 use Rattle.par2_spec.specs.Volumes.{record_of}
 use Rattle.par2_spec.specs.Commands.{files_of}
 use Rattle.par2_packets.specs.Views.{file_record_of}
-use Rattle.par2_recovery.proofs.Records.{digest_at_name, record_push}
+use Rattle.par2_recovery.proofs.Records.{digest_at_name, many_digests, record_push}
 use Rattle.par2_recovery.proofs.set_record.file_records.Goals as goal
+
+pub bounds-md5s-i : goal.bounds-md5s-i
+bounds-md5s-i c = omega (arith, many_digests c.args.folder.now.files c.args.names.now c.args.md5s.now c.requires.md5s)
 
 pub file_record_by_md5-requires-clause-digest : goal.file_record_by_md5-requires-clause-digest
 file_record_by_md5-requires-clause-digest c =
     let files = c.args.folder.now.files in
-    c.index.ensures
-    ∙ digest_at_name files c.args.names.now c.in_ok-md5s.md5s.items c.loop-i.i c.index.result.now c.in_ok-md5s.ensures.value c.loop-i-test.true
+    digest_at_name files c.args.names.now c.args.md5s.now c.loop-i.i [] c.requires.md5s c.loop-i-test.true
     ∙ sym (ap md5 (c.bytes_of-bytes.ensures ∙ ap (bytes_of files) c.text_at-name.ensures))
 
 pub loop-i-preserved : goal.loop-i-preserved

@@ -1,4 +1,4 @@
-use Rattle.std.proofs.Common.{inl, Some, Ok, Err, true, false, refl, sym, ap, subst, rules, ◌∙◌}
+use Rattle.std.proofs.Common.{inl, Ok, Err, true, false, refl, sym, ap, subst, rules, ◌∙◌}
 use Rattle.std.proofs.lemmas.Result.{err_from_is_err_and}
 use Rattle.par2_spec.specs.Changes.{FolderState}
 use Rattle.par2_spec.specs.Opening.{Halfway, Opens, Started}
@@ -6,13 +6,13 @@ use Rattle.par2_spec.specs.Sessions.{Session, KeptSession, session_of_kept}
 use Rattle.par2_spec.specs.Stores.{Contents}
 use Rattle.par2_spec.specs.declared.JournalFault.TheVariants.{JournalInvalid, FolderChanged}
 use Rattle.par2_journal.specs.Opening.{opened_of, session_before, way_left}
-use Rattle.par2_tool.specs.Holding.{OpensAsBefore, TellsApartBack, with_history}
-use Rattle.par2_tool.specs.Opening.{IsOpened, IsRead, IsStillHalfway}
+use Rattle.par2_tool.specs.Holding.{OpensAsBefore, with_history}
+use Rattle.par2_tool.specs.Opening.{IsOpened}
 use Rattle.par2_tool.proofs.AsIs.{opened_on}
 use Rattle.par2_tool.proofs.Calls.{back_calls, refused_calls}
 use Rattle.par2_tool.proofs.MadeChanges.{is_new}
 use Rattle.par2_tool.proofs.Openings.{any_err, holds_settled, opened_taken_back, opens_refused, opens_still, way_applies}
-use Rattle.par2_tool.proofs.StoreOpenings.{only_read}
+use Rattle.par2_tool.proofs.StoreOpenings.{stays_opens}
 use Rattle.par2_tool.proofs.opening.open_with.Goals.{In-Ok-Halfway}
 use Rattle.par2_tool.proofs.opening.open_with.Goals as goal
 
@@ -53,62 +53,63 @@ returns-in_ok-session-in-Ok-Halfway-clause-opened g c honest read =
     let arm = c.in_ok-session-in-Ok-Halfway in
     let opens = opens_so g (goal.at.returns-in_ok-session-in-Ok-Halfway-clause-opened g c).In-Ok-Halfway in
     subst (λ (s : KeptSession). IsOpened old new (with_history (session_of_kept s))) (sym arm.ensures.session)
-    (opened_taken_back old new files text (session_of_kept (session_before halfway)) (way_left halfway) read opens (arm.ensures.done honest))
+    (opened_taken_back old new files text (session_of_kept (session_before halfway)) (way_left halfway) read opens ((arm.ensures.taken honest).done))
 
--- what is taken back opens as it did, wherever it is cut
-taken_back : (g : _) (c : In-Ok-Halfway g) → (left : Contents) → IsRead (g.S.Store.contents c.args.store.now) c.args.folder.files (Some c.args.text.now) → TellsApartBack (g.S.Store.contents c.args.store.now)
-    → IsStillHalfway (session_of_kept (session_before c.in-Ok-Halfway.halfway)) (way_left c.in-Ok-Halfway.halfway) (g.S.Store.contents c.args.store.now) left → OpensAsBefore (g.S.Store.contents c.args.store.now) left
-taken_back g c left read apart still =
-    opens_still (g.S.Store.contents c.args.store.now) left c.args.folder.files c.args.text.now (session_of_kept (session_before c.in-Ok-Halfway.halfway)) (way_left c.in-Ok-Halfway.halfway) read (opens_so g c) apart still
-
-pub returns-in_err-session-in-Ok-Halfway-clause-opening : goal.returns-in_err-session-in-Ok-Halfway-clause-opening
-returns-in_err-session-in-Ok-Halfway-clause-opening g c honest read =
+-- a halfway command is taken back, or not
+pub returns-in_err-session-in-Ok-Halfway-clause-opens : goal.returns-in_err-session-in-Ok-Halfway-clause-opens
+returns-in_err-session-in-Ok-Halfway-clause-opens g c honest read =
     let old = g.S.Store.contents c.args.store.now in
-    let new = g.S.Store.contents c.take_back.new.store in
+    let files = c.args.folder.files in
+    let text = c.args.text.now in
     let halfway = c.in-Ok-Halfway.halfway in
-    let arm = (goal.at.returns-in_err-session-in-Ok-Halfway-clause-opening g c).In-Ok-Halfway in
-    let told = err_from_is_err_and c.from_residual.result c.from_residual.ensures.1 in
+    let session = session_of_kept (session_before halfway) in
+    let back = way_left halfway in
+    let opens = opens_so g (goal.at.returns-in_err-session-in-Ok-Halfway-clause-opens g c).In-Ok-Halfway in
+    let taken = c.take_back.ensures.taken honest in
     record {
       unopened = record {
         refused = search rules;
-        stopped = λ apart. any_err c.from_residual.result (OpensAsBefore old new) (taken_back g arm new read apart (c.in_err-session-in-Ok-Halfway.ensures.stopped honest));
+        stopped = λ apart.
+            any_err c.from_residual.result (OpensAsBefore old (g.S.Store.contents c.take_back.new.store))
+            (opens_still old (g.S.Store.contents c.take_back.new.store) files text session back read opens apart (c.in_err-session-in-Ok-Halfway.ensures.taken honest).stopped);
       };
-      lasts = search rules;
-      cut = λ lasts apart left may. taken_back g arm left read apart (c.take_back.ensures.remains honest lasts left may);
-      possible = c.take_back.ensures.possible honest (way_applies old _ _ (session_of_kept (session_before halfway)) (way_left halfway) read (opens_so g arm));
-      calls = back_calls old c.args.folder.files c.args.text.now (session_of_kept (session_before halfway)) (way_left halfway) _ _ c.from_residual.result read (opens_so g arm)
+      cut = λ lasts apart left may. opens_still old left files text session back read opens apart (taken.remains lasts left may);
+      possible = taken.possible (way_applies old files text session back read opens);
+      calls =
+          let told = err_from_is_err_and c.from_residual.result c.from_residual.ensures.1 in
+          back_calls old files text session back _ _ c.from_residual.result read opens
           (refused_calls _ _ _ c.from_residual.result _ told.0 told.1 told.2 c.in_err-session-in-Ok-Halfway.ensures.calls.refused);
     }
 
-pub returns-in_ok-session-in-Ok-Halfway-clause-opening : goal.returns-in_ok-session-in-Ok-Halfway-clause-opening
-returns-in_ok-session-in-Ok-Halfway-clause-opening g c honest read =
+pub returns-in_ok-session-in-Ok-Halfway-clause-opens : goal.returns-in_ok-session-in-Ok-Halfway-clause-opens
+returns-in_ok-session-in-Ok-Halfway-clause-opens g c honest read =
     let old = g.S.Store.contents c.args.store.now in
+    let files = c.args.folder.files in
+    let text = c.args.text.now in
     let halfway = c.in-Ok-Halfway.halfway in
-    let arm = (goal.at.returns-in_ok-session-in-Ok-Halfway-clause-opening g c).In-Ok-Halfway in
+    let session = session_of_kept (session_before halfway) in
+    let back = way_left halfway in
+    let opens = opens_so g (goal.at.returns-in_ok-session-in-Ok-Halfway-clause-opens g c).In-Ok-Halfway in
+    let taken = c.take_back.ensures.taken honest in
     record {
       unopened = record { refused = tt; stopped = λ _. tt };
-      lasts = λ _. c.in_ok-session-in-Ok-Halfway.ensures.lasts honest;
-      cut = λ lasts apart left may. taken_back g arm left read apart (c.take_back.ensures.remains honest lasts left may);
-      possible = c.take_back.ensures.possible honest (way_applies old _ _ (session_of_kept (session_before halfway)) (way_left halfway) read (opens_so g arm));
-      calls = back_calls old c.args.folder.files c.args.text.now (session_of_kept (session_before halfway)) (way_left halfway) _ _ _ read (opens_so g arm)
-          (record { opened = c.in_ok-session-in-Ok-Halfway.ensures.calls.opened; refused = tt });
+      cut = λ lasts apart left may. opens_still old left files text session back read opens apart (taken.remains lasts left may);
+      possible = taken.possible (way_applies old files text session back read opens);
+      calls =
+          back_calls old files text session back _ _ _ read opens (record { opened = c.in_ok-session-in-Ok-Halfway.ensures.calls.opened; refused = tt });
     }
 
-pub returns-in-Ok-Settled-clause-opening : goal.returns-in-Ok-Settled-clause-opening
-returns-in-Ok-Settled-clause-opening g c honest read =
-    only_read g.S.Store.contents g.S.Store.may_remain g.S.Store.impossible g.S.Store.writing_calls c.args.store.now c.args.store.now _ refl (λ left may. may) refl refl
-    (record { refused = tt; stopped = λ _. tt })
+-- nothing is done to the store
+pub returns-in-Ok-Settled-clause-opens : goal.returns-in-Ok-Settled-clause-opens
+returns-in-Ok-Settled-clause-opens g c honest read = stays_opens g.S.Store c.args.store.now _ (record { refused = tt; stopped = λ _. tt })
 
-pub returns-in-Err-FolderChanged-false-default-clause-opening : goal.returns-in-Err-FolderChanged-false-default-clause-opening
-returns-in-Err-FolderChanged-false-default-clause-opening g c honest read =
-    only_read g.S.Store.contents g.S.Store.may_remain g.S.Store.impossible g.S.Store.writing_calls c.args.store.now c.args.store.now _ refl (λ left may. may) refl refl
-    (record { refused = tt; stopped = λ _. tt })
+pub returns-in-Err-FolderChanged-false-default-clause-opens : goal.returns-in-Err-FolderChanged-false-default-clause-opens
+returns-in-Err-FolderChanged-false-default-clause-opens g c honest read = stays_opens g.S.Store c.args.store.now _ (record { refused = tt; stopped = λ _. tt })
 
-pub returns-in-Err-FolderChanged-true-default-clause-opening : goal.returns-in-Err-FolderChanged-true-default-clause-opening
-returns-in-Err-FolderChanged-true-default-clause-opening g c honest read =
+pub returns-in-Err-FolderChanged-true-default-clause-opens : goal.returns-in-Err-FolderChanged-true-default-clause-opens
+returns-in-Err-FolderChanged-true-default-clause-opens g c honest read =
     let arm = c.in-Err-FolderChanged-true-default in
-    only_read g.S.Store.contents g.S.Store.may_remain g.S.Store.impossible g.S.Store.writing_calls c.args.store.now c.args.store.now _ refl (λ left may. may) refl refl
-    (record {
+    stays_opens g.S.Store c.args.store.now _ (record {
       refused = (
         opens_refused (g.S.Store.contents c.args.store.now) c.args.folder.files c.args.text.now arm.field-0-0 (FolderChanged true) (Err (FolderChanged true)) read arm.ensures.refused
             (arm.field-0-0-is ∙ ap FolderChanged arm.field-0-0-0-test) (λ memory. cc) refl,
@@ -117,11 +118,10 @@ returns-in-Err-FolderChanged-true-default-clause-opening g c honest read =
       stopped = λ _. inl refl;
     })
 
-pub returns-in-Err-JournalInvalid-default-clause-opening : goal.returns-in-Err-JournalInvalid-default-clause-opening
-returns-in-Err-JournalInvalid-default-clause-opening g c honest read =
+pub returns-in-Err-JournalInvalid-default-clause-opens : goal.returns-in-Err-JournalInvalid-default-clause-opens
+returns-in-Err-JournalInvalid-default-clause-opens g c honest read =
     let arm = c.in-Err-JournalInvalid-default in
-    only_read g.S.Store.contents g.S.Store.may_remain g.S.Store.impossible g.S.Store.writing_calls c.args.store.now c.args.store.now _ refl (λ left may. may) refl refl
-    (record {
+    stays_opens g.S.Store c.args.store.now _ (record {
       refused = (
         opens_refused (g.S.Store.contents c.args.store.now) c.args.folder.files c.args.text.now arm.field-0-0 JournalInvalid (Err JournalInvalid) read arm.ensures.refused
             arm.field-0-0-is (λ memory. cc) refl,
@@ -130,7 +130,5 @@ returns-in-Err-JournalInvalid-default-clause-opening g c honest read =
       stopped = λ _. inl refl;
     })
 
-pub returns-in-Err-Memory-default-clause-opening : goal.returns-in-Err-Memory-default-clause-opening
-returns-in-Err-Memory-default-clause-opening g c honest read =
-    only_read g.S.Store.contents g.S.Store.may_remain g.S.Store.impossible g.S.Store.writing_calls c.args.store.now c.args.store.now _ refl (λ left may. may) refl refl
-    (record { refused = refl; stopped = λ _. inl refl })
+pub returns-in-Err-Memory-default-clause-opens : goal.returns-in-Err-Memory-default-clause-opens
+returns-in-Err-Memory-default-clause-opens g c honest read = stays_opens g.S.Store c.args.store.now _ (record { refused = refl; stopped = λ _. inl refl })

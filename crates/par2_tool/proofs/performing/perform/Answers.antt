@@ -77,7 +77,7 @@ returns-in-Ok-write_down-clause-written g c honest files =
     let new = g.S.Store.contents c.write_down.new.store in
     let spelled = c.in_ok-journals.ensures.journals (action_of given) old made.grew made.is in
     let changed = changed_so g at in
-    let there : new ≡ after_write_down start journals (changes_by_kind ready.kind mid) = c.in-Ok-write_down.ensures.done honest ∙ ap (after_write_down start journals) changed in
+    let there : new ≡ after_write_down start journals (changes_by_kind ready.kind mid) = c.in-Ok-write_down.ensures.written.done honest ∙ ap (after_write_down start journals) changed in
     let after : c.commit.new.self ≡ after_commit ready.kind mid = c.commit.ensures.session ∙ (λ i. after_commit (c.in_ok-journals.ensures.prepared i).kind (c.in_ok-journals.ensures.unchanged i)) in
     let all : HoldsJournaled (session_of_kept (after_commit ready.kind mid)) (after_write_down start journals (changes_by_kind ready.kind mid)) = (
       written_holds (action_of given) old ready mid made journals spelled start files,
@@ -100,7 +100,7 @@ returns-in-Err-write_down-clause-stopped g c honest files apart =
     let start = g.S.Store.contents c.args.store.now in
     let new = g.S.Store.contents c.write_down.new.store in
     let changed = changed_so g at in
-    let stop = subst (λ (cs : List defined.Change). IsStoppedAt start journals cs new) changed (c.in-Err-write_down.ensures.stopped honest) in
+    let stop = subst (λ (cs : List defined.Change). IsStoppedAt start journals cs new) changed (c.in-Err-write_down.ensures.written.stopped honest) in
     let apart_from : TellsApartAlong (session_of_kept old) action = subst (λ (x : Command). TellsApartAlong (session_of_kept old) (command_of x)) c.in-Act.is apart in
     subst (λ (x : Command). OpensAsBeforeOrAfter (session_of_kept old) (command_of x) start new) (sym c.in-Act.is)
     (stopped_opens action old ready mid made journals (c.in_ok-journals.ensures.journals action old made.grew made.is) start files new stop apart_from c.in-Ok-prepare.ensures.leads)
@@ -116,7 +116,7 @@ returns-in-Err-write_down-clause-in_order g c honest =
     let start = g.S.Store.contents c.args.store.now in
     let new = g.S.Store.contents c.write_down.new.store in
     let changed = changed_so g at in
-    let stop = subst (λ (cs : List defined.Change). IsStoppedAt start journals cs new) changed (c.in-Err-write_down.ensures.stopped honest) in
+    let stop = subst (λ (cs : List defined.Change). IsStoppedAt start journals cs new) changed (c.in-Err-write_down.ensures.written.stopped honest) in
     subst (λ (x : Command). AreSomeMade (changes_asked (session_of_kept old) (command_of x)) start.files new.files) (sym c.in-Act.is)
     (asked_in_order (action_of c.in-Act.action) old ready mid made start journals new stop)
 
@@ -144,7 +144,7 @@ cut_opens g c honest lasts files apart left may =
     let journals = c.in_ok-journals.journals in
     let action = action_of c.in-Act.action in
     let start = g.S.Store.contents c.args.store.now in
-    let stop = subst (λ (cs : List defined.Change). IsStoppedAt start journals cs left) (changed_so g c) (c.write_down.ensures.remains honest lasts left may) in
+    let stop = subst (λ (cs : List defined.Change). IsStoppedAt start journals cs left) (changed_so g c) (c.write_down.ensures.written.remains honest lasts left may) in
     let apart_from : TellsApartAlong (session_of_kept old) action = subst (λ (x : Command). TellsApartAlong (session_of_kept old) (command_of x)) c.in-Act.is apart in
     subst (λ (x : Command). OpensAsBeforeOrAfter (session_of_kept old) (command_of x) start left) (sym c.in-Act.is)
     (stopped_opens action old ready mid made journals (c.in_ok-journals.ensures.journals action old made.grew made.is) start files left stop apart_from c.in-Ok-prepare.ensures.leads)
@@ -175,12 +175,12 @@ calls_so g c =
 
 pub returns-in-Ok-write_down-clause-calls : goal.returns-in-Ok-write_down-clause-calls
 returns-in-Ok-write_down-clause-calls g c =
-    c.in-Ok-write_down.ensures.calls ∙ ap (λ n. g.S.Store.writing_calls c.args.store.now + n) (calls_so g (goal.at.returns-in-Ok-write_down-clause-calls g c).After-write_down)
+    c.in-Ok-write_down.ensures.calls.calls ∙ ap (λ n. g.S.Store.writing_calls c.args.store.now + n) (calls_so g (goal.at.returns-in-Ok-write_down-clause-calls g c).After-write_down)
 
 pub returns-in-Ok-write_down-clause-at_most : goal.returns-in-Ok-write_down-clause-at_most
 returns-in-Ok-write_down-clause-at_most g c =
-    subst (λ n. AreAtMost n (g.S.Store.writing_calls c.args.store.now) (g.S.Store.writing_calls c.write_down.new.store)) (calls_so g (goal.at.returns-in-Ok-write_down-clause-at_most g c).After-write_down) c.write_down.ensures.at_most
+    subst (λ n. AreAtMost n (g.S.Store.writing_calls c.args.store.now) (g.S.Store.writing_calls c.write_down.new.store)) (calls_so g (goal.at.returns-in-Ok-write_down-clause-at_most g c).After-write_down) c.write_down.ensures.calls.at_most
 
 pub returns-in-Err-write_down-clause-at_most : goal.returns-in-Err-write_down-clause-at_most
 returns-in-Err-write_down-clause-at_most g c =
-    subst (λ n. AreAtMost n (g.S.Store.writing_calls c.args.store.now) (g.S.Store.writing_calls c.write_down.new.store)) (calls_so g (goal.at.returns-in-Err-write_down-clause-at_most g c).After-write_down) c.write_down.ensures.at_most
+    subst (λ n. AreAtMost n (g.S.Store.writing_calls c.args.store.now) (g.S.Store.writing_calls c.write_down.new.store)) (calls_so g (goal.at.returns-in-Err-write_down-clause-at_most g c).After-write_down) c.write_down.ensures.calls.at_most

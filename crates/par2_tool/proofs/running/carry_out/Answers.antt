@@ -21,7 +21,7 @@ returns-in_err-session-clause-failed g c honest =
     let action = command_of c.args.command.now in
     let old = g.S.Store.contents c.args.store.now in
     let new = g.S.Store.contents c.open_for.new.store in
-    let unopened = (c.in_err-session.ensures.opening honest).unopened in
+    let unopened = (c.in_err-session.ensures.opens honest).unopened in
     let told = err_from_is_err_and c.from_residual.result c.from_residual.ensures.1 in
     rw told.1 (subst (λ (failure : Failure). IsFailed action old new failure) (sym told.2)
     (opening_failed action old new c.in_err-session.field-0.0 unopened.refused unopened.stopped))
@@ -45,7 +45,7 @@ returns-clause-done g c =
     (g.S.Store.contents c.args.store.now) (g.S.Store.contents c.open_for.new.store) (g.S.Store.contents c.perform.new.store)
     found.0 (session_of_kept started.session) (session_of_kept c.perform.new.session) started.dropped (outcome_of c.in_ok-outcome.outcome) found.2
     action found.1 c.in_ok-outcome.ensures.answer c.in_ok-outcome.ensures.session c.in_ok-outcome.ensures.leads
-    (λ honest files. c.in_ok-outcome.ensures.written (c.open_for.ensures.honest honest) files)
+    (λ honest files. c.in_ok-outcome.ensures.written (c.open_for.ensures.keeps.honest honest) files)
 
 pub returns-in_err-outcome-clause-cause : goal.returns-in_err-outcome-clause-cause
 returns-in_err-outcome-clause-cause g c =
@@ -55,7 +55,7 @@ returns-in_err-outcome-clause-cause g c =
     let after = g.S.Store.failures c.perform.new.store in
     let told = err_from_is_err_and c.from_residual-in_err-outcome.result c.from_residual-in_err-outcome.ensures.1 in
     rw told.1 (subst (λ (failure : Failure). IsCause action before after failure) (sym told.2)
-    (perform_cause action c.in_ok-session.field-0.session c.perform.new.session before middle after c.in_err-outcome.field-0.0 c.in_ok-session.ensures.failures.steady c.in_err-outcome.ensures.refused))
+    (perform_cause action c.in_ok-session.field-0.session c.perform.new.session before middle after c.in_err-outcome.field-0.0 c.in_ok-session.ensures.keeps.failures.steady c.in_err-outcome.ensures.refused))
 
 pub returns-in_err-outcome-clause-failed : goal.returns-in_err-outcome-clause-failed
 returns-in_err-outcome-clause-failed g c honest =
@@ -65,7 +65,7 @@ returns-in_err-outcome-clause-failed g c honest =
     let new = g.S.Store.contents c.perform.new.store in
     let middle = g.S.Store.failures c.open_for.new.store in
     let after = g.S.Store.failures c.perform.new.store in
-    let kept_honest = c.open_for.ensures.honest honest in
+    let kept_honest = c.open_for.ensures.keeps.honest honest in
     let started = c.in_ok-session.field-0 in
     let session = started.session in
     let fault = c.in_err-outcome.field-0.0 in
@@ -89,27 +89,27 @@ returns-in_err-outcome-clause-failed g c honest =
 -- whatever a cut leaves, of the opening or of the command
 pub returns-in_err-session-clause-cut : goal.returns-in_err-session-clause-cut
 returns-in_err-session-clause-cut g c honest lasts left may =
-    stopped_opening (command_of c.args.command.now) (g.S.Store.contents c.args.store.now) left (λ back. (c.open_for.ensures.opening honest).cut lasts back left may)
+    stopped_opening (command_of c.args.command.now) (g.S.Store.contents c.args.store.now) left (λ back. (c.open_for.ensures.opens honest).cut lasts back left may)
 
 pub returns-then-is_back-clause-cut : goal.returns-then-is_back-clause-cut
 returns-then-is_back-clause-cut g c honest lasts left may =
-    stopped_opening (command_of c.args.command.now) (g.S.Store.contents c.args.store.now) left (λ back. (c.open_for.ensures.opening honest).cut lasts back left may)
+    stopped_opening (command_of c.args.command.now) (g.S.Store.contents c.args.store.now) left (λ back. (c.open_for.ensures.opens honest).cut lasts back left may)
 
 pub returns-clause-cut : goal.returns-clause-cut
 returns-clause-cut g c honest lasts left may =
     let found = c.in_ok-session.ensures.opened in
     cut_of_command (g.S.Store.honest c.args.store.now) (command_of c.args.command.now) (g.S.Store.contents c.args.store.now) (g.S.Store.contents c.open_for.new.store) left found.0 (started_of c.in_ok-session.field-0)
     honest found.1 found.2
-    (λ files along. c.perform.ensures.cut (c.open_for.ensures.honest honest) ((c.in_ok-session.ensures.opening honest).lasts lasts) files along left may)
-    (λ verify. (c.in_ok-session.ensures.opening honest).lasts lasts left (subst (λ store. g.S.Store.may_remain store left) (c.perform.ensures.verify verify).0 may))
+    (λ files along. c.perform.ensures.cut (c.open_for.ensures.keeps.honest honest) (c.in_ok-session.ensures.keeps.kept honest lasts) files along left may)
+    (λ verify. c.in_ok-session.ensures.keeps.kept honest lasts left (subst (λ store. g.S.Store.may_remain store left) (c.perform.ensures.verify verify).0 may))
 
 pub returns-in_err-outcome-clause-cut : goal.returns-in_err-outcome-clause-cut
 returns-in_err-outcome-clause-cut g c honest lasts left may =
     let found = c.in_ok-session.ensures.opened in
     cut_of_command (g.S.Store.honest c.args.store.now) (command_of c.args.command.now) (g.S.Store.contents c.args.store.now) (g.S.Store.contents c.open_for.new.store) left found.0 (started_of c.in_ok-session.field-0)
     honest found.1 found.2
-    (λ files along. c.perform.ensures.cut (c.open_for.ensures.honest honest) ((c.in_ok-session.ensures.opening honest).lasts lasts) files along left may)
-    (λ verify. (c.in_ok-session.ensures.opening honest).lasts lasts left (subst (λ store. g.S.Store.may_remain store left) (c.perform.ensures.verify verify).0 may))
+    (λ files along. c.perform.ensures.cut (c.open_for.ensures.keeps.honest honest) (c.in_ok-session.ensures.keeps.kept honest lasts) files along left may)
+    (λ verify. c.in_ok-session.ensures.keeps.kept honest lasts left (subst (λ store. g.S.Store.may_remain store left) (c.perform.ensures.verify verify).0 may))
 
 -- the writing calls
 pub returns-in_err-session-clause-failed_calls : goal.returns-in_err-session-clause-failed_calls
@@ -120,11 +120,11 @@ returns-in_err-session-clause-failed_calls g c honest =
     let after = g.S.Store.writing_calls c.open_for.new.store in
     let told = err_from_is_err_and c.from_residual.result c.from_residual.ensures.1 in
     rw told.1 (subst (λ (failure : Failure). CountsFailedRun action old before after failure) (sym told.2)
-    (opening_calls action old before after c.in_err-session.field-0.0 (c.in_err-session.ensures.opening honest).calls))
+    (opening_calls action old before after c.in_err-session.field-0.0 ((c.in_err-session.ensures.opens honest).calls)))
 
 pub returns-then-is_back-clause-failed_calls : goal.returns-then-is_back-clause-failed_calls
 returns-then-is_back-clause-failed_calls g c honest =
-    let counted = (c.in_ok-session.ensures.opening honest).calls in
+    let counted = (c.in_ok-session.ensures.opens honest).calls in
     (counted.0, counted.1, counted.2.opened)
 
 pub returns-in_err-outcome-clause-failed_calls : goal.returns-in_err-outcome-clause-failed_calls
@@ -134,7 +134,7 @@ returns-in_err-outcome-clause-failed_calls g c honest =
     let before = g.S.Store.writing_calls c.args.store.now in
     let middle = g.S.Store.writing_calls c.open_for.new.store in
     let after = g.S.Store.writing_calls c.perform.new.store in
-    let counted = (c.in_ok-session.ensures.opening honest).calls in
+    let counted = (c.in_ok-session.ensures.opens honest).calls in
     let found = c.in_ok-session.ensures.opened in
     let started = started_of c.in_ok-session.field-0 in
     let told = err_from_is_err_and c.from_residual-in_err-outcome.result c.from_residual-in_err-outcome.ensures.1 in
@@ -149,7 +149,7 @@ returns-clause-calls g c honest =
     let before = g.S.Store.writing_calls c.args.store.now in
     let middle = g.S.Store.writing_calls c.open_for.new.store in
     let after = g.S.Store.writing_calls c.perform.new.store in
-    let counted = (c.in_ok-session.ensures.opening honest).calls in
+    let counted = (c.in_ok-session.ensures.opens honest).calls in
     let found = c.in_ok-session.ensures.opened in
     let started = started_of c.in_ok-session.field-0 in
     let opened : middle ≡ before + counted.0 = counted.2.opened in

@@ -1,29 +1,61 @@
-use Rattle.std.proofs.Common.{map}
+use Rattle.std.proofs.Common.{rules, map}
 use Rattle.std.proofs.lemmas.Result.{on_err_weaker}
 use Rattle.par2_folder.specs.Views.{change_of}
+use Rattle.par2_tool.specs.Performing.{IsStoppedAt}
+use Rattle.par2_tool.proofs.Openings.{any_err}
 use Rattle.par2_tool.proofs.Remains.{begun_remains, some_remain, ended_remains}
 use Rattle.par2_tool.proofs.writing.write_down.Goals as goal
 
-pub returns-in_err-begin-clause-remains : goal.returns-in_err-begin-clause-remains
-returns-in_err-begin-clause-remains g c honest lasts left may =
-    begun_remains (g.S.Store.contents c.args.store.now) c.args.journals.now (map change_of c.args.changes.now) left (c.begin.ensures.remains honest lasts left may)
+pub returns-in_err-begin-clause-written : goal.returns-in_err-begin-clause-written
+returns-in_err-begin-clause-written g c =
+    let old = g.S.Store.contents c.args.store.now in
+    let new = g.S.Store.contents c.begin.new.store in
+    let journals = c.args.journals.now in
+    let changes = map change_of c.args.changes.now in
+    let begun = c.begin.ensures.written in
+    record {
+      honest = begun.honest;
+      done = search rules;
+      stopped = λ h. any_err c.from_residual.result (IsStoppedAt old journals changes new) (begun_remains old journals changes new (c.in_err-begin.ensures.written.stopped h));
+      remains = λ h lasts left may. begun_remains old journals changes left (begun.remains h lasts left may);
+    }
 
-pub returns-in_err-write_changes-clause-remains : goal.returns-in_err-write_changes-clause-remains
-returns-in_err-write_changes-clause-remains g c honest lasts left may =
-    some_remain (g.S.Store.contents c.args.store.now) c.args.journals.now c.args.changes.now (g.S.Store.contents c.begin.new.store) left (c.in_ok-begin.ensures.done honest)
-    (c.write_changes.ensures.remains (c.begin.ensures.honest honest) (c.in_ok-begin.ensures.lasts honest lasts) left may)
+pub returns-in_err-write_changes-clause-written : goal.returns-in_err-write_changes-clause-written
+returns-in_err-write_changes-clause-written g c =
+    let old = g.S.Store.contents c.args.store.now in
+    let mid = g.S.Store.contents c.begin.new.store in
+    let new = g.S.Store.contents c.write_changes.new.store in
+    let journals = c.args.journals.now in
+    let changes = map change_of c.args.changes.now in
+    let begun = c.in_ok-begin.ensures in
+    let some = c.write_changes.ensures.written in
+    record {
+      honest = λ h. some.honest (begun.written.honest h);
+      done = search rules;
+      stopped = λ h. any_err c.from_residual-in_err-write_changes.result (IsStoppedAt old journals changes new)
+          (some_remain old journals changes mid new (begun.written.done h) (c.in_err-write_changes.ensures.written.stopped (begun.written.honest h)));
+      remains = λ h lasts left may. some_remain old journals changes mid left (begun.written.done h) (some.remains (begun.written.honest h) (begun.kept h lasts) left may);
+    }
 
-pub returns-clause-stopped : goal.returns-clause-stopped
-returns-clause-stopped g c honest =
-    let begun_honest = c.begin.ensures.honest honest in
-    let either = rw c.deref.ensures.value at (c.put_journal.ensures.put.writes.all_or_none (c.write_changes.ensures.honest begun_honest)) in
-    on_err_weaker c.put_journal.result (ended_remains (g.S.Store.contents c.args.store.now) c.args.journals.now (map change_of c.args.changes.now) (g.S.Store.contents c.begin.new.store) (g.S.Store.contents c.write_changes.new.store) (g.S.Store.contents c.put_journal.new.self)
-    (c.in_ok-begin.ensures.done honest) (c.in_ok-write_changes.ensures.done begun_honest)) either
-
-pub returns-clause-remains : goal.returns-clause-remains
-returns-clause-remains g c honest lasts left may =
-    let begun_honest = c.begin.ensures.honest honest in
-    let lasting = c.in_ok-write_changes.ensures.lasts begun_honest (c.in_ok-begin.ensures.lasts honest lasts) in
-    let either = rw c.deref.ensures.value at (c.put_journal.ensures.put.writes.remains (c.write_changes.ensures.honest begun_honest) lasting left may) in
-    ended_remains (g.S.Store.contents c.args.store.now) c.args.journals.now (map change_of c.args.changes.now) (g.S.Store.contents c.begin.new.store) (g.S.Store.contents c.write_changes.new.store) left
-    (c.in_ok-begin.ensures.done honest) (c.in_ok-write_changes.ensures.done begun_honest) either
+pub returns-clause-written : goal.returns-clause-written
+returns-clause-written g c =
+    let old = g.S.Store.contents c.args.store.now in
+    let mid = g.S.Store.contents c.begin.new.store in
+    let made = g.S.Store.contents c.write_changes.new.store in
+    let new = g.S.Store.contents c.put_journal.new.self in
+    let journals = c.args.journals.now in
+    let changes = map change_of c.args.changes.now in
+    let begun = c.in_ok-begin.ensures in
+    let all = c.in_ok-write_changes.ensures in
+    let put = c.put_journal.ensures.put.writes in
+    record {
+      honest = λ h. put.honest (all.written.honest (begun.written.honest h));
+      done = search rules;
+      stopped = λ h.
+          let either = rw c.deref.ensures.value at (put.all_or_none (all.written.honest (begun.written.honest h))) in
+          on_err_weaker c.put_journal.result (ended_remains old journals changes mid made new (begun.written.done h) (all.written.done (begun.written.honest h))) either;
+      remains = λ h lasts left may.
+          let kept = all.kept (begun.written.honest h) (begun.kept h lasts) in
+          let either = rw c.deref.ensures.value at (put.remains (all.written.honest (begun.written.honest h)) kept left may) in
+          ended_remains old journals changes mid made left (begun.written.done h) (all.written.done (begun.written.honest h)) either;
+    }

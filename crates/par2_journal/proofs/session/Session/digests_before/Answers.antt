@@ -15,9 +15,9 @@ invariant_of-self-2 c =
     let prints = c.in_ok-fingerprints.fingerprints in
     let next = c.in-Some.next in
     let along =
-    subst (λ (p : Folder × List Change). AreAlong prints p.0 p.1) (λ i. ((c.folder.ensures.folder i).files, c.next_changes-changes.ensures i)) c.in_ok-fingerprints.ensures.fingerprints in
+    subst (λ (p : Folder × List Change). AreAlong p.0 p.1 prints) (λ i. ((c.folder.ensures.folder i).files, c.next_changes-changes.ensures i)) c.in_ok-fingerprints.ensures.along in
     record {
       within = c.self.invariant.within;
       walks = c.self.invariant.walks;
-      ahead = subst (λ (s : KeptSession). AreAlong prints s.folder.files (next_changes next s)) (sym c.self.view_is) along;
+      ahead = subst (λ (s : KeptSession). AreAlong s.folder.files (next_changes next s) prints) (sym c.self.view_is) along;
     }

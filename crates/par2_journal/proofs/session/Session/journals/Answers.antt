@@ -1,8 +1,8 @@
-use Rattle.std.proofs.Common.{◌-◌, sym, ap, ◌∙◌, vec_len, vec_capacity}
+use Rattle.std.proofs.Common.{◌+◌, ◌-◌, sym, ap, ◌∙◌, vec_len, vec_capacity}
 use Rattle.par2_spec.specs.Sessions.{KeptSession}
 use Rattle.par2_journal.specs.Kinds.{kind_of, known_of}
 use Rattle.par2_journal.specs.Ready.{Kind, Ready, changes_by_kind}
-use Rattle.par2_journal.specs.Spelling.{Add, Undo, Redo, turn_of}
+use Rattle.par2_journal.specs.Spelling.{Add, Replace, turn_of}
 use Rattle.par2_journal.proofs.Prints.{known_here}
 use Rattle.par2_journal.proofs.SessionJournals.{ready_applies, ready_spelled, spelled_for, undo_entry, redo_entry}
 use Rattle.par2_journal.proofs.session.Session.journals.Goals.{in-Change, in-Undo, in-Redo}
@@ -40,20 +40,20 @@ returns-clause-spelled c =
           let is = ap (λ (r : Ready). r.kind) (sym c.prepared.view_is) ∙ ap kind_of w.in-Change.is in
           let are = w.as_mut_slice-changes.ensures.value ∙ sym (ap (λ (k : Kind). changes_by_kind k c.args.self.now) is) in
           ready_spelled s.entries.items s.cursor c.self.invariant.within s.folder room c.args.self.now c.self.view_is c.args.prepared.now c.requires.can
-          Add (sym (ap turn_of is)) w.deref.result.now w.deref.ensures.value w.spell_command.result c.match-prepared.result w.result-is
-          _ are w.spell_command.ensures.halfway w.spell_command.ensures.after
+          Add (sym (ap (λ k. turn_of k s.cursor) is)) w.deref.result.now w.deref.ensures.value w.spell_command.result c.match-prepared.result w.result-is
+          _ are w.spell_command.ensures.spelled
       | in-Undo w ↦
           let is = ap (λ (r : Ready). r.kind) (sym c.prepared.view_is) ∙ ap kind_of w.in-Undo.is in
           let are = undo_entry s.entries.items s.cursor c.self.invariant.within s.folder room c.args.self.now c.self.view_is c.args.prepared.now c.requires.can is w.deref_mut.result.now w.deref_mut.ensures.value in
           ready_spelled s.entries.items s.cursor c.self.invariant.within s.folder room c.args.self.now c.self.view_is c.args.prepared.now c.requires.can
-          Undo (sym (ap turn_of is)) w.deref_mut.result.now w.deref_mut.ensures.value w.spell_entry.result c.match-prepared.result w.result-is
-          _ are w.spell_entry.ensures.halfway w.spell_entry.ensures.after
+          (Replace (s.cursor - 1) (s.cursor - 1)) (sym (ap (λ k. turn_of k s.cursor) is)) w.deref_mut.result.now w.deref_mut.ensures.value w.spell_entry.result c.match-prepared.result w.result-is
+          _ are w.spell_entry.ensures.spelled
       | in-Redo w ↦
           let is = ap (λ (r : Ready). r.kind) (sym c.prepared.view_is) ∙ ap kind_of w.in-Redo.is in
           let are = redo_entry s.entries.items s.cursor c.self.invariant.within s.folder room c.args.self.now c.self.view_is c.args.prepared.now c.requires.can is w.deref_mut-in-Redo.result.now w.deref_mut-in-Redo.ensures.value in
           ready_spelled s.entries.items s.cursor c.self.invariant.within s.folder room c.args.self.now c.self.view_is c.args.prepared.now c.requires.can
-          Redo (sym (ap turn_of is)) w.deref_mut-in-Redo.result.now w.deref_mut-in-Redo.ensures.value w.spell_entry-in-Redo.result c.match-prepared.result w.result-is
-          _ are w.spell_entry-in-Redo.ensures.halfway w.spell_entry-in-Redo.ensures.after
+          (Replace s.cursor (s.cursor + 1)) (sym (ap (λ k. turn_of k s.cursor) is)) w.deref_mut-in-Redo.result.now w.deref_mut-in-Redo.ensures.value w.spell_entry-in-Redo.result c.match-prepared.result w.result-is
+          _ are w.spell_entry-in-Redo.ensures.spelled
     ]
 
 pub returns-clause-journals : goal.returns-clause-journals

@@ -1,6 +1,6 @@
 use Rattle.std.proofs.Common.{◌≡◌, ◌++◌, ◌∷◌, [], rules}
 use Rattle.par2_recovery.proofs.Records.{text_push}
-use Rattle.par2_recovery.proofs.set_record.texts.Goals as goal
+use Rattle.par2_recovery.proofs.set_record.file_texts.Goals as goal
 
 pub loop-i-preserved : goal.loop-i-preserved
 loop-i-preserved c =

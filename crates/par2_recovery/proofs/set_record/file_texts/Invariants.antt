@@ -2,7 +2,7 @@ use Rattle.std.proofs.Common.{◌≡◌, map}
 use Rattle.std.specs.Prelude.{take}
 use Rattle.par2_digests.specs.Texts.{texts_of}
 use Rattle.par2_spec.specs.Folders.{bytes_of}
-use Rattle.par2_recovery.proofs.set_record.texts.Given as goal
+use Rattle.par2_recovery.proofs.set_record.file_texts.Given as goal
 
 abbrev pub invariant-loop-i : goal.invariant-loop-i
 invariant-loop-i l = texts_of l.texts.items ≡ map (bytes_of l.folder.files) (take l.i l.names)

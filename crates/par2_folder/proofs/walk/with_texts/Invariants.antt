@@ -1,0 +1,10 @@
+use Rattle.std.proofs.Common.{◌≤◌, ◌++◌, ℕ, List, length, take}
+use Rattle.par2_digests.specs.Texts.{texts_of}
+use Rattle.par2_folder.specs.Runs.{AreTo}
+use Rattle.par2_folder.proofs.walk.with_texts.Given as goal
+
+abbrev pub invariant-loop-text : goal.invariant-loop-text
+invariant-loop-text l = record {
+  few : length l.runs.pendings.items ≤ 8;
+  texts : (before : List (List ℕ)) → AreTo l.fn.runs before → AreTo l.runs (before ++ texts_of (take l.text-index l.texts));
+}

@@ -1,0 +1,88 @@
+-- What a session answers to commands and actions, and what becomes of it.
+use Rattle.std.specs.Prelude.{◌≡◌, ◌⊎◌, Bool, List, ℕ, [], map, String, string_bytes, Some, Ok, Err, Result, IfErr, IfOk, IsErrOf, OnErr, OnOk}
+use Rattle.std.specs.declared.alloc.Global.{Global}
+use Rattle.par2_spec.specs.Commands.{Action, Command, Do, Repair, Undo, Redo, Verify}
+use Rattle.par2_spec.specs.Folders.{Folder}
+use Rattle.par2_spec.specs.History.{History, MayBeRefused}
+use Rattle.par2_spec.specs.Plans.{AreFewFor, LeadsToAfterAsked}
+use Rattle.par2_spec.specs.Refusals.{early_refusal, early_refusal_of}
+use Rattle.par2_spec.specs.Reports.{report_in}
+use Rattle.par2_spec.specs.Sessions.{KeptSession, OnlyGrew, session_of_kept, session_after, changes_asked, history_of}
+use Rattle.par2_spec.specs.Texts.{Step, step_of}
+use Rattle.par2_spec.specs.declared.Fault.{Fault}
+use Rattle.par2_spec.specs.declared.Fault.TheVariants.{Memory}
+use Rattle.par2_plan.specs.Repairing.{WritesAsDescribed}
+use Rattle.par2_plan.specs.Views.{report_of}
+use Rattle.par2_plan.specs.declared.report.Report.{Report}
+use Rattle.par2_journal.specs.Ready.{Ready, IsReady}
+use Rattle.par2_journal.specs.Refusals.{MayFail, MayRefuse}
+use Rattle.par2_journal.specs.declared.preparation.SessionFault.{SessionFault}
+use Rattle.par2_journal.specs.declared.preparation.SessionFault.TheVariants.{Plan, NothingToUndo, NothingToRedo}
+
+-- a repair by the words that ask for it
+abbrev pub repair_of : List ℕ → List (String Global) → Bool → Command
+repair_of base extras purge = Repair base (map string_bytes extras) purge
+
+-- the history of a session as it is kept
+abbrev pub kept_history : KeptSession → History
+kept_history s = history_of (session_of_kept s)
+
+-- ---- what is made ready
+
+-- a command is made ready, or refused. Either way the session only grew
+pub record MakesReady (command : Command) (old new : KeptSession) (result : Result Ready Fault) : Type 0 where
+  pub kept : OnlyGrew old new
+  pub ready : IfOk result (λ ready. IsReady (Do command) old ready new)
+  pub leads : OnOk result (LeadsToAfterAsked old.folder.files (Do command))
+  pub refused : IfErr result (MayFail command old)
+  -- what is found before memory is taken is never reported as a lack of it
+  pub early : (fault : Fault) → early_refusal old.folder.files command ≡ Some fault → IsErrOf result fault
+
+-- the same of an action
+pub record Prepares (action : Action) (old new : KeptSession) (result : Result Ready SessionFault) : Type 0 where
+  pub kept : OnlyGrew old new
+  pub ready : IfOk result (λ ready. IsReady action old ready new)
+  pub leads : OnOk result (LeadsToAfterAsked old.folder.files action)
+  pub refused : IfErr result (MayRefuse action old)
+  -- what is found before memory is taken is never reported as a lack of it
+  pub early : (fault : Fault) → early_refusal_of old.folder.files action ≡ Some fault → IsErrOf result (Plan fault)
+  pub nothing_to_undo : action ≡ Undo → old.undos ≡ [] → IsErrOf result NothingToUndo
+  pub nothing_to_redo : action ≡ Redo → old.redos ≡ [] → IsErrOf result NothingToRedo
+
+-- ---- what is done at once
+
+-- the session is the one from after the action
+abbrev pub IsAfter : Action → KeptSession → KeptSession → Type 0
+IsAfter action old new = session_after (session_of_kept old) action ≡ Ok (session_of_kept new)
+
+-- a command is done, or refused. A refusal leaves names, bytes and history as they were
+pub record Performs (command : Command) (old new : KeptSession) (result : Result (List Step) Fault) : Type 0 where
+  pub done : OnOk result (IsAfter (Do command) old new)
+  -- its changes lead to the folder that the definitions name, and the steps are theirs
+  pub leads : OnOk result (LeadsToAfterAsked old.folder.files (Do command))
+  pub steps : IfOk result (λ steps. IfOk (changes_asked (session_of_kept old) (Do command)) (λ changes. steps ≡ map step_of changes))
+  pub unchanged : OnErr result (OnlyGrew old new)
+  pub refused : IfErr result (MayFail command old)
+  -- what is found before memory is taken is never reported as a lack of it
+  pub early : (fault : Fault) → early_refusal old.folder.files command ≡ Some fault → IsErrOf result fault
+
+-- an accepted repair writes each file as its set describes it, whatever the files of the folder hold; and there were so
+-- few names that asides could be numbered
+pub record WritesFiles {A : Type 0} (base : List ℕ) (extras : List (String Global)) (purge : Bool) (old : KeptSession) (result : Result A Fault) : Type 0 where
+  pub described : OnOk result (WritesAsDescribed old.folder.files base (map string_bytes extras))
+  pub few : OnOk result (AreFewFor old.folder.files (repair_of base extras purge))
+
+-- a verify reports what the definitions report, or is refused
+pub record Verifies (base : List ℕ) (extras : List (String Global)) (folder : Folder) (result : Result Report Fault) : Type 0 where
+  pub report : IfOk result (λ report. report_in folder base (map string_bytes extras) ≡ Ok (report_of report))
+  pub refused : IfErr result (λ fault. (fault ≡ Memory) ⊎ (report_in folder base (map string_bytes extras) ≡ Err fault))
+  -- what is found before memory is taken is never reported as a lack of it
+  pub early : (fault : Fault) → early_refusal folder (Verify base (map string_bytes extras)) ≡ Some fault → IsErrOf result fault
+
+-- an action may be refused although it could be done, because memory ran out
+abbrev pub MayBePassed : Action → KeptSession → Type 0
+MayBePassed action s = MayBeRefused (kept_history s) action
+
+-- the changes of an action lead to the folder that the definitions name
+abbrev pub LeadsFrom : Action → KeptSession → Type 0
+LeadsFrom action s = LeadsToAfterAsked s.folder.files action

@@ -1,0 +1,8 @@
+use Rattle.std.proofs.Common.{ℕ, ◌≡◌, ◌*◌, ◌<◌, replicate}
+use Rattle.par2_spec.specs.Sums.{lists_of}
+use Rattle.par2_transform.specs.Adding.{place_at}
+use Rattle.par2_recovery.specs.Writing.{output_at}
+use Rattle.recovery_calls.proofs.outputs.are_blank.Given as goal
+
+abbrev pub invariant-loop-t : goal.invariant-loop-t
+invariant-loop-t l = (t : ℕ) → t < l.t → output_at (2 * l.words) (place_at l.places t) (lists_of l.texts) ≡ replicate (2 * l.words) 0

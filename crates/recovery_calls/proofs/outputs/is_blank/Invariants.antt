@@ -1,0 +1,5 @@
+use Rattle.std.proofs.Common.{ℕ, ◌≡◌, ◌<◌, get_or}
+use Rattle.recovery_calls.proofs.outputs.is_blank.Given as goal
+
+abbrev pub invariant-loop-k : goal.invariant-loop-k
+invariant-loop-k l = (k : ℕ) → k < l.k → get_or l.text k 0 ≡ 0

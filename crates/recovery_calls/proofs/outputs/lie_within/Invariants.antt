@@ -1,0 +1,8 @@
+use Rattle.std.proofs.Common.{ℕ, ◌+◌, ◌*◌, ◌<◌, ◌≤◌, length}
+use Rattle.par2_spec.specs.Sums.{list_at, lists_of}
+use Rattle.par2_transform.specs.Adding.{place_at}
+use Rattle.recovery_calls.proofs.outputs.lie_within.Given as goal
+
+abbrev pub invariant-loop-t : goal.invariant-loop-t
+invariant-loop-t l =
+    (t : ℕ) → t < l.t → ((place_at l.places t).text < length (lists_of l.texts)) × ((place_at l.places t).at + 2 * l.words ≤ length (list_at (lists_of l.texts) (place_at l.places t).text))
