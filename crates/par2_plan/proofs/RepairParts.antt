@@ -23,9 +23,9 @@ use Rattle.par2_spec.proofs.RankLaws.{repairable-iff}
 use Rattle.par2_spec.proofs.ReadLaws.{lost_of}
 use Rattle.par2_spec.proofs.SearchLaws.{matches_of_needing}
 use Rattle.par2_asides.specs.Asides.{long_aside}
-use Rattle.par2_restore.specs.Restoring.{known_in, undetermined_fault, files_of}
+use Rattle.par2_restore.specs.Restoring.{undetermined_fault, files_of}
 use Rattle.par2_plan.specs.Drafts.{wrong_digest}
-use Rattle.par2_plan.specs.Repairing.{unmatched_names, names_given, AreNeeding, IsWholeWhereMatched, AreRestoredFor, targets_by, renames, matches_taken, writes, asides_removed, files_removed, place_by, changes_by, removals_by, with_removals, repair_by}
+use Rattle.par2_plan.specs.Repairing.{unmatched_names, names_given, AreNeeding, IsWholeWhereMatched, AreRestoredFor, targets_by, renames, matches_taken, writes, asides_removed, files_removed, place_by, changes_by, removals_by, with_removals, repair_by, known_by}
 use Rattle.par2_plan.specs.declared.needing_targets.Needing.{Needing}
 
 abbrev Pairs : Type 0
@@ -101,9 +101,6 @@ module _ (folder : Folder) (set : ParSet) (searched : List (List ℕ)) where
   abbrev ms : Pairs
   ms = matches folder set searched
 
-  abbrev pub slices_known : List (Option (List ℕ))
-  slices_known = known_in set (map (bytes_of folder) searched)
-
   pub names_in_pairs : needing_names folder set ≡ map (λ m. m.0.name) ms
   names_in_pairs =
       ap (map (λ (t : Target). t.name)) (sym (matches_of_needing folder set searched))
@@ -111,14 +108,14 @@ module _ (folder : Folder) (set : ParSet) (searched : List (List ℕ)) where
 
   -- ---- refusals
 
-  by_parts : repair_refusal folder set searched ≡ first_fault (undetermined_fault set slices_known ∷ long_aside folder set (put_aside folder set) ∷ wrong_digest (rebuilt_targets folder set searched) ∷ [])
+  by_parts : repair_refusal folder set searched ≡ first_fault (undetermined_fault set (known_by folder set searched) ∷ long_aside folder set (put_aside folder set) ∷ wrong_digest (rebuilt_targets folder set searched) ∷ [])
   unfolding repair_refusal known
   by_parts = refl
 
-  pub not_repairable : (fault : Fault) → undetermined_fault set slices_known ≡ Some fault → repair_refusal folder set searched ≡ Some fault
+  pub not_repairable : (fault : Fault) → undetermined_fault set (known_by folder set searched) ≡ Some fault → repair_refusal folder set searched ≡ Some fault
   not_repairable fault h = by_parts ∙ ap (λ f. first_fault (f ∷ long_aside folder set (put_aside folder set) ∷ wrong_digest (rebuilt_targets folder set searched) ∷ [])) h
 
-  module _ (told : undetermined_fault set slices_known ≡ None) where
+  module _ (told : undetermined_fault set (known_by folder set searched) ≡ None) where
     pub too_long : (fault : Fault) → long_aside folder set (put_aside folder set) ≡ Some fault → repair_refusal folder set searched ≡ Some fault
     too_long fault h =
         by_parts ∙ ap₂ (λ f g. first_fault (f ∷ g ∷ wrong_digest (rebuilt_targets folder set searched) ∷ [])) told h
@@ -134,22 +131,22 @@ module _ (folder : Folder) (set : ParSet) (searched : List (List ℕ)) where
 
   -- ---- slices and files
 
-  pub told_by : (names : List (List ℕ)) (slices : Option (List (List ℕ))) → names ≡ names_without_match ms → IsWholeWhereMatched folder set searched → AreRestoredFor set slices_known names slices
-      → undetermined_fault set slices_known ≡ None
+  pub told_by : (names : List (List ℕ)) (slices : Option (List (List ℕ))) → names ≡ names_without_match ms → IsWholeWhereMatched folder set searched → AreRestoredFor set (known_by folder set searched) names slices
+      → undetermined_fault set (known_by folder set searched) ≡ None
   unfolding known
-  told_by names None e whole h = determined_without set slices_known (whole (sym e ∙ h))
+  told_by names None e whole h = determined_without set (known_by folder set searched) (whole (sym e ∙ h))
   told_by names (Some slices) e whole h = h.determined
 
   none_among : (files : List (Target × List ℕ)) → filter (λ c. is_among [] c.0.name) files ≡ []
   none_among [] = refl
   none_among (file ∷ files) = none_among files
 
-  pub targets_are : (names : List (List ℕ)) (slices : Option (List (List ℕ))) → names ≡ names_without_match ms → AreRestoredFor set slices_known names slices
+  pub targets_are : (names : List (List ℕ)) (slices : Option (List (List ℕ))) → names ≡ names_without_match ms → AreRestoredFor set (known_by folder set searched) names slices
       → targets_by set slices names ≡ rebuilt_targets folder set searched
   unfolding rebuilt_targets known
   targets_are names None e h =
-      sym (none_among (files_of_slices set (rebuilt set slices_known)))
-      ∙ ap (λ ns. filter (λ (c : Target × List ℕ). is_among ns c.0.name) (files_of_slices set (rebuilt set slices_known))) (sym h ∙ e)
+      sym (none_among (files_of_slices set (rebuilt set (known_by folder set searched))))
+      ∙ ap (λ ns. filter (λ (c : Target × List ℕ). is_among ns c.0.name) (files_of_slices set (rebuilt set (known_by folder set searched)))) (sym h ∙ e)
   targets_are names (Some slices) e h =
       ap₂ (λ (ns all : List (List ℕ)). filter (λ (c : Target × List ℕ). is_among ns c.0.name) (files_of_slices set all)) e h.are_rebuilt
 
@@ -187,7 +184,7 @@ module _ (folder : Folder) (set : ParSet) (searched : List (List ℕ)) where
 -- what a repair has when it asks for asides and files
 pub record IsPrepared (folder : Folder) (set : ParSet) (searched : List (List ℕ)) (needing : Needing) (slices : Option (List (List ℕ))) : Type 0 where
   pub are : AreNeeding folder set searched needing
-  pub told : undetermined_fault set (slices_known folder set searched) ≡ None
+  pub told : undetermined_fault set (known_by folder set searched) ≡ None
   pub targets : targets_by set slices needing.unmatched.items ≡ rebuilt_targets folder set searched
 
 -- ---- purges

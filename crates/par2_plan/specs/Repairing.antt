@@ -6,7 +6,7 @@ use Rattle.std.specs.List.{AllByRecursion}
 use Rattle.std.specs.Option.{MatchOption}
 use Rattle.md5.specs.Md5.{md5}
 use Rattle.par2_spec.specs.Changes.{Change, Write, Rename, Remove}
-use Rattle.par2_spec.specs.Folders.{Folder, File}
+use Rattle.par2_spec.specs.Folders.{Folder, File, bytes_of}
 use Rattle.par2_spec.specs.Names.{is_among}
 use Rattle.par2_spec.specs.Plans.{repair_changes, repair_removals}
 use Rattle.par2_spec.specs.Refusals.{set_in}
@@ -14,7 +14,7 @@ use Rattle.par2_spec.specs.Repairs.{names_without_match, put_aside, rebuilt, reb
 use Rattle.par2_spec.specs.Search.{needing_names, known, lost}
 use Rattle.par2_spec.specs.Search as search
 use Rattle.par2_spec.specs.Sets.{all_pairs, ParSet, Target}
-use Rattle.par2_restore.specs.Restoring.{targets_among, undetermined_fault}
+use Rattle.par2_restore.specs.Restoring.{known_in, targets_among, undetermined_fault}
 use Rattle.par2_plan.specs.Findings.{matches_given}
 use Rattle.par2_plan.specs.Matches.{name_cmp}
 use Rattle.par2_plan.specs.declared.needing_targets.Needing.{Needing}
@@ -41,6 +41,10 @@ abbrev pub IsWholeWhereMatched : Folder → ParSet → List (List ℕ) → Type 
 IsWholeWhereMatched folder set searched = names_without_match (search.matches folder set searched) ≡ [] → lost (known folder set searched) ≡ []
 
 -- ---- slices and files
+
+-- the slices of a set that files have, by the names that are searched
+abbrev pub known_by : Folder → ParSet → List (List ℕ) → List (Option (List ℕ))
+known_by folder set searched = known_in set (map (bytes_of folder) searched)
 
 -- all slices of a set, of which the lost ones are rebuilt
 pub record AreRestored (set : ParSet) (known : List (Option (List ℕ))) (slices : List (List ℕ)) : Type 0 where

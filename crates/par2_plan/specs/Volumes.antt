@@ -1,8 +1,9 @@
 -- Volumes, into which recovery slices are written, and where these lie.
-use Rattle.std.specs.Prelude.{ℕ, ◌≡◌, ◌<◌, ◌+◌, ◌*◌, List, [], ◌∷◌, ◌++◌, length, map, flat_map, replicate, slice_index_or}
+use Rattle.std.specs.Prelude.{ℕ, ◌≡◌, ◌<◌, ◌+◌, ◌*◌, List, [], ◌∷◌, ◌++◌, length, map, flat_map, replicate, slice_index_or, Vec}
+use Rattle.std.specs.declared.alloc.Global.{Global}
 use Rattle.std.specs.List.{range_with_len}
 use Rattle.par2_spec.specs.Recovery.{recovery}
-use Rattle.par2_spec.specs.Sums.{list_at}
+use Rattle.par2_spec.specs.Sums.{list_at, lists_of}
 use Rattle.par2_packets.specs.Recoveries.{undigested}
 use Rattle.par2_transform.specs.declared.outputs.Place.{Place}
 use Rattle.par2_plan.specs.Outputs.{inputs_of}
@@ -24,6 +25,10 @@ blank_volume parts volume = volume_with parts (λ e. replicate parts.set.now.sli
 -- they are there
 abbrev pub with_slices : Parts → Volume → List ℕ
 with_slices parts volume = volume_with parts (slice_of parts) volume
+
+-- the texts of volumes, in order
+abbrev pub AreTexts : {Z : Type 0} → (Volume → List ℕ) → List Volume → Vec (Vec ℕ Global) Z → Type 0
+AreTexts text_of volumes texts = lists_of texts.items ≡ map text_of volumes
 
 -- volume j, or one with nothing
 abbrev pub nth_volume : List Volume → ℕ → Volume

@@ -4,6 +4,7 @@ ghost use Rattle.par2_spec.specs.Folders.{has, bytes_of};
 ghost use Rattle.par2_spec.specs.Names.{distinct};
 ghost use Rattle.par2_spec.specs.Search as search;
 ghost use Rattle.par2_search.specs.Texts.{texts_of};
+ghost use Rattle.par2_plan.specs.Answers.{Lists};
 
 use par2_folder::{Folder, Name};
 use par2_sets::ParSet;
@@ -43,8 +44,7 @@ pub fn candidates(
     set: &ParSet,
     extras: &[Name],
 ) -> Result<Vec<Name>, AllocError>
-    ensures { let searched = search.candidates folder.now.files set.now extras.now in
-        IfOk result (λ names. names.items ≡ searched) }
+    ensures { Lists (search.candidates folder.now.files set.now extras.now) result }
 {
     let mut names = present_targets(alloc, folder, set)?;
     for extra in extras {

@@ -1,5 +1,5 @@
 //! The files that the inputs name, and why they can't be taken.
-ghost use Rattle.std.specs.Prelude.{◌≡◌, ◌≤◌, ◌==◌, ◌⊎◌, ℕ, List, nat_lt, not, length, take, sum_by, position, IsTrue, IfOk, IfErr, IfSome, Some, None, ◌<◌};
+ghost use Rattle.std.specs.Prelude.{◌≡◌, ◌≤◌, ◌==◌, ℕ, List, nat_lt, not, length, take, sum_by, position, IfOk, IfSome, Some, None, ◌<◌};
 ghost use Rattle.std.specs.List.{enumerate_from};
 ghost use Rattle.par2_spec.specs.Names.{is_among};
 ghost use Rattle.par2_spec.specs.Slices as spec;
@@ -9,6 +9,7 @@ ghost use Rattle.par2_spec.specs.Folders.{File, has, bytes_of};
 ghost use Rattle.par2_spec.specs.Volumes.{in_id_order};
 ghost use Rattle.par2_spec.specs.Commands.{files_of};
 ghost use Rattle.par2_recovery.specs.Views.{AreRecords, names_of};
+ghost use Rattle.par2_plan.specs.Answers.{FailsFor};
 ghost use Rattle.par2_plan.specs.Faults.{duplicate_input, files_fault, ids_fault};
 
 use par2_folder::{Folder, Name};
@@ -39,8 +40,7 @@ fn first_repeated(alloc: Global, names: &[Name]) -> Result<Option<usize>, AllocE
 
 /// Refuses an input that was given before.
 pub fn no_duplicate(alloc: Global, names: &[Name]) -> Result<(), Fault>
-    ensures refused { let reason = duplicate_input names.now in
-        IfErr result (λ fault. (fault ≡ Fault.Memory) ⊎ (reason ≡ Some fault)) }
+    ensures refused { FailsFor (duplicate_input names.now) result }
     ensures accepted { IfOk result (λ _. duplicate_input names.now ≡ None) }
 {
     match first_repeated(alloc, names)? {

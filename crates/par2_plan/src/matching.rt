@@ -1,11 +1,11 @@
 //! Which targets of a set are needing, and which other files are intact for them.
-ghost use Rattle.std.specs.Prelude.{◌≡◌, ◌&&◌, List, ℕ, not, map, filter, length, IfOk, option_map, All, IfSome, ◌<◌};
-ghost use Rattle.std.specs.BTreeSet.{contains};
+ghost use Rattle.std.specs.Prelude.{◌≡◌, not, map, filter, length, IfOk, option_map, IfSome, ◌<◌};
 ghost use Rattle.std.specs.List.{IsDistinct};
 ghost use Rattle.std.specs.Str.{bytes_eq};
 ghost use Rattle.par2_spec.specs.Names.{is_among};
 ghost use Rattle.par2_spec.specs.Search as search;
 ghost use Rattle.par2_search.specs.Matching.{Describe, text_at};
+ghost use Rattle.par2_plan.specs.Answers.{Lists};
 ghost use Rattle.par2_plan.specs.Findings.{needs, matches_given};
 ghost use Rattle.par2_plan.specs.Matches.{items_where, intact_by, HoldsNames, ArePlaces};
 
@@ -43,8 +43,7 @@ fn needing_targets<'s>(
     set: &'s ParSet,
     needing: &[bool],
 ) -> Result<Vec<par2_search::Target<'s>>, AllocError>
-    ensures { let all = items_where needing.now set.now.targets in
-        IfOk result (λ targets. Describe targets.items all) }
+    ensures { IfOk result (λ all. Describe all.items (items_where needing.now set.now.targets)) }
 {
     let mut targets = Vec::new(alloc);
     for (target, needs) in set.targets().iter().zip(needing) {
@@ -64,8 +63,7 @@ fn intact_names<'s>(
     set: &'s ParSet,
     needing: &[bool],
 ) -> Result<BTreeSet<&'s Name>, AllocError>
-    ensures { let all = intact_by needing.now set.now.targets in
-        IfOk result (λ names. HoldsNames names all) }
+    ensures { IfOk result (λ names. HoldsNames names (intact_by needing.now set.now.targets)) }
 {
     let mut names = BTreeSet::new(alloc);
     for (target, needs) in set.targets().iter().zip(needing) {
@@ -112,8 +110,7 @@ fn names_at(
     numbers: &[Option<usize>],
 ) -> Result<Vec<Option<Name>>, AllocError>
     requires { ArePlaces (length names.now) numbers.now }
-    ensures { let chosen = map (option_map (text_at names.now)) numbers.now in
-        IfOk result (λ list. list.items ≡ chosen) }
+    ensures { Lists (map (option_map (text_at names.now)) numbers.now) result }
 {
     let mut list = Vec::with_capacity(alloc, numbers.len())?;
     for number in numbers {
@@ -132,8 +129,7 @@ pub fn matches(
 ) -> Result<Vec<Option<Name>>, AllocError>
     requires needing { needing.now ≡ needs folder.now.files set.now }
     requires distinct { IsDistinct bytes_eq candidates.now }
-    ensures { let given = matches_given folder.now.files set.now candidates.now in
-        IfOk result (λ names. names.items ≡ given) }
+    ensures { Lists (matches_given folder.now.files set.now candidates.now) result }
 {
     // The law goes from the numbers of texts to their names.
     matches_by_number_are_by_name();

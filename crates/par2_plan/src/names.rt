@@ -1,9 +1,10 @@
 //! The names of the outputs of a create, and why they can't be taken.
-ghost use Rattle.std.specs.Prelude.{◌≡◌, ◌≤◌, ◌<◌, ◌+◌, ◌-◌, ◌++◌, ◌∷◌, ◌⊎◌, ◌&&◌, ◌||◌, [], length, map, string_bytes, IsTrue, IfOk, IfErr, OnOk, Some, None};
+ghost use Rattle.std.specs.Prelude.{◌≡◌, ◌≤◌, ◌<◌, ◌+◌, ◌-◌, ◌++◌, ◌∷◌, ◌⊎◌, ◌&&◌, ◌||◌, [], length, string_bytes, IsTrue, IfOk, IfErr, OnOk, Some, None};
 ghost use Rattle.std.specs.List.{list_any};
-ghost use Rattle.par2_spec.specs.Names.{is_name, is_par_name};
+ghost use Rattle.par2_spec.specs.Names.{is_par_name};
 ghost use Rattle.par2_spec.specs.Folders.{has};
 ghost use Rattle.par2_spec.specs.Volumes as spec;
+ghost use Rattle.par2_plan.specs.Answers.{FailsFor};
 ghost use Rattle.par2_plan.specs.Faults.{long_name, there_already};
 ghost use Rattle.par2_plan.specs.Outputs.{volume_at, volume_if, volumes_of, names_of};
 
@@ -115,8 +116,7 @@ fn add_volume(
     requires base { IsTrue (is_par_name base.now) }
     requires exponents { first + count ≤ 65536 }
     requires number { i ≤ 17 }
-    ensures refused { IfErr result (λ fault. (fault ≡ Fault.Memory)
-        ⊎ (long_name (names_of (volume_if base.now first count i)) ≡ Some fault)) }
+    ensures refused { FailsFor (long_name (names_of (volume_if base.now first count i))) result }
     ensures accepted { OnOk result (long_name (names_of (volume_if base.now first count i))
         ≡ None) }
     ensures volumes { OnOk result (volumes.new.items
@@ -134,9 +134,8 @@ fn add_volume(
 pub fn volumes(alloc: Global, base: &Name, first: u32, count: u32) -> Result<Vec<Volume>, Fault>
     requires base { IsTrue (is_par_name base.now) }
     requires exponents { first + count ≤ 65536 }
-    ensures refused { IfErr result (λ fault. (fault ≡ Fault.Memory)
-        ⊎ (long_name (names_of (volumes_of base.now first count)) ≡ Some fault)) }
-    ensures accepted { IfOk result (λ _. long_name (names_of (volumes_of base.now first count))
+    ensures refused { FailsFor (long_name (names_of (volumes_of base.now first count))) result }
+    ensures accepted { OnOk result (long_name (names_of (volumes_of base.now first count))
         ≡ None) }
     ensures volumes { IfOk result (λ volumes. volumes.items ≡ volumes_of base.now first count) }
 {

@@ -1,8 +1,9 @@
 //! The needing targets of a set.
-ghost use Rattle.std.specs.Prelude.{◌≡◌, map, filter, IfOk};
+ghost use Rattle.std.specs.Prelude.{map, filter, IfOk};
 ghost use Rattle.std.specs.List.{IsDistinct};
 ghost use Rattle.std.specs.Str.{bytes_eq};
 ghost use Rattle.par2_spec.specs.Folders.{has};
+ghost use Rattle.par2_plan.specs.Answers.{Lists};
 ghost use Rattle.par2_plan.specs.Matches.{items_where};
 ghost use Rattle.par2_plan.specs.Repairing.{unmatched_names, AreNeeding};
 
@@ -26,8 +27,7 @@ pub struct Needing {
 
 // The names of the targets that are needing.
 fn needing_names(alloc: Global, set: &ParSet, needing: &[bool]) -> Result<Vec<Name>, AllocError>
-    ensures { let targets = items_where needing.now set.now.targets in
-        IfOk result (λ names. names.items ≡ map (λ t. t.name) targets) }
+    ensures { Lists (map (λ t. t.name) (items_where needing.now set.now.targets)) result }
 {
     let mut names = Vec::new(alloc);
     for (target, needs) in set.targets().iter().zip(needing) {
@@ -40,8 +40,7 @@ fn needing_names(alloc: Global, set: &ParSet, needing: &[bool]) -> Result<Vec<Na
 
 // The names of files that are in the folder.
 fn present(alloc: Global, folder: &Folder, names: &[Name]) -> Result<Vec<Name>, AllocError>
-    ensures { let there = filter (has folder.now.files) names.now in
-        IfOk result (λ list. list.items ≡ there) }
+    ensures { Lists (filter (has folder.now.files) names.now) result }
 {
     names
         .iter()
@@ -56,8 +55,7 @@ fn unmatched(
     names: &[Name],
     matches: &[Option<Name>],
 ) -> Result<Vec<Name>, AllocError>
-    ensures { let without = unmatched_names names.now matches.now in
-        IfOk result (λ list. list.items ≡ without) }
+    ensures { Lists (unmatched_names names.now matches.now) result }
 {
     let mut list = Vec::new(alloc);
     for (name, found) in names.iter().zip(matches) {

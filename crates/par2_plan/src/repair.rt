@@ -1,18 +1,17 @@
 //! What a repair changes.
-ghost use Rattle.std.specs.Prelude.{◌≡◌, ◌⊎◌, ◌++◌, ℕ, List, length, Some, None, map, string_bytes, IsTrue, IfOk, IfErr, IfSome, IsErrOf, OnOk};
+ghost use Rattle.std.specs.Prelude.{◌≡◌, ◌++◌, ℕ, List, length, map, string_bytes, IsTrue, IfOk, IfSome, OnOk};
 ghost use Rattle.std.specs.List.{AllByRecursion};
 ghost use Rattle.md5.specs.Md5.{md5};
-ghost use Rattle.par2_spec.specs.Changes.{effects, are_applicable};
-ghost use Rattle.par2_spec.specs.Commands.{Repair};
-ghost use Rattle.par2_spec.specs.Folders.{bytes_of};
-ghost use Rattle.par2_spec.specs.Plans as plans;
-ghost use Rattle.par2_spec.specs.Refusals.{early_refusal, refusal, after, repair_refusal};
+ghost use Rattle.par2_spec.specs.Changes.{are_applicable};
+ghost use Rattle.par2_spec.specs.Plans.{AreFewFor};
+ghost use Rattle.par2_spec.specs.Refusals.{repair_refusal};
 ghost use Rattle.par2_spec.specs.Repairs.{aside, par_files};
 ghost use Rattle.par2_spec.specs.Search as search;
 ghost use Rattle.par2_spec.specs.Sets.{all_pairs};
-ghost use Rattle.par2_restore.specs.Restoring.{known_in, undetermined_fault, files_of, md5s_of};
+ghost use Rattle.par2_restore.specs.Restoring.{undetermined_fault, files_of, md5s_of};
+ghost use Rattle.par2_plan.specs.Answers.{FailsAs, FailsFor, GivesChanges, LeadsAs, RefusesEarly, SucceedsAs, repair_of};
 ghost use Rattle.par2_plan.specs.Drafts.{IsDraft, IsDraftBy};
-ghost use Rattle.par2_plan.specs.Repairing.{IsWholeWhereMatched, AreNeeding, AreRestoredFor, targets_by, changes_by, removals_by, with_removals, WritesAsDescribed};
+ghost use Rattle.par2_plan.specs.Repairing.{IsWholeWhereMatched, AreNeeding, AreRestoredFor, known_by, targets_by, changes_by, removals_by, with_removals, WritesAsDescribed};
 ghost use Rattle.par2_plan.specs.Written.{texts_written};
 
 use crate::candidates::{candidates, texts_of};
@@ -39,12 +38,9 @@ fn slices_for<'a>(
     candidates: &[Name],
     unmatched: &[Name],
 ) -> Result<Option<Slices<'a>>, Fault>
-    ensures refused { let known = known_in set.now
-        (map (bytes_of folder.now.files) candidates.now) in
-        IfErr result (λ fault. (fault ≡ Fault.Memory) ⊎ (undetermined_fault set.now known
-        ≡ Some fault)) }
-    ensures slices { let known = known_in set.now
-        (map (bytes_of folder.now.files) candidates.now) in
+    ensures refused { let known = known_by folder.now.files set.now candidates.now in
+        FailsFor (undetermined_fault set.now known) result }
+    ensures slices { let known = known_by folder.now.files set.now candidates.now in
         IfOk result (AreRestoredFor set.now known unmatched.now) }
 {
     if unmatched.is_empty() {
@@ -153,10 +149,8 @@ fn draft_with(
 ) -> Result<Draft, Fault>
     requires needing { AreNeeding folder.now.files set.now candidates.now needing.now }
     requires whole { IsWholeWhereMatched folder.now.files set.now candidates.now }
-    ensures refused { let reason = repair_refusal folder.now.files set.now candidates.now in
-        IfErr result (λ fault. (fault ≡ Fault.Memory) ⊎ (reason ≡ Some fault)) }
-    ensures draft { IfOk result
-        (IsDraftBy purge folder.now.files set.now candidates.now) }
+    ensures refused { FailsFor (repair_refusal folder.now.files set.now candidates.now) result }
+    ensures draft { IfOk result (IsDraftBy purge folder.now.files set.now candidates.now) }
 {
     let slices = slices_for(alloc, folder, set, candidates, &needing.unmatched)?;
     let asides = asides(alloc, folder, set, &needing.put_aside)?;
@@ -178,8 +172,7 @@ fn draft_of(
     requires { let searched = search.candidates folder.now.files set.now extras.now in
         IsWholeWhereMatched folder.now.files set.now searched }
     ensures refused { let searched = search.candidates folder.now.files set.now extras.now in
-        let reason = repair_refusal folder.now.files set.now searched in
-        IfErr result (λ fault. (fault ≡ Fault.Memory) ⊎ (reason ≡ Some fault)) }
+        FailsFor (repair_refusal folder.now.files set.now searched) result }
     ensures draft { let searched = search.candidates folder.now.files set.now extras.now in
         IfOk result (IsDraftBy purge folder.now.files set.now searched) }
 {
@@ -200,12 +193,8 @@ pub fn draft_repair(
     purge: bool,
 ) -> Result<Draft, Fault>
     // It is refused as the definitions say, or memory ran out; what is refused first wants none.
-    ensures refused { let command = Repair base.now (map string_bytes extras.now) purge in
-        let reason = refusal folder.now.files command in
-        IfErr result (λ fault. (fault ≡ Fault.Memory) ⊎ (reason ≡ Some fault)) }
-    ensures early { let command = Repair base.now (map string_bytes extras.now) purge in
-        (fault : Fault) → early_refusal folder.now.files command ≡ Some fault
-        → IsErrOf result fault }
+    ensures refused { FailsAs folder.now.files (repair_of base.now extras.now purge) result }
+    ensures early { RefusesEarly folder.now.files (repair_of base.now extras.now purge) result }
     ensures draft { let words = map string_bytes extras.now in
         IfOk result (IsDraft folder.now.files base.now words purge) }
 {
@@ -230,27 +219,18 @@ pub fn plan_repair(
     purge: bool,
 ) -> Result<Changes, Fault>
     // It is refused as the definitions say, or memory ran out; what is refused first wants none.
-    ensures refused { let command = Repair base.now (map string_bytes extras.now) purge in
-        let reason = refusal folder.now.files command in
-        IfErr result (λ fault. (fault ≡ Fault.Memory) ⊎ (reason ≡ Some fault)) }
-    ensures accepted { let command = Repair base.now (map string_bytes extras.now) purge in
-        IfOk result (λ _. refusal folder.now.files command ≡ None) }
-    ensures early { let command = Repair base.now (map string_bytes extras.now) purge in
-        (fault : Fault) → early_refusal folder.now.files command ≡ Some fault
-        → IsErrOf result fault }
+    ensures refused { FailsAs folder.now.files (repair_of base.now extras.now purge) result }
+    ensures accepted { SucceedsAs folder.now.files (repair_of base.now extras.now purge) result }
+    ensures early { RefusesEarly folder.now.files (repair_of base.now extras.now purge) result }
     // The changes are those of the definitions. They apply in order and lead to their folder.
-    ensures changes { let command = Repair base.now (map string_bytes extras.now) purge in
-        IfOk result (λ changes. changes ≡ plans.changes_of folder.now.files command) }
+    ensures changes { GivesChanges folder.now.files (repair_of base.now extras.now purge) result }
     ensures applies { IfOk result (λ changes. IsTrue (are_applicable folder.now.files changes)) }
-    ensures leads { let command = Repair base.now (map string_bytes extras.now) purge in
-        let left = after folder.now.files command in
-        IfOk result (λ changes. effects folder.now.files changes ≡ left) }
+    ensures leads { LeadsAs folder.now.files (repair_of base.now extras.now purge) result }
     // Each file that is written from slices has the described length and MD5, whatever the files
     // of the folder hold; and there are so few names that asides can be numbered.
     ensures written { let words = map string_bytes extras.now in
-        IfOk result (λ _. WritesAsDescribed folder.now.files base.now words) }
-    ensures few { let command = Repair base.now (map string_bytes extras.now) purge in
-        IfOk result (λ _. plans.AreFewFor folder.now.files command) }
+        OnOk result (WritesAsDescribed folder.now.files base.now words) }
+    ensures few { OnOk result (AreFewFor folder.now.files (repair_of base.now extras.now purge)) }
 {
     let draft = draft_repair(alloc, folder, base, extras, purge)?;
     let md5s = md5s_written(alloc, &draft)?;

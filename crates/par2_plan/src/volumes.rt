@@ -4,7 +4,7 @@
 ghost use Rattle.std.specs.Prelude.{◌≡◌, ◌≤◌, ◌<◌, ◌+◌, ◌++◌, length, map, IfOk, OnOk};
 ghost use Rattle.par2_spec.specs.Sums.{OneChanged, list_at, lists_of};
 ghost use Rattle.par2_plan.specs.Outputs.{HasExponents, HasSlices, HaveExponents, ListsInputs, volume_text};
-ghost use Rattle.par2_plan.specs.Volumes.{HavePackets, blank_volume, exponents_in, exponents_of, length_with, places_from, places_in, with_slices};
+ghost use Rattle.par2_plan.specs.Volumes.{AreTexts, HavePackets, blank_volume, exponents_in, exponents_of, length_with, places_from, places_in, with_slices};
 
 use crate::names::Volume;
 use crate::outputs::Parts;
@@ -44,7 +44,7 @@ fn blank_volumes(
 ) -> Result<Vec<Vec<u8>>, AllocError>
     requires fits { 68 + parts.now.set.now.slice ≤ usize.MAX }
     requires exponents { HaveExponents volumes.now }
-    ensures { IfOk result (λ made. lists_of made.items ≡ map (blank_volume parts.now) volumes.now) }
+    ensures { IfOk result (AreTexts (blank_volume parts.now) volumes.now) }
 {
     let mut texts = Vec::with_capacity(alloc, volumes.len())?;
     for volume in volumes {
@@ -104,7 +104,8 @@ fn append_places(
 ) -> Result<(), AllocError>
     requires fits { 68 + parts.now.set.now.slice ≤ usize.MAX }
     requires text { length text.now ≡ length_with parts.now volume.now.count }
-    ensures { OnOk result (places.new.items ≡ places.old.items ++ places_in parts.now i volume.now) }
+    ensures { OnOk result (places.new.items
+        ≡ places.old.items ++ places_in parts.now i volume.now) }
 {
     for k in 0..volume.count {
         let at = place_of(parts, volume, text, k);
@@ -143,7 +144,7 @@ fn filled(
     requires fits { 68 + parts.now.set.now.slice ≤ usize.MAX }
     requires inputs { ListsInputs parts.now inputs.now }
     requires exponents { HaveExponents volumes.now }
-    ensures { IfOk result (λ made. lists_of made.items ≡ map (with_slices parts.now) volumes.now) }
+    ensures { IfOk result (AreTexts (with_slices parts.now) volumes.now) }
 {
     fit_id(&parts.set_id);
     let mut texts = blank_volumes(alloc, parts, volumes)?;
@@ -190,7 +191,8 @@ fn digest_at(
     requires fits { 68 + parts.now.set.now.slice ≤ usize.MAX }
     requires before { list_at (lists_of texts.old) i ≡ with_slices parts.now volume.now }
     ensures changed { OneChanged (lists_of texts.old) (lists_of texts.new) i }
-    ensures here { OnOk result (list_at (lists_of texts.new) i ≡ volume_text parts.now volume.now) }
+    ensures here { OnOk result
+        (list_at (lists_of texts.new) i ≡ volume_text parts.now volume.now) }
 {
     digest_volume(alloc, texts[i].as_mut_slice(), parts, volume)
 }
@@ -224,7 +226,7 @@ fn texts_over(
     requires parts { HasSlices parts.now }
     requires inputs { ListsInputs parts.now inputs.now }
     requires exponents { HaveExponents volumes.now }
-    ensures { IfOk result (λ made. lists_of made.items ≡ map (volume_text parts.now) volumes.now) }
+    ensures { IfOk result (AreTexts (volume_text parts.now) volumes.now) }
 {
     // Memory holds no packet that is longer.
     if parts.set.slice > (usize::MAX - RECOVERY_HEAD) as u64 {
@@ -243,7 +245,7 @@ pub(crate) fn volume_texts(
 ) -> Result<Vec<Vec<u8>>, AllocError>
     requires parts { HasSlices parts.now }
     requires exponents { HaveExponents volumes.now }
-    ensures { IfOk result (λ made. lists_of made.items ≡ map (volume_text parts.now) volumes.now) }
+    ensures { IfOk result (AreTexts (volume_text parts.now) volumes.now) }
 {
     if volumes.is_empty() {
         return Ok(Vec::new(alloc));

@@ -1,9 +1,10 @@
 //! Whether the words of a create can be taken, and why not.
-ghost use Rattle.std.specs.Prelude.{◌≡◌, ◌<◌, ◌⊎◌, ◌&&◌, not, position, map, string_bytes, is_some, IfOk, IfErr, IfSome, Some, None};
+ghost use Rattle.std.specs.Prelude.{◌≡◌, ◌<◌, ◌&&◌, not, position, map, string_bytes, is_some, IfOk, IfErr, IfSome, Some, None};
 ghost use Rattle.par2_spec.specs.Names as names;
 ghost use Rattle.par2_spec.specs.Sets as sets;
 ghost use Rattle.par2_spec.specs.Views.{create_args_of};
 ghost use Rattle.par2_spec.specs.Refusals.{are_counts, is_input_name, head_fault, bad_name};
+ghost use Rattle.par2_plan.specs.Answers.{FailsFor};
 
 use par2_folder::Name;
 use par2_spec::{CreateArgs, Fault};
@@ -97,8 +98,7 @@ pub fn bad_name(words: &[String]) -> Option<Fault>
 
 /// The names of the inputs.
 pub fn input_names(alloc: Global, words: &[String]) -> Result<Vec<Name>, Fault>
-    ensures refused { IfErr result (λ fault. (fault ≡ Fault.Memory)
-        ⊎ (bad_name (map string_bytes words.now) ≡ Some fault)) }
+    ensures refused { FailsFor (bad_name (map string_bytes words.now)) result }
     ensures accepted { IfOk result (λ _. bad_name (map string_bytes words.now) ≡ None) }
     ensures names { IfOk result (λ names. names.items ≡ map string_bytes words.now) }
 {

@@ -1,13 +1,12 @@
 use Rattle.std.proofs.Common.{◌≡◌, ◌∙◌, List, ℕ, length, map, ap, subst, Some, None}
 use Rattle.std.specs.List.{AllByRecursion}
 use Rattle.std.proofs.lemmas.Result.{err_from_is_err_and}
-use Rattle.par2_spec.specs.Folders.{bytes_of}
 use Rattle.par2_spec.specs.Refusals.{repair_refusal}
 use Rattle.par2_asides.specs.Asides.{long_aside}
-use Rattle.par2_restore.specs.Restoring.{known_in, undetermined_fault, files_of, md5s_of}
-use Rattle.par2_plan.specs.Repairing.{AreNeeding, AreRestoredFor, targets_by}
+use Rattle.par2_restore.specs.Restoring.{undetermined_fault, files_of, md5s_of}
+use Rattle.par2_plan.specs.Repairing.{AreNeeding, AreRestoredFor, known_by, targets_by}
 use Rattle.par2_plan.proofs.PassedAnswers.{refused_by}
-use Rattle.par2_plan.proofs.RepairParts.{IsPrepared, slices_known, told_by, targets_are, not_repairable, too_long, by_digests, all_changes}
+use Rattle.par2_plan.proofs.RepairParts.{IsPrepared, told_by, targets_are, not_repairable, too_long, by_digests, all_changes}
 use Rattle.par2_plan.proofs.repair.draft_with.Goals.{After-asides}
 use Rattle.par2_plan.proofs.repair.draft_with.Goals as goal
 
@@ -19,8 +18,8 @@ prepared c =
     let unmatched = c.args.needing.now.unmatched.items in
     let slices = c.in_ok-slices.slices in
     let are : AreNeeding folder set searched c.args.needing.now = c.requires.needing in
-    let restored : AreRestoredFor set (slices_known folder set searched) unmatched slices =
-    subst (λ ns. AreRestoredFor set (slices_known folder set searched) ns slices) c.deref.ensures.value c.in_ok-slices.ensures.slices in
+    let restored : AreRestoredFor set (known_by folder set searched) unmatched slices =
+    subst (λ ns. AreRestoredFor set (known_by folder set searched) ns slices) c.deref.ensures.value c.in_ok-slices.ensures.slices in
     record {
       are = are;
       told = told_by folder set searched unmatched slices are.unmatched c.requires.whole restored;
@@ -33,7 +32,7 @@ returns-in_err-slices-clause-refused c =
     let set = c.args.set.now in
     let searched : List (List ℕ) = c.args.candidates.now in
     let fault = c.in_err-slices.field-0.0 in
-    refused_by (λ y. undetermined_fault set (known_in set (map (bytes_of folder) searched)) ≡ Some y) (λ y. repair_refusal folder set searched ≡ Some y) c.from_residual.result fault
+    refused_by (λ y. undetermined_fault set (known_by folder set searched) ≡ Some y) (λ y. repair_refusal folder set searched ≡ Some y) c.from_residual.result fault
     (err_from_is_err_and c.from_residual.result c.from_residual.ensures.1) c.in_err-slices.ensures.refused
     (not_repairable folder set searched fault)
 

@@ -1,0 +1,41 @@
+-- What calls answer to a command.
+use Rattle.std.specs.Prelude.{◌≡◌, ◌⊎◌, ℕ, Bool, List, map, Option, None, Some, Result, String, Vec, IfErr, IfOk, OnOk, IsErrOf, string_bytes}
+use Rattle.par2_spec.specs.Changes.{Change, effects}
+use Rattle.par2_spec.specs.Commands.{Command, Repair}
+use Rattle.par2_spec.specs.Folders.{Folder}
+use Rattle.par2_spec.specs.Plans.{changes_of}
+use Rattle.par2_spec.specs.Refusals.{early_refusal, refusal, after}
+use Rattle.par2_spec.specs.declared.Fault.{Fault}
+use Rattle.par2_spec.specs.declared.Fault.TheVariants.{Memory}
+
+-- where there is a list, it has these items
+abbrev pub Lists : {A Z E : Type 0} → List A → Result (Vec A Z) E → Type 0
+Lists items result = IfOk result (λ list. list.items ≡ items)
+
+-- where a call fails, the fault is this cause, or memory ran out
+abbrev pub FailsFor : {A : Type 0} → Option Fault → Result A Fault → Type 0
+FailsFor cause result = IfErr result (λ fault. (fault ≡ Memory) ⊎ (cause ≡ Some fault))
+
+-- where it fails, the definitions refuse the command so, or memory ran out
+abbrev pub FailsAs : {A : Type 0} → Folder → Command → Result A Fault → Type 0
+FailsAs folder command result = FailsFor (refusal folder command) result
+
+-- where it succeeds, they don't refuse it
+abbrev pub SucceedsAs : {A : Type 0} → Folder → Command → Result A Fault → Type 0
+SucceedsAs folder command result = OnOk result (refusal folder command ≡ None)
+
+-- what is refused before memory is wanted is answered as itself
+abbrev pub RefusesEarly : {A : Type 0} → Folder → Command → Result A Fault → Type 0
+RefusesEarly folder command result = (fault : Fault) → early_refusal folder command ≡ Some fault → IsErrOf result fault
+
+-- the changes are those of the definitions
+abbrev pub GivesChanges : Folder → Command → Result (List Change) Fault → Type 0
+GivesChanges folder command result = IfOk result (λ changes. changes ≡ changes_of folder command)
+
+-- they lead to the folder of the definitions
+abbrev pub LeadsAs : Folder → Command → Result (List Change) Fault → Type 0
+LeadsAs folder command result = IfOk result (λ changes. effects folder changes ≡ after folder command)
+
+-- the repair that these words ask for
+abbrev pub repair_of : {Z : Type 0} → List ℕ → List (String Z) → Bool → Command
+repair_of base extras purge = Repair base (map string_bytes extras) purge
