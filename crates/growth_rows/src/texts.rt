@@ -70,6 +70,13 @@ fn survivors(alloc: Global) -> Result<Survivors<'static>, AllocError> {
     })
 }
 
+// A text of ten zeros.
+fn zeros(alloc: Global) -> Result<Vec<Vec<u8>>, AllocError> {
+    let mut texts = Vec::new(alloc);
+    texts.push(vec![in alloc; 0u8; 10]?)?;
+    Ok(texts)
+}
+
 impl Texts {
     /// Before the first call.
     pub fn new(alloc: Global) -> Result<Texts> {
@@ -170,8 +177,7 @@ impl Texts {
 
     // Two recovery slices, at their places in a text of zeros.
     fn place(&mut self, alloc: Global, name: &str) -> Result<(), Refusal> {
-        let text = vec![in alloc; 0u8; 10]?;
-        let mut texts = vec![in alloc; text]?;
+        let mut texts = zeros(alloc)?;
         let all = texts.as_mut_slice();
         let slices: [&[u8]; 2] = [b"abcd", SECOND];
         let answer = match name {

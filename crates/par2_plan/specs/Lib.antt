@@ -1,4 +1,5 @@
 pub mod Answers
+pub mod Creating
 pub mod Drafts
 pub mod Faults
 pub mod Findings
