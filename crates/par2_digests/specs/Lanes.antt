@@ -1,6 +1,6 @@
 -- What a lane of some vectors holds.
-use Rattle.std.specs.Prelude.{ℕ, List, [], ◌∷◌, ◌+◌, ◌≡◌, length, map}
-use Rattle.md5.specs.Md5.{word_at}
+use Rattle.std.specs.Prelude.{ℕ, List, [], ◌∷◌, ◌+◌, ◌<◌, ◌≤◌, ◌≡◌, length, map, slice_index}
+use Rattle.md5.specs.Md5.{rounds, word_at}
 use Rattle.par2_digests.specs.declared.quads.Quad.{Quad}
 use Rattle.par2_digests.specs.declared.steps.State.{State}
 
@@ -19,6 +19,23 @@ four_words_at text at = word_at text at ∷ word_at text (at + 4) ∷ word_at te
 -- the four words in lane k
 abbrev pub quad_words : {V : Type 0} → (V → ℕ → ℕ) → ℕ → Quad V → List ℕ
 quad_words at k quad = at quad.first k ∷ at quad.second k ∷ at quad.third k ∷ at quad.fourth k ∷ []
+
+-- from so many starts on, the bytes have so many more
+abbrev pub Have : ℕ → ℕ → List ℕ → List ℕ → Type 0
+Have count size starts bytes = (k : ℕ) → k < count → slice_index starts k + size ≤ length bytes
+
+-- the same from an offset after each start on
+abbrev pub Reach : ℕ → ℕ → ℕ → List ℕ → List ℕ → Type 0
+Reach count size offset starts bytes = (k : ℕ) → k < count → slice_index starts k + offset + size ≤ length bytes
+
+-- in each lane there are four words of its message, an offset after its start
+abbrev pub AreFourWords : {V : Type 0} → ℕ → (V → ℕ → ℕ) → List ℕ → List ℕ → ℕ → Quad V → Type 0
+AreFourWords count at bytes starts offset quad = (k : ℕ) → k < count → quad_words at k quad ≡ four_words_at bytes (slice_index starts k + offset)
+
+-- in each lane, where the state is that before a step, it is that before a later one afterwards
+abbrev pub GoesOn : {V : Type 0} → ℕ → (V → ℕ → ℕ) → List V → ℕ → State V → ℕ → State V → Type 0
+GoesOn count at words from before to after =
+    (k : ℕ) (h : List ℕ) → k < count → lane at k before ≡ rounds h (lane_words at k words) from → lane at k after ≡ rounds h (lane_words at k words) to
 
 -- each vector has four lanes
 pub record AreOfFour (quad : Quad (List ℕ)) : Type 0 where

@@ -1,8 +1,9 @@
 -- States with parts that they absorb next.
-use Rattle.std.specs.Prelude.{◌≡◌, ◌<◌, ℕ, ◌%◌, List, ◌++◌, None, length, slice_index_or, take}
+use Rattle.std.specs.Prelude.{◌≡◌, ◌<◌, ℕ, ◌%◌, List, ◌++◌, None, get_or, length, slice_index_or, take}
 use Rattle.md5.specs.Md5.{padded_message}
 use Rattle.par2_digests.specs.Feeds.{bytes_left}
 use Rattle.par2_digests.specs.Messages.{HasAbsorbed, message_of}
+use Rattle.par2_digests.specs.declared.midstate.Midstate.{Midstate}
 use Rattle.par2_digests.specs.declared.pending.Pending.{Pending}
 use Rattle.par2_digests.specs.declared.tasks.Task.{Task}
 
@@ -17,6 +18,12 @@ IsBegun pending task = (task.hash ≡ None) × (bytes_left task.feed ≡ bytes_t
 -- after its parts the state has absorbed the text
 abbrev pub Reaches : Pending → List ℕ → Type 0
 Reaches pending text = (m : List ℕ) × (HasAbsorbed pending.state m × (m ++ message_of pending.parts.items ≡ text))
+
+-- each state is the pending one at its place after its parts
+abbrev pub Absorb : List Pending → List Midstate → Type 0
+Absorb pendings states =
+    (k : ℕ) (m : List ℕ) (none : Pending) (no_state : Midstate) → k < length pendings
+    → let pending = get_or pendings k none in HasAbsorbed pending.state m → HasAbsorbed (get_or states k no_state) (m ++ message_of pending.parts.items)
 
 -- after its parts the state has absorbed the text and its padding
 abbrev pub IsPadded : Pending → List ℕ → Type 0

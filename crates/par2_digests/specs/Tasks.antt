@@ -1,5 +1,5 @@
 -- Messages on their way to their digests.
-use Rattle.std.specs.Prelude.{◌≡◌, ◌≤◌, ◌<◌, ℕ, suc, ◌*◌, ◌/◌, List, Option, Some, None, length, take, drop, map, get_or}
+use Rattle.std.specs.Prelude.{◌≡◌, ◌≤◌, ◌<◌, ℕ, suc, ◌*◌, ◌-◌, ◌/◌, List, Option, Some, None, length, take, drop, map, get_or}
 use Rattle.md5.specs.Md5.{hash_after}
 use Rattle.par2_digests.specs.Feeds.{hash_behind, bytes_left}
 use Rattle.par2_digests.specs.declared.tasks.Task.{Task}
@@ -44,3 +44,11 @@ work task = work_of task.hash (bytes_left task.feed)
 
 abbrev pub works : List Task → List ℕ
 works tasks = map work tasks
+
+-- none of so many tasks has more work afterwards
+abbrev pub HaveNoMore : ℕ → List Task → List Task → Type 0
+HaveNoMore count old new = (j : ℕ) → j < count → get_or (works new) j 0 ≤ get_or (works old) j 0
+
+-- each of them has less, where it had any
+abbrev pub HaveLess : ℕ → List Task → List Task → Type 0
+HaveLess count old new = (j : ℕ) → j < count → get_or (works new) j 0 ≤ get_or (works old) j 0 - 1

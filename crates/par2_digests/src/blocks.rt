@@ -3,7 +3,7 @@
 ghost use Rattle.std.specs.Prelude.{◌≡◌, ◌≤◌, ◌<◌, ◌+◌, ◌*◌, ℕ, List, length, take, drop, slice_index};
 ghost use Rattle.md5.specs.Md5.{block_words, compress, hash_after};
 ghost use Rattle.par2_digests.specs.Feeds.{hash_behind};
-ghost use Rattle.par2_digests.specs.Lanes.{lane, lane_words};
+ghost use Rattle.par2_digests.specs.Lanes.{lane, lane_words, Have, Reach};
 
 use crate::lanes::Lanes;
 use crate::steps::{State, Words, compressed};
@@ -13,8 +13,7 @@ use crate::steps::{State, Words, compressed};
 fn read_words<V: Lanes>(bytes: &[u8], starts: &[usize], offset: usize) -> Words<V>
     requires enough { V.count ≤ length starts.now }
     requires room { offset + 64 ≤ length bytes.now }
-    requires within { (k : ℕ) → k < V.count
-        → slice_index starts.now k + offset + 64 ≤ length bytes.now }
+    requires within { Reach V.count 64 offset starts.now bytes.now }
     ensures { (k : ℕ) → k < V.count
         → lane_words V.at k result
         ≡ block_words (take 64 (drop (slice_index starts.now k + offset) bytes.now)) 16 }
@@ -40,8 +39,7 @@ pub(crate) fn absorbed<V: Lanes>(
 ) -> State<V>
     requires enough { V.count ≤ length starts.now }
     requires room { count * 64 ≤ length bytes.now }
-    requires within { (k : ℕ) → k < V.count
-        → slice_index starts.now k + count * 64 ≤ length bytes.now }
+    requires within { Have V.count (count * 64) starts.now bytes.now }
     ensures message { (k n : ℕ) (p : List ℕ)
         → k < V.count → lane V.at k state ≡ hash_after p n → take (count * 64) (drop (n * 64) p)
         ≡ take (count * 64) (drop (slice_index starts.now k) bytes.now)
@@ -66,8 +64,7 @@ pub(crate) fn after_block<V: Lanes>(
 ) -> State<V>
     requires enough { V.count ≤ length starts.now }
     requires room { 64 ≤ length bytes.now }
-    requires within { (k : ℕ)
-        → k < V.count → slice_index starts.now k + 64 ≤ length bytes.now }
+    requires within { Have V.count 64 starts.now bytes.now }
     ensures { (k : ℕ) → k < V.count
         → lane V.at k result
         ≡ compress (lane V.at k state) (take 64 (drop (slice_index starts.now k) bytes.now)) }

@@ -3,7 +3,7 @@
 ghost use Rattle.std.specs.Prelude.{◌≡◌, ◌≤◌, ◌<◌, ◌+◌, ℕ, length, slice_index};
 ghost use Rattle.std.specs.Int.{w32, rotate_left};
 ghost use Rattle.md5.specs.Md5.{add32, f_fn, g_fn, h_fn, i_fn};
-ghost use Rattle.par2_digests.specs.Lanes.{four_words_at, quad_words};
+ghost use Rattle.par2_digests.specs.Lanes.{AreFourWords, Reach};
 
 use crate::quads::{Quad, four_words};
 use crate::words::{f_words, h_words, i_words, plus_g_words, rotated_words};
@@ -44,10 +44,8 @@ pub(crate) trait Lanes: Copy {
     fn four_words(bytes: &[u8], starts: &[usize], offset: usize) -> Quad<Self>
         requires enough { count ≤ length starts.now }
         requires room { offset + 16 ≤ length bytes.now }
-        requires within { (k : ℕ) → k < count
-            → slice_index starts.now k + offset + 16 ≤ length bytes.now }
-        ensures { (k : ℕ) → k < count → quad_words at k result
-            ≡ four_words_at bytes.now (slice_index starts.now k + offset) };
+        requires within { Reach count 16 offset starts.now bytes.now }
+        ensures { AreFourWords count at bytes.now starts.now offset result };
 
     fn word(self, k: usize) -> u32
         requires { k < count }

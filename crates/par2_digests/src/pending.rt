@@ -6,7 +6,7 @@ ghost use Rattle.par2_digests.specs.Digests.{digest_at};
 ghost use Rattle.par2_digests.specs.Feeds.{bytes_left};
 ghost use Rattle.par2_digests.specs.Lanes.{lane};
 ghost use Rattle.par2_digests.specs.Messages.{HasAbsorbed, message_of};
-ghost use Rattle.par2_digests.specs.Pendings.{bytes_to_absorb, ArePadded, IsBegun, IsPadded};
+ghost use Rattle.par2_digests.specs.Pendings.{bytes_to_absorb, Absorb, ArePadded, IsBegun, IsPadded};
 ghost use Rattle.par2_digests.specs.Tasks.{HasTaken};
 ghost use Rattle.par2_digests.specs.declared.midstate.Midstate.{Midstate};
 ghost use Rattle.par2_digests.specs.declared.pending.Pending.{Pending};
@@ -145,10 +145,7 @@ fn states_behind<'a, V: Lanes>(
 ) -> [Midstate; LANES]
     requires lanes { length pendings.now ≤ V.count }
     requires few { V.count ≤ 8 }
-    ensures { (k : ℕ) (m : List ℕ) (none : Pending) (no_state : Midstate)
-        → k < length pendings.now
-        → let pending = get_or pendings.now k none in HasAbsorbed pending.state m
-        → HasAbsorbed (get_or result k no_state) (m ++ message_of pending.parts.items) }
+    ensures { Absorb pendings.now result }
 {
     let mut tasks = tasks_of(pendings);
     finish_all(&mut tasks, state_of(pendings), words, pendings.len());
@@ -162,10 +159,7 @@ fn states_behind<'a, V: Lanes>(
 /// The states after their parts; eight at most.
 pub fn absorb_each(pendings: &[Pending]) -> [Midstate; LANES]
     requires few { length pendings.now ≤ 8 }
-    ensures { (k : ℕ) (m : List ℕ) (none : Pending) (no_state : Midstate)
-        → k < length pendings.now
-        → let pending = get_or pendings.now k none in HasAbsorbed pending.state m
-        → HasAbsorbed (get_or result k no_state) (m ++ message_of pending.parts.items) }
+    ensures { Absorb pendings.now result }
 {
     // Borrowed anew, for as long as the slice and what its parts borrow.
     let all = &pendings[..];

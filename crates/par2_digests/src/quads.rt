@@ -3,7 +3,7 @@
 
 ghost use Rattle.std.specs.Prelude.{◌≡◌, ◌≤◌, ◌<◌, ◌+◌, ◌++◌, ℕ, [], ◌∷◌, length, slice_index, slice_index_or};
 ghost use Rattle.md5.specs.Md5.{word_at};
-ghost use Rattle.par2_digests.specs.Lanes.{AreOfFour, four_words_at, quad_words};
+ghost use Rattle.par2_digests.specs.Lanes.{four_words_at, quad_words, AreFourWords, AreOfFour, Reach};
 
 use std::alloc::AllocError;
 use std::simd::prelude::*;
@@ -35,8 +35,7 @@ fn word(bytes: &[u8], at: usize) -> u32
 #[inline(always)]
 fn gathered_words<const N: usize>(bytes: &[u8], starts: &[usize], offset: usize) -> Simd<u32, N>
     requires enough { N ≤ length starts.now }
-    requires within { (k : ℕ)
-        → k < N → slice_index starts.now k + offset + 4 ≤ length bytes.now }
+    requires within { Reach N 4 offset starts.now bytes.now }
     ensures { (k : ℕ) → k < N
         → slice_index result k ≡ word_at bytes.now (slice_index starts.now k + offset) }
 {
@@ -95,10 +94,8 @@ fn columns(a: u32x4, b: u32x4, c: u32x4, d: u32x4) -> Quad<u32x4>
 #[inline(always)]
 fn words_of_four(bytes: &[u8], starts: &[usize], offset: usize) -> Quad<u32x4>
     requires enough { 4 ≤ length starts.now }
-    requires within { (k : ℕ)
-        → k < 4 → slice_index starts.now k + offset + 16 ≤ length bytes.now }
-    ensures words { (k : ℕ) → k < 4 → quad_words slice_index k result
-        ≡ four_words_at bytes.now (slice_index starts.now k + offset) }
+    requires within { Reach 4 16 offset starts.now bytes.now }
+    ensures words { AreFourWords 4 slice_index bytes.now starts.now offset result }
     ensures lanes { AreOfFour result }
 {
     columns(
@@ -136,10 +133,8 @@ pub(crate) fn four_words<const N: usize>(
 ) -> Quad<Simd<u32, N>>
     requires enough { N ≤ length starts.now }
     requires room { offset + 16 ≤ length bytes.now }
-    requires within { (k : ℕ)
-        → k < N → slice_index starts.now k + offset + 16 ≤ length bytes.now }
-    ensures { (k : ℕ) → k < N → quad_words slice_index k result
-        ≡ four_words_at bytes.now (slice_index starts.now k + offset) }
+    requires within { Reach N 16 offset starts.now bytes.now }
+    ensures { AreFourWords N slice_index bytes.now starts.now offset result }
 {
     if N == 8 {
         let low = words_of_four(bytes, starts, offset);

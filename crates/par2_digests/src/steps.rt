@@ -2,7 +2,7 @@
 
 ghost use Rattle.std.specs.Prelude.{◌≡◌, ◌≤◌, ◌<◌, ◌+◌, ℕ, List, [], ◌∷◌, slice_index};
 ghost use Rattle.md5.specs.Md5.{add32, add_state, round, rounds, step_constants, step_shifts};
-ghost use Rattle.par2_digests.specs.Lanes.{lane, lane_words};
+ghost use Rattle.par2_digests.specs.Lanes.{lane, lane_words, GoesOn};
 
 use crate::lanes::Lanes;
 use std::alloc::AllocError;
@@ -166,9 +166,7 @@ fn stepped<V: Lanes>(state: State<V>, f: V, word: V, t: usize) -> State<V>
 #[inline(always)]
 fn f_step<V: Lanes>(state: State<V>, words: &Words<V>, t: usize) -> State<V>
     requires { t < 16 }
-    ensures { (k : ℕ) (h : List ℕ)
-        → k < V.count → lane V.at k state ≡ rounds h (lane_words V.at k words.now) t
-        → lane V.at k result ≡ rounds h (lane_words V.at k words.now) (t + 1) }
+    ensures { GoesOn V.count V.at words.now t state (t + 1) result }
 {
     stepped(state, V::f(state.b, state.c, state.d), words[t], t)
 }
@@ -177,9 +175,7 @@ fn f_step<V: Lanes>(state: State<V>, words: &Words<V>, t: usize) -> State<V>
 fn g_step<V: Lanes>(state: State<V>, words: &Words<V>, t: usize) -> State<V>
     requires from { 16 ≤ t }
     requires to { t < 32 }
-    ensures { (k : ℕ) (h : List ℕ)
-        → k < V.count → lane V.at k state ≡ rounds h (lane_words V.at k words.now) t
-        → lane V.at k result ≡ rounds h (lane_words V.at k words.now) (t + 1) }
+    ensures { GoesOn V.count V.at words.now t state (t + 1) result }
 {
     let sum = early_sum(state, words[(5 * t + 1) % 16], t);
     turned(state, V::plus_g(sum, state.b, state.c, state.d), t)
@@ -189,9 +185,7 @@ fn g_step<V: Lanes>(state: State<V>, words: &Words<V>, t: usize) -> State<V>
 fn h_step<V: Lanes>(state: State<V>, words: &Words<V>, t: usize) -> State<V>
     requires from { 32 ≤ t }
     requires to { t < 48 }
-    ensures { (k : ℕ) (h : List ℕ)
-        → k < V.count → lane V.at k state ≡ rounds h (lane_words V.at k words.now) t
-        → lane V.at k result ≡ rounds h (lane_words V.at k words.now) (t + 1) }
+    ensures { GoesOn V.count V.at words.now t state (t + 1) result }
 {
     stepped(
         state,
@@ -205,17 +199,13 @@ fn h_step<V: Lanes>(state: State<V>, words: &Words<V>, t: usize) -> State<V>
 fn i_step<V: Lanes>(state: State<V>, words: &Words<V>, t: usize) -> State<V>
     requires from { 48 ≤ t }
     requires to { t < 64 }
-    ensures { (k : ℕ) (h : List ℕ)
-        → k < V.count → lane V.at k state ≡ rounds h (lane_words V.at k words.now) t
-        → lane V.at k result ≡ rounds h (lane_words V.at k words.now) (t + 1) }
+    ensures { GoesOn V.count V.at words.now t state (t + 1) result }
 {
     stepped(state, V::i(state.b, state.c, state.d), words[7 * t % 16], t)
 }
 
 fn first_round<V: Lanes>(state: State<V>, words: &Words<V>) -> State<V>
-    ensures { (k : ℕ) (h : List ℕ)
-        → k < V.count → lane V.at k state ≡ rounds h (lane_words V.at k words.now) 0
-        → lane V.at k result ≡ rounds h (lane_words V.at k words.now) 16 }
+    ensures { GoesOn V.count V.at words.now 0 state 16 result }
 {
     let state = f_step(state, words, 0);
     let state = f_step(state, words, 1);
@@ -236,9 +226,7 @@ fn first_round<V: Lanes>(state: State<V>, words: &Words<V>) -> State<V>
 }
 
 fn second_round<V: Lanes>(state: State<V>, words: &Words<V>) -> State<V>
-    ensures { (k : ℕ) (h : List ℕ)
-        → k < V.count → lane V.at k state ≡ rounds h (lane_words V.at k words.now) 16
-        → lane V.at k result ≡ rounds h (lane_words V.at k words.now) 32 }
+    ensures { GoesOn V.count V.at words.now 16 state 32 result }
 {
     let state = g_step(state, words, 16);
     let state = g_step(state, words, 17);
@@ -259,9 +247,7 @@ fn second_round<V: Lanes>(state: State<V>, words: &Words<V>) -> State<V>
 }
 
 fn third_round<V: Lanes>(state: State<V>, words: &Words<V>) -> State<V>
-    ensures { (k : ℕ) (h : List ℕ)
-        → k < V.count → lane V.at k state ≡ rounds h (lane_words V.at k words.now) 32
-        → lane V.at k result ≡ rounds h (lane_words V.at k words.now) 48 }
+    ensures { GoesOn V.count V.at words.now 32 state 48 result }
 {
     let state = h_step(state, words, 32);
     let state = h_step(state, words, 33);
@@ -282,9 +268,7 @@ fn third_round<V: Lanes>(state: State<V>, words: &Words<V>) -> State<V>
 }
 
 fn fourth_round<V: Lanes>(state: State<V>, words: &Words<V>) -> State<V>
-    ensures { (k : ℕ) (h : List ℕ)
-        → k < V.count → lane V.at k state ≡ rounds h (lane_words V.at k words.now) 48
-        → lane V.at k result ≡ rounds h (lane_words V.at k words.now) 64 }
+    ensures { GoesOn V.count V.at words.now 48 state 64 result }
 {
     let state = i_step(state, words, 48);
     let state = i_step(state, words, 49);

@@ -5,7 +5,7 @@ ghost use Rattle.std.specs.List.{list_any};
 ghost use Rattle.std.specs.Option.{is_none};
 ghost use Rattle.par2_digests.specs.Feeds.{hash_behind};
 ghost use Rattle.par2_digests.specs.Lanes.{lane};
-ghost use Rattle.par2_digests.specs.Tasks.{HasBlocks, HasEnded, LeadOn, LeadsTo, work, works};
+ghost use Rattle.par2_digests.specs.Tasks.{work, works, HasBlocks, HasEnded, HaveLess, HaveNoMore, LeadOn, LeadsTo};
 ghost use Rattle.par2_digests.specs.declared.tasks.Task.{Task};
 
 use crate::alone::hashed;
@@ -113,8 +113,7 @@ fn turn_all<V: Lanes>(
         → let hash = lane V.at k state.now in LeadsTo (get_or tasks.old k none) hash last rest
         → let taken = take (batch * 64) (drop (2048 * k) blocks.new) in
         LeadsTo (get_or tasks.new k none) (hash_behind hash taken batch) last rest }
-    ensures shrinks { (k : ℕ) → k < count
-        → get_or (works tasks.new) k 0 ≤ get_or (works tasks.old) k 0 - 1 }
+    ensures shrinks { HaveLess count tasks.old tasks.new }
     ensures size { length tasks.new ≡ 8 }
 {
     for k in 0..count {
@@ -151,8 +150,7 @@ fn advance<V: Lanes>(
     requires lanes { count ≤ V.count }
     requires few { V.count ≤ 8 }
     ensures leads { LeadOn (lane V.at) count tasks.old state tasks.new result }
-    ensures shrinks { (j : ℕ) → j < count
-        → get_or (works tasks.new) j 0 ≤ get_or (works tasks.old) j 0 - 1 }
+    ensures shrinks { HaveLess count tasks.old tasks.new }
     ensures size { length tasks.new ≡ 8 }
 {
     let batch = batch_of(&tasks[..count]);
@@ -172,8 +170,7 @@ fn go_on<V: Lanes>(
     requires few { V.count ≤ 8 }
     requires within { k < count }
     ensures leads { LeadOn (lane V.at) count tasks.old state tasks.new result }
-    ensures stays { (j : ℕ) → j < count
-        → get_or (works tasks.new) j 0 ≤ get_or (works tasks.old) j 0 }
+    ensures stays { HaveNoMore count tasks.old tasks.new }
     ensures size { length tasks.new ≡ 8 }
 {
     let mut state = state;
@@ -196,8 +193,7 @@ fn finish<V: Lanes>(
     requires few { V.count ≤ 8 }
     requires within { k < count }
     ensures leads { LeadOn (lane V.at) count tasks.old state tasks.new result }
-    ensures stays { (j : ℕ) → j < count
-        → get_or (works tasks.new) j 0 ≤ get_or (works tasks.old) j 0 }
+    ensures stays { HaveNoMore count tasks.old tasks.new }
     ensures done { get_or (works tasks.new) k 0 ≡ 0 }
     ensures size { length tasks.new ≡ 8 }
 {

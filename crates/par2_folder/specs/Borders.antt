@@ -1,11 +1,13 @@
 -- Borders among names, and the runs of folders that are alike before a border.
-use Rattle.std.specs.Prelude.{◌≡◌, ℕ, Bool, true, false, cond, List, [], ◌∷◌, ◌++◌}
+use Rattle.std.specs.Prelude.{◌≡◌, ℕ, Bool, true, false, cond, List, [], ◌∷◌, ◌++◌, map}
 use Rattle.std.specs.FinMap as map_of
 use Rattle.par2_spec.specs.Folders.{Folder}
 use Rattle.par2_spec.specs.Changes.{Change, effect}
 use Rattle.par2_folder.specs.Below.{first_name, fingerprint_input, is_below}
+use Rattle.par2_folder.specs.Views.{change_of}
 use Rattle.par2_folder.specs.declared.border.Border.{Border}
 use Rattle.par2_folder.specs.declared.border.Border.TheVariants.{Beginning, At, End}
+use Rattle.par2_folder.specs.declared.change.Change.{Change as Kept}
 
 -- whether a name comes before the border
 abbrev pub is_before : Border → List ℕ → Bool
@@ -44,3 +46,7 @@ later_texts border folder (change ∷ changes) = new_run border (effect folder c
 -- the texts of all runs, in the order of their folders
 abbrev pub run_texts : Border → Folder → List Change → List (List ℕ)
 run_texts border folder changes = text_before border folder ∷ later_texts border folder changes
+
+-- the same of changes that a program has
+abbrev pub texts_by : Border → Folder → List Kept → List (List ℕ)
+texts_by border folder changes = run_texts border folder (map change_of changes)

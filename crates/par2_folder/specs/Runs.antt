@@ -1,5 +1,6 @@
 -- States and the texts that they absorb.
-use Rattle.std.specs.Prelude.{ℕ, List, [], ◌∷◌}
+use Rattle.std.specs.Prelude.{ℕ, List, Vec, [], ◌∷◌}
+use Rattle.std.specs.declared.alloc.Global.{Global}
 use Rattle.par2_digests.specs.Messages.{HasAbsorbed}
 use Rattle.par2_digests.specs.Pendings.{Reaches}
 use Rattle.par2_digests.specs.declared.midstate.Midstate.{Midstate}
@@ -20,3 +21,11 @@ HaveAbsorbed states texts = ReachEach states [] texts
 
 abbrev pub AreTo : Runs → List (List ℕ) → Type 0
 AreTo runs texts = ReachEach runs.states.items runs.pendings.items texts
+
+-- the runs lead to these texts
+abbrev pub LeadTo : List (List ℕ) → Runs → Type 0
+LeadTo texts runs = AreTo runs texts
+
+-- and the states have taken them
+abbrev pub HaveTaken : List (List ℕ) → Vec Midstate Global → Type 0
+HaveTaken texts states = HaveAbsorbed states.items texts

@@ -10,9 +10,9 @@ ghost use Rattle.par2_digests.specs.Texts.{texts_of};
 ghost use Rattle.par2_spec.specs.Changes.{are_applicable, effect, is_applicable};
 ghost use Rattle.par2_folder.specs.Sorting.{IsKept};
 ghost use Rattle.par2_folder.specs.Views.{change_of};
-ghost use Rattle.par2_folder.specs.Borders.{IsFurther, new_run, run_texts, text_before, touches};
+ghost use Rattle.par2_folder.specs.Borders.{new_run, text_before, texts_by, touches, IsFurther};
 ghost use Rattle.par2_folder.specs.Landmarks.{AreLandmarksOf};
-ghost use Rattle.par2_folder.specs.Runs.{AreTo, HaveAbsorbed};
+ghost use Rattle.par2_folder.specs.Runs.{AreTo, HaveAbsorbed, HaveTaken, LeadTo};
 ghost use Rattle.par2_folder.specs.Snapshots.{files_in, folder_in};
 ghost use Rattle.par2_folder.specs.declared.border.Border.TheVariants.{At, End};
 
@@ -160,12 +160,12 @@ fn runs_behind<'a>(
     requires further { IsFurther from.now to.now }
     requires applicable { IsTrue
         (are_applicable (folder_in snapshot) (map change_of changes.now)) }
-    requires absorbed { HaveAbsorbed states.now
-        (run_texts from.now (folder_in snapshot) (map change_of changes.now)) }
+    requires absorbed { let folder = folder_in snapshot in
+        HaveAbsorbed states.now (texts_by from.now folder changes.now) }
     requires first { AreTo runs (text_before to.now (folder_in snapshot) ∷ []) }
     ensures few { IfOk result (λ runs. length runs.pendings.items ≤ 8) }
-    ensures texts { let changes = map change_of changes.now in
-        IfOk result (λ runs. AreTo runs (run_texts to.now (folder_in snapshot.entry) changes)) }
+    ensures texts { let folder = folder_in snapshot.entry in
+        IfOk result (LeadTo (texts_by to.now folder changes.now)) }
 {
     let mut place = 0;
     for change in changes {
@@ -194,11 +194,9 @@ fn runs_before<'a>(
 ) -> Result<Runs<'a>, AllocError>
     requires further { IsFurther from.now to.now }
     requires applicable { IsTrue (are_applicable folder.now.files (map change_of changes.now)) }
-    requires absorbed { let changes = map change_of changes.now in
-        HaveAbsorbed states.now (run_texts from.now folder.now.files changes) }
+    requires absorbed { HaveAbsorbed states.now (texts_by from.now folder.now.files changes.now) }
     ensures few { IfOk result (λ runs. length runs.pendings.items ≤ 8) }
-    ensures texts { let texts = run_texts to.now folder.now.files (map change_of changes.now) in
-        IfOk result (λ runs. AreTo runs texts) }
+    ensures texts { IfOk result (LeadTo (texts_by to.now folder.now.files changes.now)) }
 {
     let snapshot = folder.snapshot()?;
     let mut runs = Runs::new(alloc);
@@ -217,10 +215,8 @@ fn states_before(
 ) -> Result<Vec<Midstate>, AllocError>
     requires further { IsFurther from.now to.now }
     requires applicable { IsTrue (are_applicable folder.now.files (map change_of changes.now)) }
-    requires absorbed { let changes = map change_of changes.now in
-        HaveAbsorbed states.now (run_texts from.now folder.now.files changes) }
-    ensures { let texts = run_texts to.now folder.now.files (map change_of changes.now) in
-        IfOk result (λ states. HaveAbsorbed states.items texts) }
+    requires absorbed { HaveAbsorbed states.now (texts_by from.now folder.now.files changes.now) }
+    ensures { IfOk result (HaveTaken (texts_by to.now folder.now.files changes.now)) }
 {
     runs_before(alloc, folder, changes, states, from, to)?.finish()
 }
@@ -235,10 +231,9 @@ fn go_to<'b>(
     name: &'b Name,
 ) -> Result<(), AllocError>
     requires applicable { IsTrue (are_applicable folder.now.files (map change_of changes.now)) }
-    requires absorbed { let changes = map change_of changes.now in
-        HaveAbsorbed states.old.items (run_texts border.old folder.now.files changes) }
-    ensures { let texts = run_texts border.new folder.now.files (map change_of changes.now) in
-        OnOk result (HaveAbsorbed states.new.items texts) }
+    requires absorbed { HaveTaken (texts_by border.old folder.now.files changes.now) states.old }
+    ensures { let texts = texts_by border.new folder.now.files changes.now in
+        OnOk result (HaveTaken texts states.new) }
 {
     if is_further(border, name) {
         let next = Border::At(name);
@@ -258,8 +253,7 @@ fn runs_along<'a>(
     requires landmarks { AreLandmarksOf folder.now.files landmarks.now }
     requires applicable { IsTrue (are_applicable folder.now.files (map change_of changes.now)) }
     ensures few { IfOk result (λ runs. length runs.pendings.items ≤ 8) }
-    ensures texts { let changes = map change_of changes.now in
-        IfOk result (λ runs. AreTo runs (run_texts End folder.now.files changes)) }
+    ensures texts { IfOk result (LeadTo (texts_by End folder.now.files changes.now)) }
 {
     let names = border_names(alloc, changes)?;
     let (mut border, state) = landmarks.start(changes);
@@ -320,7 +314,7 @@ pub fn digests_along(
 ) -> Result<Vec<[u8; 16]>, AllocError>
     requires landmarks { AreLandmarksOf folder.now.files landmarks.now }
     requires applicable { IsTrue (are_applicable folder.now.files (map change_of changes.now)) }
-    ensures { let along = run_texts End folder.now.files (map change_of changes.now) in
+    ensures { let along = texts_by End folder.now.files changes.now in
         IfOk result (λ digests. digests.items ≡ map md5 (along ++ texts_of beside.now)) }
 {
     let runs = runs_along(alloc, landmarks, folder, changes)?;

@@ -7,3 +7,4 @@ pub mod Syndromes
 pub mod Rebuilding
 pub mod RunInverses
 pub mod Writing
+pub mod Answers

@@ -8,6 +8,7 @@ ghost use Rattle.par2_spec.specs.Slices.{word};
 ghost use Rattle.par2_spec.specs.Sums.{list_at, lists_of};
 ghost use Rattle.par2_transform.specs.Adding.{within, AddsAt, AddsToEach, HaveWords, LieWithin};
 ghost use Rattle.par2_transform.specs.Columns.{recovered};
+ghost use Rattle.par2_recovery.specs.Answers.{AddsRecovery, HaveAll, HaveAtLeast, LieIn};
 ghost use Rattle.par2_recovery.specs.Products.{products};
 ghost use Rattle.par2_recovery.specs.Syndromes.{AreRun};
 ghost use Rattle.par2_recovery.specs.Views.{texts_of};
@@ -76,8 +77,7 @@ fn coefficient_rows(
     exponents: &[u32],
 ) -> Result<Vec<Vec<u16>>, AllocError>
     requires { (i : ℕ) → slice_index numbers.now i < 32768 }
-    ensures { IfOk result
-        (λ rows. lists_of rows.items ≡ map (coefficients numbers.now) exponents.now) }
+    ensures { IfOk result (λ it. lists_of it.items ≡ map (coefficients numbers.now) exponents.now) }
 {
     let mut rows = Vec::with_capacity(alloc, exponents.len())?;
     for i in 0..exponents.len() {
@@ -96,11 +96,10 @@ fn add_sums(
     to: usize,
 )
     requires count { length sums.now ≡ length outputs.now.places.now }
-    requires sizes { (t : ℕ) → t < length sums.now
-        → length (list_at (lists_of sums.now) t) ≡ 2 * (to - from) }
+    requires sizes { HaveAll (2 * (to - from)) sums.now }
     requires order { from ≤ to }
     requires inside { to ≤ outputs.now.words }
-    requires room { LieWithin outputs.now.words outputs.now.places.now (lists_of texts.old) }
+    requires room { LieIn outputs.now texts.old }
     ensures { AddsAt outputs.now.places.now outputs.now.words
         (λ t p. within from to p (word (p - from) (list_at (lists_of sums.now) t)))
         (lists_of texts.old) (lists_of texts.new) }
@@ -133,11 +132,10 @@ fn add_columns(
 ) -> Result<(), AllocError>
     requires some { 0 < length rows.now }
     requires rows { length rows.now ≡ length outputs.now.places.now }
-    requires factors { (t : ℕ)
-        → t < length rows.now → length slices.now ≤ length (list_at (lists_of rows.now) t) }
+    requires factors { HaveAtLeast (length slices.now) rows.now }
     requires order { from ≤ to }
     requires inside { to ≤ outputs.now.words }
-    requires room { LieWithin outputs.now.words outputs.now.places.now (lists_of texts.old) }
+    requires room { LieIn outputs.now texts.old }
     ensures { IfOk result (λ _. AddsAt outputs.now.places.now outputs.now.words
         (λ t p. within from to p
         (products (length slices.now) (lists_of rows.now) (texts_of slices.now) t p))
@@ -166,10 +164,8 @@ fn add_by_coefficients(
     requires slices { length slices.now ≤ 32768 }
     requires some { 0 < length exponents.now }
     requires count { length exponents.now ≡ length outputs.now.places.now }
-    requires room { LieWithin outputs.now.words outputs.now.places.now (lists_of texts.old) }
-    ensures { IfOk result (λ _. AddsAt outputs.now.places.now outputs.now.words
-        (λ t p. recovered (texts_of slices.now) (slice_index exponents.now t) p)
-        (lists_of texts.old) (lists_of texts.new)) }
+    requires room { LieIn outputs.now texts.old }
+    ensures { OnOk result (AddsRecovery outputs.now slices.now exponents.now texts.old texts.new) }
 {
     let numbers = numbers_from(alloc, 0, slices.len() as u32)?;
     let rows = coefficient_rows(alloc, gf, &numbers, exponents)?;
@@ -248,10 +244,8 @@ fn add_group(
     requires slices { length slices.now ≤ 32768 }
     requires some { 0 < length exponents.now }
     requires count { length exponents.now ≡ length outputs.now.places.now }
-    requires room { LieWithin outputs.now.words outputs.now.places.now (lists_of texts.old) }
-    ensures { IfOk result (λ _. AddsAt outputs.now.places.now outputs.now.words
-        (λ t p. recovered (texts_of slices.now) (slice_index exponents.now t) p)
-        (lists_of texts.old) (lists_of texts.new)) }
+    requires room { LieIn outputs.now texts.old }
+    ensures { OnOk result (AddsRecovery outputs.now slices.now exponents.now texts.old texts.new) }
 {
     match run_together(exponents, slices.len()) {
         Some(first) => { add_recovery_slices_at(alloc, gf, slices, first, texts, outputs, room) }
@@ -272,10 +266,8 @@ pub(crate) fn add_recovery(
 ) -> Result<(), AllocError>
     requires slices { length slices.now ≤ 32768 }
     requires count { length exponents.now ≡ length outputs.now.places.now }
-    requires room { LieWithin outputs.now.words outputs.now.places.now (lists_of texts.old) }
-    ensures { IfOk result (λ _. AddsAt outputs.now.places.now outputs.now.words
-        (λ t p. recovered (texts_of slices.now) (slice_index exponents.now t) p)
-        (lists_of texts.old) (lists_of texts.new)) }
+    requires room { LieIn outputs.now texts.old }
+    ensures { OnOk result (AddsRecovery outputs.now slices.now exponents.now texts.old texts.new) }
 {
     let most = rows_at_once(slices.len(), room);
     let mut at = 0;

@@ -5,6 +5,7 @@ ghost use Rattle.std.specs.List.Sorted.{IsStrictlyIncreasing};
 ghost use Rattle.par2_spec.specs.Rank.{IsRepairable, kept_slices};
 ghost use Rattle.par2_spec.specs.Runs.{AreSlices};
 ghost use Rattle.par2_spec.specs.Sums.{lists_of};
+ghost use Rattle.par2_recovery.specs.Answers.{HasInverse, KeepsThose};
 ghost use Rattle.par2_recovery.specs.Inverses.{IsInverse};
 ghost use Rattle.par2_recovery.specs.RunInverses.{BeginsWithRun};
 ghost use Rattle.par2_recovery.specs.Survivors.{exponents_of, recovered_of, IsTrueFault};
@@ -71,10 +72,8 @@ fn invert_run<'a>(
     requires lost { AreSlices lost.now }
     requires exponents { IsStrictlyIncreasing (exponents_of recovery.now) }
     requires run { BeginsWithRun first (length lost.now) (exponents_of recovery.now) }
-    ensures kept { IfOk result (λ found. recovered_of found.kept.items
-        ≡ kept_slices lost.now (exponents_of recovery.now) (recovered_of recovery.now)) }
-    ensures inverse { IfOk result (λ found.
-        IsInverse lost.now (exponents_of found.kept.items) (lists_of found.inverse.items)) }
+    ensures kept { IfOk result (KeepsThose lost.now recovery.now) }
+    ensures inverse { IfOk result (HasInverse lost.now) }
     ensures enough { IsOk result → IsRepairable lost.now (exponents_of recovery.now) }
 {
     let kept = first_of(alloc, recovery, lost.len())?;
@@ -94,10 +93,8 @@ pub(crate) fn invert<'a>(
     requires lost { (i : ℕ) → slice_index lost.now i < 32768 }
     requires rise { IsStrictlyIncreasing lost.now }
     requires exponents { IsStrictlyIncreasing (exponents_of recovery.now) }
-    ensures kept { IfOk result (λ found. recovered_of found.kept.items
-        ≡ kept_slices lost.now (exponents_of recovery.now) (recovered_of recovery.now)) }
-    ensures inverse { IfOk result (λ found.
-        IsInverse lost.now (exponents_of found.kept.items) (lists_of found.inverse.items)) }
+    ensures kept { IfOk result (KeepsThose lost.now recovery.now) }
+    ensures inverse { IfOk result (HasInverse lost.now) }
     ensures enough { IsOk result → IsRepairable lost.now (exponents_of recovery.now) }
     ensures refused { IfErr result (IsTrueFault lost.now (exponents_of recovery.now)) }
 {

@@ -6,6 +6,7 @@ ghost use Rattle.par2_spec.specs.Rank.{IsRepairable, kept_slices};
 ghost use Rattle.par2_spec.specs.Recovery.{coefficients};
 ghost use Rattle.par2_spec.specs.Sums.{lists_of};
 ghost use Rattle.par2_matrix.specs.Systems.{IsIndependent, IsDependent};
+ghost use Rattle.par2_recovery.specs.Answers.{HasInverse, KeepsThose};
 ghost use Rattle.par2_recovery.specs.Views.{texts_of};
 ghost use Rattle.par2_recovery.specs.Survivors.{recovered_of, exponents_of, IsTrueFault};
 ghost use Rattle.par2_recovery.specs.Inverses.{CutByUnit, IsEliminated, IsInverse};
@@ -105,10 +106,8 @@ pub(crate) fn invert_by_elimination<'a>(
     requires count { length lost.now ≤ 32768 }
     requires lost { (i : ℕ) → slice_index lost.now i < 32768 }
     requires exponents { IsStrictlyIncreasing (exponents_of recovery.now) }
-    ensures kept { IfOk result (λ found. recovered_of found.kept.items
-        ≡ kept_slices lost.now (exponents_of recovery.now) (recovered_of recovery.now)) }
-    ensures inverse { IfOk result (λ found.
-        IsInverse lost.now (exponents_of found.kept.items) (lists_of found.inverse.items)) }
+    ensures kept { IfOk result (KeepsThose lost.now recovery.now) }
+    ensures inverse { IfOk result (HasInverse lost.now) }
     ensures enough { IsOk result → IsRepairable lost.now (exponents_of recovery.now) }
     ensures refused { IfErr result (IsTrueFault lost.now (exponents_of recovery.now)) }
 {

@@ -3,6 +3,7 @@
 ghost use Rattle.std.specs.Prelude.{◌≡◌, ℕ, ◌+◌, ◌*◌, ◌^◌, ◌<◌, ◌≤◌, length, slice_index, IfOk};
 ghost use Rattle.par2_gf16.specs.Steps.{AddsWithin};
 ghost use Rattle.par2_spec.specs.Sums.{OneChanged, list_at, lists_of};
+ghost use Rattle.par2_recovery.specs.Answers.{HaveAtLeast, HaveItem};
 ghost use Rattle.par2_recovery.specs.Products.{AddsSource, Adds, AreBytes};
 ghost use Rattle.par2_recovery.specs.Views.{texts_of};
 
@@ -56,10 +57,8 @@ fn factor_at(rows: &[Vec<u16>], r: usize, k: usize) -> u16
 // Adds the multiples of a source, which is the k-th one, to all targets.
 fn add_source(gf: &Gf, factors: &[Vec<u16>], k: usize, source: &Columns, targets: &mut [Vec<u8>])
     requires rows { length factors.now ≡ length targets.old }
-    requires factors { (r : ℕ)
-        → r < length factors.now → k < length (list_at (lists_of factors.now) r) }
-    requires room { (r : ℕ) → r < length targets.old
-        → 2 * source.now.to ≤ length (list_at (lists_of targets.old) r) }
+    requires factors { HaveItem k factors.now }
+    requires room { HaveAtLeast (2 * source.now.to) targets.old }
     ensures { AddsSource (λ r. slice_index (list_at (lists_of factors.now) r) k) source.now.text
         (lists_of targets.old) (lists_of targets.new)
         source.now.from source.now.to (length targets.old) }
@@ -90,11 +89,9 @@ fn add_text(
     to: usize,
 ) -> Result<(), AllocError>
     requires rows { length factors.now ≡ length targets.old }
-    requires factors { (r : ℕ)
-        → r < length factors.now → k < length (list_at (lists_of factors.now) r) }
+    requires factors { HaveItem k factors.now }
     requires order { from ≤ to }
-    requires room { (r : ℕ)
-        → r < length targets.old → 2 * to ≤ length (list_at (lists_of targets.old) r) }
+    requires room { HaveAtLeast (2 * to) targets.old }
     ensures { IfOk result (λ _. AddsSource
         (λ r. slice_index (list_at (lists_of factors.now) r) k) text.now
         (lists_of targets.old) (lists_of targets.new) from to (length targets.old)) }
@@ -118,11 +115,9 @@ fn add_columns(
     to: usize,
 ) -> Result<(), AllocError>
     requires rows { length factors.now ≡ length targets.old }
-    requires factors { (r : ℕ)
-        → r < length factors.now → length sources.now ≤ length (list_at (lists_of factors.now) r) }
+    requires factors { HaveAtLeast (length sources.now) factors.now }
     requires order { from ≤ to }
-    requires room { (r : ℕ)
-        → r < length targets.old → 2 * to ≤ length (list_at (lists_of targets.old) r) }
+    requires room { HaveAtLeast (2 * to) targets.old }
     ensures { IfOk result (λ _. Adds (lists_of factors.now) (texts_of sources.now)
         (lists_of targets.old) (lists_of targets.new) from to (length sources.now)) }
 {
@@ -152,10 +147,8 @@ pub(crate) fn add_products(
     words: usize,
 ) -> Result<(), AllocError>
     requires rows { length factors.now ≡ length targets.old }
-    requires factors { (r : ℕ)
-        → r < length factors.now → length sources.now ≤ length (list_at (lists_of factors.now) r) }
-    requires room { (r : ℕ)
-        → r < length targets.old → 2 * words ≤ length (list_at (lists_of targets.old) r) }
+    requires factors { HaveAtLeast (length sources.now) factors.now }
+    requires room { HaveAtLeast (2 * words) targets.old }
     ensures { IfOk result (λ _. Adds (lists_of factors.now) (texts_of sources.now)
         (lists_of targets.old) (lists_of targets.new) 0 words (length sources.now)) }
 {

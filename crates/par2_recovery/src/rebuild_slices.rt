@@ -6,6 +6,7 @@ ghost use Rattle.std.specs.List.Sorted.{IsStrictlyIncreasing};
 ghost use Rattle.par2_spec.specs.Search.{lost};
 ghost use Rattle.par2_spec.specs.Recovery.{coefficients};
 ghost use Rattle.par2_spec.specs.Sums.{list_at, lists_of};
+ghost use Rattle.par2_recovery.specs.Answers.{lost_among, HaveAtLeast, IsFaultOf, Rebuild};
 ghost use Rattle.par2_recovery.specs.Products.{AreBytes};
 ghost use Rattle.par2_recovery.specs.Views.{texts_of};
 ghost use Rattle.par2_recovery.specs.Survivors.{known_of, recovered_of, exponents_of, with_lost_slices, lost_from, known_from, known_alone, bytes_or_none, IsTrueFault};
@@ -109,8 +110,7 @@ fn lost_slices(
 ) -> Result<Vec<Vec<u8>>, AllocError>
     requires count { length survivors.now.known.items ≤ 32768 }
     requires even { survivors.now.slice % 2 ≡ 0 }
-    requires inverse { (r : ℕ)
-        → r < length inverse.now → length kept.now ≤ length (list_at (lists_of inverse.now) r) }
+    requires inverse { HaveAtLeast (length kept.now) inverse.now }
     requires kept { AllByRecursion (λ r. length r.1
         ≡ survivors.now.slice) (recovered_of kept.now) }
     ensures solved { let known = survivors.now.known.items in
@@ -142,14 +142,10 @@ fn lost_slices(
 /// them: then of `missing` lost slices no more than `rank` exponents are kept.
 pub fn rebuild(alloc: Global, gf: &Gf, survivors: &Survivors) -> Result<Vec<Vec<u8>>, RebuildFault>
     requires { CanRebuild survivors.now }
-    ensures rebuilt { let known = known_among survivors.now in
-        IfOk result (λ texts. AreRebuilt survivors.now (with_lost_slices known (lists_of
-        texts.items))) }
-    ensures count { IfOk result (λ texts. length texts.items
-        ≡ length (lost (known_among survivors.now))) }
+    ensures rebuilt { IfOk result (λ texts. Rebuild survivors.now texts.items) }
+    ensures count { IfOk result (λ texts. length texts.items ≡ length (lost_among survivors.now)) }
     ensures enough { IsOk result → AreEnough survivors.now }
-    ensures refused { let exponents = exponents_of survivors.now.recovery.items in
-        IfErr result (IsTrueFault (lost (known_among survivors.now)) exponents) }
+    ensures refused { IfErr result (IsFaultOf survivors.now) }
 {
     let lost = lost_numbers(alloc, &survivors.known)?;
     let Inversion { kept, inverse } = invert(alloc, gf, &lost, &survivors.recovery)?;
@@ -172,14 +168,10 @@ fn all_known(slices: &[Option<&[u8]>]) -> bool
 /// What `rebuild` answers. The tables of the field are made only where a slice is lost.
 pub fn rebuild_lost(alloc: Global, survivors: &Survivors) -> Result<Vec<Vec<u8>>, RebuildFault>
     requires { CanRebuild survivors.now }
-    ensures rebuilt { let known = known_among survivors.now in
-        IfOk result (λ texts. AreRebuilt survivors.now (with_lost_slices known (lists_of
-        texts.items))) }
-    ensures count { IfOk result (λ texts. length texts.items
-        ≡ length (lost (known_among survivors.now))) }
+    ensures rebuilt { IfOk result (λ texts. Rebuild survivors.now texts.items) }
+    ensures count { IfOk result (λ texts. length texts.items ≡ length (lost_among survivors.now)) }
     ensures enough { IsOk result → AreEnough survivors.now }
-    ensures refused { let exponents = exponents_of survivors.now.recovery.items in
-        IfErr result (IsTrueFault (lost (known_among survivors.now)) exponents) }
+    ensures refused { IfErr result (IsFaultOf survivors.now) }
 {
     if all_known(&survivors.known) {
         return Ok(Vec::new(alloc));

@@ -9,6 +9,7 @@ ghost use Rattle.par2_spec.specs.Commands.{files_of};
 ghost use Rattle.par2_spec.specs.Recovery.{recovery};
 ghost use Rattle.par2_spec.specs.Sums.{lists_of};
 ghost use Rattle.par2_transform.specs.Adding.{LieWithin};
+ghost use Rattle.par2_recovery.specs.Answers.{slices_of_set, ArePadded, LieIn};
 ghost use Rattle.par2_recovery.specs.Views.{texts_of, names_of, AreBlank};
 ghost use Rattle.par2_recovery.specs.Writing.{AreWritten, AreZeros};
 
@@ -82,7 +83,7 @@ pub fn write_recovery_slices(
 ) -> Result<(), AllocError>
     requires slices { length slices.now ≤ 32768 }
     requires count { length exponents.now ≡ length outputs.now.places.now }
-    requires room { LieWithin outputs.now.words outputs.now.places.now (lists_of texts.old) }
+    requires room { LieIn outputs.now texts.old }
     requires zeros { AreZeros outputs.now.words outputs.now.places.now (lists_of texts.old) }
     ensures { IfOk result (λ _. AreWritten outputs.now.words (texts_of slices.now) exponents.now
         outputs.now.places.now (lists_of texts.old) (lists_of texts.new)) }
@@ -142,8 +143,8 @@ pub fn input_slices<'a>(
     folder: &'a Folder,
 ) -> Result<Vec<&'a [u8]>, AllocError>
     requires { 1 ≤ record.now.slice }
-    ensures { IfOk result (λ all. map (spec.padded record.now.slice) (texts_of all.items)
-        ≡ all_slices record.now.slice (files_of folder.now.files (names_of record.now))) }
+    ensures { let slices = slices_of_set folder.now.files record.now in
+        IfOk result (λ all. ArePadded record.now.slice slices all.items) }
 {
     let mut all = Vec::new(alloc);
     for i in 0..record.files.len() {
@@ -162,11 +163,9 @@ pub fn recovery_slice(
 ) -> Result<Vec<u8>, AllocError>
     requires size { 1 ≤ record.now.slice }
     requires even { record.now.slice % 2 ≡ 0 }
-    requires slices { length
-        (all_slices record.now.slice (files_of folder.now.files (names_of record.now)))
-        ≤ 32768 }
-    ensures { IfOk result (λ text. text.items ≡ recovery record.now.slice
-        (all_slices record.now.slice (files_of folder.now.files (names_of record.now))) e) }
+    requires slices { length (slices_of_set folder.now.files record.now) ≤ 32768 }
+    ensures { let slices = slices_of_set folder.now.files record.now in
+        IfOk result (λ text. text.items ≡ recovery record.now.slice slices e) }
 {
     let slices = input_slices(alloc, record, folder)?;
     let size = record.slice as usize;

@@ -44,8 +44,8 @@ pub fn file_texts<'a>(
     folder: &'a Folder,
     names: &[Name],
 ) -> Result<Vec<&'a [u8]>, AllocError>
-    ensures { IfOk result (λ texts.
-        texts_of texts.items ≡ map (spec.bytes_of folder.now.files) names.now) }
+    ensures { IfOk result
+        (λ it. texts_of it.items ≡ map (spec.bytes_of folder.now.files) names.now) }
 {
     let mut texts = Vec::with_capacity(alloc, names.len())?;
     for i in 0..names.len() {
@@ -64,8 +64,7 @@ pub fn file_records(
 ) -> Result<Vec<FileRecord>, AllocError>
     requires size { 1 ≤ s }
     requires md5s { md5s.now ≡ map md5 (map (spec.bytes_of folder.now.files) names.now) }
-    ensures { IfOk result (λ records.
-        AreRecords s (files_of folder.now.files names.now) records.items) }
+    ensures { IfOk result (λ list. AreRecords s (files_of folder.now.files names.now) list.items) }
 {
     let mut records = Vec::with_capacity(alloc, names.len())?;
     for i in 0..names.len() {
@@ -84,8 +83,7 @@ fn records_of(
     s: u64,
 ) -> Result<Vec<FileRecord>, AllocError>
     requires { 1 ≤ s }
-    ensures { IfOk result (λ records.
-        AreRecords s (files_of folder.now.files names.now) records.items) }
+    ensures { IfOk result (λ list. AreRecords s (files_of folder.now.files names.now) list.items) }
 {
     let texts = file_texts(alloc, folder, names)?;
     let md5s = text_digests(alloc, &texts)?;

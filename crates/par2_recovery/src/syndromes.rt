@@ -4,6 +4,7 @@
 
 ghost use Rattle.std.specs.Prelude.{◌≡◌, ℕ, ◌*◌, ◌%◌, ◌<◌, ◌≤◌, ◌++◌, length, map, IfOk};
 ghost use Rattle.par2_spec.specs.Sums.{OneChanged, list_at, lists_of};
+ghost use Rattle.par2_recovery.specs.Answers.{AreOfSize, HaveAtLeast};
 ghost use Rattle.par2_recovery.specs.Syndromes.{all_coefficients, window, AreProducts, AreSolved, AreExtended};
 ghost use Rattle.par2_recovery.specs.Views.{texts_of, AreBlank};
 
@@ -63,8 +64,7 @@ fn inverse_times(
     texts: &[Vec<u8>],
     size: usize,
 ) -> Result<Vec<Vec<u8>>, AllocError>
-    requires inverse { (r : ℕ) → r < length inverse.now
-        → length texts.now ≤ length (list_at (lists_of inverse.now) r) }
+    requires inverse { HaveAtLeast (length texts.now) inverse.now }
     requires even { size % 2 ≡ 0 }
     ensures { IfOk result (λ sums. AreProducts size (lists_of inverse.now)
         (lists_of texts.now) (lists_of sums.items)) }
@@ -86,12 +86,10 @@ fn solved_block(
     size: usize,
     room: usize,
 ) -> Result<Vec<Vec<u8>>, AllocError>
-    requires inverse { (r : ℕ) → r < length inverse.now
-        → length recovery.now ≤ length (list_at (lists_of inverse.now) r) }
+    requires inverse { HaveAtLeast (length recovery.now) inverse.now }
     requires count { length slices.now ≤ 32768 }
     requires exponents { length exponents.now ≡ length recovery.now }
-    requires size { (j : ℕ)
-        → j < length recovery.now → length (list_at (texts_of recovery.now) j) ≡ size }
+    requires size { AreOfSize size recovery.now }
     requires even { size % 2 ≡ 0 }
     ensures { IfOk result (λ texts. AreSolved size (lists_of inverse.now)
         (all_coefficients (length slices.now) exponents.now) (texts_of slices.now)
@@ -146,12 +144,10 @@ pub(crate) fn solved(
     slices: &[&[u8]],
     size: usize,
 ) -> Result<Vec<Vec<u8>>, AllocError>
-    requires inverse { (r : ℕ) → r < length inverse.now
-        → length recovery.now ≤ length (list_at (lists_of inverse.now) r) }
+    requires inverse { HaveAtLeast (length recovery.now) inverse.now }
     requires count { length slices.now ≤ 32768 }
     requires exponents { length exponents.now ≡ length recovery.now }
-    requires size { (j : ℕ)
-        → j < length recovery.now → length (list_at (texts_of recovery.now) j) ≡ size }
+    requires size { AreOfSize size recovery.now }
     requires even { size % 2 ≡ 0 }
     ensures { IfOk result (λ texts. AreSolved size (lists_of inverse.now)
         (all_coefficients (length slices.now) exponents.now) (texts_of slices.now)
