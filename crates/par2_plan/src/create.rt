@@ -1,16 +1,15 @@
 //! What a create writes.
-ghost use Rattle.std.specs.Prelude.{◌≡◌, ◌≤◌, ◌⊎◌, Some, None, map, string_bytes, IsTrue, IfOk, IfErr, IsErrOf};
+ghost use Rattle.std.specs.Prelude.{◌≡◌, ◌≤◌, ◌⊎◌, Some, None, map, string_bytes, IsTrue, IfOk, IfErr, OnOk};
 ghost use Rattle.par2_spec.specs.Changes.{effects, are_applicable};
 ghost use Rattle.par2_spec.specs.Commands.{Create, files_of};
-ghost use Rattle.par2_spec.specs.Refusals.{head_fault, early_refusal, refusal, after};
-ghost use Rattle.par2_spec.specs.Volumes.{record_of, in_id_order};
+ghost use Rattle.par2_spec.specs.Refusals.{head_fault, after};
 ghost use Rattle.par2_spec.specs.Plans as plans;
 ghost use Rattle.par2_spec.specs.Views.{create_args_of};
-ghost use Rattle.par2_packets.specs.Views.{file_record_of};
-ghost use Rattle.par2_recovery.specs.Views.{AreRecords, names_of};
+ghost use Rattle.par2_recovery.specs.Views.{AreRecords};
 ghost use Rattle.par2_folder.specs.Landmarks.{AreLandmarksOf};
+ghost use Rattle.par2_plan.specs.Answers.{FailsAs, RefusesEarly, SucceedsAs};
 ghost use Rattle.par2_plan.specs.Faults.{inputs_fault};
-ghost use Rattle.par2_plan.specs.Outputs.{volumes_of};
+ghost use Rattle.par2_plan.specs.Outputs.{RecordsInputs, volumes_asked};
 
 use crate::Changes;
 use crate::index::index_of;
@@ -65,17 +64,13 @@ fn set_of_inputs(
 ) -> Result<(SetRecord, Landmarks), Fault>
     requires slice { 1 ≤ args.now.slice }
     requires landmarks { AreLandmarksOf folder.now.files from.now }
-    ensures refused { IfErr result (λ fault. (fault ≡ Fault.Memory) ⊎ (inputs_fault
-        folder.now.files args.now.slice (map string_bytes args.now.inputs.items)
-        ≡ Some fault)) }
-    ensures accepted { IfOk result (λ _. inputs_fault folder.now.files args.now.slice
-        (map string_bytes args.now.inputs.items) ≡ None) }
-    ensures slice { IfOk result (λ found. found.0.slice ≡ args.now.slice) }
-    ensures files { IfOk result (λ found. map file_record_of found.0.files.items
-        ≡ map (record_of args.now.slice)
-        (in_id_order (files_of folder.now.files (map string_bytes args.now.inputs.items)))) }
-    ensures order { IfOk result (λ found. files_of folder.now.files (names_of found.0)
-        ≡ in_id_order (files_of folder.now.files (map string_bytes args.now.inputs.items))) }
+    ensures refused { let names = map string_bytes args.now.inputs.items in
+        let cause = inputs_fault folder.now.files args.now.slice names in
+        IfErr result (λ fault. (fault ≡ Fault.Memory) ⊎ (cause ≡ Some fault)) }
+    ensures accepted { let names = map string_bytes args.now.inputs.items in
+        OnOk result (inputs_fault folder.now.files args.now.slice names ≡ None) }
+    ensures set { let asked = create_args_of args.now in
+        IfOk result (λ found. RecordsInputs folder.now.files asked found.0) }
     ensures landmarks { IfOk result (λ found. AreLandmarksOf folder.now.files found.1) }
 {
     let names = input_names(alloc, &args.inputs)?;
@@ -97,18 +92,13 @@ fn outputs_written(
     volumes: &[Volume],
 ) -> Result<Changes, AllocError>
     requires head { head_fault (create_args_of args.now) ≡ None }
-    requires inputs { inputs_fault folder.now.files args.now.slice
-        (map string_bytes args.now.inputs.items) ≡ None }
+    requires inputs { let names = map string_bytes args.now.inputs.items in
+        inputs_fault folder.now.files args.now.slice names ≡ None }
     requires base { base ≡ string_bytes args.now.base }
-    requires slice { set.now.slice ≡ args.now.slice }
-    requires files { map file_record_of set.now.files.items ≡ map (record_of args.now.slice)
-        (in_id_order (files_of folder.now.files (map string_bytes args.now.inputs.items))) }
-    requires order { files_of folder.now.files (names_of set.now)
-        ≡ in_id_order (files_of folder.now.files (map string_bytes args.now.inputs.items)) }
-    requires volumes { volumes.now
-        ≡ volumes_of (string_bytes args.now.base) args.now.first args.now.count }
-    ensures { IfOk result (λ changes. changes
-        ≡ plans.create_changes folder.now.files (create_args_of args.now)) }
+    requires set { RecordsInputs folder.now.files (create_args_of args.now) set.now }
+    requires volumes { volumes.now ≡ volumes_asked (create_args_of args.now) }
+    ensures { let all = plans.create_changes folder.now.files (create_args_of args.now) in
+        IfOk result (λ changes. changes ≡ all) }
 {
     let parts = Parts {
         index: index_of(alloc, set.slice, &set.files)?,
@@ -128,21 +118,15 @@ pub fn plan_create(
     from: &Landmarks,
 ) -> Result<Creation, Fault>
     requires { AreLandmarksOf folder.now.files from.now }
-    ensures refused { IfErr result (λ fault. (fault ≡ Fault.Memory)
-        ⊎ (refusal folder.now.files (Create (create_args_of args.now)) ≡ Some fault)) }
-    ensures accepted { IfOk result
-        (λ _. refusal folder.now.files (Create (create_args_of args.now)) ≡ None) }
-    ensures early { (fault : Fault)
-        → early_refusal folder.now.files (Create (create_args_of args.now)) ≡ Some fault
-        → IsErrOf result fault }
-    ensures changes { IfOk result (λ creation. creation.changes
+    ensures refused { FailsAs folder.now.files (Create (create_args_of args.now)) result }
+    ensures accepted { SucceedsAs folder.now.files (Create (create_args_of args.now)) result }
+    ensures early { RefusesEarly folder.now.files (Create (create_args_of args.now)) result }
+    ensures changes { IfOk result (λ made. made.changes
         ≡ plans.changes_of folder.now.files (Create (create_args_of args.now))) }
-    ensures applies { IfOk result
-        (λ creation. IsTrue (are_applicable folder.now.files creation.changes)) }
-    ensures leads { IfOk result (λ creation. effects folder.now.files creation.changes
+    ensures applies { IfOk result (λ made. IsTrue (are_applicable folder.now.files made.changes)) }
+    ensures leads { IfOk result (λ made. effects folder.now.files made.changes
         ≡ after folder.now.files (Create (create_args_of args.now))) }
-    ensures landmarks { IfOk result
-        (λ creation. AreLandmarksOf folder.now.files creation.landmarks) }
+    ensures landmarks { IfOk result (λ made. AreLandmarksOf folder.now.files made.landmarks) }
 {
     let base = index_name(args)?;
     if let Some(fault) = bad_name(&args.inputs) {
