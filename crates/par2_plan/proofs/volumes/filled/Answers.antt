@@ -1,4 +1,4 @@
-use Rattle.std.proofs.Common.{◌≡◌, ◌∙◌, ◌+◌, ◌*◌, ◌/◌, List, ℕ, Vec, Global, map, sym, ap, subst, arith, rules, length}
+use Rattle.std.proofs.Common.{◌≡◌, ◌∙◌, ◌/◌, List, ℕ, Vec, Global, sym, ap, subst, arith, rules, length}
 use Rattle.std.specs.Borrow.{Bor}
 use Rattle.std.proofs.lemmas.List.{length-map, with_items_is}
 use Rattle.par2_spec.specs.Slices.{padded}
@@ -7,7 +7,7 @@ use Rattle.par2_transform.specs.Adding.{AreApart, LieWithin}
 use Rattle.par2_transform.specs.declared.outputs.Place.{Place}
 use Rattle.par2_recovery.specs.Views.{texts_of}
 use Rattle.par2_recovery.specs.Writing.{AreWritten, AreZeros}
-use Rattle.par2_plan.specs.Volumes.{HavePackets, blank_volume, exponents_of, places_from, with_slices}
+use Rattle.par2_plan.specs.Volumes.{places_from}
 use Rattle.par2_plan.specs.declared.names.Volume.{Volume}
 use Rattle.par2_plan.proofs.VolumePlaces.{blank_packets, places_apart, places_blank, places_within, length-places, volumes_written}
 use Rattle.par2_plan.proofs.volumes.filled.Goals as goal

@@ -1,6 +1,5 @@
-use Rattle.std.proofs.Common.{◌≡◌, ◌∙◌, ◌<◌, ◌++◌, List, ℕ, sym, ap, arith, length}
+use Rattle.std.proofs.Common.{◌∙◌, ◌<◌, ◌++◌, List, ℕ, sym, ap, arith, length}
 use Rattle.std.proofs.lemmas.List.{take_all}
-use Rattle.par2_spec.specs.Sums.{list_at, lists_of}
 use Rattle.par2_spec.proofs.WordLaws.{read_at, length-lists_of}
 use Rattle.par2_transform.specs.declared.outputs.Place.{Place}
 use Rattle.par2_plan.specs.Volumes.{length_with, places_from, places_in}
