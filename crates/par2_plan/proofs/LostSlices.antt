@@ -4,7 +4,6 @@ use Rattle.std.specs.Prelude.{Option, Some, None, is_some, filter, flat_map}
 use Rattle.std.specs.List.{AllByRecursion}
 use Rattle.std.proofs.lemmas.List.{take_more, length-take-le, length-map}
 use Rattle.std.proofs.lemmas.List.Sums.{length-filter, count_by-le-length}
-use Rattle.par2_spec.specs.Rank.{rank}
 use Rattle.par2_spec.specs.Sets.{Target}
 use Rattle.par2_spec.proofs.ListsLaws.{all-append}
 use Rattle.par2_search.specs.Texts.{padded_window, padded_windows}

@@ -1,7 +1,7 @@
 -- What calls answer to a command.
-use Rattle.std.specs.Prelude.{◌≡◌, ◌⊎◌, ℕ, Bool, List, map, Option, None, Some, Result, String, Vec, IfErr, IfOk, OnOk, IsErrOf, string_bytes}
+use Rattle.std.specs.Prelude.{◌≡◌, ◌⊎◌, ℕ, Bool, List, map, Option, None, Some, Result, Err, String, Vec, IfErr, IfOk, OnOk, IsErrOf, string_bytes}
 use Rattle.par2_spec.specs.Changes.{Change, effects}
-use Rattle.par2_spec.specs.Commands.{Command, Repair}
+use Rattle.par2_spec.specs.Commands.{Command, Repair, Verify}
 use Rattle.par2_spec.specs.Folders.{Folder}
 use Rattle.par2_spec.specs.Plans.{changes_of}
 use Rattle.par2_spec.specs.Refusals.{early_refusal, refusal, after}
@@ -36,6 +36,14 @@ GivesChanges folder command result = IfOk result (λ changes. changes ≡ change
 abbrev pub LeadsAs : Folder → Command → Result (List Change) Fault → Type 0
 LeadsAs folder command result = IfOk result (λ changes. effects folder changes ≡ after folder command)
 
--- the repair that these words ask for
+-- where a call fails, the answer of the definitions is that fault, or memory ran out
+abbrev pub FailsIn : {A B : Type 0} → Result B Fault → Result A Fault → Type 0
+FailsIn answer result = IfErr result (λ fault. (fault ≡ Memory) ⊎ (answer ≡ Err fault))
+
+-- the verify that these words ask for
+abbrev pub verify_of : {Z : Type 0} → List ℕ → List (String Z) → Command
+verify_of base extras = Verify base (map string_bytes extras)
+
+-- the repair that they ask for
 abbrev pub repair_of : {Z : Type 0} → List ℕ → List (String Z) → Bool → Command
 repair_of base extras purge = Repair base (map string_bytes extras) purge

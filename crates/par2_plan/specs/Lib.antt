@@ -1,5 +1,4 @@
 pub mod Answers
-pub mod Creating
 pub mod Drafts
 pub mod Faults
 pub mod Findings

@@ -5,11 +5,13 @@ use Rattle.std.specs.Borrow.{Bor}
 use Rattle.par2_spec.specs.Packets.{Packet, packet}
 use Rattle.par2_spec.specs.Folders.{Folder, File, has}
 use Rattle.par2_spec.specs.Changes.{Change, Write, Replace}
-use Rattle.par2_spec.specs.Volumes.{volume_name, volume_numbers, volumes_before, volume_size, all_slices, recovery_packets}
+use Rattle.par2_spec.specs.Volumes.{volume_name, volume_numbers, volumes_before, volume_size, all_slices, recovery_packets, record_of, in_id_order}
 use Rattle.par2_spec.specs.Commands.{CreateArgs, files_of}
 use Rattle.par2_spec.specs.Slices.{padded}
+use Rattle.par2_packets.specs.Views.{file_record_of}
 use Rattle.par2_recovery.specs.Views as records
 use Rattle.par2_recovery.specs.Views.{texts_of}
+use Rattle.par2_recovery.specs.declared.set_record.SetRecord.{SetRecord}
 use Rattle.par2_plan.specs.declared.names.Volume.{Volume}
 use Rattle.par2_plan.specs.declared.outputs.Parts.{Parts}
 
@@ -29,6 +31,10 @@ volume_if base f c i = if nat_lt (volumes_before i) c then volume_at base f c i 
 abbrev pub volumes_of : List ℕ → ℕ → ℕ → List Volume
 volumes_of base f c = map (volume_at base f c) (volume_numbers c)
 
+-- those that a create asks for
+abbrev pub volumes_asked : CreateArgs → List Volume
+volumes_asked a = volumes_of a.base a.first a.count
+
 -- its exponents are among the 65,536 that recovery slices can have
 abbrev pub HasExponents : Volume → Type 0
 HasExponents volume = volume.first + volume.count ≤ 65536
@@ -42,7 +48,13 @@ names_of volumes = map (λ volume. volume.name) volumes
 
 -- the names of the outputs, the index first
 abbrev pub output_names : CreateArgs → List (List ℕ)
-output_names a = a.base ∷ names_of (volumes_of a.base a.first a.count)
+output_names a = a.base ∷ names_of (volumes_asked a)
+
+-- a set says of a create's inputs what it has to, in the order of their File IDs
+pub record RecordsInputs (folder : Folder) (a : CreateArgs) (set : SetRecord) : Type 0 where
+  pub slice : set.slice ≡ a.slice
+  pub files : map file_record_of set.files.items ≡ map (record_of a.slice) (in_id_order (files_of folder a.inputs))
+  pub order : files_of folder (records.names_of set) ≡ in_id_order (files_of folder a.inputs)
 
 -- the slices of a set's files, one file after the other
 abbrev pub inputs_of : Parts → List (List ℕ)

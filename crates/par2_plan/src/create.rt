@@ -1,15 +1,15 @@
 //! What a create writes.
-ghost use Rattle.std.specs.Prelude.{◌≡◌, ◌≤◌, ◌⊎◌, None, Some, string_bytes, IsTrue, IfErr, IfOk, OnOk};
+ghost use Rattle.std.specs.Prelude.{◌≡◌, ◌≤◌, ◌⊎◌, Some, None, map, string_bytes, IsTrue, IfOk, IfErr, OnOk};
 ghost use Rattle.par2_spec.specs.Changes.{effects, are_applicable};
 ghost use Rattle.par2_spec.specs.Commands.{Create, files_of};
-ghost use Rattle.par2_spec.specs.Plans.{changes_of, create_changes};
 ghost use Rattle.par2_spec.specs.Refusals.{head_fault, after};
+ghost use Rattle.par2_spec.specs.Plans as plans;
 ghost use Rattle.par2_spec.specs.Views.{create_args_of};
+ghost use Rattle.par2_recovery.specs.Views.{AreRecords};
 ghost use Rattle.par2_folder.specs.Landmarks.{AreLandmarksOf};
-ghost use Rattle.par2_recovery.specs.Views.{AreRecords, names_of};
 ghost use Rattle.par2_plan.specs.Answers.{FailsAs, RefusesEarly, SucceedsAs};
-ghost use Rattle.par2_plan.specs.Creating.{fault_of_inputs, inputs_of};
-ghost use Rattle.par2_plan.specs.Outputs.{volumes_of};
+ghost use Rattle.par2_plan.specs.Faults.{inputs_fault};
+ghost use Rattle.par2_plan.specs.Outputs.{RecordsInputs, volumes_asked};
 
 use crate::Changes;
 use crate::index::index_of;
@@ -64,14 +64,13 @@ fn set_of_inputs(
 ) -> Result<(SetRecord, Landmarks), Fault>
     requires slice { 1 ≤ args.now.slice }
     requires landmarks { AreLandmarksOf folder.now.files from.now }
-    ensures refused { IfErr result (λ fault. (fault ≡ Fault.Memory)
-        ⊎ (fault_of_inputs folder.now.files args.now ≡ Some fault)) }
-    ensures accepted { OnOk result (fault_of_inputs folder.now.files args.now ≡ None) }
-    ensures slice { IfOk result (λ found. found.0.slice ≡ args.now.slice) }
-    ensures files { IfOk result (λ found. let inputs = inputs_of folder.now.files args.now in
-        AreRecords args.now.slice inputs found.0.files.items) }
-    ensures order { IfOk result (λ found.
-        files_of folder.now.files (names_of found.0) ≡ inputs_of folder.now.files args.now) }
+    ensures refused { let names = map string_bytes args.now.inputs.items in
+        let cause = inputs_fault folder.now.files args.now.slice names in
+        IfErr result (λ fault. (fault ≡ Fault.Memory) ⊎ (cause ≡ Some fault)) }
+    ensures accepted { let names = map string_bytes args.now.inputs.items in
+        OnOk result (inputs_fault folder.now.files args.now.slice names ≡ None) }
+    ensures set { let asked = create_args_of args.now in
+        IfOk result (λ found. RecordsInputs folder.now.files asked found.0) }
     ensures landmarks { IfOk result (λ found. AreLandmarksOf folder.now.files found.1) }
 {
     let names = input_names(alloc, &args.inputs)?;
@@ -93,17 +92,13 @@ fn outputs_written(
     volumes: &[Volume],
 ) -> Result<Changes, AllocError>
     requires head { head_fault (create_args_of args.now) ≡ None }
-    requires inputs { fault_of_inputs folder.now.files args.now ≡ None }
+    requires inputs { let names = map string_bytes args.now.inputs.items in
+        inputs_fault folder.now.files args.now.slice names ≡ None }
     requires base { base ≡ string_bytes args.now.base }
-    requires slice { set.now.slice ≡ args.now.slice }
-    requires files { let inputs = inputs_of folder.now.files args.now in
-        AreRecords args.now.slice inputs set.now.files.items }
-    requires order { let inputs = inputs_of folder.now.files args.now in
-        files_of folder.now.files (names_of set.now) ≡ inputs }
-    requires volumes { let base = string_bytes args.now.base in
-        volumes.now ≡ volumes_of base args.now.first args.now.count }
-    ensures { let wanted = create_changes folder.now.files (create_args_of args.now) in
-        IfOk result (λ changes. changes ≡ wanted) }
+    requires set { RecordsInputs folder.now.files (create_args_of args.now) set.now }
+    requires volumes { volumes.now ≡ volumes_asked (create_args_of args.now) }
+    ensures { let all = plans.create_changes folder.now.files (create_args_of args.now) in
+        IfOk result (λ changes. changes ≡ all) }
 {
     let parts = Parts {
         index: index_of(alloc, set.slice, &set.files)?,
@@ -126,12 +121,12 @@ pub fn plan_create(
     ensures refused { FailsAs folder.now.files (Create (create_args_of args.now)) result }
     ensures accepted { SucceedsAs folder.now.files (Create (create_args_of args.now)) result }
     ensures early { RefusesEarly folder.now.files (Create (create_args_of args.now)) result }
-    ensures changes { IfOk result (λ it. it.changes
-        ≡ changes_of folder.now.files (Create (create_args_of args.now))) }
-    ensures applies { IfOk result (λ it. IsTrue (are_applicable folder.now.files it.changes)) }
-    ensures leads { IfOk result (λ it. effects folder.now.files it.changes
+    ensures changes { IfOk result (λ made. made.changes
+        ≡ plans.changes_of folder.now.files (Create (create_args_of args.now))) }
+    ensures applies { IfOk result (λ made. IsTrue (are_applicable folder.now.files made.changes)) }
+    ensures leads { IfOk result (λ made. effects folder.now.files made.changes
         ≡ after folder.now.files (Create (create_args_of args.now))) }
-    ensures landmarks { IfOk result (λ it. AreLandmarksOf folder.now.files it.landmarks) }
+    ensures landmarks { IfOk result (λ made. AreLandmarksOf folder.now.files made.landmarks) }
 {
     let base = index_name(args)?;
     if let Some(fault) = bad_name(&args.inputs) {

@@ -1,9 +1,8 @@
 //! What a verify answers.
-ghost use Rattle.std.specs.Prelude.{◌≡◌, ◌⊎◌, map, string_bytes, IfOk, IfErr, IsErrOf, Some, Ok, Err};
-ghost use Rattle.par2_spec.specs.Commands.{Verify};
-ghost use Rattle.par2_spec.specs.Refusals.{early_refusal};
+ghost use Rattle.std.specs.Prelude.{◌≡◌, map, string_bytes, IfOk, Ok};
 ghost use Rattle.par2_spec.specs.Reports.{report_in, verdict_of, IsVerdictIn, RefusedAsReported};
 ghost use Rattle.par2_spec.specs.Search as search;
+ghost use Rattle.par2_plan.specs.Answers.{FailsIn, RefusesEarly, verify_of};
 ghost use Rattle.par2_plan.specs.Findings.{standings};
 ghost use Rattle.par2_plan.specs.Parts.{report_by};
 ghost use Rattle.par2_plan.specs.Views.{report_of};
@@ -40,11 +39,8 @@ fn report_with(
 /// is answered only where a growth is refused.
 pub fn check(alloc: Global, folder: &Folder, base: &str, extras: &[String]) -> Result<Report, Fault>
     ensures refused { let words = map string_bytes extras.now in
-        let answer = report_in folder.now.files base.now words in
-        IfErr result (λ fault. (fault ≡ Fault.Memory) ⊎ (answer ≡ Err fault)) }
-    ensures early { let command = Verify base.now (map string_bytes extras.now) in
-        (fault : Fault) → early_refusal folder.now.files command ≡ Some fault
-        → IsErrOf result fault }
+        FailsIn (report_in folder.now.files base.now words) result }
+    ensures early { RefusesEarly folder.now.files (verify_of base.now extras.now) result }
     ensures report { let words = map string_bytes extras.now in
         let answer = report_in folder.now.files base.now words in
         IfOk result (λ report. answer ≡ Ok (report_of report)) }

@@ -24,12 +24,12 @@ few_records folder s inputs records same are positive =
 
 pub index_of-requires : goal.index_of-requires
 index_of-requires c =
-    few_records c.args.folder.now.files c.args.args.now.slice (map string_bytes c.args.args.now.inputs.items) c.deref.result.now (ap (map file_record_of) c.deref.ensures.value ∙ c.requires.files)
+    few_records c.args.folder.now.files c.args.args.now.slice (map string_bytes c.args.args.now.inputs.items) c.deref.result.now (ap (map file_record_of) c.deref.ensures.value ∙ c.requires.set.files)
     (inputs_passed _ _ _ c.requires.inputs) (head_passed _ c.requires.head).positive
 
 pub main_id-requires : goal.main_id-requires
 main_id-requires c =
-    few_records c.args.folder.now.files c.args.args.now.slice (map string_bytes c.args.args.now.inputs.items) c.deref-2.result.now (ap (map file_record_of) c.deref-2.ensures.value ∙ c.requires.files)
+    few_records c.args.folder.now.files c.args.args.now.slice (map string_bytes c.args.args.now.inputs.items) c.deref-2.result.now (ap (map file_record_of) c.deref-2.ensures.value ∙ c.requires.set.files)
     (inputs_passed _ _ _ c.requires.inputs) (head_passed _ c.requires.head).positive
 
 pub changes_of-requires-clause-parts : goal.changes_of-requires-clause-parts
@@ -37,13 +37,13 @@ changes_of-requires-clause-parts c =
     let inputs = map string_bytes c.args.args.now.inputs.items in
     let folder = c.args.folder.now.files in
     let s = c.args.args.now.slice in
-    let slice = c.requires.slice in
+    let slice = c.requires.set.slice in
     let head : IsHead (create_args_of c.args.args.now) = head_passed _ c.requires.head in
     let are : AreInputs folder s inputs = inputs_passed _ _ _ c.requires.inputs in
     record {
       positive = subst (λ n. 1 ≤ n) (sym slice) head.positive;
       fours = subst (λ n. n % 4 ≡ 0) (sym slice) head.fours;
-      few = subst (λ n. n ≤ 32768) (sym (ap₂ (λ n files. length (all_slices n files)) slice c.requires.order)) (few_slices folder s inputs are);
+      few = subst (λ n. n ≤ 32768) (sym (ap₂ (λ n files. length (all_slices n files)) slice c.requires.set.order)) (few_slices folder s inputs are);
     }
 
 pub changes_of-requires-clause-exponents : goal.changes_of-requires-clause-exponents
@@ -64,13 +64,13 @@ returns c =
     let ordered = in_id_order (files_of folder a.inputs) in
     let records = map (record_of s) ordered in
     let texts = all_slices set.slice (files_of folder (names_of set)) in
-    let is_index : index ≡ flat_map packet (index_packets s records) = c.in_ok-index_of.ensures ∙ ap₂ (λ n files. flat_map packet (index_packets n files)) c.requires.slice (ap (map file_record_of) c.deref.ensures.value ∙ c.requires.files) in
-    let is_id : id ≡ main_id s records = c.main_id.ensures ∙ ap₂ main_id c.requires.slice (ap (map file_record_of) c.deref-2.ensures.value ∙ c.requires.files) in
+    let is_index : index ≡ flat_map packet (index_packets s records) = c.in_ok-index_of.ensures ∙ ap₂ (λ n files. flat_map packet (index_packets n files)) c.requires.set.slice (ap (map file_record_of) c.deref.ensures.value ∙ c.requires.set.files) in
+    let is_id : id ≡ main_id s records = c.main_id.ensures ∙ ap₂ main_id c.requires.set.slice (ap (map file_record_of) c.deref-2.ensures.value ∙ c.requires.set.files) in
     let same =
     ap (λ x. written folder x index id set.slice texts volumes) c.requires.base
     ∙ ap (λ x. written folder a.base x id set.slice texts volumes) is_index
     ∙ ap (λ x. written folder a.base (flat_map packet (index_packets s records)) x set.slice texts volumes) is_id
-    ∙ ap₂ (λ n files. written folder a.base (flat_map packet (index_packets s records)) (main_id s records) n (all_slices n files) volumes) c.requires.slice c.requires.order
+    ∙ ap₂ (λ n files. written folder a.base (flat_map packet (index_packets s records)) (main_id s records) n (all_slices n files) volumes) c.requires.set.slice c.requires.set.order
     ∙ ap (λ x. written folder a.base (flat_map packet (index_packets s records)) (main_id s records) s (all_slices s ordered) x) c.requires.volumes
     ∙ create_written folder a in
     subst (λ w. IfOk c.changes_of.result (λ changes. changes ≡ w)) same c.changes_of.ensures

@@ -112,14 +112,8 @@ outputs_written-requires-clause-inputs c = c.in_ok-set.ensures.accepted
 pub outputs_written-requires-clause-base : goal.outputs_written-requires-clause-base
 outputs_written-requires-clause-base c = c.in_ok-base.ensures.name
 
-pub outputs_written-requires-clause-slice : goal.outputs_written-requires-clause-slice
-outputs_written-requires-clause-slice c = c.in_ok-set.ensures.slice
-
-pub outputs_written-requires-clause-files : goal.outputs_written-requires-clause-files
-outputs_written-requires-clause-files c = c.in_ok-set.ensures.files
-
-pub outputs_written-requires-clause-order : goal.outputs_written-requires-clause-order
-outputs_written-requires-clause-order c = c.in_ok-set.ensures.order
+pub outputs_written-requires-clause-set : goal.outputs_written-requires-clause-set
+outputs_written-requires-clause-set c = c.in_ok-set.ensures.set
 
 pub returns-clause-accepted : goal.returns-clause-accepted
 returns-clause-accepted c =
