@@ -2,6 +2,7 @@
 ghost use Rattle.std.specs.Prelude.{◌≡◌, ◌&&◌, ℕ, List, IfOk};
 ghost use Rattle.std.specs.List.{list_any, list_all};
 ghost use Rattle.std.specs.Str.{bytes_eq};
+ghost use Rattle.par2_spec.specs.Answers.{Lists};
 ghost use Rattle.par2_spec.specs.Folders as folders;
 ghost use Rattle.par2_spec.specs.Names as names;
 ghost use Rattle.par2_spec.specs.Names.{is_among};
@@ -70,8 +71,7 @@ fn is_par_file(folder: &Folder, set: &ParSet, targets: &BTreeSet<Name>, name: &N
 /// The names of the set's par files, in order: they end in `.par2`, have packets of the set and of no other, and aren't
 /// targets.
 pub fn par_files(alloc: Global, folder: &Folder, set: &ParSet) -> Result<Vec<Name>, AllocError>
-    ensures { let files = repairs.par_files folder.now.files set.now in
-        IfOk result (λ names. names.items ≡ files) }
+    ensures { Lists (repairs.par_files folder.now.files set.now) result }
 {
     let targets = target_names(alloc, set)?;
     let mut names = folder.names()?;

@@ -1,5 +1,6 @@
 //! The names under which files are put aside.
 ghost use Rattle.std.specs.Prelude.{◌≡◌, ◌⊎◌, ◌<◌, ◌+◌, ◌++◌, ◌∷◌, [], ℕ, List, Some, None, IsTrue, length, map, string_bytes, IfOk, IfErr};
+ghost use Rattle.par2_spec.specs.Answers.{FailsFor, Lists};
 ghost use Rattle.par2_spec.specs.Folders as folders;
 ghost use Rattle.par2_spec.specs.Names as names;
 ghost use Rattle.std.specs.List.{list_all};
@@ -66,8 +67,7 @@ fn aside(
 ) -> Result<Name, Fault>
     requires targets { HoldsNames targets.now (target_names set.now) }
     requires most { most ≡ length (taken_for folder.now.files set.now) + 1 }
-    ensures refused { let long = long_aside folder.now.files set.now (name.now ∷ []) in
-        IfErr result (λ fault. (fault ≡ Fault.Memory) ⊎ (long ≡ Some fault)) }
+    ensures refused { FailsFor (long_aside folder.now.files set.now (name.now ∷ [])) result }
     ensures aside { IfOk result (λ other. other ≡ aside folder.now.files set.now name.now) }
 {
     // By these laws a number is free, and one by which the name is too long is free too.
@@ -100,11 +100,9 @@ pub fn asides(
     set: &ParSet,
     names: &[Name],
 ) -> Result<Vec<Name>, Fault>
-    ensures refused { let long = long_aside folder.now.files set.now names.now in
-        IfErr result (λ fault. (fault ≡ Fault.Memory) ⊎ (long ≡ Some fault)) }
+    ensures refused { FailsFor (long_aside folder.now.files set.now names.now) result }
     ensures short { IfOk result (λ _. long_aside folder.now.files set.now names.now ≡ None) }
-    ensures names { IfOk result (λ asides.
-        asides.items ≡ map (aside folder.now.files set.now) names.now) }
+    ensures names { Lists (map (aside folder.now.files set.now) names.now) result }
     ensures few { IfOk result (λ _. AreFew folder.now.files set.now) }
 {
     let targets = target_names(alloc, set)?;

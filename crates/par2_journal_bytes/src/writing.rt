@@ -3,6 +3,7 @@ ghost use Rattle.std.specs.Prelude.{◌≡◌, ◌≤◌, ◌∷◌, ◌++◌, l
 ghost use Rattle.std.specs.Int.{w64, to_le_bytes};
 ghost use Rattle.std.specs.List.{concat, AllByRecursion};
 ghost use Rattle.md5.specs.Md5.{md5};
+ghost use Rattle.par2_spec.specs.Answers.{Appends};
 ghost use Rattle.par2_spec.specs.Names.{is_name};
 ghost use Rattle.par2_spec.specs.Folders.{behind_length};
 ghost use Rattle.par2_spec.specs.Journals as journals;
@@ -44,8 +45,7 @@ fn append_bytes(out: &mut Vec<u8>, bytes: &Bytes) -> Result<(), AllocError>
 
 // The byte of a change's kind, and its name.
 fn append_kind_and_name(out: &mut Vec<u8>, kind: u8, name: &Name) -> Result<(), AllocError>
-    ensures bytes { OnOk result (out.new.items
-        ≡ out.old.items ++ kind ∷ journals.name_bytes name.now) }
+    ensures bytes { Appends (kind ∷ journals.name_bytes name.now) out.old out.new result }
     ensures name { OnOk result (IsTrue (is_name name.now)) }
 {
     out.push(kind)?;
@@ -53,8 +53,7 @@ fn append_kind_and_name(out: &mut Vec<u8>, kind: u8, name: &Name) -> Result<(), 
 }
 
 fn append_change(out: &mut Vec<u8>, change: &Change) -> Result<(), AllocError>
-    ensures bytes { OnOk result (out.new.items
-        ≡ out.old.items ++ journals.change_bytes (change_of change.now)) }
+    ensures bytes { Appends (journals.change_bytes (change_of change.now)) out.old out.new result }
     ensures change { OnOk result (journals.IsChange (change_of change.now)) }
 {
     match change {
@@ -86,8 +85,7 @@ fn append_changes(out: &mut Vec<u8>, changes: &[Change]) -> Result<(), AllocErro
 }
 
 fn append_entry(out: &mut Vec<u8>, entry: &[Change]) -> Result<(), AllocError>
-    ensures bytes { OnOk result (out.new.items
-        ≡ out.old.items ++ journals.entry_bytes (changes_in entry.now)) }
+    ensures bytes { Appends (journals.entry_bytes (changes_in entry.now)) out.old out.new result }
     ensures entry { OnOk result (journals.IsEntry (changes_in entry.now)) }
 {
     append_number(out, entry.len() as u64)?;
@@ -147,8 +145,7 @@ fn append_halfway(
 }
 
 fn append_cursor(out: &mut Vec<u8>, version: Version, cursor: usize) -> Result<(), AllocError>
-    ensures { OnOk result (out.new.items
-        ≡ out.old.items ++ journals.cursor_bytes version cursor) }
+    ensures { Appends (journals.cursor_bytes version cursor) out.old out.new result }
 {
     match version {
         Version::One => Ok(()),

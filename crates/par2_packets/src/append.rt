@@ -2,6 +2,7 @@
 
 ghost use Rattle.std.specs.Prelude.{◌≡◌, ◌≤◌, ◌+◌, ◌-◌, ◌%◌, ◌++◌, length, map, flat_map, OnOk, OnErr, IfOk};
 ghost use Rattle.md5.specs.Md5.{md5};
+ghost use Rattle.par2_spec.specs.Answers.{Appends};
 ghost use Rattle.par2_spec.specs.Packets.{packet, digest_input};
 ghost use Rattle.par2_spec.specs.Volumes.{packet_of, main_id, main_bytes, desc_bytes, ifsc_bytes, creator_bytes, recovery_bytes, padded_4};
 ghost use Rattle.par2_packets.specs.Views.{file_record_of};
@@ -117,7 +118,7 @@ pub fn append_main(
     requires { length files.now ≤ 32768 }
     ensures ok { let records = map file_record_of files.now in
         let main = packet_of (main_id s records) Kind.Main (main_bytes s records) in
-        OnOk result (out.new.items ≡ out.old.items ++ packet main) }
+        Appends (packet main) out.old out.new result }
     ensures err { OnErr result (out.new.items ≡ out.old.items) }
 {
     let body = main_body(alloc, s, files)?;

@@ -5,6 +5,7 @@ ghost use Rattle.std.specs.Prelude.{◌≡◌, ◌≤◌, ◌+◌, ◌*◌, ◌+
 ghost use Rattle.std.specs.List.{range_with_len};
 ghost use Rattle.md5.specs.Md5.{md5};
 ghost use Rattle.par2_digests.specs.Texts.{texts_of};
+ghost use Rattle.par2_spec.specs.Answers.{Appends};
 ghost use Rattle.par2_spec.specs.Packets.{bytes_at};
 ghost use Rattle.par2_packets.specs.Pieces.{overwritten, ArePieces};
 ghost use Rattle.par2_packets.specs.Recoveries.{undigested, digested, AreDigested};
@@ -37,8 +38,7 @@ fn append_undigested(
     size: usize,
 ) -> Result<(), AllocError>
     requires { 68 + size ≤ usize.MAX }
-    ensures { OnOk result
-        (out.new.items ≡ out.old.items ++ undigested set_id.now e (replicate size 0)) }
+    ensures { Appends (undigested set_id.now e (replicate size 0)) out.old out.new result }
 {
     out.extend_from_slice(b"PAR2\0PKT")?;
     out.extend_from_slice(&u64_bytes((HEAD + size) as u64))?;

@@ -1,5 +1,6 @@
 -- What calls answer to a command.
 use Rattle.std.specs.Prelude.{◌≡◌, ◌⊎◌, ℕ, Bool, List, map, Option, None, Some, Result, Err, String, Vec, IfErr, IfOk, OnOk, IsErrOf, string_bytes}
+use Rattle.par2_spec.specs.Answers.{FailsFor}
 use Rattle.par2_spec.specs.Changes.{Change, effects}
 use Rattle.par2_spec.specs.Commands.{Command, Repair, Verify}
 use Rattle.par2_spec.specs.Folders.{Folder}
@@ -7,14 +8,6 @@ use Rattle.par2_spec.specs.Plans.{changes_of}
 use Rattle.par2_spec.specs.Refusals.{early_refusal, refusal, after}
 use Rattle.par2_spec.specs.declared.Fault.{Fault}
 use Rattle.par2_spec.specs.declared.Fault.TheVariants.{Memory}
-
--- where there is a list, it has these items
-abbrev pub Lists : {A Z E : Type 0} → List A → Result (Vec A Z) E → Type 0
-Lists items result = IfOk result (λ list. list.items ≡ items)
-
--- where a call fails, the fault is this cause, or memory ran out
-abbrev pub FailsFor : {A : Type 0} → Option Fault → Result A Fault → Type 0
-FailsFor cause result = IfErr result (λ fault. (fault ≡ Memory) ⊎ (cause ≡ Some fault))
 
 -- where it fails, the definitions refuse the command so, or memory ran out
 abbrev pub FailsAs : {A : Type 0} → Folder → Command → Result A Fault → Type 0

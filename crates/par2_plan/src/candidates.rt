@@ -4,7 +4,7 @@ ghost use Rattle.par2_spec.specs.Folders.{has, bytes_of};
 ghost use Rattle.par2_spec.specs.Names.{distinct};
 ghost use Rattle.par2_spec.specs.Search as search;
 ghost use Rattle.par2_search.specs.Texts.{texts_of};
-ghost use Rattle.par2_plan.specs.Answers.{Lists};
+ghost use Rattle.par2_spec.specs.Answers.{Lists};
 
 use par2_folder::{Folder, Name};
 use par2_sets::ParSet;

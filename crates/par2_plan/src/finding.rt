@@ -5,7 +5,7 @@ ghost use Rattle.std.specs.Str.{bytes_eq};
 ghost use Rattle.par2_spec.specs.Folders.{bytes_of};
 ghost use Rattle.par2_spec.specs.Windows.{found};
 ghost use Rattle.par2_search.specs.Texts.{padded_windows};
-ghost use Rattle.par2_plan.specs.Answers.{Lists};
+ghost use Rattle.par2_spec.specs.Answers.{Lists};
 ghost use Rattle.par2_plan.specs.Findings.{pairs_sought, sought_by, standing_by, standings};
 ghost use Rattle.par2_plan.specs.Views.{given_of, standing_of, standings_of, AreStandingsBy};
 

@@ -1,5 +1,6 @@
 //! The index file of a set.
 ghost use Rattle.std.specs.Prelude.{◌≡◌, ◌≤◌, ◌++◌, length, map, flat_map, IfOk, OnOk};
+ghost use Rattle.par2_spec.specs.Answers.{Lists};
 ghost use Rattle.par2_spec.specs.Packets.{packet};
 ghost use Rattle.par2_spec.specs.Volumes.{packet_of, index_packets, desc_bytes, ifsc_bytes};
 ghost use Rattle.par2_spec.specs.declared.Kind.TheVariants.{FileDesc, Ifsc};
@@ -67,8 +68,7 @@ fn index_len(files: &[FileRecord]) -> usize {
 #[tactic(auto, unfolding(par2_spec::specs::Volumes::index_packets))]
 pub fn index_of(alloc: Global, s: u64, files: &[FileRecord]) -> Result<Vec<u8>, AllocError>
     requires { length files.now ≤ 32768 }
-    ensures { IfOk result (λ index. index.items
-        ≡ flat_map packet (index_packets s (map file_record_of files.now))) }
+    ensures { Lists (flat_map packet (index_packets s (map file_record_of files.now))) result }
 {
     let set_id = main_id(s, files);
     let mut index = Vec::with_capacity(alloc, index_len(files))?;

@@ -9,7 +9,7 @@ ghost use Rattle.par2_spec.specs.Folders.{File, has, bytes_of};
 ghost use Rattle.par2_spec.specs.Volumes.{in_id_order};
 ghost use Rattle.par2_spec.specs.Commands.{files_of};
 ghost use Rattle.par2_recovery.specs.Views.{AreRecords, names_of};
-ghost use Rattle.par2_plan.specs.Answers.{FailsFor};
+ghost use Rattle.par2_spec.specs.Answers.{FailsFor};
 ghost use Rattle.par2_plan.specs.Faults.{duplicate_input, files_fault, ids_fault};
 
 use par2_folder::{Folder, Name};

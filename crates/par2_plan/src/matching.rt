@@ -5,7 +5,7 @@ ghost use Rattle.std.specs.Str.{bytes_eq};
 ghost use Rattle.par2_spec.specs.Names.{is_among};
 ghost use Rattle.par2_spec.specs.Search as search;
 ghost use Rattle.par2_search.specs.Matching.{Describe, text_at};
-ghost use Rattle.par2_plan.specs.Answers.{Lists};
+ghost use Rattle.par2_spec.specs.Answers.{Lists};
 ghost use Rattle.par2_plan.specs.Findings.{needs, matches_given};
 ghost use Rattle.par2_plan.specs.Matches.{items_where, intact_by, HoldsNames, ArePlaces};
 

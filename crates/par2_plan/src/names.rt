@@ -4,7 +4,7 @@ ghost use Rattle.std.specs.List.{list_any};
 ghost use Rattle.par2_spec.specs.Names.{is_par_name};
 ghost use Rattle.par2_spec.specs.Folders.{has};
 ghost use Rattle.par2_spec.specs.Volumes as spec;
-ghost use Rattle.par2_plan.specs.Answers.{FailsFor};
+ghost use Rattle.par2_spec.specs.Answers.{Appends, FailsFor};
 ghost use Rattle.par2_plan.specs.Faults.{long_name, there_already};
 ghost use Rattle.par2_plan.specs.Outputs.{volume_at, volume_if, volumes_of, names_of};
 
@@ -119,8 +119,7 @@ fn add_volume(
     ensures refused { FailsFor (long_name (names_of (volume_if base.now first count i))) result }
     ensures accepted { OnOk result (long_name (names_of (volume_if base.now first count i))
         ≡ None) }
-    ensures volumes { OnOk result (volumes.new.items
-        ≡ volumes.old.items ++ volume_if base.now first count i) }
+    ensures volumes { Appends (volume_if base.now first count i) volumes.old volumes.new result }
 {
     if volumes_before(i) >= count {
         return Ok(());

@@ -3,7 +3,7 @@ ghost use Rattle.std.specs.Prelude.{map, filter, IfOk};
 ghost use Rattle.std.specs.List.{IsDistinct};
 ghost use Rattle.std.specs.Str.{bytes_eq};
 ghost use Rattle.par2_spec.specs.Folders.{has};
-ghost use Rattle.par2_plan.specs.Answers.{Lists};
+ghost use Rattle.par2_spec.specs.Answers.{Lists};
 ghost use Rattle.par2_plan.specs.Matches.{items_where};
 ghost use Rattle.par2_plan.specs.Repairing.{unmatched_names, AreNeeding};
 

@@ -1,6 +1,7 @@
 //! What a verify reports.
 ghost use Rattle.std.specs.Prelude.{◌≡◌, ◌+◌, ◌≤◌, ◌<◌, ◌++◌, ℕ, List, length, map, slice_index, filter, is_some, Ok, IfOk, OnOk};
 ghost use Rattle.std.specs.List.{list_all};
+ghost use Rattle.par2_spec.specs.Answers.{Appends};
 ghost use Rattle.par2_spec.specs.Folders as folders;
 ghost use Rattle.par2_spec.specs.Folders.{has};
 ghost use Rattle.par2_spec.specs.Rank as ranks;
@@ -159,8 +160,7 @@ fn push_missing(
     windows: &[Option<&[u8]>],
 ) -> Result<(), AllocError>
     requires { first + length windows.now ≤ 32768 }
-    ensures { let missing = missing_from first windows.now in
-        OnOk result (lost.new.items ≡ lost.old.items ++ missing) }
+    ensures { Appends (missing_from first windows.now) lost.old lost.new result }
 {
     for (i, window) in windows.iter().enumerate() {
         if window.is_none() {
@@ -173,8 +173,7 @@ fn push_missing(
 // Adds the numbers of a target's lost slices. The first slice has number `first`.
 fn push_lost(lost: &mut Vec<u32>, first: u32, standing: &Standing) -> Result<(), AllocError>
     requires { first + windows_in standing.now ≤ 32768 }
-    ensures { let missing = missing_in first standing.now in
-        OnOk result (lost.new.items ≡ lost.old.items ++ missing) }
+    ensures { Appends (missing_in first standing.now) lost.old lost.new result }
 {
     match standing {
         Standing::Unmatched(windows) => push_missing(lost, first, windows),

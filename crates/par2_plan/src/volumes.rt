@@ -2,6 +2,7 @@
 //! written into them, all at once, and the MD5s at the end.
 
 ghost use Rattle.std.specs.Prelude.{◌≡◌, ◌≤◌, ◌<◌, ◌+◌, ◌++◌, length, map, IfOk, OnOk};
+ghost use Rattle.par2_spec.specs.Answers.{Appends};
 ghost use Rattle.par2_spec.specs.Sums.{OneChanged, list_at, lists_of};
 ghost use Rattle.par2_plan.specs.Outputs.{HasExponents, HasSlices, HaveExponents, ListsInputs, volume_text};
 ghost use Rattle.par2_plan.specs.Volumes.{AreTexts, HavePackets, blank_volume, exponents_in, exponents_of, length_with, places_from, places_in, with_slices};
@@ -104,8 +105,7 @@ fn append_places(
 ) -> Result<(), AllocError>
     requires fits { 68 + parts.now.set.now.slice ≤ usize.MAX }
     requires text { length text.now ≡ length_with parts.now volume.now.count }
-    ensures { OnOk result (places.new.items
-        ≡ places.old.items ++ places_in parts.now i volume.now) }
+    ensures { Appends (places_in parts.now i volume.now) places.old places.new result }
 {
     for k in 0..volume.count {
         let at = place_of(parts, volume, text, k);

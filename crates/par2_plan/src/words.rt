@@ -4,7 +4,7 @@ ghost use Rattle.par2_spec.specs.Names as names;
 ghost use Rattle.par2_spec.specs.Sets as sets;
 ghost use Rattle.par2_spec.specs.Views.{create_args_of};
 ghost use Rattle.par2_spec.specs.Refusals.{are_counts, is_input_name, head_fault, bad_name};
-ghost use Rattle.par2_plan.specs.Answers.{FailsFor};
+ghost use Rattle.par2_spec.specs.Answers.{FailsFor};
 
 use par2_folder::Name;
 use par2_spec::{CreateArgs, Fault};

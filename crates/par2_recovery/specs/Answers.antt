@@ -4,7 +4,8 @@ use Rattle.std.specs.Borrow.{Bor}
 use Rattle.std.specs.declared.alloc.Global.{Global}
 use Rattle.par2_spec.specs.Commands.{files_of}
 use Rattle.par2_spec.specs.Folders.{Folder}
-use Rattle.par2_spec.specs.Rank.{kept_slices, lost}
+use Rattle.par2_spec.specs.Rank.{kept_slices}
+use Rattle.par2_spec.specs.Search.{lost}
 use Rattle.par2_spec.specs.Slices.{padded}
 use Rattle.par2_spec.specs.Sums.{list_at, lists_of}
 use Rattle.par2_spec.specs.Volumes.{all_slices}
@@ -12,8 +13,8 @@ use Rattle.par2_transform.specs.Adding.{AddsAt, LieWithin}
 use Rattle.par2_transform.specs.Columns.{recovered}
 use Rattle.par2_transform.specs.declared.outputs.Places.{Places}
 use Rattle.par2_recovery.specs.Inverses.{IsInverse}
-use Rattle.par2_recovery.specs.Rebuilding.{AreRebuilt}
-use Rattle.par2_recovery.specs.Survivors.{exponents_of, known_among, recovered_of, with_lost_slices, IsTrueFault}
+use Rattle.par2_recovery.specs.Rebuilding.{AreRebuilt, known_among}
+use Rattle.par2_recovery.specs.Survivors.{exponents_of, recovered_of, with_lost_slices, IsTrueFault}
 use Rattle.par2_recovery.specs.Views.{names_of, texts_of}
 use Rattle.par2_recovery.specs.declared.inverse.Inversion.{Inversion}
 use Rattle.par2_recovery.specs.declared.rebuild_slices.RebuildFault.{RebuildFault}
@@ -23,15 +24,15 @@ use Rattle.par2_recovery.specs.declared.set_record.SetRecord.{SetRecord}
 -- ---- lists
 
 -- each list has so many items at least
-abbrev pub HaveAtLeast : {A : Type 0} → ℕ → List (Vec A Global) → Type 0
+abbrev pub HaveAtLeast : ℕ → List (Vec ℕ Global) → Type 0
 HaveAtLeast n lists = (r : ℕ) → r < length lists → n ≤ length (list_at (lists_of lists) r)
 
 -- each list has exactly so many
-abbrev pub HaveAll : {A : Type 0} → ℕ → List (Vec A Global) → Type 0
+abbrev pub HaveAll : ℕ → List (Vec ℕ Global) → Type 0
 HaveAll n lists = (r : ℕ) → r < length lists → length (list_at (lists_of lists) r) ≡ n
 
 -- each list has an item at this place
-abbrev pub HaveItem : {A : Type 0} → ℕ → List (Vec A Global) → Type 0
+abbrev pub HaveItem : ℕ → List (Vec ℕ Global) → Type 0
 HaveItem k lists = (r : ℕ) → r < length lists → k < length (list_at (lists_of lists) r)
 
 -- each text has so many bytes

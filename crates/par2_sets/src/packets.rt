@@ -2,6 +2,7 @@
 
 ghost use Rattle.std.specs.Prelude.{◌≡◌, ◌++◌, ◌&&◌, not, map, IfOk, OnOk};
 ghost use Rattle.std.specs.Str.{bytes_eq};
+ghost use Rattle.par2_spec.specs.Answers.{Lists};
 ghost use Rattle.par2_spec.specs.Folders.{bytes_of};
 ghost use Rattle.par2_spec.specs.Names.{is_par_name};
 ghost use Rattle.par2_spec.specs.Sets.{packets_with, other_par_names};
@@ -66,8 +67,7 @@ fn is_other(name: &Name, base: &Name) -> bool
 
 // The names of the other `.par2` files, in order.
 fn other_par_names(folder: &Folder, base: &Name) -> Result<Vec<Name>, AllocError>
-    ensures { let all = other_par_names folder.now.files base.now in
-        IfOk result (λ names. names.items ≡ all) }
+    ensures { Lists (other_par_names folder.now.files base.now) result }
 {
     let mut names = folder.names()?;
     names.retain(|name| is_other(name, base));

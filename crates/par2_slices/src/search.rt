@@ -3,6 +3,7 @@
 ghost use Rattle.std.specs.Prelude.{None, option_map, ◌≡◌, ◌≤◌, ◌<◌, ◌+◌, ◌⊎◌, ◌↔◌, [], ℕ, List, IfOk, IsTrue, length, map, drop, slice_index};
 ghost use Rattle.std.specs.List.{count_by};
 ghost use Rattle.std.specs.Option.{is_none};
+ghost use Rattle.par2_spec.specs.Answers.{Lists};
 ghost use Rattle.par2_spec.specs.Checksums.{crc32};
 ghost use Rattle.par2_spec.specs.Windows.{first_match, window};
 ghost use Rattle.par2_slices.specs.Searches.{after_window, candidate_at, has_checksums, is_awaited, answer_at, pair_at, place_at, first_spot, after_candidates, Earlier, AreAmong, AreChecksums, AreOpen, ArePlaces, AreWindows, IsSearching, IsTally, IsWaiting};
@@ -394,8 +395,7 @@ pub fn find_among(
     wanted: &Wanted,
 ) -> Result<Vec<Option<Spot>>, AllocError>
     requires { 1 ≤ s }
-    ensures { IfOk result (λ spots. spots.items
-        ≡ map (first_spot s (map (λ text. text.now) texts.now)) wanted.now) }
+    ensures { Lists (map (first_spot s (map (λ text. text.now) texts.now)) wanted.now) result }
 {
     let mut search = Search::new(alloc, wanted)?;
     let mut rolling = Rolling::new(alloc, s)?;
@@ -414,8 +414,7 @@ fn offset_of(spot: &Option<Spot>) -> Option<usize>
 
 /// The offsets of spots.
 fn offsets_of(alloc: Global, spots: &[Option<Spot>]) -> Result<Vec<Option<usize>>, AllocError>
-    ensures { IfOk result (λ offsets. offsets.items
-        ≡ map (option_map (λ spot. spot.offset)) spots.now) }
+    ensures { Lists (map (option_map (λ spot. spot.offset)) spots.now) result }
 {
     spots.iter().map(offset_of).collect(alloc)
 }

@@ -31,3 +31,4 @@ pub mod Journals
 pub mod Opening
 pub mod Stores
 pub mod Laws
+pub mod Answers
