@@ -52,8 +52,7 @@ fn bytes_of<'a>(folder: &'a Folder, name: &Name) -> &'a [u8]
 
 // Whether the name is a target's.
 fn is_target(targets: &BTreeSet<Name>, name: &Name) -> bool
-    ensures { (all : List (List ℕ)) → HoldsNames targets.now all
-        → result ≡ is_among all name.now }
+    ensures { (all : List (List ℕ)) → HoldsNames targets.now all → result ≡ is_among all name.now }
 {
     targets.contains(name)
 }

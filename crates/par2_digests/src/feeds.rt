@@ -28,8 +28,7 @@ fn behind(bytes: &[u8], at: usize) -> &[u8]
 fn copy_into(block: &mut [u8], from: usize, bytes: &[u8]) -> usize
     requires { from ≤ length block.old }
     ensures count { result ≡ min (length bytes.now) (length block.old - from) }
-    ensures after { take (from + result) block.new
-        ≡ take from block.old ++ take result bytes.now }
+    ensures after { take (from + result) block.new ≡ take from block.old ++ take result bytes.now }
 {
     let count = bytes.len().min(block.len() - from);
     block[from..from + count].copy_from_slice(&bytes[..count]);

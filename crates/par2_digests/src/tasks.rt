@@ -51,8 +51,7 @@ impl Task<'_> {
     fn turn<V: Lanes>(&mut self, blocks: &mut [u8], state: &State<V>, k: usize)
         requires within { k < V.count }
         requires some { 64 ≤ length blocks.old }
-        requires left { (n : ℕ)
-            → 1 < n → n * 64 ≡ length blocks.old → HasBlocks self.old n }
+        requires left { (n : ℕ) → 1 < n → n * 64 ≡ length blocks.old → HasBlocks self.old n }
         ensures leads { (n : ℕ) (last rest : List ℕ) → n * 64 ≡ length blocks.old
             → LeadsTo self.old (lane V.at k state.now) last rest
             → LeadsTo self.new (hash_behind (lane V.at k state.now) blocks.new n) last rest }

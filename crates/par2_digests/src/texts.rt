@@ -29,8 +29,7 @@ fn push_digests(
     texts: &[&[u8]],
 ) -> Result<(), AllocError>
     requires { length texts.now ≤ 8 }
-    ensures { OnOk result
-        (digests.new.items ≡ digests.old.items ++ map md5 (texts_of texts.now)) }
+    ensures { OnOk result (digests.new.items ≡ digests.old.items ++ map md5 (texts_of texts.now)) }
 {
     let messages = padded_texts(alloc, texts)?;
     let added = digest_each(&messages);

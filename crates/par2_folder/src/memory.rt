@@ -111,8 +111,7 @@ impl MemoryStore {
             × (memory_contents self.new ≡ memory_contents self.old) }
         ensures cause { OnErr result (memory_failures self.new ≡ memory_failures self.old + 1) }
         ensures steady { OnOk result (memory_failures self.new ≡ memory_failures self.old) }
-        ensures possible { OnOk result (memory_impossible self.new
-            ≡ memory_impossible self.old) }
+        ensures possible { OnOk result (memory_impossible self.new ≡ memory_impossible self.old) }
         ensures impossible { OnErr result (memory_impossible self.new
             ≡ memory_impossible self.old + 1) }
         ensures writing_calls { memory_writing_calls self.new ≡ memory_writing_calls self.old }

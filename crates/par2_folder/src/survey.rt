@@ -42,8 +42,7 @@ struct Progress {
 
 // The names where landmarks stand: of the folder's names, in order, the first and others as far apart as they are.
 fn landmark_names(alloc: Global, snapshot: &Snapshot) -> Result<Vec<Name>, AllocError>
-    ensures { 0 < length (files_in snapshot.now)
-        → IfOk result (λ names. 0 < length names.items) }
+    ensures { 0 < length (files_in snapshot.now) → IfOk result (λ names. 0 < length names.items) }
 {
     let mut names = Vec::new(alloc);
     let Some(first) = snapshot.files.first() else {
@@ -109,11 +108,9 @@ pub fn survey_folder<'a>(
     folder: &'a Folder,
     text: &'a [u8],
 ) -> Result<Survey, AllocError>
-    ensures fingerprint { IfOk result
-        (λ found. found.fingerprint ≡ fingerprint folder.now.files) }
+    ensures fingerprint { IfOk result (λ found. found.fingerprint ≡ fingerprint folder.now.files) }
     ensures digest { IfOk result (λ found. found.digest ≡ md5 text.now) }
-    ensures landmarks { IfOk result
-        (λ found. AreLandmarksOf folder.now.files found.landmarks) }
+    ensures landmarks { IfOk result (λ found. AreLandmarksOf folder.now.files found.landmarks) }
     ensures some { IfOk result (λ found. HasLandmark folder.now.files found.landmarks) }
 {
     let snapshot = folder.snapshot()?;
@@ -162,11 +159,9 @@ pub fn mark_folder(
     beside: &[&[u8]],
 ) -> Result<Marked, AllocError>
     requires { AreLandmarksOf folder.now.files from.now }
-    ensures landmarks { IfOk result
-        (λ marked. AreLandmarksOf folder.now.files marked.landmarks) }
+    ensures landmarks { IfOk result (λ marked. AreLandmarksOf folder.now.files marked.landmarks) }
     ensures some { IfOk result (λ marked. HasLandmark folder.now.files marked.landmarks) }
-    ensures beside { IfOk result
-        (λ marked. marked.beside.items ≡ map md5 (texts_of beside.now)) }
+    ensures beside { IfOk result (λ marked. marked.beside.items ≡ map md5 (texts_of beside.now)) }
 {
     let (state, beside) = state_before(alloc, from, folder, name, beside)?;
     let mut landmarks = Landmarks::none(alloc);

@@ -158,8 +158,7 @@ fn runs_behind<'a>(
     requires few { length runs.pendings.items ≤ 8 }
     requires kept { IsKept (files_in snapshot) }
     requires further { IsFurther from.now to.now }
-    requires applicable { IsTrue
-        (are_applicable (folder_in snapshot) (map change_of changes.now)) }
+    requires applicable { IsTrue (are_applicable (folder_in snapshot) (map change_of changes.now)) }
     requires absorbed { let folder = folder_in snapshot in
         HaveAbsorbed states.now (texts_by from.now folder changes.now) }
     requires first { AreTo runs (text_before to.now (folder_in snapshot) ∷ []) }

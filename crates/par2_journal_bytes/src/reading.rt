@@ -278,8 +278,7 @@ fn read_behind_cursor(
     read: u64,
     bytes: &[u8],
 ) -> Result<Journal, DecodeFault>
-    ensures { Gives journal_of result
-        (reads.behind_cursor_at version fingerprint read bytes.now) }
+    ensures { Gives journal_of result (reads.behind_cursor_at version fingerprint read bytes.now) }
 {
     let (count, rest) = read_number(bytes)?;
     let (entries, rest) = read_entries(alloc, count, rest)?;
@@ -339,8 +338,7 @@ pub fn decode(alloc: Global, bytes: &[u8]) -> Result<Journal, DecodeFault>
     ensures found { IfOk result (λ journal. Spells bytes.now (journal_of journal)) }
     ensures only { (j : Defined) → Spells bytes.now j
         → MatchResult result (λ journal. journal_of journal ≡ j) (λ fault. fault ≡ Memory) }
-    ensures invalid { result ≡ Err JournalInvalid
-        → (j : Defined) → Spells bytes.now j → ⊥ }
+    ensures invalid { result ≡ Err JournalInvalid → (j : Defined) → Spells bytes.now j → ⊥ }
     ensures unsealed { ¬ (IsSealed bytes.now) → result ≡ Err JournalInvalid }
 {
     read_journal(alloc, bytes)
@@ -360,8 +358,7 @@ pub struct Untested<'a> {
 /// side with other digests. Memory is asked for as [`decode`] does, but for a text that nobody wrote too.
 pub fn decode_untested(alloc: Global, bytes: &[u8]) -> Result<Untested<'_>, DecodeFault>
     ensures found { IfOk result (IsUntested bytes.now) }
-    ensures invalid { result ≡ Err JournalInvalid
-        → (j : Defined) → Spells bytes.now j → ⊥ }
+    ensures invalid { result ≡ Err JournalInvalid → (j : Defined) → Spells bytes.now j → ⊥ }
 {
     let (body, digest) = split_digest(bytes)?;
     let journal = read_parts(alloc, body)?;

@@ -227,8 +227,7 @@ fn finish(front: Vec<u8>, halfway: &Option<HalfwayPartView<'_>>) -> Result<Vec<u
 
 // The front of the journal with these parts.
 fn front_of(alloc: Global, parts: &JournalView<'_>) -> Result<Vec<u8>, AllocError>
-    requires { journals.IsCursor parts.now.version parts.now.cursor
-        (length parts.now.entries.now) }
+    requires { journals.IsCursor parts.now.version parts.now.cursor (length parts.now.entries.now) }
     ensures { IfOk result (λ front. Begins front.items parts.now.version parts.now.fingerprint
         parts.now.cursor (lent_entries_of parts.now.entries.now)) }
 {
@@ -246,8 +245,7 @@ pub fn encode(alloc: Global, parts: &JournalView<'_>) -> Result<Vec<u8>, AllocEr
     requires cursor { journals.IsCursor parts.now.version parts.now.cursor
         (length parts.now.entries.now) }
     requires some { IfSome parts.now.halfway (λ h. 1 ≤ length h.back.now) }
-    requires each { IfSome parts.now.halfway (λ h. length h.fingerprints.now
-        ≡ length h.back.now) }
+    requires each { IfSome parts.now.halfway (λ h. length h.fingerprints.now ≡ length h.back.now) }
     ensures { IfOk result (λ bytes. journals.Spells bytes.items (journal_from parts.now)) }
 {
     let front = front_of(alloc, parts)?;
@@ -289,8 +287,7 @@ pub fn finish_both(
     requires cursor { journals.IsCursor after.now.version after.now.cursor
         (length after.now.entries.now) }
     requires some { IfSome after.now.halfway (λ h. 1 ≤ length h.back.now) }
-    requires each { IfSome after.now.halfway (λ h. length h.fingerprints.now
-        ≡ length h.back.now) }
+    requires each { IfSome after.now.halfway (λ h. length h.fingerprints.now ≡ length h.back.now) }
     ensures halfway { IfOk result (λ texts.
         Finishes front.items (halfway_from (Some halfway.now)) texts.halfway.items) }
     ensures after { IfOk result (λ texts.

@@ -69,8 +69,7 @@ fn reduce(gf: &Gf, rows: &[Vec<u8>], rights: &[Vec<u8>], row: &mut [u8], right: 
 }
 
 fn first_nonzero(row: &[u8]) -> Option<usize>
-    ensures none { IsNone result
-        → (i : ℕ) → 2 * i + 1 < length row.now → word i row.now ≡ 0 }
+    ensures none { IsNone result → (i : ℕ) → 2 * i + 1 < length row.now → word i row.now ≡ 0 }
     ensures some { IfSome result (λ q. (2 * q + 1 < length row.now) × (word q row.now ≢ 0)) }
 {
     for i in 0..row.len() / 2 {

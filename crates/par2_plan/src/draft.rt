@@ -38,8 +38,7 @@ impl Draft {
 
     /// The texts that the changes write, in order.
     pub fn texts(&self, alloc: Global) -> Result<Vec<&[u8]>, AllocError>
-        ensures { IfOk result
-            (λ texts. texts_of texts.items ≡ texts_written self.now.changes) }
+        ensures { IfOk result (λ texts. texts_of texts.items ≡ texts_written self.now.changes) }
     {
         let mut texts = Vec::with_capacity(alloc, self.md5s.len())?;
         for change in self.changes.as_slice() {

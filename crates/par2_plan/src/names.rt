@@ -134,8 +134,7 @@ pub fn volumes(alloc: Global, base: &Name, first: u32, count: u32) -> Result<Vec
     requires base { IsTrue (is_par_name base.now) }
     requires exponents { first + count ≤ 65536 }
     ensures refused { FailsFor (long_name (names_of (volumes_of base.now first count))) result }
-    ensures accepted { OnOk result (long_name (names_of (volumes_of base.now first count))
-        ≡ None) }
+    ensures accepted { OnOk result (long_name (names_of (volumes_of base.now first count)) ≡ None) }
     ensures volumes { IfOk result (λ volumes. volumes.items ≡ volumes_of base.now first count) }
 {
     let mut volumes = Vec::new(alloc);
@@ -169,8 +168,7 @@ pub fn there_already(
     base: &Name,
     volumes: &[Volume],
 ) -> Option<Fault>
-    ensures { result
-        ≡ there_already folder.now.files overwrite (base.now ∷ names_of volumes.now) }
+    ensures { result ≡ there_already folder.now.files overwrite (base.now ∷ names_of volumes.now) }
 {
     if !overwrite && is_there(folder, base, volumes) {
         Some(Fault::Exists)

@@ -64,8 +64,7 @@ pub fn read<'a>(
     ensures early { (fault : Fault)
         → absent_file folder.now.files base.now (map string_bytes extras.now) ≡ Some fault
         → IsErrOf result fault }
-    ensures extras { IfOk result (λ reading. reading.extras.items
-        ≡ map string_bytes extras.now) }
+    ensures extras { IfOk result (λ reading. reading.extras.items ≡ map string_bytes extras.now) }
 {
     let base = present(folder, base).ok_or(Fault::NoSuchFile(0))?;
     if let Some(place) = first_absent(folder, extras) {

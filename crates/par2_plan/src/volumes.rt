@@ -191,8 +191,7 @@ fn digest_at(
     requires fits { 68 + parts.now.set.now.slice ≤ usize.MAX }
     requires before { list_at (lists_of texts.old) i ≡ with_slices parts.now volume.now }
     ensures changed { OneChanged (lists_of texts.old) (lists_of texts.new) i }
-    ensures here { OnOk result
-        (list_at (lists_of texts.new) i ≡ volume_text parts.now volume.now) }
+    ensures here { OnOk result (list_at (lists_of texts.new) i ≡ volume_text parts.now volume.now) }
 {
     digest_volume(alloc, texts[i].as_mut_slice(), parts, volume)
 }

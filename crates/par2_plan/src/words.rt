@@ -79,8 +79,7 @@ fn input_name(word: &str) -> Option<Name>
 
 // The first of the words that can't be the name of an input.
 fn first_bad(words: &[String]) -> Option<usize>
-    ensures place { result
-        ≡ position (λ word. not (is_input_name (string_bytes word))) words.now }
+    ensures place { result ≡ position (λ word. not (is_input_name (string_bytes word))) words.now }
     ensures fits { IfSome result (λ place. place < usize.MAX) }
 {
     words.iter().position(|word| input_name(word).is_none())

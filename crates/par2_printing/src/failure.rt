@@ -46,8 +46,7 @@ fn word<'a>(command: Option<&'a Command>, place: usize) -> &'a str
 
 // Writes `par2: ` and a reason as a line.
 fn write_reason<W: Write>(out: &mut Printer<W>, reason: &str) -> Result<(), WriteFault>
-    ensures { Wrote W.contents out.old out.new
-        (line (codes "par2: " ++ reason.now)) result }
+    ensures { Wrote W.contents out.old out.new (line (codes "par2: " ++ reason.now)) result }
 {
     write_parts(out, &[b"par2: ", reason.as_bytes(), b"\n"])
 }

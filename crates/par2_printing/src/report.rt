@@ -72,8 +72,7 @@ pub fn write_target<W: Write>(
     out: &mut Printer<W>,
     target: PrintedTarget<'_>,
 ) -> Result<(), WriteFault>
-    ensures { Wrote W.contents out.old out.new
-        (target_line (target_shown target.entry)) result }
+    ensures { Wrote W.contents out.old out.new (target_line (target_shown target.entry)) result }
 {
     match target.state {
         PrintedState::Complete => write_parts(out, &[b"complete ", target.name.as_bytes(), b"\n"]),

@@ -31,8 +31,7 @@ pub fn write_note<W: Write>(out: &mut Printer<W>, dropped: bool) -> Result<(), W
 
 /// Writes the line of a step.
 pub fn write_step<W: Write>(out: &mut Printer<W>, step: PrintedStep<'_>) -> Result<(), WriteFault>
-    ensures { Wrote W.contents out.old out.new
-        (step_line (step_shown step.entry)) result }
+    ensures { Wrote W.contents out.old out.new (step_line (step_shown step.entry)) result }
 {
     match step {
         PrintedStep::Write(name) => write_parts(out, &[b"write ", name.as_bytes(), b"\n"]),
@@ -47,8 +46,7 @@ pub fn write_step<W: Write>(out: &mut Printer<W>, step: PrintedStep<'_>) -> Resu
 
 /// Writes `done: K` as a line.
 pub fn write_done<W: Write>(out: &mut Printer<W>, count: usize) -> Result<(), WriteFault>
-    ensures { Wrote W.contents out.old out.new
-        (line (codes "done: " ++ decimal count)) result }
+    ensures { Wrote W.contents out.old out.new (line (codes "done: " ++ decimal count)) result }
 {
     let mut buffer = Buffer::new();
     write_parts(out, &[b"done: ", buffer.format(count).as_bytes(), b"\n"])

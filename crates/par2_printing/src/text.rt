@@ -28,8 +28,7 @@ fn write_bytes<W: Write>(out: &mut Printer<W>, text: &[u8]) -> Result<(), WriteF
 
 /// Writes the parts, one after the other.
 pub fn write_parts<W: Write>(out: &mut Printer<W>, parts: &[&[u8]]) -> Result<(), WriteFault>
-    ensures { Wrote W.contents out.old out.new
-        (flat_map (λ part. part.now) parts.now) result }
+    ensures { Wrote W.contents out.old out.new (flat_map (λ part. part.now) parts.now) result }
 {
     for part in parts {
         write_bytes(out, part)?;

@@ -31,8 +31,7 @@ pub(crate) fn text_at(texts: &[Vec<u8>], r: usize) -> &[u8]
 
 /// The elements of each text.
 pub(crate) fn rows_of(alloc: Global, texts: &[Vec<u8>]) -> Result<Vec<Vec<u16>>, AllocError>
-    requires { (r : ℕ)
-        → r < length texts.now → length (list_at (lists_of texts.now) r) % 2 ≡ 0 }
+    requires { (r : ℕ) → r < length texts.now → length (list_at (lists_of texts.now) r) % 2 ≡ 0 }
     ensures { IfOk result
         (λ rows. AreRows (lists_of rows.items) (lists_of texts.now) (length texts.now)) }
 {

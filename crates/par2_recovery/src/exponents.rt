@@ -149,8 +149,7 @@ pub fn rank(alloc: Global, gf: &Gf, lost: &[u32], exponents: &[u32]) -> Result<u
     requires exponents { IsStrictlyIncreasing exponents.now }
     ensures rank { IfOk result (λ n. n ≡ rank lost.now exponents.now) }
     ensures most { IfOk result (λ n. n ≤ length lost.now) }
-    ensures full { IfOk result (λ n. (n ≡ length lost.now)
-        ↔ IsRepairable lost.now exponents.now) }
+    ensures full { IfOk result (λ n. (n ≡ length lost.now) ↔ IsRepairable lost.now exponents.now) }
 {
     match rank_by_runs(lost, exponents) {
         Some(rank) => Ok(rank),

@@ -27,8 +27,7 @@ fn exponent_at(recovery: &[(u32, &[u8])], i: usize) -> u32
 // as they rise, the last one is then as near to the first as it can be.
 fn run_at_front(recovery: &[(u32, &[u8])], count: usize) -> Option<u32>
     requires { IsStrictlyIncreasing (exponents_of recovery.now) }
-    ensures run { IfSome result
-        (λ first. BeginsWithRun first count (exponents_of recovery.now)) }
+    ensures run { IfSome result (λ first. BeginsWithRun first count (exponents_of recovery.now)) }
     ensures none { IsNone result → (first : ℕ) → 0 < count
         → BeginsWithRun first count (exponents_of recovery.now) → ⊥ }
 {

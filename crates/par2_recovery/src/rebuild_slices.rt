@@ -111,15 +111,13 @@ fn lost_slices(
     requires count { length survivors.now.known.items ≤ 32768 }
     requires even { survivors.now.slice % 2 ≡ 0 }
     requires inverse { HaveAtLeast (length kept.now) inverse.now }
-    requires kept { AllByRecursion (λ r. length r.1
-        ≡ survivors.now.slice) (recovered_of kept.now) }
+    requires kept { AllByRecursion (λ r. length r.1 ≡ survivors.now.slice) (recovered_of kept.now) }
     ensures solved { let known = survivors.now.known.items in
         IfOk result (λ texts. AreSolved survivors.now.slice (lists_of inverse.now)
         (map (λ r. coefficients (known_from 0 known) r.0) (recovered_of kept.now))
         (texts_of (known_alone known)) (map (λ r. r.1) (recovered_of kept.now))
         (lists_of texts.items)) }
-    ensures known { IfOk result
-        (λ _. AreBytes (texts_of (known_alone survivors.now.known.items))) }
+    ensures known { IfOk result (λ _. AreBytes (texts_of (known_alone survivors.now.known.items))) }
     ensures found { IfOk result (λ _. AreBytes (map (λ r. r.1) (recovered_of kept.now))) }
 {
     let exponents = exponents_of(alloc, kept)?;

@@ -127,8 +127,7 @@ impl SetRecord {
             AreRecords s (in_id_order (files_of folder.now.files names.now)) set.files.items) }
         ensures order { IfOk result (λ set. files_of folder.now.files (names_of set)
             ≡ in_id_order (files_of folder.now.files names.now)) }
-        ensures rising { IfOk result
-            (λ set. IsStrictlyIncreasing (map id_number set.files.items)) }
+        ensures rising { IfOk result (λ set. IsStrictlyIncreasing (map id_number set.files.items)) }
         ensures distinct { IsOk result
             → IsDistinct bytes_eq (map id_of (files_of folder.now.files names.now)) }
         ensures duplicate { result ≡ Err RecordFault.DuplicateId
@@ -144,11 +143,9 @@ impl SetRecord {
     /// What a set of slice size `s` says of the files with these records, in the order of their File IDs. All memory was
     /// taken for the records, so there is no other fault than that two of them have one File ID.
     pub fn of_records(mut files: Vec<FileRecord>, s: u64) -> Result<SetRecord, DuplicateId>
-        ensures distinct { IsOk result
-            ↔ IsDistinct bytes_eq (map (λ file. file.id) files.items) }
+        ensures distinct { IsOk result ↔ IsDistinct bytes_eq (map (λ file. file.id) files.items) }
         ensures slice { IfOk result (λ set. set.slice ≡ s) }
-        ensures rising { IfOk result
-            (λ set. IsStrictlyIncreasing (map id_number set.files.items)) }
+        ensures rising { IfOk result (λ set. IsStrictlyIncreasing (map id_number set.files.items)) }
         ensures permutation { IfOk result (λ set. IsPermutation files.items set.files.items) }
         ensures files { IfOk result (λ set. (inputs : List File)
             → AreRecords s inputs files.items

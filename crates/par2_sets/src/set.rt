@@ -96,8 +96,7 @@ fn targets_in(alloc: Global, packets: &[Packet], main: &MainView) -> Result<Vec<
 
 // The set of the packets that have its identifier.
 fn set_in<'a>(alloc: Global, id: [u8; 16], packets: &[Packet<'a>]) -> Result<ParSet<'a>, Fault>
-    requires { (set : sets.ParSet)
-        → set_in id (map packet_of packets.now) ≡ Ok set → IsSound set }
+    requires { (set : sets.ParSet) → set_in id (map packet_of packets.now) ≡ Ok set → IsSound set }
     ensures { Gives (λ set. set) result (set_in id (map packet_of packets.now)) }
 {
     let main = sized_main(packets, &id)?;

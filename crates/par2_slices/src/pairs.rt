@@ -33,8 +33,7 @@ pub fn slice_md5s(bytes: &[u8], s: usize, first: usize, count: usize) -> [[u8; 1
     requires some { 1 ≤ count }
     requires few { count ≤ 8 }
     requires whole { (first + count) * s ≤ length bytes.now }
-    ensures { (k : ℕ) → k < count
-        → digest_at result k ≡ md5 (slice_at s bytes.now (first + k)) }
+    ensures { (k : ℕ) → k < count → digest_at result k ≡ md5 (slice_at s bytes.now (first + k)) }
 {
     window_digests(bytes, &starts_from(first, count, s), s)
 }

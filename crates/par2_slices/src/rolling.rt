@@ -82,8 +82,7 @@ impl Rolling {
         requires { length window.now ≤ self.old.size }
         ensures size { self.new.size ≡ self.old.size }
         ensures padded { self.new.value ≡ spec.crc32 (padded self.old.size window.now) }
-        ensures whole { length window.now ≡ self.old.size
-            → self.new.value ≡ spec.crc32 window.now }
+        ensures whole { length window.now ≡ self.old.size → self.new.value ≡ spec.crc32 window.now }
     {
         self.value = padded_crc32(window, self.size);
     }

@@ -197,8 +197,7 @@ impl Search {
         requires text { candidate.spot.text ≡ earlier.text }
         requires crc { candidate.crc ≡ crc32 (window s bytes.now candidate.spot.offset) }
         requires room { length self.old.batch.items < 8 }
-        requires short { length bytes.now < candidate.spot.offset + s
-            → self.old.batch.items ≡ [] }
+        requires short { length bytes.now < candidate.spot.offset + s → self.old.batch.items ≡ [] }
         ensures { IsSearching s bytes.now earlier (candidate.spot.offset + 1) wanted.now self.new }
     {
         let window = window_bytes(bytes, s, candidate.spot.offset);

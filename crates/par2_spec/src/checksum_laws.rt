@@ -5,8 +5,7 @@ ghost use Rattle.par2_spec.specs.Checksums.{crc32, crc_byte, crc_steps};
 
 /// The steps are linear over the exclusive or.
 pub fn steps_are_linear()
-    ensures { (n a b : ℕ)
-        → crc_steps n (bit_xor a b) ≡ bit_xor (crc_steps n a) (crc_steps n b) }
+    ensures { (n a b : ℕ) → crc_steps n (bit_xor a b) ≡ bit_xor (crc_steps n a) (crc_steps n b) }
 {}
 
 /// Each zero byte after the bytes takes eight steps.

@@ -23,8 +23,7 @@ pub fn no_zero_divisors()
 
 /// Each element but zero has exactly one inverse.
 pub fn inverses()
-    ensures some { (a : ℕ)
-        → a ≢ 0 → a < 2 ^ 16 → (b : ℕ) × ((b < 2 ^ 16) × (mul a b ≡ 1)) }
+    ensures some { (a : ℕ) → a ≢ 0 → a < 2 ^ 16 → (b : ℕ) × ((b < 2 ^ 16) × (mul a b ≡ 1)) }
     ensures one { (a b c : ℕ)
         → a < 2 ^ 16 → b < 2 ^ 16 → c < 2 ^ 16 → mul a b ≡ 1 → mul a c ≡ 1 → b ≡ c }
 {}
@@ -40,8 +39,7 @@ pub fn powers()
 pub fn order_of_two()
     ensures whole { pow 2 65535 ≡ 1 }
     ensures least { (k : ℕ) → 0 < k → k < 65535 → pow 2 k ≢ 1 }
-    ensures generates { (a : ℕ)
-        → a ≢ 0 → a < 2 ^ 16 → (k : ℕ) × ((k < 65535) × (pow 2 k ≡ a)) }
+    ensures generates { (a : ℕ) → a ≢ 0 → a < 2 ^ 16 → (k : ℕ) × ((k < 65535) × (pow 2 k ≡ a)) }
 {}
 
 /// There are 32,768 constants, none is zero, and no two are the same.

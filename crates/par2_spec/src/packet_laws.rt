@@ -74,8 +74,7 @@ pub fn ifsc_is_a_packet()
 
 /// So is the Creator.
 pub fn creator_is_a_packet()
-    ensures { (id : List ℕ)
-        → length id ≡ 16 → IsPacket (packet_of id Creator creator_bytes) }
+    ensures { (id : List ℕ) → length id ≡ 16 → IsPacket (packet_of id Creator creator_bytes) }
 {}
 
 /// So is a RecvSlic of a multiple of 4 bytes.

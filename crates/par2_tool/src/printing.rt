@@ -43,8 +43,7 @@ fn write_steps<W: Write>(out: &mut Printer<W>, steps: &[Step]) -> Result<(), Wri
 }
 
 fn write_all_done<W: Write>(out: &mut Printer<W>, steps: &[Step]) -> Result<(), WriteFault>
-    ensures { Wrote W.contents out.old out.new
-        (done_text (map step_view steps.now)) result }
+    ensures { Wrote W.contents out.old out.new (done_text (map step_view steps.now)) result }
 {
     match write_steps(out, steps) {
         Ok(()) => write_done(out, steps.len()),
@@ -99,8 +98,7 @@ fn write_targets<W: Write>(out: &mut Printer<W>, targets: &[TargetReport]) -> Re
 }
 
 fn write_report<W: Write>(out: &mut Printer<W>, report: &Report) -> Result<(), WriteFault>
-    ensures { Wrote W.contents out.old out.new
-        (report_text (report_of report.now)) result }
+    ensures { Wrote W.contents out.old out.new (report_text (report_of report.now)) result }
 {
     write_set(out, &report.set_id)?;
     write_targets(out, &report.targets)?;
@@ -113,8 +111,7 @@ fn write_outcome<W: Write>(
     outcome: &Outcome,
     dropped: bool,
 ) -> Result<(), WriteFault>
-    ensures { Wrote W.contents out.old out.new
-        (output_of dropped (outcome_of outcome.now)) result }
+    ensures { Wrote W.contents out.old out.new (output_of dropped (outcome_of outcome.now)) result }
 {
     match outcome {
         Outcome::Report(report) => write_report(out, report),

@@ -29,8 +29,7 @@ pub(crate) fn clear(bytes: &mut [u8])
 /// Makes the bytes those of the text, and zeros after them.
 pub(crate) fn copy_padded(text: &[u8], to: &mut [u8])
     ensures size { length to.new ≡ length to.old }
-    ensures same { (k : ℕ) → k < length to.old
-        → slice_index to.new k ≡ slice_index text.now k }
+    ensures same { (k : ℕ) → k < length to.old → slice_index to.new k ≡ slice_index text.now k }
 {
     let count = text.len().min(to.len());
     to[..count].copy_from_slice(&text[..count]);

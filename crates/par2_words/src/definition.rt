@@ -93,31 +93,27 @@ fn with_files<'a>(alloc: Global, command: Command<'a>) -> Result<Command<'a>, Al
 }
 
 fn create_command<'a>(alloc: Global) -> Result<Command<'a>, AllocError>
-    ensures { IfOk result (λ c. (app_of c ≡ create_app)
-        × ((out-Command c).has_globals ≡ false)) }
+    ensures { IfOk result (λ c. (app_of c ≡ create_app) × ((out-Command c).has_globals ≡ false)) }
 {
     let command = create_numbers(alloc)?.arg(overwrite_arg(alloc))?;
     with_files(alloc, command)
 }
 
 fn verify_command<'a>(alloc: Global) -> Result<Command<'a>, AllocError>
-    ensures { IfOk result (λ c. (app_of c ≡ verify_app)
-        × ((out-Command c).has_globals ≡ false)) }
+    ensures { IfOk result (λ c. (app_of c ≡ verify_app) × ((out-Command c).has_globals ≡ false)) }
 {
     with_files(alloc, Command::new(alloc, "verify"))
 }
 
 fn repair_command<'a>(alloc: Global) -> Result<Command<'a>, AllocError>
-    ensures { IfOk result (λ c. (app_of c ≡ repair_app)
-        × ((out-Command c).has_globals ≡ false)) }
+    ensures { IfOk result (λ c. (app_of c ≡ repair_app) × ((out-Command c).has_globals ≡ false)) }
 {
     let command = Command::new(alloc, "repair").arg(purge_arg(alloc))?;
     with_files(alloc, command)
 }
 
 fn purge_command<'a>(alloc: Global) -> Result<Command<'a>, AllocError>
-    ensures { IfOk result (λ c. (app_of c ≡ purge_app)
-        × ((out-Command c).has_globals ≡ false)) }
+    ensures { IfOk result (λ c. (app_of c ≡ purge_app) × ((out-Command c).has_globals ≡ false)) }
 {
     Command::new(alloc, "purge").arg(base_arg(alloc))
 }
@@ -156,8 +152,7 @@ fn file_commands<'a>(alloc: Global) -> Result<Command<'a>, AllocError>
 
 /// The command line with its six commands, as clap takes it.
 pub(crate) fn par2_command<'a>(alloc: Global) -> Result<Command<'a>, AllocError>
-    ensures { IfOk result (λ c. (app_of c ≡ par2_app)
-        × ((out-Command c).has_globals ≡ false)) }
+    ensures { IfOk result (λ c. (app_of c ≡ par2_app) × ((out-Command c).has_globals ≡ false)) }
 {
     let command = with_command(file_commands(alloc), purge_command(alloc));
     let command = with_command(command, Ok(Command::new(alloc, "undo")));

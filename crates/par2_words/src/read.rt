@@ -146,8 +146,7 @@ fn named(alloc: Global, name: &str, matches: &ArgMatches<'_>) -> Result<Command,
 
 fn fault_for(error: &clap::Error) -> WordsFault
     ensures memory { kind_of error.now ≡ ErrorKind.OutOfMemory → result ≡ WordsFault.Memory }
-    ensures arguments { result ≡ WordsFault.Memory
-        → kind_of error.now ≡ ErrorKind.OutOfMemory }
+    ensures arguments { result ≡ WordsFault.Memory → kind_of error.now ≡ ErrorKind.OutOfMemory }
 {
     match error.kind() {
         ErrorKind::OutOfMemory => WordsFault::Memory,
