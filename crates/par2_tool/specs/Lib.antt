@@ -1,4 +1,5 @@
 pub mod Performing
+pub mod Answering
 pub mod Holding
 pub mod Opening
 pub mod Calls

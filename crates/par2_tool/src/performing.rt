@@ -1,14 +1,13 @@
 //! A command is performed on a store and its session.
-ghost use Rattle.std.specs.Prelude.{◌≡◌, ◌+◌, ◌<◌, ◌≤◌, [], Some, Ok, IfOk, IfErr, IsErrOf, OnOk, OnErr};
-ghost use Rattle.par2_spec.specs.Commands.{Undo, Redo};
-ghost use Rattle.par2_spec.specs.Plans.{LeadsToAfterAsked};
-ghost use Rattle.par2_spec.specs.Refusals.{early_refusal_of};
-ghost use Rattle.par2_spec.specs.Sessions.{session_of_kept, session_after, changes_asked};
+ghost use Rattle.std.specs.Prelude.{◌≡◌, ◌+◌, ◌<◌, ◌≤◌, IfOk, IfErr, OnOk, OnErr};
+ghost use Rattle.par2_spec.specs.Sessions.{session_of_kept, changes_asked};
 ghost use Rattle.par2_spec.specs.Stores.{Contents};
 ghost use Rattle.par2_spec.specs.Views.{command_of};
+ghost use Rattle.par2_journal.specs.Commands.{IsAfter, LeadsFrom};
+ghost use Rattle.par2_tool.specs.Answering.{Answers, RefusesEarly, RefusesRedo, RefusesUndo};
 ghost use Rattle.par2_tool.specs.Calls.{AreAtMost, calls_asked};
 ghost use Rattle.par2_tool.specs.Holding.{TellsApartAlong, OpensAsBeforeOrAfter};
-ghost use Rattle.par2_tool.specs.Performing.{outcome_of, AreSomeMade, IsAnswer, IsVerify, IsWritten};
+ghost use Rattle.par2_tool.specs.Performing.{AreSomeMade, IsVerify, IsWritten};
 ghost use Rattle.par2_tool.specs.Refusals.{IsRefused, IsSession};
 ghost use Rattle.par2_tool.specs.Writing.{IsKept, StaysKept};
 
@@ -79,12 +78,9 @@ pub fn perform<S: FolderStore>(
 ) -> Result<Outcome, PerformFault>
     // The session is the one from after the action, whose changes lead to its folder; the answer is
     // theirs, and the store holds that session. A verify leaves both alone.
-    ensures session { OnOk result (session_after
-        (session_of_kept session.old) (command_of command.now) ≡ Ok (session_of_kept session.new)) }
-    ensures leads { OnOk result (LeadsToAfterAsked
-        (session_of_kept session.old).folder (command_of command.now)) }
-    ensures answer { IfOk result (λ outcome. IsAnswer
-        (session_of_kept session.old) (command_of command.now) (outcome_of outcome)) }
+    ensures session { OnOk result (IsAfter (command_of command.now) session.old session.new) }
+    ensures leads { OnOk result (LeadsFrom (command_of command.now) session.old) }
+    ensures answer { IfOk result (Answers session.old (command_of command.now)) }
     ensures written { S.honest store.old → (S.contents store.old).files
         ≡ session.old.folder.files → OnOk result (IsWritten (command_of command.now)
         (session_of_kept session.new) (S.contents store.old) (S.contents store.new)) }
@@ -94,13 +90,9 @@ pub fn perform<S: FolderStore>(
     // where it can be.
     ensures refused { IfErr result (IsRefused (command_of command.now) session.old session.new
         (S.failures store.old) (S.failures store.new)) }
-    ensures early { let reason = early_refusal_of session.old.folder.files
-        (command_of command.now) in (fault : Fault) → reason ≡ Some fault
-        → IsErrOf result (PerformFault.Session (SessionFault.Plan fault)) }
-    ensures nothing_to_undo { command_of command.now ≡ Undo → session.old.undos ≡ []
-        → IsErrOf result (PerformFault.Session SessionFault.NothingToUndo) }
-    ensures nothing_to_redo { command_of command.now ≡ Redo → session.old.redos ≡ []
-        → IsErrOf result (PerformFault.Session SessionFault.NothingToRedo) }
+    ensures early { RefusesEarly session.old (command_of command.now) result }
+    ensures nothing_to_undo { RefusesUndo session.old (command_of command.now) result }
+    ensures nothing_to_redo { RefusesRedo session.old (command_of command.now) result }
     // So it leaves an honest store. Where the store fails, it opens as before or as afterwards, and the
     // changes are made in their order.
     ensures unchanged { S.honest store.old
