@@ -4,17 +4,19 @@
 usage: prove.py PROGRAM CPU TO     CPU is a level of x86-64, and TO the file that becomes the program
 
 It does what the gate (`rt ci`) does with these crates alone, on a copy of their files without must-fail edits: each is
-proved from nothing, a crate above a library reads its statements alone, the program is built and run, and what passes
-is kept for later runs on this machine, of the gate too. What an earlier run kept is taken. With PROVE_ANEW=1 nothing is
-taken and nothing is kept, which is how to measure.
+proved from nothing, a crate above a library reads its statements alone, the program is built and run, and each library
+that passes is kept for later runs on this machine, of the gate too. What an earlier run kept is taken. With PROVE_ANEW=1
+nothing is taken and nothing is kept, which is how to measure. The program is built by one compiler, LLVM; the gate
+builds it by a second one too and compares, so a program that was built here isn't kept for it.
 
 The gate's own order fits many proofs, tests and edits; here one chain of libraries decides when the program is there.
-So this loads the command rt as a module and has it use another order (`in_lanes`): a crate on the longest chain, or on
-one that is nearly as long, has up to four processes, the others have one, and where both want a processor the chain
-comes first (nice). RT_JOBS says how many processors there are to use. A line of progress says which crate was proved,
+So this loads the command rt as a module and has it use another order (`in_lanes`): up to four processes share each
+proof, and the shorter the chain that waits for a crate is beside the longest one, the nicer its processes are to the
+others. RT_JOBS says how many processors there are to use. A line of progress says which crate was proved,
 how many are left, and about how long they take, by tools/seconds.txt and by how fast this run has been so far.
 """
 import contextlib
+import math
 import os
 import re
 import shutil
@@ -28,8 +30,8 @@ import rt_module
 DEFAULT = "x86-64-v2"
 # The most processes that share a proof, what sharing costs, and the part of a proof that can't be shared.
 SHARERS, SHARING, ALONE = 4, 1.1, 0.3
-# A chain of this part of the longest is as urgent, and what isn't urgent is as nice as this.
-NEARLY, NICE = 0.9, 5
+# How nice a crate's processes are: none for the longest chain, 4 for one of five sixths, 19 for one of half.
+STEEP, NICEST = 25, 19
 TOP = os.path.join(os.path.dirname(os.path.realpath(__file__)), "..")
 
 
@@ -122,9 +124,9 @@ def in_lanes(clock, memory, say):
     def lanes(tasks):
         given, running, turn = {}, {}, threading.Condition()
 
-        def work(key, jobs, is_first):
+        def work(key, jobs, nice):
             with contextlib.suppress(OSError):
-                os.setpriority(os.PRIO_PROCESS, threading.get_native_id(), 0 if is_first else NICE)
+                os.setpriority(os.PRIO_PROCESS, threading.get_native_id(), nice)
             result = False
             try:
                 result = tasks[key][3](dict(given), jobs)
@@ -139,7 +141,7 @@ def in_lanes(clock, memory, say):
                     turn.notify_all()
 
         def next_one():
-            """Returns a task that can begin, and how many jobs it gets, or None."""
+            """Returns a task that can begin, how many jobs it gets and how nice it is, or None."""
             waiting = [it for it in tasks if it not in given and it not in running]
             ready = [it for it in waiting if all(below in given for below in tasks[it][0])]
             ready.sort(key=lambda it: (it[1] == "proof", -chains[it[0]]))
@@ -148,14 +150,13 @@ def in_lanes(clock, memory, say):
             room = memory - sum(running.values())
             for key in ready:
                 if key[1] != "proof":
-                    return key, 1, False
-                is_first = chains[key[0]] >= NEARLY * longest
-                jobs = min(SHARERS, clock.processors) if is_first else 1
+                    return key, 1, 0
+                nice = min(NICEST, round(STEEP * math.log(longest / chains[key[0]])))
+                jobs = min(SHARERS, clock.processors)
                 while jobs > 1 and tasks[key][2] * (1 + 0.6 * (jobs - 1)) > room:
                     jobs -= 1
-                # (the chain's proof and one for each processor, where the chain's waits for its own processes)
                 if not proofs or (len(proofs) < clock.processors and tasks[key][2] <= room):
-                    return key, jobs, is_first
+                    return key, jobs, nice
                 break
             return None
 
@@ -165,11 +166,11 @@ def in_lanes(clock, memory, say):
                 if not begins:
                     turn.wait()
                     continue
-                key, jobs, is_first = begins
+                key, jobs, nice = begins
                 running[key] = tasks[key][2] * (1 + 0.6 * (jobs - 1)) if key[1] == "proof" else 0
                 if key[1] == "proof":
                     clock.begun[key[0]] = time.time()
-                threading.Thread(target=work, args=(key, jobs, is_first), daemon=True).start()
+                threading.Thread(target=work, args=(key, jobs, nice), daemon=True).start()
         return given
 
     return lanes
@@ -187,6 +188,13 @@ def for_processor(rt, cpu):
         return found
 
     rt.crates_of = crates
+
+
+def by_one_compiler(rt):
+    """Has rt build the program by LLVM alone, and keep libraries alone."""
+    compile_by, keep = rt.Crate.compile_by, rt.Kept.keep
+    rt.Crate.compile_by = lambda it, by, *rest: compile_by(it, by, *rest) if by == "llvm" else 0
+    rt.Kept.keep = lambda it, crate, *rest: None if crate.is_program else keep(it, crate, *rest)
 
 
 def what_failed(log):
@@ -209,6 +217,7 @@ def main(program, cpu, to):
         clock = Clock(names, lines_of_crates()[1], processors)
         rt.in_lanes = in_lanes(clock, 0.85 * rt.free(), say)
         for_processor(rt, cpu)
+        by_one_compiler(rt)
         if anew:
             rt.STORE = f"{room}/kept"
         os.chdir(f"{room}/repo")
