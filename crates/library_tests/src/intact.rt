@@ -1,7 +1,7 @@
 ghost use Rattle.std.specs.Prelude.{◌<◌, ◌≤◌};
 
 use crate::pairs::pairs_of;
-use par2_search::is_intact;
+use par2_slices::is_intact;
 use par2_slices::{Pair, pair_of};
 use std::process::Abort;
 

@@ -1,5 +1,5 @@
 use crate::pairs::pairs_of;
-use par2_search::{Target, matched};
+use par2_slices::{Target, matched};
 use par2_slices::Pair;
 use std::process::Abort;
 

@@ -1,5 +1,5 @@
 use crate::pairs::pairs_of;
-use par2_search::found_windows;
+use par2_slices::found_windows;
 use par2_slices::Pair;
 use std::process::Abort;
 

@@ -178,6 +178,9 @@ each_remove (e ∷ files) (suc at) each = (each.0, each_remove files at each.1)
 pub files_of : (files : List File) → IsSortedByName files → entries (folder_of files) ≡ files
 files_of files h = entries-from_sorted name_cmp files (by_true h)
 
+pub count_of : (files : List File) → IsSortedByName files → length files ≡ length (names (folder_of files))
+count_of files h = sym (length-map (entries (folder_of files)) (λ (file : File). file.0) ∙ ap length (files_of files h))
+
 pub is_folder : (files : List File) → IsKept files → IsFolder (folder_of files)
 is_folder files h = subst (AllByRecursion IsFile) (sym (files_of files h.sorted)) h.each
 

@@ -35,9 +35,9 @@ impl Model for Folder {
 }
 
 impl Folder {
-    ghost use Rattle.std.specs.Prelude.{◌≡◌, Some, None, max, map, is_some, option_copied, IsTrue, IfOk, IfErr, OnOk, OnErr, IfSome};
+    ghost use Rattle.std.specs.Prelude.{◌≡◌, ◌<◌, ◌^◌, Some, None, length, max, map, is_some, option_copied, IsTrue, IfOk, IfErr, OnOk, OnErr, IfSome};
     ghost use Rattle.std.specs.FinMap.{empty, get};
-    ghost use Rattle.par2_spec.specs.Folders.{has, names, fingerprint, IsFolder};
+    ghost use Rattle.par2_spec.specs.Folders.{bytes_of, has, names, fingerprint, IsFolder};
     ghost use Rattle.par2_spec.specs.Changes.{Rename, change_refusal, state_after, inverse, takes_all, state_after_all, way_back};
     ghost use Rattle.par2_folder.specs.Views.{change_of};
     ghost use Rattle.par2_folder.specs.Sorting.{IsKept};
@@ -54,9 +54,12 @@ impl Folder {
         }
     }
 
-    // How many files there are.
-    pub(crate) fn len(&self) -> usize {
-        self.files.len()
+    /// How many files there are.
+    pub fn len(&self) -> usize
+        ensures count { result ≡ length (names self.now.files) }
+        ensures fits { result < 2 ^ 63 }
+    {
+        self.files.as_slice().len()
     }
 
     /// How many files can be written without asking for memory.
@@ -86,6 +89,13 @@ impl Folder {
             Ok(at) => Some(self.files[at].1.as_slice()),
             Err(_) => None,
         }
+    }
+
+    /// The bytes of a file, none where it is absent.
+    pub fn bytes_of(&self, name: &Name) -> &[u8]
+        ensures { result.now ≡ bytes_of self.now.files name.now }
+    {
+        self.get(name).unwrap_or(&[])
     }
 
     /// The names of the files, in order.

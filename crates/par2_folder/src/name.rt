@@ -1,11 +1,11 @@
 //! Names of files, in place.
-ghost use Rattle.std.specs.Prelude.{◌≡◌, ◌↔◌, ◌==◌, ◌≤◌, ◌&&◌, ◌||◌, nat_le, length, IfOk, IsOk, IsErr, IsTrue, IsFalse, Ok, Some, None, nat_eq, refl, codes};
+ghost use Rattle.std.specs.Prelude.{◌≡◌, ◌↔◌, ◌==◌, ◌≤◌, ◌&&◌, ◌||◌, nat_le, length, is_some, IfOk, IfSome, IsOk, IsErr, IsTrue, IsFalse, Ok, Some, None, nat_eq, refl, codes};
 ghost use Rattle.std.specs.Ordering.{nat_cmp};
 ghost use Rattle.std.specs.Cmp.{on_equiv, on_total, on_po, on_per, partial_equiv_from_equiv};
 ghost use Rattle.std.specs.Cmp.Lexicographic.{pointwise, slice_cmp, nat_list_eq_equiv, nat_list_cmp_total, texts_po, texts_ties};
 ghost use Rattle.std.specs.List.{list_any, starts_with};
 ghost use Rattle.std.specs.Str.{bytes_eq};
-ghost use Rattle.par2_spec.specs.Names.{is_name};
+ghost use Rattle.par2_spec.specs.Names.{is_name, is_par_name};
 
 use arrayvec::ArrayString;
 use std::cmp::Ordering;
@@ -97,6 +97,20 @@ impl Name {
         }
     }
 
+    /// The name with these bytes, where they are a name.
+    pub fn from_bytes(bytes: &[u8]) -> Option<Name>
+        ensures variant { is_some result ≡ is_name bytes.now }
+        ensures value { IfSome result (λ name. name ≡ bytes.now) }
+    {
+        let Ok(text) = str::from_utf8(bytes) else {
+            return None;
+        };
+        match Name::new(text) {
+            Ok(name) => Some(name),
+            Err(BadName) => None,
+        }
+    }
+
     /// The name of a file that a folder lists; None for the files that are kept for the history.
     pub fn listed(text: &str) -> Result<Option<Name>, BadName>
         ensures named { IsTrue (is_name text.now) → result ≡ Ok (Some text.now) }
@@ -118,6 +132,15 @@ impl Name {
         ensures name { IsTrue (is_name self.now) }
     {
         self.text.as_str()
+    }
+
+    /// Whether the name ends in `.par2`, in letters of either case.
+    pub fn is_par(&self) -> bool
+        ensures { result ≡ is_par_name self.now }
+    {
+        let bytes = self.as_str().as_bytes();
+        let ending = &bytes[bytes.len().saturating_sub(5)..];
+        ending.eq_ignore_ascii_case(b".par2")
     }
 
     /// The same name once more. It takes no memory.

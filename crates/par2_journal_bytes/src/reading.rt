@@ -55,20 +55,6 @@ fn read_digest(bytes: &[u8]) -> Result<([u8; 16], &[u8]), DecodeFault>
     Ok((digest, rest))
 }
 
-// The name with these bytes.
-fn name_of(bytes: &[u8]) -> Option<Name>
-    ensures variant { is_some result ≡ is_name bytes.now }
-    ensures some { IfSome result (λ name. name ≡ bytes.now) }
-{
-    let Ok(text) = str::from_utf8(bytes) else {
-        return None;
-    };
-    match Name::new(text) {
-        Ok(name) => Some(name),
-        Err(_) => None,
-    }
-}
-
 #[tactic(auto, unfolding(crate::specs::Reading::name_at))]
 fn read_name(bytes: &[u8]) -> Result<(Name, &[u8]), DecodeFault>
     ensures { Gives (λ x. (x.0, x.1.now)) result (reads.name_at bytes.now) }
@@ -77,7 +63,7 @@ fn read_name(bytes: &[u8]) -> Result<(Name, &[u8]), DecodeFault>
         return Err(DecodeFault::JournalInvalid);
     };
     let (text, rest) = read_block(rest, *len as usize)?;
-    match name_of(text) {
+    match Name::from_bytes(text) {
         Some(name) => Ok((name, rest)),
         None => Err(DecodeFault::JournalInvalid),
     }

@@ -11,8 +11,8 @@ use Rattle.std.proofs.Math.Bool.{and-false}
 use Rattle.par2_spec.specs.Names.{is_among, distinct}
 use Rattle.par2_spec.specs.Sets.{Target}
 use Rattle.par2_spec.proofs.NamesLaws.{same_either_way, AreDistinct, among-filter, distinct-filter}
-use Rattle.par2_search.specs.Matching.{Describe, Describes}
-use Rattle.par2_search.specs.declared.matching.Target as search
+use Rattle.par2_slices.specs.Matching.{Describe, Describes}
+use Rattle.par2_slices.specs.declared.matching.Target as search
 use Rattle.par2_plan.specs.Matches.{items_where, passed_over, name_cmp}
 
 -- ---- by flags

@@ -6,7 +6,7 @@ use Rattle.std.proofs.lemmas.List.{take_more, length-take-le, length-map}
 use Rattle.std.proofs.lemmas.List.Sums.{length-filter, count_by-le-length}
 use Rattle.par2_spec.specs.Sets.{Target}
 use Rattle.par2_spec.proofs.ListsLaws.{all-append}
-use Rattle.par2_search.specs.Texts.{padded_window, padded_windows}
+use Rattle.par2_slices.specs.Texts.{padded_window, padded_windows}
 use Rattle.par2_plan.specs.Findings.{Standing, Intact, Matched, Unmatched, AreSized}
 use Rattle.par2_plan.specs.Parts.{missing_from, lost_from}
 use Rattle.par2_plan.specs.Views.{standing_of, standings_of, missing_in, windows_in}

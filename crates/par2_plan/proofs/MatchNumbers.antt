@@ -11,7 +11,7 @@ use Rattle.par2_spec.specs.Search.{is_needing, needing, intact_names, matched, m
 use Rattle.par2_spec.specs.Lists.{all_below}
 use Rattle.par2_spec.proofs.FoundLaws.{all-filter}
 use Rattle.par2_spec.proofs.NamesLaws.{distinct_from_std, std_from_distinct, distinct-filter}
-use Rattle.par2_search.specs.Matching.{text_at, first_intact, without, matched_from, matched_numbers, NumbersAreNames}
+use Rattle.par2_slices.specs.Matching.{text_at, first_intact, without, matched_from, matched_numbers, NumbersAreNames}
 use Rattle.par2_plan.specs.Matches.{ArePlaces, items_where, intact_by}
 use Rattle.par2_plan.specs.Findings.{needs, matches_given}
 use Rattle.par2_plan.proofs.Choices.{chosen-map, passed_over-map}

@@ -6,7 +6,7 @@ use Rattle.std.proofs.lemmas.List.{map-append, length-map, take-map, drop-map}
 use Rattle.std.proofs.Math.Seq.{drop-append_seam, take-append_seam}
 use Rattle.par2_spec.specs.Checksums.{Pair}
 use Rattle.par2_spec.specs.Sets.{Target}
-use Rattle.par2_search.specs.Texts.{padded_window, padded_windows}
+use Rattle.par2_slices.specs.Texts.{padded_window, padded_windows}
 use Rattle.par2_spec.specs.Folders.{Folder}
 use Rattle.par2_plan.specs.Parts.{target_reports_by}
 use Rattle.par2_plan.specs.Views.{given_of, standing_of, standings_of}

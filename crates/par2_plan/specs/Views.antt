@@ -4,7 +4,7 @@ use Rattle.std.specs.Borrow.{Bor}
 use Rattle.par2_spec.specs.Checksums.{Pair}
 use Rattle.par2_spec.specs.Sets.{ParSet}
 use Rattle.par2_spec.specs.Reports as reports
-use Rattle.par2_search.specs.Texts.{padded_windows}
+use Rattle.par2_slices.specs.Texts.{padded_windows}
 use Rattle.par2_plan.specs.Findings as findings
 use Rattle.par2_plan.specs.Parts.{missing_from}
 use Rattle.par2_plan.specs.declared.finding.Standing.{Standing}

@@ -3,7 +3,7 @@ ghost use Rattle.std.specs.Prelude.{◌≡◌, map, filter, IfOk};
 ghost use Rattle.par2_spec.specs.Folders.{has, bytes_of};
 ghost use Rattle.par2_spec.specs.Names.{distinct};
 ghost use Rattle.par2_spec.specs.Search as search;
-ghost use Rattle.par2_search.specs.Texts.{texts_of};
+ghost use Rattle.par2_slices.specs.Texts.{texts_of};
 ghost use Rattle.par2_spec.specs.Answers.{Lists};
 
 use par2_folder::{Folder, Name};
@@ -53,13 +53,6 @@ pub fn candidates(
     distinct(alloc, &names)
 }
 
-// The bytes of a file, none where it is absent.
-fn bytes_of<'a>(folder: &'a Folder, name: &Name) -> &'a [u8]
-    ensures { result.now ≡ bytes_of folder.now.files name.now }
-{
-    folder.get(name).unwrap_or(&[])
-}
-
 /// The bytes of the files of these names.
 pub fn texts_of<'a>(
     alloc: Global,
@@ -71,7 +64,7 @@ pub fn texts_of<'a>(
 {
     let mut texts = Vec::with_capacity(alloc, names.len())?;
     for name in names {
-        texts.push(bytes_of(folder, name))?;
+        texts.push(folder.bytes_of(name))?;
     }
     Ok(texts)
 }

@@ -4,7 +4,7 @@ ghost use Rattle.std.specs.List.{IsDistinct};
 ghost use Rattle.std.specs.Str.{bytes_eq};
 ghost use Rattle.par2_spec.specs.Folders.{bytes_of};
 ghost use Rattle.par2_spec.specs.Windows.{found};
-ghost use Rattle.par2_search.specs.Texts.{padded_windows};
+ghost use Rattle.par2_slices.specs.Texts.{padded_windows};
 ghost use Rattle.par2_spec.specs.Answers.{Lists};
 ghost use Rattle.par2_plan.specs.Findings.{pairs_sought, sought_by, standing_by, standings};
 ghost use Rattle.par2_plan.specs.Views.{given_of, standing_of, standings_of, AreStandingsBy};
@@ -12,7 +12,7 @@ ghost use Rattle.par2_plan.specs.Views.{given_of, standing_of, standings_of, Are
 use crate::candidates::texts_of;
 use crate::matching::{matches, needs};
 use par2_folder::{Folder, Name};
-use par2_search::found_windows;
+use par2_slices::found_windows;
 use par2_sets::{ParSet, Target};
 use par2_slices::Pair;
 use std::alloc::{AllocError, Global};

@@ -15,13 +15,10 @@ ghost use Rattle.par2_plan.specs.Faults.{duplicate_input, files_fault, ids_fault
 use par2_folder::{Folder, Name};
 use par2_packets::{DuplicateId, FileRecord};
 use par2_recovery::SetRecord;
-use par2_slices::slice_count;
+use par2_slices::{MOST_SLICES, slice_count};
 use par2_spec::Fault;
 use std::alloc::{AllocError, Global};
 use std::collections::BTreeSet;
-
-// How many input slices a set may have.
-const MOST_SLICES: u64 = 32768;
 
 // The first of the names that was there before.
 fn first_repeated(alloc: Global, names: &[Name]) -> Result<Option<usize>, AllocError>
@@ -49,16 +46,6 @@ pub fn no_duplicate(alloc: Global, names: &[Name]) -> Result<(), Fault>
     }
 }
 
-// The bytes of a file, none where it is absent.
-fn bytes_of<'a>(folder: &'a Folder, name: &Name) -> &'a [u8]
-    ensures { result.now ≡ bytes_of folder.now.files name.now }
-{
-    match folder.get(name) {
-        Some(bytes) => bytes,
-        None => &[],
-    }
-}
-
 // The first of the names that no file has.
 fn first_absent(folder: &Folder, names: &[Name]) -> Option<usize>
     ensures place { result ≡ position (λ name. not (has folder.now.files name)) names.now }
@@ -75,7 +62,7 @@ fn first_empty(folder: &Folder, names: &[Name]) -> Option<usize>
 {
     names
         .iter()
-        .position(|name| bytes_of(folder, name).is_empty())
+        .position(|name| folder.bytes_of(name).is_empty())
 }
 
 // Whether the files have more slices than a set may have.
@@ -86,7 +73,7 @@ fn are_too_many(folder: &Folder, names: &[Name], size: u64) -> bool
 {
     let mut left = MOST_SLICES;
     for i in 0..names.len() {
-        let count = slice_count(bytes_of(folder, &names[i]).len() as u64, size);
+        let count = slice_count(folder.bytes_of(&names[i]).len() as u64, size);
         if count > left {
             return true;
         }

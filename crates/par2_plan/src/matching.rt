@@ -4,14 +4,14 @@ ghost use Rattle.std.specs.List.{IsDistinct};
 ghost use Rattle.std.specs.Str.{bytes_eq};
 ghost use Rattle.par2_spec.specs.Names.{is_among};
 ghost use Rattle.par2_spec.specs.Search as search;
-ghost use Rattle.par2_search.specs.Matching.{Describe, text_at};
+ghost use Rattle.par2_slices.specs.Matching.{Describe, text_at};
 ghost use Rattle.par2_spec.specs.Answers.{Lists};
 ghost use Rattle.par2_plan.specs.Findings.{needs, matches_given};
 ghost use Rattle.par2_plan.specs.Matches.{items_where, intact_by, HoldsNames, ArePlaces};
 
 use crate::candidates::texts_of;
 use par2_folder::{Folder, Name};
-use par2_search::{is_intact, matched, matches_by_number_are_by_name};
+use par2_slices::{is_intact, matched, matches_by_number_are_by_name};
 use par2_sets::{ParSet, Target};
 use std::alloc::{AllocError, Global};
 use std::collections::BTreeSet;
@@ -42,13 +42,13 @@ fn needing_targets<'s>(
     alloc: Global,
     set: &'s ParSet,
     needing: &[bool],
-) -> Result<Vec<par2_search::Target<'s>>, AllocError>
+) -> Result<Vec<par2_slices::Target<'s>>, AllocError>
     ensures { IfOk result (λ all. Describe all.items (items_where needing.now set.now.targets)) }
 {
     let mut targets = Vec::new(alloc);
     for (target, needs) in set.targets().iter().zip(needing) {
         if *needs {
-            targets.push(par2_search::Target {
+            targets.push(par2_slices::Target {
                 length: target.length(),
                 pairs: target.pairs(),
             })?;

@@ -23,7 +23,7 @@ use crate::moves::{
 use crate::needing_targets::{Needing, needing_of};
 use crate::reading::read;
 use crate::{Changes, Draft};
-use par2_asides::{asides, par_files};
+use par2_sets::{asides, par_files};
 use par2_digests::text_digests;
 use par2_folder::{Bytes, Folder, Name};
 use par2_restore::{RestoredFiles, Slices, restored_files, restored_slices};

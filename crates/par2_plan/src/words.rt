@@ -1,21 +1,14 @@
 //! Whether the words of a create can be taken, and why not.
 ghost use Rattle.std.specs.Prelude.{◌≡◌, ◌<◌, ◌&&◌, not, position, map, string_bytes, is_some, IfOk, IfErr, IfSome, Some, None};
 ghost use Rattle.par2_spec.specs.Names as names;
-ghost use Rattle.par2_spec.specs.Sets as sets;
 ghost use Rattle.par2_spec.specs.Views.{create_args_of};
 ghost use Rattle.par2_spec.specs.Refusals.{are_counts, is_input_name, head_fault, bad_name};
 ghost use Rattle.par2_spec.specs.Answers.{FailsFor};
 
 use par2_folder::Name;
+use par2_slices::is_slice_size;
 use par2_spec::{CreateArgs, Fault};
 use std::alloc::Global;
-
-// A multiple of 4 from 4 to 2^30.
-fn is_slice_size(size: u64) -> bool
-    ensures { result ≡ sets.is_slice_size size }
-{
-    size % 4 == 0 && size >= 4 && size <= 1 << 30
-}
 
 // Whether there are so many exponents from the first one on, all below 65,536.
 fn are_counts(first: u32, count: u32) -> bool
@@ -24,22 +17,13 @@ fn are_counts(first: u32, count: u32) -> bool
     count <= 65536 && first <= 65535 && first + count <= 65536
 }
 
-// Whether the name ends in `.par2`, in letters of either case.
-fn is_par_name(name: &str) -> bool
-    ensures { result ≡ names.is_par_name name.now }
-{
-    let bytes = name.as_bytes();
-    let ending = &bytes[bytes.len().saturating_sub(5)..];
-    ending.eq_ignore_ascii_case(b".par2")
-}
-
 // The name of an index, where the word can be one.
 fn base_name(word: &str) -> Option<Name>
     ensures variant { is_some result ≡ (names.is_name word.now && names.is_par_name word.now) }
     ensures value { IfSome result (λ name. name ≡ word.now) }
 {
     match Name::new(word) {
-        Ok(name) if is_par_name(word) => Some(name),
+        Ok(name) if name.is_par() => Some(name),
         _ => None,
     }
 }
@@ -72,7 +56,7 @@ fn input_name(word: &str) -> Option<Name>
     ensures value { IfSome result (λ name. name ≡ word.now) }
 {
     match Name::new(word) {
-        Ok(name) if !is_par_name(word) => Some(name),
+        Ok(name) if !name.is_par() => Some(name),
         _ => None,
     }
 }

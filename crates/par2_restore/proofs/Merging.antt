@@ -6,7 +6,7 @@ use Rattle.std.proofs.lemmas.List.{append-nil}
 use Rattle.std.proofs.lemmas.List.Elements.{All-head, All-tail}
 use Rattle.par2_spec.specs.Slices.{padded}
 use Rattle.par2_recovery.specs.Survivors.{known_of, known_alone, with_lost_slices}
-use Rattle.par2_search.specs.Texts.{Window, AreShort}
+use Rattle.par2_slices.specs.Texts.{Window, AreShort}
 use Rattle.par2_restore.specs.Texts.{windows_and_texts}
 
 -- ---- what survives

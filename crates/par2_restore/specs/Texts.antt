@@ -1,7 +1,7 @@
 -- Slices as they lie in memory: zeros may be missing at the end of each.
 use Rattle.std.specs.Prelude.{ℕ, List, [], ◌∷◌, map, Some, None}
 use Rattle.par2_spec.specs.Slices.{padded}
-use Rattle.par2_search.specs.Texts.{Window}
+use Rattle.par2_slices.specs.Texts.{Window}
 use Rattle.par2_restore.specs.declared.slices.Slice.{Slice}
 use Rattle.par2_restore.specs.declared.slices.Slice.TheVariants.{Found, Rebuilt}
 

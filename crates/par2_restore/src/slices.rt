@@ -6,7 +6,7 @@ ghost use Rattle.par2_spec.specs.Repairs.{rebuilt};
 ghost use Rattle.par2_spec.specs.Search.{lost};
 ghost use Rattle.par2_spec.specs.Sets.{all_pairs};
 ghost use Rattle.par2_spec.specs.Slices.{padded};
-ghost use Rattle.par2_search.specs.Texts.{texts_of};
+ghost use Rattle.par2_slices.specs.Texts.{texts_of};
 ghost use Rattle.par2_recovery.specs.Survivors.{exponents_of, with_lost_slices, IsTrueFault};
 ghost use Rattle.par2_restore.specs.Restoring.{known_in, undetermined_fault};
 ghost use Rattle.par2_restore.specs.Survivors.{AreSurvivors, fault_of};
@@ -14,7 +14,7 @@ ghost use Rattle.par2_recovery.specs.Rebuilding.{known_among, AreRebuilt, AreEno
 ghost use Rattle.par2_restore.specs.Texts.{windows_and_texts, slices_of, text_of};
 
 use par2_recovery::{RebuildFault, Survivors, rebuild_lost};
-use par2_search::found_windows;
+use par2_slices::found_windows;
 use par2_sets::ParSet;
 use par2_slices::Pair;
 use par2_spec::Fault;

@@ -5,3 +5,4 @@ pub mod Keeping
 pub mod KeptPackets
 pub mod Refusals
 pub mod Reading
+pub mod TakenNames

@@ -2,3 +2,4 @@ pub mod Firsts
 pub mod Steps
 pub mod Slices
 pub mod Codes
+pub mod Asides

@@ -8,7 +8,6 @@ ghost use Rattle.par2_sets.specs.Firsts.{HoldChecksums};
 ghost use Rattle.par2_sets.specs.Steps.{Gives, checksums_for};
 
 use crate::firsts::keep_first;
-use crate::profile::slice_count;
 use par2_packets::{DescView, IfscView, Packet, Pair, read_ifsc};
 use par2_spec::Fault;
 use std::alloc::{AllocError, Global};
@@ -71,7 +70,7 @@ pub(crate) fn pairs_for(
     if description.length() == 0 {
         return Ok(Vec::new(alloc));
     }
-    let count = slice_count(s, description.length());
+    let count = slice_count(description.length(), s);
     let checksums = checksums_of(firsts, description.id(), count).ok_or(Fault::NoChecksums)?;
     Ok(pairs_in(alloc, checksums)?)
 }

@@ -3,7 +3,6 @@
 ghost use Rattle.std.specs.Prelude.{◌≡◌, ◌++◌, ◌&&◌, not, map, IfOk, OnOk};
 ghost use Rattle.std.specs.Str.{bytes_eq};
 ghost use Rattle.par2_spec.specs.Answers.{Lists};
-ghost use Rattle.par2_spec.specs.Folders.{bytes_of};
 ghost use Rattle.par2_spec.specs.Names.{is_par_name};
 ghost use Rattle.par2_spec.specs.Sets.{packets_with, other_par_names};
 ghost use Rattle.par2_packets.specs.Views as views;
@@ -14,30 +13,11 @@ use par2_folder::{Folder, Name};
 use par2_packets::{Packet, Packets};
 use std::alloc::{AllocError, Global};
 
-// The bytes of a file, none where it is absent.
-fn bytes_of<'a>(folder: &'a Folder, name: &Name) -> &'a [u8]
-    ensures { result.now ≡ bytes_of folder.now.files name.now }
-{
-    match folder.get(name) {
-        Some(bytes) => bytes,
-        None => &[],
-    }
-}
-
-// Whether the name ends in `.par2`, in letters of either case.
-fn is_par_name(name: &Name) -> bool
-    ensures { result ≡ is_par_name name.now }
-{
-    let bytes = name.as_str().as_bytes();
-    let ending = &bytes[bytes.len().saturating_sub(5)..];
-    ending.eq_ignore_ascii_case(b".par2")
-}
-
 /// The identifier of the first packet of the base.
 pub(crate) fn first_id(folder: &Folder, base: &Name) -> Option<[u8; 16]>
     ensures { result ≡ first_id folder.now.files base.now }
 {
-    let first = Packets::new(bytes_of(folder, base)).next()?;
+    let first = Packets::new(folder.bytes_of(base)).next()?;
     Some(first.set_id)
 }
 
@@ -62,7 +42,7 @@ fn add_packets<'a>(
 fn is_other(name: &Name, base: &Name) -> bool
     ensures { result ≡ (is_par_name name.now && not (bytes_eq name.now base.now)) }
 {
-    is_par_name(name) && name != base
+    name.is_par() && name != base
 }
 
 // The names of the other `.par2` files, in order.
@@ -86,10 +66,10 @@ pub(crate) fn packets_of<'a>(
         IfOk result (λ packets. map packet_of packets.items ≡ all) }
 {
     let mut packets = Vec::new(alloc);
-    let mut found = Packets::new(bytes_of(folder, base));
+    let mut found = Packets::new(folder.bytes_of(base));
     add_packets(&mut packets, id, &mut found)?;
     for name in &other_par_names(folder, base)? {
-        found = found.in_text(bytes_of(folder, name));
+        found = found.in_text(folder.bytes_of(name));
         add_packets(&mut packets, id, &mut found)?;
     }
     Ok(packets)

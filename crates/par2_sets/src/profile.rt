@@ -11,20 +11,10 @@ ghost use Rattle.par2_spec.specs.declared.Fault.TheVariants.{BadSet};
 
 use par2_folder::Name;
 use par2_packets::DescView;
+use par2_slices::{MOST_SLICES, slice_count};
 use par2_spec::Fault;
 use std::alloc::{AllocError, Global};
 use std::collections::BTreeSet;
-
-// How many slices a set may have.
-const MOST_SLICES: u64 = 32768;
-
-/// How many slices of `s` bytes a file of `size` bytes has.
-pub(crate) fn slice_count(s: u64, size: u64) -> u64
-    requires { 1 ≤ s }
-    ensures { result ≡ slice_count s size }
-{
-    size.div_ceil(s)
-}
 
 // Whether the files have no more slices than a set may have.
 fn have_few_slices(s: u64, descriptions: &[DescView]) -> bool
@@ -33,27 +23,13 @@ fn have_few_slices(s: u64, descriptions: &[DescView]) -> bool
 {
     let mut left = MOST_SLICES;
     for description in descriptions {
-        let count = slice_count(s, description.length());
+        let count = slice_count(description.length(), s);
         if count > left {
             return false;
         }
         left -= count;
     }
     true
-}
-
-// The name of a file, where its bytes are one.
-fn name_of(description: &DescView) -> Option<Name>
-    ensures variant { is_some result ≡ is_name description.now.name }
-    ensures value { IfSome result (λ name. name ≡ description.now.name) }
-{
-    let Ok(text) = str::from_utf8(description.name_bytes()) else {
-        return None;
-    };
-    match Name::new(text) {
-        Ok(name) => Some(name),
-        Err(_) => None,
-    }
 }
 
 // The names of the files, where the bytes of each are one.
@@ -64,7 +40,7 @@ fn names_of(alloc: Global, descriptions: &[DescView]) -> Result<Vec<Name>, Fault
 {
     let mut names = Vec::new(alloc);
     for description in descriptions {
-        let name = name_of(description).ok_or(Fault::BadSet)?;
+        let name = Name::from_bytes(description.name_bytes()).ok_or(Fault::BadSet)?;
         names.push(name)?;
     }
     Ok(names)

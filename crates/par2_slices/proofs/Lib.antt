@@ -8,3 +8,6 @@ pub mod Places
 pub mod NextWindows
 pub mod Searching
 pub mod Wholes
+pub mod Comparisons
+pub mod FoundWindows
+pub mod Matches

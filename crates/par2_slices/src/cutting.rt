@@ -1,7 +1,18 @@
 //! A file as slices of equal size.
 
 ghost use Rattle.std.specs.Prelude.{◌≡◌, ◌*◌, ◌<◌, ◌≤◌, length, take, drop};
+ghost use Rattle.par2_spec.specs.Sets as sets;
 ghost use Rattle.par2_spec.specs.Slices as spec;
+
+/// How many slices a set may have.
+pub const MOST_SLICES: u64 = 32768;
+
+/// Whether slices may have this size: a multiple of 4 from 4 to 2^30.
+pub fn is_slice_size(size: u64) -> bool
+    ensures { result ≡ sets.is_slice_size size }
+{
+    size % 4 == 0 && 4 <= size && size <= 1 << 30
+}
 
 /// How many slices of `s` bytes a file of `len` bytes has.
 pub fn slice_count(len: u64, s: u64) -> u64

@@ -3,7 +3,7 @@ use Rattle.std.specs.Prelude.{Option}
 use Rattle.std.proofs.lemmas.Result.{IfOk-weaker}
 use Rattle.par2_spec.specs.Windows.{found}
 use Rattle.par2_spec.specs.Folders.{bytes_of}
-use Rattle.par2_search.specs.Texts.{padded_windows}
+use Rattle.par2_slices.specs.Texts.{padded_windows}
 use Rattle.par2_plan.specs.Findings.{needs, matches_given, sought_by, standings_by}
 use Rattle.par2_plan.proofs.finding.standings.Goals as goal
 

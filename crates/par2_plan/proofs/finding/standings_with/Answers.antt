@@ -6,7 +6,7 @@ use Rattle.std.specs.Slice.Iter.{iter_rest}
 use Rattle.std.proofs.lemmas.Slice.Zip.{Zip-more, either_empty_from_Zip}
 use Rattle.par2_spec.specs.Checksums.{Pair}
 use Rattle.par2_spec.specs.Sets.{Target}
-use Rattle.par2_search.specs.Texts.{padded_windows}
+use Rattle.par2_slices.specs.Texts.{padded_windows}
 use Rattle.par2_plan.specs.Findings.{pairs_sought, standing_by, standings_by, sought_by}
 use Rattle.par2_plan.specs.Views.{given_of, standings_of}
 use Rattle.par2_plan.specs.declared.finding.Standing as code

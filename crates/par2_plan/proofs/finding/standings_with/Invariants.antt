@@ -3,7 +3,7 @@ use Rattle.std.specs.Prelude.{Option}
 use Rattle.std.specs.Iterator.Adapters.{zip_first, zip_second}
 use Rattle.std.specs.Slice.Iter.{iter_rest}
 use Rattle.par2_spec.specs.Checksums.{Pair}
-use Rattle.par2_search.specs.Texts.{padded_windows}
+use Rattle.par2_slices.specs.Texts.{padded_windows}
 use Rattle.par2_plan.specs.Findings.{sought_by, standings_by}
 use Rattle.par2_plan.specs.Views.{standings_of}
 use Rattle.par2_plan.proofs.finding.standings_with.Given as goal

@@ -6,8 +6,8 @@ use Rattle.par2_spec.specs.Folders.{bytes_of}
 use Rattle.par2_spec.specs.Names.{is_among}
 use Rattle.par2_spec.specs.Sets.{Target}
 use Rattle.par2_spec.specs.Search.{needing}
-use Rattle.par2_search.specs.Matching.{text_at, matched_numbers, Describe}
-use Rattle.par2_search.specs.Texts.{texts_of}
+use Rattle.par2_slices.specs.Matching.{text_at, matched_numbers, Describe}
+use Rattle.par2_slices.specs.Texts.{texts_of}
 use Rattle.par2_plan.specs.Matches.{ArePlaces, items_where, intact_by}
 use Rattle.par2_plan.proofs.MatchNumbers.{are_places, chosen_needing, given_by_numbers, free_by}
 use Rattle.par2_plan.proofs.matching.matches.Goals as goal

@@ -2,7 +2,7 @@ use Rattle.std.proofs.Common.{◌≡◌, ◌∙◌, List, ℕ, length, ap, subst
 use Rattle.std.specs.List.{AllByRecursion}
 use Rattle.std.proofs.lemmas.Result.{err_from_is_err_and}
 use Rattle.par2_spec.specs.Refusals.{repair_refusal}
-use Rattle.par2_asides.specs.Asides.{long_aside}
+use Rattle.par2_sets.specs.Asides.{long_aside}
 use Rattle.par2_restore.specs.Restoring.{undetermined_fault, files_of, md5s_of}
 use Rattle.par2_plan.specs.Repairing.{AreNeeding, AreRestoredFor, known_by, targets_by}
 use Rattle.par2_plan.proofs.PassedAnswers.{refused_by}

@@ -6,7 +6,7 @@ use Rattle.std.proofs.lemmas.Slice.Zip.{AllZip-long}
 use Rattle.par2_spec.specs.Rank.{IsRebuilt, kept_slices}
 use Rattle.par2_spec.specs.Search.{lost, survivors}
 use Rattle.par2_spec.specs.Sets.{ParSet, all_pairs}
-use Rattle.par2_search.specs.Texts.{texts_of}
+use Rattle.par2_slices.specs.Texts.{texts_of}
 use Rattle.par2_restore.specs.Restoring.{known_in, undetermined_fault}
 use Rattle.par2_spec.specs.declared.Fault.TheVariants.{Memory}
 use Rattle.par2_restore.proofs.Rebuilds.{rebuilt_for, enough_for, fault_for, no_fault}

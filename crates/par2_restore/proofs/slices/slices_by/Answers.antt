@@ -3,7 +3,7 @@ use Rattle.std.proofs.lemmas.Simd.{map-map}
 use Rattle.par2_spec.specs.Sums.{lists_of}
 use Rattle.par2_spec.specs.Slices.{padded}
 use Rattle.par2_recovery.specs.Survivors.{known_of, with_lost_slices}
-use Rattle.par2_search.specs.Texts.{Window}
+use Rattle.par2_slices.specs.Texts.{Window}
 use Rattle.par2_recovery.specs.Rebuilding.{AreRebuilt}
 use Rattle.par2_restore.specs.Texts.{windows_and_texts, slices_of, text_of}
 use Rattle.par2_restore.specs.declared.slices.Slice.{Slice}

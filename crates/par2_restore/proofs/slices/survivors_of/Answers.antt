@@ -6,7 +6,7 @@ use Rattle.par2_spec.specs.Checksums.{Pair}
 use Rattle.par2_spec.specs.Sets.{all_pairs}
 use Rattle.par2_spec.specs.Windows.{found}
 use Rattle.par2_spec.proofs.FilesLaws.{size_even}
-use Rattle.par2_search.specs.Texts.{Window, padded_window, texts_of}
+use Rattle.par2_slices.specs.Texts.{Window, padded_window, texts_of}
 use Rattle.par2_recovery.specs.Survivors.{known_of, recovered_of, exponents_of}
 use Rattle.par2_restore.specs.Restoring.{known_in}
 use Rattle.par2_restore.proofs.Merging.{short_present}

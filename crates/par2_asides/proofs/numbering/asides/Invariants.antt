@@ -1,9 +1,0 @@
-use Rattle.std.proofs.Common.{◌≡◌, None, map, take}
-use Rattle.par2_spec.specs.Repairs.{aside}
-use Rattle.par2_asides.specs.Asides.{long_aside}
-use Rattle.par2_asides.proofs.numbering.asides.Given as goal
-
-abbrev pub invariant-loop-name : goal.invariant-loop-name
-invariant-loop-name l =
-    (l.asides.items ≡ map (aside l.folder.files l.set) (take l.name-index l.names))
-    × (long_aside l.folder.files l.set (take l.name-index l.names) ≡ None)

@@ -1,6 +1,0 @@
-use Rattle.std.proofs.Common.{map, take}
-use Rattle.par2_asides.specs.Asides.{HoldsNames}
-use Rattle.par2_asides.proofs.targets.target_names.Given as goal
-
-abbrev pub invariant-loop-target : goal.invariant-loop-target
-invariant-loop-target l = HoldsNames l.names (map (λ t. t.name) (take l.target-index l.set.targets))

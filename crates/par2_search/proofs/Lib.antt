@@ -1,3 +1,0 @@
-pub mod Comparisons
-pub mod FoundWindows
-pub mod Matches

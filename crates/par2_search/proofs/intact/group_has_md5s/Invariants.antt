@@ -1,6 +1,0 @@
-use Rattle.std.proofs.Common.{◌+◌}
-use Rattle.par2_search.specs.Intact.{HaveMd5s}
-use Rattle.par2_search.proofs.intact.group_has_md5s.Given as goal
-
-abbrev pub invariant-loop-lane : goal.invariant-loop-lane
-invariant-loop-lane l = HaveMd5s l.s l.bytes l.pairs l.first (l.first + l.lane)

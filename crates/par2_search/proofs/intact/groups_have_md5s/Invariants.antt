@@ -1,6 +1,0 @@
-use Rattle.std.proofs.Common.{◌*◌, min}
-use Rattle.par2_search.specs.Intact.{HaveMd5s}
-use Rattle.par2_search.proofs.intact.groups_have_md5s.Given as goal
-
-abbrev pub invariant-loop-group : goal.invariant-loop-group
-invariant-loop-group l = HaveMd5s l.s l.bytes l.pairs 0 (min (l.group * 8) l.count)

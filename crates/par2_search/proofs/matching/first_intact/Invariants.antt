@@ -1,8 +1,0 @@
-use Rattle.std.proofs.Common.{◌≡◌, drop}
-use Rattle.par2_spec.specs.Sets as sets
-use Rattle.par2_search.specs.Matching.{Describes, first_intact}
-use Rattle.par2_search.specs.Texts.{texts_of}
-use Rattle.par2_search.proofs.matching.first_intact.Given as goal
-
-abbrev pub invariant-loop-i : goal.invariant-loop-i
-invariant-loop-i l = (t : sets.Target) → Describes l.target t → first_intact l.s (texts_of l.texts) t (drop l.i-index l.free) ≡ first_intact l.s (texts_of l.texts) t l.free

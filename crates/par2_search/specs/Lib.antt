@@ -1,3 +1,0 @@
-pub mod Intact
-pub mod Matching
-pub mod Texts

@@ -1,0 +1,127 @@
+-- Names that are taken, and the first number that is free.
+use Rattle.std.proofs.Common.{◌≡◌, ℕ, suc, ◌+◌, ◌-◌, ◌^◌, ◌<◌, ◌≤◌, length, List, [], ◌∷◌, ◌++◌, map, take, refl, sym, ap, ◌∙◌, ◌⊎◌, Bool, true, false, not, cond, ◌||◌, arith, inl, inr, IsTrue, Ok, Err, Result}
+use Rattle.std.specs.Prelude.{find, get_or, IfErr, IfOk, IsErrAnd, IsOk, nat_lt, Option, Some, None, unwrap_or}
+use Rattle.std.specs.List.{AllByRecursion, list_all, list_any, range_with_len}
+use Rattle.std.proofs.lemmas.Bool.{and_from, cases_lt, false_from_ne_true, false≢true, leb-true, lt-ltb, ltb-true}
+use Rattle.std.proofs.lemmas.List.{map_more}
+use Rattle.std.proofs.lemmas.List.Folds.{list_all-append, list_any_at, list_any_more}
+use Rattle.std.proofs.lemmas.Result.{err_from_is_err_and}
+use Rattle.par2_spec.specs.declared.Fault.{Fault}
+use Rattle.par2_spec.specs.declared.Fault.TheVariants.{Memory, NameTooLong}
+use Rattle.par2_spec.specs.Faults.{fault_where}
+use Rattle.par2_spec.specs.Folders.{Folder, File, IsFolder, files, names}
+use Rattle.par2_spec.specs.Names.{is_among, is_name, numbered}
+use Rattle.par2_spec.specs.Repairs.{aside, taken_for}
+use Rattle.par2_spec.specs.Sets.{IsSound, target_names, ParSet}
+use Rattle.par2_spec.proofs.AsideNames.{numbered_is_name}
+use Rattle.par2_spec.proofs.NameTests.{name_is_short}
+use Rattle.par2_spec.proofs.TestLaws.{err_again, where_none}
+use Rattle.par2_sets.specs.Asides.{long_aside}
+
+-- ---- what is taken
+
+names_of_files : (entries : List File) → AllByRecursion (λ file. IsTrue (is_name file.0) × (length file.1 < 2 ^ 64)) entries
+    → list_all is_name (map (λ file. file.0) entries) ≡ true
+names_of_files [] h = refl
+names_of_files (file ∷ entries) h = and_from _ _ h.0.0 (names_of_files entries h.1)
+
+-- the names in a folder and those of targets are names
+pub all_names : (folder : Folder) (set : ParSet) → IsFolder folder → IsSound set → IsTrue (list_all is_name (taken_for folder set))
+all_names folder set kept sound =
+    list_all-append is_name (names folder) (target_names set) ∙ and_from _ _ (names_of_files (files folder) kept) sound.are_names
+
+-- ---- numbers
+
+-- the name with the first of the numbers from n up to `most` that is free
+abbrev pub first_from : List (List ℕ) → List ℕ → ℕ → ℕ → List ℕ
+first_from taken name most n = unwrap_or (find (λ other. not (is_among taken other)) (map (numbered name) (range_with_len n (most + 1 - n)))) []
+
+-- an aside is the first of all
+pub from_one : (folder : Folder) (set : ParSet) (name : List ℕ) (most : ℕ) → most ≡ length (taken_for folder set) + 1
+    → aside folder set name ≡ first_from (taken_for folder set) name most 1
+unfolding aside
+from_one folder set name most h =
+    ap (λ k. unwrap_or (find (λ other. not (is_among (taken_for folder set) other)) (map (numbered name) (range_with_len 1 k))) [])
+    (let e : length (taken_for folder set) + 1 ≡ most + 1 - 1 = omega (arith, h) in e)
+
+module _ (taken : List (List ℕ)) (name : List ℕ) (most n : ℕ) (low : n ≤ most) where
+  one_more : (b : Bool) → is_among taken (numbered name n) ≡ b
+      → first_from taken name most n ≡ unwrap_or (cond (not b) (Some (numbered name n)) (find (λ other. not (is_among taken other)) (map (numbered name) (range_with_len (n + 1) (most - n))))) []
+  one_more b h =
+      ap (λ k. unwrap_or (find (λ other. not (is_among taken other)) (map (numbered name) (range_with_len n k))) [])
+      (let e : most + 1 - n ≡ suc (most - n) = omega (arith, low) in e)
+      ∙ ap (λ t. unwrap_or (cond (not t) (Some (numbered name n)) (find (λ other. not (is_among taken other)) (map (numbered name) (range_with_len (n + 1) (most - n))))) []) h
+
+  -- a number that is free is the first
+  pub first_here : is_among taken (numbered name n) ≡ false → first_from taken name most n ≡ numbered name n
+  first_here free = one_more false free
+
+  -- a number that is taken is passed over
+  pub first_later : is_among taken (numbered name n) ≡ true → first_from taken name most n ≡ first_from taken name most (n + 1)
+  first_later full =
+      one_more true full
+      ∙ ap (λ k. unwrap_or (find (λ other. not (is_among taken other)) (map (numbered name) (range_with_len (n + 1) k))) [])
+      (let e : most - n ≡ most + 1 - (n + 1) = omega (arith, low) in e)
+
+-- ---- refusals
+
+-- what a `?` answers, where a step has ended in a fault
+pub passed_on : {X : Type 0} (r : Result X Fault) (fault : Fault) (long : Option Fault) → IsErrAnd r (λ y. y ≡ fault)
+    → (fault ≡ Memory) ⊎ (long ≡ Some fault) → IfErr r (λ f. (f ≡ Memory) ⊎ (long ≡ Some f))
+passed_on r fault long is h = err_again (λ x. IfErr x (λ f. (f ≡ Memory) ⊎ (long ≡ Some f))) r fault (err_from_is_err_and r is) h
+
+-- a `?` that ends in a fault answers no value
+pub no_value : {X : Type 0} (r : Result X Fault) (fault : Fault) (P : X → Type 0) → IsErrAnd r (λ y. y ≡ fault) → IfOk r P
+no_value r fault P is = err_again (λ x. IfOk x P) r fault (err_from_is_err_and r is) tt
+
+-- a name whose aside is too long
+pub too_long : (folder : Folder) (set : ParSet) (name : List ℕ) → 255 < length (aside folder set name) → long_aside folder set (name ∷ []) ≡ Some NameTooLong
+too_long folder set name h = ap (λ b. fault_where (b || false) NameTooLong) (lt-ltb 255 (length (aside folder set name)) h)
+
+settled : (one all : Bool) (fault : Fault) → (one ≡ true → all ≡ true) → fault_where (one || false) NameTooLong ≡ Some fault → fault_where all NameTooLong ≡ Some fault
+settled true all fault every h = ap (λ b. fault_where b NameTooLong) (every refl) ∙ h
+settled false all fault every h = cc
+
+-- one such name settles what is said of all
+pub one_too_long : (folder : Folder) (set : ParSet) (names : List (List ℕ)) (i : ℕ) (name : List ℕ) (fault : Fault) → i < length names → name ≡ get_or names i name
+    → long_aside folder set (name ∷ []) ≡ Some fault → long_aside folder set names ≡ Some fault
+one_too_long folder set names i name fault low is h =
+    let test : List ℕ → Bool = λ other. nat_lt 255 (length (aside folder set other)) in
+    settled (test name) (list_any test names) fault (λ long. list_any_at test names i name low (ap test (sym is) ∙ long)) h
+
+-- what is too long is no name
+pub long_is_no_name : (text : List ℕ) → 255 < length text → is_name text ≡ false
+long_is_no_name text h =
+    false_from_ne_true _ (λ named. let short : length text ≤ 255 = leb-true (length text) 255 (name_is_short text named) in absurd (omega (arith, h, short)))
+
+-- a numbered name is only no name where it is too long
+pub long_where_err : {E : Type 0} (r : Result (List ℕ) E) (name : List ℕ) (n : ℕ) (text : List ℕ) → n < 2 ^ 64 → IsTrue (is_name name) → text ≡ numbered name n
+    → (IsTrue (is_name text) → IsOk r) → IfErr r (λ _. 255 < length (numbered name n))
+long_where_err (Ok x) name n text small named is h = tt
+long_where_err (Err e) name n text small named is h = elim (cases_lt 255 (length (numbered name n))) as (λ _. 255 < length (numbered name n)) [
+  | inl long ↦ long
+  | inr short ↦ absurd (false≢true (h (ap is_name is ∙ numbered_is_name name n small named short)))
+]
+
+-- ---- one more name
+
+no_longer : (text : List ℕ) → IsTrue (is_name text) → nat_lt 255 (length text) ≡ false
+no_longer text named =
+    false_from_ne_true _ (λ long. let most : length text ≤ 255 = leb-true (length text) 255 (name_is_short text named) in absurd (omega (arith, most, ltb-true 255 (length text) long)))
+
+module _ (folder : Folder) (set : ParSet) (names : List (List ℕ)) (i : ℕ) (name other : List ℕ) (low : i < length names) (is : name ≡ get_or names i name)
+    (named : other ≡ aside folder set name) where
+  -- its aside comes last
+  pub one_more_aside : (asides : List (List ℕ)) → asides ≡ map (aside folder set) (take i names)
+      → asides ++ other ∷ [] ≡ map (aside folder set) (take (i + 1) names)
+  one_more_aside asides before =
+      ap (λ xs. xs ++ other ∷ []) before ∙ ap (λ x. map (aside folder set) (take i names) ++ x ∷ []) (named ∙ ap (aside folder set) is)
+      ∙ sym (map_more (aside folder set) names i name low)
+
+  -- where its aside is a name, none is too long yet
+  pub one_more_short : IsTrue (is_name other) → long_aside folder set (take i names) ≡ None → long_aside folder set (take (i + 1) names) ≡ None
+  one_more_short good before =
+      let test : List ℕ → Bool = λ x. nat_lt 255 (length (aside folder set x)) in
+      let short : test (get_or names i name) ≡ false =
+      ap test (sym is) ∙ ap (λ x. nat_lt 255 (length x)) (sym named) ∙ no_longer other good in
+      ap (λ b. fault_where b NameTooLong) (list_any_more test names i name low ∙ ap (λ b. b || test (get_or names i name)) (where_none _ _ before) ∙ short)

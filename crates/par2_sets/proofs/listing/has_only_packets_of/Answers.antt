@@ -1,0 +1,13 @@
+use Rattle.std.proofs.Common.{◌≡◌, false, sym, arith}
+use Rattle.std.proofs.lemmas.Bool.{and_right}
+use Rattle.std.proofs.lemmas.Grind.{common_steps}
+use Rattle.std.specs.List.{list_any, list_all}
+use Rattle.std.specs.Str.{bytes_eq}
+use Rattle.par2_spec.specs.Packets.{accepted}
+use Rattle.par2_sets.proofs.listing.has_only_packets_of.Goals as goal
+
+pub returns-then-ne : goal.returns-then-ne
+returns-then-ne c =
+    let packets = accepted c.args.bytes.now in
+    let other : list_all (λ p. bytes_eq p.set_id c.args.id.now) packets ≡ false = grind (arith, common_steps) in
+    sym (and_right (list_any (λ p. bytes_eq p.set_id c.args.id.now) packets) _ other)

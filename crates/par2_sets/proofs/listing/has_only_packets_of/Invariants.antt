@@ -1,0 +1,13 @@
+use Rattle.std.proofs.Common.{◌≡◌, ◌||◌}
+use Rattle.std.specs.List.{list_any, list_all}
+use Rattle.std.specs.Str.{bytes_eq}
+use Rattle.par2_spec.specs.Packets.{accepted}
+use Rattle.par2_packets.specs.Views.{packets_of}
+use Rattle.par2_sets.proofs.listing.has_only_packets_of.Given as goal
+
+abbrev pub invariant-loop-packet : goal.invariant-loop-packet
+invariant-loop-packet l =
+    let rest = packets_of l.packet-iterator in
+    let all = accepted l.bytes in
+    ((l.found || list_any (λ p. bytes_eq p.set_id l.id) rest) ≡ list_any (λ p. bytes_eq p.set_id l.id) all)
+    × (list_all (λ p. bytes_eq p.set_id l.id) rest ≡ list_all (λ p. bytes_eq p.set_id l.id) all)

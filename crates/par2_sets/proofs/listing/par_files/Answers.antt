@@ -1,0 +1,10 @@
+use Rattle.std.proofs.Common.{◌∙◌, ap, rules}
+use Rattle.std.specs.Prelude.{filter}
+use Rattle.std.proofs.lemmas.Fn.{filter_same}
+use Rattle.par2_spec.specs.Repairs.{is_par_file}
+use Rattle.par2_sets.proofs.listing.par_files.Goals as goal
+
+pub returns : goal.returns
+returns c =
+    let test = is_par_file c.args.folder.now.files c.args.set.now in
+    filter_same _ test _ (λ x b f k. search rules) _ _ c.retain.ensures.filtered ∙ ap (filter test) c.in_ok-names.ensures

@@ -1,0 +1,9 @@
+use Rattle.std.proofs.Common.{◌≡◌, None, map, take}
+use Rattle.par2_spec.specs.Repairs.{aside}
+use Rattle.par2_sets.specs.Asides.{long_aside}
+use Rattle.par2_sets.proofs.numbering.asides.Given as goal
+
+abbrev pub invariant-loop-name : goal.invariant-loop-name
+invariant-loop-name l =
+    (l.asides.items ≡ map (aside l.folder.files l.set) (take l.name-index l.names))
+    × (long_aside l.folder.files l.set (take l.name-index l.names) ≡ None)

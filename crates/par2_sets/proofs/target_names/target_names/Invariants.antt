@@ -1,0 +1,6 @@
+use Rattle.std.proofs.Common.{map, take}
+use Rattle.par2_sets.specs.Asides.{HoldsNames}
+use Rattle.par2_sets.proofs.target_names.target_names.Given as goal
+
+abbrev pub invariant-loop-target : goal.invariant-loop-target
+invariant-loop-target l = HoldsNames l.names (map (λ t. t.name) (take l.target-index l.set.targets))

@@ -1,0 +1,6 @@
+use Rattle.std.proofs.Common.{◌+◌}
+use Rattle.par2_slices.specs.Intact.{HaveMd5s}
+use Rattle.par2_slices.proofs.intact.group_has_md5s.Given as goal
+
+abbrev pub invariant-loop-lane : goal.invariant-loop-lane
+invariant-loop-lane l = HaveMd5s l.s l.bytes l.pairs l.first (l.first + l.lane)

@@ -1,0 +1,8 @@
+use Rattle.std.proofs.Common.{◌≡◌, ℕ, ◌<◌}
+use Rattle.par2_spec.specs.Checksums.{crc32}
+use Rattle.par2_spec.specs.Slices.{slice_at}
+use Rattle.par2_slices.specs.Searches.{pair_at}
+use Rattle.par2_slices.proofs.intact.have_crc32s.Given as goal
+
+abbrev pub invariant-loop-j : goal.invariant-loop-j
+invariant-loop-j l = (k : ℕ) → k < l.j → crc32 (slice_at l.s l.bytes k) ≡ (pair_at l.pairs k).1

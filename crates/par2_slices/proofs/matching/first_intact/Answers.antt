@@ -1,0 +1,34 @@
+use Rattle.std.proofs.Common.{◌≡◌, ◌∙◌, ℕ, ◌<◌, Bool, List, [], length, get_or, sym, ap}
+use Rattle.std.specs.Borrow.{Bor}
+use Rattle.std.proofs.lemmas.List.{at_drop_all, get_or-map}
+use Rattle.par2_spec.specs.Search.{is_intact}
+use Rattle.par2_spec.specs.Sets as sets
+use Rattle.par2_slices.specs.Matching.{first_intact, text_at}
+use Rattle.par2_slices.specs.Texts.{texts_of}
+use Rattle.par2_slices.proofs.Matches.{first_here, first_later}
+use Rattle.par2_slices.proofs.matching.first_intact.Goals as goal
+
+-- what is known of a text is known of it by its number
+at_number : (s : ℕ) (texts : List (Bor (List ℕ))) (t : sets.Target) (i : ℕ) (d : Bor (List ℕ)) (result : Bool) → i < length texts → result ≡ is_intact s t (get_or texts i d).now → is_intact s t (text_at (texts_of texts) i) ≡ result
+at_number s texts t i d result within is = ap (is_intact s t) (get_or-map (λ (text : Bor (List ℕ)). text.now) texts i d [] within) ∙ sym is
+
+pub returns-then-is_intact_by : goal.returns-then-is_intact_by
+returns-then-is_intact_by c t h =
+    let n : ℕ = c.loop-i.i-index in
+    let i : ℕ = get_or c.args.free.now n 0 in
+    let within : i < length c.args.texts.now = c.requires.free n 0 c.loop-i-test.true in
+    sym (first_here c.args.s (texts_of c.args.texts.now) t c.args.free.now n c.loop-i-test.true (at_number c.args.s c.args.texts.now t i _ c.is_intact_by.result within (c.is_intact_by.ensures t h) ∙ c.if-is_intact_by.true))
+    ∙ c.loop-i.invariant t h
+
+pub loop-i-preserved : goal.loop-i-preserved
+loop-i-preserved c t h =
+    let n : ℕ = c.loop-i.i-index in
+    let i : ℕ = get_or c.args.free.now n 0 in
+    let within : i < length c.args.texts.now = c.requires.free n 0 c.loop-i-test.true in
+    first_later c.args.s (texts_of c.args.texts.now) t c.args.free.now n c.loop-i-test.true (at_number c.args.s c.args.texts.now t i _ c.is_intact_by.result within (c.is_intact_by.ensures t h) ∙ c.if-is_intact_by.false)
+    ∙ c.loop-i.invariant t h
+
+pub returns : goal.returns
+returns c t h =
+    sym (at_drop_all (first_intact c.args.s (texts_of c.args.texts.now) t) c.args.free.now c.loop-i.i-index c.loop-i-test.false)
+    ∙ c.loop-i.invariant t h
