@@ -28,9 +28,9 @@ pub struct Landmarks {
 }
 
 // Whether no change touches a name before the border.
-fn are_behind(border: &Border, changes: &[Change]) -> bool
-    ensures behind { IsTrue result → AreBehind border.now changes.now }
-    ensures all { AreBehind border.now changes.now → IsTrue result }
+fn are_behind(border: Border<'_>, changes: &[Change]) -> bool
+    ensures behind { IsTrue result → AreBehind border.entry changes.now }
+    ensures all { AreBehind border.entry changes.now → IsTrue result }
 {
     for change in changes {
         if touches(border, change) {
@@ -66,7 +66,7 @@ impl Landmarks {
         let mut start = (Border::Beginning, Midstate::new());
         for mark in &self.list {
             let border = Border::At(&mark.name);
-            if !are_behind(&border, changes) {
+            if !are_behind(border, changes) {
                 return start;
             }
             start = (border, mark.state);
@@ -83,7 +83,7 @@ impl Landmarks {
         let mut last = (Border::Beginning, Midstate::new());
         for mark in &self.list {
             let border = Border::At(&mark.name);
-            if !is_further(&border, name) {
+            if !is_further(border, name) {
                 return last;
             }
             last = (border, mark.state);

@@ -73,13 +73,13 @@ fn go_on<'a>(
     snapshot: &Snapshot<'a>,
     text: &'a [u8],
     progress: Progress,
-    from: &Border,
-    to: &Border,
+    from: Border<'_>,
+    to: Border<'_>,
 ) -> Result<Progress, AllocError>
     requires kept { IsKept (files_in snapshot.now) }
-    requires further { IsFurther from.now to.now }
-    requires here { IsAt from.now (folder_in snapshot.now) text.now progress }
-    ensures there { IfOk result (IsAt to.now (folder_in snapshot.now) text.now) }
+    requires further { IsFurther from to }
+    requires here { IsAt from (folder_in snapshot.now) text.now progress }
+    ensures there { IfOk result (IsAt to.entry (folder_in snapshot.now) text.now) }
 {
     let files = run_of(alloc, progress.folder, snapshot, from, to)?;
     let end = text
@@ -123,9 +123,9 @@ pub fn survey_folder<'a>(
         taken: 0,
     };
     for name in &names {
-        if is_further(&border, name) {
+        if is_further(border, name) {
             let next = Border::At(name);
-            progress = go_on(alloc, &snapshot, text, progress, &border, &next)?;
+            progress = go_on(alloc, &snapshot, text, progress, border, next)?;
             landmarks.push(Landmark {
                 name: name.copied(),
                 state: progress.folder,
@@ -133,7 +133,7 @@ pub fn survey_folder<'a>(
             border = next;
         }
     }
-    let end = go_on(alloc, &snapshot, text, progress, &border, &Border::End)?;
+    let end = go_on(alloc, &snapshot, text, progress, border, Border::End)?;
     Ok(Survey {
         fingerprint: end.folder.digest(),
         digest: digest_behind(end.text, &text[end.taken..]),

@@ -7,6 +7,6 @@ use Rattle.par2_folder.proofs.walk.follow.Goals as goal
 
 pub returns-else-touches-clause-texts : goal.returns-else-touches-clause-texts
 returns-else-touches-clause-texts c texts reached absorbed =
-    let new = text_before c.args.to.now (folder_in c.args.snapshot.now) in
+    let new = text_before c.args.to (folder_in c.args.snapshot.now) in
     let none = sym c.touches.ensures ∙ c.if-touches.false in
     subst (AreTo c.args.runs.now) (sym (ap (λ touched. texts ++ cond touched (new ∷ []) []) none ∙ append-nil texts)) reached
