@@ -11,7 +11,7 @@ ghost use Rattle.par2_folder.specs.Sorting.{IsKept};
 ghost use Rattle.par2_folder.specs.Surveys.{IsAt};
 
 use crate::border::{Border, is_further};
-use crate::landmarks::{Landmark, Landmarks};
+use crate::landmarks::Landmarks;
 use crate::snapshot::Snapshot;
 use crate::walk::{run_of, run_of_text, state_before};
 use crate::{Folder, Name};
@@ -44,16 +44,9 @@ struct Progress {
 fn landmark_names(alloc: Global, snapshot: &Snapshot) -> Result<Vec<Name>, AllocError>
     ensures { 0 < length (files_in snapshot.now) → IfOk result (λ names. 0 < length names.items) }
 {
-    let mut names = Vec::new(alloc);
-    let Some(first) = snapshot.files.first() else {
-        return Ok(names);
-    };
-    names.push(first.name.copied())?;
     let step = snapshot.files.len().div_ceil(MOST_LANDMARKS).max(1);
-    for file in snapshot.files.iter().step_by(step).skip(1) {
-        names.push(file.name.copied())?;
-    }
-    Ok(names)
+    let marked = snapshot.files.iter().step_by(step);
+    marked.map(|file| file.name.copied()).collect(alloc)
 }
 
 // How many bytes the parts lend, as far as a number tells.
@@ -126,10 +119,7 @@ pub fn survey_folder<'a>(
         if is_further(border, name) {
             let next = Border::At(name);
             progress = go_on(alloc, &snapshot, text, progress, border, next)?;
-            landmarks.push(Landmark {
-                name: name.copied(),
-                state: progress.folder,
-            })?;
+            landmarks.mark(name, progress.folder)?;
             border = next;
         }
     }
@@ -165,9 +155,6 @@ pub fn mark_folder(
 {
     let (state, beside) = state_before(alloc, from, folder, name, beside)?;
     let mut landmarks = Landmarks::none(alloc);
-    landmarks.push(Landmark {
-        name: name.copied(),
-        state,
-    })?;
+    landmarks.mark(name, state)?;
     Ok(Marked { landmarks, beside })
 }
