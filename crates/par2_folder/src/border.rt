@@ -64,23 +64,18 @@ fn count_before(files: &[BorrowedFile], border: Border<'_>) -> usize
     }
 }
 
-// Adds the bytes after their length.
-fn push_counted<'a>(parts: &mut Vec<Part<'a>>, bytes: &'a [u8]) -> Result<(), AllocError>
-    ensures { OnOk result
-        (message_of parts.new.items ≡ message_of parts.old.items ++ behind_length bytes.now) }
-{
-    parts.push(Part::Length(bytes.len() as u64))?;
-    parts.push(Part::Bytes(bytes))?;
-    Ok(())
-}
-
-// Adds the file's name and its bytes.
+// Adds the file's name and its bytes, each after its length.
 fn push_file<'a>(parts: &mut Vec<Part<'a>>, file: &BorrowedFile<'a>) -> Result<(), AllocError>
     ensures { OnOk result (message_of parts.new.items
         ≡ message_of parts.old.items ++ fingerprint_input (file_of file.now ∷ [])) }
 {
-    push_counted(parts, file.name.as_str().as_bytes())?;
-    push_counted(parts, file.bytes.as_slice())
+    let (name, bytes) = (file.name.as_str().as_bytes(), file.bytes.as_slice());
+    parts.extend_from_slice(&[
+        Part::Length(name.len() as u64),
+        Part::Bytes(name),
+        Part::Length(bytes.len() as u64),
+        Part::Bytes(bytes),
+    ])
 }
 
 // The files as parts of a message.

@@ -94,32 +94,7 @@ fn add_run<'a>(
     runs.push(run_of(alloc, state, snapshot, from, to)?)
 }
 
-// Adds the run that the folder after the change begins, if it begins one.
-fn follow<'a>(
-    alloc: Global,
-    runs: &mut Runs<'a>,
-    state: Midstate,
-    snapshot: &Snapshot<'a>,
-    change: &Change,
-    from: Border<'_>,
-    to: Border<'_>,
-) -> Result<(), AllocError>
-    requires few { length runs.old.pendings.items ≤ 8 }
-    requires kept { IsKept (files_in snapshot.now) }
-    requires further { IsFurther from to }
-    ensures few { OnOk result (length runs.new.pendings.items ≤ 8) }
-    ensures texts { (texts : List (List ℕ)) → let folder = folder_in snapshot.now in
-        AreTo runs.old texts → HasAbsorbed state (text_before from.entry folder)
-        → OnOk result (AreTo runs.new (texts ++ new_run to.entry folder (change_of change.now))) }
-{
-    if touches(to, change) {
-        add_run(alloc, runs, state, snapshot, from, to)
-    } else {
-        Ok(())
-    }
-}
-
-// Goes on to the folder after the change.
+// Goes on to the folder after the change, and adds the run that it begins, if it begins one.
 fn go_on<'a>(
     alloc: Global,
     runs: &mut Runs<'a>,
@@ -142,7 +117,11 @@ fn go_on<'a>(
         → OnOk result (AreTo runs.new (texts ++ new_run to.entry folder (change_of change.now))) }
 {
     snapshot.apply(change)?;
-    follow(alloc, runs, state, snapshot, change, from, to)
+    if touches(to, change) {
+        add_run(alloc, runs, state, snapshot, from, to)
+    } else {
+        Ok(())
+    }
 }
 
 // The runs after that of the snapshot's folder.
@@ -203,23 +182,6 @@ fn runs_before<'a>(
     runs_behind(alloc, runs, snapshot, changes, states, from, to)
 }
 
-// The states before a border, from those before an earlier one.
-fn states_before(
-    alloc: Global,
-    folder: &Folder,
-    changes: &[Change],
-    states: &[Midstate],
-    from: Border<'_>,
-    to: Border<'_>,
-) -> Result<Vec<Midstate>, AllocError>
-    requires further { IsFurther from to }
-    requires applicable { IsTrue (are_applicable folder.now.files (map change_of changes.now)) }
-    requires absorbed { HaveAbsorbed states.now (texts_by from folder.now.files changes.now) }
-    ensures { IfOk result (HaveTaken (texts_by to.entry folder.now.files changes.now)) }
-{
-    runs_before(alloc, folder, changes, states, from, to)?.finish()
-}
-
 // Goes on with the states to the border at the name, if it comes later.
 fn go_to<'b>(
     alloc: Global,
@@ -236,7 +198,7 @@ fn go_to<'b>(
 {
     if is_further(*border, name) {
         let next = Border::At(name);
-        *states = states_before(alloc, folder, changes, states, *border, next)?;
+        *states = runs_before(alloc, folder, changes, states, *border, next)?.finish()?;
         *border = next;
     }
     Ok(())
