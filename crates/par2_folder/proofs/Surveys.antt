@@ -32,10 +32,10 @@ pub with_mark : (folder : Folder) (old new : Landmarks) (mark : Landmark) → ne
 with_mark folder old new mark pushed are is = λ i none lt.
     subst (λ l. IsLandmarkOf folder (get_or l i none)) (sym pushed) (All-push (IsLandmarkOf folder) old.list.items mark are is i none (subst (λ l. i < length l) pushed lt))
 
--- the state at a border at a name is a landmark
-pub is_mark : (name copy : List ℕ) (here folder : Folder) (state : Midstate) → copy ≡ name → here ≡ folder → HasAbsorbed state (fingerprint_input (entries (folder_below name here)))
+-- the state before a name is a landmark there
+pub is_mark : (name copy : List ℕ) (folder : Folder) (state : Midstate) → copy ≡ name → HasAbsorbed state (fingerprint_input (entries (folder_below name folder)))
     → IsLandmarkOf folder (record { name = copy; state = state })
-is_mark name copy here folder state copied is held = subst (λ (p : List ℕ × Folder). HasAbsorbed state (fingerprint_input (entries (folder_below p.0 p.1)))) (λ i. (sym copied i, is i)) held
+is_mark name copy folder state copied held = subst (λ n. HasAbsorbed state (fingerprint_input (entries (folder_below n folder)))) (sym copied) held
 
 -- where one was added, there is one
 pub some_pushed : (old : List Landmark) (mark : Landmark) → 0 < length (old ++ mark ∷ [])

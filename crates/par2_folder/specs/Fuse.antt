@@ -1,7 +1,11 @@
 -- A store that passes calls on, and then fails.
 use Rattle.std.specs.Prelude.{◌≡◌, ◌⊎◌, ℕ, ◌+◌, ◌<◌, Bool, true, false, List, Result, IsErr, IsErrOf}
-use Rattle.par2_spec.specs.Changes.{Change}
+use Rattle.par2_spec.specs.Changes.{Change, Write, Replace, Rename, Remove}
 use Rattle.par2_spec.specs.Stores.{Contents, with_change, with_journal}
+use Rattle.par2_folder.specs.declared.fuse.BorrowedChange.{BorrowedChange}
+use Rattle.par2_folder.specs.declared.fuse.BorrowedChange.TheVariants as borrowed
+use Rattle.par2_folder.specs.declared.fuse.Fate.{Fate}
+use Rattle.par2_folder.specs.declared.fuse.Fate.TheVariants.{Passes, Works, Fails}
 use Rattle.par2_folder.specs.declared.fuse.FuseStore.{FuseStore}
 use Rattle.par2_folder.specs.declared.store.ReadFault.{ReadFault}
 use Rattle.par2_folder.specs.declared.store.ReadFault.TheVariants.{Store}
@@ -28,6 +32,13 @@ fuse_failures store = store.failures.count
 abbrev pub fuse_writing_calls : {S : Type 0} → FuseStore S → ℕ
 fuse_writing_calls store = store.writing_calls.count
 
+-- a change that is lent, as a change of the definitions
+abbrev pub change_in : BorrowedChange → Change
+change_in (borrowed.Write name bytes) = Write name.now bytes.now
+change_in (borrowed.Replace name bytes) = Replace name.now bytes.now
+change_in (borrowed.Rename from to) = Rename from.now to.now
+change_in (borrowed.Remove name) = Remove name.now
+
 -- the next call does its work, and fails
 pub record WorksNext {S : Type 0} (store : FuseStore S) : Type 0 where
   pub left : calls_left store ≡ 0
@@ -45,6 +56,12 @@ pub record IsBlown {S : Type 0} (old new : FuseStore S) : Type 0 where
   pub works : does_work new ≡ false
   pub failures : fuse_failures new ≡ fuse_failures old + 1
   pub idle : does_work old ≡ false → inner_store new ≡ inner_store old
+
+-- what becomes of a call, by the store before and after
+abbrev pub Becomes : {S : Type 0} → FuseStore S → FuseStore S → Fate → Type 0
+Becomes old new Passes = 0 < calls_left old × HasPassed old new
+Becomes old new Works = WorksNext old × IsBlown old new
+Becomes old new Fails = (calls_left old ≡ 0) × (does_work old ≡ false) × IsBlown old new
 
 -- what contracts see of it, by what they see of the other store
 abbrev pub fuse : {S : Type 0} → StoreOf S → StoreOf (FuseStore S)

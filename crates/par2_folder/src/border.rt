@@ -23,39 +23,39 @@ pub enum Border<'a> {
 }
 
 // Whether the name comes before the border.
-fn is_before(border: &Border, name: &Name) -> bool
-    ensures { result ≡ is_before border.now name.now }
+fn is_before(border: Border<'_>, name: &Name) -> bool
+    ensures { result ≡ is_before border.entry name.now }
 {
     match border {
         Border::Beginning => false,
-        Border::At(next) => name < *next,
+        Border::At(next) => name < next,
         Border::End => true,
     }
 }
 
 /// Whether the border comes before that at the name.
-pub fn is_further(border: &Border, name: &Name) -> bool
-    ensures which { result ≡ comes_before border.now name.now }
-    ensures further { IsTrue result → IsFurther border.now (At name.entry) }
+pub fn is_further(border: Border<'_>, name: &Name) -> bool
+    ensures which { result ≡ comes_before border.entry name.now }
+    ensures further { IsTrue result → IsFurther border.entry (At name.entry) }
 {
     match border {
         Border::Beginning => true,
-        Border::At(before) => *before < name,
+        Border::At(before) => before < name,
         Border::End => false,
     }
 }
 
 /// Whether the change touches a name before the border.
-pub fn touches(border: &Border, change: &Change) -> bool
-    ensures { result ≡ touches border.now (change_of change.now) }
+pub fn touches(border: Border<'_>, change: &Change) -> bool
+    ensures { result ≡ touches border.entry (change_of change.now) }
 {
     is_before(border, &change.first_name())
 }
 
 // How many files have names before the border.
-fn count_before(files: &[BorrowedFile], border: &Border) -> usize
+fn count_before(files: &[BorrowedFile], border: Border<'_>) -> usize
     requires { IsKept (map file_of files.now) }
-    ensures { IsFront (is_before border.now) (map file_of files.now) result }
+    ensures { IsFront (is_before border.entry) (map file_of files.now) result }
 {
     match border {
         Border::Beginning => 0,
@@ -64,23 +64,18 @@ fn count_before(files: &[BorrowedFile], border: &Border) -> usize
     }
 }
 
-// Adds the bytes after their length.
-fn push_counted<'a>(parts: &mut Vec<Part<'a>>, bytes: &'a [u8]) -> Result<(), AllocError>
-    ensures { OnOk result
-        (message_of parts.new.items ≡ message_of parts.old.items ++ behind_length bytes.now) }
-{
-    parts.push(Part::Length(bytes.len() as u64))?;
-    parts.push(Part::Bytes(bytes))?;
-    Ok(())
-}
-
-// Adds the file's name and its bytes.
+// Adds the file's name and its bytes, each after its length.
 fn push_file<'a>(parts: &mut Vec<Part<'a>>, file: &BorrowedFile<'a>) -> Result<(), AllocError>
     ensures { OnOk result (message_of parts.new.items
         ≡ message_of parts.old.items ++ fingerprint_input (file_of file.now ∷ [])) }
 {
-    push_counted(parts, file.name.as_str().as_bytes())?;
-    push_counted(parts, file.bytes.as_slice())
+    let (name, bytes) = (file.name.as_str().as_bytes(), file.bytes.as_slice());
+    parts.extend_from_slice(&[
+        Part::Length(name.len() as u64),
+        Part::Bytes(name),
+        Part::Length(bytes.len() as u64),
+        Part::Bytes(bytes),
+    ])
 }
 
 // The files as parts of a message.
@@ -99,14 +94,14 @@ fn parts_of<'a>(alloc: Global, files: &[BorrowedFile<'a>]) -> Result<Vec<Part<'a
 pub fn parts_between<'a>(
     alloc: Global,
     snapshot: &Snapshot<'a>,
-    from: &Border,
-    to: &Border,
+    from: Border<'_>,
+    to: Border<'_>,
 ) -> Result<Vec<Part<'a>>, AllocError>
     requires kept { IsKept (files_in snapshot.now) }
-    requires further { IsFurther from.now to.now }
+    requires further { IsFurther from to }
     ensures { let folder = folder_in snapshot.now in
-        IfOk result (λ parts. text_before from.now folder ++ message_of parts.items
-        ≡ text_before to.now folder) }
+        IfOk result (λ parts. text_before from.entry folder ++ message_of parts.items
+        ≡ text_before to.entry folder) }
 {
     let files = &snapshot.files;
     let start = count_before(files, from);

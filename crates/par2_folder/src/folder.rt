@@ -140,15 +140,14 @@ impl Folder {
     {
         match change {
             Change::Write(name, _) => {
-                let name = name.copied();
-                let Err(at) = search(&self.files, &name) else {
+                let Err(at) = search(&self.files, name) else {
                     return Err(ChangeFault::NameTaken);
                 };
                 if self.vacant() == 0 {
                     return Err(ChangeFault::NoRoom);
                 }
                 let inverse = Change::Remove(name.copied());
-                let Change::Write(_, bytes) = mem::replace(change, inverse) else {
+                let Change::Write(name, bytes) = mem::replace(change, inverse) else {
                     unreachable!()
                 };
                 insert_at(&mut self.files, at, name, bytes);
@@ -163,12 +162,11 @@ impl Folder {
             }
             Change::Rename(from, to) => self.rename(from, to),
             Change::Remove(name) => {
-                let name = name.copied();
-                let Ok(at) = search(&self.files, &name) else {
+                let Ok(at) = search(&self.files, name) else {
                     return Err(ChangeFault::NoSuchName);
                 };
-                let bytes = remove_at(&mut self.files, at, &name);
-                *change = Change::Write(name, bytes);
+                let bytes = remove_at(&mut self.files, at, name);
+                *change = Change::Write(name.copied(), bytes);
                 Ok(())
             }
         }

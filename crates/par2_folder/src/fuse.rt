@@ -1,6 +1,7 @@
 //! A store that passes some calls on, and then fails.
-ghost use Rattle.std.specs.Prelude.{◌≡◌, ◌+◌, ◌-◌, nat_lt, false};
-ghost use Rattle.par2_folder.specs.Fuse.{inner_store, fuse_failures, fuse_writing_calls, calls_left, does_work};
+ghost use Rattle.std.specs.Prelude.{◌≡◌, ◌+◌};
+ghost use Rattle.par2_folder.specs.Fuse.{fuse, inner_store, fuse_writing_calls, calls_left, change_in, does_work, Becomes, FusesChange};
+ghost use Rattle.par2_folder.specs.Stores.{CountsFailures, Makes};
 
 use crate::{Count, FolderStore, Name, ReadFault, Store, StoreFault};
 use std::alloc::Global;
@@ -15,6 +16,38 @@ pub struct FuseStore<S: FolderStore> {
     works: bool,
     failures: Count,
     writing_calls: Count,
+}
+
+// A change of a folder, by what lies elsewhere.
+#[derive(Clone, Copy)]
+enum BorrowedChange<'a> {
+    Write(&'a Name, &'a [u8]),
+    Replace(&'a Name, &'a [u8]),
+    Rename(&'a Name, &'a Name),
+    Remove(&'a Name),
+}
+
+// What becomes of a call.
+#[derive(Clone, Copy, Drop)]
+enum Fate {
+    // It is passed on.
+    Passes,
+    // It does its work if it writes, and fails.
+    Works,
+    Fails,
+}
+
+// Makes the change in a store.
+fn make_in<S: FolderStore>(store: &mut S, change: BorrowedChange<'_>) -> Result<(), StoreFault>
+    ensures made { Makes S.Store store.old store.new (change_in change.entry) result }
+    ensures failures { CountsFailures S.failures store.old store.new result }
+{
+    match change {
+        BorrowedChange::Write(name, bytes) => store.write(name, bytes),
+        BorrowedChange::Replace(name, bytes) => store.replace(name, bytes),
+        BorrowedChange::Rename(from, to) => store.rename(from, to),
+        BorrowedChange::Remove(name) => store.remove(name),
+    }
 }
 
 impl<S: FolderStore> FuseStore<S> {
@@ -40,33 +73,40 @@ impl<S: FolderStore> FuseStore<S> {
         self.inner
     }
 
-    // Whether the call is passed on.
-    fn passes(&mut self) -> bool
-        ensures passes { result ≡ nat_lt 0 (calls_left self.old) }
-        ensures left { calls_left self.new ≡ calls_left self.old - 1 }
+    // Counts a call, or its failure, and answers what becomes of it.
+    fn next_call(&mut self) -> Fate
+        ensures fate { Becomes self.old self.new result }
         ensures inner { inner_store self.new ≡ inner_store self.old }
-        ensures works { does_work self.new ≡ does_work self.old }
-        ensures failures { fuse_failures self.new ≡ fuse_failures self.old }
         ensures writing_calls { fuse_writing_calls self.new ≡ fuse_writing_calls self.old }
     {
-        if self.left == 0 {
-            return false;
+        if self.left > 0 {
+            self.left -= 1;
+            return Fate::Passes;
         }
-        self.left -= 1;
-        true
+        self.failures.rise();
+        if mem::replace(&mut self.works, false) {
+            Fate::Works
+        } else {
+            Fate::Fails
+        }
     }
 
-    // Counts a failure, and answers whether the call does its work.
-    fn blows(&mut self) -> bool
-        ensures works { result ≡ does_work self.old }
-        ensures once { does_work self.new ≡ false }
-        ensures left { calls_left self.new ≡ calls_left self.old }
-        ensures inner { inner_store self.new ≡ inner_store self.old }
-        ensures failures { fuse_failures self.new ≡ fuse_failures self.old + 1 }
-        ensures writing_calls { fuse_writing_calls self.new ≡ fuse_writing_calls self.old }
+    // Passes a change on, or fails.
+    fn make(&mut self, change: BorrowedChange<'_>) -> Result<(), StoreFault>
+        ensures made { Makes (fuse S.Store) self.old self.new (change_in change.entry) result }
+        ensures failures { CountsFailures (fuse S.Store).failures self.old self.new result }
+        ensures counted { fuse_writing_calls self.new ≡ fuse_writing_calls self.old + 1 }
+        ensures fused { FusesChange S.Store self.old self.new (change_in change.entry) result }
     {
-        self.failures.rise();
-        mem::replace(&mut self.works, false)
+        self.writing_calls.rise();
+        match self.next_call() {
+            Fate::Passes => make_in(&mut self.inner, change),
+            Fate::Works => {
+                let _answer = make_in(&mut self.inner, change);
+                Err(StoreFault)
+            }
+            Fate::Fails => Err(StoreFault),
+        }
     }
 }
 
@@ -99,11 +139,10 @@ impl<S: FolderStore> FolderStore for FuseStore<S> {
         ensures failures { CountsReadFailures (fuse S.Store).failures self.old self.new result }
         ensures fused { FusesRead self.old self.new result }
     {
-        if self.passes() {
-            return self.inner.names(alloc);
+        match self.next_call() {
+            Fate::Passes => self.inner.names(alloc),
+            Fate::Works | Fate::Fails => Err(ReadFault::Store),
         }
-        let _idle = self.blows();
-        Err(ReadFault::Store)
     }
 
     fn read(&mut self, alloc: Global, name: &Name) -> Result<Vec<u8>, ReadFault>
@@ -112,11 +151,10 @@ impl<S: FolderStore> FolderStore for FuseStore<S> {
         ensures failures { CountsReadFailures (fuse S.Store).failures self.old self.new result }
         ensures fused { FusesRead self.old self.new result }
     {
-        if self.passes() {
-            return self.inner.read(alloc, name);
+        match self.next_call() {
+            Fate::Passes => self.inner.read(alloc, name),
+            Fate::Works | Fate::Fails => Err(ReadFault::Store),
         }
-        let _idle = self.blows();
-        Err(ReadFault::Store)
     }
 
     fn read_journal(&mut self, alloc: Global) -> Result<Option<Vec<u8>>, ReadFault>
@@ -125,11 +163,10 @@ impl<S: FolderStore> FolderStore for FuseStore<S> {
         ensures failures { CountsReadFailures (fuse S.Store).failures self.old self.new result }
         ensures fused { FusesRead self.old self.new result }
     {
-        if self.passes() {
-            return self.inner.read_journal(alloc);
+        match self.next_call() {
+            Fate::Passes => self.inner.read_journal(alloc),
+            Fate::Works | Fate::Fails => Err(ReadFault::Store),
         }
-        let _idle = self.blows();
-        Err(ReadFault::Store)
     }
 
     fn write(&mut self, name: &Name, bytes: &[u8]) -> Result<(), StoreFault>
@@ -138,14 +175,7 @@ impl<S: FolderStore> FolderStore for FuseStore<S> {
         ensures counted { fuse_writing_calls self.new ≡ fuse_writing_calls self.old + 1 }
         ensures fused { FusesChange S.Store self.old self.new (Write name.now bytes.now) result }
     {
-        self.writing_calls.rise();
-        if self.passes() {
-            return self.inner.write(name, bytes);
-        }
-        if self.blows() {
-            let _answer = self.inner.write(name, bytes);
-        }
-        Err(StoreFault)
+        self.make(BorrowedChange::Write(name, bytes))
     }
 
     fn replace(&mut self, name: &Name, bytes: &[u8]) -> Result<(), StoreFault>
@@ -154,14 +184,7 @@ impl<S: FolderStore> FolderStore for FuseStore<S> {
         ensures counted { fuse_writing_calls self.new ≡ fuse_writing_calls self.old + 1 }
         ensures fused { FusesChange S.Store self.old self.new (Replace name.now bytes.now) result }
     {
-        self.writing_calls.rise();
-        if self.passes() {
-            return self.inner.replace(name, bytes);
-        }
-        if self.blows() {
-            let _answer = self.inner.replace(name, bytes);
-        }
-        Err(StoreFault)
+        self.make(BorrowedChange::Replace(name, bytes))
     }
 
     fn rename(&mut self, from: &Name, to: &Name) -> Result<(), StoreFault>
@@ -170,14 +193,7 @@ impl<S: FolderStore> FolderStore for FuseStore<S> {
         ensures counted { fuse_writing_calls self.new ≡ fuse_writing_calls self.old + 1 }
         ensures fused { FusesChange S.Store self.old self.new (Rename from.now to.now) result }
     {
-        self.writing_calls.rise();
-        if self.passes() {
-            return self.inner.rename(from, to);
-        }
-        if self.blows() {
-            let _answer = self.inner.rename(from, to);
-        }
-        Err(StoreFault)
+        self.make(BorrowedChange::Rename(from, to))
     }
 
     fn remove(&mut self, name: &Name) -> Result<(), StoreFault>
@@ -186,14 +202,7 @@ impl<S: FolderStore> FolderStore for FuseStore<S> {
         ensures counted { fuse_writing_calls self.new ≡ fuse_writing_calls self.old + 1 }
         ensures fused { FusesChange S.Store self.old self.new (Remove name.now) result }
     {
-        self.writing_calls.rise();
-        if self.passes() {
-            return self.inner.remove(name);
-        }
-        if self.blows() {
-            let _answer = self.inner.remove(name);
-        }
-        Err(StoreFault)
+        self.make(BorrowedChange::Remove(name))
     }
 
     fn put_journal(&mut self, bytes: &[u8]) -> Result<(), StoreFault>
@@ -203,12 +212,13 @@ impl<S: FolderStore> FolderStore for FuseStore<S> {
         ensures fused { FusesJournal S.Store self.old self.new bytes.now result }
     {
         self.writing_calls.rise();
-        if self.passes() {
-            return self.inner.put_journal(bytes);
+        match self.next_call() {
+            Fate::Passes => self.inner.put_journal(bytes),
+            Fate::Works => {
+                let _answer = self.inner.put_journal(bytes);
+                Err(StoreFault)
+            }
+            Fate::Fails => Err(StoreFault),
         }
-        if self.blows() {
-            let _answer = self.inner.put_journal(bytes);
-        }
-        Err(StoreFault)
     }
 }

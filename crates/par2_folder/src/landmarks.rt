@@ -1,5 +1,5 @@
 //! States within a folder's fingerprint, from which other fingerprints set out.
-ghost use Rattle.std.specs.Prelude.{◌≡◌, ◌++◌, ◌∷◌, [], map, OnOk, IsTrue};
+ghost use Rattle.std.specs.Prelude.{◌<◌, ◌∷◌, [], length, map, OnOk, IsTrue};
 ghost use Rattle.par2_digests.specs.Messages.{HasAbsorbed};
 ghost use Rattle.par2_spec.specs.Folders.{Folder};
 ghost use Rattle.par2_folder.specs.Borders.{IsFurther, run_texts, text_before};
@@ -16,8 +16,8 @@ use std::alloc::{AllocError, Global};
 /// The state after the files before a name.
 #[derive(Debug, Drop)]
 pub struct Landmark {
-    pub name: Name,
-    pub state: Midstate,
+    name: Name,
+    state: Midstate,
 }
 
 /// Landmarks within a folder's fingerprint, in the order of their names. A fingerprint along changes sets out from the
@@ -28,9 +28,9 @@ pub struct Landmarks {
 }
 
 // Whether no change touches a name before the border.
-fn are_behind(border: &Border, changes: &[Change]) -> bool
-    ensures behind { IsTrue result → AreBehind border.now changes.now }
-    ensures all { AreBehind border.now changes.now → IsTrue result }
+fn are_behind(border: Border<'_>, changes: &[Change]) -> bool
+    ensures behind { IsTrue result → AreBehind border.entry changes.now }
+    ensures all { AreBehind border.entry changes.now → IsTrue result }
 {
     for change in changes {
         if touches(border, change) {
@@ -50,11 +50,15 @@ impl Landmarks {
         }
     }
 
-    /// Adds a landmark after the others.
-    pub(crate) fn push(&mut self, mark: Landmark) -> Result<(), AllocError>
-        ensures { OnOk result (self.new.list.items ≡ self.old.list.items ++ mark ∷ []) }
+    /// Adds a landmark at a name, after the others.
+    pub(crate) fn mark(&mut self, name: &Name, state: Midstate) -> Result<(), AllocError>
+        ensures landmarks { (folder : Folder) → AreLandmarksOf folder self.old
+            → HasAbsorbed state (text_before (At name.entry) folder)
+            → OnOk result (AreLandmarksOf folder self.new) }
+        ensures some { OnOk result (0 < length self.new.list.items) }
     {
-        self.list.push(mark)?;
+        let name = name.copied();
+        self.list.push(Landmark { name, state })?;
         Ok(())
     }
 
@@ -66,7 +70,7 @@ impl Landmarks {
         let mut start = (Border::Beginning, Midstate::new());
         for mark in &self.list {
             let border = Border::At(&mark.name);
-            if !are_behind(&border, changes) {
+            if !are_behind(border, changes) {
                 return start;
             }
             start = (border, mark.state);
@@ -83,7 +87,7 @@ impl Landmarks {
         let mut last = (Border::Beginning, Midstate::new());
         for mark in &self.list {
             let border = Border::At(&mark.name);
-            if !is_further(&border, name) {
+            if !is_further(border, name) {
                 return last;
             }
             last = (border, mark.state);

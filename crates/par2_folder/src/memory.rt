@@ -16,10 +16,9 @@ pub struct MemoryStore {
 }
 
 impl MemoryStore {
-    ghost use Rattle.std.specs.Prelude.{◌≡◌, ◌+◌, ◌<◌, [], ◌∷◌, None, IsErr, IsOk, IsTrue, IsFalse, OnOk, OnErr, IfErr, Some};
+    ghost use Rattle.std.specs.Prelude.{◌≡◌, ◌+◌, ◌<◌, ◌≤◌, [], ◌∷◌, None, IfOk, IsErr, IsOk, IsTrue, IsFalse, OnOk, OnErr};
     ghost use Rattle.std.specs.FinMap.{empty};
-    ghost use Rattle.par2_spec.specs.Folders.{has};
-    ghost use Rattle.par2_spec.specs.Changes.{Write, is_applicable, places_taken};
+    ghost use Rattle.par2_spec.specs.Changes.{is_applicable, places_taken};
     ghost use Rattle.par2_spec.specs.Stores.{Contents, with_change};
     ghost use Rattle.par2_folder.specs.Memory.{memory_contents, memory_failures, memory_impossible, memory_writing_calls};
     ghost use Rattle.par2_folder.specs.Views.{change_of};
@@ -64,44 +63,27 @@ impl MemoryStore {
         self.fault()
     }
 
-    // Makes a place for one more file: as many as there are files, so that many puts copy each file a few times.
-    fn make_place(&mut self) -> Result<(), AllocError>
+    // Copies the bytes and makes a place for them: as many as there are files, so that many puts copy each file a few
+    // times.
+    fn make_place(&mut self, bytes: &[u8]) -> Result<Bytes, AllocError>
         ensures contents { memory_contents self.new ≡ memory_contents self.old }
         ensures failures { memory_failures self.new ≡ memory_failures self.old }
         ensures impossible { memory_impossible self.new ≡ memory_impossible self.old }
         ensures writing_calls { memory_writing_calls self.new ≡ memory_writing_calls self.old }
+        ensures copy { IfOk result (λ copy. copy ≡ bytes.now) }
         ensures place { OnOk result (0 < self.new.folder.vacant) }
     {
+        let copy = Bytes::copy_of(self.alloc, bytes)?;
         if self.folder.vacant() == 0 {
             self.folder.reserve(self.folder.len().max(1))?;
         }
-        Ok(())
+        Ok(copy)
     }
 
-    // Writes a file under a name that no file has. Without memory all stays as it is.
-    #[tactic(auto, unfolding(par2_spec::specs::Changes::change_refusal, par2_spec::specs::Changes::effect))]
-    fn add(&mut self, name: &Name, bytes: &[u8]) -> Result<(), AllocError>
-        requires free { IsFalse (has (memory_contents self.old).files name.now) }
-        ensures done { OnOk result (memory_contents self.new
-            ≡ with_change (memory_contents self.old) (Write name.now bytes.now)) }
-        ensures err { OnErr result (memory_contents self.new ≡ memory_contents self.old) }
-        ensures failures { memory_failures self.new ≡ memory_failures self.old }
-        ensures impossible { memory_impossible self.new ≡ memory_impossible self.old }
-        ensures writing_calls { memory_writing_calls self.new ≡ memory_writing_calls self.old }
-    {
-        let copy = Bytes::copy_of(self.alloc, bytes)?;
-        self.make_place()?;
-        let mut change = Change::Write(name.copied(), copy);
-        match self.folder.apply(&mut change) {
-            Ok(()) => Ok(()),
-            Err(_) => unreachable!(),
-        }
-    }
-
-    // Makes a change that takes no place, or counts that it can't be made.
+    // Makes a change that there is a place for, or counts that it can't be made.
     #[tactic(auto, unfolding(par2_spec::specs::Changes::change_refusal, par2_spec::specs::Changes::is_applicable))]
     fn change(&mut self, mut change: Change) -> Result<(), StoreFault>
-        requires { places_taken (change_of change ∷ []) ≡ 0 }
+        requires { places_taken (change_of change ∷ []) ≤ self.old.folder.vacant }
         ensures made { IsTrue (is_applicable (memory_contents self.old).files (change_of change))
             → IsOk result
             × (memory_contents self.new ≡ with_change (memory_contents self.old) (change_of
@@ -171,14 +153,11 @@ impl FolderStore for MemoryStore {
         }
     }
 
-    #[tactic(auto, unfolding(par2_spec::specs::Changes::is_applicable))]
+    #[tactic(auto, unfolding(par2_spec::specs::Changes::change_refusal, par2_spec::specs::Changes::is_applicable))]
     fn write(&mut self, name: &Name, bytes: &[u8]) -> Result<(), StoreFault> {
         self.writing_calls.rise();
-        if self.folder.get(name).is_some() {
-            return Err(self.refuse());
-        }
-        match self.add(name, bytes) {
-            Ok(()) => Ok(()),
+        match self.make_place(bytes) {
+            Ok(copy) => self.change(Change::Write(name.copied(), copy)),
             Err(AllocError) => Err(self.fault()),
         }
     }

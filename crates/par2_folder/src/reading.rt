@@ -32,11 +32,10 @@ pub fn read_within<F: Read>(
     ensures bytes { IfOk result
         (λ bytes. IfSome (F.remaining file.old) (λ left. bytes.items ≡ left)) }
 {
-    let mut bytes = Vec::new(alloc);
-    match bytes.reserve_exact(size) {
-        Ok(()) => {}
+    let mut bytes = match Vec::with_capacity(alloc, size) {
+        Ok(bytes) => bytes,
         Err(AllocError) => return Err(ReadFault::Memory),
-    }
+    };
     let mut block = match Vec::from_elem(alloc, 0u8, size.min(BLOCK - 1) + 1) {
         Ok(block) => block,
         Err(AllocError) => return Err(ReadFault::Memory),

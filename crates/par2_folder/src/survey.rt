@@ -11,7 +11,7 @@ ghost use Rattle.par2_folder.specs.Sorting.{IsKept};
 ghost use Rattle.par2_folder.specs.Surveys.{IsAt};
 
 use crate::border::{Border, is_further};
-use crate::landmarks::{Landmark, Landmarks};
+use crate::landmarks::Landmarks;
 use crate::snapshot::Snapshot;
 use crate::walk::{run_of, run_of_text, state_before};
 use crate::{Folder, Name};
@@ -44,16 +44,9 @@ struct Progress {
 fn landmark_names(alloc: Global, snapshot: &Snapshot) -> Result<Vec<Name>, AllocError>
     ensures { 0 < length (files_in snapshot.now) → IfOk result (λ names. 0 < length names.items) }
 {
-    let mut names = Vec::new(alloc);
-    let Some(first) = snapshot.files.first() else {
-        return Ok(names);
-    };
-    names.push(first.name.copied())?;
     let step = snapshot.files.len().div_ceil(MOST_LANDMARKS).max(1);
-    for file in snapshot.files.iter().step_by(step).skip(1) {
-        names.push(file.name.copied())?;
-    }
-    Ok(names)
+    let marked = snapshot.files.iter().step_by(step);
+    marked.map(|file| file.name.copied()).collect(alloc)
 }
 
 // How many bytes the parts lend, as far as a number tells.
@@ -73,13 +66,13 @@ fn go_on<'a>(
     snapshot: &Snapshot<'a>,
     text: &'a [u8],
     progress: Progress,
-    from: &Border,
-    to: &Border,
+    from: Border<'_>,
+    to: Border<'_>,
 ) -> Result<Progress, AllocError>
     requires kept { IsKept (files_in snapshot.now) }
-    requires further { IsFurther from.now to.now }
-    requires here { IsAt from.now (folder_in snapshot.now) text.now progress }
-    ensures there { IfOk result (IsAt to.now (folder_in snapshot.now) text.now) }
+    requires further { IsFurther from to }
+    requires here { IsAt from (folder_in snapshot.now) text.now progress }
+    ensures there { IfOk result (IsAt to.entry (folder_in snapshot.now) text.now) }
 {
     let files = run_of(alloc, progress.folder, snapshot, from, to)?;
     let end = text
@@ -123,17 +116,14 @@ pub fn survey_folder<'a>(
         taken: 0,
     };
     for name in &names {
-        if is_further(&border, name) {
+        if is_further(border, name) {
             let next = Border::At(name);
-            progress = go_on(alloc, &snapshot, text, progress, &border, &next)?;
-            landmarks.push(Landmark {
-                name: name.copied(),
-                state: progress.folder,
-            })?;
+            progress = go_on(alloc, &snapshot, text, progress, border, next)?;
+            landmarks.mark(name, progress.folder)?;
             border = next;
         }
     }
-    let end = go_on(alloc, &snapshot, text, progress, &border, &Border::End)?;
+    let end = go_on(alloc, &snapshot, text, progress, border, Border::End)?;
     Ok(Survey {
         fingerprint: end.folder.digest(),
         digest: digest_behind(end.text, &text[end.taken..]),
@@ -165,9 +155,6 @@ pub fn mark_folder(
 {
     let (state, beside) = state_before(alloc, from, folder, name, beside)?;
     let mut landmarks = Landmarks::none(alloc);
-    landmarks.push(Landmark {
-        name: name.copied(),
-        state,
-    })?;
+    landmarks.mark(name, state)?;
     Ok(Marked { landmarks, beside })
 }

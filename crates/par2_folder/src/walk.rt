@@ -49,23 +49,23 @@ pub fn run_of<'a>(
     alloc: Global,
     state: Midstate,
     snapshot: &Snapshot<'a>,
-    from: &Border,
-    to: &Border,
+    from: Border<'_>,
+    to: Border<'_>,
 ) -> Result<Pending<'a>, AllocError>
     requires kept { IsKept (files_in snapshot.now) }
-    requires further { IsFurther from.now to.now }
+    requires further { IsFurther from to }
     ensures { let folder = folder_in snapshot.now in
-        HasAbsorbed state (text_before from.now folder)
-        → IfOk result (λ run. Reaches run (text_before to.now folder)) }
+        HasAbsorbed state (text_before from.entry folder)
+        → IfOk result (λ run. Reaches run (text_before to.entry folder)) }
 {
     let parts = parts_between(alloc, snapshot, from, to)?;
     Ok(Pending { state, parts })
 }
 
 // The place of the state before the first border once the change is done.
-fn next_place(place: usize, from: &Border, change: &Change) -> usize
+fn next_place(place: usize, from: Border<'_>, change: &Change) -> usize
     requires { place + 1 < 2 ^ 64 }
-    ensures { result ≡ cond (touches from.now (change_of change.now)) (place + 1) place }
+    ensures { result ≡ cond (touches from.entry (change_of change.now)) (place + 1) place }
 {
     if touches(from, change) {
         place + 1
@@ -80,69 +80,48 @@ fn add_run<'a>(
     runs: &mut Runs<'a>,
     state: Midstate,
     snapshot: &Snapshot<'a>,
-    from: &Border,
-    to: &Border,
+    from: Border<'_>,
+    to: Border<'_>,
 ) -> Result<(), AllocError>
     requires few { length runs.old.pendings.items ≤ 8 }
     requires kept { IsKept (files_in snapshot.now) }
-    requires further { IsFurther from.now to.now }
+    requires further { IsFurther from to }
     ensures few { OnOk result (length runs.new.pendings.items ≤ 8) }
     ensures texts { (texts : List (List ℕ)) → let folder = folder_in snapshot.now in
-        AreTo runs.old texts → HasAbsorbed state (text_before from.now folder)
-        → OnOk result (AreTo runs.new (texts ++ text_before to.now folder ∷ [])) }
+        AreTo runs.old texts → HasAbsorbed state (text_before from.entry folder)
+        → OnOk result (AreTo runs.new (texts ++ text_before to.entry folder ∷ [])) }
 {
     runs.push(run_of(alloc, state, snapshot, from, to)?)
 }
 
-// Adds the run that the folder after the change begins, if it begins one.
-fn follow<'a>(
-    alloc: Global,
-    runs: &mut Runs<'a>,
-    state: Midstate,
-    snapshot: &Snapshot<'a>,
-    change: &Change,
-    from: &Border,
-    to: &Border,
-) -> Result<(), AllocError>
-    requires few { length runs.old.pendings.items ≤ 8 }
-    requires kept { IsKept (files_in snapshot.now) }
-    requires further { IsFurther from.now to.now }
-    ensures few { OnOk result (length runs.new.pendings.items ≤ 8) }
-    ensures texts { (texts : List (List ℕ)) → let folder = folder_in snapshot.now in
-        AreTo runs.old texts → HasAbsorbed state (text_before from.now folder)
-        → OnOk result (AreTo runs.new (texts ++ new_run to.now folder (change_of change.now))) }
-{
-    if touches(to, change) {
-        add_run(alloc, runs, state, snapshot, from, to)
-    } else {
-        Ok(())
-    }
-}
-
-// Goes on to the folder after the change.
+// Goes on to the folder after the change, and adds the run that it begins, if it begins one.
 fn go_on<'a>(
     alloc: Global,
     runs: &mut Runs<'a>,
     state: Midstate,
     snapshot: &mut Snapshot<'a>,
     change: &'a Change,
-    from: &Border,
-    to: &Border,
+    from: Border<'_>,
+    to: Border<'_>,
 ) -> Result<(), AllocError>
     requires few { length runs.old.pendings.items ≤ 8 }
     requires kept { IsKept (files_in snapshot.old) }
-    requires further { IsFurther from.now to.now }
+    requires further { IsFurther from to }
     requires applicable { IsTrue (is_applicable (folder_in snapshot.old) (change_of change.now)) }
     ensures few { OnOk result (length runs.new.pendings.items ≤ 8) }
     ensures kept { OnOk result (IsKept (files_in snapshot.new)) }
     ensures folder { OnOk result
         (folder_in snapshot.new ≡ effect (folder_in snapshot.old) (change_of change.now)) }
     ensures texts { (texts : List (List ℕ)) → let folder = folder_in snapshot.new in
-        AreTo runs.old texts → HasAbsorbed state (text_before from.now folder)
-        → OnOk result (AreTo runs.new (texts ++ new_run to.now folder (change_of change.now))) }
+        AreTo runs.old texts → HasAbsorbed state (text_before from.entry folder)
+        → OnOk result (AreTo runs.new (texts ++ new_run to.entry folder (change_of change.now))) }
 {
     snapshot.apply(change)?;
-    follow(alloc, runs, state, snapshot, change, from, to)
+    if touches(to, change) {
+        add_run(alloc, runs, state, snapshot, from, to)
+    } else {
+        Ok(())
+    }
 }
 
 // The runs after that of the snapshot's folder.
@@ -152,19 +131,19 @@ fn runs_behind<'a>(
     mut snapshot: Snapshot<'a>,
     changes: &'a [Change],
     states: &[Midstate],
-    from: &Border,
-    to: &Border,
+    from: Border<'_>,
+    to: Border<'_>,
 ) -> Result<Runs<'a>, AllocError>
     requires few { length runs.pendings.items ≤ 8 }
     requires kept { IsKept (files_in snapshot) }
-    requires further { IsFurther from.now to.now }
+    requires further { IsFurther from to }
     requires applicable { IsTrue (are_applicable (folder_in snapshot) (map change_of changes.now)) }
     requires absorbed { let folder = folder_in snapshot in
-        HaveAbsorbed states.now (texts_by from.now folder changes.now) }
-    requires first { AreTo runs (text_before to.now (folder_in snapshot) ∷ []) }
+        HaveAbsorbed states.now (texts_by from folder changes.now) }
+    requires first { AreTo runs (text_before to (folder_in snapshot) ∷ []) }
     ensures few { IfOk result (λ runs. length runs.pendings.items ≤ 8) }
     ensures texts { let folder = folder_in snapshot.entry in
-        IfOk result (LeadTo (texts_by to.now folder changes.now)) }
+        IfOk result (LeadTo (texts_by to.entry folder changes.now)) }
 {
     let mut place = 0;
     for change in changes {
@@ -188,36 +167,19 @@ fn runs_before<'a>(
     folder: &'a Folder,
     changes: &'a [Change],
     states: &[Midstate],
-    from: &Border,
-    to: &Border,
+    from: Border<'_>,
+    to: Border<'_>,
 ) -> Result<Runs<'a>, AllocError>
-    requires further { IsFurther from.now to.now }
+    requires further { IsFurther from to }
     requires applicable { IsTrue (are_applicable folder.now.files (map change_of changes.now)) }
-    requires absorbed { HaveAbsorbed states.now (texts_by from.now folder.now.files changes.now) }
+    requires absorbed { HaveAbsorbed states.now (texts_by from folder.now.files changes.now) }
     ensures few { IfOk result (λ runs. length runs.pendings.items ≤ 8) }
-    ensures texts { IfOk result (LeadTo (texts_by to.now folder.now.files changes.now)) }
+    ensures texts { IfOk result (LeadTo (texts_by to.entry folder.now.files changes.now)) }
 {
     let snapshot = folder.snapshot()?;
     let mut runs = Runs::new(alloc);
     add_run(alloc, &mut runs, states[0], &snapshot, from, to)?;
     runs_behind(alloc, runs, snapshot, changes, states, from, to)
-}
-
-// The states before a border, from those before an earlier one.
-fn states_before(
-    alloc: Global,
-    folder: &Folder,
-    changes: &[Change],
-    states: &[Midstate],
-    from: &Border,
-    to: &Border,
-) -> Result<Vec<Midstate>, AllocError>
-    requires further { IsFurther from.now to.now }
-    requires applicable { IsTrue (are_applicable folder.now.files (map change_of changes.now)) }
-    requires absorbed { HaveAbsorbed states.now (texts_by from.now folder.now.files changes.now) }
-    ensures { IfOk result (HaveTaken (texts_by to.now folder.now.files changes.now)) }
-{
-    runs_before(alloc, folder, changes, states, from, to)?.finish()
 }
 
 // Goes on with the states to the border at the name, if it comes later.
@@ -234,9 +196,9 @@ fn go_to<'b>(
     ensures { let texts = texts_by border.new folder.now.files changes.now in
         OnOk result (HaveTaken texts states.new) }
 {
-    if is_further(border, name) {
+    if is_further(*border, name) {
         let next = Border::At(name);
-        *states = states_before(alloc, folder, changes, states, border, &next)?;
+        *states = runs_before(alloc, folder, changes, states, *border, next)?.finish()?;
         *border = next;
     }
     Ok(())
@@ -260,7 +222,7 @@ fn runs_along<'a>(
     for name in &names {
         go_to(alloc, folder, changes, &mut states, &mut border, name)?;
     }
-    runs_before(alloc, folder, changes, &states, &border, &Border::End)
+    runs_before(alloc, folder, changes, &states, border, Border::End)
 }
 
 /// The state, with the bytes of a text after it.
@@ -337,14 +299,7 @@ fn runs_up_to<'a>(
     let snapshot = folder.snapshot()?;
     let (border, state) = landmarks.before(name);
     let mut runs = Runs::new(alloc);
-    add_run(
-        alloc,
-        &mut runs,
-        state,
-        &snapshot,
-        &border,
-        &Border::At(name),
-    )?;
+    add_run(alloc, &mut runs, state, &snapshot, border, Border::At(name))?;
     with_texts(alloc, runs, beside)
 }
 

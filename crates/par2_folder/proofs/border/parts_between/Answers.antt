@@ -7,6 +7,6 @@ returns c =
     let items = c.args.snapshot.now.files.items in
     let front = rw c.deref.ensures.value at c.count_before-start.ensures in
     let longer = rw c.deref-2.ensures.value at c.count_before-end.ensures in
-    let le = no_less items c.requires.kept c.args.from.now c.args.to.now c.count_before-start.result c.count_before-end.result front longer c.requires.further in
+    let le = no_less items c.requires.kept c.args.from c.args.to c.count_before-start.result c.count_before-end.result front longer c.requires.further in
     IfOk-weaker c.parts_of.result _ _ (λ parts is.
-    between items c.requires.kept c.args.from.now c.args.to.now c.count_before-start.result c.count_before-end.result _ front longer le is) (rw c.deref-3.ensures.value at c.parts_of.ensures)
+    between items c.requires.kept c.args.from c.args.to c.count_before-start.result c.count_before-end.result _ front longer le is) (rw c.deref-3.ensures.value at c.parts_of.ensures)

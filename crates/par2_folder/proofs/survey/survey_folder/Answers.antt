@@ -4,13 +4,14 @@ use Rattle.std.proofs.lemmas.List.{take_all}
 use Rattle.md5.specs.Md5.{md5}
 use Rattle.par2_digests.specs.Messages.{HasAbsorbed}
 use Rattle.par2_spec.specs.Folders.{fingerprint}
+use Rattle.par2_folder.specs.Below.{fingerprint_input, folder_below}
 use Rattle.par2_folder.specs.Snapshots.{files_in, folder_in}
 use Rattle.par2_folder.proofs.Borders.{no_text, taken_on}
 use Rattle.par2_folder.proofs.SortedFiles.{files_of}
-use Rattle.par2_folder.proofs.Surveys.{is_mark, one_before, some_pushed, with_mark}
+use Rattle.par2_folder.proofs.Surveys.{one_before}
 use Rattle.par2_folder.proofs.Walks.{fingerprint_is}
 use Rattle.par2_folder.proofs.survey.survey_folder.Goals as goal
-use Rattle.par2_folder.proofs.survey.survey_folder.Goals.{then-is_further+in_ok-progress+in_ok-push, else-is_further}
+use Rattle.par2_folder.proofs.survey.survey_folder.Goals.{then-is_further+in_ok-progress+in_ok-mark, else-is_further}
 
 pub loop-name-init : goal.loop-name-init
 loop-name-init c = record {
@@ -28,13 +29,13 @@ pub loop-name-preserved : goal.loop-name-preserved
 loop-name-preserved c =
     let walk = c.loop-name in
     elim c.if-is_further.branch [
-      | then-is_further+in_ok-progress+in_ok-push w ↦
+      | then-is_further+in_ok-progress+in_ok-mark w ↦
           let there = w.in_ok-progress.ensures.there in
-          let mark = is_mark c.name-item.result w.copied.result _ _ _ w.copied.ensures c.in_ok-snapshot.ensures.folder there.absorbed in
-          let one = subst (λ l. 0 < length l) (sym w.in_ok-push.ensures) (some_pushed walk.landmarks.list.items _) in
+          let absorbed = subst (λ f. HasAbsorbed w.in_ok-progress.progress.folder (fingerprint_input (entries (folder_below c.name-item.result f)))) c.in_ok-snapshot.ensures.folder there.absorbed in
+          let one = w.in_ok-mark.ensures.some in
           rw (w.landmarks-is, w.border-is, w.progress-is) (record {
             at = there;
-            marks = with_mark c.args.folder.now.files walk.landmarks w.push.new.self _ w.in_ok-push.ensures walk.invariant.marks mark;
+            marks = w.in_ok-mark.ensures.landmarks c.args.folder.now.files walk.invariant.marks absorbed;
             some = inr one;
             behind = λ _. one;
           })

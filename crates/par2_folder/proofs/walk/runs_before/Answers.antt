@@ -9,7 +9,7 @@ use Rattle.par2_folder.proofs.walk.runs_before.Goals as goal
 
 pub runs_behind-requires : goal.runs_behind-requires
 runs_behind-requires c =
-    let from = c.args.from.now in
+    let from = c.args.from in
     let states = c.args.states.now in
     let changes = map change_of c.args.changes.now in
     let here = folder_in c.in_ok-snapshot.snapshot in

@@ -10,7 +10,7 @@ loop-change-init c = record {
   few = c.requires.few;
   applicable = c.requires.applicable;
   parents = c.requires.absorbed;
-  done = text_before c.args.to.now (folder_in c.args.snapshot) ∷ [];
+  done = text_before c.args.to (folder_in c.args.snapshot) ∷ [];
   reached = c.requires.first;
   whole = refl;
 }
@@ -19,13 +19,13 @@ pub bounds-states-place : goal.bounds-states-place
 bounds-states-place c =
     let walk = c.loop-change in
     in_range c.args.states.now c.next_place-place.result _ _
-    (parents_then c.args.from.now c.args.to.now c.args.states.now (folder_in c.args.snapshot) c.args.changes.now walk.snapshot walk.runs walk.place walk.change-index walk.invariant
+    (parents_then c.args.from c.args.to c.args.states.now (folder_in c.args.snapshot) c.args.changes.now walk.snapshot walk.runs walk.place walk.change-index walk.invariant
     c.loop-change-test.true c.change-item.result c.change-item.is c.next_place-place.result c.next_place-place.ensures)
 
 pub go_on-requires-clause-applicable : goal.go_on-requires-clause-applicable
 go_on-requires-clause-applicable c =
     let walk = c.loop-change in
-    next_applicable c.args.from.now c.args.to.now c.args.states.now (folder_in c.args.snapshot) c.args.changes.now walk.snapshot walk.runs walk.place walk.change-index walk.invariant
+    next_applicable c.args.from c.args.to c.args.states.now (folder_in c.args.snapshot) c.args.changes.now walk.snapshot walk.runs walk.place walk.change-index walk.invariant
     c.loop-change-test.true c.change-item.result c.change-item.is
 
 pub loop-change-preserved : goal.loop-change-preserved
@@ -34,14 +34,14 @@ loop-change-preserved c =
     let place = c.next_place-place.result in
     let next = c.go_on.new.snapshot in
     let after = c.in_ok-go_on.ensures.folder in
-    let parents = parents_then c.args.from.now c.args.to.now c.args.states.now (folder_in c.args.snapshot) c.args.changes.now walk.snapshot walk.runs walk.place walk.change-index walk.invariant
+    let parents = parents_then c.args.from c.args.to c.args.states.now (folder_in c.args.snapshot) c.args.changes.now walk.snapshot walk.runs walk.place walk.change-index walk.invariant
     c.loop-change-test.true c.change-item.result c.change-item.is place c.next_place-place.ensures in
     let absorbed = absorbed_here c.args.states.now place _ _ _ parents in
     let reached = c.in_ok-go_on.ensures.texts walk.invariant.done walk.invariant.reached (rw after absorbed) in
-    goes_on c.args.from.now c.args.to.now c.args.states.now (folder_in c.args.snapshot) c.args.changes.now walk.snapshot walk.runs walk.place walk.change-index walk.invariant
+    goes_on c.args.from c.args.to c.args.states.now (folder_in c.args.snapshot) c.args.changes.now walk.snapshot walk.runs walk.place walk.change-index walk.invariant
     c.loop-change-test.true c.change-item.result c.change-item.is place c.next_place-place.ensures next after c.in_ok-go_on.ensures.kept c.go_on.new.runs c.in_ok-go_on.ensures.few reached
 
 pub returns-clause-texts : goal.returns-clause-texts
 returns-clause-texts c =
     let walk = c.loop-change in
-    arrived c.args.from.now c.args.to.now c.args.states.now (folder_in c.args.snapshot) c.args.changes.now walk.snapshot walk.runs walk.place walk.change-index walk.invariant c.loop-change-test.false
+    arrived c.args.from c.args.to c.args.states.now (folder_in c.args.snapshot) c.args.changes.now walk.snapshot walk.runs walk.place walk.change-index walk.invariant c.loop-change-test.false
