@@ -9,6 +9,7 @@ ghost use Rattle.par2_sets.specs.Steps.{Gives, checksums_for};
 
 use crate::firsts::keep_first;
 use par2_packets::{DescView, IfscView, Packet, Pair, read_ifsc};
+use par2_slices::slice_count;
 use par2_spec::Fault;
 use std::alloc::{AllocError, Global};
 use std::collections::BTreeMap;

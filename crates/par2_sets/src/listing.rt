@@ -9,10 +9,10 @@ ghost use Rattle.par2_spec.specs.Repairs as repairs;
 ghost use Rattle.par2_spec.specs.Sets.{target_names};
 ghost use Rattle.par2_sets.specs.Asides.{HoldsNames};
 
+use crate::ParSet;
 use crate::target_names::target_names;
 use par2_folder::{Folder, Name};
 use par2_packets::Packets;
-use crate::ParSet;
 use std::alloc::{AllocError, Global};
 use std::collections::BTreeSet;
 

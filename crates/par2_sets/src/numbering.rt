@@ -9,10 +9,10 @@ ghost use Rattle.par2_spec.specs.Repairs.{aside, AreFew, taken_for};
 ghost use Rattle.par2_spec.specs.Sets.{target_names};
 ghost use Rattle.par2_sets.specs.Asides.{HoldsNames, long_aside};
 
+use crate::ParSet;
 use crate::target_names::target_names;
 use itoa::Buffer;
 use par2_folder::{Folder, Name};
-use crate::ParSet;
 use par2_spec::Fault;
 use par2_spec::repair_laws::aside_is_found;
 use std::alloc::{AllocError, Global};

@@ -3,8 +3,8 @@ ghost use Rattle.std.specs.Prelude.{IfOk};
 ghost use Rattle.par2_spec.specs.Sets.{target_names};
 ghost use Rattle.par2_sets.specs.Asides.{HoldsNames};
 
-use par2_folder::Name;
 use crate::ParSet;
+use par2_folder::Name;
 use std::alloc::{AllocError, Global};
 use std::collections::BTreeSet;
 

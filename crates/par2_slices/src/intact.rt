@@ -7,10 +7,10 @@ ghost use Rattle.par2_spec.specs.Sets as sets;
 ghost use Rattle.par2_spec.specs.Slices as slices;
 ghost use Rattle.par2_slices.specs.Intact.{HaveCrc32s, HaveMd5s};
 
-use par2_digests::LANES;
 use crate::{
     Pair, count_side_by_side, crc32, padded_crc32, padded_md5, slice_bytes, slice_count, slice_md5s,
 };
+use par2_digests::LANES;
 
 /// The CRC-32 of slice `j`.
 pub(crate) fn slice_crc32(bytes: &[u8], s: u64, j: u64) -> u32

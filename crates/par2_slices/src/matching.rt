@@ -8,8 +8,8 @@ ghost use Rattle.par2_spec.specs.Sets as sets;
 ghost use Rattle.par2_slices.specs.Matching.{AreFirst, Describe, Describes, IsFirst, NumbersAreNames, first_intact, matched_numbers, without};
 ghost use Rattle.par2_slices.specs.Texts.{texts_of};
 
-use crate::intact::{is_intact, slice_crc32};
 use crate::Pair;
+use crate::intact::{is_intact, slice_crc32};
 use std::alloc::{AllocError, Global};
 
 /// A target, by the length of its file and the checksums of its slices.

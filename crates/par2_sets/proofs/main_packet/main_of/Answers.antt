@@ -16,5 +16,5 @@ found id packets i p main read digest low reads is digested same so_far = grind 
 
 pub returns-in-loop-packet : goal.returns-in-loop-packet
 returns-in-loop-packet c =
-    found c.args.id.now c.args.packets.now c.loop-packet.packet-index _ c.in-Some.main c.read_main.result c.digest_of.result
-    c.loop-packet-test.true c.read_main.ensures c.in-Some.is c.digest_of.ensures c.if-eq.ensures c.loop-packet.invariant
+    found c.args.id.now c.args.packets.now c.loop-packet.packet-index _ c.in-Some.main c.read_main.result c.digest.result
+    c.loop-packet-test.true c.read_main.ensures c.in-Some.is c.digest.ensures c.if-eq.ensures c.loop-packet.invariant

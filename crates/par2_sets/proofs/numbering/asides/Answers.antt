@@ -18,17 +18,6 @@ returns-in_err-targets c =
       few = no_value _ _ _ is;
     }
 
-pub returns-in_err-most : goal.returns-in_err-most
-returns-in_err-most c =
-    let long = long_aside c.args.folder.now.files c.args.set.now c.args.names.now in
-    let is = c.from_residual-in_err-most.ensures.1 in
-    record {
-      refused = passed_on _ c.in_err-most.field-0.0 long is (inl c.in_err-most.ensures.refused);
-      short = no_value _ _ _ is;
-      names = no_value _ _ _ is;
-      few = no_value _ _ _ is;
-    }
-
 pub returns-in_err-asides : goal.returns-in_err-asides
 returns-in_err-asides c =
     let is = c.from_residual-in_err-asides.ensures.1 in
@@ -81,14 +70,14 @@ returns c =
       refused = tt;
       short = subst short whole c.loop-name.invariant.1;
       names = c.loop-name.invariant.0 ∙ ap (map (aside folder set)) whole;
-      few = omega (arith, c.in_ok-most.ensures.count);
+      few = omega (arith, c.tries-most.ensures);
     }
 
 pub aside-requires-clause-targets : goal.aside-requires-clause-targets
 aside-requires-clause-targets c = c.in_ok-targets.ensures
 
 pub aside-requires-clause-most : goal.aside-requires-clause-most
-aside-requires-clause-most c = c.in_ok-most.ensures.count
+aside-requires-clause-most c = c.tries-most.ensures
 
 pub loop-name-preserved : goal.loop-name-preserved
 loop-name-preserved c =
