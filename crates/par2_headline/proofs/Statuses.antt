@@ -6,7 +6,7 @@ use Rattle.par2_spec.specs.declared.Failure.TheVariants.{Refused, Store, Argumen
 use Rattle.par2_spec.specs.declared.Fault.{Fault}
 use Rattle.par2_spec.specs.declared.Fault.TheVariants.{BadSliceSize, BadCount, BadBase, NoInput, BadName, DuplicateInput, NoSuchFile, EmptyFile, TooManySlices, DuplicateId, NameTooLong, Exists, NoPackets, NoMain, NoDescription, NoChecksums, BadSet, NotRepairable, RepairFailed, NotComplete, Memory}
 use Rattle.std.specs.Prelude.{List, Option}
-use Rattle.par2_origins.specs.Creates.{may_refuse}
+use Rattle.par2_laws.specs.Creates.{may_refuse}
 use Rattle.par2_printing.specs.declared.printer.Printer.{Printer}
 use Rattle.par2_tool.specs.Telling.{Telling, Answered, Failed, IsShown}
 

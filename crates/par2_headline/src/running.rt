@@ -12,8 +12,8 @@ ghost use Rattle.par2_spec.specs.Sessions.{history_of};
 ghost use Rattle.par2_spec.specs.Volumes.{all_slices};
 ghost use Rattle.par2_spec.specs.Stores.{Contents};
 ghost use Rattle.par2_folder.specs.Cuts.{Lasts};
-ghost use Rattle.par2_promises.specs.Premises.{IsTrueTo};
-ghost use Rattle.par2_origins.specs.Creates.{FollowsCreate, HaveAChoice};
+ghost use Rattle.par2_laws.specs.Premises.{IsTrueTo};
+ghost use Rattle.par2_laws.specs.Creates.{FollowsCreate, HaveAChoice};
 ghost use Rattle.par2_tool.specs.Asking.{AskFor};
 ghost use Rattle.par2_tool.specs.Calls.{IsHalfway};
 ghost use Rattle.par2_tool.specs.Holding.{IsOpening, IsSettled, TellsApartInRun};
@@ -23,12 +23,12 @@ ghost use Rattle.par2_tool.specs.Telling.{Telling, IsTold, IsShown, Leaves, Make
 ghost use Rattle.par2_headline.specs.Repairs.{AskForRepair};
 
 use par2_folder::FolderStore;
-use par2_origins::creates::{
+use par2_laws::creates::{
     created_files_not_repairable_have_a_choice, repair_gives_the_created_files_back,
     repair_of_created_files_is_refused_for_few_causes,
 };
 use par2_printing::Printer;
-use par2_promises::restored_files::{
+use par2_laws::restored_files::{
     accepted_repair_leaves_the_files, refused_repair_leaves_a_choice, repair_never_fails,
 };
 use par2_tool::{runs_keep_one_history, stores_open_in_one_way};

@@ -20,19 +20,19 @@ ghost use Rattle.par2_spec.specs.Plans.{changes_of};
 ghost use Rattle.par2_spec.specs.Texts.{step_of};
 ghost use Rattle.par2_spec.specs.Views.{action_of};
 ghost use Rattle.par2_spec.specs.declared.Fault.TheVariants.{Memory, NotRepairable, RepairFailed};
-ghost use Rattle.par2_promises.specs.Premises.{IsTrueTo, HoldsBytes};
-ghost use Rattle.par2_origins.specs.Creates.{FollowsCreate, HaveAChoice, may_refuse};
+ghost use Rattle.par2_laws.specs.Premises.{IsTrueTo, HoldsBytes};
+ghost use Rattle.par2_laws.specs.Creates.{FollowsCreate, HaveAChoice, may_refuse};
 
 use par2_journal::{Fault, Session, Steps};
-use par2_origins::creates::{
+use par2_laws::creates::{
     created_files_not_repairable_have_a_choice, repair_gives_the_created_files_back,
     repair_of_created_files_is_refused_for_few_causes,
 };
-use par2_promises::reading::{folder_is_that_of_the_set, set_is_of_the_base};
-use par2_promises::restored_files::{
+use par2_laws::reading::{folder_is_that_of_the_set, set_is_of_the_base};
+use par2_laws::restored_files::{
     accepted_repair_leaves_the_files, refused_repair_leaves_a_choice, repair_never_fails,
 };
-use par2_promises::written_files::written_files_are_as_described;
+use par2_laws::written_files::written_files_are_as_described;
 use par2_spec::Action;
 use par2_spec::repair_laws::{candidates_fit, repaired_folder_holds};
 use par2_spec::session_laws::{

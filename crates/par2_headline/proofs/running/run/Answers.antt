@@ -5,7 +5,7 @@ use Rattle.std.specs.FinMap as map_of
 use Rattle.std.proofs.lemmas.Bool.{false≢true}
 use Rattle.par2_spec.specs.Commands.{Repair, Undo}
 use Rattle.par2_spec.specs.Folders.{Folder}
-use Rattle.par2_origins.specs.Creates.{may_refuse}
+use Rattle.par2_laws.specs.Creates.{may_refuse}
 use Rattle.par2_tool.specs.Runs.{TakesEffect}
 use Rattle.par2_headline.specs.Repairs.{AskForRepair}
 use Rattle.par2_headline.proofs.Answers.{IsRefused, accepted_with_zero, effect_of, repair_refused, repaired, stopped_effect}

@@ -1,0 +1,11 @@
+use Rattle.std.proofs.lemmas.Bool.{both_ways}
+use Rattle.par2_spec.specs.Rank.{is_repairable}
+use Rattle.par2_spec.specs.Search.{known, lost, survivors}
+use Rattle.par2_laws.proofs.Causes.{unrepairable_by}
+use Rattle.par2_laws.proofs.refusals.lost_slices_are_not_determined.Goals as goal
+
+pub returns : goal.returns
+returns c folder set searched missing rank refused determined =
+    let slices = lost (known folder set searched) in
+    both_ways (is_repairable slices (survivors set)) (unrepairable_by folder set searched missing rank refused)
+    ((c.tests_say_the_words.ensures.repairable slices (survivors set)).1 determined)

@@ -1,0 +1,6 @@
+use Rattle.par2_laws.proofs.Survivals.{survivors_are}
+use Rattle.par2_laws.proofs.survivors.what_survives_is_texts.Goals as goal
+
+pub returns : goal.returns
+returns c folder base set searched held reads =
+    survivors_are folder base set searched (c.set_is_sound.ensures folder base set reads) held reads

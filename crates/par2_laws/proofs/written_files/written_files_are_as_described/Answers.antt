@@ -1,0 +1,26 @@
+use Rattle.std.proofs.Common.{◌≡◌, ◌∙◌, ℕ, List, length, sym}
+use Rattle.par2_spec.specs.Sets.{Target}
+use Rattle.par2_spec.specs.Search.{candidates, known, matches}
+use Rattle.par2_spec.specs.Names.{is_among}
+use Rattle.par2_spec.specs.Repairs.{rebuilt, rebuilt_targets, files_of_slices, names_without_match}
+use Rattle.par2_laws.specs.Slices.{kept_recovery}
+use Rattle.par2_laws.proofs.Agreements.{as_many_as_pairs}
+use Rattle.par2_laws.proofs.written_files.written_files_are_as_described.Goals as goal
+use Rattle.par2_spec.proofs.FoundLaws.{all-filter}
+
+pub returns-clause-lengths : goal.returns-clause-lengths
+unfolding rebuilt_targets
+returns-clause-lengths c folder base extras set held read =
+    let searched = candidates folder set extras in
+    let slices = known folder set searched in
+    let reads = c.set_is_of_the_base.ensures.set folder base extras set read in
+    let agrees = c.rebuilt_slices_agree_with_what_survives.ensures folder base set searched held reads in
+    let count = as_many_as_pairs folder set searched (kept_recovery set slices) (rebuilt set slices) agrees in
+    let sound = c.set_is_sound.ensures folder base set reads in
+    all-filter (λ (file : Target × List ℕ). length file.1 ≡ file.0.length) (λ file. is_among (names_without_match (matches folder set searched)) file.0.name)
+    (files_of_slices set (rebuilt set slices)) (c.written_files_have_their_length.ensures set (rebuilt set slices) sound count agrees.sizes)
+
+pub returns-clause-digests : goal.returns-clause-digests
+returns-clause-digests c folder base extras purge set read accepted =
+    c.accepted_repair_is_right.ensures.digests folder set (candidates folder set extras)
+    (sym (c.refusal_is_that_of_the_set.ensures.read folder base extras purge set read) ∙ accepted)

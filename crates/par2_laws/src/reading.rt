@@ -1,0 +1,72 @@
+//! Laws of what a repair reads: its set, or the fault for which it is refused.
+
+ghost use Rattle.std.specs.Prelude.{◌≡◌, ◌⊎◌, ℕ, Bool, true, false, List, IsTrue, IsFalse, Some, None, Ok, Err};
+ghost use Rattle.std.specs.List.{list_all};
+ghost use Rattle.par2_spec.specs.declared.Fault.{Fault};
+ghost use Rattle.par2_spec.specs.declared.Fault.TheVariants.{NoSuchFile};
+ghost use Rattle.par2_spec.specs.Folders.{Folder, has};
+ghost use Rattle.par2_spec.specs.Sets.{ParSet, set_of};
+ghost use Rattle.par2_spec.specs.Search.{candidates};
+ghost use Rattle.par2_spec.specs.Repairs.{after_repair, after_repair_and_purge};
+ghost use Rattle.par2_spec.specs.Commands.{Repair};
+ghost use Rattle.par2_spec.specs.Refusals.{set_in, repair_refusal, refusal, after};
+ghost use Rattle.par2_laws.specs.Faults.{is_of_reading};
+
+/// The set that is read is that of the base, and the further files are there.
+pub fn set_is_of_the_base()
+    ensures set { (folder : Folder) (base : List ℕ) (extras : List (List ℕ)) (set : ParSet)
+        → set_in folder base extras ≡ Ok set → set_of folder base ≡ Ok set }
+    ensures there { (folder : Folder) (base : List ℕ) (extras : List (List ℕ)) (set : ParSet)
+        → set_in folder base extras ≡ Ok set → IsTrue (list_all (has folder) extras) }
+{}
+
+/// The set of the base is read, unless a file is not there.
+pub fn set_of_the_base_is_read()
+    ensures { (folder : Folder) (base : List ℕ) (extras : List (List ℕ)) (set : ParSet)
+        → set_of folder base ≡ Ok set
+        → (set_in folder base extras ≡ Ok set)
+        ⊎ ((place : ℕ) × (set_in folder base extras ≡ Err (NoSuchFile place))) }
+{}
+
+/// A repair is refused as the set that it reads is, or where it reads none for that reason.
+pub fn refusal_is_that_of_the_set()
+    ensures read { (folder : Folder) (base : List ℕ) (extras : List (List ℕ)) (purge : Bool)
+        (set : ParSet) → set_in folder base extras ≡ Ok set
+        → refusal folder (Repair base extras purge)
+        ≡ repair_refusal folder set (candidates folder set extras) }
+    ensures unread { (folder : Folder) (base : List ℕ) (extras : List (List ℕ)) (purge : Bool)
+        (fault : Fault) → set_in folder base extras ≡ Err fault
+        → refusal folder (Repair base extras purge) ≡ Some fault }
+{}
+
+/// The folder after a repair of the set that is read.
+pub fn folder_is_that_of_the_set()
+    ensures repaired { (folder : Folder) (base : List ℕ) (extras : List (List ℕ)) (set : ParSet)
+        → set_in folder base extras ≡ Ok set
+        → after folder (Repair base extras false)
+        ≡ after_repair folder set (candidates folder set extras) }
+    ensures purged { (folder : Folder) (base : List ℕ) (extras : List (List ℕ)) (set : ParSet)
+        → set_in folder base extras ≡ Ok set
+        → after folder (Repair base extras true)
+        ≡ after_repair_and_purge folder set (candidates folder set extras) }
+{}
+
+/// Where no set is read, a file is not there, or a part of the set is absent or not in the profile.
+pub fn unread_set_has_a_fault_of_reading()
+    ensures { (folder : Folder) (base : List ℕ) (extras : List (List ℕ)) (fault : Fault)
+        → set_in folder base extras ≡ Err fault → IsTrue (is_of_reading fault) }
+{}
+
+/// So a repair that is accepted or refused for another fault has read a set.
+pub fn repair_has_read_its_set()
+    ensures accepted { (folder : Folder) (base : List ℕ) (extras : List (List ℕ)) (purge : Bool)
+        → refusal folder (Repair base extras purge) ≡ None
+        → (set : ParSet) × (set_in folder base extras ≡ Ok set) }
+    ensures refused { (folder : Folder) (base : List ℕ) (extras : List (List ℕ)) (purge : Bool)
+        (fault : Fault) → refusal folder (Repair base extras purge) ≡ Some fault
+        → IsFalse (is_of_reading fault)
+        → (set : ParSet) × (set_in folder base extras ≡ Ok set) }
+{
+    refusal_is_that_of_the_set();
+    unread_set_has_a_fault_of_reading();
+}

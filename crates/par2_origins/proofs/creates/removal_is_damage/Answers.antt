@@ -1,5 +1,0 @@
-use Rattle.par2_origins.proofs.Removals.{removal}
-use Rattle.par2_origins.proofs.creates.removal_is_damage.Goals as goal
-
-pub returns : goal.returns
-returns c before a base gone written stays = removal before a base gone written stays

@@ -1,3 +1,0 @@
-pub mod Packets
-pub mod Volumes
-pub mod Creates

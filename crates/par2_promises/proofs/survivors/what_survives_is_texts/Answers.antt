@@ -1,6 +1,0 @@
-use Rattle.par2_promises.proofs.Survivals.{survivors_are}
-use Rattle.par2_promises.proofs.survivors.what_survives_is_texts.Goals as goal
-
-pub returns : goal.returns
-returns c folder base set searched held reads =
-    survivors_are folder base set searched (c.set_is_sound.ensures folder base set reads) held reads

@@ -1,3 +1,0 @@
-pub mod Premises
-pub mod Slices
-pub mod Faults
