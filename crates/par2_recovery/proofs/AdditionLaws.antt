@@ -135,10 +135,9 @@ syndromes_added n words exponents slices recovery new e many sizes added = recor
         (λ i at. ap (λ x. mul x (word w (list_at slices i))) (sym (get_or-map-range_with_len (coefficient e) 0 n i i 0 (omega (arith, many, at)) (zero-add i))))
 
 -- the sums of products are recovery slices
-pub products_are : (n len : ℕ) (exponents numbers : List ℕ) (rows slices old new : List (List ℕ)) (places : List Place) → numbers ≡ range_with_len 0 n → rows ≡ map (coefficients numbers) exponents
-    → n ≡ length slices → length exponents ≡ length places
+pub products_are : (n len : ℕ) (exponents : List ℕ) (rows slices old new : List (List ℕ)) (places : List Place) → rows ≡ all_coefficients n exponents → n ≡ length slices → length exponents ≡ length places
     → AddsAt places len (λ t p. products n rows slices t p) old new → AddsAt places len (λ t p. recovered slices (get_or exponents t 0) p) old new
-products_are n len exponents numbers rows slices old new places are rows_are e many added =
+products_are n len exponents rows slices old new places rows_are e many added =
     adds_same places len (λ t p. products n rows slices t p) (λ t p. recovered slices (get_or exponents t 0) p) old new added
     (λ t p low _.
     ap (λ m. products m rows slices t p) e
@@ -147,9 +146,7 @@ products_are n len exponents numbers rows slices old new places are rows_are e m
   where
     entry : (t : ℕ) → t < length exponents → (k : ℕ) → k < length slices → get_or (list_at rows t) k 0 ≡ coefficient (get_or exponents t 0) k
     entry t low k here =
-        ap (λ xs. get_or (list_at xs t) k 0) rows_are
-        ∙ ap (λ xs. get_or xs k 0) (get_or-map (coefficients numbers) exponents t 0 [] low)
-        ∙ ap (λ xs. get_or (coefficients xs (get_or exponents t 0)) k 0) are
+        ap (λ xs. get_or (list_at xs t) k 0) rows_are ∙ ap (λ xs. get_or xs k 0) (row_at n exponents t low)
         ∙ get_or-map-range_with_len (coefficient (get_or exponents t 0)) 0 n k k 0 (omega (arith, e, here)) (zero-add k)
 
 pub same_exponents : (e f : ℕ → ℕ) (slices old new : List (List ℕ)) → ((t : ℕ) → t < length old → e t ≡ f t)

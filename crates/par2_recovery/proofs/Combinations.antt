@@ -20,6 +20,7 @@ use Rattle.par2_spec.proofs.WordLaws.{combination_words, word-lt}
 use Rattle.par2_recovery.specs.Products.{AreBytes}
 use Rattle.par2_transform.specs.Adding.{AddsToEach}
 use Rattle.par2_transform.specs.Columns.{recovered}
+use Rattle.par2_recovery.specs.Syndromes.{all_coefficients}
 use Rattle.par2_recovery.specs.Views.{texts_of, AreBlank}
 
 -- ---- padding
@@ -99,6 +100,16 @@ blank_texts s n texts are = record {
   each = λ r low. ap (λ xs. list_at xs r) are ∙ get_or-replicate n r (replicate s 0) [] low;
 }
 
+-- copies of a text of zeros
+pub blank_copies : (s n : ℕ) (zeros : Bor (List ℕ)) (texts : List (Bor (List ℕ))) → texts ≡ replicate n zeros → zeros.now ≡ replicate s 0 → AreBlank s n (texts_of texts)
+blank_copies s n zeros texts are are_zeros = record {
+  count = length-map texts (λ (t : Bor (List ℕ)). t.now) ∙ ap length are ∙ length-replicate n zeros;
+  each = λ r low.
+      ap (λ (ts : List (Bor (List ℕ))). list_at (texts_of ts) r) are
+      ∙ get_or-map (λ (t : Bor (List ℕ)). t.now) (replicate n zeros) r zeros [] (let e = length-replicate n zeros in omega (arith, low, e))
+      ∙ ap (λ (t : Bor (List ℕ)). t.now) (get_or-replicate n r zeros zeros low) ∙ are_zeros;
+}
+
 pub blank_word : (s p : ℕ) → word p (replicate s 0) ≡ 0
 blank_word s p = ap₂ (λ x y. x + 256 * y) (zeros_read s (2 * p)) (zeros_read s (2 * p + 1))
 
@@ -160,15 +171,14 @@ range-lt n i bound h some = elim (cases_lt i n) [
   | inr high ↦ (let e = get_or_past (range_with_len 0 n) i 0 (omega (arith, length-range_with_len 0 n)) in omega (arith, e))
 ]
 
-pub length-rows : (numbers exponents : List ℕ) (xs : List (Vec ℕ Global)) → lists_of xs ≡ map (coefficients numbers) exponents → length xs ≡ length exponents
-length-rows numbers exponents xs e = sym (length-map xs (λ (x : Vec ℕ Global). x.items)) ∙ ap length e ∙ length-map exponents (coefficients numbers)
+pub length-rows : (n : ℕ) (exponents : List ℕ) (xs : List (Vec ℕ Global)) → lists_of xs ≡ all_coefficients n exponents → length xs ≡ length exponents
+length-rows n exponents xs e = sym (length-map xs (λ (x : Vec ℕ Global). x.items)) ∙ ap length e ∙ length-map exponents (coefficients (range_with_len 0 n))
 
-pub rows_long : (n : ℕ) (numbers exponents : List ℕ) (lists : List (List ℕ)) → numbers ≡ range_with_len 0 n → lists ≡ map (coefficients numbers) exponents
-    → (r : ℕ) → r < length exponents → length (list_at lists r) ≡ n
-rows_long n numbers exponents lists are e r low =
+pub rows_long : (n : ℕ) (exponents : List ℕ) (lists : List (List ℕ)) → lists ≡ all_coefficients n exponents → (r : ℕ) → r < length exponents → length (list_at lists r) ≡ n
+rows_long n exponents lists e r low =
     ap (λ xs. length (list_at xs r)) e
-    ∙ ap length (get_or-map (coefficients numbers) exponents r 0 [] low)
-    ∙ length-map numbers (coefficient (get_or exponents r 0)) ∙ ap length are ∙ length-range_with_len 0 n
+    ∙ ap length (get_or-map (coefficients (range_with_len 0 n)) exponents r 0 [] low)
+    ∙ length-map (range_with_len 0 n) (coefficient (get_or exponents r 0)) ∙ length-range_with_len 0 n
 
 -- ---- the slices of files
 

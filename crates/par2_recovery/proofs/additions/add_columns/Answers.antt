@@ -1,5 +1,5 @@
 use Rattle.std.proofs.Common.{◌≡◌, ◌≤◌, ◌<◌, ◌-◌, ◌*◌, ◌∙◌, ℕ, List, Vec, Global, map, sym, ap, subst, arith, rules, length}
-use Rattle.std.proofs.lemmas.List.{length-map, length-replicate, with_items_is}
+use Rattle.std.proofs.lemmas.List.{length-replicate, with_items_is}
 use Rattle.par2_spec.specs.Sums.{list_at, lists_of}
 use Rattle.par2_spec.proofs.WordLaws.{length-lists_of}
 use Rattle.par2_recovery.specs.Products.{Adds}
@@ -7,6 +7,7 @@ use Rattle.par2_recovery.specs.Syndromes.{window}
 use Rattle.par2_recovery.specs.Views.{texts_of, AreBlank}
 use Rattle.par2_recovery.proofs.AdditionLaws.{sums_are}
 use Rattle.par2_recovery.proofs.Combinations.{length-texts_of, blank_room}
+use Rattle.par2_recovery.proofs.Solving.{many_windows}
 use Rattle.par2_recovery.proofs.additions.add_columns.Goals as goal
 
 pub add_products-requires-clause-rows : goal.add_products-requires-clause-rows
@@ -19,8 +20,7 @@ pub add_products-requires-clause-factors : goal.add_products-requires-clause-fac
 add_products-requires-clause-factors c = λ r h.
     let size : ℕ = 2 * (c.args.to - c.args.from) in
     let are : texts_of c.deref.result.now ≡ map (window (2 * c.args.from) size) (texts_of c.args.slices.now) = ap texts_of c.deref.ensures.value ∙ c.in_ok-windows.ensures in
-    let count : length c.deref.result.now ≡ length c.args.slices.now =
-    sym (length-texts_of c.deref.result.now) ∙ ap length are ∙ length-map (texts_of c.args.slices.now) (window (2 * c.args.from) size) ∙ length-texts_of c.args.slices.now in
+    let count = many_windows (2 * c.args.from) size c.args.slices.now c.deref.result.now are in
     let most = c.requires.factors r h in
     omega (arith, count, most)
 

@@ -1,17 +1,17 @@
-use Rattle.std.proofs.Common.{◌∙◌, [], ℕ, List, Vec, Global, map, sym, ap}
-use Rattle.std.proofs.lemmas.List.{map_more, take_all}
+use Rattle.std.proofs.Common.{◌≡◌, ◌<◌, ◌∙◌, sym, subst, arith, get_or, map}
+use Rattle.std.specs.List.{range_with_len}
+use Rattle.std.specs.Prelude.{IfOk}
 use Rattle.par2_spec.specs.Recovery.{coefficients}
 use Rattle.par2_spec.specs.Sums.{lists_of}
-use Rattle.par2_recovery.proofs.Combinations.{lists_push}
+use Rattle.par2_recovery.proofs.Combinations.{range-lt}
 use Rattle.par2_recovery.proofs.additions.coefficient_rows.Goals as goal
 
-pub loop-i-init : goal.loop-i-init
-loop-i-init c = ap (λ (xs : List (Vec ℕ Global)). lists_of xs) c.in_ok-rows.ensures.items
-
-pub loop-i-preserved : goal.loop-i-preserved
-loop-i-preserved c =
-    lists_push c.loop-i.rows.items c.in_ok-coefficients.field-0 c.in_ok-push.ensures.items c.loop-i.invariant c.in_ok-coefficients.ensures
-    ∙ sym (map_more (coefficients c.args.numbers.now) c.args.exponents.now c.loop-i.i 0 c.loop-i-test.true)
+pub rows_over-requires : goal.rows_over-requires
+rows_over-requires c = λ i.
+    let are : c.deref.result.now ≡ range_with_len 0 c.args.slices = c.deref.ensures.value ∙ c.in_ok-numbers.ensures in
+    subst (λ xs. get_or xs i 0 < 32768) (sym are) (range-lt c.args.slices i 32768 c.requires (omega arith))
 
 pub returns : goal.returns
-returns c = c.loop-i.invariant ∙ ap (map (coefficients c.args.numbers.now)) (take_all c.loop-i.i c.args.exponents.now c.loop-i-test.false)
+returns c =
+    let are : c.deref.result.now ≡ range_with_len 0 c.args.slices = c.deref.ensures.value ∙ c.in_ok-numbers.ensures in
+    subst (λ xs. IfOk c.rows_over.result (λ rows. lists_of rows.items ≡ map (coefficients xs) c.args.exponents.now)) are c.rows_over.ensures
