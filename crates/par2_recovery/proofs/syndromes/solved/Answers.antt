@@ -1,6 +1,5 @@
 use Rattle.std.proofs.Common.{◌≡◌, ◌≤◌, ◌+◌, ◌∙◌, refl, sym, ap, subst, arith, rules, length, map}
 use Rattle.std.proofs.lemmas.List.{with_items_is}
-use Rattle.std.proofs.lemmas.Result.{IfOk-from_err}
 use Rattle.par2_spec.specs.Sums.{list_at, lists_of}
 use Rattle.par2_spec.proofs.WordLaws.{length-lists_of}
 use Rattle.par2_recovery.specs.Syndromes.{window, all_coefficients, AreSolved, AreExtended}
@@ -87,18 +86,3 @@ pub returns : goal.returns
 returns c =
     let all : c.loop-from.from ≡ c.args.size = omega (arith, c.loop-from-test.false, c.loop-from.invariant.within) in
     subst (λ n. AreSolved n (lists_of c.args.inverse.now) (all_coefficients (length c.args.slices.now) c.args.exponents.now) (texts_of c.args.slices.now) (texts_of c.args.recovery.now) (lists_of c.loop-from.texts.items)) all c.loop-from.invariant.solved
-
-pub returns-in_err-texts : goal.returns-in_err-texts
-returns-in_err-texts c = IfOk-from_err _ _ c.from_residual.ensures.0
-
-pub returns-in_err-recovery : goal.returns-in_err-recovery
-returns-in_err-recovery c = IfOk-from_err _ _ c.from_residual-in_err-recovery.ensures.0
-
-pub returns-in_err-slices : goal.returns-in_err-slices
-returns-in_err-slices c = IfOk-from_err _ _ c.from_residual-in_err-slices.ensures.0
-
-pub returns-in_err-lost : goal.returns-in_err-lost
-returns-in_err-lost c = IfOk-from_err _ _ c.from_residual-in_err-lost.ensures.0
-
-pub returns-in_err-extend : goal.returns-in_err-extend
-returns-in_err-extend c = IfOk-from_err _ _ c.from_residual-in_err-extend.ensures.0

@@ -1,8 +1,0 @@
-use Rattle.std.proofs.lemmas.Result.{IfOk-from_err}
-use Rattle.par2_recovery.proofs.elements.row_of.Goals as goal
-
-pub returns-in_err-row : goal.returns-in_err-row
-returns-in_err-row c = IfOk-from_err _ _ c.from_residual.ensures.0
-
-pub returns-in_err-push : goal.returns-in_err-push
-returns-in_err-push c = IfOk-from_err _ _ c.from_residual-in_err-push.ensures.0
