@@ -15,8 +15,7 @@ ghost use Rattle.par2_recovery.specs.Views.{texts_of};
 
 use crate::elements::text_at;
 use crate::exponents::coefficients;
-use crate::products::{BLOCK, add_products, fit_lists, source_at};
-use crate::recovery::blank;
+use crate::products::{BLOCK, fit_lists, products_of, source_at};
 use crate::syndromes::windows;
 use par2_gf16::Gf;
 use par2_transform::{Places, add_recovery_slices_at, add_to_output, whole_texts};
@@ -158,8 +157,7 @@ fn add_columns(
     fit_output(texts, outputs);
     let size = 2 * (to - from);
     let windows = windows(alloc, slices, 2 * from, size)?;
-    let mut sums = blank(alloc, rows.len(), size)?;
-    add_products(alloc, gf, rows, &windows, sums.as_mut_slice(), to - from)?;
+    let sums = products_of(alloc, gf, rows, &windows, size)?;
     add_sums(gf, &sums, texts, outputs, from, to);
     Ok(())
 }

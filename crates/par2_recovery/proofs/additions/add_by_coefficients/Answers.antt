@@ -7,7 +7,7 @@ use Rattle.par2_transform.proofs.AddingLaws.{still_within}
 use Rattle.par2_recovery.specs.Products.{products}
 use Rattle.par2_recovery.specs.Syndromes.{all_coefficients}
 use Rattle.par2_recovery.specs.Views.{texts_of}
-use Rattle.par2_recovery.proofs.AdditionLaws.{products_are, no_columns_yet, next_columns, all_columns_added}
+use Rattle.par2_recovery.proofs.AdditionLaws.{products_are, columns_place, no_columns_yet, next_columns, all_columns_added}
 use Rattle.par2_recovery.proofs.Combinations.{length-texts_of, rows_long, length-rows}
 use Rattle.par2_recovery.proofs.additions.add_by_coefficients.Goals as goal
 
@@ -24,6 +24,25 @@ add_columns-requires-clause-factors c = λ r h.
 
 pub add_columns-requires-clause-room : goal.add_columns-requires-clause-room
 add_columns-requires-clause-room c = still_within c.args.outputs.now.places.now c.args.outputs.now.words c.args.outputs.now.words _ (lists_of c.args.texts.now) (lists_of c.loop-block.texts) c.loop-block.invariant c.requires.room
+
+pub add_columns-requires-clause-inside : goal.add_columns-requires-clause-inside
+add_columns-requires-clause-inside c =
+    (columns_place c.args.outputs.now.words c.sum_columns-columns.result c.loop-block.block c.div_ceil-block-end.result c.min.result c.sum_columns-columns.ensures c.div_ceil-block-end.ensures c.loop-block-test.true c.min.ensures).1
+
+pub overflow_mul-from : goal.overflow_mul-from
+overflow_mul-from c =
+    let low = slice_begins c.args.outputs.now.words c.sum_columns-columns.result c.loop-block.block (let some = c.sum_columns-columns.ensures in omega (arith, some)) (subst (λ n. c.loop-block.block < n) c.div_ceil-block-end.ensures c.loop-block-test.true) in
+    omega (arith, low)
+
+pub overflow_sub-words : goal.overflow_sub-words
+overflow_sub-words c =
+    let low = slice_begins c.args.outputs.now.words c.sum_columns-columns.result c.loop-block.block (let some = c.sum_columns-columns.ensures in omega (arith, some)) (subst (λ n. c.loop-block.block < n) c.div_ceil-block-end.ensures c.loop-block-test.true) in
+    omega (arith, low)
+
+pub overflow_add-to : goal.overflow_add-to
+overflow_add-to c =
+    let high = (columns_place c.args.outputs.now.words c.sum_columns-columns.result c.loop-block.block c.div_ceil-block-end.result c.min.result c.sum_columns-columns.ensures c.div_ceil-block-end.ensures c.loop-block-test.true c.min.ensures).1 in
+    omega (arith, high)
 
 pub loop-block-init : goal.loop-block-init
 loop-block-init c =
@@ -42,7 +61,7 @@ loop-block-preserved c =
     let k = c.loop-block.block in
     let from : ℕ = k * size in
     let to : ℕ = k * size + c.min.result in
-    let low : k * size < words = slice_begins words size k (omega (arith, some)) (subst (λ n. k < n) c.div_ceil-block-end.ensures c.loop-block-test.true) in
+    let low = (columns_place words size k c.div_ceil-block-end.result c.min.result some c.div_ceil-block-end.ensures c.loop-block-test.true c.min.ensures).0 in
     let place : k * size + c.min.result ≡ k * size + min size (words - k * size) = ap (λ n. k * size + n) c.min.ensures in
     let next : (k + 1) * size ≡ k * size + size = omega arith in
     let here : min words (k * size) ≡ k * size = omega (arith, low) in
