@@ -28,9 +28,9 @@ use Rattle.par2_recovery.specs.Elements.{AreRows, IsUnit}
 use Rattle.par2_recovery.specs.Inverses.{recovery_at, IsEliminated, IsInverse, identity}
 use Rattle.par2_recovery.specs.Products.{Adds, products}
 use Rattle.par2_recovery.specs.Survivors.{recovered_of}
-use Rattle.par2_recovery.specs.Views.{AreBlank}
+use Rattle.par2_recovery.specs.Views.{texts_of, AreBlank}
 use Rattle.par2_recovery.proofs.Dots.{combined}
-use Rattle.par2_recovery.proofs.Combinations.{coefficients-lt, blank_word, each_push}
+use Rattle.par2_recovery.proofs.Combinations.{coefficients-lt, blank_word, each_push, length-texts_of}
 
 -- ---- recovery slices
 
@@ -39,6 +39,9 @@ length-recovered_of recovery = length-map recovery (λ (r : ℕ × Bor (List ℕ
 
 pub length-slices : (recovery : List (ℕ × List ℕ)) → length (map (λ r. r.1) recovery) ≡ length recovery
 length-slices recovery = length-map recovery (λ (r : ℕ × List ℕ). r.1)
+
+pub many_texts : (kept : List (ℕ × Bor (List ℕ))) (texts : List (Bor (List ℕ))) → texts_of texts ≡ map (λ r. r.1) (recovered_of kept) → length texts ≡ length kept
+many_texts kept texts are = sym (length-texts_of texts) ∙ ap length are ∙ length-slices (recovered_of kept) ∙ length-recovered_of kept
 
 -- ---- sums
 

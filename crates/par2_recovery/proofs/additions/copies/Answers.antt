@@ -5,9 +5,6 @@ use Rattle.par2_recovery.specs.Views.{texts_of}
 use Rattle.par2_recovery.proofs.Combinations.{lists_push, length-texts_of}
 use Rattle.par2_recovery.proofs.additions.copies.Goals as goal
 
-pub loop-k-init : goal.loop-k-init
-loop-k-init c = ap (λ (xs : List (Vec ℕ Global)). lists_of xs) c.in_ok-copies.ensures.items
-
 pub loop-k-preserved : goal.loop-k-preserved
 loop-k-preserved c =
     let texts = texts_of c.args.texts.now in

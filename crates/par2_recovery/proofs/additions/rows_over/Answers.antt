@@ -5,9 +5,6 @@ use Rattle.par2_spec.specs.Sums.{lists_of}
 use Rattle.par2_recovery.proofs.Combinations.{lists_push}
 use Rattle.par2_recovery.proofs.additions.rows_over.Goals as goal
 
-pub loop-i-init : goal.loop-i-init
-loop-i-init c = ap (λ (xs : List (Vec ℕ Global)). lists_of xs) c.in_ok-rows.ensures.items
-
 pub loop-i-preserved : goal.loop-i-preserved
 loop-i-preserved c =
     lists_push c.loop-i.rows.items c.in_ok-coefficients.field-0 c.in_ok-push.ensures.items c.loop-i.invariant c.in_ok-coefficients.ensures

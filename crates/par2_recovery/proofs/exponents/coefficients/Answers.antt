@@ -3,9 +3,6 @@ use Rattle.std.proofs.lemmas.List.{map_more, take_all}
 use Rattle.par2_spec.specs.Field.{coefficient}
 use Rattle.par2_recovery.proofs.exponents.coefficients.Goals as goal
 
-pub loop-k-init : goal.loop-k-init
-loop-k-init c = c.in_ok-row.ensures.items
-
 pub loop-k-preserved : goal.loop-k-preserved
 loop-k-preserved c =
     c.in_ok-push.ensures.items ∙ ap₂ (λ (row : List ℕ) x. row ++ x ∷ []) c.loop-k.invariant c.coefficient.ensures

@@ -7,9 +7,6 @@ use Rattle.par2_recovery.proofs.Inverting.{length-recovered_of}
 use Rattle.par2_recovery.proofs.Combinations.{texts_push}
 use Rattle.par2_recovery.proofs.inverse.bytes_of.Goals as goal
 
-pub loop-j-init : goal.loop-j-init
-loop-j-init c = ap (λ (xs : List (Bor (List ℕ))). texts_of xs) c.in_ok-slices.ensures.items
-
 pub loop-j-preserved : goal.loop-j-preserved
 loop-j-preserved c =
     let recs = recovered_of c.args.kept.now in

@@ -4,9 +4,6 @@ use Rattle.par2_recovery.specs.Survivors.{recovered_of}
 use Rattle.par2_recovery.proofs.Inverting.{length-recovered_of}
 use Rattle.par2_recovery.proofs.inverse.exponents_of.Goals as goal
 
-pub loop-j-init : goal.loop-j-init
-loop-j-init c = c.in_ok-exponents.ensures.items
-
 pub loop-j-preserved : goal.loop-j-preserved
 loop-j-preserved c =
     let recs = recovered_of c.args.kept.now in

@@ -7,9 +7,6 @@ use Rattle.par2_recovery.specs.Views.{texts_of}
 use Rattle.par2_recovery.proofs.Combinations.{texts_push}
 use Rattle.par2_recovery.proofs.rebuild_slices.slices_or_none.Goals as goal
 
-pub loop-i-init : goal.loop-i-init
-loop-i-init c = ap (λ (xs : List (Bor (List ℕ))). texts_of xs) c.in_ok-slices.ensures.items
-
 pub loop-i-preserved : goal.loop-i-preserved
 loop-i-preserved c =
     texts_push c.loop-i.slices.items c.bytes_at.result c.in_ok-push.ensures.items c.loop-i.invariant c.bytes_at.ensures

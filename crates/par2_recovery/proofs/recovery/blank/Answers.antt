@@ -4,9 +4,6 @@ use Rattle.par2_recovery.specs.Views.{AreBlank}
 use Rattle.par2_recovery.proofs.Combinations.{blank_push, blank_texts}
 use Rattle.par2_recovery.proofs.recovery.blank.Goals as goal
 
-pub loop-i-init : goal.loop-i-init
-loop-i-init c = blank_texts c.args.size 0 (lists_of c.in_ok-texts.texts.items) (ap (λ (xs : List (Vec ℕ Global)). lists_of xs) c.in_ok-texts.ensures.items)
-
 pub loop-i-preserved : goal.loop-i-preserved
 loop-i-preserved c =
     rw c.in_ok-push.ensures.items (blank_push c.args.size c.loop-i._i c.loop-i.texts.items c.in_ok-vec.field-0 c.loop-i.invariant (c.in_ok-vec.ensures.items_if_clones_equal (λ y h. search rules)))

@@ -3,9 +3,6 @@ use Rattle.std.proofs.lemmas.List.{map_more, take_all}
 use Rattle.par2_spec.specs.Field.{constant}
 use Rattle.par2_recovery.proofs.run_inverse.constants.Goals as goal
 
-pub loop-k-init : goal.loop-k-init
-loop-k-init c = c.in_ok-points.ensures.items
-
 pub loop-k-preserved : goal.loop-k-preserved
 loop-k-preserved c =
     c.in_ok-push.ensures.items ∙ ap₂ (λ (points : List ℕ) x. points ++ x ∷ []) c.loop-k.invariant c.constant.ensures

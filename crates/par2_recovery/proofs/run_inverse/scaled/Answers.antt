@@ -3,9 +3,6 @@ use Rattle.std.proofs.lemmas.List.{map_more, take_all}
 use Rattle.par2_spec.specs.Field.{mul}
 use Rattle.par2_recovery.proofs.run_inverse.scaled.Goals as goal
 
-pub loop-a-init : goal.loop-a-init
-loop-a-init c = c.in_ok-multiple.ensures.items
-
 pub loop-a-preserved : goal.loop-a-preserved
 loop-a-preserved c =
     c.in_ok-push.ensures.items ∙ ap₂ (λ (multiple : List ℕ) x. multiple ++ x ∷ []) c.loop-a.invariant c.mul.ensures

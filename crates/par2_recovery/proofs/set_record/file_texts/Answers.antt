@@ -6,9 +6,6 @@ use Rattle.par2_spec.specs.Folders.{bytes_of}
 use Rattle.par2_recovery.proofs.Combinations.{texts_push}
 use Rattle.par2_recovery.proofs.set_record.file_texts.Goals as goal
 
-pub loop-i-init : goal.loop-i-init
-loop-i-init c = ap (λ (xs : List (Bor (List ℕ))). texts_of xs) c.in_ok-texts.ensures.items
-
 pub loop-i-preserved : goal.loop-i-preserved
 loop-i-preserved c =
     let bytes = bytes_of c.args.folder.now.files in

@@ -6,9 +6,6 @@ use Rattle.par2_recovery.specs.Views.{texts_of}
 use Rattle.par2_recovery.proofs.Combinations.{texts_push}
 use Rattle.par2_recovery.proofs.syndromes.borrowed.Goals as goal
 
-pub loop-text-init : goal.loop-text-init
-loop-text-init c = ap (λ (xs : List (Bor (List ℕ))). texts_of xs) c.in_ok-slices.ensures.items
-
 pub loop-text-preserved : goal.loop-text-preserved
 loop-text-preserved c =
     texts_push c.loop-text.slices.items c.as_slice.result c.in_ok-push.ensures.items c.loop-text.invariant (c.as_slice.ensures.value ∙ ap (λ (x : Vec ℕ Global). x.items) c.text-item.is)

@@ -6,9 +6,6 @@ use Rattle.par2_recovery.specs.Views.{texts_of}
 use Rattle.par2_recovery.proofs.Combinations.{texts_push, length-texts_of}
 use Rattle.par2_recovery.proofs.syndromes.windows.Goals as goal
 
-pub loop-k-init : goal.loop-k-init
-loop-k-init c = ap (λ (xs : List (Bor (List ℕ))). texts_of xs) c.in_ok-windows.ensures.items
-
 pub loop-k-preserved : goal.loop-k-preserved
 loop-k-preserved c =
     let texts = texts_of c.args.texts.now in
