@@ -1,7 +1,8 @@
 -- Recovery slices, added to texts, and the syndromes over all slices, of which a lost one has no bytes.
-use Rattle.std.proofs.Common.{inl, inr, ℕ, zero, suc, ◌+◌, ◌-◌, ◌*◌, ◌<◌, ◌≤◌, ◌≡◌, refl, sym, ap, ap₂, ◌∙◌, subst, arith, List, [], ◌∷◌, length, take, drop, get_or, map, bit_xor, zero-add}
+use Rattle.std.proofs.Common.{inl, inr, ℕ, zero, suc, ◌+◌, ◌-◌, ◌*◌, ◌<◌, ◌≤◌, ◌≡◌, refl, sym, ap, ap₂, ◌∙◌, subst, arith, List, [], ◌∷◌, length, take, drop, get_or, map, min, bit_xor, zero-add}
 use Rattle.std.specs.Prelude.{Option, Some, None}
 use Rattle.std.specs.Borrow.{Bor}
+use Rattle.std.specs.Int.{div_ceil}
 use Rattle.std.specs.List.{range_with_len}
 use Rattle.std.specs.Int.Bits.{xor_zero_l}
 use Rattle.std.proofs.lemmas.Bool.{cases_lt}
@@ -12,6 +13,7 @@ use Rattle.par2_spec.specs.Slices.{padded, word}
 use Rattle.par2_spec.specs.Recovery.{dot, coefficients, recovery}
 use Rattle.par2_spec.specs.Sums.{list_at}
 use Rattle.par2_spec.proofs.FieldOrder.{product-zero}
+use Rattle.par2_spec.proofs.FoundLaws.{slice_begins}
 use Rattle.par2_spec.proofs.FieldProducts.{product_comm, product-one}
 use Rattle.par2_spec.proofs.WordLaws.{word-lt}
 use Rattle.par2_spec.proofs.SumLaws.{field_sum_same, dot_sum, product_at}
@@ -23,7 +25,7 @@ use Rattle.par2_transform.proofs.GroupLaws.{length-group, adds_to_group}
 use Rattle.par2_recovery.specs.Inverses.{recovery_at}
 use Rattle.par2_recovery.specs.Products.{Adds, AreBytes, products}
 use Rattle.par2_recovery.specs.Survivors.{known_from, known_alone, bytes_or_none, sum_at}
-use Rattle.par2_recovery.specs.Syndromes.{all_coefficients, syndrome, window, AreSyndromes, AreSolved}
+use Rattle.par2_recovery.specs.Syndromes.{all_coefficients, syndrome, window, AreProducts, AreSyndromes, AreSolved}
 use Rattle.par2_recovery.specs.Views.{texts_of, AreBlank}
 use Rattle.par2_recovery.specs.Writing.{output_at, AreWritten, AreZeros}
 use Rattle.par2_recovery.proofs.Combinations.{blank_word, recovered_by_words}
@@ -135,10 +137,9 @@ syndromes_added n words exponents slices recovery new e many sizes added = recor
         (λ i at. ap (λ x. mul x (word w (list_at slices i))) (sym (get_or-map-range_with_len (coefficient e) 0 n i i 0 (omega (arith, many, at)) (zero-add i))))
 
 -- the sums of products are recovery slices
-pub products_are : (n len : ℕ) (exponents numbers : List ℕ) (rows slices old new : List (List ℕ)) (places : List Place) → numbers ≡ range_with_len 0 n → rows ≡ map (coefficients numbers) exponents
-    → n ≡ length slices → length exponents ≡ length places
+pub products_are : (n len : ℕ) (exponents : List ℕ) (rows slices old new : List (List ℕ)) (places : List Place) → rows ≡ all_coefficients n exponents → n ≡ length slices → length exponents ≡ length places
     → AddsAt places len (λ t p. products n rows slices t p) old new → AddsAt places len (λ t p. recovered slices (get_or exponents t 0) p) old new
-products_are n len exponents numbers rows slices old new places are rows_are e many added =
+products_are n len exponents rows slices old new places rows_are e many added =
     adds_same places len (λ t p. products n rows slices t p) (λ t p. recovered slices (get_or exponents t 0) p) old new added
     (λ t p low _.
     ap (λ m. products m rows slices t p) e
@@ -147,9 +148,7 @@ products_are n len exponents numbers rows slices old new places are rows_are e m
   where
     entry : (t : ℕ) → t < length exponents → (k : ℕ) → k < length slices → get_or (list_at rows t) k 0 ≡ coefficient (get_or exponents t 0) k
     entry t low k here =
-        ap (λ xs. get_or (list_at xs t) k 0) rows_are
-        ∙ ap (λ xs. get_or xs k 0) (get_or-map (coefficients numbers) exponents t 0 [] low)
-        ∙ ap (λ xs. get_or (coefficients xs (get_or exponents t 0)) k 0) are
+        ap (λ xs. get_or (list_at xs t) k 0) rows_are ∙ ap (λ xs. get_or xs k 0) (row_at n exponents t low)
         ∙ get_or-map-range_with_len (coefficient (get_or exponents t 0)) 0 n k k 0 (omega (arith, e, here)) (zero-add k)
 
 pub same_exponents : (e f : ℕ → ℕ) (slices old new : List (List ℕ)) → ((t : ℕ) → t < length old → e t ≡ f t)
@@ -202,20 +201,15 @@ all_sums places len from to n sums was texts is added =
     (λ t p low _. within-in 0 n t (sum_word from to sums t p) (omega arith) (omega (arith, low, is)))
 
 -- the sums are those of products of windows, which are parts of slices
-pub sums_are : (places : List Place) (len from to n m : ℕ) (rows slices windows zeros sums was texts : List (List ℕ)) → from ≤ to → windows ≡ map (window (2 * from) (2 * (to - from))) slices → n ≡ length slices
-    → m ≡ length windows → length rows ≡ length places → AreBlank (2 * (to - from)) (length rows) zeros → Adds rows windows zeros sums 0 (to - from) m → AddsAt places len (sum_word from to sums) was texts
-    → AddsAt places len (λ t p. within from to p (products n rows slices t p)) was texts
-sums_are places len from to n m rows slices windows zeros sums was texts order are n_is m_is many blank made added =
+pub sums_are : (places : List Place) (len from to n : ℕ) (rows slices windows sums was texts : List (List ℕ)) → from ≤ to → windows ≡ map (window (2 * from) (2 * (to - from))) slices → n ≡ length slices
+    → length rows ≡ length places → AreProducts (2 * (to - from)) rows windows sums → AddsAt places len (sum_word from to sums) was texts → AddsAt places len (λ t p. within from to p (products n rows slices t p)) was texts
+sums_are places len from to n rows slices windows sums was texts order are n_is many made added =
     adds_same places len (sum_word from to sums) (λ t p. within from to p (products n rows slices t p)) was texts added
     (λ t p low _. within_same from to p (word (p - from) (list_at sums t)) (products n rows slices t p) (λ p_low p_high.
     let q : ℕ = p - from in
-    let in_rows : t < length rows = omega (arith, many, low) in
-    let size : length (list_at zeros t) ≡ 2 * (to - from) = ap length (blank.each t in_rows) ∙ length-replicate {A = ℕ} (2 * (to - from)) 0 in
     let fits : 2 * q + 1 < 2 * (to - from) = omega (arith, p_low, p_high) in
-    made.inside t q (omega (arith, blank.count, in_rows)) (omega arith) (omega (arith, p_low, p_high)) (omega (arith, size, fits))
-    ∙ ap (λ x. bit_xor x (products m rows windows t q)) (ap (word q) (blank.each t in_rows) ∙ blank_word (2 * (to - from)) q)
-    ∙ xor_zero_l (products m rows windows t q)
-    ∙ ap (λ k. products k rows windows t q) (m_is ∙ ap length are ∙ length-map slices (window (2 * from) (2 * (to - from))))
+    made.words t q (omega (arith, many, low)) fits
+    ∙ ap (λ k. products k rows windows t q) (ap length are ∙ length-map slices (window (2 * from) (2 * (to - from))))
     ∙ field_sum_same (length slices) (λ k. mul (get_or (list_at rows t) k 0) (word q (list_at windows k))) (λ k. mul (get_or (list_at rows t) k 0) (word p (list_at slices k)))
     (λ k here. ap (mul (get_or (list_at rows t) k 0))
     (ap (λ xs. word q (list_at xs k)) are ∙ ap (word q) (get_or-map (window (2 * from) (2 * (to - from))) slices k [] [] here)
@@ -229,6 +223,10 @@ ColumnsAdded places len n other was texts = AddsAt places len (λ t p. within 0 
 
 pub no_columns_yet : (places : List Place) (len n : ℕ) (other : ℕ → ℕ → ℕ) (texts : List (List ℕ)) → n ≡ 0 → ColumnsAdded places len n other texts texts
 no_columns_yet places len n other texts none = adds_none places len (λ t p. within 0 n p (other t p)) texts (λ t p. within-above 0 n p (other t p) (omega (arith, none)))
+
+-- a run of columns begins before the words end, and ends no later than they do
+pub columns_place : (words columns k n m : ℕ) → 1 ≤ columns → n ≡ div_ceil words columns → k < n → m ≡ min columns (words - k * columns) → (k * columns < words) × (k * columns + m ≤ words)
+columns_place words columns k n m some is h size = let low = slice_begins words columns k (omega (arith, some)) (subst (λ x. k < x) is h) in (low, omega (arith, low, size))
 
 pub next_columns : (places : List Place) (len at from to next : ℕ) (other : ℕ → ℕ → ℕ) (was half texts : List (List ℕ)) → at ≡ from → to ≡ next → from ≤ to → ColumnsAdded places len at other was half
     → AddsAt places len (λ t p. within from to p (other t p)) half texts → ColumnsAdded places len next other was texts

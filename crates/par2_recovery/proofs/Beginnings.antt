@@ -178,13 +178,8 @@ lost_rise a (None ∷ known) (suc k) h =
 
 -- ---- the recovery slices of the run
 
-pub first_push : (recovery before : List (ℕ × Bor (List ℕ))) (slice : ℕ × Bor (List ℕ)) (i : ℕ) → i < length recovery → recovered_of before ≡ take i (recovered_of recovery)
-    → slice.0 ≡ (get_or (recovered_of recovery) i (0, [])).0 → slice.1.now ≡ (get_or (recovered_of recovery) i (0, [])).1 → recovered_of (before ++ slice ∷ []) ≡ take (i + 1) (recovered_of recovery)
-first_push recovery before slice i low is exponent bytes =
-    let recs = recovered_of recovery in
-    map-append (λ (r : ℕ × Bor (List ℕ)). (r.0, r.1.now)) before (slice ∷ [])
-    ∙ ap₂ (λ xs x. xs ++ x ∷ []) is (ap₂ (λ a b. (a, b)) exponent bytes)
-    ∙ sym (take_more recs i (0, []) (let long = length-recovered_of recovery in omega (arith, long, low)))
+pub recovered_front : (recovery first : List (ℕ × Bor (List ℕ))) (n : ℕ) → first ≡ take n recovery → recovered_of first ≡ take n (recovered_of recovery)
+recovered_front recovery first n is = ap (λ (rs : List (ℕ × Bor (List ℕ))). recovered_of rs) is ∙ sym (take-map (λ (r : ℕ × Bor (List ℕ)). (r.0, r.1.now)) n recovery)
 
 -- the exponents of the first ones are the run
 pub exponents_front : (recovery first : List (ℕ × Bor (List ℕ))) (f n : ℕ) → BeginsWithRun f n (exponents_of recovery) → recovered_of first ≡ take n (recovered_of recovery) → exponents_of first ≡ range_with_len f n

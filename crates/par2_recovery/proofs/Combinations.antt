@@ -1,11 +1,11 @@
 -- From added products to recovery slices.
 use Rattle.std.proofs.lemmas.Bool.{cases_lt}
-use Rattle.std.proofs.Common.{◌⊎◌, inl, inr, ℕ, zero, suc, ◌+◌, ◌-◌, ◌*◌, ◌%◌, ◌<◌, ◌≤◌, ◌≡◌, refl, sym, ap, ap₂, ◌∙◌, subst, arith, List, [], ◌∷◌, ◌++◌, length, get_or, map, replicate, bit_xor, Vec, Global, length-append}
+use Rattle.std.proofs.Common.{inl, inr, ℕ, zero, suc, ◌+◌, ◌-◌, ◌*◌, ◌%◌, ◌<◌, ◌≤◌, ◌≡◌, refl, sym, ap, ap₂, ◌∙◌, subst, arith, List, [], ◌∷◌, ◌++◌, length, get_or, map, replicate, bit_xor, Vec, Global}
 use Rattle.std.specs.Borrow.{Bor}
 use Rattle.std.specs.List.{range_with_len}
 use Rattle.std.specs.Int.Bits.{xor_zero_l}
 use Rattle.std.proofs.Common.{append_assoc, zero-add}
-use Rattle.std.proofs.lemmas.List.{ext_get_or, get_or-map, get_or-replicate, length-map, map-append, get_or_append_left, get_or_at, get_or_past, length-replicate}
+use Rattle.std.proofs.lemmas.List.{ext_get_or, get_or-map, get_or-replicate, length-map, length_push, map-append, map_push, get_or_append_left, get_or_push, get_or_past, length-replicate}
 use Rattle.std.proofs.lemmas.List.FromFn.{map-range_with_len_more, get_or-map-range_with_len, length-map-range_with_len, length-range_with_len, get_or-range_with_len}
 use Rattle.par2_spec.specs.Field.{mul, coefficient}
 use Rattle.std.specs.Prelude.{take, drop}
@@ -20,6 +20,7 @@ use Rattle.par2_spec.proofs.WordLaws.{combination_words, word-lt}
 use Rattle.par2_recovery.specs.Products.{AreBytes}
 use Rattle.par2_transform.specs.Adding.{AddsToEach}
 use Rattle.par2_transform.specs.Columns.{recovered}
+use Rattle.par2_recovery.specs.Syndromes.{all_coefficients}
 use Rattle.par2_recovery.specs.Views.{texts_of, AreBlank}
 
 -- ---- padding
@@ -64,27 +65,49 @@ dot_padded-lt s row lists p h small bytes =
 
 -- ---- recovery slices
 
-pub blank_push : (s n : ℕ) (xs : List (Vec ℕ Global)) (v : Vec ℕ Global) → AreBlank s n (lists_of xs) → v.items ≡ replicate s 0 → AreBlank s (n + 1) (lists_of (xs ++ v ∷ []))
-blank_push s n xs v so_far is =
-    subst (λ lists. AreBlank s (n + 1) lists) (sym (map-append (λ (x : Vec ℕ Global). x.items) xs (v ∷ [])))
-    (record {
-      count = length-append (lists_of xs) (v.items ∷ []) ∙ ap (λ m. m + 1) so_far.count;
-      each = λ r h. each (lists_of xs) so_far.count r h so_far.each;
-    })
-  where
-    apart : (r m : ℕ) → r < m + 1 → (r < m) ⊎ (r ≡ m)
-    apart r m h = elim (cases_lt r m) [ inl low ↦ inl low | inr high ↦ inr (omega arith) ]
+-- one text more
+pub texts_push : (xs : List (Bor (List ℕ))) (x : Bor (List ℕ)) {new : List (Bor (List ℕ))} {before : List (List ℕ)} {text : List ℕ} → new ≡ xs ++ x ∷ [] → texts_of xs ≡ before → x.now ≡ text
+    → texts_of new ≡ before ++ text ∷ []
+texts_push xs x pushed so_far is =
+    ap (λ (ts : List (Bor (List ℕ))). texts_of ts) pushed ∙ map_push (λ (t : Bor (List ℕ)). t.now) xs x ∙ ap₂ (λ (ts : List (List ℕ)) t. ts ++ t ∷ []) so_far is
 
-    each : (lists : List (List ℕ)) → length lists ≡ n → (r : ℕ) → r < n + 1 → ((q : ℕ) → q < n → list_at lists q ≡ replicate s 0) → list_at (lists ++ v.items ∷ []) r ≡ replicate s 0
-    each lists e r h before = elim (apart r n h) [
-      | inl low ↦ get_or_append_left lists (v.items ∷ []) [] r (omega arith) ∙ before r low
-      | inr same ↦ ap (λ m. list_at (lists ++ v.items ∷ []) m) same ∙ get_or_at lists v.items [] [] n e ∙ is
+-- one list more
+pub lists_push : (xs : List (Vec ℕ Global)) (x : Vec ℕ Global) {new : List (Vec ℕ Global)} {before : List (List ℕ)} {list : List ℕ} → new ≡ xs ++ x ∷ [] → lists_of xs ≡ before → x.items ≡ list
+    → lists_of new ≡ before ++ list ∷ []
+lists_push xs x pushed so_far is =
+    ap (λ (vs : List (Vec ℕ Global)). lists_of vs) pushed ∙ map_push (λ (v : Vec ℕ Global). v.items) xs x ∙ ap₂ (λ (ls : List (List ℕ)) l. ls ++ l ∷ []) so_far is
+
+-- what each of n lists is, each of one more is
+pub each_push : (P : ℕ → List ℕ → Type 0) (xs : List (Vec ℕ Global)) (x : Vec ℕ Global) (n : ℕ) → length (lists_of xs) ≡ n → ((r : ℕ) → r < n → P r (list_at (lists_of xs) r)) → P n x.items
+    → (length (lists_of (xs ++ x ∷ [])) ≡ n + 1) × ((r : ℕ) → r < n + 1 → P r (list_at (lists_of (xs ++ x ∷ [])) r))
+each_push P xs x n count each here =
+    rw (map_push (λ (v : Vec ℕ Global). v.items) xs x) (length_push (lists_of xs) x.items ∙ ap (λ m. m + 1) count, all)
+  where
+    all : (r : ℕ) → r < n + 1 → P r (list_at (lists_of xs ++ x.items ∷ []) r)
+    all r h = elim (cases_lt r n) [
+      | inl low ↦ subst (P r) (sym (get_or_append_left (lists_of xs) (x.items ∷ []) [] r (omega (arith, low, count)))) (each r low)
+      | inr high ↦
+          let last : n ≡ r = omega (arith, h, high) in
+          subst (λ m. P m (list_at (lists_of xs ++ x.items ∷ []) m)) last (subst (P n) (sym (get_or_push (lists_of xs) x.items [] n count)) here)
     ]
+
+pub blank_push : (s n : ℕ) (xs : List (Vec ℕ Global)) (v : Vec ℕ Global) → AreBlank s n (lists_of xs) → v.items ≡ replicate s 0 → AreBlank s (n + 1) (lists_of (xs ++ v ∷ []))
+blank_push s n xs v so_far is = let all = each_push (λ _ text. text ≡ replicate s 0) xs v n so_far.count so_far.each is in record { count = all.0; each = all.1 }
 
 pub blank_texts : (s n : ℕ) (texts : List (List ℕ)) → texts ≡ replicate n (replicate s 0) → AreBlank s n texts
 blank_texts s n texts are = record {
   count = ap length are ∙ length-replicate n (replicate s 0);
   each = λ r low. ap (λ xs. list_at xs r) are ∙ get_or-replicate n r (replicate s 0) [] low;
+}
+
+-- copies of a text of zeros
+pub blank_copies : (s n : ℕ) (zeros : Bor (List ℕ)) (texts : List (Bor (List ℕ))) → texts ≡ replicate n zeros → zeros.now ≡ replicate s 0 → AreBlank s n (texts_of texts)
+blank_copies s n zeros texts are are_zeros = record {
+  count = length-map texts (λ (t : Bor (List ℕ)). t.now) ∙ ap length are ∙ length-replicate n zeros;
+  each = λ r low.
+      ap (λ (ts : List (Bor (List ℕ))). list_at (texts_of ts) r) are
+      ∙ get_or-map (λ (t : Bor (List ℕ)). t.now) (replicate n zeros) r zeros [] (let e = length-replicate n zeros in omega (arith, low, e))
+      ∙ ap (λ (t : Bor (List ℕ)). t.now) (get_or-replicate n r zeros zeros low) ∙ are_zeros;
 }
 
 pub blank_word : (s p : ℕ) → word p (replicate s 0) ≡ 0
@@ -148,15 +171,14 @@ range-lt n i bound h some = elim (cases_lt i n) [
   | inr high ↦ (let e = get_or_past (range_with_len 0 n) i 0 (omega (arith, length-range_with_len 0 n)) in omega (arith, e))
 ]
 
-pub length-rows : (numbers exponents : List ℕ) (xs : List (Vec ℕ Global)) → lists_of xs ≡ map (coefficients numbers) exponents → length xs ≡ length exponents
-length-rows numbers exponents xs e = sym (length-map xs (λ (x : Vec ℕ Global). x.items)) ∙ ap length e ∙ length-map exponents (coefficients numbers)
+pub length-rows : (n : ℕ) (exponents : List ℕ) (xs : List (Vec ℕ Global)) → lists_of xs ≡ all_coefficients n exponents → length xs ≡ length exponents
+length-rows n exponents xs e = sym (length-map xs (λ (x : Vec ℕ Global). x.items)) ∙ ap length e ∙ length-map exponents (coefficients (range_with_len 0 n))
 
-pub rows_long : (n : ℕ) (numbers exponents : List ℕ) (lists : List (List ℕ)) → numbers ≡ range_with_len 0 n → lists ≡ map (coefficients numbers) exponents
-    → (r : ℕ) → r < length exponents → length (list_at lists r) ≡ n
-rows_long n numbers exponents lists are e r low =
+pub rows_long : (n : ℕ) (exponents : List ℕ) (lists : List (List ℕ)) → lists ≡ all_coefficients n exponents → (r : ℕ) → r < length exponents → length (list_at lists r) ≡ n
+rows_long n exponents lists e r low =
     ap (λ xs. length (list_at xs r)) e
-    ∙ ap length (get_or-map (coefficients numbers) exponents r 0 [] low)
-    ∙ length-map numbers (coefficient (get_or exponents r 0)) ∙ ap length are ∙ length-range_with_len 0 n
+    ∙ ap length (get_or-map (coefficients (range_with_len 0 n)) exponents r 0 [] low)
+    ∙ length-map (range_with_len 0 n) (coefficient (get_or exponents r 0)) ∙ length-range_with_len 0 n
 
 -- ---- the slices of files
 

@@ -1,5 +1,5 @@
 -- The inverse of the equations of the kept exponents.
-use Rattle.std.proofs.Common.{inl, inr, ℕ, zero, suc, ◌+◌, ◌*◌, ◌/◌, ◌%◌, ◌<◌, ◌≤◌, ◌≡◌, ◌≢◌, refl, sym, ap, ap₂, ◌∙◌, arith, Bool, true, false, cond, eqb, List, [], ◌∷◌, length, get_or, map, subst, bit_xor, zero-add}
+use Rattle.std.proofs.Common.{inl, inr, ℕ, zero, suc, ◌+◌, ◌*◌, ◌/◌, ◌%◌, ◌<◌, ◌≤◌, ◌≡◌, ◌≢◌, refl, sym, ap, ap₂, ◌∙◌, arith, Bool, true, false, cond, eqb, List, [], ◌∷◌, ◌++◌, Vec, Global, length, get_or, map, subst, bit_xor, zero-add}
 use Rattle.std.specs.Borrow.{Bor}
 use Rattle.std.specs.Int.Bits.{xor_self, xor_zero_l}
 use Rattle.std.specs.List.{AllByRecursion, Contains, range_with_len}
@@ -13,7 +13,7 @@ use Rattle.par2_spec.specs.Field.{mul, coefficient}
 use Rattle.par2_spec.specs.Slices.{word}
 use Rattle.par2_spec.specs.Recovery.{dot, coefficients}
 use Rattle.par2_spec.specs.Rank.{IsVector, kept}
-use Rattle.par2_spec.specs.Sums.{field_sum, list_at, AreElements}
+use Rattle.par2_spec.specs.Sums.{field_sum, list_at, lists_of, AreElements}
 use Rattle.par2_spec.proofs.ExistLaws.{IsSolved, solved}
 use Rattle.par2_spec.proofs.FieldOrder.{product-zero, zero-product}
 use Rattle.par2_spec.proofs.FieldProducts.{product_linear_right, product_comm, product-one, product-lt}
@@ -21,15 +21,16 @@ use Rattle.par2_spec.proofs.ListsLaws.{all_at, all_from, all_get}
 use Rattle.par2_spec.proofs.SumLaws.{field_sum_same, field_sum_xor, field_sum_one, field_sum-lt, dot_sum, product_at, xor_same}
 use Rattle.par2_spec.proofs.UniqueLaws.{coefficients_are, dot-lt, words_are}
 use Rattle.par2_spec.proofs.WordLaws.{bytes_at, combination_words, word-lt}
+use Rattle.par2_matrix.specs.Echelon.{Spells}
 use Rattle.par2_matrix.specs.Systems as systems
 use Rattle.par2_matrix.specs.Systems.{Equations, OnlyZeroIsKilled, IsTheSolution}
 use Rattle.par2_recovery.specs.Elements.{AreRows, IsUnit}
 use Rattle.par2_recovery.specs.Inverses.{recovery_at, IsEliminated, IsInverse, identity}
 use Rattle.par2_recovery.specs.Products.{Adds, products}
 use Rattle.par2_recovery.specs.Survivors.{recovered_of}
-use Rattle.par2_recovery.specs.Views.{AreBlank}
+use Rattle.par2_recovery.specs.Views.{texts_of, AreBlank}
 use Rattle.par2_recovery.proofs.Dots.{combined}
-use Rattle.par2_recovery.proofs.Combinations.{coefficients-lt, blank_word}
+use Rattle.par2_recovery.proofs.Combinations.{coefficients-lt, blank_word, each_push, length-texts_of}
 
 -- ---- recovery slices
 
@@ -38,6 +39,9 @@ length-recovered_of recovery = length-map recovery (λ (r : ℕ × Bor (List ℕ
 
 pub length-slices : (recovery : List (ℕ × List ℕ)) → length (map (λ r. r.1) recovery) ≡ length recovery
 length-slices recovery = length-map recovery (λ (r : ℕ × List ℕ). r.1)
+
+pub many_texts : (kept : List (ℕ × Bor (List ℕ))) (texts : List (Bor (List ℕ))) → texts_of texts ≡ map (λ r. r.1) (recovered_of kept) → length texts ≡ length kept
+many_texts kept texts are = sym (length-texts_of texts) ∙ ap length are ∙ length-slices (recovered_of kept) ∙ length-recovered_of kept
 
 -- ---- sums
 
@@ -282,3 +286,8 @@ gives_back lost all es inverse made w s is are up kept_are made_is j low =
         field_sum_same n (λ m. mul (get_or (list_at inverse i) m 0) (a m k)) (λ m. mul (get_or (list_at inverse i) m 0) (coefficient (get_or es m 0) (get_or lost k 0)))
         (λ m hm. ap (mul (get_or (list_at inverse i) m 0)) (get_or-map (coefficient (get_or es m 0)) lost k 0 0 hk))
         ∙ is.product i k hi hk
+
+-- the elements of one text more
+pub rows_push : (texts : List (List ℕ)) (rows : List (Vec ℕ Global)) (row : Vec ℕ Global) (r : ℕ) → AreRows (lists_of rows) texts r → Spells row.items (list_at texts r) (length row.items)
+    → AreRows (lists_of (rows ++ row ∷ [])) texts (r + 1)
+rows_push texts rows row r are is = let all = each_push (λ q row. Spells row (list_at texts q) (length row)) rows row r are.count are.each is in record { count = all.0; each = all.1 }

@@ -26,15 +26,6 @@ record_push s folder names i xs x name bytes low en eb so_far is =
     ∙ ap (map (record_of s)) (sym (map-append (λ (n : List ℕ). (n, bytes_of folder n)) (take i names) (get_or names i [] ∷ [])))
     ∙ ap (λ ns. map (record_of s) (files_of folder ns)) (sym (take_more names i [] low))
 
--- the bytes of one file more
-pub text_push : (folder : Folder) (names : List (List ℕ)) (i : ℕ) (xs new : List (Bor (List ℕ))) (x : Bor (List ℕ)) (name : List ℕ) → i < length names → name ≡ get_or names i [] → x.now ≡ bytes_of folder name
-    → new ≡ xs ++ x ∷ [] → texts_of xs ≡ map (bytes_of folder) (take i names) → texts_of new ≡ map (bytes_of folder) (take (i + 1) names)
-text_push folder names i xs new x name low en eb pushed so_far =
-    ap texts_of pushed
-    ∙ map-append (λ (t : Bor (List ℕ)). t.now) xs (x ∷ [])
-    ∙ ap₂ (λ (ts : List (List ℕ)) (t : List ℕ). ts ++ t ∷ []) so_far (eb ∙ ap (bytes_of folder) en)
-    ∙ sym (ap (map (bytes_of folder)) (take_more names i [] low) ∙ map-append (bytes_of folder) (take i names) (get_or names i [] ∷ []))
-
 -- the digest of the file of a name
 pub digest_at_name : (folder : Folder) (names md5s : List (List ℕ)) (i : ℕ) (d : List ℕ) → md5s ≡ map md5 (map (bytes_of folder) names) → i < length names
     → get_or md5s i d ≡ md5 (bytes_of folder (get_or names i []))

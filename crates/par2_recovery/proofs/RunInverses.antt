@@ -1,10 +1,9 @@
 -- The scaled quotients by the constants of the lost slices are the inverse of the equations of a run.
-use Rattle.std.proofs.Common.{ℕ, zero, suc, ◌+◌, ◌^◌, ◌<◌, ◌≡◌, ◌≢◌, sym, ap, ap₂, ◌∙◌, subst, arith, List, [], ◌∷◌, ◌++◌, length, length-append, get_or, Vec, Global, map, bit_xor, cond, inl, inr}
+use Rattle.std.proofs.Common.{ℕ, zero, suc, ◌+◌, ◌^◌, ◌<◌, ◌≡◌, ◌≢◌, sym, ap, ap₂, ◌∙◌, subst, arith, List, [], ◌∷◌, ◌++◌, length, get_or, Vec, Global, map, bit_xor, cond, inl, inr}
 use Rattle.std.proofs.lemmas.Bool.{cases_lt, cases_eq, eq-eqb, ne_eqb}
 use Rattle.std.proofs.lemmas.List.FromFn.{length-range_with_len, get_or-range_with_len}
 use Rattle.std.proofs.lemmas.Bool.Decides.{Decides-eqb}
-use Rattle.std.proofs.lemmas.List.{length-map, get_or-map, get_or_append_left, map-append}
-use Rattle.std.proofs.Math.Seq.{get_or-append_seam}
+use Rattle.std.proofs.lemmas.List.{length-map, get_or-map}
 use Rattle.std.proofs.lemmas.List.Elements.{Contains-get_or}
 use Rattle.std.proofs.lemmas.List.Kept.{AllPairs-from_increasing}
 use Rattle.std.proofs.lemmas.Map.Made.{IsDistinct-from_AllPairs}
@@ -19,9 +18,9 @@ use Rattle.par2_spec.proofs.FieldProducts.{product_assoc, product_comm, product_
 use Rattle.par2_spec.proofs.ListsLaws.{all_get, all-each}
 use Rattle.par2_spec.proofs.PolynomialLaws.{value-lt, value_times, with_roots_elements, length-with_roots, quotient_elements, length-quotient, times_elements, quotient_others, quotient_itself}
 use Rattle.par2_spec.proofs.SumLaws.{field_sum_same, field_sum_head}
-use Rattle.par2_spec.proofs.WordLaws.{length-lists_of}
 use Rattle.par2_recovery.specs.Inverses.{IsInverse}
 use Rattle.par2_recovery.specs.RunInverses.{IsScaledQuotient, AreScaledQuotients}
+use Rattle.par2_recovery.proofs.Combinations.{each_push}
 
 -- ---- the sum over a run is a value
 
@@ -115,22 +114,7 @@ scaled_is f c b p row hc hb h inverse is =
 -- one more row
 pub scaled_push : (f : ℕ) (p points : List ℕ) (rows : List (Vec ℕ Global)) (row : Vec ℕ Global) (n : ℕ) → AreScaledQuotients f p points (lists_of rows) n
     → IsScaledQuotient f (get_or points n 0) p row.items → AreScaledQuotients f p points (lists_of (rows ++ row ∷ [])) (n + 1)
-scaled_push f p points rows row n are is = record {
-  count = length-lists_of (rows ++ row ∷ []) ∙ length-append rows (row ∷ []) ∙ ap (λ m. m + 1) (sym (length-lists_of rows) ∙ are.count);
-  each = λ j h. elim (cases_lt j n) as (λ _. IsScaledQuotient f (get_or points j 0) p (list_at (lists_of (rows ++ row ∷ [])) j)) [
-    | inl low ↦ subst (IsScaledQuotient f (get_or points j 0) p)
-        (sym (ap (λ xs. list_at xs j) all ∙ get_or_append_left (lists_of rows) (row.items ∷ []) [] j (omega (arith, low, are.count)))) (are.each j low)
-    | inr high ↦
-        let last : n ≡ j = omega (arith, h, high) in
-        let there : length (lists_of rows) ≡ j = are.count ∙ last in
-        subst (IsScaledQuotient f (get_or points j 0) p)
-        (sym (ap (λ xs. list_at xs j) all ∙ ap (λ k. list_at (lists_of rows ++ row.items ∷ []) k) (sym there) ∙ get_or-append_seam (lists_of rows) row.items [] []))
-        (subst (λ k. IsScaledQuotient f (get_or points k 0) p row.items) last is)
-  ];
-}
-  where
-    all : lists_of (rows ++ row ∷ []) ≡ lists_of rows ++ row.items ∷ []
-    all = map-append (λ (x : Vec ℕ Global). x.items) rows (row ∷ [])
+scaled_push f p points rows row n are is = let all = each_push (λ j row. IsScaledQuotient f (get_or points j 0) p row) rows row n are.count are.each is in record { count = all.0; each = all.1 }
 
 row_elements : (c factor : ℕ) (points : List ℕ) → c < 2 ^ 16 → factor < 2 ^ 16 → AreElements points → AreElements (times factor (quotient c (with_roots points)))
 row_elements c factor points hc small h = times_elements factor (quotient c (with_roots points)) small (quotient_elements c (with_roots points) hc (with_roots_elements points h))

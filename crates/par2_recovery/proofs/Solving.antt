@@ -1,5 +1,6 @@
 -- The lost slices by their syndromes, one block of columns after the other.
 use Rattle.std.proofs.Common.{inl, inr, ℕ, ◌+◌, ◌-◌, ◌*◌, ◌/◌, ◌%◌, ◌<◌, ◌≤◌, ◌≡◌, refl, sym, ap, ap₂, ◌∙◌, subst, arith, List, [], ◌++◌, length, length-append, get_or, map, bit_xor}
+use Rattle.std.specs.Borrow.{Bor}
 use Rattle.std.specs.Prelude.{drop}
 use Rattle.std.proofs.lemmas.Bool.{cases_eq, cases_lt}
 use Rattle.std.proofs.lemmas.List.{get_or-take, get_or-drop, get_or-map, get_or_append_left, get_or-append_right, length-map, length-replicate, length-take-le, length-drop}
@@ -9,8 +10,8 @@ use Rattle.par2_spec.specs.Sums.{field_sum, list_at, OneChanged}
 use Rattle.par2_spec.proofs.SumLaws.{field_sum_same}
 use Rattle.par2_recovery.specs.Products.{Adds}
 use Rattle.par2_recovery.specs.Syndromes.{window, syndrome, AreSyndromes, AreProducts, AreSolved, AreExtended}
-use Rattle.par2_recovery.specs.Views.{AreBlank}
-use Rattle.par2_recovery.proofs.Combinations.{blank_bytes}
+use Rattle.par2_recovery.specs.Views.{texts_of, AreBlank}
+use Rattle.par2_recovery.proofs.Combinations.{blank_bytes, length-texts_of}
 use Rattle.par2_recovery.proofs.Inverting.{from_zeros}
 
 -- ---- windows
@@ -24,6 +25,9 @@ word-window from n p t q e low =
   where
     byte : (k m : ℕ) → k < n → from + k ≡ m → get_or (window from n t) k 0 ≡ get_or t m 0
     byte k m here same = get_or-take n (drop from t) k 0 here ∙ get_or-drop from t k 0 ∙ ap (λ i. get_or t i 0) same
+
+pub many_windows : (from n : ℕ) (texts windows : List (Bor (List ℕ))) → texts_of windows ≡ map (window from n) (texts_of texts) → length windows ≡ length texts
+many_windows from n texts windows are = sym (length-texts_of windows) ∙ ap length are ∙ length-map (texts_of texts) (window from n) ∙ length-texts_of texts
 
 pub window_size : (from n size : ℕ) (texts windows : List (List ℕ)) → windows ≡ map (window from n) texts → ((j : ℕ) → j < length texts → length (list_at texts j) ≡ size) → from + n ≤ size
     → (j : ℕ) → j < length windows → length (list_at windows j) ≡ n

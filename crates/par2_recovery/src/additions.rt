@@ -10,13 +10,12 @@ ghost use Rattle.par2_transform.specs.Adding.{within, AddsAt, AddsToEach, HaveWo
 ghost use Rattle.par2_transform.specs.Columns.{recovered};
 ghost use Rattle.par2_recovery.specs.Answers.{AddsRecovery, HaveAll, HaveAtLeast, LieIn};
 ghost use Rattle.par2_recovery.specs.Products.{products};
-ghost use Rattle.par2_recovery.specs.Syndromes.{AreRun};
+ghost use Rattle.par2_recovery.specs.Syndromes.{all_coefficients, AreRun};
 ghost use Rattle.par2_recovery.specs.Views.{texts_of};
 
 use crate::elements::text_at;
 use crate::exponents::coefficients;
-use crate::products::{BLOCK, add_products, fit_lists, source_at};
-use crate::recovery::blank;
+use crate::products::{BLOCK, fit_lists, products_of, source_at};
 use crate::syndromes::windows;
 use par2_gf16::Gf;
 use par2_transform::{Places, add_recovery_slices_at, add_to_output, whole_texts};
@@ -70,7 +69,7 @@ pub(crate) fn numbers_from(alloc: Global, first: u32, count: u32) -> Result<Vec<
 }
 
 // For each exponent, what it multiplies the slices of these numbers by.
-fn coefficient_rows(
+fn rows_over(
     alloc: Global,
     gf: &Gf,
     numbers: &[u32],
@@ -84,6 +83,20 @@ fn coefficient_rows(
         rows.push(coefficients(alloc, gf, numbers, exponents[i])?)?;
     }
     Ok(rows)
+}
+
+// For each exponent, what it multiplies the first `slices` input slices by.
+fn coefficient_rows(
+    alloc: Global,
+    gf: &Gf,
+    slices: usize,
+    exponents: &[u32],
+) -> Result<Vec<Vec<u16>>, AllocError>
+    requires { slices ≤ 32768 }
+    ensures { IfOk result (λ rows. lists_of rows.items ≡ all_coefficients slices exponents.now) }
+{
+    let numbers = numbers_from(alloc, 0, slices as u32)?;
+    rows_over(alloc, gf, &numbers, exponents)
 }
 
 // To each output, adds the text at its place, in some columns.
@@ -144,8 +157,7 @@ fn add_columns(
     fit_output(texts, outputs);
     let size = 2 * (to - from);
     let windows = windows(alloc, slices, 2 * from, size)?;
-    let mut sums = blank(alloc, rows.len(), size)?;
-    add_products(alloc, gf, rows, &windows, sums.as_mut_slice(), to - from)?;
+    let sums = products_of(alloc, gf, rows, &windows, size)?;
     add_sums(gf, &sums, texts, outputs, from, to);
     Ok(())
 }
@@ -167,8 +179,7 @@ fn add_by_coefficients(
     requires room { LieIn outputs.now texts.old }
     ensures { OnOk result (AddsRecovery outputs.now slices.now exponents.now texts.old texts.new) }
 {
-    let numbers = numbers_from(alloc, 0, slices.len() as u32)?;
-    let rows = coefficient_rows(alloc, gf, &numbers, exponents)?;
+    let rows = coefficient_rows(alloc, gf, slices.len(), exponents)?;
     let words = outputs.words;
     let columns = sum_columns(slices.len(), exponents.len(), room);
     for block in 0..words.div_ceil(columns) {

@@ -10,7 +10,7 @@ ghost use Rattle.par2_recovery.specs.Inverses.{IsInverse};
 ghost use Rattle.par2_recovery.specs.RunInverses.{BeginsWithRun};
 ghost use Rattle.par2_recovery.specs.Survivors.{exponents_of, recovered_of, IsTrueFault};
 
-use crate::inverse::{Inversion, invert_by_elimination, recovery_at};
+use crate::inverse::{Inversion, invert_by_elimination};
 use crate::rebuild_slices::RebuildFault;
 use crate::run_inverse::run_inverse;
 use par2_gf16::Gf;
@@ -43,23 +43,6 @@ fn run_at_front(recovery: &[(u32, &[u8])], count: usize) -> Option<u32>
     }
 }
 
-// The first recovery slices.
-fn first_of<'a>(
-    alloc: Global,
-    recovery: &[(u32, &'a [u8])],
-    count: usize,
-) -> Result<Vec<(u32, &'a [u8])>, AllocError>
-    requires { count ≤ length recovery.now }
-    ensures { IfOk result (λ kept. recovered_of kept.items
-        ≡ take count (recovered_of recovery.now)) }
-{
-    let mut kept = Vec::with_capacity(alloc, count)?;
-    for i in 0..count {
-        kept.push(recovery_at(recovery, i))?;
-    }
-    Ok(kept)
-}
-
 // The kept exponents and their inverse, where the first ones are a run of as many as slices are lost: these are kept.
 fn invert_run<'a>(
     alloc: Global,
@@ -75,7 +58,7 @@ fn invert_run<'a>(
     ensures inverse { IfOk result (HasInverse lost.now) }
     ensures enough { IsOk result → IsRepairable lost.now (exponents_of recovery.now) }
 {
-    let kept = first_of(alloc, recovery, lost.len())?;
+    let kept = Vec::from_slice(alloc, &recovery[..lost.len()])?;
     let inverse = run_inverse(alloc, gf, lost, first)?;
     Ok(Inversion { kept, inverse })
 }

@@ -1,13 +1,15 @@
 //! Sums of products of factors and texts.
 
-ghost use Rattle.std.specs.Prelude.{◌≡◌, ℕ, ◌+◌, ◌*◌, ◌^◌, ◌<◌, ◌≤◌, length, slice_index, IfOk};
+ghost use Rattle.std.specs.Prelude.{◌≡◌, ℕ, ◌+◌, ◌*◌, ◌%◌, ◌^◌, ◌<◌, ◌≤◌, length, slice_index, IfOk};
 ghost use Rattle.par2_gf16.specs.Steps.{AddsWithin};
 ghost use Rattle.par2_spec.specs.Sums.{OneChanged, list_at, lists_of};
 ghost use Rattle.par2_recovery.specs.Answers.{HaveAtLeast, HaveItem};
 ghost use Rattle.par2_recovery.specs.Products.{AddsSource, Adds, AreBytes};
+ghost use Rattle.par2_recovery.specs.Syndromes.{AreProducts};
 ghost use Rattle.par2_recovery.specs.Views.{texts_of};
 
 use crate::elements::text_at;
+use crate::recovery::blank;
 use par2_gf16::{Columns, Factor, Gf};
 use std::alloc::{AllocError, Global};
 
@@ -158,6 +160,24 @@ pub(crate) fn add_products(
         add_columns(alloc, gf, factors, sources, targets, from, to)?;
     }
     Ok(())
+}
+
+/// The sums of the sources, each times its factor in a row, of so many bytes: one for each row.
+pub(crate) fn products_of(
+    alloc: Global,
+    gf: &Gf,
+    factors: &[Vec<u16>],
+    sources: &[&[u8]],
+    size: usize,
+) -> Result<Vec<Vec<u8>>, AllocError>
+    requires factors { HaveAtLeast (length sources.now) factors.now }
+    requires even { size % 2 ≡ 0 }
+    ensures { IfOk result (λ sums. AreProducts size (lists_of factors.now) (texts_of sources.now)
+        (lists_of sums.items)) }
+{
+    let mut sums = blank(alloc, factors.len(), size)?;
+    add_products(alloc, gf, factors, sources, sums.as_mut_slice(), size / 2)?;
+    Ok(sums)
 }
 
 /// What the type says of each byte of each text, for proofs.

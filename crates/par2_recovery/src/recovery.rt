@@ -34,17 +34,6 @@ pub(crate) fn blank(alloc: Global, count: usize, size: usize) -> Result<Vec<Vec<
     Ok(texts)
 }
 
-// The same text, so many times.
-fn repeated(alloc: Global, text: &[u8], count: u32) -> Result<Vec<&[u8]>, AllocError>
-    ensures { IfOk result (λ texts. texts_of texts.items ≡ replicate count text.now) }
-{
-    let mut texts = Vec::with_capacity(alloc, count as usize)?;
-    for _i in 0..count {
-        texts.push(text)?;
-    }
-    Ok(texts)
-}
-
 /// The recovery slices of `count` exponents from `first` on over slices of `size` bytes. Zeros follow a slice that is
 /// shorter, as [`input_slices`] answers the last ones of files.
 pub fn recovery_slices_over(
@@ -64,7 +53,7 @@ pub fn recovery_slices_over(
     fit_texts(slices);
     let exponents = numbers_from(alloc, first, count)?;
     let zeros = vec![in alloc; 0u8; size]?;
-    let texts = repeated(alloc, &zeros, count)?;
+    let texts = vec![in alloc; zeros.as_slice(); count as usize]?;
     let room = rows_room(slices);
     let sums = with_recovery_slices(alloc, gf, slices, size / 2, &exponents, &texts, room)?;
     fit_lists(&sums);

@@ -10,8 +10,7 @@ ghost use Rattle.par2_recovery.specs.Views.{texts_of, AreBlank};
 
 use crate::additions::with_recovery_slices;
 use crate::elements::text_at;
-use crate::products::{add_products, source_at};
-use crate::recovery::blank;
+use crate::products::{products_of, source_at};
 use crate::room::{columns_at_once, rows_room};
 use par2_gf16::Gf;
 use par2_slices::window_bytes;
@@ -70,9 +69,7 @@ fn inverse_times(
         (lists_of texts.now) (lists_of sums.items)) }
 {
     let sources = borrowed(alloc, texts)?;
-    let mut sums = blank(alloc, inverse.len(), size)?;
-    add_products(alloc, gf, inverse, &sources, sums.as_mut_slice(), size / 2)?;
-    Ok(sums)
+    products_of(alloc, gf, inverse, &sources, size)
 }
 
 // The lost slices of these columns: the inverse times the syndromes.

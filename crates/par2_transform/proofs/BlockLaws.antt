@@ -1,6 +1,7 @@
 -- Blocks of outputs, one after the other.
 use Rattle.std.proofs.Common.{inl, inr, ℕ, ◌+◌, ◌*◌, ◌<◌, ◌≡◌, ◌≢◌, refl, sym, ap, ap₂, subst, ◌∙◌, arith, bit_xor, List, [], ◌∷◌, ◌++◌, length, get_or, length-append}
-use Rattle.std.proofs.lemmas.List.{get_or_append_left, get_or_at}
+use Rattle.std.proofs.lemmas.List.{get_or_append_left, get_or_at, get_or_default, get_or-set_other, get_or-set_same, length-set}
+use Rattle.std.proofs.Math.ListN.{set}
 use Rattle.par2_spec.specs.Field.{mul}
 use Rattle.par2_transform.specs.Grids.{Grid, column, IsAdded}
 use Rattle.std.proofs.lemmas.Bool.{cases_eq, cases_lt}
@@ -10,6 +11,18 @@ use Rattle.par2_transform.specs.Blocks.{Outputs, IsBlock, AreBlocks, RowsGathere
 use Rattle.par2_transform.specs.Transforms.{Cut}
 use Rattle.par2_transform.specs.declared.outputs.Place.{Place}
 use Rattle.par2_transform.proofs.AddingLaws.{adds_none, adds_next}
+
+-- what is read at any default is a block
+pub is_block_at : (blocks : List Outputs) (j : ℕ) (block : Outputs) → j < length blocks → get_or blocks j block ≡ block_at blocks j
+is_block_at blocks j block low = get_or_default blocks j block _ low
+
+-- a block is set
+pub one_set : (relation : Outputs → Outputs → Type 0) (blocks : List Outputs) (j : ℕ) (block new : Outputs) → j < length blocks → relation (get_or blocks j block) new → OneBecomes relation j blocks (set blocks j new)
+one_set relation blocks j block new low is = record {
+  count = length-set blocks j new;
+  here = subst (relation (block_at blocks j)) (sym (get_or-set_same blocks j new _ low)) (subst (λ b. relation b new) (is_block_at blocks j block low) is);
+  others = λ i other. get_or-set_other blocks j i new _ other;
+}
 
 pub none_becomes : (relation : Outputs → Outputs → Type 0) (blocks : List Outputs) → BlocksBecome relation 0 blocks blocks
 none_becomes relation blocks = record { count = refl; done = λ j h. absurd (omega arith); rest = λ j h. refl }

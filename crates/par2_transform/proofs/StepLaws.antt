@@ -33,6 +33,10 @@ shifted i h =
 pub double_power : (i : ℕ) → 2 ^ suc i ≡ 2 ^ i + 2 ^ i
 double_power i = let double : 2 ^ suc i ≡ 2 ^ i * 2 = pow-suc 2 i in omega arith
 
+-- the same rows of as many levels
+pub rows_within : {x n m : ℕ} → m ≡ n → x ≤ 2 ^ n → x ≤ 2 ^ m
+rows_within e h = rw e h
+
 -- a half of a run and a lower power, as shifts compute them
 pub shifts : (i j : ℕ) → i < 16 → j < i
     → (1 * 2 ^ i % 18446744073709551616 ≡ 2 ^ i) × (1 * 2 ^ j % 18446744073709551616 ≡ 2 ^ j) × (2 ^ j + 2 ^ j ≤ 2 ^ i) × (2 ^ suc i ≡ 2 ^ i + 2 ^ i)

@@ -1,8 +1,8 @@
 -- What is added to texts, whole and in two parts.
-use Rattle.std.proofs.Common.{ℕ, ◌+◌, ◌-◌, ◌*◌, ◌/◌, ◌%◌, ◌<◌, ◌≤◌, ◌≡◌, inl, inr, sym, ap, ap₂, ◌∙◌, arith, List, ◌++◌, length, get_or, take, drop, bit_xor}
+use Rattle.std.proofs.Common.{ℕ, ◌+◌, ◌-◌, ◌*◌, ◌/◌, ◌%◌, ◌<◌, ◌≤◌, ◌≡◌, inl, inr, sym, ap, ap₂, ◌∙◌, arith, List, ◌++◌, length, get_or, min, take, drop, bit_xor}
 use Rattle.std.specs.Int.Bits.{xor_zero_r}
 use Rattle.std.proofs.lemmas.Bool.{cases_lt}
-use Rattle.std.proofs.lemmas.List.{get_or_append_left, get_or-append_right, get_or-take, get_or-drop, length-append}
+use Rattle.std.proofs.lemmas.List.{get_or_append_left, get_or-append_right, get_or_past, get_or-take, get_or-drop, length-append, length-take-le}
 use Rattle.par2_spec.specs.Slices.{word}
 use Rattle.par2_gf16.proofs.WordLaws.{word_xor}
 use Rattle.par2_transform.specs.Adding.{within, AddsTo}
@@ -87,3 +87,13 @@ added_front f from to n text front back new whole at apart added = record {
   where
     source : (q : ℕ) → word q back ≡ word (from + q) text
     source q = ap (λ m. word m back) (let e : q ≡ from + q - from = omega arith in e) ∙ sym (word_back front back from (from + q) at (omega arith)) ∙ ap (word (from + q)) whole
+
+-- ---- a text that is copied, and zeros after it
+
+pub padded_copy : (text front back : List ℕ) (n m : ℕ) → n ≡ min (length text) m → front ≡ take n text → ((k : ℕ) → get_or back k 0 ≡ 0) → (k : ℕ) → k < m → get_or (front ++ back) k 0 ≡ get_or text k 0
+padded_copy text front back n m count is zeros k h =
+    let size : length front ≡ n = ap length is ∙ length-take-le n text (omega (arith, count)) in
+    elim (cases_lt k n) [
+      | inl low ↦ get_or_append_left front back 0 k (omega (arith, size, low)) ∙ ap (λ xs. get_or xs k 0) is ∙ get_or-take n text k 0 low
+      | inr high ↦ get_or-append_right front back n k 0 size high ∙ zeros (k - n) ∙ sym (get_or_past text k 0 (omega (arith, count, high)))
+    ]

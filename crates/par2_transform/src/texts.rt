@@ -32,8 +32,9 @@ pub(crate) fn copy_padded(text: &[u8], to: &mut [u8])
     ensures same { (k : ℕ) → k < length to.old → slice_index to.new k ≡ slice_index text.now k }
 {
     let count = text.len().min(to.len());
-    to[..count].copy_from_slice(&text[..count]);
-    clear(&mut to[count..]);
+    let (front, back) = to.split_at_mut(count);
+    front.copy_from_slice(&text[..count]);
+    clear(back);
 }
 
 // To each byte of `dst`, adds the byte of `src`.

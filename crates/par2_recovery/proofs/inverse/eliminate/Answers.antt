@@ -18,7 +18,7 @@ loop-i-preserved c =
     elim c.match-branch-3.branch [
       | in-Kept+in_ok-push-in-Kept w ↦
           let is : c.offer_unit.result ≡ Ok Kept = c.in_ok-offer_unit.was ∙ ap Ok w.in-Kept.is in
-          let pushed : w.push.new.self.items ≡ c.loop-i.kept.items ++ c.recovery_at-slice.result ∷ [] = search rules in
+          let pushed : w.push.new.self.items ≡ c.loop-i.kept.items ++ c.recovery_at-slice.result ∷ [] = w.in_ok-push-in-Kept.ensures.items in
           kept_turn lost recs c.loop-i.i c.loop-i.system c.offer_unit.new.system c.loop-i.kept.items c.match-branch-3.kept.items c.recovery_at-slice.result c.requires.exponents low
           (ap (λ (x : Vec (ℕ × Bor (List ℕ)) Global). x.items) w.kept-is ∙ pushed) c.recovery_at-slice.ensures.exponent c.recovery_at-slice.ensures.bytes c.loop-i.invariant c.offer_unit.ensures.columns c.offer_unit.ensures.bytes (c.offer_unit.ensures.kept is) (c.offer_unit.ensures.told is)
       | in-Dependent w ↦

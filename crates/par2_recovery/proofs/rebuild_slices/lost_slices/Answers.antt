@@ -1,4 +1,4 @@
-use Rattle.std.proofs.Common.{ℕ, ◌≡◌, ◌<◌, ◌∙◌, [], List, sym, ap, subst, arith, length, map}
+use Rattle.std.proofs.Common.{ℕ, ◌≡◌, ◌<◌, ◌≤◌, ◌∙◌, [], List, sym, ap, subst, arith, length, map}
 use Rattle.std.proofs.lemmas.List.{get_or-map, length-map}
 use Rattle.std.proofs.lemmas.Result.{IfOk-weaker}
 use Rattle.par2_spec.specs.Recovery.{coefficients}
@@ -10,7 +10,7 @@ use Rattle.par2_recovery.specs.Syndromes.{all_coefficients, AreSolved}
 use Rattle.par2_recovery.specs.Views.{texts_of}
 use Rattle.par2_recovery.proofs.AdditionLaws.{known_solved, known_bytes}
 use Rattle.par2_recovery.proofs.Combinations.{length-texts_of}
-use Rattle.par2_recovery.proofs.Inverting.{length-slices}
+use Rattle.par2_recovery.proofs.Inverting.{length-recovered_of, length-slices, many_texts}
 use Rattle.par2_recovery.proofs.rebuild_slices.lost_slices.Goals as goal
 
 pub solved-requires-clause-size : goal.solved-requires-clause-size
@@ -50,3 +50,25 @@ returns-clause-known c =
     IfOk-weaker c.solved.result (λ texts. AreSolved c.args.survivors.now.slice (lists_of c.args.inverse.now) (all_coefficients (length c.deref-6.result.now) c.deref-4.result.now) (texts_of c.deref-6.result.now)
     (texts_of c.deref-5.result.now) (lists_of texts.items))
     (λ _. AreBytes (texts_of (known_alone raw))) (λ texts are. known_bytes raw (subst AreBytes slices_are c.fit_texts-2.ensures)) c.solved.ensures
+
+pub solved-requires-clause-inverse : goal.solved-requires-clause-inverse
+solved-requires-clause-inverse c = λ r h.
+    subst (λ n. n ≤ length (list_at (lists_of c.args.inverse.now) r)) (sym (many_texts c.args.kept.now c.deref-5.result.now (ap texts_of c.deref-5.ensures.value ∙ c.in_ok-recovery.ensures))) (c.requires.inverse r h)
+
+pub solved-requires-clause-exponents : goal.solved-requires-clause-exponents
+solved-requires-clause-exponents c =
+    ap length (c.deref-4.ensures.value ∙ c.in_ok-exponents.ensures) ∙ length-map (recovered_of c.args.kept.now) (λ (r : ℕ × List ℕ). r.0) ∙ length-recovered_of c.args.kept.now
+    ∙ sym (many_texts c.args.kept.now c.deref-5.result.now (ap texts_of c.deref-5.ensures.value ∙ c.in_ok-recovery.ensures))
+
+pub solved-requires-clause-count : goal.solved-requires-clause-count
+solved-requires-clause-count c =
+    let raw = c.args.survivors.now.known.items in
+    let slices_are : texts_of c.deref-6.result.now ≡ map bytes_or_none raw = ap texts_of c.deref-6.ensures.value ∙ c.in_ok-slices.ensures ∙ ap (map bytes_or_none) c.deref.ensures.value in
+    subst (λ n. n ≤ 32768) (sym (sym (length-texts_of c.deref-6.result.now) ∙ ap length slices_are ∙ length-map raw bytes_or_none)) c.requires.count
+
+pub returns-clause-found : goal.returns-clause-found
+returns-clause-found c =
+    let are : texts_of c.deref-2.result.now ≡ map (λ r. r.1) (recovered_of c.args.kept.now) = ap texts_of c.deref-2.ensures.value ∙ c.in_ok-recovery.ensures in
+    IfOk-weaker c.solved.result (λ texts. AreSolved c.args.survivors.now.slice (lists_of c.args.inverse.now) (all_coefficients (length c.deref-6.result.now) c.deref-4.result.now) (texts_of c.deref-6.result.now)
+    (texts_of c.deref-5.result.now) (lists_of texts.items))
+    (λ _. AreBytes (map (λ r. r.1) (recovered_of c.args.kept.now))) (λ texts _. subst AreBytes are c.fit_texts.ensures) c.solved.ensures

@@ -28,7 +28,7 @@ loop-j-preserved c =
     let p = c.in_ok-p.p.items in
     let points = c.as_slice-points.result.now in
     let row = c.in_ok-inverse_row.field-0 in
-    let pushed : c.push.new.self.items ≡ c.loop-j.rows.items ++ row ∷ [] = search rules in
+    let pushed : c.push.new.self.items ≡ c.loop-j.rows.items ++ row ∷ [] = c.in_ok-push.ensures.items in
     let is : IsScaledQuotient f (get_or points j 0) p row.items = subst (λ q. IsScaledQuotient f (get_or points j 0) q row.items) c.deref.ensures.value c.in_ok-inverse_row.ensures in
     subst (λ xs. AreScaledQuotients f p points (lists_of xs) (j + 1)) (sym pushed) (scaled_push f p points c.loop-j.rows.items row j c.loop-j.invariant is)
 

@@ -7,7 +7,7 @@ loop-a-preserved c =
     let p = c.args.p.now in
     let i = c.loop-a.a-index in
     let so_far = c.loop-a.invariant in
-    let pushed : c.push.new.self.items ≡ c.loop-a.product.items ++ bit_xor c.mul.result c.loop-a.before ∷ [] = search rules in
+    let pushed : c.push.new.self.items ≡ c.loop-a.product.items ++ bit_xor c.mul.result c.loop-a.before ∷ [] = c.in_ok-push.ensures.items in
     let more = coefficients_push c.args.c p c.loop-a.product.items c.mul.result c.loop-a.before i so_far.count so_far.each c.mul.ensures so_far.last in
     record {
       count = ap length pushed ∙ more.0;
@@ -19,6 +19,6 @@ pub returns : goal.returns
 returns c =
     let p = c.args.p.now in
     let so_far = c.loop-a.invariant in
-    let pushed : c.push-2.new.self.items ≡ c.loop-a.product.items ++ c.loop-a.before ∷ [] = search rules in
+    let pushed : c.push-2.new.self.items ≡ c.loop-a.product.items ++ c.loop-a.before ∷ [] = c.in_ok-push-2.ensures.items in
     let at_end : c.loop-a.a-index ≡ length p = omega (arith, c.loop-a-test.false, c.loop-a.auto.a-index-end) in
     pushed ∙ times_root_whole c.args.c p c.loop-a.product.items c.loop-a.before c.loop-a.a-index at_end so_far.count so_far.each so_far.last

@@ -19,7 +19,7 @@ file_record_by_md5-requires-clause-digest c =
 
 pub loop-i-preserved : goal.loop-i-preserved
 loop-i-preserved c =
-    let is : c.push.new.self.items ≡ c.loop-i.records.items ++ c.in_ok-file_record_by_md5.field-0 ∷ [] = search rules in
+    let is : c.push.new.self.items ≡ c.loop-i.records.items ++ c.in_ok-file_record_by_md5.field-0 ∷ [] = c.in_ok-push.ensures.items in
     subst (λ xs. map file_record_of xs ≡ map (record_of c.args.s) (files_of c.args.folder.now.files (take (c.loop-i.i + 1) c.args.names.now))) (sym is)
     (record_push c.args.s c.args.folder.now.files c.args.names.now c.loop-i.i c.loop-i.records.items c.in_ok-file_record_by_md5.field-0 c.text_at-name.result.now c.bytes_of-bytes.result.now
     c.loop-i-test.true c.text_at-name.ensures c.bytes_of-bytes.ensures c.loop-i.invariant c.in_ok-file_record_by_md5.ensures)

@@ -1,32 +1,18 @@
-use Rattle.std.proofs.Common.{◌≡◌, ◌*◌, ◌/◌, ◌∙◌, sym, ap, subst, arith, rules, length}
-use Rattle.std.proofs.lemmas.List.{with_items_is}
-use Rattle.par2_spec.specs.Sums.{lists_of}
+use Rattle.std.proofs.Common.{◌≡◌, ◌≤◌, ◌∙◌, sym, ap, subst, length}
+use Rattle.std.specs.Prelude.{IfOk}
+use Rattle.par2_spec.specs.Sums.{list_at, lists_of}
 use Rattle.par2_spec.proofs.WordLaws.{length-lists_of}
-use Rattle.par2_recovery.specs.Products.{Adds}
 use Rattle.par2_recovery.specs.Syndromes.{AreProducts}
-use Rattle.par2_recovery.specs.Views.{texts_of, AreBlank}
+use Rattle.par2_recovery.specs.Views.{texts_of}
 use Rattle.par2_recovery.proofs.Combinations.{length-texts_of}
-use Rattle.par2_recovery.proofs.Solving.{products_added}
 use Rattle.par2_recovery.proofs.syndromes.inverse_times.Goals as goal
+
+pub products_of-requires-clause-factors : goal.products_of-requires-clause-factors
+products_of-requires-clause-factors c = λ r h.
+    let same = ap texts_of c.deref.ensures.value ∙ c.in_ok-sources.ensures in
+    let count : length c.deref.result.now ≡ length c.args.texts.now = sym (length-texts_of c.deref.result.now) ∙ ap length same ∙ length-lists_of c.args.texts.now in
+    subst (λ n. n ≤ length (list_at (lists_of c.args.inverse.now) r)) (sym count) (c.requires.inverse r h)
 
 pub returns : goal.returns
 returns c =
-    let size = c.args.size in
-    let n = size / 2 in
-    let m = length c.args.inverse.now in
-    let inverse = lists_of c.args.inverse.now in
-    let texts = lists_of c.args.texts.now in
-    let zeros = lists_of c.in_ok-sums.sums.items in
-    let new = c.add_products.new.targets in
-    let sources = c.deref.result.now in
-    let many : length new ≡ c.in_ok-sums.sums.len = search rules in
-    let whole : 2 * n ≡ size = omega (arith, c.requires.even) in
-    let same : texts_of sources ≡ texts = ap texts_of c.deref.ensures.value ∙ c.in_ok-sources.ensures in
-    let count : length sources ≡ length texts = sym (length-texts_of sources) ∙ ap length same in
-    let blank : AreBlank (2 * n) m zeros = subst (λ k. AreBlank k m zeros) (sym whole) c.in_ok-sums.ensures in
-    let added : Adds inverse (texts_of sources) zeros (lists_of new) 0 n (length sources) =
-    subst (λ xs. Adds inverse (texts_of sources) (lists_of xs) (lists_of new) 0 n (length sources)) c.as_mut_slice.ensures.value c.in_ok-add_products.ensures in
-    let sum : Adds inverse texts zeros (lists_of new) 0 n (length texts) =
-    subst (λ k. Adds inverse texts zeros (lists_of new) 0 n k) count (subst (λ xs. Adds inverse xs zeros (lists_of new) 0 n (length sources)) same added) in
-    subst (λ xs. AreProducts size inverse texts (lists_of xs)) (sym (with_items_is c.in_ok-sums.sums new many))
-    (subst (λ k. AreProducts k inverse texts (lists_of new)) whole (products_added n m inverse texts zeros (lists_of new) (sym (length-lists_of c.args.inverse.now)) blank sum))
+    subst (λ xs. IfOk c.products_of.result (λ sums. AreProducts c.args.size (lists_of c.args.inverse.now) xs (lists_of sums.items))) (ap texts_of c.deref.ensures.value ∙ c.in_ok-sources.ensures) c.products_of.ensures

@@ -1,11 +1,11 @@
-use Rattle.std.proofs.Common.{◌≡◌, ◌+◌, ◌∙◌, refl, sym, ap, subst, arith, rules, length, map}
-use Rattle.std.proofs.lemmas.List.{with_items_is, length-map}
-use Rattle.par2_spec.specs.Sums.{lists_of}
+use Rattle.std.proofs.Common.{◌≡◌, ◌≤◌, ◌+◌, ◌∙◌, refl, sym, ap, subst, arith, rules, length, map}
+use Rattle.std.proofs.lemmas.List.{with_items_is}
+use Rattle.par2_spec.specs.Sums.{list_at, lists_of}
 use Rattle.par2_spec.proofs.WordLaws.{length-lists_of}
 use Rattle.par2_recovery.specs.Syndromes.{window, all_coefficients, AreSolved, AreExtended}
 use Rattle.par2_recovery.specs.Views.{texts_of}
 use Rattle.par2_recovery.proofs.Combinations.{length-texts_of}
-use Rattle.par2_recovery.proofs.Solving.{window_size, next_solved}
+use Rattle.par2_recovery.proofs.Solving.{many_windows, none_solved, window_size, next_solved}
 use Rattle.par2_recovery.proofs.syndromes.solved.Goals as goal
 
 pub solved_block-requires-clause-size : goal.solved_block-requires-clause-size
@@ -23,7 +23,7 @@ solved_block-requires-clause-exponents c =
     let n = c.min-count.result in
     let recovery = texts_of c.args.recovery.now in
     let are : texts_of c.deref.result.now ≡ map (window c.loop-from.from n) recovery = ap texts_of c.deref.ensures.value ∙ c.in_ok-recovery.ensures in
-    c.requires.exponents ∙ sym (sym (length-texts_of c.deref.result.now) ∙ ap length are ∙ length-map recovery (window c.loop-from.from n) ∙ length-texts_of c.args.recovery.now)
+    c.requires.exponents ∙ sym (many_windows c.loop-from.from n c.args.recovery.now c.deref.result.now are)
 
 pub loop-from-preserved : goal.loop-from-preserved
 loop-from-preserved c =
@@ -39,8 +39,7 @@ loop-from-preserved c =
     let size : length new ≡ c.loop-from.texts.len = search rules in
     let recovery_are : texts_of c.deref.result.now ≡ map (window from n) recovery = ap texts_of c.deref.ensures.value ∙ c.in_ok-recovery.ensures in
     let slices_are : texts_of c.deref-in-loop-from.result.now ≡ map (window from n) slices = ap texts_of c.deref-in-loop-from.ensures.value ∙ c.in_ok-slices.ensures in
-    let slices_count : length c.deref-in-loop-from.result.now ≡ length c.args.slices.now =
-    sym (length-texts_of c.deref-in-loop-from.result.now) ∙ ap length slices_are ∙ length-map slices (window from n) ∙ length-texts_of c.args.slices.now in
+    let slices_count : length c.deref-in-loop-from.result.now ≡ length c.args.slices.now = many_windows from n c.args.slices.now c.deref-in-loop-from.result.now slices_are in
     let same_rows = ap (λ n. all_coefficients n c.args.exponents.now) slices_count in
     let block : AreSolved n inverse rows (texts_of c.deref-in-loop-from.result.now) (texts_of c.deref.result.now) blocks =
     subst (λ xs. AreSolved n inverse xs (texts_of c.deref-in-loop-from.result.now) (texts_of c.deref.result.now) blocks) same_rows c.in_ok-lost.ensures in
@@ -56,3 +55,34 @@ loop-from-preserved c =
       even = omega arith;
       within = omega arith;
     }
+
+pub loop-from-init : goal.loop-from-init
+loop-from-init c = record {
+  solved = none_solved (length c.args.inverse.now) (lists_of c.args.inverse.now) (all_coefficients (length c.args.slices.now) c.args.exponents.now) (texts_of c.args.slices.now) (texts_of c.args.recovery.now) (lists_of c.in_ok-texts.texts.items)
+      (sym (length-lists_of c.args.inverse.now)) c.in_ok-texts.ensures;
+  even = refl;
+  within = omega arith;
+}
+
+pub overflow_sub-size : goal.overflow_sub-size
+overflow_sub-size c = c.loop-from.invariant.within
+
+pub solved_block-requires-clause-inverse : goal.solved_block-requires-clause-inverse
+solved_block-requires-clause-inverse c = λ r h.
+    let are : texts_of c.deref.result.now ≡ map (window c.loop-from.from c.min-count.result) (texts_of c.args.recovery.now) = ap texts_of c.deref.ensures.value ∙ c.in_ok-recovery.ensures in
+    subst (λ n. n ≤ length (list_at (lists_of c.args.inverse.now) r)) (sym (many_windows c.loop-from.from c.min-count.result c.args.recovery.now c.deref.result.now are)) (c.requires.inverse r h)
+
+pub solved_block-requires-clause-count : goal.solved_block-requires-clause-count
+solved_block-requires-clause-count c =
+    let are : texts_of c.deref-in-loop-from.result.now ≡ map (window c.loop-from.from c.min-count.result) (texts_of c.args.slices.now) = ap texts_of c.deref-in-loop-from.ensures.value ∙ c.in_ok-slices.ensures in
+    subst (λ n. n ≤ 32768) (sym (many_windows c.loop-from.from c.min-count.result c.args.slices.now c.deref-in-loop-from.result.now are)) c.requires.count
+
+pub extend-requires : goal.extend-requires
+extend-requires c =
+    sym (length-lists_of c.deref-in-loop-from-2.result.now) ∙ ap (λ xs. length (lists_of xs)) c.deref-in-loop-from-2.ensures.value ∙ c.in_ok-lost.ensures.count
+    ∙ sym c.loop-from.invariant.solved.count ∙ length-lists_of c.loop-from.texts.items ∙ sym (ap (λ xs. length xs) c.as_mut_slice.ensures.value)
+
+pub returns : goal.returns
+returns c =
+    let all : c.loop-from.from ≡ c.args.size = omega (arith, c.loop-from-test.false, c.loop-from.invariant.within) in
+    subst (λ n. AreSolved n (lists_of c.args.inverse.now) (all_coefficients (length c.args.slices.now) c.args.exponents.now) (texts_of c.args.slices.now) (texts_of c.args.recovery.now) (lists_of c.loop-from.texts.items)) all c.loop-from.invariant.solved

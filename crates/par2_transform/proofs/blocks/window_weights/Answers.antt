@@ -1,4 +1,5 @@
-use Rattle.std.proofs.Common.{rules, ◌≡◌, ◌∙◌, ◌+◌, ◌*◌, ◌^◌, ◌++◌, ◌∷◌, [], ℕ, List, sym, ap, subst, arith, length, get_or}
+use Rattle.std.proofs.Common.{rules, ◌≡◌, ◌∙◌, ◌+◌, ◌*◌, ◌^◌, ◌≤◌, ◌++◌, ◌∷◌, [], ℕ, List, sym, ap, subst, arith, length, get_or}
+use Rattle.std.proofs.Math.Nat.{mul-le-mul_right}
 use Rattle.std.proofs.lemmas.List.{map-append, with_items_is}
 use Rattle.std.specs.Vec.{with_items}
 use Rattle.par2_spec.specs.Sums.{lists_of}
@@ -39,3 +40,15 @@ returns-clause-has c =
     let cut = cut_of c.args.plan.now in
     let end : c.loop-a.a ≡ cut.windows = omega (arith, c.loop-a-test.false, c.loop-a.auto.a-end) in
     windows_weighed cut c.args.exponent (lists_of c.loop-a.all.items) (subst (λ n. WindowsWeighed cut c.args.exponent n (lists_of c.loop-a.all.items)) end c.loop-a.invariant)
+
+pub chirps-requires : goal.chirps-requires
+chirps-requires c =
+    let plan = c.args.plan.now in
+    let most : c.loop-a.a * plan.window ≤ plan.windows * plan.window = mul-le-mul_right plan.window (let low = c.loop-a-test.true in omega (arith, low)) in
+    omega (arith, most, plan.few_numbers, c.requires)
+
+pub overflow_mul-a : goal.overflow_mul-a
+overflow_mul-a c =
+    let plan = c.args.plan.now in
+    let most : c.loop-a.a * plan.window ≤ plan.windows * plan.window = mul-le-mul_right plan.window (let low = c.loop-a-test.true in omega (arith, low)) in
+    omega (arith, most, plan.few_numbers)

@@ -1,7 +1,7 @@
 use Rattle.std.proofs.Common.{suc, ◌+◌, ◌-◌, ◌*◌, ◌%◌, ◌^◌, ◌<◌, ◌≤◌, ◌≡◌, inl, inr, sym, subst, arith}
 use Rattle.par2_transform.specs.Grids.{EachColumn}
 use Rattle.par2_transform.specs.Steps.{RunAdded, AheadAdded}
-use Rattle.par2_transform.proofs.StepLaws.{shifts, run_at, ahead_start, ahead_set, ahead_unset, ahead_whole}
+use Rattle.par2_transform.proofs.StepLaws.{rows_within, shifts, run_at, ahead_start, ahead_set, ahead_unset, ahead_whole}
 use Rattle.par2_transform.proofs.GridLaws.{each_start, each_then, each_so}
 use Rattle.par2_transform.proofs.levels.add_upper_ahead.Goals.{then-powers-j-eq1, else-powers-j-eq1}
 use Rattle.par2_transform.proofs.levels.add_upper_ahead.Goals as goal
@@ -39,18 +39,10 @@ returns c =
     subst (λ n. EachColumn (AheadAdded c.args.i c.args.start (2 ^ c.args.i) (2 ^ suc c.args.i) n) c.args.rows.now l.rows) end l.invariant
 
 pub add_rows-requires-clause-from : goal.add_rows-requires-clause-from
-add_rows-requires-clause-from c =
-    let l = c.loop-j in
-    let i = c.args.i in
-    let start = c.args.start in
-    subst (λ n. (start + 1 * 2 ^ i % 18446744073709551616) + (1 * 2 ^ l.j % 18446744073709551616) ≤ 2 ^ n) (sym l.invariant.levels) (omega (arith, shifts i l.j (omega arith) (omega arith), c.requires.fits))
+add_rows-requires-clause-from c = rows_within c.loop-j.invariant.levels (omega (arith, shifts c.args.i c.loop-j.j (omega arith) (omega arith), c.requires.fits))
 
 pub add_rows-requires-clause-to : goal.add_rows-requires-clause-to
-add_rows-requires-clause-to c =
-    let l = c.loop-j in
-    let i = c.args.i in
-    let start = c.args.start in
-    subst (λ n. (start + 2 * (1 * 2 ^ i % 18446744073709551616) - 1 * 2 ^ l.j % 18446744073709551616) + (1 * 2 ^ l.j % 18446744073709551616) ≤ 2 ^ n) (sym l.invariant.levels) (omega (arith, shifts i l.j (omega arith) (omega arith), c.requires.fits))
+add_rows-requires-clause-to c = rows_within c.loop-j.invariant.levels (omega (arith, shifts c.args.i c.loop-j.j (omega arith) (omega arith), c.requires.fits))
 
 pub add_rows-requires-clause-apart : goal.add_rows-requires-clause-apart
 add_rows-requires-clause-apart c =

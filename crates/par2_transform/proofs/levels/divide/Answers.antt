@@ -1,7 +1,7 @@
-use Rattle.std.proofs.Common.{suc, ◌+◌, ◌*◌, ◌%◌, ◌^◌, ◌≤◌, ◌≡◌, ◌∙◌, refl, sym, subst, arith}
+use Rattle.std.proofs.Common.{suc, ◌+◌, ◌*◌, ◌%◌, ◌^◌, ◌≤◌, ◌≡◌, ◌∙◌, refl, arith}
 use Rattle.par2_spec.specs.Field.{mul}
 use Rattle.par2_transform.specs.Steps.{RunAddedBy, IsSpreadAbove, IsSpreadBelow, IsDivided}
-use Rattle.par2_transform.proofs.StepLaws.{shifted, double_power, run_by_at}
+use Rattle.par2_transform.proofs.StepLaws.{rows_within, shifted, double_power, run_by_at}
 use Rattle.par2_transform.proofs.Divisions.{divided_runs}
 use Rattle.par2_transform.proofs.GridLaws.{each_then_two}
 use Rattle.par2_transform.proofs.levels.divide.Goals as goal
@@ -17,16 +17,10 @@ returns c =
     (run_by_at (mul c.args.c) (start + 1 * 2 ^ i % 18446744073709551616) (start + 2 ^ i) start start (1 * 2 ^ i % 18446744073709551616) (2 ^ i) k h (omega (arith, half)) refl half third))
 
 pub spread_below-requires-clause-fits : goal.spread_below-requires-clause-fits
-spread_below-requires-clause-fits c = subst (λ n. c.args.start + 2 ^ suc c.args.i ≤ 2 ^ n) (sym c.spread_above.ensures.levels) c.requires.fits
+spread_below-requires-clause-fits c = rows_within c.spread_above.ensures.levels c.requires.fits
 
 pub add_scaled-requires-clause-from : goal.add_scaled-requires-clause-from
-add_scaled-requires-clause-from c =
-    let half = shifted c.args.i (omega arith) in
-    let double = double_power c.args.i in
-    subst (λ n. c.args.start + 1 * 2 ^ c.args.i % 18446744073709551616 + 1 * 2 ^ c.args.i % 18446744073709551616 ≤ 2 ^ n) (sym (c.spread_below.ensures.levels ∙ c.spread_above.ensures.levels)) (omega (arith, half, double, c.requires.fits))
+add_scaled-requires-clause-from c = rows_within (c.spread_below.ensures.levels ∙ c.spread_above.ensures.levels) (omega (arith, shifted c.args.i (omega arith), double_power c.args.i, c.requires.fits))
 
 pub add_scaled-requires-clause-to : goal.add_scaled-requires-clause-to
-add_scaled-requires-clause-to c =
-    let half = shifted c.args.i (omega arith) in
-    let double = double_power c.args.i in
-    subst (λ n. c.args.start + 1 * 2 ^ c.args.i % 18446744073709551616 ≤ 2 ^ n) (sym (c.spread_below.ensures.levels ∙ c.spread_above.ensures.levels)) (omega (arith, half, double, c.requires.fits))
+add_scaled-requires-clause-to c = rows_within (c.spread_below.ensures.levels ∙ c.spread_above.ensures.levels) (omega (arith, shifted c.args.i (omega arith), double_power c.args.i, c.requires.fits))

@@ -1,8 +1,8 @@
-use Rattle.std.proofs.Common.{suc, ◌+◌, ◌*◌, ◌%◌, ◌^◌, ◌≤◌, ◌≡◌, sym, subst, ap, ◌∙◌, arith}
+use Rattle.std.proofs.Common.{suc, ◌+◌, ◌*◌, ◌%◌, ◌^◌, ◌≤◌, ◌≡◌, ap, ◌∙◌, arith}
 use Rattle.par2_transform.specs.Subspaces.{point}
 use Rattle.par2_transform.specs.PowerSums.{IsMerged}
 use Rattle.par2_transform.specs.Steps.{OneRun, RunAdded, IsRaised}
-use Rattle.par2_transform.proofs.StepLaws.{shifted, pair_places, run_starts, merged_runs, run_at, raised_at}
+use Rattle.par2_transform.proofs.StepLaws.{rows_within, shifted, pair_places, run_starts, merged_runs, run_at, raised_at}
 use Rattle.par2_transform.proofs.GridLaws.{each_then}
 use Rattle.par2_transform.proofs.levels.merge.Goals as goal
 
@@ -29,8 +29,4 @@ add_rows-requires-clause-to c =
     omega (arith, pair_places c.args.rows.now.levels c.args.i c.args.q (omega arith) c.requires.level c.requires.pair)
 
 pub raise-requires-clause-fits : goal.raise-requires-clause-fits
-raise-requires-clause-fits c =
-    let i = c.args.i in
-    let q = c.args.q in
-    let shift = 1 * 2 ^ i % 18446744073709551616 in
-    subst (λ n. q * 2 * shift + 2 ^ suc i ≤ 2 ^ n) (sym c.add_rows.ensures.levels) (omega (arith, pair_places c.args.rows.now.levels i q (omega arith) c.requires.level c.requires.pair))
+raise-requires-clause-fits c = rows_within c.add_rows.ensures.levels (omega (arith, pair_places c.args.rows.now.levels c.args.i c.args.q (omega arith) c.requires.level c.requires.pair))

@@ -1,7 +1,7 @@
-use Rattle.std.proofs.Common.{suc, ◌+◌, ◌*◌, ◌%◌, ◌^◌, ◌≤◌, ◌≡◌, refl, sym, subst, arith}
+use Rattle.std.proofs.Common.{suc, ◌+◌, ◌*◌, ◌%◌, ◌^◌, ◌≤◌, ◌≡◌, ◌∙◌, refl, arith}
 use Rattle.par2_spec.specs.Field.{mul}
 use Rattle.par2_transform.specs.Steps.{RunAddedBy, AheadAdded, IsRaised}
-use Rattle.par2_transform.proofs.StepLaws.{shifted, double_power, run_by_at, raised_runs}
+use Rattle.par2_transform.proofs.StepLaws.{rows_within, shifted, double_power, run_by_at, raised_runs}
 use Rattle.par2_transform.proofs.GridLaws.{each_then_two}
 use Rattle.par2_transform.proofs.levels.raise.Goals as goal
 
@@ -16,20 +16,13 @@ returns c =
     (run_by_at (mul c.args.c) start start (start + 1 * 2 ^ i % 18446744073709551616) (start + 2 ^ i) (1 * 2 ^ i % 18446744073709551616) (2 ^ i) f g refl (omega (arith, half)) half first) second third)
 
 pub add_scaled-requires-clause-from : goal.add_scaled-requires-clause-from
-add_scaled-requires-clause-from c =
-    let half = shifted c.args.i (omega arith) in
-    let double = double_power c.args.i in
-    omega (arith, half, double, c.requires.fits)
+add_scaled-requires-clause-from c = omega (arith, shifted c.args.i (omega arith), double_power c.args.i, c.requires.fits)
 
 pub add_scaled-requires-clause-to : goal.add_scaled-requires-clause-to
-add_scaled-requires-clause-to c =
-    let half = shifted c.args.i (omega arith) in
-    let double = double_power c.args.i in
-    omega (arith, half, double, c.requires.fits)
+add_scaled-requires-clause-to c = omega (arith, shifted c.args.i (omega arith), double_power c.args.i, c.requires.fits)
 
 pub add_lower_ahead-requires-clause-fits : goal.add_lower_ahead-requires-clause-fits
-add_lower_ahead-requires-clause-fits c = subst (λ n. c.args.start + 2 ^ suc c.args.i ≤ 2 ^ n) (sym c.add_scaled.ensures.levels) c.requires.fits
+add_lower_ahead-requires-clause-fits c = rows_within c.add_scaled.ensures.levels c.requires.fits
 
 pub add_upper_ahead-requires-clause-fits : goal.add_upper_ahead-requires-clause-fits
-add_upper_ahead-requires-clause-fits c =
-    subst (λ n. c.args.start + 2 ^ suc c.args.i ≤ 2 ^ n) (sym c.add_lower_ahead.ensures.levels) (subst (λ n. c.args.start + 2 ^ suc c.args.i ≤ 2 ^ n) (sym c.add_scaled.ensures.levels) c.requires.fits)
+add_upper_ahead-requires-clause-fits c = rows_within (c.add_lower_ahead.ensures.levels ∙ c.add_scaled.ensures.levels) c.requires.fits

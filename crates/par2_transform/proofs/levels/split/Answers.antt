@@ -1,8 +1,8 @@
-use Rattle.std.proofs.Common.{suc, ◌+◌, ◌*◌, ◌%◌, ◌^◌, ◌≤◌, ◌≡◌, sym, subst, ap, ◌∙◌, arith}
+use Rattle.std.proofs.Common.{suc, ◌+◌, ◌*◌, ◌%◌, ◌^◌, ◌≤◌, ◌≡◌, ap, ◌∙◌, arith}
 use Rattle.par2_transform.specs.Subspaces.{point}
 use Rattle.par2_transform.specs.Evaluations.{IsSplit}
 use Rattle.par2_transform.specs.Steps.{OnElements, OneRun, RunAdded, IsDivided}
-use Rattle.par2_transform.proofs.StepLaws.{shifted, pair_places, run_starts, run_at}
+use Rattle.par2_transform.proofs.StepLaws.{rows_within, shifted, pair_places, run_starts, run_at}
 use Rattle.par2_transform.proofs.Divisions.{split_runs, divided_at}
 use Rattle.par2_transform.proofs.GridLaws.{each_then}
 use Rattle.par2_transform.proofs.levels.split.Goals as goal
@@ -26,15 +26,7 @@ divide-requires-clause-fits c =
     omega (arith, pair_places c.args.rows.now.levels c.args.i c.args.q (omega arith) c.requires.level c.requires.pair)
 
 pub add_rows-requires-clause-from : goal.add_rows-requires-clause-from
-add_rows-requires-clause-from c =
-    let i = c.args.i in
-    let q = c.args.q in
-    let shift = 1 * 2 ^ i % 18446744073709551616 in
-    subst (λ n. q * 2 * shift + shift ≤ 2 ^ n) (sym c.divide.ensures.levels) (omega (arith, pair_places c.args.rows.now.levels i q (omega arith) c.requires.level c.requires.pair))
+add_rows-requires-clause-from c = rows_within c.divide.ensures.levels (omega (arith, pair_places c.args.rows.now.levels c.args.i c.args.q (omega arith) c.requires.level c.requires.pair))
 
 pub add_rows-requires-clause-to : goal.add_rows-requires-clause-to
-add_rows-requires-clause-to c =
-    let i = c.args.i in
-    let q = c.args.q in
-    let shift = 1 * 2 ^ i % 18446744073709551616 in
-    subst (λ n. q * 2 * shift + shift + shift ≤ 2 ^ n) (sym c.divide.ensures.levels) (omega (arith, pair_places c.args.rows.now.levels i q (omega arith) c.requires.level c.requires.pair))
+add_rows-requires-clause-to c = rows_within c.divide.ensures.levels (omega (arith, pair_places c.args.rows.now.levels c.args.i c.args.q (omega arith) c.requires.level c.requires.pair))

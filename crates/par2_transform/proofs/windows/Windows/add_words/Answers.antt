@@ -7,7 +7,7 @@ use Rattle.par2_spec.proofs.FoundLaws.{slice_begins}
 use Rattle.par2_transform.specs.Blocks.{Outputs, AreBlocks}
 use Rattle.par2_transform.specs.Plans.{cut_of}
 use Rattle.par2_transform.proofs.AddingLaws.{still_within}
-use Rattle.par2_transform.proofs.ColumnLaws.{ColumnsAdded, next_column, all_columns}
+use Rattle.par2_transform.proofs.ColumnLaws.{ColumnsAdded, no_column, next_column, all_columns}
 use Rattle.par2_transform.proofs.windows.Windows.add_words.Goals as goal
 
 -- a run of columns begins before the words end
@@ -89,3 +89,9 @@ returns c =
     let end : k ≡ c.div_ceil-k-end.result = omega (arith, c.loop-k-test.false, c.loop-k.auto.k-end) in
     let enough : words ≤ k * columns = subst (λ n. words ≤ n * columns) (sym (end ∙ c.div_ceil-k-end.ensures)) (div_ceil_times words columns (let some = self.plan.some.1.1 in omega (arith, some))).0 in
     all_columns c.args.outputs.now.places.now c.args.outputs.now.words (cut_of self.plan) self.slices columns self.first self.plan.block words k c.loop-k.rows c.in_ok-blocks.blocks.items c.loop-k.blocks.items (lists_of c.args.texts.now) (lists_of c.loop-k.texts) c.loop-k.invariant enough refl
+
+pub loop-k-init : goal.loop-k-init
+loop-k-init c =
+    let self = c.args.self.now in
+    no_column c.args.outputs.now.places.now c.args.outputs.now.words (cut_of self.plan) self.slices self.plan.columns self.first self.plan.block c.args.outputs.now.words c.in_ok-rows.rows c.in_ok-blocks.blocks.items (lists_of c.args.texts.now)
+    c.in_ok-rows.ensures.levels c.in_ok-rows.ensures.words c.in_ok-blocks.ensures.are

@@ -1,7 +1,7 @@
 use Rattle.std.proofs.Common.{◌≡◌, map, take}
 use Rattle.par2_spec.specs.Recovery.{coefficients}
 use Rattle.par2_spec.specs.Sums.{lists_of}
-use Rattle.par2_recovery.proofs.additions.coefficient_rows.Given as goal
+use Rattle.par2_recovery.proofs.additions.rows_over.Given as goal
 
 abbrev pub invariant-loop-i : goal.invariant-loop-i
 invariant-loop-i l = lists_of l.rows.items ≡ map (coefficients l.numbers) (take l.i l.exponents)

@@ -1,0 +1,19 @@
+use Rattle.std.proofs.Common.{◌≡◌, subst, arith, length}
+use Rattle.par2_matrix.specs.Echelon.{Spells}
+use Rattle.par2_spec.specs.Sums.{list_at, lists_of}
+use Rattle.par2_recovery.specs.Elements.{AreRows}
+use Rattle.par2_recovery.proofs.Inverting.{rows_push}
+use Rattle.par2_recovery.proofs.elements.rows_of.Goals as goal
+
+pub loop-r-preserved : goal.loop-r-preserved
+loop-r-preserved c =
+    let r = c.loop-r.r in
+    let texts = lists_of c.args.texts.now in
+    let row = c.in_ok-row_of.field-0 in
+    let is : Spells row.items (list_at texts r) (length row.items) = subst (λ text. Spells row.items text (length row.items)) c.text_at.ensures c.in_ok-row_of.ensures in
+    rw c.in_ok-push.ensures.items (rows_push texts c.loop-r.rows.items row r c.loop-r.invariant is)
+
+pub returns : goal.returns
+returns c =
+    let all : c.loop-r.r ≡ length c.args.texts.now = omega (arith, c.loop-r-test.false, c.loop-r.auto.r-end) in
+    subst (λ n. AreRows (lists_of c.loop-r.rows.items) (lists_of c.args.texts.now) n) all c.loop-r.invariant
