@@ -23,7 +23,7 @@ use Rattle.par2_spec.proofs.RankLaws.{repairable-iff}
 use Rattle.par2_spec.proofs.ReadLaws.{lost_of}
 use Rattle.par2_spec.proofs.SearchLaws.{matches_of_needing}
 use Rattle.par2_asides.specs.Asides.{long_aside}
-use Rattle.par2_restore.specs.Restoring.{undetermined_fault, files_of}
+use Rattle.par2_plan.specs.Restoring.{undetermined_fault, files_of}
 use Rattle.par2_plan.specs.Drafts.{wrong_digest}
 use Rattle.par2_plan.specs.Repairing.{unmatched_names, names_given, AreNeeding, IsWholeWhereMatched, AreRestoredFor, targets_by, renames, matches_taken, writes, asides_removed, files_removed, place_by, changes_by, removals_by, with_removals, repair_by, known_by}
 use Rattle.par2_plan.specs.declared.needing_targets.Needing.{Needing}

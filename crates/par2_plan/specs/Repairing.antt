@@ -14,7 +14,7 @@ use Rattle.par2_spec.specs.Repairs.{names_without_match, put_aside, rebuilt, reb
 use Rattle.par2_spec.specs.Search.{needing_names, known, lost}
 use Rattle.par2_spec.specs.Search as search
 use Rattle.par2_spec.specs.Sets.{all_pairs, ParSet, Target}
-use Rattle.par2_restore.specs.Restoring.{known_in, targets_among, undetermined_fault}
+use Rattle.par2_plan.specs.Restoring.{known_in, targets_among, undetermined_fault}
 use Rattle.par2_plan.specs.Findings.{matches_given}
 use Rattle.par2_plan.specs.Matches.{name_cmp}
 use Rattle.par2_plan.specs.declared.needing_targets.Needing.{Needing}

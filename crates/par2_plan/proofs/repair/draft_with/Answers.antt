@@ -3,7 +3,7 @@ use Rattle.std.specs.List.{AllByRecursion}
 use Rattle.std.proofs.lemmas.Result.{err_from_is_err_and}
 use Rattle.par2_spec.specs.Refusals.{repair_refusal}
 use Rattle.par2_asides.specs.Asides.{long_aside}
-use Rattle.par2_restore.specs.Restoring.{undetermined_fault, files_of, md5s_of}
+use Rattle.par2_plan.specs.Restoring.{undetermined_fault, files_of, md5s_of}
 use Rattle.par2_plan.specs.Repairing.{AreNeeding, AreRestoredFor, known_by, targets_by}
 use Rattle.par2_plan.proofs.PassedAnswers.{refused_by}
 use Rattle.par2_plan.proofs.RepairParts.{IsPrepared, told_by, targets_are, not_repairable, too_long, by_digests, all_changes}

@@ -4,7 +4,7 @@ use Rattle.std.proofs.lemmas.Result.{err_from_is_err_and}
 use Rattle.par2_spec.specs.Folders.{bytes_of}
 use Rattle.par2_spec.specs.declared.Fault.TheVariants.{Memory}
 use Rattle.par2_search.specs.Texts.{texts_of}
-use Rattle.par2_restore.specs.Restoring.{known_in, undetermined_fault}
+use Rattle.par2_plan.specs.Restoring.{known_in, undetermined_fault}
 use Rattle.par2_plan.specs.Repairing.{AreRestored}
 use Rattle.par2_plan.proofs.repair.slices_for.Goals.{After-restored_slices}
 use Rattle.par2_plan.proofs.repair.slices_for.Goals as goal
