@@ -1,5 +1,5 @@
 -- What a repair gives back of a set's files, and why it refuses to.
-use Rattle.std.specs.Prelude.{ℕ, not, List, length, take, drop, map, filter, Option}
+use Rattle.std.specs.Prelude.{ℕ, not, List, [], ◌∷◌, length, take, drop, map, filter, Option}
 use Rattle.std.specs.List.{concat}
 use Rattle.par2_spec.specs.Faults.{fault_where}
 use Rattle.par2_spec.specs.Folders.{File}
@@ -37,3 +37,7 @@ md5s_of targets = map (λ c. c.0.md5) targets
 -- a target whose slices begin with that of number `first`, with its bytes
 abbrev pub target_at : List (List ℕ) → ℕ → Target → Target × List ℕ
 target_at slices first t = (t, take t.length (concat (take (length t.pairs) (drop first slices))))
+
+-- such a target, if it is among these names
+abbrev pub chosen_at : List (List ℕ) → List (List ℕ) → ℕ → Target → List (Target × List ℕ)
+chosen_at names slices first t = filter (λ c. is_among names c.0.name) (target_at slices first t ∷ [])

@@ -1,12 +1,13 @@
 //! All slices of a set: those that are found, and between them those that are rebuilt.
-ghost use Rattle.std.specs.Prelude.{◌≡◌, ◌⊎◌, ◌+◌, ◌^◌, ◌++◌, ◌<◌, ◌≤◌, ℕ, None, length, map, take, drop, IfOk, slice_index, IfErr, IsOk, IsTrue, OnOk};
+ghost use Rattle.std.specs.Prelude.{◌≡◌, ◌⊎◌, ◌+◌, ◌^◌, ◌++◌, ◌∷◌, ◌<◌, ◌≤◌, ℕ, List, None, length, map, take, drop, IfOk, slice_index, IfErr, IsOk, IsTrue, OnOk};
 ghost use Rattle.std.specs.List.{All, AllByRecursion, concat};
 ghost use Rattle.par2_spec.specs.Sums.{lists_of};
 ghost use Rattle.par2_spec.specs.Repairs.{rebuilt};
 ghost use Rattle.par2_spec.specs.Search.{lost};
 ghost use Rattle.par2_spec.specs.Sets.{all_pairs};
 ghost use Rattle.par2_spec.specs.Slices.{padded};
-ghost use Rattle.par2_search.specs.Texts.{texts_of};
+ghost use Rattle.std.specs.Vec.Iter.{into_iter_items};
+ghost use Rattle.par2_search.specs.Texts.{Window, texts_of};
 ghost use Rattle.par2_recovery.specs.Survivors.{exponents_of, with_lost_slices, IsTrueFault};
 ghost use Rattle.par2_plan.specs.Restoring.{known_in, undetermined_fault};
 ghost use Rattle.par2_plan.specs.Survivors.{AreSurvivors, fault_of};
@@ -21,6 +22,7 @@ use par2_spec::Fault;
 use par2_spec::rank_laws::{rebuilt_slices_agree, tests_say_the_words};
 use std::alloc::{AllocError, Global};
 use std::marker::Model;
+use std::vec::IntoIter;
 
 // A slice, of which zeros may be missing at the end.
 #[derive(Drop)]
@@ -142,6 +144,23 @@ fn survivors_of<'a>(
     })
 }
 
+// The slice at a window: what is found there, or else the next of these texts, none once there are no more.
+fn slice_at<'a>(
+    alloc: Global,
+    window: Option<&'a [u8]>,
+    texts: &mut IntoIter<Vec<u8>>,
+) -> Slice<'a>
+    ensures { (windows : List Window) →
+        let left = windows_and_texts windows (lists_of (into_iter_items texts.new)) in
+        let all = windows_and_texts (window.entry ∷ windows) (lists_of (into_iter_items texts.old)) in
+        text_of result ∷ left ≡ all }
+{
+    match window {
+        Some(bytes) => Slice::Found(bytes),
+        None => Slice::Rebuilt(texts.next().unwrap_or(Vec::new(alloc))),
+    }
+}
+
 // The windows, and between them the texts of the lost slices.
 fn merged<'a>(
     alloc: Global,
@@ -154,10 +173,7 @@ fn merged<'a>(
     let mut slices = Vec::with_capacity(alloc, windows.len())?;
     let mut texts = rebuilt.into_iter();
     for window in windows {
-        slices.push(match window {
-            Some(bytes) => Slice::Found(bytes),
-            None => Slice::Rebuilt(texts.next().unwrap_or(Vec::new(alloc))),
-        })?;
+        slices.push(slice_at(alloc, *window, &mut texts))?;
     }
     Ok(slices)
 }
