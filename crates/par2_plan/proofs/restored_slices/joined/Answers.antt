@@ -1,6 +1,6 @@
-use Rattle.std.proofs.Common.{◌≡◌, ◌∙◌, ◌++◌, ◌+◌, ◌∷◌, [], List, ℕ, take, sym, ap}
+use Rattle.std.proofs.Common.{◌≡◌, ◌∙◌, ◌++◌, ◌+◌, ◌∷◌, [], List, ℕ, zero, suc, take, refl, sym, ap}
 use Rattle.std.specs.List.{concat}
-use Rattle.std.proofs.lemmas.List.{take_more, map-append}
+use Rattle.std.proofs.lemmas.List.{take_all, take_more, map-append}
 use Rattle.par2_spec.specs.Slices.{padded}
 use Rattle.par2_plan.specs.SliceTexts.{text_of, slices_of}
 use Rattle.par2_plan.specs.declared.restored_slices.Slice.{Slice}
@@ -24,3 +24,13 @@ loop-slice-preserved c =
     ∙ ap (take size) (sym (concat_push done (padded s (text_of item))))
     ∙ ap (λ xs. take size (concat xs)) (sym (map-append (λ x. padded s (text_of x)) (take i slices) (item ∷ [])))
     ∙ ap (λ xs. take size (concat (slices_of s xs))) (sym more)
+
+pub loop-slice-init : goal.loop-slice-init
+loop-slice-init c = c.in_ok-file.ensures.items ∙ sym (take-nothing c.args.size)
+  where
+    take-nothing : (n : ℕ) → take {A = ℕ} n [] ≡ []
+    take-nothing zero = refl
+    take-nothing (suc n) = refl
+
+pub returns : goal.returns
+returns c = c.loop-slice.invariant ∙ ap (λ xs. take c.args.size (concat (slices_of c.args.slice_size xs))) (take_all c.loop-slice.slice-index c.args.slices.now c.loop-slice-test.false)
