@@ -53,8 +53,8 @@ pub fn candidates(
     distinct(alloc, &names)
 }
 
-// The bytes of a file, none where it is absent.
-fn bytes_of<'a>(folder: &'a Folder, name: &Name) -> &'a [u8]
+/// The bytes of a file, none where it is absent.
+pub fn bytes_of<'a>(folder: &'a Folder, name: &Name) -> &'a [u8]
     ensures { result.now ≡ bytes_of folder.now.files name.now }
 {
     folder.get(name).unwrap_or(&[])

@@ -12,6 +12,7 @@ ghost use Rattle.par2_recovery.specs.Views.{AreRecords, names_of};
 ghost use Rattle.par2_spec.specs.Answers.{FailsFor};
 ghost use Rattle.par2_plan.specs.Faults.{duplicate_input, files_fault, ids_fault};
 
+use crate::candidates::bytes_of;
 use par2_folder::{Folder, Name};
 use par2_packets::{DuplicateId, FileRecord};
 use par2_recovery::SetRecord;
@@ -46,16 +47,6 @@ pub fn no_duplicate(alloc: Global, names: &[Name]) -> Result<(), Fault>
     match first_repeated(alloc, names)? {
         None => Ok(()),
         Some(place) => Err(Fault::DuplicateInput(place + 1)),
-    }
-}
-
-// The bytes of a file, none where it is absent.
-fn bytes_of<'a>(folder: &'a Folder, name: &Name) -> &'a [u8]
-    ensures { result.now ≡ bytes_of folder.now.files name.now }
-{
-    match folder.get(name) {
-        Some(bytes) => bytes,
-        None => &[],
     }
 }
 
