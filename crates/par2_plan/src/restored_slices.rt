@@ -145,11 +145,7 @@ fn survivors_of<'a>(
 }
 
 // The slice at a window: what is found there, or else the next of these texts, none once there are no more.
-fn slice_at<'a>(
-    alloc: Global,
-    window: Option<&'a [u8]>,
-    texts: &mut IntoIter<Vec<u8>>,
-) -> Slice<'a>
+fn slice_at<'a>(alloc: Global, window: Option<&'a [u8]>, texts: &mut IntoIter<Vec<u8>>) -> Slice<'a>
     ensures { (windows : List Window) →
         let left = windows_and_texts windows (lists_of (into_iter_items texts.new)) in
         let all = windows_and_texts (window.entry ∷ windows) (lists_of (into_iter_items texts.old)) in

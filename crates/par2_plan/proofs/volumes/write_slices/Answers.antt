@@ -1,4 +1,4 @@
-use Rattle.std.proofs.Common.{◌≡◌, ◌∙◌, ◌/◌, List, ℕ, Vec, Global, sym, ap, subst, arith, rules, length}
+use Rattle.std.proofs.Common.{◌∙◌, ◌/◌, List, ℕ, sym, ap, subst, arith, length}
 use Rattle.std.specs.Borrow.{Bor}
 use Rattle.std.proofs.lemmas.List.{length-map}
 use Rattle.std.proofs.lemmas.Result.{on_ok_weaker}
