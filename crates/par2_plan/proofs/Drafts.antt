@@ -19,7 +19,7 @@ use Rattle.par2_spec.specs.Sets.{ParSet, Target}
 use Rattle.par2_spec.specs.declared.Fault.TheVariants.{RepairFailed}
 use Rattle.par2_spec.proofs.AcceptedCommands.{set_in_reads}
 use Rattle.par2_spec.proofs.SessionLaws.{same_ok}
-use Rattle.par2_restore.specs.Restoring.{md5s_of}
+use Rattle.par2_plan.specs.Restoring.{md5s_of}
 use Rattle.par2_plan.specs.Drafts.{HasItsMd5s, IsDraft, IsDraftBy, has_digest}
 use Rattle.par2_plan.specs.Repairing.{IsAsDescribed, repair_by}
 use Rattle.par2_plan.specs.Written.{bytes_written, texts_written}

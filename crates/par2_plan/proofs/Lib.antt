@@ -21,3 +21,7 @@ mod VolumeNames
 mod OutputChanges
 mod VolumeStages
 mod VolumePlaces
+mod Cutting
+mod Merging
+mod Rebuilds
+mod TargetWalks

@@ -1,5 +1,5 @@
 -- Lists that are gone over in pairs, and trees of asides.
-use Rattle.std.proofs.Common.{◌≡◌, ℕ, List, [], ◌∷◌, ◌++◌, map, Bor, refl, sym, ap, ◌∙◌, ◌||◌, ◌⊎◌, inl, inr, Bool, true, false, cond, append-nil}
+use Rattle.std.proofs.Common.{◌≡◌, ℕ, List, [], ◌∷◌, ◌++◌, map, Bor, refl, sym, ap, ap₂, ◌∙◌, append_assoc, ◌||◌, ◌⊎◌, inl, inr, Bool, true, false, cond, append-nil}
 use Rattle.std.specs.Prelude.{Option, Some, None, option_map, option_to_list, filter, not, zip}
 use Rattle.std.specs.BTreeMap.{BTreeMap, get, is_at}
 use Rattle.std.specs.Str.{bytes_eq}
@@ -24,6 +24,14 @@ zip_end (x ∷ xs) (y ∷ ys) (inr h) = absurd (let no : ⊥ = cc in no)
 pub all_done : {A B C : Type 0} (part : List (A × B) → List C) (xs : List A) (ys : List B) (done all : List C)
     → (xs ≡ []) ⊎ (ys ≡ []) → part [] ≡ [] → done ++ part (zip xs ys) ≡ all → done ≡ all
 all_done part xs ys done all h none e = sym (append-nil done) ∙ ap (λ zs. done ++ zs) (sym (ap part (zip_end xs ys h) ∙ none)) ∙ e
+
+-- one more pair is done, which adds these items
+pub next_pair : {A B C : Type 0} (part : List (A × B) → List C) (x : A) (y : B) (all_xs xs : List A) (all_ys ys : List B) (here done new all : List C)
+    → all_xs ≡ x ∷ xs → all_ys ≡ y ∷ ys → part ((x, y) ∷ zip xs ys) ≡ here ++ part (zip xs ys) → new ≡ done ++ here
+    → done ++ part (zip all_xs all_ys) ≡ all → new ++ part (zip xs ys) ≡ all
+next_pair part x y all_xs xs all_ys ys here done new all of_xs of_ys adds is so_far =
+    ap (λ zs. zs ++ part (zip xs ys)) is ∙ append_assoc done here (part (zip xs ys))
+    ∙ ap (λ zs. done ++ zs) (sym adds ∙ ap₂ (λ us vs. part (zip us vs)) (sym of_xs) (sym of_ys)) ∙ so_far
 
 -- ---- trees of asides
 

@@ -1,5 +1,5 @@
 -- The parts of a repair are those of the definitions.
-use Rattle.std.proofs.Common.{◌≡◌, ℕ, List, [], ◌∷◌, ◌++◌, length, map, refl, sym, ap, ap₂, ◌∙◌, Bool, true, false, not, cond, ◌&&◌, ◌||◌, ◌+◌, ◌==◌, suc, arith, Ok}
+use Rattle.std.proofs.Common.{◌≡◌, ◌⊎◌, inl, inr, subst, ℕ, List, [], ◌∷◌, ◌++◌, length, map, refl, sym, ap, ap₂, ◌∙◌, Bool, true, false, not, cond, ◌&&◌, ◌||◌, ◌+◌, ◌==◌, suc, arith, Ok}
 use Rattle.std.specs.Prelude.{Option, Some, None, is_none, filter, filter_map, flat_map, option_map, zip}
 use Rattle.std.specs.List.{AllByRecursion, enumerate_from, list_any}
 use Rattle.std.proofs.lemmas.Bool.{ne_eqb}
@@ -23,10 +23,11 @@ use Rattle.par2_spec.proofs.RankLaws.{repairable-iff}
 use Rattle.par2_spec.proofs.ReadLaws.{lost_of}
 use Rattle.par2_spec.proofs.SearchLaws.{matches_of_needing}
 use Rattle.par2_sets.specs.Asides.{long_aside}
-use Rattle.par2_restore.specs.Restoring.{undetermined_fault, files_of}
+use Rattle.par2_plan.specs.Restoring.{undetermined_fault, targets_among, files_of, md5s_of}
 use Rattle.par2_plan.specs.Drafts.{wrong_digest}
-use Rattle.par2_plan.specs.Repairing.{unmatched_names, names_given, AreNeeding, IsWholeWhereMatched, AreRestoredFor, targets_by, renames, matches_taken, writes, asides_removed, files_removed, place_by, changes_by, removals_by, with_removals, repair_by, known_by}
+use Rattle.par2_plan.specs.Repairing.{unmatched_names, names_given, AreNeeding, AreRestored, IsWholeWhereMatched, renames, matches_taken, writes, asides_removed, files_removed, place_by, changes_by, removals_by, with_removals, repair_by, known_by}
 use Rattle.par2_plan.specs.declared.needing_targets.Needing.{Needing}
+use Rattle.par2_plan.specs.declared.restored_files.RestoredFiles.{RestoredFiles}
 
 abbrev Pairs : Type 0
 Pairs = List (Target × Option (List ℕ))
@@ -95,6 +96,21 @@ determined_without set slices h =
     ap (λ (missing : List ℕ). fault_where (not (is_repairable missing (survivors set))) (NotRepairable (length missing) (rank missing (survivors set)))) h
     ∙ ap (λ b. fault_where (not b) (NotRepairable 0 (rank [] (survivors set)))) (none_to_repair (survivors set))
 
+none_among : (files : List (Target × List ℕ)) → filter (λ c. is_among [] c.0.name) files ≡ []
+none_among [] = refl
+none_among (file ∷ files) = none_among files
+
+-- where there are no names, no file is restored
+pub none_restored : (set : ParSet) (known : List (Option (List ℕ))) (names : List (List ℕ)) (restored : RestoredFiles) → names ≡ [] → restored.files.items ≡ [] → restored.md5s.items ≡ [] → AreRestored set known names restored
+none_restored set known names restored none files md5s =
+    let targets : targets_among set (rebuilt set known) names ≡ [] = ap (targets_among set (rebuilt set known)) none ∙ none_among (files_of_slices set (rebuilt set known)) in
+    record {
+      files = files ∙ ap files_of (sym targets);
+      md5s = md5s ∙ ap md5s_of (sym targets);
+      lengths = subst (AllByRecursion (λ c. length c.1 ≡ c.0.length)) (sym targets) tt;
+      determined = inl none;
+    }
+
 -- ---- of a folder, a set and the names that are searched
 
 module _ (folder : Folder) (set : ParSet) (searched : List (List ℕ)) where
@@ -131,24 +147,15 @@ module _ (folder : Folder) (set : ParSet) (searched : List (List ℕ)) where
 
   -- ---- slices and files
 
-  pub told_by : (names : List (List ℕ)) (slices : Option (List (List ℕ))) → names ≡ names_without_match ms → IsWholeWhereMatched folder set searched → AreRestoredFor set (known_by folder set searched) names slices
+  pub told_by : (names : List (List ℕ)) → names ≡ names_without_match ms → IsWholeWhereMatched folder set searched → (names ≡ []) ⊎ (undetermined_fault set (known_by folder set searched) ≡ None)
       → undetermined_fault set (known_by folder set searched) ≡ None
   unfolding known
-  told_by names None e whole h = determined_without set (known_by folder set searched) (whole (sym e ∙ h))
-  told_by names (Some slices) e whole h = h.determined
+  told_by names e whole (inl none) = determined_without set (known_by folder set searched) (whole (sym e ∙ none))
+  told_by names e whole (inr told) = told
 
-  none_among : (files : List (Target × List ℕ)) → filter (λ c. is_among [] c.0.name) files ≡ []
-  none_among [] = refl
-  none_among (file ∷ files) = none_among files
-
-  pub targets_are : (names : List (List ℕ)) (slices : Option (List (List ℕ))) → names ≡ names_without_match ms → AreRestoredFor set (known_by folder set searched) names slices
-      → targets_by set slices names ≡ rebuilt_targets folder set searched
+  pub targets_are : (names : List (List ℕ)) → names ≡ names_without_match ms → targets_among set (rebuilt set (known_by folder set searched)) names ≡ rebuilt_targets folder set searched
   unfolding rebuilt_targets known
-  targets_are names None e h =
-      sym (none_among (files_of_slices set (rebuilt set (known_by folder set searched))))
-      ∙ ap (λ ns. filter (λ (c : Target × List ℕ). is_among ns c.0.name) (files_of_slices set (rebuilt set (known_by folder set searched)))) (sym h ∙ e)
-  targets_are names (Some slices) e h =
-      ap₂ (λ (ns all : List (List ℕ)). filter (λ (c : Target × List ℕ). is_among ns c.0.name) (files_of_slices set all)) e h.are_rebuilt
+  targets_are names e = ap (targets_among set (rebuilt set (known_by folder set searched))) e
 
   -- ---- changes
 
@@ -180,12 +187,6 @@ module _ (folder : Folder) (set : ParSet) (searched : List (List ℕ)) where
     pub all_changes : (purge : Bool) (files : List File) → files ≡ files_of (rebuilt_targets folder set searched)
         → with_removals purge (changes_by off needing files) (removals_by off needing (par_files folder set)) ≡ repair_by purge folder set searched
     all_changes purge files e = ap₂ (λ (a b : List Change). with_removals purge a b) (changes_are files e) removals_are
-
--- what a repair has when it asks for asides and files
-pub record IsPrepared (folder : Folder) (set : ParSet) (searched : List (List ℕ)) (needing : Needing) (slices : Option (List (List ℕ))) : Type 0 where
-  pub are : AreNeeding folder set searched needing
-  pub told : undetermined_fault set (known_by folder set searched) ≡ None
-  pub targets : targets_by set slices needing.unmatched.items ≡ rebuilt_targets folder set searched
 
 -- ---- purges
 

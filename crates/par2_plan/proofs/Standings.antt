@@ -1,5 +1,5 @@
 -- The standings of targets, one after the other.
-use Rattle.std.proofs.Common.{◌≡◌, ℕ, suc, List, [], ◌∷◌, ◌++◌, length, map, take, drop, refl, sym, ap, ap₂, subst, ◌∙◌, Bool, true, false, ◌⊎◌, inl, inr, Bor, Iter, MatchOption, append_assoc, arith}
+use Rattle.std.proofs.Common.{◌≡◌, ℕ, suc, List, [], ◌∷◌, ◌++◌, length, map, take, drop, refl, sym, ap, ap₂, ◌∙◌, Bool, true, false, ◌⊎◌, inl, inr, Bor, Iter, MatchOption, append_assoc, arith}
 use Rattle.std.specs.Prelude.{Option, Some, None, is_some, filter, slice_index_or}
 use Rattle.std.specs.Slice.Iter.{iter_rest}
 use Rattle.std.proofs.lemmas.List.{map-append, length-map, take-map, drop-map}
@@ -9,7 +9,7 @@ use Rattle.par2_spec.specs.Sets.{Target}
 use Rattle.par2_slices.specs.Texts.{padded_window, padded_windows}
 use Rattle.par2_spec.specs.Folders.{Folder}
 use Rattle.par2_plan.specs.Parts.{target_reports_by}
-use Rattle.par2_plan.specs.Views.{given_of, standing_of, standings_of}
+use Rattle.par2_plan.specs.Views.{GoesOn, given_of, standing_of, standings_of}
 use Rattle.par2_plan.specs.declared.finding.Standing as code
 use Rattle.par2_plan.specs.Findings.{Standing, needing_standing, standing_by, pairs_sought, sought_by, standings_by, AreSized}
 
@@ -29,30 +29,15 @@ standings_end f (b ∷ needing) (t ∷ ts) given (inr h) = absurd (let no : ⊥ 
 
 -- ---- what is given for a target
 
--- the matches go on after a target that needs one
-abbrev pub GoesOn : Bool → List (Option (List ℕ)) → Option (Bor (Option (List ℕ))) → List (Option (List ℕ)) → Type 0
-GoesOn true matches given later = (slice_index_or matches 0 None ≡ given_of given) × (later ≡ drop 1 matches)
-GoesOn false matches given later = later ≡ matches
-
 -- after the last match there is none
 given_out : (given later : List (Option (List ℕ))) → length given ≡ 0 → later ≡ given → (slice_index_or given 0 None ≡ None) × (later ≡ drop 1 given)
 given_out [] later h same = (refl, same)
 given_out (o ∷ given) later h same = absurd (let no : ⊥ = grind arith in no)
 
-next_given : (s t : Iter (Option (List ℕ))) (given : Option (Bor (Option (List ℕ))))
+pub next_given : (s t : Iter (Option (List ℕ))) (given : Option (Bor (Option (List ℕ))))
     → MatchOption given ((length (iter_rest s) ≡ 0) × (t ≡ s)) (λ x. iter_rest s ≡ x.now ∷ iter_rest t) → GoesOn true (iter_rest s) given (iter_rest t)
 next_given s t None h = given_out (iter_rest s) (iter_rest t) h.0 (ap iter_rest h.1)
 next_given s t (Some x) h = (ap (λ (os : List (Option (List ℕ))). slice_index_or os 0 None) h, sym (ap (λ (os : List (Option (List ℕ))). drop 1 os) h))
-
-pub goes_on : (needs : Bool) (s t u : Iter (Option (List ℕ))) (given next : Option (Bor (Option (List ℕ)))) → needs ≡ true → u ≡ t → given ≡ next
-    → MatchOption next ((length (iter_rest s) ≡ 0) × (t ≡ s)) (λ x. iter_rest s ≡ x.now ∷ iter_rest t) → GoesOn needs (iter_rest s) given (iter_rest u)
-goes_on false s t u given next e same is h = absurd (let no : ⊥ = cc in no)
-goes_on true s t u given next e same is h =
-    subst (λ v. GoesOn true (iter_rest s) given (iter_rest v)) (sym same) (subst (λ g. GoesOn true (iter_rest s) g (iter_rest t)) (sym is) (next_given s t next h))
-
-pub stays : (needs : Bool) (s u : Iter (Option (List ℕ))) (given : Option (Bor (Option (List ℕ)))) → needs ≡ false → u ≡ s → GoesOn needs (iter_rest s) given (iter_rest u)
-stays true s u given e same = absurd (let no : ⊥ = cc in no)
-stays false s u given e same = ap iter_rest same
 
 sought_more : (needs : Bool) (flags : List Bool) (t : Target) (ts : List Target) (matches later : List (Option (List ℕ))) (given : Option (Bor (Option (List ℕ)))) → GoesOn needs matches given later
     → sought_by (needs ∷ flags) (t ∷ ts) matches ≡ pairs_sought needs (given_of given) t.pairs ++ sought_by flags ts later

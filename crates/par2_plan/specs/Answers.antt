@@ -1,5 +1,5 @@
 -- What calls answer to a command.
-use Rattle.std.specs.Prelude.{◌≡◌, ◌⊎◌, ℕ, Bool, List, map, Option, None, Some, Result, Err, String, Vec, IfErr, IfOk, OnOk, IsErrOf, string_bytes}
+use Rattle.std.specs.Prelude.{◌≡◌, ◌⊎◌, ℕ, Bool, List, map, None, Some, Result, Err, String, IfErr, IfOk, OnOk, IsErrOf, string_bytes}
 use Rattle.par2_spec.specs.Answers.{FailsFor}
 use Rattle.par2_spec.specs.Changes.{Change, effects}
 use Rattle.par2_spec.specs.Commands.{Command, Repair, Verify}

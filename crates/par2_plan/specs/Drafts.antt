@@ -13,7 +13,7 @@ use Rattle.par2_spec.specs.Repairs.{rebuilt_targets, AreFew}
 use Rattle.par2_spec.specs.Sets.{ParSet, Target}
 use Rattle.par2_spec.specs.declared.Fault.{Fault}
 use Rattle.par2_spec.specs.declared.Fault.TheVariants.{RepairFailed}
-use Rattle.par2_restore.specs.Restoring.{md5s_of}
+use Rattle.par2_plan.specs.Restoring.{md5s_of}
 use Rattle.par2_plan.specs.Repairing.{WritesAsDescribed, repair_by}
 use Rattle.par2_plan.specs.Written.{texts_written}
 use Rattle.par2_plan.specs.declared.draft.Draft.{Draft}

@@ -7,6 +7,9 @@ pub mod Outputs
 pub mod Parts
 pub mod Readings
 pub mod Repairing
+pub mod Restoring
+pub mod SliceTexts
+pub mod Survivors
 pub mod Views
 pub mod Volumes
 pub mod Written

@@ -1,9 +1,8 @@
 -- The parts of a repair, by names of needing targets, their matches and asides in lists of the same order.
-use Rattle.std.specs.Prelude.{◌≡◌, ℕ, ◌++◌, Bool, not, List, [], length, map, filter, filter_map, zip, Option, Some, None, is_none, option_map, Ok, if◌then◌else◌}
+use Rattle.std.specs.Prelude.{◌≡◌, ◌⊎◌, ℕ, ◌++◌, Bool, not, List, [], length, map, filter, filter_map, zip, Option, Some, None, is_none, option_map, Ok, if◌then◌else◌}
 use Rattle.std.specs.Borrow.{Bor}
 use Rattle.std.specs.BTreeMap.{BTreeMap, get}
 use Rattle.std.specs.List.{AllByRecursion}
-use Rattle.std.specs.Option.{MatchOption}
 use Rattle.md5.specs.Md5.{md5}
 use Rattle.par2_spec.specs.Changes.{Change, Write, Rename, Remove}
 use Rattle.par2_spec.specs.Folders.{Folder, File, bytes_of}
@@ -13,11 +12,12 @@ use Rattle.par2_spec.specs.Refusals.{set_in}
 use Rattle.par2_spec.specs.Repairs.{names_without_match, put_aside, rebuilt, rebuilt_targets}
 use Rattle.par2_spec.specs.Search.{needing_names, known, lost}
 use Rattle.par2_spec.specs.Search as search
-use Rattle.par2_spec.specs.Sets.{all_pairs, ParSet, Target}
-use Rattle.par2_restore.specs.Restoring.{known_in, targets_among, undetermined_fault}
+use Rattle.par2_spec.specs.Sets.{ParSet, Target}
+use Rattle.par2_plan.specs.Restoring.{known_in, targets_among, files_of, md5s_of, undetermined_fault}
 use Rattle.par2_plan.specs.Findings.{matches_given}
 use Rattle.par2_plan.specs.Matches.{name_cmp}
 use Rattle.par2_plan.specs.declared.needing_targets.Needing.{Needing}
+use Rattle.par2_plan.specs.declared.restored_files.RestoredFiles.{RestoredFiles}
 
 -- ---- needing targets
 
@@ -46,21 +46,13 @@ IsWholeWhereMatched folder set searched = names_without_match (search.matches fo
 abbrev pub known_by : Folder → ParSet → List (List ℕ) → List (Option (List ℕ))
 known_by folder set searched = known_in set (map (bytes_of folder) searched)
 
--- all slices of a set, of which the lost ones are rebuilt
-pub record AreRestored (set : ParSet) (known : List (Option (List ℕ))) (slices : List (List ℕ)) : Type 0 where
-  pub determined : undetermined_fault set known ≡ None
-  pub are_rebuilt : slices ≡ rebuilt set known
-  pub count : length slices ≡ length (all_pairs set)
-  pub sizes : AllByRecursion (λ slice. length slice ≡ set.slice_size) slices
-
--- there are slices, unless none of these names wants any
-abbrev pub AreRestoredFor : ParSet → List (Option (List ℕ)) → List (List ℕ) → Option (List (List ℕ)) → Type 0
-AreRestoredFor set known names slices = MatchOption slices (names ≡ []) (AreRestored set known)
-
--- the targets of these names with their bytes, where there are slices
-abbrev pub targets_by : ParSet → Option (List (List ℕ)) → List (List ℕ) → List (Target × List ℕ)
-targets_by set None names = []
-targets_by set (Some slices) names = targets_among set slices names
+-- the files of the targets of these names, by the slices that are known; where there are names, the lost slices can be
+-- rebuilt
+pub record AreRestored (set : ParSet) (known : List (Option (List ℕ))) (names : List (List ℕ)) (restored : RestoredFiles) : Type 0 where
+  pub files : restored.files.items ≡ files_of (targets_among set (rebuilt set known) names)
+  pub md5s : restored.md5s.items ≡ md5s_of (targets_among set (rebuilt set known) names)
+  pub lengths : AllByRecursion (λ c. length c.1 ≡ c.0.length) (targets_among set (rebuilt set known) names)
+  pub determined : (names ≡ []) ⊎ (undetermined_fault set known ≡ None)
 
 -- a file has the length and the MD5 that its target describes
 pub record IsAsDescribed (c : Target × List ℕ) : Type 0 where
@@ -98,12 +90,15 @@ files_removed matching names = map Remove (filter (λ name. not (is_among matchi
 abbrev pub place_by : (List ℕ → List ℕ) → List (List ℕ) → List ℕ → List ℕ
 place_by aside names name = if is_among names name then aside name else name
 
--- the changes of a repair by its needing targets, their asides and the files that are written
-abbrev pub changes_by : (List ℕ → List ℕ) → Needing → List File → List Change
-changes_by aside needing files =
+-- files are put aside, and targets take their matches
+abbrev pub moves_by : (List ℕ → List ℕ) → Needing → List Change
+moves_by aside needing =
     renames needing.put_aside.items (map aside needing.put_aside.items)
     ++ matches_taken (place_by aside needing.put_aside.items) needing.names.items needing.matches.items
-    ++ writes files
+
+-- the changes of a repair by its needing targets, their asides and the files that are written
+abbrev pub changes_by : (List ℕ → List ℕ) → Needing → List File → List Change
+changes_by aside needing files = moves_by aside needing ++ writes files
 
 -- the removals of a repair that purges
 abbrev pub removals_by : (List ℕ → List ℕ) → Needing → List (List ℕ) → List Change

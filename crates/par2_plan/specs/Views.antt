@@ -1,5 +1,5 @@
 -- Standings and reports of this crate as those of the definitions.
-use Rattle.std.specs.Prelude.{◌≡◌, ℕ, Bool, List, [], length, Option, Some, None, map}
+use Rattle.std.specs.Prelude.{◌≡◌, ℕ, Bool, true, false, List, [], length, drop, Option, Some, None, map, slice_index_or}
 use Rattle.std.specs.Borrow.{Bor}
 use Rattle.par2_spec.specs.Checksums.{Pair}
 use Rattle.par2_spec.specs.Sets.{ParSet}
@@ -37,6 +37,11 @@ standings_of s standings = map (standing_of s) standings
 abbrev pub given_of : Option (Bor (Option (List ℕ))) → Option (List ℕ)
 given_of None = None
 given_of (Some given) = given.now
+
+-- the matches go on after a target that needs one
+abbrev pub GoesOn : Bool → List (Option (List ℕ)) → Option (Bor (Option (List ℕ))) → List (Option (List ℕ)) → Type 0
+GoesOn true matches given later = (slice_index_or matches 0 None ≡ given_of given) × (later ≡ drop 1 matches)
+GoesOn false matches given later = later ≡ matches
 
 -- the standings of a set's targets, of which some need a match, by those matches and by windows that stand where the
 -- slices of those without one are found

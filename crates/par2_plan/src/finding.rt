@@ -2,12 +2,13 @@
 ghost use Rattle.std.specs.Prelude.{◌≡◌, ◌≤◌, ◌+◌, ℕ, length, map, take, drop, IfOk};
 ghost use Rattle.std.specs.List.{IsDistinct};
 ghost use Rattle.std.specs.Str.{bytes_eq};
+ghost use Rattle.std.specs.Slice.Iter.{iter_rest};
 ghost use Rattle.par2_spec.specs.Folders.{bytes_of};
 ghost use Rattle.par2_spec.specs.Windows.{found};
 ghost use Rattle.par2_slices.specs.Texts.{padded_windows};
 ghost use Rattle.par2_spec.specs.Answers.{Lists};
 ghost use Rattle.par2_plan.specs.Findings.{pairs_sought, sought_by, standing_by, standings};
-ghost use Rattle.par2_plan.specs.Views.{given_of, standing_of, standings_of, AreStandingsBy};
+ghost use Rattle.par2_plan.specs.Views.{GoesOn, given_of, standing_of, standings_of, AreStandingsBy};
 
 use crate::candidates::texts_of;
 use crate::matching::{matches, needs};
@@ -16,6 +17,7 @@ use par2_slices::found_windows;
 use par2_sets::{ParSet, Target};
 use par2_slices::Pair;
 use std::alloc::{AllocError, Global};
+use std::slice::Iter;
 
 /// How it stands with a target.
 #[derive(Drop)]
@@ -26,6 +28,13 @@ pub enum Standing<'a> {
     Matched(Name),
     /// There is no match. Its slices stand where they are found, without zeros past the end of a file.
     Unmatched(Vec<Option<&'a [u8]>>),
+}
+
+// What is given for a target: the next match, if it needs one.
+fn next_given<'m>(needs: bool, matches: &mut Iter<'m, Option<Name>>) -> Option<&'m Option<Name>>
+    ensures { GoesOn needs (iter_rest matches.old) result (iter_rest matches.new) }
+{
+    if needs { matches.next() } else { None }
 }
 
 // The pairs of a target, where it needs a match and has none.
@@ -51,7 +60,7 @@ fn sought_pairs(
     let mut pairs = Vec::new(alloc);
     let mut matches = matches.iter();
     for (target, needs) in set.targets().iter().zip(needing) {
-        let given = if *needs { matches.next() } else { None };
+        let given = next_given(*needs, &mut matches);
         pairs.extend_from_slice(sought_of(target, *needs, given))?;
     }
     Ok(pairs)
@@ -122,7 +131,7 @@ fn standings_with<'a>(
     let mut matches = matches.iter();
     let mut first = 0;
     for (target, needs) in set.targets().iter().zip(needing) {
-        let given = if *needs { matches.next() } else { None };
+        let given = next_given(*needs, &mut matches);
         let own = part(windows, first, sought_of(target, *needs, given));
         first += own.len();
         standings.push(standing_with(alloc, *needs, given, own)?)?;

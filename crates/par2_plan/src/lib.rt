@@ -16,6 +16,8 @@ mod purge;
 mod reading;
 mod repair;
 mod report;
+mod restored_files;
+mod restored_slices;
 mod verify;
 mod volumes;
 mod words;

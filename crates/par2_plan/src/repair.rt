@@ -1,18 +1,16 @@
 //! What a repair changes.
-ghost use Rattle.std.specs.Prelude.{◌≡◌, ◌++◌, ℕ, List, length, map, string_bytes, IsTrue, IfOk, IfSome, OnOk};
-ghost use Rattle.std.specs.List.{AllByRecursion};
+ghost use Rattle.std.specs.Prelude.{◌≡◌, ◌++◌, ℕ, List, map, string_bytes, IsTrue, IfOk, OnOk};
 ghost use Rattle.md5.specs.Md5.{md5};
 ghost use Rattle.par2_spec.specs.Changes.{are_applicable};
 ghost use Rattle.par2_spec.specs.Plans.{AreFewFor};
 ghost use Rattle.par2_spec.specs.Refusals.{repair_refusal};
 ghost use Rattle.par2_spec.specs.Repairs.{aside, par_files};
 ghost use Rattle.par2_spec.specs.Search as search;
-ghost use Rattle.par2_spec.specs.Sets.{all_pairs};
-ghost use Rattle.par2_restore.specs.Restoring.{undetermined_fault, files_of, md5s_of};
+ghost use Rattle.par2_plan.specs.Restoring.{undetermined_fault};
 ghost use Rattle.par2_spec.specs.Answers.{FailsFor};
 ghost use Rattle.par2_plan.specs.Answers.{FailsAs, GivesChanges, LeadsAs, RefusesEarly, SucceedsAs, repair_of};
 ghost use Rattle.par2_plan.specs.Drafts.{IsDraft, IsDraftBy};
-ghost use Rattle.par2_plan.specs.Repairing.{IsWholeWhereMatched, AreNeeding, AreRestoredFor, known_by, targets_by, changes_by, removals_by, with_removals, WritesAsDescribed};
+ghost use Rattle.par2_plan.specs.Repairing.{IsWholeWhereMatched, AreNeeding, AreRestored, known_by, moves_by, changes_by, removals_by, with_removals, WritesAsDescribed};
 ghost use Rattle.par2_plan.specs.Written.{texts_written};
 
 use crate::candidates::{candidates, texts_of};
@@ -22,60 +20,55 @@ use crate::moves::{
 };
 use crate::needing_targets::{Needing, needing_of};
 use crate::reading::read;
+use crate::restored_files::{RestoredFiles, restored_files};
+use crate::restored_slices::restored_slices;
 use crate::{Changes, Draft};
 use par2_sets::{asides, par_files};
 use par2_digests::text_digests;
 use par2_folder::{Bytes, Folder, Name};
-use par2_restore::{RestoredFiles, Slices, restored_files, restored_slices};
 use par2_sets::ParSet;
 use par2_spec::Fault;
 use std::alloc::{AllocError, Global};
 
-// All slices of a set, where a target is without a match.
-fn slices_for<'a>(
+// The files of the targets without a match, by slices that are found or rebuilt. Where there are none, nothing is
+// searched.
+fn files_for<'a>(
     alloc: Global,
     folder: &'a Folder,
     set: &ParSet<'a>,
     candidates: &[Name],
     unmatched: &[Name],
-) -> Result<Option<Slices<'a>>, Fault>
+) -> Result<RestoredFiles, Fault>
     ensures refused { let known = known_by folder.now.files set.now candidates.now in
         FailsFor (undetermined_fault set.now known) result }
-    ensures slices { let known = known_by folder.now.files set.now candidates.now in
-        IfOk result (AreRestoredFor set.now known unmatched.now) }
+    ensures restored { let known = known_by folder.now.files set.now candidates.now in
+        IfOk result (AreRestored set.now known unmatched.now) }
 {
     if unmatched.is_empty() {
-        return Ok(None);
+        return Ok(RestoredFiles {
+            files: Vec::new(alloc),
+            md5s: Vec::new(alloc),
+        });
     }
     let texts = texts_of(alloc, folder, candidates)?;
     let slices = restored_slices(alloc, set, &texts)?;
-    Ok(Some(slices))
+    Ok(restored_files(alloc, set, &slices, unmatched)?)
 }
 
-// The files of the targets without a match. Each has the length that its target describes.
-fn files_for(
+// Files are put aside, and targets take their matches.
+fn push_moves(
     alloc: Global,
-    set: &ParSet,
-    slices: &Option<Slices>,
-    unmatched: &[Name],
-) -> Result<RestoredFiles, AllocError>
-    requires count { IfSome slices.now (λ all. length all ≡ length (all_pairs set.now)) }
-    requires sizes { IfSome slices.now (λ all.
-        AllByRecursion (λ slice. length slice ≡ set.now.slice_size) all) }
-    ensures files { let targets = targets_by set.now slices.now unmatched.now in
-        IfOk result (λ restored. restored.files.items ≡ files_of targets) }
-    ensures md5s { let targets = targets_by set.now slices.now unmatched.now in
-        IfOk result (λ restored. restored.md5s.items ≡ md5s_of targets) }
-    ensures lengths { let targets = targets_by set.now slices.now unmatched.now in
-        IfOk result (λ _. AllByRecursion (λ c. length c.1 ≡ c.0.length) targets) }
+    changes: &mut Changes,
+    needing: &Needing,
+    asides: &[Name],
+) -> Result<(), AllocError>
+    ensures { (aside : List ℕ → List ℕ)
+        → asides.now ≡ map aside needing.now.put_aside.items
+        → OnOk result (changes.new ≡ changes.old ++ moves_by aside needing.now) }
 {
-    match slices {
-        Some(slices) => restored_files(alloc, set, slices, unmatched),
-        None => Ok(RestoredFiles {
-            files: Vec::new(alloc),
-            md5s: Vec::new(alloc),
-        }),
-    }
+    push_renames(changes, &needing.put_aside, asides)?;
+    let places = asides_by_name(alloc, &needing.put_aside, asides)?;
+    push_matches(changes, &needing.names, &needing.matches, &places)
 }
 
 // The changes of a repair that doesn't purge.
@@ -90,9 +83,7 @@ fn repair_changes(
         → IfOk result (λ changes. changes ≡ changes_by aside needing.now files.items) }
 {
     let mut changes = Changes::new(alloc);
-    push_renames(&mut changes, &needing.put_aside, asides)?;
-    let places = asides_by_name(alloc, &needing.put_aside, asides)?;
-    push_matches(&mut changes, &needing.names, &needing.matches, &places)?;
+    push_moves(alloc, &mut changes, needing, asides)?;
     push_writes(&mut changes, files)?;
     Ok(changes)
 }
@@ -153,9 +144,8 @@ fn draft_with(
     ensures refused { FailsFor (repair_refusal folder.now.files set.now candidates.now) result }
     ensures draft { IfOk result (IsDraftBy purge folder.now.files set.now candidates.now) }
 {
-    let slices = slices_for(alloc, folder, set, candidates, &needing.unmatched)?;
+    let restored = files_for(alloc, folder, set, candidates, &needing.unmatched)?;
     let asides = asides(alloc, folder, set, &needing.put_aside)?;
-    let restored = files_for(alloc, set, &slices, &needing.unmatched)?;
     let files = restored.files;
     let changes = changes_with(alloc, folder, set, needing, &asides, files, purge)?;
     let md5s = restored.md5s;

@@ -132,28 +132,27 @@ fn places_of(
     Ok(places)
 }
 
-// The bytes of the volumes with all recovery slices, which are written where they belong.
-fn filled(
+// Writes the recovery slices of all volumes where they belong.
+fn write_slices(
     alloc: Global,
     gf: &Gf,
     parts: &Parts,
     inputs: &[&[u8]],
     volumes: &[Volume],
-) -> Result<Vec<Vec<u8>>, AllocError>
+    texts: &mut [Vec<u8>],
+) -> Result<(), AllocError>
     requires parts { HasSlices parts.now }
     requires fits { 68 + parts.now.set.now.slice ≤ usize.MAX }
     requires inputs { ListsInputs parts.now inputs.now }
     requires exponents { HaveExponents volumes.now }
-    ensures { IfOk result (AreTexts (with_slices parts.now) volumes.now) }
+    requires before { lists_of texts.old ≡ map (blank_volume parts.now) volumes.now }
+    ensures { OnOk result (lists_of texts.new ≡ map (with_slices parts.now) volumes.now) }
 {
     fit_id(&parts.set_id);
-    let mut texts = blank_volumes(alloc, parts, volumes)?;
     let exponents = exponents_of(alloc, volumes)?;
-    let places = places_of(alloc, parts, volumes, &texts)?;
+    let places = places_of(alloc, parts, volumes, texts)?;
     let outputs = Places::new(&places, parts.set.slice as usize / 2);
-    let bytes = texts.as_mut_slice();
-    write_recovery_slices(alloc, gf, inputs, &exponents, bytes, &outputs)?;
-    Ok(texts)
+    write_recovery_slices(alloc, gf, inputs, &exponents, texts, &outputs)
 }
 
 // Puts the MD5s into a volume.
@@ -231,8 +230,10 @@ fn texts_over(
     if parts.set.slice > (usize::MAX - RECOVERY_HEAD) as u64 {
         return Err(AllocError);
     }
-    let mut texts = filled(alloc, gf, parts, inputs, volumes)?;
-    digest_volumes(alloc, texts.as_mut_slice(), parts, volumes)?;
+    let mut texts = blank_volumes(alloc, parts, volumes)?;
+    let bytes = texts.as_mut_slice();
+    write_slices(alloc, gf, parts, inputs, volumes, bytes)?;
+    digest_volumes(alloc, bytes, parts, volumes)?;
     Ok(texts)
 }
 

@@ -143,3 +143,8 @@ returns-in_err-changes-clause-early c fault early = absurd (never_found _ fault 
 
 pub returns-clause-early : goal.returns-clause-early
 returns-clause-early c fault early = absurd (never_found _ fault (none_early (goal.at.returns-clause-early c).After-set_of_inputs) early)
+
+pub outputs_written-requires-clause-volumes : goal.outputs_written-requires-clause-volumes
+outputs_written-requires-clause-volumes c =
+    let a = create_args_of c.args.args.now in
+    c.deref-3.ensures.value ∙ c.in_ok-volumes.ensures.volumes ∙ ap (λ base. volumes_of base a.first a.count) c.in_ok-base.ensures.name

@@ -5,23 +5,17 @@ use Rattle.std.specs.Slice.Iter.{iter_rest}
 use Rattle.std.proofs.lemmas.Slice.Zip.{Zip-more, either_empty_from_Zip}
 use Rattle.par2_spec.specs.Checksums.{Pair}
 use Rattle.par2_plan.specs.Findings.{sought_by}
-use Rattle.par2_plan.proofs.Standings.{GoesOn, goes_on, stays, sought_on, sought_end}
+use Rattle.par2_plan.proofs.Standings.{sought_on, sought_end}
 use Rattle.par2_plan.proofs.finding.sought_pairs.Goals as goal
-use Rattle.par2_plan.proofs.finding.sought_pairs.Goals.{then-needs, else-needs}
 
 pub loop-target-preserved : goal.loop-target-preserved
 loop-target-preserved c =
     let more = Zip-more c.loop-target.target-iterator c.next.new.self c.next.result _ c.in-Some.is c.next.ensures.steps in
     let needs : Bool = c.in-Some.needs.now in
     let matches : List (Option (List ℕ)) = iter_rest c.loop-target.matches in
-    let later : List (Option (List ℕ)) = iter_rest c.if-needs.matches in
-    let on : GoesOn needs matches c.if-needs.given later =
-    elim c.if-needs.branch as (λ _. GoesOn needs matches c.if-needs.given later) [
-      | then-needs w ↦ goes_on needs c.loop-target.matches w.next-given.new.self c.if-needs.matches c.if-needs.given w.next-given.result w.if-needs.true w.matches-is w.given-is w.next-given.ensures.steps
-      | else-needs w ↦ stays needs c.loop-target.matches c.if-needs.matches c.if-needs.given w.if-needs.false w.matches-is
-    ] in
+    let later : List (Option (List ℕ)) = iter_rest c.next_given-given.new.matches in
     let old : List Pair = c.loop-target.pairs.items in
-    sought_on needs _ _ c.in-Some.target.now _ _ matches later c.if-needs.given old _ _ on more.1 more.0 (c.in_ok-extend_from_slice.ensures.items ∙ ap (λ ps. old ++ ps) c.sought_of.ensures) c.loop-target.invariant
+    sought_on needs _ _ c.in-Some.target.now _ _ matches later c.next_given-given.result old _ _ c.next_given-given.ensures more.1 more.0 (c.in_ok-extend_from_slice.ensures.items ∙ ap (λ ps. old ++ ps) c.sought_of.ensures) c.loop-target.invariant
 
 pub returns : goal.returns
 returns c =

@@ -10,9 +10,8 @@ use Rattle.par2_slices.specs.Texts.{padded_windows}
 use Rattle.par2_plan.specs.Findings.{pairs_sought, standing_by, standings_by, sought_by}
 use Rattle.par2_plan.specs.Views.{given_of, standings_of}
 use Rattle.par2_plan.specs.declared.finding.Standing as code
-use Rattle.par2_plan.proofs.Standings.{GoesOn, goes_on, stays, stands_more, standings_end}
+use Rattle.par2_plan.proofs.Standings.{stands_more, standings_end}
 use Rattle.par2_plan.proofs.finding.standings_with.Goals as goal
-use Rattle.par2_plan.proofs.finding.standings_with.Goals.{then-needs, else-needs}
 
 pub loop-target-preserved : goal.loop-target-preserved
 loop-target-preserved c =
@@ -24,13 +23,8 @@ loop-target-preserved c =
     let flags : List Bool = iter_rest (zip_second c.next.new.self) in
     let ts : List Target = iter_rest (zip_first c.next.new.self) in
     let matches : List (Option (List ℕ)) = iter_rest c.loop-target.matches in
-    let later : List (Option (List ℕ)) = iter_rest c.if-needs.matches in
-    let on : GoesOn needs matches c.if-needs.given later =
-    elim c.if-needs.branch as (λ _. GoesOn needs matches c.if-needs.given later) [
-      | then-needs w ↦ goes_on needs c.loop-target.matches w.next-given.new.self c.if-needs.matches c.if-needs.given w.next-given.result w.if-needs.true w.matches-is w.given-is w.next-given.ensures.steps
-      | else-needs w ↦ stays needs c.loop-target.matches c.if-needs.matches c.if-needs.given w.if-needs.false w.matches-is
-    ] in
-    let o : Option (List ℕ) = given_of c.if-needs.given in
+    let later : List (Option (List ℕ)) = iter_rest c.next_given-given.new.matches in
+    let o : Option (List ℕ) = given_of c.next_given-given.result in
     let count : ℕ = length (pairs_sought needs o t.pairs) in
     let windows : List (Option (Bor (List ℕ))) = c.args.windows.now in
     let rest : List (Option (Bor (List ℕ))) = drop c.loop-target.first windows in
@@ -40,7 +34,7 @@ loop-target-preserved c =
       c.part-own.ensures.within,
       λ find_slice h.
           let now = c.loop-target.invariant.1 find_slice h in
-          let step = stands_more s find_slice needs flags t ts matches later c.if-needs.given rest done standing _ on
+          let step = stands_more s find_slice needs flags t ts matches later c.next_given-given.result rest done standing _ c.next_given-given.ensures
           (c.in_ok-standing_with.ensures s ∙ ap (λ ws. standing_by needs o (padded_windows s ws)) own)
           (now.1 ∙ ap₂ (λ (fs : List Bool) (us : List Target). map find_slice (sought_by fs us matches)) more.1 more.0)
           (ap₂ (λ (fs : List Bool) (us : List Target). standings_of s done ++ standings_by find_slice fs us matches) (sym more.1) (sym more.0) ∙ now.0) in (

@@ -33,3 +33,10 @@ returns-in_err-add_volume-clause-refused c =
       | inl memory ↦ inl memory
       | inr long ↦ inr (one_is_long c.args.base.now c.args.first c.args.count c.loop-i.i fault c.loop-i-test.true long)
     ])
+
+pub add_volume-requires-clause-number : goal.add_volume-requires-clause-number
+add_volume-requires-clause-number c = omega arith
+
+pub returns-clause-volumes : goal.returns-clause-volumes
+returns-clause-volumes c =
+    subst (λ i. c.loop-i.volumes.items ≡ volumes_below c.args.base.now c.args.first c.args.count i) (let e : c.loop-i.i ≡ 17 = omega arith in e) c.loop-i.invariant.0

@@ -1,39 +1,31 @@
 use Rattle.std.proofs.Common.{◌≡◌, ◌∙◌, List, ℕ, length, ap, subst, Some, None}
 use Rattle.std.specs.List.{AllByRecursion}
 use Rattle.std.proofs.lemmas.Result.{err_from_is_err_and}
+use Rattle.par2_spec.specs.Folders.{File}
 use Rattle.par2_spec.specs.Refusals.{repair_refusal}
+use Rattle.par2_spec.specs.Repairs.{rebuilt_targets}
 use Rattle.par2_sets.specs.Asides.{long_aside}
-use Rattle.par2_restore.specs.Restoring.{undetermined_fault, files_of, md5s_of}
-use Rattle.par2_plan.specs.Repairing.{AreNeeding, AreRestoredFor, known_by, targets_by}
+use Rattle.par2_plan.specs.Restoring.{undetermined_fault, files_of, md5s_of}
+use Rattle.par2_plan.specs.Repairing.{known_by}
 use Rattle.par2_plan.proofs.PassedAnswers.{refused_by}
-use Rattle.par2_plan.proofs.RepairParts.{IsPrepared, told_by, targets_are, not_repairable, too_long, by_digests, all_changes}
+use Rattle.par2_plan.proofs.RepairParts.{told_by, targets_are, not_repairable, too_long, by_digests, all_changes}
 use Rattle.par2_plan.proofs.repair.draft_with.Goals.{After-asides}
 use Rattle.par2_plan.proofs.repair.draft_with.Goals as goal
 
-prepared : (c : After-asides) → IsPrepared c.args.folder.now.files c.args.set.now c.args.candidates.now c.args.needing.now c.in_ok-slices.slices
-prepared c =
-    let folder = c.args.folder.now.files in
-    let set = c.args.set.now in
-    let searched : List (List ℕ) = c.args.candidates.now in
-    let unmatched = c.args.needing.now.unmatched.items in
-    let slices = c.in_ok-slices.slices in
-    let are : AreNeeding folder set searched c.args.needing.now = c.requires.needing in
-    let restored : AreRestoredFor set (known_by folder set searched) unmatched slices =
-    subst (λ ns. AreRestoredFor set (known_by folder set searched) ns slices) c.deref.ensures.value c.in_ok-slices.ensures.slices in
-    record {
-      are = are;
-      told = told_by folder set searched unmatched slices are.unmatched c.requires.whole restored;
-      targets = targets_are folder set searched unmatched slices are.unmatched restored;
-    }
+-- the lost slices can be rebuilt, if there are any
+told : (c : After-asides) → undetermined_fault c.args.set.now (known_by c.args.folder.now.files c.args.set.now c.args.candidates.now) ≡ None
+told c =
+    told_by c.args.folder.now.files c.args.set.now c.args.candidates.now c.deref.result.now
+    (c.deref.ensures.value ∙ c.requires.needing.unmatched) c.requires.whole c.in_ok-restored.ensures.restored.determined
 
-pub returns-in_err-slices-clause-refused : goal.returns-in_err-slices-clause-refused
-returns-in_err-slices-clause-refused c =
+pub returns-in_err-restored-clause-refused : goal.returns-in_err-restored-clause-refused
+returns-in_err-restored-clause-refused c =
     let folder = c.args.folder.now.files in
     let set = c.args.set.now in
     let searched : List (List ℕ) = c.args.candidates.now in
-    let fault = c.in_err-slices.field-0.0 in
+    let fault = c.in_err-restored.field-0.0 in
     refused_by (λ y. undetermined_fault set (known_by folder set searched) ≡ Some y) (λ y. repair_refusal folder set searched ≡ Some y) c.from_residual.result fault
-    (err_from_is_err_and c.from_residual.result c.from_residual.ensures.1) c.in_err-slices.ensures.refused
+    (err_from_is_err_and c.from_residual.result c.from_residual.ensures.1) c.in_err-restored.ensures.refused
     (not_repairable folder set searched fault)
 
 pub returns-in_err-asides-clause-refused : goal.returns-in_err-asides-clause-refused
@@ -41,25 +33,26 @@ returns-in_err-asides-clause-refused c =
     let folder = c.args.folder.now.files in
     let set = c.args.set.now in
     let searched : List (List ℕ) = c.args.candidates.now in
-    let is = prepared (goal.at.returns-in_err-asides-clause-refused c).After-asides in
     let fault = c.in_err-asides.field-0.0 in
     refused_by (λ y. long_aside folder set c.deref-2.result.now ≡ Some y) (λ y. repair_refusal folder set searched ≡ Some y) c.from_residual-in_err-asides.result fault
     (err_from_is_err_and c.from_residual-in_err-asides.result c.from_residual-in_err-asides.ensures.1) c.in_err-asides.ensures.refused
-    (λ h. too_long folder set searched is.told fault (subst (λ ns. long_aside folder set ns ≡ Some fault) (c.deref-2.ensures.value ∙ is.are.put_aside) h))
+    (λ h. too_long folder set searched (told (goal.at.returns-in_err-asides-clause-refused c).After-asides) fault
+    (subst (λ ns. long_aside folder set ns ≡ Some fault) (c.deref-2.ensures.value ∙ c.requires.needing.put_aside) h))
 
 pub returns-clause-draft : goal.returns-clause-draft
 returns-clause-draft c =
     let folder = c.args.folder.now.files in
     let set = c.args.set.now in
     let searched : List (List ℕ) = c.args.candidates.now in
-    let is = prepared (goal.at.returns-clause-draft c).After-asides in
-    let short = subst (λ ns. long_aside folder set ns ≡ None) (c.deref-2.ensures.value ∙ is.are.put_aside) c.in_ok-asides.ensures.short in
-    let targets = ap (targets_by set c.in_ok-slices.slices) c.deref-3.ensures.value ∙ is.targets in
-    let restored = c.in_ok-restored.ensures in
+    let short = subst (λ ns. long_aside folder set ns ≡ None) (c.deref-2.ensures.value ∙ c.requires.needing.put_aside) c.in_ok-asides.ensures.short in
+    let targets = targets_are folder set searched c.deref.result.now (c.deref.ensures.value ∙ c.requires.needing.unmatched) in
+    let restored = c.in_ok-restored.ensures.restored in
+    let files : List File = c.in_ok-restored.restored.files.items in
+    let are : files ≡ files_of (rebuilt_targets folder set searched) = restored.files ∙ ap files_of targets in
     record {
-      changes = c.in_ok-changes.ensures ∙ all_changes folder set searched c.args.needing.now is.are c.args.purge c.in_ok-restored.restored.files.items (restored.files ∙ ap files_of targets);
+      changes = c.in_ok-changes.ensures ∙ all_changes folder set searched c.args.needing.now c.requires.needing c.args.purge files are;
       md5s = restored.md5s ∙ ap md5s_of targets;
       lengths = subst (AllByRecursion (λ t. length t.1 ≡ t.0.length)) targets restored.lengths;
-      cause = by_digests folder set searched is.told short;
+      cause = by_digests folder set searched (told (goal.at.returns-clause-draft c).After-asides) short;
       few = c.in_ok-asides.ensures.few;
     }

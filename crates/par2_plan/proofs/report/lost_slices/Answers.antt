@@ -89,3 +89,12 @@ returns-clause-low c =
     let few : 0 + length (flat_map (λ (u : Target). u.pairs) set.targets) ≤ 32768 = omega (arith, sound.slices) in
     let all = lost_below 0 32768 set.targets (standings_of set.slice_size c.args.standings.now) c.requires few in
     all_at (λ i. i < 32768) 0 (omega arith) c.loop-target.lost.items (subst (AllByRecursion (λ i. i < 32768)) (sym (returns-clause-numbers c)) all)
+
+pub overflow_add-first : goal.overflow_add-first
+overflow_add-first c =
+    let it = c.loop-target.target-iterator in
+    let more = Zip-more it c.next.new.self c.next.result _ c.in-Some.is c.next.ensures.steps in
+    let t : Target = c.in-Some.target.now in
+    let ts : List Target = iter_rest (zip_first c.next.new.self) in
+    let few = few_rest c.loop-target.first 32768 t ts (subst (λ (us : List Target). c.loop-target.first + length (flat_map (λ (u : Target). u.pairs) us) ≤ 32768) more.0 c.loop-target.invariant.few) in
+    omega (arith, few, ap (λ (ps : List Pair). length ps) c.pairs.ensures)

@@ -1,4 +1,4 @@
-use Rattle.std.proofs.Common.{◌∙◌, ◌++◌, ◌∷◌, [], ℕ, List, map, sym, ap, append_assoc, zero-add}
+use Rattle.std.proofs.Common.{◌≡◌, ◌∙◌, ◌++◌, ◌∷◌, [], ℕ, List, map, sym, ap, append-nil, append_assoc, zero-add, arith}
 use Rattle.std.specs.List.{range_with_len}
 use Rattle.std.proofs.lemmas.List.FromFn.{map-range_with_len_more}
 use Rattle.par2_transform.specs.declared.outputs.Place.{Place}
@@ -16,3 +16,11 @@ loop-k-preserved c =
     ∙ ap (λ (xs : List Place). xs ++ place k ∷ []) c.loop-k.invariant
     ∙ append_assoc was (map place (range_with_len 0 k)) (place k ∷ [])
     ∙ ap (λ (xs : List Place). was ++ xs) (sym (map-range_with_len_more place 0 k k (zero-add k)))
+
+pub loop-k-init : goal.loop-k-init
+loop-k-init c = sym (append-nil c.args.places.now.items)
+
+pub returns : goal.returns
+returns c =
+    c.loop-k.invariant
+    ∙ ap (λ n. c.args.places.now.items ++ map (place_in c.args.parts.now c.args.i) (range_with_len 0 n)) (let e : c.loop-k.k ≡ c.args.volume.now.count = omega arith in e)

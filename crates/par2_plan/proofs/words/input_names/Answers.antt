@@ -1,7 +1,7 @@
 use Rattle.std.proofs.Common.{◌≡◌, ◌<◌, ◌+◌, ◌∙◌, ◌++◌, ◌∷◌, [], ℕ, List, length, map, get_or, sym, ap, ap₂, subst, inl, inr, true, false, not, arith, rules, string_bytes, Some}
 use Rattle.std.specs.Prelude.{option_map, position}
 use Rattle.std.proofs.lemmas.Bool.{cases_lt}
-use Rattle.std.proofs.lemmas.List.{length-map, take_more, take-map}
+use Rattle.std.proofs.lemmas.List.{length-map, take_all, take_more, take-map}
 use Rattle.par2_spec.specs.Refusals.{is_input_name}
 use Rattle.par2_spec.specs.declared.Fault.TheVariants.{BadName}
 use Rattle.par2_plan.proofs.SliceLists.{get_at_place}
@@ -39,3 +39,9 @@ returns-clause-accepted c =
     let words : List (List ℕ) = map string_bytes c.args.words.now in
     let size : length words ≡ length c.args.words.now = length-map c.args.words.now string_bytes in
     ap (option_map (λ k. BadName (1 + k))) (found_nowhere (λ w. not (is_input_name w)) words [] (λ k h. ap not (c.loop-i.invariant.1 k (omega (arith, h, size, c.loop-i-test.false)))))
+
+pub loop-i-init : goal.loop-i-init
+loop-i-init c = (c.new-names.ensures.items, λ k low. absurd (omega (arith, low)))
+
+pub returns-clause-names : goal.returns-clause-names
+returns-clause-names c = c.loop-i.invariant.0 ∙ ap (map string_bytes) (take_all c.loop-i.i c.args.words.now c.loop-i-test.false)

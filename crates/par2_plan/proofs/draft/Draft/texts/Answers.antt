@@ -2,7 +2,7 @@ use Rattle.std.proofs.Common.{◌≡◌, ◌∙◌, ◌<◌, ◌+◌, ◌++◌, 
 use Rattle.std.specs.Prelude.{Option, Some, None, option_to_list}
 use Rattle.std.specs.List.{cons_option}
 use Rattle.std.specs.Option.{option_copied}
-use Rattle.std.proofs.lemmas.List.{map-append, map_more}
+use Rattle.std.proofs.lemmas.List.{map-append, map_more, take_all}
 use Rattle.std.proofs.lemmas.List.Elements.{filter_map-append}
 use Rattle.par2_digests.specs.Texts.{texts_of}
 use Rattle.par2_folder.specs.Views.{change_of}
@@ -44,3 +44,12 @@ loop-change-preserved c =
           let known : bytes_written (change_of item) ≡ None = sym c.bytes_of.ensures ∙ ap (λ (o : Option (Bor (List ℕ))). option_copied o) w.in_default.is in
           ap (λ (l : List (Bor (List ℕ))). texts_of l) same ∙ c.loop-change.invariant ∙ sym (more ∙ ap (λ o. before ++ option_to_list o) known ∙ append-nil before)
     ]
+
+pub loop-change-init : goal.loop-change-init
+loop-change-init c = ap (λ (texts : List (Bor (List ℕ))). texts_of texts) c.in_ok-texts.ensures.items
+
+pub returns : goal.returns
+returns c =
+    c.loop-change.invariant
+    ∙ ap (λ (changes : List Change). texts_written (map change_of changes)) (take_all c.loop-change.change-index c.as_slice-change-items.result.now c.loop-change-test.false)
+    ∙ ap texts_written c.as_slice-change-items.ensures

@@ -1,0 +1,42 @@
+use Rattle.std.proofs.Common.{◌≡◌, ◌∙◌, List, ℕ, Bor, length, sym, ap, subst, inr, rules, Some}
+use Rattle.std.specs.List.{AllByRecursion}
+use Rattle.std.proofs.lemmas.List.{nil_from_length}
+use Rattle.std.proofs.lemmas.Result.{err_from_is_err_and}
+use Rattle.par2_spec.specs.Repairs.{rebuilt}
+use Rattle.par2_slices.specs.Texts.{texts_of}
+use Rattle.par2_plan.specs.Restoring.{known_in, targets_among, undetermined_fault, files_of, md5s_of}
+use Rattle.par2_plan.specs.Repairing.{known_by}
+use Rattle.par2_plan.proofs.PassedAnswers.{refused_by}
+use Rattle.par2_plan.proofs.RepairParts.{none_restored}
+use Rattle.par2_plan.proofs.repair.files_for.Goals.{After-restored_slices}
+use Rattle.par2_plan.proofs.repair.files_for.Goals as goal
+
+-- the slices that are known in the texts are those of the candidates
+known : (c : After-restored_slices) → known_in c.args.set.now (texts_of c.deref.result.now) ≡ known_by c.args.folder.now.files c.args.set.now c.args.candidates.now
+known c = ap (λ (ts : List (Bor (List ℕ))). known_in c.args.set.now (texts_of ts)) c.deref.ensures.value ∙ ap (known_in c.args.set.now) c.in_ok-texts.ensures
+
+pub returns-then-is_empty-clause-restored : goal.returns-then-is_empty-clause-restored
+returns-then-is_empty-clause-restored c =
+    none_restored c.args.set.now _ c.args.unmatched.now _ (nil_from_length c.args.unmatched.now (search rules)) (search rules) (search rules)
+
+pub returns-in_err-slices-clause-refused : goal.returns-in_err-slices-clause-refused
+returns-in_err-slices-clause-refused c =
+    let set = c.args.set.now in
+    let is = known (goal.at.returns-in_err-slices-clause-refused c).After-restored_slices in
+    let fault = c.in_err-slices.field-0.0 in
+    refused_by (λ y. undetermined_fault set (known_in set (texts_of c.deref.result.now)) ≡ Some y) (λ y. undetermined_fault set (known_by c.args.folder.now.files set c.args.candidates.now) ≡ Some y) c.from_residual-in_err-slices.result fault
+    (err_from_is_err_and c.from_residual-in_err-slices.result c.from_residual-in_err-slices.ensures.1) c.in_err-slices.ensures.refused
+    (λ h. sym (ap (undetermined_fault set) is) ∙ h)
+
+pub returns-clause-restored : goal.returns-clause-restored
+returns-clause-restored c =
+    let set = c.args.set.now in
+    let is = known (goal.at.returns-clause-restored c).After-restored_slices in
+    let targets = ap (λ slices. targets_among set slices c.args.unmatched.now) (c.in_ok-slices.ensures.slices ∙ ap (rebuilt set) is) in
+    let restored = c.in_ok-restored_files.ensures in
+    record {
+      files = restored.files ∙ ap files_of targets;
+      md5s = restored.md5s ∙ ap md5s_of targets;
+      lengths = subst (AllByRecursion (λ t. length t.1 ≡ t.0.length)) targets restored.lengths;
+      determined = inr (sym (ap (undetermined_fault set) is) ∙ c.in_ok-slices.ensures.determined);
+    }

@@ -1,0 +1,6 @@
+use Rattle.std.proofs.Common.{take}
+use Rattle.par2_plan.specs.Matches.{HoldsNames}
+use Rattle.par2_plan.proofs.restored_files.tree_of.Given as goal
+
+abbrev pub invariant-loop-name : goal.invariant-loop-name
+invariant-loop-name l = HoldsNames l.tree (take l.name-index l.names)

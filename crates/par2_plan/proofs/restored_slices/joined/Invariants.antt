@@ -1,0 +1,7 @@
+use Rattle.std.proofs.Common.{◌≡◌, take}
+use Rattle.std.specs.List.{concat}
+use Rattle.par2_plan.specs.SliceTexts.{slices_of}
+use Rattle.par2_plan.proofs.restored_slices.joined.Given as goal
+
+abbrev pub invariant-loop-slice : goal.invariant-loop-slice
+invariant-loop-slice l = l.file.items ≡ take l.size (concat (slices_of l.slice_size (take l.slice-index l.slices)))

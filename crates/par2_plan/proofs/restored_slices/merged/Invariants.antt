@@ -1,0 +1,9 @@
+use Rattle.std.proofs.Common.{◌≡◌, ◌++◌, map, drop}
+use Rattle.std.specs.Vec.Iter.{into_iter_items}
+use Rattle.par2_spec.specs.Sums.{lists_of}
+use Rattle.par2_plan.specs.SliceTexts.{windows_and_texts, text_of}
+use Rattle.par2_plan.proofs.restored_slices.merged.Given as goal
+
+abbrev pub invariant-loop-window : goal.invariant-loop-window
+invariant-loop-window l =
+    map text_of l.slices.items ++ windows_and_texts (drop l.window-index l.windows) (lists_of (into_iter_items l.texts)) ≡ windows_and_texts l.windows (lists_of l.fn.rebuilt.items)

@@ -1,0 +1,25 @@
+use Rattle.std.proofs.Common.{◌≡◌, ◌∙◌, ◌++◌, ◌+◌, ◌-◌, List, ℕ, length, take, cond, min, rules, ap, ap₂}
+use Rattle.std.specs.Prelude.{Result, Ok, Err, OnOk, is_ok, replicate, vec_len}
+use Rattle.par2_plan.proofs.Cutting.{one_more_slice}
+use Rattle.par2_plan.proofs.restored_slices.push_slice.Goals as goal
+
+pub returns : goal.returns
+returns c =
+    let size = c.args.size in
+    let s = c.args.slice_size in
+    let old : List ℕ = c.args.file.now.items in
+    let text : List ℕ = c.args.slice.now in
+    let file : List ℕ = c.extend_from_slice.new.self.items in
+    let room : c.min.result ≡ min (size - length old) (length text) = search rules in
+    let made : file ≡ old ++ take (min (size - length old) (length text)) text = c.in_ok-extend_from_slice.ensures.items ∙ ap (λ n. old ++ take n text) room in
+    let long : length file + c.min-2.result ≡ length file + min (size - length file) (s - length text) = search rules in
+    let one = one_more_slice size s old text file (length file + c.min-2.result) c.requires made long in
+    let count : c.len-3.result ≡ length file = search rules in
+    let same : vec_len c.extend_from_slice.new.self ≡ length file = search rules in
+    let cut : take (c.len-3.result + c.min-2.result) file ++ replicate (c.len-3.result + c.min-2.result - vec_len c.extend_from_slice.new.self) 0 ≡ take (length file + c.min-2.result) file ++ replicate (length file + c.min-2.result - length file) 0 =
+    ap₂ (λ n m. take (n + c.min-2.result) file ++ replicate (n + c.min-2.result - m) 0) count same in
+    where_ok c.resize.result _ _ _ _ c.resize.ensures.items (cut ∙ one)
+  where
+    where_ok : {A E : Type 0} (r : Result A E) (new made old wanted : List ℕ) → new ≡ cond (is_ok r) made old → made ≡ wanted → OnOk r (new ≡ wanted)
+    where_ok (Ok x) new made old wanted e h = e ∙ h
+    where_ok (Err x) new made old wanted e h = tt

@@ -1,0 +1,23 @@
+use Rattle.std.proofs.Common.{◌≡◌, ◌∙◌, List, ℕ, map, sym, ap, subst}
+use Rattle.std.proofs.lemmas.Simd.{map-map}
+use Rattle.par2_spec.specs.Sums.{lists_of}
+use Rattle.par2_spec.specs.Slices.{padded}
+use Rattle.par2_recovery.specs.Survivors.{known_of, with_lost_slices}
+use Rattle.par2_slices.specs.Texts.{Window}
+use Rattle.par2_recovery.specs.Rebuilding.{AreRebuilt}
+use Rattle.par2_plan.specs.SliceTexts.{windows_and_texts, slices_of, text_of}
+use Rattle.par2_plan.specs.declared.restored_slices.Slice.{Slice}
+use Rattle.par2_plan.proofs.Merging.{filled_merged}
+use Rattle.par2_plan.proofs.restored_slices.slices_by.Goals as goal
+
+pub returns-clause-rebuilt : goal.returns-clause-rebuilt
+returns-clause-rebuilt c =
+    let survivors = c.args.survivors.now in
+    let s : ℕ = survivors.slice in
+    let windows : List Window = survivors.known.items in
+    let texts : List (List ℕ) = lists_of c.in_ok-rebuilt.rebuilt.items in
+    let slices : List Slice = c.in_ok-merged.field-0.items in
+    let alone : AreRebuilt survivors (with_lost_slices (known_of s windows) texts) = c.in_ok-rebuilt.ensures.rebuilt in
+    let given : map text_of slices ≡ windows_and_texts windows texts = c.in_ok-merged.ensures ∙ ap (λ (ws : List Window). windows_and_texts ws texts) c.deref.ensures.value in
+    let same : with_lost_slices (known_of s windows) texts ≡ slices_of s slices = filled_merged s windows texts alone.agrees.sizes ∙ ap (map (padded s)) (sym given) ∙ map-map (padded s) text_of slices in
+    subst (AreRebuilt survivors) same alone

@@ -1,0 +1,43 @@
+-- What a repair gives back of a set's files, and why it refuses to.
+use Rattle.std.specs.Prelude.{ℕ, not, List, [], ◌∷◌, length, take, drop, map, filter, Option}
+use Rattle.std.specs.List.{concat}
+use Rattle.par2_spec.specs.Faults.{fault_where}
+use Rattle.par2_spec.specs.Folders.{File}
+use Rattle.par2_spec.specs.Names.{is_among}
+use Rattle.par2_spec.specs.Rank.{is_repairable, rank}
+use Rattle.par2_spec.specs.Repairs.{files_of_slices}
+use Rattle.par2_spec.specs.Search.{lost, survivors}
+use Rattle.par2_spec.specs.Sets.{all_pairs, ParSet, Target}
+use Rattle.par2_spec.specs.Windows.{found}
+use Rattle.par2_spec.specs.declared.Fault.{Fault}
+use Rattle.par2_spec.specs.declared.Fault.TheVariants.{NotRepairable}
+
+-- the slices of a set, where they are found in these texts
+abbrev pub known_in : ParSet → List (List ℕ) → List (Option (List ℕ))
+known_in set texts = map (found set.slice_size texts) (all_pairs set)
+
+-- why the lost slices can't be rebuilt, if they can't
+abbrev pub undetermined_fault : ParSet → List (Option (List ℕ)) → Option Fault
+undetermined_fault set known =
+    let missing = lost known in
+    fault_where (not (is_repairable missing (survivors set))) (NotRepairable (length missing) (rank missing (survivors set)))
+
+-- the targets of these names, with their bytes by all slices
+abbrev pub targets_among : ParSet → List (List ℕ) → List (List ℕ) → List (Target × List ℕ)
+targets_among set slices names = filter (λ c. is_among names c.0.name) (files_of_slices set slices)
+
+-- the files of such targets
+abbrev pub files_of : List (Target × List ℕ) → List File
+files_of targets = map (λ c. (c.0.name, c.1)) targets
+
+-- the MD5s that such targets describe
+abbrev pub md5s_of : List (Target × List ℕ) → List (List ℕ)
+md5s_of targets = map (λ c. c.0.md5) targets
+
+-- a target whose slices begin with that of number `first`, with its bytes
+abbrev pub target_at : List (List ℕ) → ℕ → Target → Target × List ℕ
+target_at slices first t = (t, take t.length (concat (take (length t.pairs) (drop first slices))))
+
+-- such a target, if it is among these names
+abbrev pub chosen_at : List (List ℕ) → List (List ℕ) → ℕ → Target → List (Target × List ℕ)
+chosen_at names slices first t = filter (λ c. is_among names c.0.name) (target_at slices first t ∷ [])

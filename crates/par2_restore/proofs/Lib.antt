@@ -1,4 +1,0 @@
-mod Cutting
-mod Merging
-mod Rebuilds
-mod TargetWalks

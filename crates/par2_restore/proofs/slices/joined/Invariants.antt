@@ -1,7 +1,0 @@
-use Rattle.std.proofs.Common.{◌≡◌, take}
-use Rattle.std.specs.List.{concat}
-use Rattle.par2_restore.specs.Texts.{slices_of}
-use Rattle.par2_restore.proofs.slices.joined.Given as goal
-
-abbrev pub invariant-loop-slice : goal.invariant-loop-slice
-invariant-loop-slice l = l.file.items ≡ take l.size (concat (slices_of l.slice_size (take l.slice-index l.slices)))

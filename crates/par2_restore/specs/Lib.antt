@@ -1,4 +1,0 @@
-pub mod Names
-pub mod Survivors
-pub mod Texts
-pub mod Restoring
