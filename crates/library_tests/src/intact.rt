@@ -1,8 +1,7 @@
 ghost use Rattle.std.specs.Prelude.{◌<◌, ◌≤◌};
 
 use crate::pairs::pairs_of;
-use par2_slices::is_intact;
-use par2_slices::{Pair, pair_of};
+use par2_slices::{Pair, is_intact, pair_of};
 use std::process::Abort;
 
 // Eleven whole slices of four bytes, and one of two. Up to 36 bytes they are nine whole ones.

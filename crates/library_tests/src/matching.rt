@@ -1,6 +1,5 @@
 use crate::pairs::pairs_of;
-use par2_slices::{Target, matched};
-use par2_slices::Pair;
+use par2_slices::{Pair, Target, matched};
 use std::process::Abort;
 
 // The target whose bytes these are.

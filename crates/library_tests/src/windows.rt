@@ -1,6 +1,5 @@
 use crate::pairs::pairs_of;
-use par2_slices::found_windows;
-use par2_slices::Pair;
+use par2_slices::{Pair, found_windows};
 use std::process::Abort;
 
 // The windows in which the slices of these pairs, of four bytes each, are found.

@@ -13,9 +13,8 @@ ghost use Rattle.par2_plan.specs.Views.{GoesOn, given_of, standing_of, standings
 use crate::candidates::texts_of;
 use crate::matching::{matches, needs};
 use par2_folder::{Folder, Name};
-use par2_slices::found_windows;
 use par2_sets::{ParSet, Target};
-use par2_slices::Pair;
+use par2_slices::{Pair, found_windows};
 use std::alloc::{AllocError, Global};
 use std::slice::Iter;
 

@@ -11,8 +11,8 @@ ghost use Rattle.par2_plan.specs.Matches.{items_where, intact_by, HoldsNames, Ar
 
 use crate::candidates::texts_of;
 use par2_folder::{Folder, Name};
-use par2_slices::{is_intact, matched, matches_by_number_are_by_name};
 use par2_sets::{ParSet, Target};
+use par2_slices::{is_intact, matched, matches_by_number_are_by_name};
 use std::alloc::{AllocError, Global};
 use std::collections::BTreeSet;
 

@@ -10,9 +10,8 @@ ghost use Rattle.par2_plan.specs.Answers.{FailsAs, GivesChanges, LeadsAs, Refuse
 use crate::Changes;
 use crate::matching::is_needing;
 use crate::reading::read;
-use par2_sets::par_files;
 use par2_folder::{Change, Folder};
-use par2_sets::ParSet;
+use par2_sets::{ParSet, par_files};
 use par2_spec::Fault;
 use std::alloc::{AllocError, Global};
 

@@ -23,10 +23,9 @@ use crate::reading::read;
 use crate::restored_files::{RestoredFiles, restored_files};
 use crate::restored_slices::restored_slices;
 use crate::{Changes, Draft};
-use par2_sets::{asides, par_files};
 use par2_digests::text_digests;
 use par2_folder::{Bytes, Folder, Name};
-use par2_sets::ParSet;
+use par2_sets::{ParSet, asides, par_files};
 use par2_spec::Fault;
 use std::alloc::{AllocError, Global};
 

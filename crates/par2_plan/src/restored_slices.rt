@@ -15,9 +15,8 @@ ghost use Rattle.par2_recovery.specs.Rebuilding.{known_among, AreRebuilt, AreEno
 ghost use Rattle.par2_plan.specs.SliceTexts.{windows_and_texts, slices_of, text_of};
 
 use par2_recovery::{RebuildFault, Survivors, rebuild_lost};
-use par2_slices::found_windows;
 use par2_sets::ParSet;
-use par2_slices::Pair;
+use par2_slices::{Pair, found_windows};
 use par2_spec::Fault;
 use par2_spec::rank_laws::{rebuilt_slices_agree, tests_say_the_words};
 use std::alloc::{AllocError, Global};
