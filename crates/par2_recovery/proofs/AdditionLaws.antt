@@ -6,7 +6,7 @@ use Rattle.std.specs.Int.{div_ceil}
 use Rattle.std.specs.List.{range_with_len}
 use Rattle.std.specs.Int.Bits.{xor_zero_l}
 use Rattle.std.proofs.lemmas.Bool.{cases_lt}
-use Rattle.std.proofs.lemmas.List.{length-map, length-replicate, get_or-map, get_or-take, get_or-drop, get_or_past, length-take-le, length-drop}
+use Rattle.std.proofs.lemmas.List.{length-map, get_or-map, get_or-take, get_or-drop, get_or_past, length-take-le, length-drop}
 use Rattle.std.proofs.lemmas.List.FromFn.{get_or-map-range_with_len, length-range_with_len}
 use Rattle.par2_spec.specs.Field.{mul, coefficient}
 use Rattle.par2_spec.specs.Slices.{padded, word}
@@ -23,10 +23,10 @@ use Rattle.par2_transform.specs.declared.outputs.Place.{Place}
 use Rattle.par2_transform.proofs.AddingLaws.{adds_none, adds_more, adds_same, within-in, within-above, within_joined, within_same}
 use Rattle.par2_transform.proofs.GroupLaws.{length-group, adds_to_group}
 use Rattle.par2_recovery.specs.Inverses.{recovery_at}
-use Rattle.par2_recovery.specs.Products.{Adds, AreBytes, products}
+use Rattle.par2_recovery.specs.Products.{AreBytes, products}
 use Rattle.par2_recovery.specs.Survivors.{known_from, known_alone, bytes_or_none, sum_at}
 use Rattle.par2_recovery.specs.Syndromes.{all_coefficients, syndrome, window, AreProducts, AreSyndromes, AreSolved}
-use Rattle.par2_recovery.specs.Views.{texts_of, AreBlank}
+use Rattle.par2_recovery.specs.Views.{texts_of}
 use Rattle.par2_recovery.specs.Writing.{output_at, AreWritten, AreZeros}
 use Rattle.par2_recovery.proofs.Combinations.{blank_word, recovered_by_words}
 use Rattle.par2_recovery.proofs.Inverting.{length-slices}

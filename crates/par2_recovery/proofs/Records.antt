@@ -1,12 +1,11 @@
 -- The records of files, one after the other.
-use Rattle.std.proofs.Common.{ℕ, ◌+◌, ◌<◌, ◌≡◌, refl, sym, ap, ap₂, ◌∙◌, subst, List, [], ◌∷◌, ◌++◌, Bor, length, get_or, map, arith}
+use Rattle.std.proofs.Common.{ℕ, ◌+◌, ◌<◌, ◌≡◌, refl, sym, ap, ap₂, ◌∙◌, subst, List, [], ◌∷◌, ◌++◌, length, get_or, map, arith}
 use Rattle.std.specs.Prelude.{take, IsPermutation, string_bytes}
 use Rattle.std.specs.Int.{w128, from_le_bytes}
 use Rattle.std.specs.List.Sorted.{IsStrictlyIncreasing}
 use Rattle.std.proofs.lemmas.List.{get_or-map, length-map, take_more, map-append}
 use Rattle.std.proofs.lemmas.Simd.{map-map}
 use Rattle.md5.specs.Md5.{md5}
-use Rattle.par2_digests.specs.Texts.{texts_of}
 use Rattle.par2_spec.specs.Folders.{Folder, File, bytes_of}
 use Rattle.par2_spec.specs.Volumes as volumes
 use Rattle.par2_spec.specs.Volumes.{record_of, id_of, in_id_order}

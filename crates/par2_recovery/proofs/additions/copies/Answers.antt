@@ -1,6 +1,5 @@
-use Rattle.std.proofs.Common.{◌∙◌, ◌<◌, ◌≤◌, [], ℕ, List, Vec, Global, length, sym, ap, subst}
-use Rattle.std.proofs.lemmas.List.{take_more, take_all}
-use Rattle.par2_spec.specs.Sums.{lists_of}
+use Rattle.std.proofs.Common.{◌∙◌, ◌<◌, [], length, sym, subst}
+use Rattle.std.proofs.lemmas.List.{take_more}
 use Rattle.par2_recovery.specs.Views.{texts_of}
 use Rattle.par2_recovery.proofs.Combinations.{lists_push, length-texts_of}
 use Rattle.par2_recovery.proofs.additions.copies.Goals as goal
@@ -11,8 +10,3 @@ loop-k-preserved c =
     let low : c.loop-k.k < length texts = subst (λ n. c.loop-k.k < n) (sym (length-texts_of c.args.texts.now)) c.loop-k-test.true in
     lists_push c.loop-k.copies.items c.in_ok-from_slice.field-0 c.in_ok-push.ensures.items c.loop-k.invariant (c.in_ok-from_slice.ensures.items ∙ c.source_at.ensures)
     ∙ sym (take_more texts c.loop-k.k [] low)
-
-pub returns : goal.returns
-returns c =
-    let all : length (texts_of c.args.texts.now) ≤ c.loop-k.k = subst (λ n. n ≤ c.loop-k.k) (sym (length-texts_of c.args.texts.now)) c.loop-k-test.false in
-    c.loop-k.invariant ∙ take_all c.loop-k.k (texts_of c.args.texts.now) all

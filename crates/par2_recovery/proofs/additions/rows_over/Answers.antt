@@ -1,7 +1,6 @@
-use Rattle.std.proofs.Common.{◌∙◌, [], ℕ, List, Vec, Global, map, sym, ap}
-use Rattle.std.proofs.lemmas.List.{map_more, take_all}
+use Rattle.std.proofs.Common.{◌∙◌, sym}
+use Rattle.std.proofs.lemmas.List.{map_more}
 use Rattle.par2_spec.specs.Recovery.{coefficients}
-use Rattle.par2_spec.specs.Sums.{lists_of}
 use Rattle.par2_recovery.proofs.Combinations.{lists_push}
 use Rattle.par2_recovery.proofs.additions.rows_over.Goals as goal
 
@@ -9,6 +8,3 @@ pub loop-i-preserved : goal.loop-i-preserved
 loop-i-preserved c =
     lists_push c.loop-i.rows.items c.in_ok-coefficients.field-0 c.in_ok-push.ensures.items c.loop-i.invariant c.in_ok-coefficients.ensures
     ∙ sym (map_more (coefficients c.args.numbers.now) c.args.exponents.now c.loop-i.i 0 c.loop-i-test.true)
-
-pub returns : goal.returns
-returns c = c.loop-i.invariant ∙ ap (map (coefficients c.args.numbers.now)) (take_all c.loop-i.i c.args.exponents.now c.loop-i-test.false)

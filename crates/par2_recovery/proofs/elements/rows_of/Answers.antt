@@ -1,7 +1,6 @@
-use Rattle.std.proofs.Common.{◌≡◌, subst, arith, length}
+use Rattle.std.proofs.Common.{subst, length}
 use Rattle.par2_matrix.specs.Echelon.{Spells}
 use Rattle.par2_spec.specs.Sums.{list_at, lists_of}
-use Rattle.par2_recovery.specs.Elements.{AreRows}
 use Rattle.par2_recovery.proofs.Inverting.{rows_push}
 use Rattle.par2_recovery.proofs.elements.rows_of.Goals as goal
 
@@ -12,8 +11,3 @@ loop-r-preserved c =
     let row = c.in_ok-row_of.field-0 in
     let is : Spells row.items (list_at texts r) (length row.items) = subst (λ text. Spells row.items text (length row.items)) c.text_at.ensures c.in_ok-row_of.ensures in
     rw c.in_ok-push.ensures.items (rows_push texts c.loop-r.rows.items row r c.loop-r.invariant is)
-
-pub returns : goal.returns
-returns c =
-    let all : c.loop-r.r ≡ length c.args.texts.now = omega (arith, c.loop-r-test.false, c.loop-r.auto.r-end) in
-    subst (λ n. AreRows (lists_of c.loop-r.rows.items) (lists_of c.args.texts.now) n) all c.loop-r.invariant

@@ -1,5 +1,5 @@
-use Rattle.std.proofs.Common.{◌∙◌, ◌++◌, ◌∷◌, [], ℕ, List, map, sym, ap, ap₂}
-use Rattle.std.proofs.lemmas.List.{map_more, take_all}
+use Rattle.std.proofs.Common.{◌∙◌, ◌++◌, ◌∷◌, [], ℕ, List, sym, ap₂}
+use Rattle.std.proofs.lemmas.List.{map_more}
 use Rattle.par2_spec.specs.Field.{coefficient}
 use Rattle.par2_recovery.proofs.exponents.coefficients.Goals as goal
 
@@ -7,6 +7,3 @@ pub loop-k-preserved : goal.loop-k-preserved
 loop-k-preserved c =
     c.in_ok-push.ensures.items ∙ ap₂ (λ (row : List ℕ) x. row ++ x ∷ []) c.loop-k.invariant c.coefficient.ensures
     ∙ sym (map_more (coefficient c.args.e) c.args.numbers.now c.loop-k.k-index 0 c.loop-k-test.true)
-
-pub returns : goal.returns
-returns c = c.loop-k.invariant ∙ ap (map (coefficient c.args.e)) (take_all c.loop-k.k-index c.args.numbers.now c.loop-k-test.false)

@@ -1,8 +1,6 @@
-use Rattle.std.proofs.Common.{◌∙◌, ◌<◌, ◌≤◌, [], ℕ, List, length, map, sym, ap, subst}
-use Rattle.std.proofs.lemmas.List.{map_more, take_all}
-use Rattle.std.specs.Borrow.{Bor}
+use Rattle.std.proofs.Common.{◌∙◌, ◌<◌, [], ℕ, List, length, sym, subst}
+use Rattle.std.proofs.lemmas.List.{map_more}
 use Rattle.par2_recovery.specs.Survivors.{recovered_of}
-use Rattle.par2_recovery.specs.Views.{texts_of}
 use Rattle.par2_recovery.proofs.Inverting.{length-recovered_of}
 use Rattle.par2_recovery.proofs.Combinations.{texts_push}
 use Rattle.par2_recovery.proofs.inverse.bytes_of.Goals as goal
@@ -13,9 +11,3 @@ loop-j-preserved c =
     let low : c.loop-j.j < length recs = subst (λ n. c.loop-j.j < n) (sym (length-recovered_of c.args.kept.now)) c.loop-j-test.true in
     texts_push c.loop-j.slices.items c.recovery_at.result.1 c.in_ok-push.ensures.items c.loop-j.invariant c.recovery_at.ensures.bytes
     ∙ sym (map_more (λ (r : ℕ × List ℕ). r.1) recs c.loop-j.j (0, []) low)
-
-pub returns : goal.returns
-returns c =
-    let recs = recovered_of c.args.kept.now in
-    let all : length recs ≤ c.loop-j.j = subst (λ n. n ≤ c.loop-j.j) (sym (length-recovered_of c.args.kept.now)) c.loop-j-test.false in
-    c.loop-j.invariant ∙ ap (map (λ (r : ℕ × List ℕ). r.1)) (take_all c.loop-j.j recs all)

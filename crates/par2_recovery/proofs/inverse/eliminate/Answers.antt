@@ -1,4 +1,4 @@
-use Rattle.std.proofs.Common.{◌≡◌, ◌<◌, ◌∙◌, ◌++◌, ◌∷◌, [], ℕ, List, Vec, Global, ap, sym, subst, arith, rules, length}
+use Rattle.std.proofs.Common.{◌≡◌, ◌<◌, ◌∙◌, ◌++◌, ◌∷◌, [], ℕ, List, Vec, Global, ap, sym, subst, arith, length}
 use Rattle.std.specs.Borrow.{Bor}
 use Rattle.std.specs.Prelude.{Ok}
 use Rattle.par2_matrix.specs.declared.system.Offer.TheVariants.{Kept, Dependent}

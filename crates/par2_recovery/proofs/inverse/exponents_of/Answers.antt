@@ -1,5 +1,5 @@
-use Rattle.std.proofs.Common.{◌∙◌, ◌<◌, ◌≤◌, ◌++◌, ◌∷◌, [], ℕ, List, length, map, sym, ap, ap₂, subst}
-use Rattle.std.proofs.lemmas.List.{map_more, take_all}
+use Rattle.std.proofs.Common.{◌∙◌, ◌<◌, ◌++◌, ◌∷◌, [], ℕ, List, length, sym, ap₂, subst}
+use Rattle.std.proofs.lemmas.List.{map_more}
 use Rattle.par2_recovery.specs.Survivors.{recovered_of}
 use Rattle.par2_recovery.proofs.Inverting.{length-recovered_of}
 use Rattle.par2_recovery.proofs.inverse.exponents_of.Goals as goal
@@ -10,9 +10,3 @@ loop-j-preserved c =
     let low : c.loop-j.j < length recs = subst (λ n. c.loop-j.j < n) (sym (length-recovered_of c.args.kept.now)) c.loop-j-test.true in
     c.in_ok-push.ensures.items ∙ ap₂ (λ (exponents : List ℕ) x. exponents ++ x ∷ []) c.loop-j.invariant c.recovery_at.ensures.exponent
     ∙ sym (map_more (λ (r : ℕ × List ℕ). r.0) recs c.loop-j.j (0, []) low)
-
-pub returns : goal.returns
-returns c =
-    let recs = recovered_of c.args.kept.now in
-    let all : length recs ≤ c.loop-j.j = subst (λ n. n ≤ c.loop-j.j) (sym (length-recovered_of c.args.kept.now)) c.loop-j-test.false in
-    c.loop-j.invariant ∙ ap (map (λ (r : ℕ × List ℕ). r.0)) (take_all c.loop-j.j recs all)

@@ -1,9 +1,7 @@
-use Rattle.std.proofs.Common.{◌∙◌, [], ℕ, List, map, sym, ap}
+use Rattle.std.proofs.Common.{◌∙◌, sym}
 use Rattle.std.specs.Prelude.{None}
-use Rattle.std.proofs.lemmas.List.{map_more, take_all}
-use Rattle.std.specs.Borrow.{Bor}
+use Rattle.std.proofs.lemmas.List.{map_more}
 use Rattle.par2_recovery.specs.Survivors.{bytes_or_none}
-use Rattle.par2_recovery.specs.Views.{texts_of}
 use Rattle.par2_recovery.proofs.Combinations.{texts_push}
 use Rattle.par2_recovery.proofs.rebuild_slices.slices_or_none.Goals as goal
 
@@ -11,6 +9,3 @@ pub loop-i-preserved : goal.loop-i-preserved
 loop-i-preserved c =
     texts_push c.loop-i.slices.items c.bytes_at.result c.in_ok-push.ensures.items c.loop-i.invariant c.bytes_at.ensures
     ∙ sym (map_more bytes_or_none c.args.known.now c.loop-i.i None c.loop-i-test.true)
-
-pub returns : goal.returns
-returns c = c.loop-i.invariant ∙ ap (map bytes_or_none) (take_all c.loop-i.i c.args.known.now c.loop-i-test.false)

@@ -1,4 +1,4 @@
-use Rattle.std.proofs.Common.{◌≡◌, ◌++◌, ◌∷◌, ◌+◌, [], map, rules, sym, subst}
+use Rattle.std.proofs.Common.{◌≡◌, ◌++◌, ◌∷◌, ◌+◌, [], map, sym, subst}
 use Rattle.std.specs.List.{range_with_len}
 use Rattle.par2_spec.specs.Slices.{padded, slice_at}
 use Rattle.par2_recovery.specs.Views.{texts_of}

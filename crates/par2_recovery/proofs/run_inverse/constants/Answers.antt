@@ -1,5 +1,5 @@
-use Rattle.std.proofs.Common.{◌∙◌, ◌++◌, ◌∷◌, [], ℕ, List, map, sym, ap, ap₂}
-use Rattle.std.proofs.lemmas.List.{map_more, take_all}
+use Rattle.std.proofs.Common.{◌∙◌, ◌++◌, ◌∷◌, [], ℕ, List, sym, ap₂}
+use Rattle.std.proofs.lemmas.List.{map_more}
 use Rattle.par2_spec.specs.Field.{constant}
 use Rattle.par2_recovery.proofs.run_inverse.constants.Goals as goal
 
@@ -7,6 +7,3 @@ pub loop-k-preserved : goal.loop-k-preserved
 loop-k-preserved c =
     c.in_ok-push.ensures.items ∙ ap₂ (λ (points : List ℕ) x. points ++ x ∷ []) c.loop-k.invariant c.constant.ensures
     ∙ sym (map_more constant c.args.numbers.now c.loop-k.k-index 0 c.loop-k-test.true)
-
-pub returns : goal.returns
-returns c = c.loop-k.invariant ∙ ap (map constant) (take_all c.loop-k.k-index c.args.numbers.now c.loop-k-test.false)

@@ -1,5 +1,5 @@
-use Rattle.std.proofs.Common.{◌∙◌, ◌++◌, ◌∷◌, [], ℕ, List, map, sym, ap, ap₂}
-use Rattle.std.proofs.lemmas.List.{map_more, take_all}
+use Rattle.std.proofs.Common.{◌∙◌, ◌++◌, ◌∷◌, [], ℕ, List, sym, ap₂}
+use Rattle.std.proofs.lemmas.List.{map_more}
 use Rattle.par2_spec.specs.Field.{mul}
 use Rattle.par2_recovery.proofs.run_inverse.scaled.Goals as goal
 
@@ -7,6 +7,3 @@ pub loop-a-preserved : goal.loop-a-preserved
 loop-a-preserved c =
     c.in_ok-push.ensures.items ∙ ap₂ (λ (multiple : List ℕ) x. multiple ++ x ∷ []) c.loop-a.invariant c.mul.ensures
     ∙ sym (map_more (mul c.args.k) c.args.p.now c.loop-a.a-index 0 c.loop-a-test.true)
-
-pub returns : goal.returns
-returns c = c.loop-a.invariant ∙ ap (map (mul c.args.k)) (take_all c.loop-a.a-index c.args.p.now c.loop-a-test.false)

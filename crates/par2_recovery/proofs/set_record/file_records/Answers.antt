@@ -1,4 +1,4 @@
-use Rattle.std.proofs.Common.{arith, ◌≡◌, ◌++◌, ◌∷◌, ◌+◌, ◌∙◌, [], ap, sym, subst, map, rules}
+use Rattle.std.proofs.Common.{arith, ◌≡◌, ◌++◌, ◌∷◌, ◌+◌, ◌∙◌, [], ap, sym, subst, map}
 use Rattle.std.specs.Prelude.{take}
 use Rattle.md5.specs.Md5.{md5}
 use Rattle.par2_spec.specs.Folders.{bytes_of}

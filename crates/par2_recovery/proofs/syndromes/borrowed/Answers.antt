@@ -1,8 +1,5 @@
-use Rattle.std.proofs.Common.{◌∙◌, [], ℕ, List, Vec, Global, sym, ap}
-use Rattle.std.specs.Borrow.{Bor}
-use Rattle.std.proofs.lemmas.List.{map_more, take-map, take_all}
-use Rattle.par2_spec.specs.Sums.{lists_of}
-use Rattle.par2_recovery.specs.Views.{texts_of}
+use Rattle.std.proofs.Common.{◌∙◌, ℕ, Vec, Global, sym, ap}
+use Rattle.std.proofs.lemmas.List.{map_more}
 use Rattle.par2_recovery.proofs.Combinations.{texts_push}
 use Rattle.par2_recovery.proofs.syndromes.borrowed.Goals as goal
 
@@ -10,6 +7,3 @@ pub loop-text-preserved : goal.loop-text-preserved
 loop-text-preserved c =
     texts_push c.loop-text.slices.items c.as_slice.result c.in_ok-push.ensures.items c.loop-text.invariant (c.as_slice.ensures.value ∙ ap (λ (x : Vec ℕ Global). x.items) c.text-item.is)
     ∙ sym (map_more (λ (x : Vec ℕ Global). x.items) c.args.texts.now c.loop-text.text-index c.text-item.result c.loop-text-test.true)
-
-pub returns : goal.returns
-returns c = c.loop-text.invariant ∙ ap (λ (xs : List (Vec ℕ Global)). lists_of xs) (take_all c.loop-text.text-index c.args.texts.now c.loop-text-test.false)

@@ -1,6 +1,5 @@
-use Rattle.std.proofs.Common.{◌∙◌, ◌<◌, ◌≤◌, [], ℕ, List, length, map, sym, ap, subst}
-use Rattle.std.proofs.lemmas.List.{map_more, take_all}
-use Rattle.std.specs.Borrow.{Bor}
+use Rattle.std.proofs.Common.{◌∙◌, ◌<◌, [], length, sym, ap, subst}
+use Rattle.std.proofs.lemmas.List.{map_more}
 use Rattle.par2_recovery.specs.Syndromes.{window}
 use Rattle.par2_recovery.specs.Views.{texts_of}
 use Rattle.par2_recovery.proofs.Combinations.{texts_push, length-texts_of}
@@ -13,9 +12,3 @@ loop-k-preserved c =
     let low : c.loop-k.k < length texts = subst (λ n. c.loop-k.k < n) (sym (length-texts_of c.args.texts.now)) c.loop-k-test.true in
     texts_push c.loop-k.windows.items c.window_of.result c.in_ok-push.ensures.items c.loop-k.invariant (c.window_of.ensures ∙ ap part c.source_at.ensures)
     ∙ sym (map_more part texts c.loop-k.k [] low)
-
-pub returns : goal.returns
-returns c =
-    let texts = texts_of c.args.texts.now in
-    let all : length texts ≤ c.loop-k.k = subst (λ n. n ≤ c.loop-k.k) (sym (length-texts_of c.args.texts.now)) c.loop-k-test.false in
-    c.loop-k.invariant ∙ ap (map (window c.args.from c.args.count)) (take_all c.loop-k.k texts all)
